@@ -1,0 +1,5 @@
+pub mod Words
+pub mod Results
+pub mod Fields
+pub mod Grammar
+pub mod Reading
