@@ -1,0 +1,12 @@
+//! What is true of all entries in order.
+ghost use Rattle.lethe_mem.specs.Order.{OneList, OwnEntries};
+
+/// Two lists in the order of the keys that have the same entry at every key are one list.
+pub fn one_list()
+    ensures { OneList }
+{}
+
+/// In a list in the order of the keys each entry is the entry of its key. The entry of a key stands in the list, under that key.
+pub fn own_entries()
+    ensures { OwnEntries }
+{}
