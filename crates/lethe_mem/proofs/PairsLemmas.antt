@@ -1,19 +1,19 @@
 -- The map that entries leave: the pairs of the keys that were put.
-use Rattle.std.proofs.Common.{◌≡◌, Bool, true, false, cond, List, [], ◌∷◌, Option, Some, None, IsTrue, refl, sym, ap, ◌∙◌, subst}
-use Rattle.std.specs.Prelude.{option_and_then, option_map, ◌&&◌}
+use Rattle.std.proofs.Common.{◌≡◌, Bool, true, false, cond, List, [], ◌∷◌, Option, Some, None, IsTrue, filter, refl, sym, ap, ◌∙◌}
+use Rattle.std.specs.Prelude.{option_and_then, option_map}
 use Rattle.std.specs.List.{cons_option}
 use Rattle.std.proofs.lemmas.Bool.{and_parts, and_from}
-use Rattle.std.specs.Ordering.{is_lt, is_eq, eq_by_cmp}
-use Rattle.std.specs.declared.cmp.Ordering.{Ordering}
-use Rattle.std.specs.declared.cmp.Ordering.TheVariants.{Less, Equal, Greater}
+use Rattle.std.specs.Ordering.{is_lt, eq_by_cmp}
+use Rattle.std.specs.declared.cmp.Ordering.TheVariants.{Less}
+use Rattle.std.specs.Cmp.Lexicographic.{nat_list_cmp_total}
 use Rattle.std.specs.FinMap as finmap
 use Rattle.std.specs.FinMap.Entries.{below_all}
-use Rattle.lethe_base.specs.Keys.{Bytes, key_cmp}
+use Rattle.lethe_base.specs.Keys.{Bytes, key_cmp, same_key}
 use Rattle.lethe_base.specs.History.{Pair}
-use Rattle.lethe_base.specs.Entries.{by_key, IsAscending, entry_of, pair_of, shown}
+use Rattle.lethe_base.specs.Entries.{by_key, IsAscending, entry_of, Inserts, pair_of, shown}
 use Rattle.lethe_base.specs.declared.entry.Entry.{Entry}
-use Rattle.lethe_mem.specs.Pairs.{pairs_of}
-use Rattle.lethe_mem.proofs.Places.{above_head, tail_ascends, tied, less_is, equal_is}
+use Rattle.lethe_mem.specs.Pairs.{pairs_of, PairsAnswer}
+use Rattle.lethe_mem.proofs.Places.{above_head, tail_ascends, tied, to_T, less_is, equal_is}
 
 -- a key with what its body answers, in front of other pairs
 abbrev with_pair : Bytes → Option Pair → List (Bytes × Pair) → List (Bytes × Pair)
@@ -67,3 +67,44 @@ find_pairs key (e ∷ es) s =
     find_with_pair key e.key (pair_of e.body) (pairs_of es) (eq_by_cmp key_cmp key e.key) refl missing
     ∙ ap (cond (eq_by_cmp key_cmp key e.key) (pair_of e.body)) behind
     ∙ answered (eq_by_cmp key_cmp key e.key) e (entry_of key es)
+
+pub pairs_answer : PairsAnswer
+pairs_answer = record { sorted = pairs_sorted; found = find_pairs }
+
+-- a test of the keys, before the pairs are taken or after
+pub filter-pairs_of : (p : Bytes → Bool) (es : List Entry) → filter (λ e. p e.0) (pairs_of es) ≡ pairs_of (filter (λ e. p e.key) es)
+filter-pairs_of p [] = refl
+filter-pairs_of p (e ∷ es) = by_test (p e.key) refl (pair_of e.body) refl (filter-pairs_of p es)
+  where
+    by_test : (b : Bool) → p e.key ≡ b → (pair : Option Pair) → pair_of e.body ≡ pair
+        → filter (λ e. p e.0) (pairs_of es) ≡ pairs_of (filter (λ e. p e.key) es)
+        → filter (λ e. p e.0) (with_pair e.key pair (pairs_of es)) ≡ pairs_of (cond b (e ∷ filter (λ e. p e.key) es) (filter (λ e. p e.key) es))
+    by_test true t None is rest = rw is rest
+    by_test true t (Some pair) is rest = rw (is, t) (ap (λ rest. (e.key, pair) ∷ rest) rest)
+    by_test false t None is rest = rest
+    by_test false t (Some pair) is rest = rw t rest
+
+-- what entries answer after an insert
+pub shown-inserts : (entry : Entry) (old new : List Entry) (key : Bytes) → Inserts entry old new → shown key new ≡ cond (same_key key entry.key) (pair_of entry.body) (shown key old)
+shown-inserts entry old new key made = ap (option_and_then (λ e. pair_of e.body)) (made.entries key) ∙ sym (answered (same_key key entry.key) entry (entry_of key old))
+
+-- what the map of entries in order has at a key
+pub get-pairs_of : (key : Bytes) (es : List Entry) → IsAscending es → finmap.get (finmap.from_sorted {R = key_cmp} (pairs_of es)) key ≡ shown key es
+get-pairs_of key es s = finmap.get-from_sorted key_cmp (pairs_of es) key (to_T _ (pairs_sorted es s)) ∙ find_pairs key es s
+
+-- the map after an insert of a put, and of a tombstone
+pub map-inserts_put : (entry : Entry) (old new : List Entry) (pair : Pair) → IsAscending old → Inserts entry old new → pair_of entry.body ≡ Some pair
+    → finmap.from_sorted {R = key_cmp} (pairs_of new) ≡ finmap.insert (finmap.from_sorted (pairs_of old)) entry.key pair
+map-inserts_put entry old new pair s made is = finmap.same_map nat_list_cmp_total tied _ _ (λ key.
+    get-pairs_of key new made.ascending ∙ shown-inserts entry old new key made
+    ∙ ap (λ p. cond (same_key key entry.key) p (shown key old)) is
+    ∙ ap (cond (same_key key entry.key) (Some pair)) (sym (get-pairs_of key old s))
+    ∙ sym (finmap.get-insert nat_list_cmp_total (finmap.from_sorted (pairs_of old)) entry.key pair key))
+
+pub map-inserts_tomb : (entry : Entry) (old new : List Entry) → IsAscending old → Inserts entry old new → pair_of entry.body ≡ None
+    → finmap.from_sorted {R = key_cmp} (pairs_of new) ≡ finmap.remove (finmap.from_sorted (pairs_of old)) entry.key
+map-inserts_tomb entry old new s made is = finmap.same_map nat_list_cmp_total tied _ _ (λ key.
+    get-pairs_of key new made.ascending ∙ shown-inserts entry old new key made
+    ∙ ap (λ p. cond (same_key key entry.key) p (shown key old)) is
+    ∙ ap (cond (same_key key entry.key) None) (sym (get-pairs_of key old s))
+    ∙ sym (finmap.get-remove nat_list_cmp_total (finmap.from_sorted (pairs_of old)) entry.key key))

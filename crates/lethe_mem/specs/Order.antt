@@ -1,5 +1,5 @@
 -- Facts of entries in the order of their keys.
-use Rattle.std.specs.Prelude.{◌≡◌, ℕ, List, Option, Some, filter, length, slice_get}
+use Rattle.std.specs.Prelude.{◌≡◌, ℕ, List, Some, filter, length, slice_get}
 use Rattle.std.specs.Ordering.{is_lt}
 use Rattle.lethe_base.specs.Keys.{Bytes, key_cmp}
 use Rattle.lethe_base.specs.Entries.{IsAscending, entry_of}

@@ -1,4 +1,4 @@
-use Rattle.std.proofs.Common.{◌≡◌, None, ◌<◌, ◌+◌, ◌-◌, ◌/◌, slice_get, arith, sym, ap, ◌∙◌}
+use Rattle.std.proofs.Common.{arith, sym, ap, ◌∙◌}
 use Rattle.std.specs.Option.{option_copied}
 use Rattle.lethe_mem.proofs.Order.{below_stands, rest_stands, nothing_stands, count_below-le}
 use Rattle.lethe_mem.proofs.buffer.first_from.Goals as goal

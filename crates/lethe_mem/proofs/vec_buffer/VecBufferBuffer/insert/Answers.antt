@@ -1,5 +1,4 @@
-use Rattle.std.proofs.Common.{◌≡◌, true, is_ok, arith, sym, ap, subst}
-use Rattle.lethe_base.specs.Entries.{Inserts}
+use Rattle.std.proofs.Common.{◌≡◌, true, is_ok, arith, ap}
 use Rattle.lethe_mem.specs.Buffered.{Buffered}
 use Rattle.lethe_mem.proofs.Places.{inserts_at, inserts_gap}
 use Rattle.lethe_mem.proofs.vec_buffer.VecBufferBuffer.insert.Goals as goal
