@@ -1,3 +1,4 @@
 pub mod Numbers
 pub mod FieldLemmas
 pub mod Lines
+pub mod Spelled
