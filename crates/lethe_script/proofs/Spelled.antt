@@ -20,7 +20,7 @@ use Rattle.lethe_script.specs.declared.refused.Why.{Why}
 use Rattle.lethe_script.specs.declared.refused.Why.TheVariants.{Byte, Key, Value}
 use Rattle.lethe_script.specs.Results.{◌>>=◌}
 use Rattle.lethe_script.specs.Fields.{is_allowed, is_field, fields, is_plain, caller_of, key_of, number_of, value_of}
-use Rattle.lethe_script.specs.Grammar.{lines, put_fields, put_of, get_of, scan_fields, scan_of, del_of, act_of, asked_of, told_of, line_of, order_of, orders_from, script_of}
+use Rattle.lethe_script.specs.Grammar.{lines, put_fields, put_of, get_of, scan_fields, scan_of, del_of, act_of, caller_and_act, request_of, line_of, order_of, orders_from, script_of}
 use Rattle.lethe_script.specs.Spelling.{IsPrinted, IsPlain, act_fields, spelling, IsWritableAct, IsWritable, IsNumbered}
 use Rattle.lethe_script.proofs.Numbers.{number_again}
 use Rattle.lethe_script.proofs.Lines.{orders_from-cons, lines_some}
@@ -122,9 +122,9 @@ act_again (Scan lo hi) w =
     ∙ ap (λ h. h >>= λ h. Ok (Scan lo h)) (key_again hi w.1)
 act_again (Delete key) w = ap (λ k. k >>= λ k. Ok (Delete k)) (key_again key w)
 
-told_again : (act : Act) → IsWritableAct act → told_of (decimal 1 ∷ act_fields act) ≡ Ok (Some (1, act))
-unfolding told_of asked_of caller_of
-told_again act w = ap (λ one. told_of (one ∷ act_fields act)) (decimal_digit 1 (lit< tt)) ∙ ap (λ a. (a >>= λ act. Ok (1, act)) >>= λ asked. Ok (Some asked)) (act_again act w)
+request_again : (act : Act) → IsWritableAct act → request_of (decimal 1 ∷ act_fields act) ≡ Ok (Some (1, act))
+unfolding request_of caller_and_act caller_of
+request_again act w = ap (λ one. request_of (one ∷ act_fields act)) (decimal_digit 1 (lit< tt)) ∙ ap (λ a. (a >>= λ act. Ok (1, act)) >>= λ asked. Ok (Some asked)) (act_again act w)
 
 command_field : (bytes : Bytes) → 0 < length bytes → list_all (λ byte. leb 33 byte && leb byte 126) bytes ≡ true → IsFieldText bytes
 command_field bytes some h = record { some = some; printed = printed bytes h }
@@ -163,10 +163,10 @@ module _ (order : Order) (w : IsWritable order) where
   line_again : line_of (line_text order) ≡ Ok (Some (order.caller, order.act))
   unfolding line_of
   line_again =
-      ap (λ b. cond b (told_of (fields (line_text order))) (Err Byte)) (all_allowed (line_text order) allowed)
-      ∙ ap told_of (fields_joined (decimal order.caller ∷ act_fields order.act) some_parts texts)
-      ∙ ap (λ n. told_of (decimal n ∷ act_fields order.act)) w.caller
-      ∙ told_again order.act w.act
+      ap (λ b. cond b (request_of (fields (line_text order))) (Err Byte)) (all_allowed (line_text order) allowed)
+      ∙ ap request_of (fields_joined (decimal order.caller ∷ act_fields order.act) some_parts texts)
+      ∙ ap (λ n. request_of (decimal n ∷ act_fields order.act)) w.caller
+      ∙ request_again order.act w.act
       ∙ ap (λ n. Ok (Some (n, order.act))) (sym w.caller)
 
   order_again : (n : ℕ) → order.line ≡ n → order_of n (line_text order) ≡ Ok (Some order)
@@ -180,7 +180,7 @@ module _ (order : Order) (w : IsWritable order) where
 
 -- an empty line gives no order
 none_left : (n : ℕ) → orders_from false n (lines []) ≡ Ok []
-unfolding orders_from order_of line_of told_of
+unfolding orders_from order_of line_of request_of
 none_left n = refl
 
 orders_again : (n : ℕ) (orders : List Order) → All IsWritable orders → IsNumbered n orders → orders_from false n (lines (flat_map spelling orders)) ≡ Ok orders
