@@ -1,11 +1,9 @@
 -- Lines that are spelled are read as what they spell.
-use Rattle.std.proofs.Common.{◌≡◌, ◌≢◌, ℕ, ◌+◌, ◌-◌, ◌^◌, ◌<◌, ◌≤◌, ◌&&◌, Bool, true, false, not, List, [], ◌∷◌, ◌++◌, length, get_or, take, filter, eqb, ltb, leb, cond, Option, Some, None, Result, Ok, Err, lit<, lit≤, inl, inr, refl, sym, ap, ◌∙◌, subst, arith, append_assoc}
+use Rattle.std.proofs.Common.{◌≡◌, ◌≢◌, ℕ, ◌+◌, ◌-◌, ◌^◌, ◌<◌, ◌≤◌, ◌&&◌, Bool, true, false, not, List, [], ◌∷◌, ◌++◌, length, get_or, take, filter, eqb, ltb, leb, cond, Some, Ok, Err, lit<, lit≤, inl, inr, refl, sym, ap, ◌∙◌, arith, append_assoc}
 use Rattle.std.specs.List.{All, AllByRecursion, list_all, slice_split, join_with_byte, flat_map, cons_option}
 use Rattle.std.specs.Fmt.{decimal}
 use Rattle.std.specs.Str.Lines.{strip_carriage_return}
-use Rattle.std.specs.Str.Parse.{AllDigits}
 use Rattle.std.proofs.lemmas.Bool.{cases_lt, ne_eqb, le-leb, leb-true, lt-ltb, le-ltb}
-use Rattle.std.proofs.lemmas.Bool.Decides.{nat_tests}
 use Rattle.std.proofs.lemmas.Fmt.{decimal_is_IsNumeral, decimal_digit}
 use Rattle.std.proofs.lemmas.Str.Parse.{digit_at}
 use Rattle.std.proofs.lemmas.List.{take_all, get_or_past}
@@ -15,8 +13,6 @@ use Rattle.lethe_base.specs.Keys.{Bytes}
 use Rattle.lethe_script.specs.declared.order.Act.{Act}
 use Rattle.lethe_script.specs.declared.order.Act.TheVariants.{Put, Get, Scan, Delete}
 use Rattle.lethe_script.specs.declared.order.Order.{Order}
-use Rattle.lethe_script.specs.declared.refused.BadLine.{BadLine}
-use Rattle.lethe_script.specs.declared.refused.Why.{Why}
 use Rattle.lethe_script.specs.declared.refused.Why.TheVariants.{Byte, Key, Value}
 use Rattle.lethe_script.specs.Results.{◌>>=◌}
 use Rattle.lethe_script.specs.Fields.{is_allowed, is_field, fields, is_plain, caller_of, key_of, number_of, value_of}
