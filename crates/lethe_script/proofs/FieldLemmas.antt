@@ -1,7 +1,7 @@
 -- The first six fields of a line tell as much as all of them.
 use Rattle.std.proofs.Common.{◌≡◌, List, [], ◌∷◌, take, refl}
 use Rattle.lethe_base.specs.Keys.{Bytes}
-use Rattle.lethe_script.specs.Grammar.{told_of, asked_of, act_of, put_of, get_of, scan_of, del_of}
+use Rattle.lethe_script.specs.Grammar.{request_of, caller_and_act, act_of, put_of, get_of, scan_of, del_of}
 
 put_of_kept : (fields : List Bytes) → put_of (take 4 fields) ≡ put_of fields
 unfolding put_of
@@ -35,7 +35,7 @@ unfolding act_of
 act_of_kept [] = refl
 act_of_kept (command ∷ rest) = rw (put_of_kept rest, get_of_kept rest, scan_of_kept rest, del_of_kept rest) refl
 
-pub told_of_kept : (fields : List Bytes) → told_of (take 6 fields) ≡ told_of fields
-unfolding told_of asked_of
-told_of_kept [] = refl
-told_of_kept (first ∷ rest) = rw (act_of_kept rest) refl
+pub request_of_kept : (fields : List Bytes) → request_of (take 6 fields) ≡ request_of fields
+unfolding request_of caller_and_act
+request_of_kept [] = refl
+request_of_kept (first ∷ rest) = rw (act_of_kept rest) refl

@@ -59,28 +59,29 @@ act_of (command ∷ rest) =
     if bytes_eq command (codes "scan") then scan_of rest else
     if bytes_eq command (codes "del") then del_of rest else Err Command
 
--- the first field and those behind it
-unfoldable pub asked_of : Bytes → List Bytes → Result (ℕ × Act) Why
-asked_of first rest = do
+-- the first field of a line, and those behind it
+unfoldable pub caller_and_act : Bytes → List Bytes → Result (ℕ × Act) Why
+caller_and_act first rest = do
   caller ← caller_of first
   act ← act_of rest
   Ok (caller, act)
 
 -- all fields of a line: one that has none, and a comment, ask for nothing
-unfoldable pub told_of : List Bytes → Result (Option (ℕ × Act)) Why
-told_of [] = Ok None
-told_of (first ∷ rest) = if is_comment first then Ok None else (asked_of first rest >>= λ asked. Ok (Some asked))
+unfoldable pub request_of : List Bytes → Result (Option (ℕ × Act)) Why
+request_of [] = Ok None
+request_of (first ∷ rest) = if is_comment first then Ok None else (caller_and_act first rest >>= λ request. Ok (Some request))
 
 -- a line: its caller and its act
 unfoldable pub line_of : Bytes → Result (Option (ℕ × Act)) Why
-line_of line = if list_all is_allowed line then told_of (fields line) else Err Byte
+line_of line = if list_all is_allowed line then request_of (fields line) else Err Byte
 
--- the line with this number
+-- what a line with this number asks for
+abbrev pub numbered : ℕ → Result (Option (ℕ × Act)) Why → Result (Option Order) BadLine
+numbered n (Ok request) = Ok (option_map (λ r. record { line = n; caller = r.0; act = r.1 }) request)
+numbered n (Err why) = Err (record { line = n; why = why })
+
 unfoldable pub order_of : ℕ → Bytes → Result (Option Order) BadLine
-order_of n line = elim (line_of line) [
-  | Ok told ↦ Ok (option_map (λ asked. record { line = n; caller = asked.0; act = asked.1 }) told)
-  | Err why ↦ Err (record { line = n; why = why })
-]
+order_of n line = numbered n (line_of line)
 
 -- the parts between the LFs
 abbrev pub lines : Bytes → List Bytes

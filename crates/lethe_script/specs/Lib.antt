@@ -3,3 +3,4 @@ pub mod Results
 pub mod Fields
 pub mod Grammar
 pub mod Reading
+pub mod Spelling

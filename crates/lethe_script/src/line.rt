@@ -1,8 +1,8 @@
 //! What one line asks for.
-ghost use Rattle.std.specs.Prelude.{◌≡◌, ◌∷◌, map};
+ghost use Rattle.std.specs.Prelude.{◌≡◌, map};
 ghost use Rattle.std.specs.List.{list_all};
 ghost use Rattle.lethe_script.specs.Fields.{is_allowed};
-ghost use Rattle.lethe_script.specs.Grammar.{line_of, told_of, asked_of, act_of, put_of, put_fields, get_of, scan_of, scan_fields, del_of};
+ghost use Rattle.lethe_script.specs.Grammar.{line_of, request_of, caller_and_act, act_of, put_of, put_fields, get_of, scan_of, scan_fields, del_of};
 ghost use Rattle.lethe_script.specs.Reading.{GivesLine};
 
 use crate::field::{caller, fields_of, is_comment, key, number, value};
@@ -11,15 +11,15 @@ use crate::refused::{LineRefused, Why};
 use std::alloc::Global;
 
 /// The caller and the act of a line, or nothing where the line is skipped.
-#[tactic(auto, using(crate::proofs::FieldLemmas::told_of_kept), unfolding(crate::specs::Grammar::line_of))]
+#[tactic(auto, using(crate::proofs::FieldLemmas::request_of_kept), unfolding(crate::specs::Grammar::line_of))]
 pub(crate) fn read_line(alloc: Global, line: &[u8]) -> Result<Option<(u64, Act)>, LineRefused>
-    ensures { GivesLine (λ told. told) result (line_of line.now) }
+    ensures { GivesLine (λ request. request) result (line_of line.now) }
 {
     if !is_printable(line) {
         return Err(LineRefused::Bad(Why::Byte));
     }
     let fields = fields_of(alloc, line)?;
-    told(alloc, &fields)
+    request(alloc, &fields)
 }
 
 /// Every byte is a space or prints.
@@ -29,28 +29,31 @@ fn is_printable(line: &[u8]) -> bool
     line.iter().all(|byte| *byte >= b' ' && *byte <= b'~')
 }
 
-#[tactic(auto, unfolding(crate::specs::Grammar::told_of))]
-fn told(alloc: Global, fields: &[&[u8]]) -> Result<Option<(u64, Act)>, LineRefused>
-    ensures { GivesLine (λ told. told) result (told_of (map (λ field. field.now) fields.now)) }
+/// What all fields of a line ask for.
+#[tactic(auto, unfolding(crate::specs::Grammar::request_of))]
+fn request(alloc: Global, fields: &[&[u8]]) -> Result<Option<(u64, Act)>, LineRefused>
+    ensures { GivesLine (λ request. request) result (request_of (map (λ field. field.now) fields.now)) }
 {
     match fields {
         [first, rest @ ..] if !is_comment(first) => {
-            let asked = asked(alloc, first, rest)?;
-            Ok(Some(asked))
+            let request = caller_and_act(alloc, first, rest)?;
+            Ok(Some(request))
         }
         _ => Ok(None),
     }
 }
 
-#[tactic(auto, unfolding(crate::specs::Grammar::asked_of))]
-fn asked(alloc: Global, first: &[u8], rest: &[&[u8]]) -> Result<(u64, Act), LineRefused>
-    ensures { GivesLine (λ asked. asked) result (asked_of first.now (map (λ field. field.now) rest.now)) }
+/// What the first field and those behind it say.
+#[tactic(auto, unfolding(crate::specs::Grammar::caller_and_act))]
+fn caller_and_act(alloc: Global, first: &[u8], rest: &[&[u8]]) -> Result<(u64, Act), LineRefused>
+    ensures { GivesLine (λ request. request) result (caller_and_act first.now (map (λ field. field.now) rest.now)) }
 {
     let caller = caller(first)?;
     let act = act(alloc, rest)?;
     Ok((caller, act))
 }
 
+/// What the fields behind the caller ask for.
 #[tactic(auto, unfolding(crate::specs::Grammar::act_of))]
 fn act(alloc: Global, fields: &[&[u8]]) -> Result<Act, LineRefused>
     ensures { GivesLine (λ act. act) result (act_of (map (λ field. field.now) fields.now)) }
@@ -64,6 +67,7 @@ fn act(alloc: Global, fields: &[&[u8]]) -> Result<Act, LineRefused>
     }
 }
 
+/// What the fields behind `put` ask for.
 #[tactic(auto, unfolding(crate::specs::Grammar::put_of))]
 fn put(alloc: Global, fields: &[&[u8]]) -> Result<Act, LineRefused>
     ensures { GivesLine (λ act. act) result (put_of (map (λ field. field.now) fields.now)) }
@@ -89,6 +93,7 @@ fn put_fields(
     Ok(Act::Put { key, dkey, value })
 }
 
+/// What the fields behind `get` ask for.
 #[tactic(auto, unfolding(crate::specs::Grammar::get_of))]
 fn get(alloc: Global, fields: &[&[u8]]) -> Result<Act, LineRefused>
     ensures { GivesLine (λ act. act) result (get_of (map (λ field. field.now) fields.now)) }
@@ -101,6 +106,7 @@ fn get(alloc: Global, fields: &[&[u8]]) -> Result<Act, LineRefused>
     }
 }
 
+/// What the fields behind `scan` ask for.
 #[tactic(auto, unfolding(crate::specs::Grammar::scan_of))]
 fn scan(alloc: Global, fields: &[&[u8]]) -> Result<Act, LineRefused>
     ensures { GivesLine (λ act. act) result (scan_of (map (λ field. field.now) fields.now)) }
@@ -120,6 +126,7 @@ fn scan_fields(alloc: Global, lo_field: &[u8], hi_field: &[u8]) -> Result<Act, L
     Ok(Act::Scan { lo, hi })
 }
 
+/// What the fields behind `del` ask for.
 #[tactic(auto, unfolding(crate::specs::Grammar::del_of))]
 fn delete(alloc: Global, fields: &[&[u8]]) -> Result<Act, LineRefused>
     ensures { GivesLine (λ act. act) result (del_of (map (λ field. field.now) fields.now)) }

@@ -1,5 +1,5 @@
 //! Reading a script.
-ghost use Rattle.std.specs.Prelude.{◌≡◌, ◌==◌, ◌<◌, ◌≤◌, ◌∷◌, [], length, take, IfSome, MatchOption};
+ghost use Rattle.std.specs.Prelude.{◌≡◌, ◌==◌, ◌<◌, ◌≤◌, ◌∷◌, [], length, take, sum_by, IfOk, IfSome, MatchOption};
 ghost use Rattle.std.specs.List.{position};
 ghost use Rattle.std.specs.Str.Lines.{strip_carriage_return};
 ghost use Rattle.lethe_script.specs.Grammar.{order_of, orders_from, script_of, lines};
@@ -17,7 +17,9 @@ pub const MAX_SCRIPT: usize = 16_777_216;
 /// Accepts exactly the scripts, and else answers the first bad line. Bytes behind the greatest script aren't looked at.
 #[tactic(auto, unfolding(crate::specs::Grammar::script_of))]
 pub fn read_script(alloc: Global, bytes: &[u8]) -> Result<Script, ScriptRefused>
-    ensures { GivesScript (λ script. script.phases) result (script_of bytes.now) }
+    ensures script { GivesScript (λ script. script.phases) result (script_of bytes.now) }
+    // There are no more orders than lines.
+    ensures few { IfOk result (λ script. sum_by length script.phases ≤ 16777217) }
 {
     let is_long = bytes.len() > MAX_SCRIPT;
     let orders = read_orders(alloc, within_limit(bytes), is_long)?;

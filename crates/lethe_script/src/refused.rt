@@ -4,10 +4,10 @@ ghost use Rattle.lethe_script.specs.declared.refused.ScriptRefused.TheVariants.{
 
 use std::alloc::{AllocError, AllocFailed};
 
-/// What is wrong with a line. A line is tested for each of these in this order, and the first that is found is told.
+/// What is wrong with a line. A line is tested for these in this order, and then its fields from left to right.
 #[derive(Clone, Copy, Debug, PartialEq, Eq)]
 pub enum Why {
-    /// The byte behind the greatest script stands in the line.
+    /// The script is longer than 16,777,216 bytes, and the first byte that is too much stands in this line.
     Size,
     /// A byte is neither a space nor from 33 to 126.
     Byte,

@@ -41,110 +41,111 @@ fn act_shown(alloc: Global, act: &Act) -> Result<String, Fail> {
     }
 }
 
-/// The head, then so many fillers, then the tail.
-fn filled(
-    alloc: Global,
-    head: &[u8],
-    filler: u8,
-    count: usize,
-    tail: &[u8],
-) -> Result<Vec<u8>, Fail> {
-    let mut bytes = Vec::from_slice(alloc, head)?;
-    let fill = vec![in alloc; filler; count]?;
-    bytes.extend_from_slice(&fill)?;
-    bytes.extend_from_slice(tail)?;
-    Ok(bytes)
+/// The number of orders of a script.
+fn orders_of(alloc: Global, bytes: &[u8]) -> Result<usize, Fail> {
+    let script = read_script(alloc, bytes)?;
+    let mut orders = 0;
+    for phase in script.phases.items() {
+        orders = phase.items().len();
+    }
+    Ok(orders)
+}
+
+/// The bytes are refused for this line, and the reason has this word.
+fn is_refused(alloc: Global, bytes: &[u8], line: u64, word: &[u8]) -> bool {
+    match read_script(alloc, bytes) {
+        Err(ScriptRefused::Bad(bad)) => bad.line == line && bad.why.word().as_bytes() == word,
+        _ => false,
+    }
 }
 
 #[test]
 fn scripts_are_read(rt: HostRuntime) -> Result<(), Fail> {
     let alloc = rt.alloc();
-    let rows: [(&[u8], &str); 12] = [
-        (b"", ""),
-        (b"\n\r\n  \n#\n", ""),
+    let rows: [(&[u8], &[u8]); 12] = [
+        (b"", b""),
+        (b"\n\r\n  \n#\n", b""),
         (
             b"1 put a 5 x\n1 get a\n1 get b\n",
-            "1:1 put a 5 x;2:1 get a;3:1 get b;",
+            b"1:1 put a 5 x;2:1 get a;3:1 get b;",
         ),
         (
             b"1 put a 5 x\n1 del a\n1 get a\n1 scan a z\n",
-            "1:1 put a 5 x;2:1 del a;3:1 get a;4:1 scan a z;",
+            b"1:1 put a 5 x;2:1 del a;3:1 get a;4:1 scan a z;",
         ),
-        (b"1 get a", "1:1 get a;"),
-        (b"1 get a\r\n1 put b 0 y\r\n", "1:1 get a;2:1 put b 0 y;"),
+        (b"1 get a", b"1:1 get a;"),
+        (b"1 get a\r\n1 put b 0 y\r\n", b"1:1 get a;2:1 put b 0 y;"),
         (
             b"# note\n\n  # 1 get x\n  1   get   a  \r\n\r\n1 get b ",
-            "4:1 get a;6:1 get b;",
+            b"4:1 get a;6:1 get b;",
         ),
-        (b"   \n1 scan z a", "2:1 scan z a;"),
+        (b"   \n1 scan z a", b"2:1 scan z a;"),
         (
             b"1 put #k 18446744073709551615 v=#",
-            "1:1 put #k 18446744073709551615 v=#;",
+            b"1:1 put #k 18446744073709551615 v=#;",
         ),
-        (b"1 get 1\n1 del del", "1:1 get 1;2:1 del del;"),
-        (b"#x\n1 get !~\n#1 get a", "2:1 get !~;"),
-        (b"\r\n\n 1 get a\r\n", "3:1 get a;"),
+        (b"1 get 1\n1 del del", b"1:1 get 1;2:1 del del;"),
+        (b"#x\n1 get !~\n#1 get a", b"2:1 get !~;"),
+        (b"\r\n\n 1 get a\r\n", b"3:1 get a;"),
     ];
     for (bytes, text) in rows {
         let script = read_script(alloc, bytes)?;
-        assert_eq!(rt; script.phases.items().len(), 1, "{text}");
         let found = shown(alloc, &script)?;
-        assert_eq!(rt; found.as_str(), text);
+        assert!(rt; found.as_bytes() == text, "{found}");
     }
     Ok(())
 }
 
 #[test]
 fn the_first_bad_line_is_answered(rt: HostRuntime) {
-    let rows: [(&[u8], u64, Why); 42] = [
-        (b"1 get\ta\n", 1, Why::Byte),
-        (b"\t# note\n", 1, Why::Byte),
-        (b"# \xff\n", 1, Why::Byte),
-        (b"1 get \x7f", 1, Why::Byte),
-        (b"1 get a\r", 1, Why::Byte),
-        (b"1 get a\r\r\n", 1, Why::Byte),
-        (b"1 ge\rt a\n", 1, Why::Byte),
-        (b"1 get a\n2 get \xff\n", 2, Why::Byte),
-        (b"2 get a\n", 1, Why::Caller),
-        (b"1 get a\n2 get a\n", 2, Why::Caller),
-        (b"\n# 1 frob\n  \n1 get a\n01 get a\n", 5, Why::Caller),
-        (b"get a\n", 1, Why::Caller),
-        (b"phase\n", 1, Why::Caller),
-        (b"9 frob\n", 1, Why::Caller),
-        (b"1 frob\n", 1, Why::Command),
-        (b"1\n", 1, Why::Command),
-        (b"1 tick 5\n", 1, Why::Command),
-        (b"1 PUT a 5 x\n", 1, Why::Command),
-        (b"1 # get a\n", 1, Why::Command),
-        (b"1 frob\n2 get a\n", 1, Why::Command),
-        (b"1 get\n", 1, Why::Count),
-        (b"1 get =a b\n", 1, Why::Count),
-        (b"1 put a 5\n", 1, Why::Count),
-        (b"1 put a 5 \n", 1, Why::Count),
-        (b"1 put a 05 x y\n", 1, Why::Count),
-        (b"1 put a 5 x y z z z z z\n", 1, Why::Count),
-        (b"1 scan a\n", 1, Why::Count),
-        (b"1 scan a b c\n", 1, Why::Count),
-        (b"1 del\n", 1, Why::Count),
-        (b"1 del a b\n", 1, Why::Count),
-        (b"1 put a 05 x\n", 1, Why::Number),
-        (b"1 put a 00 =\n", 1, Why::Number),
-        (b"1 put a 18446744073709551616 x\n", 1, Why::Number),
-        (b"1 put a 99999999999999999999999 x\n", 1, Why::Number),
-        (b"1 put a -1 x\n", 1, Why::Number),
-        (b"1 put a +1 x\n", 1, Why::Number),
-        (b"1 put a 1x x\n", 1, Why::Number),
-        (b"1 put =a 05 =\n", 1, Why::Key),
-        (b"1 get =61\n", 1, Why::Key),
-        (b"1 scan a =\n", 1, Why::Key),
-        (b"1 del =\n", 1, Why::Key),
-        (b"1 put a 5 =61\n", 1, Why::Value),
+    let rows: [(&[u8], u64, &[u8]); 42] = [
+        (b"1 get\ta\n", 1, b"byte"),
+        (b"\t# note\n", 1, b"byte"),
+        (b"# \xff\n", 1, b"byte"),
+        (b"1 get \x7f", 1, b"byte"),
+        (b"1 get a\r", 1, b"byte"),
+        (b"1 get a\r\r\n", 1, b"byte"),
+        (b"1 ge\rt a\n", 1, b"byte"),
+        (b"1 get a\n2 get \xff\n", 2, b"byte"),
+        (b"2 get a\n", 1, b"caller"),
+        (b"1 get a\n2 get a\n", 2, b"caller"),
+        (b"\n# 1 frob\n  \n1 get a\n01 get a\n", 5, b"caller"),
+        (b"get a\n", 1, b"caller"),
+        (b"phase\n", 1, b"caller"),
+        (b"9 frob\n", 1, b"caller"),
+        (b"1 frob\n", 1, b"command"),
+        (b"1\n", 1, b"command"),
+        (b"1 tick 5\n", 1, b"command"),
+        (b"1 PUT a 5 x\n", 1, b"command"),
+        (b"1 # get a\n", 1, b"command"),
+        (b"1 frob\n2 get a\n", 1, b"command"),
+        (b"1 get\n", 1, b"count"),
+        (b"1 get =a b\n", 1, b"count"),
+        (b"1 put a 5\n", 1, b"count"),
+        (b"1 put a 5 \n", 1, b"count"),
+        (b"1 put a 05 x y\n", 1, b"count"),
+        (b"1 put a 5 x y z z z z z\n", 1, b"count"),
+        (b"1 scan a\n", 1, b"count"),
+        (b"1 scan a b c\n", 1, b"count"),
+        (b"1 del\n", 1, b"count"),
+        (b"1 del a b\n", 1, b"count"),
+        (b"1 put a 05 x\n", 1, b"number"),
+        (b"1 put a 00 =\n", 1, b"number"),
+        (b"1 put a 18446744073709551616 x\n", 1, b"number"),
+        (b"1 put a 99999999999999999999999 x\n", 1, b"number"),
+        (b"1 put a -1 x\n", 1, b"number"),
+        (b"1 put a +1 x\n", 1, b"number"),
+        (b"1 put a 1x x\n", 1, b"number"),
+        (b"1 put =a 05 =\n", 1, b"key"),
+        (b"1 get =61\n", 1, b"key"),
+        (b"1 scan a =\n", 1, b"key"),
+        (b"1 del =\n", 1, b"key"),
+        (b"1 put a 5 =61\n", 1, b"value"),
     ];
-    for (bytes, line, why) in rows {
-        let bad = ScriptRefused::Bad(BadLine { line, why });
+    for (bytes, line, word) in rows {
         assert!(rt;
-            read_script(rt.alloc(), bytes).err() == Some(bad),
-            "{why:?}"
+            is_refused(rt.alloc(), bytes, line, word),
+            "line {line} of {bytes:?}"
         );
     }
 }
@@ -152,58 +153,33 @@ fn the_first_bad_line_is_answered(rt: HostRuntime) {
 #[test]
 fn limits_are_met_to_the_byte(rt: HostRuntime) -> Result<(), Fail> {
     let alloc = rt.alloc();
-    let rows: [(&[u8], u8, usize, &[u8], u64, Why); 11] = [
-        (b"", b' ', 16_777_217, b"", 1, Why::Size),
-        (b"", b' ', 16_777_216, b"\n", 1, Why::Size),
-        (b"", b' ', 16_777_215, b"\nx", 2, Why::Size),
-        (b"", b' ', 16_777_215, b"\n\n", 2, Why::Size),
-        (b"", b'\n', 16_777_217, b"", 16_777_217, Why::Size),
-        (b"1 frob\n", b' ', 16_777_216, b"", 1, Why::Command),
-        (b"1 get a\n", b'\t', 16_777_216, b"", 2, Why::Size),
-        (b"1 get a\n1 get ", b'k', 256, b"", 2, Why::Key),
-        (b"1 scan a ", b'k', 256, b"\n", 1, Why::Key),
-        (b"1 put a 5 ", b'v', 4097, b"\n", 1, Why::Value),
-        (b"1 put a 1", b'0', 20, b" x\n", 1, Why::Number),
+    // Where the line is 0 there is one order.
+    let rows: [(&[u8], u8, usize, &[u8], u64, &[u8]); 13] = [
+        (b"", b' ', 16_777_217, b"", 1, b"size"),
+        (b"", b'\t', 16_777_216, b"\n", 1, b"size"),
+        (b"", b' ', 16_777_215, b"\nx", 2, b"size"),
+        (b"1 frob\n", b' ', 16_777_216, b"", 1, b"command"),
+        (b"1 get a\n", b' ', 16_777_208, b"", 0, b""),
+        (b"1 get ", b'k', 255, b"", 0, b""),
+        (b"1 get a\n1 get ", b'k', 256, b"", 2, b"key"),
+        (b"1 scan a ", b'k', 256, b"\n", 1, b"key"),
+        (b"1 put a 5 ", b'v', 4096, b"\r\n", 0, b""),
+        (b"1 put a 5 ", b'v', 4097, b"\n", 1, b"value"),
+        (b"1 put a 1", b'0', 19, b" x\n", 0, b""),
+        (b"1 put a 1", b'0', 20, b" x\n", 1, b"number"),
+        (b"#", b'#', 65_536, b"\n1 get a\n2 get a", 3, b"caller"),
     ];
-    for (head, filler, count, tail, line, why) in rows {
-        let bytes = filled(alloc, head, filler, count, tail)?;
-        let bad = ScriptRefused::Bad(BadLine { line, why });
-        assert!(rt;
-            read_script(alloc, &bytes).err() == Some(bad),
-            "{count} {why:?}"
-        );
-    }
-    let good: [(&[u8], u8, usize, &[u8], usize); 6] = [
-        (b"", b' ', 16_777_216, b"", 0),
-        (b"", b'#', 16_777_215, b"\n", 0),
-        (b"1 get a\n", b' ', 16_777_201, b"1 get a", 2),
-        (b"1 get ", b'k', 255, b"", 1),
-        (b"1 put a 5 ", b'v', 4096, b"\r\n", 1),
-        (b"1 put a 1", b'0', 19, b" x\n", 1),
-    ];
-    for (head, filler, count, tail, orders) in good {
-        let bytes = filled(alloc, head, filler, count, tail)?;
-        let script = read_script(alloc, &bytes)?;
-        for phase in script.phases.items() {
-            assert_eq!(rt; phase.items().len(), orders, "{count}");
-        }
+    for (head, filler, count, tail, line, word) in rows {
+        let mut bytes = Vec::from_slice(alloc, head)?;
+        let fill = vec![in alloc; filler; count]?;
+        bytes.extend_from_slice(&fill)?;
+        bytes.extend_from_slice(tail)?;
+        let found = if line == 0 {
+            orders_of(alloc, &bytes)? == 1
+        } else {
+            is_refused(alloc, &bytes, line, word)
+        };
+        assert!(rt; found, "line {line} after {count}");
     }
     Ok(())
-}
-
-#[test]
-fn reasons_are_printed_in_lower_case(rt: HostRuntime) {
-    let rows = [
-        (Why::Size, "size"),
-        (Why::Byte, "byte"),
-        (Why::Caller, "caller"),
-        (Why::Command, "command"),
-        (Why::Count, "count"),
-        (Why::Number, "number"),
-        (Why::Key, "key"),
-        (Why::Value, "value"),
-    ];
-    for (why, word) in rows {
-        assert_eq!(rt; why.word(), word);
-    }
 }

@@ -1,7 +1,5 @@
-use Rattle.std.proofs.Common.{◌≡◌, ◌∙◌, sym, ◌<◌, ◌+◌, length, arith, ap}
+use Rattle.std.proofs.Common.{◌∙◌, arith}
 use Rattle.std.proofs.lemmas.Result.{err_from_is_err_and}
-use Rattle.lethe_script.specs.Grammar.{order_of}
-use Rattle.lethe_script.specs.Reading.{with_order}
 use Rattle.lethe_script.proofs.Lines.{order_read, order_refused, last_long, last_read, last_refused}
 use Rattle.lethe_script.proofs.reading.read_orders.Goals as goal
 
