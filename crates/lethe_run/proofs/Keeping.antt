@@ -13,7 +13,8 @@ use Rattle.lethe_base.specs.Read.{Found, Listed, Get, Scan, is_between}
 use Rattle.lethe_run.specs.Transcript.{listed}
 use Rattle.lethe_run.specs.Scans.{pairs_between}
 use Rattle.lethe_run.specs.Kept.{Kept, map_of, Changes, Reads, change_by}
-use Rattle.lethe_run.proofs.Maps.{map_of-empty, map_of-put, map_of-tombstone, map_of-blind, get-map_of, entries-map_of}
+use Rattle.lethe_mem.proofs.PairsLemmas.{get-pairs_of, map-inserts_put, map-inserts_tomb}
+use Rattle.lethe_run.proofs.Maps.{map_of-empty, map_of-blind, entries-map_of}
 
 abbrev kept : Map → ℕ → ℕ → Kept
 kept m clock count = record { state = record { map = m; clock = clock }; count = count }
@@ -24,8 +25,8 @@ kept_new entries none = ap (λ es. kept (map_of es) 0 0) none ∙ ap (λ m. kept
 
 module _ (e : Entry) (old new : List Entry) (clock count : ℕ) (before : IsAscending old) (inserts : Inserts e old new) where
   by_body : (body : Body) → e.body ≡ body → kept (map_of new) clock (suc count) ≡ record { state = done (change_by e.key body) (record { map = map_of old; clock = clock }); count = suc count }
-  by_body (Put dkey value) is = ap (λ m. kept m clock (suc count)) (map_of-put e old new before inserts (dkey, value) (ap pair_of is))
-  by_body Tomb is = ap (λ m. kept m clock (suc count)) (map_of-tombstone e old new before inserts (ap pair_of is))
+  by_body (Put dkey value) is = ap (λ m. kept m clock (suc count)) (map-inserts_put e old new (dkey, value) before inserts (ap pair_of is))
+  by_body Tomb is = ap (λ m. kept m clock (suc count)) (map-inserts_tomb e old new before inserts (ap pair_of is))
 
   -- an entry is kept
   pub kept_entered : (was : Kept) → kept (map_of old) clock count ≡ was → Changes was (change_by e.key e.body) (count + 1) (kept (map_of new) clock (count + 1))
@@ -42,7 +43,7 @@ kept_blind key entries clock count was ascending none is = subst (λ was. Change
 pub kept_got : (key : Bytes) (entries : List Entry) (clock count : ℕ) (held : Option Pair) (was : Kept) → IsAscending entries → held ≡ shown key entries
     → kept (map_of entries) clock count ≡ was → Reads was count (Found held) was (Get key)
 kept_got key entries clock count held was ascending shows is = subst (λ was. Reads was count (Found held) was (Get key)) is
-    (record { point_is = refl; given_is = ap Found (shows ∙ sym (get-map_of entries key ascending)); same = refl })
+    (record { point_is = refl; given_is = ap Found (shows ∙ sym (get-pairs_of key entries ascending)); same = refl })
 
 -- and so are the pairs of a range
 pub kept_scanned : (lo hi : Bytes) (entries : List Entry) (clock count : ℕ) (pairs : List (Bytes × ℕ × Bytes)) (was : Kept) → IsAscending entries

@@ -2,5 +2,4 @@ pub mod Maps
 pub mod Keeping
 pub mod Scanning
 pub mod Serving
-pub mod Few
 pub mod Ending
