@@ -98,6 +98,11 @@ entry_again bytes at end entry fits p =
     let parts = stands_parts (front_bytes (front_of entry)) (body_bytes entry.body) bytes at end p in
     rw (front_again bytes at _ (front_of entry) fits.front parts.0, body_again bytes _ end entry.body fits.body parts.1) refl
 
+-- an entry's spelling begins with its kind
+pub entry_first : (entry : Entry) → (rest : List ℕ) × (entry_bytes entry ≡ kind_byte (kind_of entry.body) ∷ rest)
+unfolding entry_bytes front_bytes
+entry_first entry = (_, refl)
+
 -- ---- what a reader gives
 
 abbrev failed : EntryRefused → Result (Entry × ℕ) EntryRefused

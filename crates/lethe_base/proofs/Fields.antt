@@ -61,13 +61,21 @@ stands_parts x y bytes at end p =
       record { parts = behind; ends = ends; within = p.within },
     )
 
+-- a text stands where the bytes begin with it
+pub stands_where : (x rest bytes : List ℕ) (at : ℕ) → at ≤ length bytes → drop at bytes ≡ x ++ rest → StandsAt x bytes at (at + length x)
+stands_where x rest bytes at within e = record {
+  parts = e ∙ ap (λ (l : List ℕ). x ++ l) (sym (sym (drop-drop (length x) at bytes) ∙ ap (λ (l : List ℕ). drop (length x) l) e ∙ drop_at x rest (length x) refl));
+  ends = refl;
+  within = omega (arith, ap length e, length-append x rest, length-drop at bytes);
+}
+
 -- the end, by another name
 stands_to : (x bytes : List ℕ) (at mid end : ℕ) → mid ≡ end → StandsAt x bytes at mid → StandsAt x bytes at end
 stands_to x bytes at mid end e p = subst (λ (n : ℕ). StandsAt x bytes at n) e p
 
 -- ---- numbers
 
-IsBytes-drop : (n : ℕ) (bytes : List ℕ) → IsBytes bytes → IsBytes (drop n bytes)
+pub IsBytes-drop : (n : ℕ) (bytes : List ℕ) → IsBytes bytes → IsBytes (drop n bytes)
 IsBytes-drop n bytes h i = rw get_or-drop (h (n + i))
 
 IsBytes-take : (n : ℕ) (bytes : List ℕ) → IsBytes bytes → IsBytes (take n bytes)
@@ -128,6 +136,10 @@ number_again w limit wide bytes at end n lt p =
     let front : take (byte_len w) (drop at bytes) ≡ to_be_bytes w n = ap (λ (l : List ℕ). take (byte_len w) l) p.parts ∙ take_at (to_be_bytes w n) (drop end bytes) (byte_len w) len in
     rw (within, front, wide.again n lt) refl
 
+-- one number for the same bytes
+pub same_number : (w : Width) (limit : ℕ) (wide : IsWide w limit) (m n : ℕ) → m < limit → n < limit → to_be_bytes w m ≡ to_be_bytes w n → m ≡ n
+same_number w limit wide m n m_fits n_fits e = sym (wide.again m m_fits) ∙ ap (from_be_bytes w) e ∙ wide.again n n_fits
+
 -- a field of eight bytes
 pub long_stands : (bytes : List ℕ) (at n : ℕ) → IsBytes bytes → field_at w64 bytes at ≡ Ok n → StandsAt (to_be_bytes w64 n) bytes at (at + 8) × (n < 2 ^ 64)
 long_stands bytes at n fits e = number_stands w64 (2 ^ 64) wide64 bytes at n fits (field_ok (number_at w64 bytes at) (Short at) n e)
@@ -151,6 +163,10 @@ byte_again bytes at end n p =
     let within : leb (at + 1) (length bytes) ≡ true = le-leb _ _ (omega (arith, p.ends, p.within)) in
     let byte : get_or (take 1 (drop at bytes)) 0 0 ≡ n = ap (λ (l : List ℕ). get_or (take 1 l) 0 0) p.parts in
     rw (within, byte) refl
+
+-- the byte at the front of a text
+pub first_byte : (b : ℕ) (text bytes : List ℕ) (at end : ℕ) → StandsAt (b ∷ text) bytes at end → number_at w8 bytes at ≡ Some b
+first_byte b text bytes at end p = field_ok (number_at w8 bytes at) (Short at) b (byte_again bytes at (at + 1) b (stands_parts (b ∷ []) text bytes at end p).0)
 
 -- ---- kinds
 
