@@ -6,3 +6,6 @@ pub mod Names
 pub mod History
 pub mod Read
 pub mod Entries
+pub mod Numbers
+pub mod Spelling
+pub mod Reading

@@ -3,25 +3,35 @@
 
 mod call;
 mod entry;
+mod front;
 mod key;
+mod laws;
 mod limits;
 mod list;
 mod memory;
 mod name;
+mod number;
 mod pending;
 mod range;
+mod reading;
 mod value;
+mod writing;
 
 pub use call::{Call, Did};
 pub use entry::{Body, Entry};
+pub use front::{BodyKind, Front};
 pub use key::{Key, KeyRefused, MAX_KEY};
+pub use laws::one_spelling;
 pub use limits::{MAX_PLACE, MAX_TIME};
 pub use list::List;
 pub use memory::NoMemory;
 pub use name::{Kind, Name};
+pub use number::{take_u8, take_u16, take_u32, take_u64};
 pub use pending::Pending;
 pub use range::Range;
+pub use reading::{EntryRefused, read_body, read_entry, read_front, read_key, read_place};
 pub use value::{MAX_VALUE, Value, ValueRefused};
+pub use writing::{entry_len, write_entry};
 
 #[cfg(test)]
 mod tests;

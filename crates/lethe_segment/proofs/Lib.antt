@@ -1,0 +1,5 @@
+pub mod RecordLaws
+pub mod HeadLaws
+pub mod Standing
+pub mod Runs
+pub mod Loop

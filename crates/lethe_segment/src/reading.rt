@@ -1,0 +1,50 @@
+//! Reading one record.
+ghost use Rattle.std.specs.Prelude.{◌≡◌, IfOk, IfErr, MatchOption};
+ghost use Rattle.lethe_base.specs.Reading.{StandsAt};
+ghost use Rattle.lethe_segment.specs.Records.{record_bytes, RecordHasSpelling};
+ghost use Rattle.lethe_segment.specs.Refusals.{refusal_of, IsUnreadAt, IsBlindAt, IsNoBlindAt};
+
+use crate::record::BLIND;
+use crate::{Record, SegmentRefused};
+use lethe_base::{EntryRefused, read_entry, read_place, take_u8};
+use std::alloc::Global;
+
+/// The record that begins at `at`, and where it ends.
+pub(crate) fn read_record(
+    alloc: Global,
+    bytes: &[u8],
+    at: usize,
+) -> Result<(Record, usize), SegmentRefused>
+    ensures found { IfOk result (λ read. RecordHasSpelling read.0
+        × StandsAt (record_bytes read.0) bytes.now at read.1) }
+    ensures refused { IfErr result (IsUnreadAt bytes.now at) }
+{
+    if let Some((seq, end)) = read_blind(bytes, at) {
+        return Ok((Record::Blind { seq }, end));
+    }
+    match read_entry(alloc, bytes, at) {
+        Ok((entry, end)) => Ok((Record::Entry(entry), end)),
+        Err(why) => Err(refusal_at(at, why)),
+    }
+}
+
+// Why the record that begins at `at` couldn't be read, where the entry couldn't.
+fn refusal_at(at: usize, why: EntryRefused) -> SegmentRefused
+    ensures { result ≡ refusal_of at why }
+{
+    match why {
+        EntryRefused::Short { .. } => SegmentRefused::Record { at: at as u64 },
+        EntryRefused::Kind { .. } => SegmentRefused::Record { at: at as u64 },
+        EntryRefused::NoMemory => SegmentRefused::NoMemory,
+    }
+}
+
+// The place of the blind delete that begins at `at`, and where it ends.
+fn read_blind(bytes: &[u8], at: usize) -> Option<(u64, usize)>
+    ensures { MatchOption result (IsNoBlindAt bytes.now at) (λ read. IsBlindAt bytes.now at read.0 read.1) }
+{
+    if take_u8(bytes, at)? != BLIND {
+        return None;
+    }
+    read_place(bytes, at + 1).ok()
+}

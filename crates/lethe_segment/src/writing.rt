@@ -1,0 +1,30 @@
+//! Writing one record.
+ghost use Rattle.std.specs.Prelude.{◌≡◌, IfOk};
+ghost use Rattle.lethe_segment.specs.Records.{record_bytes, RecordHasSpelling};
+
+use crate::Record;
+use crate::record::BLIND;
+use lethe_base::{NoMemory, entry_len, write_entry};
+use std::alloc::Global;
+
+/// The record's one spelling. It takes memory once, for all of its bytes.
+#[tactic(auto, unfolding(crate::specs::Records::record_bytes))]
+pub fn write_record(alloc: Global, item: &Record) -> Result<Vec<u8>, NoMemory>
+    requires { RecordHasSpelling item.now }
+    ensures { IfOk result (λ bytes. bytes.items ≡ record_bytes item.now) }
+{
+    match item {
+        Record::Entry(entry) => {
+            let mut out = Vec::with_capacity(alloc, entry_len(entry))?;
+            write_entry(&mut out, entry)?;
+            Ok(out)
+        }
+        Record::Blind { seq } => {
+            let mut out = Vec::with_capacity(alloc, 9)?;
+            out.push(BLIND)?;
+            out.extend_from_slice(&seq.to_be_bytes())?;
+            Ok(out)
+        }
+        Record::Erase(_) => unreachable!(),
+    }
+}
