@@ -1,0 +1,5 @@
+//! A disk in memory, which fails at the calls that it is told, and what a crash at any of its calls leaves.
+#![tactic(auto)]
+
+mod objects;
+mod past;
