@@ -1,2 +1,4 @@
 pub mod Maps
 pub mod Undoing
+pub mod Keeping
+pub mod Crashing

@@ -1,7 +1,8 @@
 -- A call that is undone, and one that is kept.
 use Rattle.std.proofs.Common.{◌≡◌, ◌+◌, ◌≤◌, ◌<◌, ℕ, suc, List, [], ◌∷◌, ◌++◌, length, take, drop, Some, None, Vec, refl, sym, ap, subst, ◌∙◌, inl, inr, arith, length-append, length-drop, append_assoc}
-use Rattle.std.specs.Prelude.{reverse, unwrap_or, nat_le, cond, IsSomeAnd}
-use Rattle.std.proofs.lemmas.List.{take-append-drop, drop-drop, take_at, drop_at, take_all, length-take, length-take-le, reverse-append}
+use Rattle.std.specs.Prelude.{reverse, unwrap_or, nat_le, cond, IsSomeAnd, Option, slice_get}
+use Rattle.std.proofs.lemmas.List.{take-append-drop, drop-drop, take_at, drop_at, take_all, length-take, length-take-le, reverse-append, drop_more}
+use Rattle.std.proofs.lemmas.Option.{slice_get_within, get_or_from_slice_get}
 use Rattle.std.proofs.lemmas.Bool.{le-leb}
 use Rattle.std.specs.declared.alloc.Global.{Global}
 use Rattle.std.specs.FinMap.{insert, remove}
@@ -162,3 +163,30 @@ after_effects now (call ∷ earlier) follows = ap (apply (effect_of call now)) (
 pub length-effects_of : (now : Directory) (calls : List Call) → length (effects_of now calls) ≡ length calls
 length-effects_of now [] = refl
 length-effects_of now (call ∷ earlier) = ap (λ n. suc n) (length-effects_of (undone call now) earlier)
+
+-- Objects that are there
+
+pub adds_to : (call : Call) (effect : Effect) (old new made : Directory) → Adds call effect old new → made ≡ new → Adds call effect old made
+adds_to call effect old new made adds is = subst (Adds call effect old) (sym is) adds
+
+-- an object that is there, with a fact on what it holds
+pub some_held : (now : Directory) (name : Name) (P : List ℕ → Type 0) → IsSomeAnd (object now name) P → (held : List ℕ) × (object now name ≡ Some held) × P held
+some_held now name P here = of (object now name) here
+  where
+    of : (o : Option (List ℕ)) → IsSomeAnd o P → (held : List ℕ) × (o ≡ Some held) × P held
+    of None here = absurd here
+    of (Some held) here = (held, refl, here)
+
+-- a byte is in an object that is there
+pub byte_held : (now : Directory) (name : Name) (at byte : ℕ) → slice_get (content now name) at ≡ Some byte → (held : List ℕ) × (object now name ≡ Some held) × (at < length held) × (byte ∷ [] ≡ take 1 (drop at held))
+byte_held now name at byte is = of (object now name) is
+  where
+    of : (o : Option (List ℕ)) → slice_get (unwrap_or o []) at ≡ Some byte → (held : List ℕ) × (o ≡ Some held) × (at < length held) × (byte ∷ [] ≡ take 1 (drop at held))
+    of None is = absurd cc
+    of (Some held) is =
+        let inside = slice_get_within held at byte is in
+        let first : drop at held ≡ byte ∷ drop (at + 1) held = drop_more held at byte inside ∙ ap (λ b. b ∷ drop (at + 1) held) (get_or_from_slice_get held at byte byte is) in
+        (held, refl, inside, sym (ap (take 1) first))
+
+pub write_to_same : (now : Directory) (name : Name) (at : ℕ) (bytes held : List ℕ) → object now name ≡ Some held → at ≤ length held → write_to (object now name) now name at bytes ≡ write_in now name at bytes
+write_to_same now name at bytes held is fits = write_allowed now name at bytes held is fits

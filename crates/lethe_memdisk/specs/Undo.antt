@@ -1,5 +1,5 @@
 -- What a call that is kept says of the directory before it, and of what it did. In each list the latest stands first.
-use Rattle.std.specs.Prelude.{◌≡◌, ◌≤◌, ◌<◌, ℕ, ◌+◌, List, [], ◌∷◌, ◌++◌, length, take, drop, IsSomeAnd}
+use Rattle.std.specs.Prelude.{◌≡◌, ◌≢◌, ℕ, List, [], ◌∷◌, length, take, drop, replicate, Bool, true, false, IsSomeAnd}
 use Rattle.std.specs.FinMap.{insert, remove}
 use Rattle.lethe_disk.specs.Directory.{Directory, object, content}
 use Rattle.lethe_memdisk.specs.Bytes.{restored, IsRange}
@@ -46,3 +46,27 @@ effects_of now (call ∷ earlier) = effect_of call now ∷ effects_of (undone ca
 abbrev pub Follows : Directory → List Call → Type 0
 Follows now [] = Unit {0}
 Follows now (call ∷ earlier) = Fits call now × (apply (effect_of call now) (undone call now) ≡ now) × Follows (undone call now) earlier
+
+-- what a crash makes of the call, where no sync followed
+abbrev pub torn_call : ℕ → Bool → Call → Effect
+torn_call fill true (Create name len) = Created name (replicate len fill)
+torn_call fill false (Create name len) = Nothing
+torn_call fill keep (Write name at len before) = Written name at (replicate len fill)
+torn_call fill keep (Byte name at before) = Written name at (fill ∷ [])
+torn_call fill true (Remove name before) = Removed name
+torn_call fill false (Remove name before) = Nothing
+torn_call fill keep Sync = Nothing
+torn_call fill keep Unchanged = Nothing
+
+abbrev pub tear : ℕ → Bool → Directory → Call → Directory
+tear fill keep now call = apply (torn_call fill keep call) now
+
+-- none of them is a sync
+abbrev pub HasNoSync : List Call → Type 0
+HasNoSync [] = Unit {0}
+HasNoSync (call ∷ calls) = (call ≢ Sync) × HasNoSync calls
+
+-- there are none, or the latest is a sync
+abbrev pub IsAtSync : List Call → Type 0
+IsAtSync [] = Unit {0}
+IsAtSync (call ∷ earlier) = call ≡ Sync

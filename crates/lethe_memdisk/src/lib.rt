@@ -1,5 +1,6 @@
 //! A disk in memory, which fails at the calls that it is told, and what a crash at any of its calls leaves.
 #![tactic(auto)]
 
+mod crash;
 mod objects;
 mod past;

@@ -1,7 +1,8 @@
 //! The objects of a disk in memory, and its calls with what each of them wrote over.
-ghost use Rattle.std.specs.Prelude.{◌≡◌, ◌≢◌, ◌≤◌, ◌<◌, ◌+◌, ◌-◌, ◌↔◌, ℕ, [], ◌++◌, ◌∷◌, length, drop, take, slice_get, Some, None, IsTrue, IsSome, IsSomeAnd, IsOk, OnOk, OnErr, IfOk, vec_len, vec_capacity};
+ghost use Rattle.std.specs.Prelude.{◌≡◌, ◌≢◌, ◌≤◌, ◌<◌, ◌+◌, ◌-◌, ◌↔◌, ℕ, [], ◌++◌, ◌∷◌, length, drop, take, slice_get, Some, None, IsTrue, IsFalse, IsSome, IsSomeAnd, IsOk, OnOk, OnErr, IfOk, vec_len, vec_capacity};
 ghost use Rattle.lethe_disk.specs.Directory.{object, content};
 
+use crate::crash::{last_sync, tear_all, undo_all};
 use crate::objects::Objects;
 use lethe_base::Name;
 use std::alloc::{AllocError, Global};
@@ -105,6 +106,81 @@ impl Past {
         Ok(())
     }
 
+    // The byte at a place of an object, where there is one.
+    fn byte_at(&self, name: Name, at: u64) -> Option<u8>
+        ensures { result ≡ slice_get (content (now_of self.now) name) at }
+    {
+        match self.objects.get(name) {
+            Some(held) => held.get(at as usize).copied(),
+            None => None,
+        }
+    }
+
+    // Writes one byte over another.
+    fn write_byte(&mut self, name: Name, at: u64, byte: u8, before: u8)
+        requires room { length self.old.effects < self.old.room }
+        requires inside { slice_get (content (now_of self.old) name) at ≡ Some before }
+        ensures { self.new ≡ with_effect (Written name at (byte ∷ [])) self.old }
+    {
+        if self.objects.write(name, at, &[byte]).is_err() {
+            unreachable!();
+        }
+        keep(&mut self.calls, Call::Byte { name, at, before });
+    }
+
+    fn write_range(&mut self, alloc: Global, name: Name, at: u64, bytes: &[u8]) -> Result<(), AllocError>
+        requires room { length self.old.effects < self.old.room }
+        requires inside { IsSomeAnd (object (now_of self.old) name) (λ held. at ≤ length held) }
+        ensures ok { OnOk result (self.new ≡ with_effect (Written name at bytes.now) self.old) }
+        ensures err { OnErr result (self.new ≡ self.old) }
+    {
+        let Some(held) = self.objects.get(name) else {
+            return Ok(());
+        };
+        let len = bytes.len();
+        let before = range(alloc, held, at as usize, len)?;
+        self.objects.write(name, at, bytes)?;
+        keep(
+            &mut self.calls,
+            Call::Write {
+                name,
+                at,
+                len,
+                before,
+            },
+        );
+        Ok(())
+    }
+
+    /// Writes over what an object holds, and past its end. One byte inside the object takes no memory.
+    pub fn write(&mut self, alloc: Global, name: Name, at: u64, bytes: &[u8]) -> Result<(), AllocError>
+        requires room { length self.old.effects < self.old.room }
+        requires inside { IsSomeAnd (object (now_of self.old) name) (λ held. at ≤ length held) }
+        ensures ok { OnOk result (self.new ≡ with_effect (Written name at bytes.now) self.old) }
+        ensures err { OnErr result (self.new ≡ self.old) }
+        ensures byte { length bytes.now ≡ 1 → at < length (content (now_of self.old) name) → IsOk result }
+    {
+        if let [byte] = bytes
+            && let Some(before) = self.byte_at(name, at)
+        {
+            self.write_byte(name, at, *byte, before);
+            return Ok(());
+        }
+        self.write_range(alloc, name, at, bytes)
+    }
+
+    /// Removes an object.
+    pub fn remove(&mut self, name: Name)
+        requires room { length self.old.effects < self.old.room }
+        requires present { IsSome (object (now_of self.old) name) }
+        ensures { self.new ≡ with_effect (Removed name) self.old }
+    {
+        let Some(before) = self.objects.remove(name) else {
+            return;
+        };
+        keep(&mut self.calls, Call::Remove { name, before });
+    }
+
     /// Keeps a sync.
     pub fn sync(&mut self)
         requires { length self.old.effects < self.old.room }
@@ -120,4 +196,44 @@ impl Past {
     {
         keep(&mut self.calls, Call::Nothing);
     }
+
+    /// Begins anew with other bytes in an object, where it is there.
+    pub fn swap(&mut self, name: Name, bytes: Vec<u8>) -> bool
+        ensures found { IsTrue result ↔ IsSome (object (now_of self.old) name) }
+        ensures done { IsTrue result → self.new ≡ swapped name bytes.items self.old }
+        ensures absent { IsFalse result → self.new ≡ self.old }
+    {
+        if self.objects.get(name).is_none() {
+            return false;
+        }
+        if self.objects.insert(name, bytes).is_err() {
+            unreachable!();
+        }
+        self.calls.clear();
+        true
+    }
+
+    /// What a crash after so many calls leaves: where no sync followed, a range that was written holds `fill`,
+    /// and what was created is there, and what was removed is gone, only where `keep` says so.
+    pub fn crashed(&self, alloc: Global, calls: usize, fill: u8, keep: bool) -> Result<Objects, AllocError>
+        requires { calls ≤ length self.now.effects }
+        ensures { IfOk result (λ objects. objects ≡ left_of calls fill keep self.now) }
+    {
+        let (calls, later) = self.calls.split_at(calls);
+        let (_, unsynced) = calls.split_at(last_sync(calls));
+        let mut objects = self.objects.copy()?;
+        undo_all(alloc, &mut objects, later)?;
+        undo_all(alloc, &mut objects, unsynced)?;
+        tear_all(alloc, &mut objects, unsynced, fill, keep)?;
+        Ok(objects)
+    }
+}
+
+// The bytes from a place on, up to `len` of them.
+fn range(alloc: Global, bytes: &[u8], at: usize, len: usize) -> Result<Vec<u8>, AllocError>
+    requires { at ≤ length bytes.now }
+    ensures { IfOk result (λ v. v.items ≡ take len (drop at bytes.now)) }
+{
+    let rest = &bytes[at..];
+    rest[..len.min(rest.len())].to_vec(alloc)
 }
