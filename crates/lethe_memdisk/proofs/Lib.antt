@@ -1,4 +1,5 @@
 pub mod Maps
 pub mod Undoing
 pub mod Keeping
+pub mod Results
 pub mod Crashing

@@ -111,7 +111,7 @@ impl Past {
         ensures { result ≡ slice_get (content (now_of self.now) name) at }
     {
         match self.objects.get(name) {
-            Some(held) => held.get(at as usize).copied(),
+            Some(held) => byte_in(held, at as usize),
             None => None,
         }
     }
@@ -227,6 +227,12 @@ impl Past {
         tear_all(alloc, &mut objects, unsynced, fill, keep)?;
         Ok(objects)
     }
+}
+
+fn byte_in(bytes: &[u8], at: usize) -> Option<u8>
+    ensures { result ≡ slice_get bytes.now at }
+{
+    bytes.get(at).copied()
 }
 
 // The bytes from a place on, up to `len` of them.
