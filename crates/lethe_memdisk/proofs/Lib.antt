@@ -3,3 +3,4 @@ pub mod Undoing
 pub mod Keeping
 pub mod Results
 pub mod Crashing
+pub mod Taking

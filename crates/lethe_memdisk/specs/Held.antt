@@ -1,11 +1,13 @@
 -- A disk in memory: what it held and which calls it took, and which of its calls fail.
-use Rattle.std.specs.Prelude.{◌≡◌, ℕ, ◌+◌, ◌-◌, ◌^◌, ◌||◌, ◌==◌, min, nat_lt, Bool, false, if◌then◌else◌, List, [], ◌∷◌, length, drop, Option, Some, None, Result, Ok, Err}
+use Rattle.std.specs.Prelude.{◌≡◌, ◌≤◌, ◌<◌, ℕ, ◌+◌, ◌-◌, ◌^◌, ◌||◌, ◌==◌, min, nat_lt, Bool, false, if◌then◌else◌, List, [], ◌∷◌, length, drop, Option, Some, None, Result, Ok, Err, IsErrOf, IsTrue, ◌↔◌}
 use Rattle.std.specs.List.{list_any}
+use Rattle.std.specs.FinMap.{insert}
+use Rattle.lethe_base.specs.declared.name.Name.{Name}
 use Rattle.lethe_disk.specs.Directory.{Directory}
-use Rattle.lethe_disk.specs.Disk.{Seen}
+use Rattle.lethe_disk.specs.Disk.{Seen, Takes, HasCause}
 use Rattle.lethe_disk.specs.declared.disk.DiskRefused.{DiskRefused}
 use Rattle.lethe_disk.specs.declared.disk.DiskRefused.TheVariants.{Failed, NoMemory}
-use Rattle.lethe_memdisk.specs.Effects.{Effect, after, Images, crashed}
+use Rattle.lethe_memdisk.specs.Effects.{Effect, after, Step, Images, crashed}
 use Rattle.lethe_memdisk.specs.Effects.{Nothing}
 
 pub record Held : Type 0 where
@@ -22,6 +24,12 @@ pub record Held : Type 0 where
   -- the number of the last call that the fuse lets pass, where one burns
   pub fuse : Option ℕ
   pub faults : ℕ
+
+-- the calls that it kept and has room to keep, by how many there are
+pub record IsRoomy (earlier kept room kept_room : ℕ) : Type 0 where
+  pub within : earlier + kept ≤ room
+  pub roomy : room ≤ earlier + kept_room
+  pub small : room < 2 ^ 64
 
 -- how many calls it has taken
 abbrev pub calls_of : Held → ℕ
@@ -61,6 +69,10 @@ answered effect (Ok value) held = taken effect held
 answered effect (Err Failed) held = failed held
 answered effect (Err NoMemory) held = held
 
+-- with other bytes in an object, and all of it synced; the calls before it are forgotten, but counted
+abbrev pub swapped : Name → List ℕ → Held → Held
+swapped name bytes held = record held { start = insert (after held.start held.effects) name bytes; earlier = calls_of held; effects = [] }
+
 -- one that has taken no call
 abbrev pub fresh : Directory → ℕ → List ℕ → Held
 fresh start room failing = record { start = start; earlier = 0; effects = []; room = room; failing = failing; fuse = None; faults = 0 }
@@ -68,3 +80,10 @@ fresh start room failing = record { start = start; earlier = 0; effects = []; ro
 -- what that crash at a moment leaves of it
 abbrev pub left_by_crash : ℕ → ℕ → Bool → Held → Directory
 left_by_crash moment fill keep held = crashed fill keep held.start (effects_at held moment)
+
+-- A device call that does this where it is done. It fails exactly where it is to.
+pub record Answers {T : Type 0} (effect : Effect) (result : Result T DiskRefused) (old new : Held) : Type 0 where
+  pub answer : new ≡ answered effect result old
+  pub failing : IsErrOf result Failed ↔ IsTrue (fails old)
+  pub takes : Takes (Step effect) result (seen_of old) (seen_of new)
+  pub cause : HasCause old.faults new.faults result

@@ -4,3 +4,4 @@ pub mod Effects
 pub mod Held
 pub mod Undo
 pub mod Past
+pub mod Images

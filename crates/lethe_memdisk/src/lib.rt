@@ -2,5 +2,8 @@
 #![tactic(auto)]
 
 mod crash;
+mod disk;
 mod objects;
 mod past;
+
+pub use disk::MemDisk;

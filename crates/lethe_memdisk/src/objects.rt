@@ -1,5 +1,5 @@
 //! The objects of a disk in memory.
-ghost use Rattle.std.specs.Prelude.{◌≡◌, ◌≤◌, ◌+◌, length, OnOk, OnErr, IfOk, IsOk, IsSome, IsSomeAnd, option_map};
+ghost use Rattle.std.specs.Prelude.{◌≡◌, ◌≤◌, ◌+◌, length, OnOk, OnErr, IfOk, IsOk, IsSome, IsSomeAnd, Some, option_map};
 ghost use Rattle.std.specs.Option.{option_copied};
 ghost use Rattle.std.specs.FinMap.{empty, insert, remove, keys};
 ghost use Rattle.lethe_disk.specs.Directory.{object, content};
@@ -45,6 +45,17 @@ impl Objects {
         match self.map.get(&name) {
             Some(bytes) => Some(bytes.as_slice()),
             None => None,
+        }
+    }
+
+    /// A copy of what an object holds.
+    pub fn read(&self, alloc: Global, name: Name) -> Result<Vec<u8>, AllocError>
+        requires { IsSome (object self.now name) }
+        ensures { IfOk result (λ v. object self.now name ≡ Some v.items) }
+    {
+        match self.get(name) {
+            Some(bytes) => bytes.to_vec(alloc),
+            None => Ok(Vec::new(alloc)),
         }
     }
 
