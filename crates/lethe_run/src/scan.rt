@@ -18,7 +18,9 @@ pub(crate) fn scan<B: Buffer>(
     ensures { IfOk result (λ pairs. by_keys pairs.items ≡ pairs_between lo.now hi.now (B.entries buffer.now)) }
 {
     let mut pairs = Vec::new(alloc);
-    for place in first_from(buffer, lo)..first_from(buffer, hi) {
+    let first = first_from(buffer, lo);
+    let end = first_from(buffer, hi);
+    for place in first..end {
         if let Some(entry) = buffer.at(place) {
             push_pair(&mut pairs, entry)?;
         }
