@@ -78,6 +78,10 @@ after h = fold changed nothing h
 abbrev pub clock_before : History → ℕ → ℕ
 clock_before h place = (after (take (place - 1) h)).clock
 
+-- no change has failed
+abbrev pub AreDone : History → Type 0
+AreDone h = (place : ℕ) (change : Change) → change_at h place ≡ Some change → change.did ≡ Done
+
 -- What a store may have accepted.
 pub record IsLegal (h : History) : Type 0 where
   pub few : length h ≤ max_place

@@ -30,7 +30,11 @@ impl Range {
         ensures range { IfSome result (λ range. range ≡ record { lo = lo; hi = hi }) }
         ensures none { IsNone result ↔ (hi ≤ lo) }
     {
-        if lo < hi { Some(Range { lo, hi }) } else { None }
+        if lo < hi {
+            Some(Range { lo, hi })
+        } else {
+            None
+        }
     }
 
     /// The lower end.

@@ -10,7 +10,12 @@ fn types_of_the_base_keep_what_they_are_made_of(rt: HostRuntime) -> Result<(), F
     assert!(rt; key < other && key != other);
     assert!(rt; matches!(Key::new(Vec::new(alloc)), Err(KeyRefused::Empty)));
     assert!(rt; matches!(Key::new(vec![in alloc; 7; 256]?), Err(KeyRefused::Long)));
-    assert!(rt; matches!(Value::new(vec![in alloc; 7; 4097]?), Err(ValueRefused::Long)));
+    assert!(rt;
+        matches!(
+            Value::new(vec![in alloc; 7; 4097]?),
+            Err(ValueRefused::Long)
+        )
+    );
     let entry = Entry {
         seq: 1,
         key,

@@ -1,0 +1,4 @@
+pub mod Buffered
+pub mod Order
+pub mod Pairs
+pub mod Places

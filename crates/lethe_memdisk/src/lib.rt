@@ -1,0 +1,9 @@
+//! A disk in memory, which fails at the calls that it is told, and what a crash at any of its calls leaves.
+#![tactic(auto)]
+
+mod crash;
+mod disk;
+mod objects;
+mod past;
+
+pub use disk::MemDisk;

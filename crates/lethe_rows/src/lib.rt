@@ -1,0 +1,11 @@
+//! Tests that go through the top call: one table for each theme.
+#![tactic(auto)]
+
+#[cfg(test)]
+mod faults;
+#[cfg(test)]
+mod refusals;
+#[cfg(test)]
+mod run;
+#[cfg(test)]
+mod scripts;

@@ -1,0 +1,97 @@
+//! Words and scripts that are refused.
+
+use crate::run::run_of;
+use std::test::Fail;
+
+#[test]
+fn bytes_that_are_no_script_are_refused_at_the_first_bad_line(rt: HostRuntime) -> Result<(), Fail> {
+    let rows: [(&[u8], &str); 19] = [
+        (b"1 frob\n", "line 1 bad command\n"),
+        (b"1 tick 5\n", "line 1 bad command\n"),
+        (b"1\n", "line 1 bad command\n"),
+        (b"2 get a\n", "line 1 bad caller\n"),
+        (b"phase\n", "line 1 bad caller\n"),
+        (b"01 get a\n", "line 1 bad caller\n"),
+        (b"1 get a\n1 get a b\n", "line 2 bad count\n"),
+        (b"# none\n\n1 put a\n", "line 3 bad count\n"),
+        (b"1 put a 05 x\n", "line 1 bad number\n"),
+        (
+            b"1 get a\n1 put a 18446744073709551616 x\n",
+            "line 2 bad number\n",
+        ),
+        (b"1 put a -1 x\n", "line 1 bad number\n"),
+        (b"1 put a + x\n", "line 1 bad number\n"),
+        (b"1 get =61\n", "line 1 bad key\n"),
+        (b"1 put a 1 =\n", "line 1 bad value\n"),
+        (b"1\tget a\n", "line 1 bad byte\n"),
+        (b"\t# a comment\n", "line 1 bad byte\n"),
+        (b"1 get \xff\n", "line 1 bad byte\n"),
+        (b"1 get a\r", "line 1 bad byte\n"),
+        (b"1 get a\n1 ge\rt a\r\n", "line 2 bad byte\n"),
+    ];
+    for (script, text) in rows {
+        let printed = run_of(&rt, &["run"], script.to_vec(rt.alloc())?, &[], &[])?;
+        assert_eq!(rt; printed.status, 3, "{text}");
+        assert_eq!(rt; printed.text.as_slice(), text.as_bytes());
+    }
+    Ok(())
+}
+
+#[test]
+fn keys_and_values_have_limits(rt: HostRuntime) -> Result<(), Fail> {
+    let alloc = rt.alloc();
+    let rows = [
+        (255, 4096, 0, "1 at 0 none\n1 ok 1\n"),
+        (256, 4096, 3, "line 2 bad key\n"),
+        (255, 4097, 3, "line 2 bad value\n"),
+    ];
+    for (key, value, status, text) in rows {
+        let mut script = b"1 get a\n1 put ".to_vec(alloc)?;
+        script.extend_from_slice(&vec![in alloc; b'k'; key]?)?;
+        script.extend_from_slice(b" 7 ")?;
+        script.extend_from_slice(&vec![in alloc; b'v'; value]?)?;
+        let printed = run_of(&rt, &["run"], script, &[], &[])?;
+        assert_eq!(rt; printed.status, status, "{text}");
+        assert_eq!(rt; printed.text.as_slice(), text.as_bytes());
+    }
+    Ok(())
+}
+
+#[test]
+fn a_script_has_a_greatest_size(rt: HostRuntime) -> Result<(), Fail> {
+    let alloc = rt.alloc();
+    // What stands in front of so many spaces.
+    let rows: [(&[u8], usize, u8, &str); 5] = [
+        (b"", 16_777_216, 0, ""),
+        (b"", 16_777_217, 3, "line 1 bad size\n"),
+        (b"1 frob\n", 16_777_216, 3, "line 1 bad command\n"),
+        (b"1 get a\n", 16_777_208, 0, "1 at 0 none\n"),
+        (b"1 get a\n", 16_777_209, 3, "line 2 bad size\n"),
+    ];
+    for (front, spaces, status, text) in rows {
+        let mut script = front.to_vec(alloc)?;
+        script.extend_from_slice(&vec![in alloc; b' '; spaces]?)?;
+        let printed = run_of(&rt, &["run"], script, &[], &[])?;
+        assert_eq!(rt; printed.status, status, "{text}");
+        assert_eq!(rt; printed.text.as_slice(), text.as_bytes());
+    }
+    Ok(())
+}
+
+#[test]
+fn other_words_are_refused(rt: HostRuntime) -> Result<(), Fail> {
+    let rows: [&[&str]; 6] = [
+        &[],
+        &["load"],
+        &["run", "run"],
+        &["run", "--ratio", "1"],
+        &["Run"],
+        &[""],
+    ];
+    for words in rows {
+        let printed = run_of(&rt, words, b"1 get a\n".to_vec(rt.alloc())?, &[1], &[])?;
+        assert_eq!(rt; printed.status, 2);
+        assert_eq!(rt; printed.text.as_slice(), b"bad words\n".as_slice());
+    }
+    Ok(())
+}

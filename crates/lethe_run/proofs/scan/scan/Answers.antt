@@ -1,0 +1,32 @@
+use Rattle.std.proofs.Common.{◌<◌, sym, ap, ◌∙◌, arith}
+use Rattle.std.specs.Option.{option_copied}
+use Rattle.lethe_mem.specs.Order.{count_below}
+use Rattle.lethe_run.proofs.Scanning.{from_first, next_in_range, stands_before, all_found}
+use Rattle.lethe_run.proofs.scan.scan.Goals as goal
+use Rattle.lethe_run.proofs.scan.scan.Goals.{in-Some+in_ok-push_pair, in_default}
+
+pub loop-place-init : goal.loop-place-init
+loop-place-init g c =
+    let laws = g.met.B.Buffer g.world.𝓛 g.world.𝓜 g.world.𝓡 ((λ s x. x), (λ x. x), (λ x. x), λ x. x) in
+    record {
+      so_far = rw (c.new-pairs.ensures.items, c.first_from-place.ensures) (from_first c.args.lo.now c.args.hi.now _ (laws.ascending c.args.buffer.now));
+      from = omega (arith, c.first_from-place.ensures);
+    }
+
+pub loop-place-preserved : goal.loop-place-preserved
+loop-place-preserved g c =
+    let entries = g.B.Buffer.entries c.args.buffer.now in
+    let laws = g.met.B.Buffer g.world.𝓛 g.world.𝓜 g.world.𝓡 ((λ s x. x), (λ x. x), (λ x. x), λ x. x) in
+    let before : c.loop-place.place < count_below c.args.hi.now entries = omega (arith, c.first_from-place-end.ensures) in
+    record {
+      so_far = elim c.match-at.branch [
+        | in-Some+in_ok-push_pair w ↦ rw (w.pairs-is, w.in_ok-push_pair.ensures) (next_in_range c.args.lo.now c.args.hi.now entries c.loop-place.place w.in-Some.entry.now _ (laws.ascending c.args.buffer.now) c.loop-place.invariant.from before (sym w.in-Some.ensures) c.loop-place.invariant.so_far)
+        | in_default w ↦ absurd (stands_before c.args.hi.now entries c.loop-place.place before (sym c.at.ensures ∙ ap option_copied w.in_default.is))
+      ];
+      from = omega arith;
+    }
+
+pub returns : goal.returns
+returns g c =
+    let laws = g.met.B.Buffer g.world.𝓛 g.world.𝓜 g.world.𝓡 ((λ s x. x), (λ x. x), (λ x. x), λ x. x) in
+    all_found c.args.lo.now c.args.hi.now _ c.loop-place.place _ (laws.ascending c.args.buffer.now) (omega (arith, c.first_from-place-end.ensures)) c.loop-place.invariant.so_far

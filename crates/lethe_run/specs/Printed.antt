@@ -1,0 +1,54 @@
+-- The text of each line that is printed.
+use Rattle.std.specs.Prelude.{ℕ, Bool, ◌&&◌, not, List, [], ◌∷◌, ◌++◌, length, slice_index, Some, None, nat_le, ◌==◌, codes, if◌then◌else◌}
+use Rattle.std.specs.List.{flat_map, list_all}
+use Rattle.std.specs.Fmt.{decimal}
+use Rattle.hex.specs.Hex.{encode_lower}
+use Rattle.lethe_base.specs.Keys.{Bytes}
+use Rattle.lethe_script.specs.declared.refused.BadLine.{BadLine}
+use Rattle.lethe_script.specs.Words.{why_text}
+use Rattle.lethe_run.specs.declared.reply.Line.{Line}
+use Rattle.lethe_run.specs.declared.reply.Line.TheVariants.{Answer}
+use Rattle.lethe_run.specs.declared.reply.Reply.{Reply}
+use Rattle.lethe_run.specs.declared.reply.Reply.TheVariants.{Done, Got, Scanned}
+
+-- with its end
+abbrev pub ended : Bytes → Bytes
+ended text = text ++ 10 ∷ []
+
+-- a byte that prints and is no space
+abbrev pub is_visible : ℕ → Bool
+is_visible byte = nat_le 33 byte && nat_le byte 126
+
+-- whether a key or a value stands for itself in a text: it isn't empty, its bytes are visible, and the first is no `=`
+abbrev pub is_plain : Bytes → Bool
+is_plain bytes = not (length bytes == 0) && not (slice_index bytes 0 == 61) && list_all is_visible bytes
+
+-- a key or a value: its bytes, or `=` and their hexadecimal digits
+abbrev pub field_text : Bytes → Bytes
+field_text bytes = if is_plain bytes then bytes else 61 ∷ encode_lower bytes
+
+-- a key, its delete key and its value, with a space before each
+abbrev pub pair_text : Bytes × ℕ × Bytes → Bytes
+pair_text pair = codes " " ++ field_text pair.0 ++ codes " " ++ decimal pair.1 ++ codes " " ++ field_text pair.2
+
+-- a reply, without its caller
+abbrev pub reply_text : Reply → Bytes
+reply_text (Done place) = codes "ok " ++ decimal place
+reply_text (Got point None) = codes "at " ++ decimal point ++ codes " none"
+reply_text (Got point (Some pair)) = codes "at " ++ decimal point ++ codes " val " ++ decimal pair.0 ++ codes " " ++ field_text pair.1
+reply_text (Scanned point pairs) = codes "at " ++ decimal point ++ codes " scan " ++ decimal (length pairs) ++ flat_map pair_text pairs
+
+abbrev pub line_text : Line → Bytes
+line_text (Answer caller reply) = ended (decimal caller ++ codes " " ++ reply_text reply)
+
+-- one line after another
+abbrev pub lines_text : List Line → Bytes
+lines_text lines = flat_map line_text lines
+
+-- the line of a script that is none
+abbrev pub bad_line : BadLine → Bytes
+bad_line bad = ended (codes "line " ++ decimal bad.line ++ codes " bad " ++ why_text bad.why)
+
+-- the line for words that are no command
+abbrev pub bad_words : Bytes
+bad_words = ended (codes "bad words")

@@ -1,0 +1,12 @@
+//! The top call: it reads a script, carries it out, and prints a line for each line of it that asks for something.
+#![tactic(auto)]
+
+mod keeper;
+mod print;
+mod reply;
+mod scan;
+mod serve;
+mod status;
+mod top;
+
+pub use top::run;

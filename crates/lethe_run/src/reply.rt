@@ -1,0 +1,29 @@
+//! What the lines of a script are answered.
+
+use lethe_base::{Key, List, Value};
+
+/// What one line is answered.
+#[derive(Debug, Drop)]
+pub(crate) enum Reply {
+    /// A change is done, at this place of the history.
+    Done {
+        place: u64,
+    },
+    /// What a key had behind `point` places.
+    Got {
+        point: u64,
+        held: Option<(u64, Value)>,
+    },
+    /// What the keys of a range had behind `point` places, ascending.
+    Scanned {
+        point: u64,
+        pairs: List<(Key, u64, Value)>,
+    },
+}
+
+/// A line that is printed.
+#[derive(Debug, Drop)]
+pub(crate) enum Line {
+    /// A line of the script is answered, to its caller.
+    Answer { caller: u64, reply: Reply },
+}

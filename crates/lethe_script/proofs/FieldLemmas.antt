@@ -1,0 +1,41 @@
+-- The first six fields of a line tell as much as all of them.
+use Rattle.std.proofs.Common.{◌≡◌, List, [], ◌∷◌, take, refl}
+use Rattle.lethe_base.specs.Keys.{Bytes}
+use Rattle.lethe_script.specs.Grammar.{request_of, caller_and_act, act_of, put_of, get_of, scan_of, del_of}
+
+put_of_kept : (fields : List Bytes) → put_of (take 4 fields) ≡ put_of fields
+unfolding put_of
+put_of_kept [] = refl
+put_of_kept (a ∷ []) = refl
+put_of_kept (a ∷ b ∷ []) = refl
+put_of_kept (a ∷ b ∷ c ∷ []) = refl
+put_of_kept (a ∷ b ∷ c ∷ d ∷ more) = refl
+
+get_of_kept : (fields : List Bytes) → get_of (take 4 fields) ≡ get_of fields
+unfolding get_of
+get_of_kept [] = refl
+get_of_kept (a ∷ []) = refl
+get_of_kept (a ∷ b ∷ more) = refl
+
+scan_of_kept : (fields : List Bytes) → scan_of (take 4 fields) ≡ scan_of fields
+unfolding scan_of
+scan_of_kept [] = refl
+scan_of_kept (a ∷ []) = refl
+scan_of_kept (a ∷ b ∷ []) = refl
+scan_of_kept (a ∷ b ∷ c ∷ more) = refl
+
+del_of_kept : (fields : List Bytes) → del_of (take 4 fields) ≡ del_of fields
+unfolding del_of
+del_of_kept [] = refl
+del_of_kept (a ∷ []) = refl
+del_of_kept (a ∷ b ∷ more) = refl
+
+act_of_kept : (fields : List Bytes) → act_of (take 5 fields) ≡ act_of fields
+unfolding act_of
+act_of_kept [] = refl
+act_of_kept (command ∷ rest) = rw (put_of_kept rest, get_of_kept rest, scan_of_kept rest, del_of_kept rest) refl
+
+pub request_of_kept : (fields : List Bytes) → request_of (take 6 fields) ≡ request_of fields
+unfolding request_of caller_and_act
+request_of_kept [] = refl
+request_of_kept (first ∷ rest) = rw (act_of_kept rest) refl

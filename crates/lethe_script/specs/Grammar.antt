@@ -1,0 +1,105 @@
+-- What the bytes of a script ask for, or the first line that is no part of one, and why.
+use Rattle.std.specs.Prelude.{ℕ, ◌+◌, Bool, List, [], ◌∷◌, length, take, option_map, Option, Some, None, Result, Ok, Err, nat_lt, ◌==◌, if◌then◌else◌, codes}
+use Rattle.std.specs.List.{slice_split, list_all, cons_option}
+use Rattle.std.specs.Str.{bytes_eq}
+use Rattle.std.specs.Str.Lines.{strip_carriage_return}
+use Rattle.lethe_base.specs.Keys.{Bytes}
+use Rattle.lethe_script.specs.declared.order.Act.{Act}
+use Rattle.lethe_script.specs.declared.order.Act.TheVariants.{Put, Get, Scan, Delete}
+use Rattle.lethe_script.specs.declared.order.Order.{Order}
+use Rattle.lethe_script.specs.declared.refused.BadLine.{BadLine}
+use Rattle.lethe_script.specs.declared.refused.Why.{Why}
+use Rattle.lethe_script.specs.declared.refused.Why.TheVariants.{Size, Byte, Command, Count}
+use Rattle.lethe_script.specs.Results.{◌>>=◌}
+use Rattle.lethe_script.specs.Fields.{fields, is_allowed, is_comment, caller_of, key_of, number_of, value_of}
+
+unfoldable pub put_fields : Bytes → Bytes → Bytes → Result Act Why
+put_fields key dkey value = do
+  k ← key_of key
+  d ← number_of dkey
+  v ← value_of value
+  Ok (Put k d v)
+
+-- the fields behind `put`
+unfoldable pub put_of : List Bytes → Result Act Why
+put_of (key ∷ dkey ∷ value ∷ []) = put_fields key dkey value
+put_of _ = Err Count
+
+-- the fields behind `get`
+unfoldable pub get_of : List Bytes → Result Act Why
+get_of (key ∷ []) = do
+  k ← key_of key
+  Ok (Get k)
+get_of _ = Err Count
+
+unfoldable pub scan_fields : Bytes → Bytes → Result Act Why
+scan_fields lo hi = do
+  l ← key_of lo
+  h ← key_of hi
+  Ok (Scan l h)
+
+-- the fields behind `scan`
+unfoldable pub scan_of : List Bytes → Result Act Why
+scan_of (lo ∷ hi ∷ []) = scan_fields lo hi
+scan_of _ = Err Count
+
+-- the fields behind `del`
+unfoldable pub del_of : List Bytes → Result Act Why
+del_of (key ∷ []) = do
+  k ← key_of key
+  Ok (Delete k)
+del_of _ = Err Count
+
+-- the fields behind the caller
+unfoldable pub act_of : List Bytes → Result Act Why
+act_of [] = Err Command
+act_of (command ∷ rest) =
+    if bytes_eq command (codes "put") then put_of rest else
+    if bytes_eq command (codes "get") then get_of rest else
+    if bytes_eq command (codes "scan") then scan_of rest else
+    if bytes_eq command (codes "del") then del_of rest else Err Command
+
+-- the first field of a line, and those behind it
+unfoldable pub caller_and_act : Bytes → List Bytes → Result (ℕ × Act) Why
+caller_and_act first rest = do
+  caller ← caller_of first
+  act ← act_of rest
+  Ok (caller, act)
+
+-- all fields of a line: one that has none, and a comment, ask for nothing
+unfoldable pub request_of : List Bytes → Result (Option (ℕ × Act)) Why
+request_of [] = Ok None
+request_of (first ∷ rest) = if is_comment first then Ok None else (caller_and_act first rest >>= λ request. Ok (Some request))
+
+-- a line: its caller and its act
+unfoldable pub line_of : Bytes → Result (Option (ℕ × Act)) Why
+line_of line = if list_all is_allowed line then request_of (fields line) else Err Byte
+
+-- what a line with this number asks for
+abbrev pub numbered : ℕ → Result (Option (ℕ × Act)) Why → Result (Option Order) BadLine
+numbered n (Ok request) = Ok (option_map (λ r. record { line = n; caller = r.0; act = r.1 }) request)
+numbered n (Err why) = Err (record { line = n; why = why })
+
+unfoldable pub order_of : ℕ → Bytes → Result (Option Order) BadLine
+order_of n line = numbered n (line_of line)
+
+-- the parts between the LFs
+abbrev pub lines : Bytes → List Bytes
+lines bytes = slice_split (λ byte. byte == 10) bytes
+
+-- The lines from this number on. An LF ends each but the last, and a CR before it is no part of the line. Where the script
+-- is too long, its first byte that is too much stands in the last line.
+unfoldable pub orders_from : Bool → ℕ → List Bytes → Result (List Order) BadLine
+orders_from is_long n [] = Ok []
+orders_from is_long n (last ∷ []) =
+    if is_long then Err (record { line = n; why = Size }) else (order_of n last >>= λ order. Ok (cons_option order []))
+orders_from is_long n (line ∷ next ∷ more) = do
+  order ← order_of n (strip_carriage_return line)
+  orders ← orders_from is_long (n + 1) (next ∷ more)
+  Ok (cons_option order orders)
+
+-- the phases of a script, which has at most 16,777,216 bytes
+unfoldable pub script_of : Bytes → Result (List (List Order)) BadLine
+script_of bytes = do
+  orders ← orders_from (nat_lt 16777216 (length bytes)) 1 (lines (take 16777216 bytes))
+  Ok (orders ∷ [])

@@ -1,0 +1,47 @@
+-- What a function that reads returns, against what the grammar says.
+use Rattle.std.specs.Prelude.{◌≡◌, ℕ, ◌+◌, ◌<◌, ◌≤◌, List, [], ◌∷◌, ◌++◌, length, slice_index, Option, Result, Ok, Err}
+use Rattle.std.specs.List.{cons_option}
+use Rattle.lethe_script.specs.Results.{◌>>=◌}
+use Rattle.lethe_script.specs.Grammar.{lines}
+use Rattle.lethe_script.specs.declared.order.Order.{Order}
+use Rattle.lethe_script.specs.declared.refused.BadLine.{BadLine}
+use Rattle.lethe_script.specs.declared.refused.Why.{Why}
+use Rattle.lethe_script.specs.declared.refused.LineRefused.{LineRefused}
+use Rattle.lethe_script.specs.declared.refused.LineRefused.TheVariants as line
+use Rattle.lethe_script.specs.declared.refused.ScriptRefused.{ScriptRefused}
+use Rattle.lethe_script.specs.declared.refused.ScriptRefused.TheVariants as script
+
+-- a line's reading fails so too, unless memory ran out
+abbrev pub FailsLine : {Y : Type 0} → LineRefused → Result Y Why → Type 0
+FailsLine (line.Bad why) read = read ≡ Err why
+FailsLine line.NoMemory read = Unit {0}
+
+-- what a function returned, seen by view, is what reading the line gives, unless memory ran out
+abbrev pub GivesLine : {X Y : Type 0} → (X → Y) → Result X LineRefused → Result Y Why → Type 0
+GivesLine view (Ok x) read = read ≡ Ok (view x)
+GivesLine view (Err e) read = FailsLine e read
+
+-- the same of a script
+abbrev pub FailsScript : {Y : Type 0} → ScriptRefused → Result Y BadLine → Type 0
+FailsScript (script.Bad bad) read = read ≡ Err bad
+FailsScript script.NoMemory read = Unit {0}
+
+abbrev pub GivesScript : {X Y : Type 0} → (X → Y) → Result X ScriptRefused → Result Y BadLine → Type 0
+GivesScript view (Ok x) read = read ≡ Ok (view x)
+GivesScript view (Err e) read = FailsScript e read
+
+-- orders with that of a further line behind them, if it has one
+abbrev pub with_order : List Order → Result (Option Order) BadLine → Result (List Order) BadLine
+with_order front read = read >>= λ order. Ok (front ++ cons_option order [])
+
+-- there is a digit in front, and no zero before others
+pub record BeginsNumber (field : List ℕ) : Type 0 where
+  pub some : 0 < length field
+  pub low : 48 ≤ slice_index field 0
+  pub high : slice_index field 0 ≤ 57
+  pub no_zero : slice_index field 0 ≡ 48 → length field ≡ 1
+
+-- the first line is cut off, with its end
+pub record IsCut (bytes line rest : List ℕ) : Type 0 where
+  pub lines_are : lines bytes ≡ line ∷ lines rest
+  pub shorter : length line + length rest < length bytes

@@ -1,0 +1,90 @@
+//! The fields of a line.
+ghost use Rattle.std.specs.Prelude.{◌≡◌, ◌↔◌, map, take, IsTrue, IfOk};
+ghost use Rattle.lethe_script.specs.Fields.{number_of, key_of, value_of, fields, is_comment, caller_of};
+ghost use Rattle.lethe_script.specs.Reading.{GivesLine, BeginsNumber};
+
+use crate::refused::{LineRefused, Why};
+use lethe_base::{Key, MAX_KEY, MAX_VALUE, Value};
+use std::alloc::{AllocError, Global};
+use std::str;
+
+/// One more than the fields of the longest line that has a meaning, so that a line of very many fields needs no memory.
+const FIELDS_KEPT: usize = 6;
+
+/// The first fields of a line, which tell as much as all of them.
+pub(crate) fn fields_of(alloc: Global, line: &[u8]) -> Result<Vec<&[u8]>, AllocError>
+    ensures { IfOk result (λ parts. map (λ part. part.now) parts.items ≡ take 6 (fields line.now)) }
+{
+    line.split(|byte| *byte == b' ')
+        .filter(|field| !field.is_empty())
+        .take(FIELDS_KEPT)
+        .collect(alloc)
+}
+
+/// A line whose first field begins so is a comment.
+pub(crate) fn is_comment(first: &[u8]) -> bool
+    ensures { result ≡ is_comment first.now }
+{
+    !first.is_empty() && first[0] == b'#'
+}
+
+/// The caller, of whom there is one.
+#[tactic(auto, unfolding(crate::specs::Fields::caller_of))]
+pub(crate) fn caller(field: &[u8]) -> Result<u64, LineRefused>
+    ensures { GivesLine (λ caller. caller) result (caller_of field.now) }
+{
+    if field == b"1".as_slice() {
+        Ok(1)
+    } else {
+        Err(LineRefused::Bad(Why::Caller))
+    }
+}
+
+/// A number in decimal digits, without a leading zero.
+pub(crate) fn number(field: &[u8]) -> Result<u64, LineRefused>
+    ensures { GivesLine (λ number. number) result (number_of field.now) }
+{
+    if !begins_a_number(field) {
+        return Err(LineRefused::Bad(Why::Number));
+    }
+    match str::from_utf8(field) {
+        Ok(text) => match text.parse::<u64>() {
+            Ok(number) => Ok(number),
+            Err(_) => Err(LineRefused::Bad(Why::Number)),
+        },
+        Err(_) => Err(LineRefused::Bad(Why::Number)),
+    }
+}
+
+/// There is a digit in front, and no zero before others.
+fn begins_a_number(field: &[u8]) -> bool
+    ensures { IsTrue result ↔ BeginsNumber field.now }
+{
+    !field.is_empty() && field[0].is_ascii_digit() && (field[0] != b'0' || field.len() == 1)
+}
+
+/// A key that stands for its bytes.
+pub(crate) fn key(alloc: Global, field: &[u8]) -> Result<Key, LineRefused>
+    ensures { GivesLine (λ key. key) result (key_of field.now) }
+{
+    if field.is_empty() || field.len() > MAX_KEY || field[0] == b'=' {
+        return Err(LineRefused::Bad(Why::Key));
+    }
+    match Key::new(Vec::from_slice(alloc, field)?) {
+        Ok(key) => Ok(key),
+        Err(_) => Err(LineRefused::Bad(Why::Key)),
+    }
+}
+
+/// A value that stands for its bytes.
+pub(crate) fn value(alloc: Global, field: &[u8]) -> Result<Value, LineRefused>
+    ensures { GivesLine (λ value. value) result (value_of field.now) }
+{
+    if field.is_empty() || field.len() > MAX_VALUE || field[0] == b'=' {
+        return Err(LineRefused::Bad(Why::Value));
+    }
+    match Value::new(Vec::from_slice(alloc, field)?) {
+        Ok(value) => Ok(value),
+        Err(_) => Err(LineRefused::Bad(Why::Value)),
+    }
+}

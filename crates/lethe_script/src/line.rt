@@ -1,0 +1,140 @@
+//! What one line asks for.
+ghost use Rattle.std.specs.Prelude.{◌≡◌, map};
+ghost use Rattle.std.specs.List.{list_all};
+ghost use Rattle.lethe_script.specs.Fields.{is_allowed};
+ghost use Rattle.lethe_script.specs.Grammar.{line_of, request_of, caller_and_act, act_of, put_of, put_fields, get_of, scan_of, scan_fields, del_of};
+ghost use Rattle.lethe_script.specs.Reading.{GivesLine};
+
+use crate::field::{caller, fields_of, is_comment, key, number, value};
+use crate::order::Act;
+use crate::refused::{LineRefused, Why};
+use std::alloc::Global;
+
+/// The caller and the act of a line, or nothing where the line is skipped.
+#[tactic(auto, using(crate::proofs::FieldLemmas::request_of_kept), unfolding(crate::specs::Grammar::line_of))]
+pub(crate) fn read_line(alloc: Global, line: &[u8]) -> Result<Option<(u64, Act)>, LineRefused>
+    ensures { GivesLine (λ request. request) result (line_of line.now) }
+{
+    if !is_printable(line) {
+        return Err(LineRefused::Bad(Why::Byte));
+    }
+    let fields = fields_of(alloc, line)?;
+    request(alloc, &fields)
+}
+
+/// Every byte is a space or prints.
+fn is_printable(line: &[u8]) -> bool
+    ensures { result ≡ list_all is_allowed line.now }
+{
+    line.iter().all(|byte| *byte >= b' ' && *byte <= b'~')
+}
+
+/// What all fields of a line ask for.
+#[tactic(auto, unfolding(crate::specs::Grammar::request_of))]
+fn request(alloc: Global, fields: &[&[u8]]) -> Result<Option<(u64, Act)>, LineRefused>
+    ensures { GivesLine (λ request. request) result (request_of (map (λ field. field.now) fields.now)) }
+{
+    match fields {
+        [first, rest @ ..] if !is_comment(first) => {
+            let request = caller_and_act(alloc, first, rest)?;
+            Ok(Some(request))
+        }
+        _ => Ok(None),
+    }
+}
+
+/// What the first field and those behind it say.
+#[tactic(auto, unfolding(crate::specs::Grammar::caller_and_act))]
+fn caller_and_act(alloc: Global, first: &[u8], rest: &[&[u8]]) -> Result<(u64, Act), LineRefused>
+    ensures { GivesLine (λ request. request) result (caller_and_act first.now (map (λ field. field.now) rest.now)) }
+{
+    let caller = caller(first)?;
+    let act = act(alloc, rest)?;
+    Ok((caller, act))
+}
+
+/// What the fields behind the caller ask for.
+#[tactic(auto, unfolding(crate::specs::Grammar::act_of))]
+fn act(alloc: Global, fields: &[&[u8]]) -> Result<Act, LineRefused>
+    ensures { GivesLine (λ act. act) result (act_of (map (λ field. field.now) fields.now)) }
+{
+    match fields {
+        [command, rest @ ..] if *command == b"put".as_slice() => put(alloc, rest),
+        [command, rest @ ..] if *command == b"get".as_slice() => get(alloc, rest),
+        [command, rest @ ..] if *command == b"scan".as_slice() => scan(alloc, rest),
+        [command, rest @ ..] if *command == b"del".as_slice() => delete(alloc, rest),
+        _ => Err(LineRefused::Bad(Why::Command)),
+    }
+}
+
+/// What the fields behind `put` ask for.
+#[tactic(auto, unfolding(crate::specs::Grammar::put_of))]
+fn put(alloc: Global, fields: &[&[u8]]) -> Result<Act, LineRefused>
+    ensures { GivesLine (λ act. act) result (put_of (map (λ field. field.now) fields.now)) }
+{
+    match fields {
+        [key, dkey, value] => put_fields(alloc, key, dkey, value),
+        _ => Err(LineRefused::Bad(Why::Count)),
+    }
+}
+
+#[tactic(auto, unfolding(crate::specs::Grammar::put_fields))]
+fn put_fields(
+    alloc: Global,
+    key_field: &[u8],
+    dkey_field: &[u8],
+    value_field: &[u8],
+) -> Result<Act, LineRefused>
+    ensures { GivesLine (λ act. act) result (put_fields key_field.now dkey_field.now value_field.now) }
+{
+    let key = key(alloc, key_field)?;
+    let dkey = number(dkey_field)?;
+    let value = value(alloc, value_field)?;
+    Ok(Act::Put { key, dkey, value })
+}
+
+/// What the fields behind `get` ask for.
+#[tactic(auto, unfolding(crate::specs::Grammar::get_of))]
+fn get(alloc: Global, fields: &[&[u8]]) -> Result<Act, LineRefused>
+    ensures { GivesLine (λ act. act) result (get_of (map (λ field. field.now) fields.now)) }
+{
+    match fields {
+        [key_field] => Ok(Act::Get {
+            key: key(alloc, key_field)?,
+        }),
+        _ => Err(LineRefused::Bad(Why::Count)),
+    }
+}
+
+/// What the fields behind `scan` ask for.
+#[tactic(auto, unfolding(crate::specs::Grammar::scan_of))]
+fn scan(alloc: Global, fields: &[&[u8]]) -> Result<Act, LineRefused>
+    ensures { GivesLine (λ act. act) result (scan_of (map (λ field. field.now) fields.now)) }
+{
+    match fields {
+        [lo, hi] => scan_fields(alloc, lo, hi),
+        _ => Err(LineRefused::Bad(Why::Count)),
+    }
+}
+
+#[tactic(auto, unfolding(crate::specs::Grammar::scan_fields))]
+fn scan_fields(alloc: Global, lo_field: &[u8], hi_field: &[u8]) -> Result<Act, LineRefused>
+    ensures { GivesLine (λ act. act) result (scan_fields lo_field.now hi_field.now) }
+{
+    let lo = key(alloc, lo_field)?;
+    let hi = key(alloc, hi_field)?;
+    Ok(Act::Scan { lo, hi })
+}
+
+/// What the fields behind `del` ask for.
+#[tactic(auto, unfolding(crate::specs::Grammar::del_of))]
+fn delete(alloc: Global, fields: &[&[u8]]) -> Result<Act, LineRefused>
+    ensures { GivesLine (λ act. act) result (del_of (map (λ field. field.now) fields.now)) }
+{
+    match fields {
+        [key_field] => Ok(Act::Delete {
+            key: key(alloc, key_field)?,
+        }),
+        _ => Err(LineRefused::Bad(Why::Count)),
+    }
+}

@@ -1,0 +1,33 @@
+//! What a script asks for.
+
+use lethe_base::{Key, List, Value};
+
+/// What one line asks for.
+#[derive(Debug, Drop)]
+pub enum Act {
+    /// Set the delete key and the value of a key.
+    Put { key: Key, dkey: u64, value: Value },
+    /// Look a key up.
+    Get { key: Key },
+    /// List the keys from `lo` up to `hi`, which is excluded.
+    Scan { lo: Key, hi: Key },
+    /// Remove a key.
+    Delete { key: Key },
+}
+
+/// What one line asks for, and who asks.
+#[derive(Debug, Drop)]
+pub struct Order {
+    /// The number of the line in its script, from 1 on; skipped lines count.
+    pub line: u64,
+    /// The number of the caller. The callers of a script are numbered from 1 on.
+    pub caller: u64,
+    pub act: Act,
+}
+
+/// What a whole script asks for.
+#[derive(Debug, Drop)]
+pub struct Script {
+    /// The orders of each phase, in the order of their lines.
+    pub phases: List<List<Order>>,
+}
