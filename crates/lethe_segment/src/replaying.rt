@@ -1,5 +1,7 @@
 //! Reading a segment back, whatever a crash made of it.
-ghost use Rattle.std.specs.Prelude.{◌≡◌, ◌≢◌, ◌<◌, ◌^◌, ◌⊎◌, ℕ, List, IfErr, IfOk, MatchResult};
+ghost use Rattle.std.specs.Prelude.{◌≡◌, ◌≢◌, ◌<◌, ◌^◌, ◌⊎◌, ℕ, List, IsTrue, ◌↔◌, IfErr, IfOk, MatchResult};
+ghost use Rattle.std.specs.Int.{w8};
+ghost use Rattle.lethe_base.specs.Numbers.{number_at};
 ghost use Rattle.lethe_segment.specs.declared.record.Record.{Record};
 ghost use Rattle.lethe_segment.specs.declared.replaying.SegmentRefused.{SegmentRefused};
 ghost use Rattle.lethe_segment.specs.declared.replaying.SegmentRefused.TheVariants.{NoMemory};
@@ -12,6 +14,9 @@ use crate::head::{HEAD, read_head};
 use crate::reading::read_record;
 use lethe_base::take_u8;
 use std::alloc::{AllocFailed, Global};
+
+/// The byte of a gate behind which a record counts.
+const OPEN: u8 = 1;
 
 /// Why a segment can't be replayed.
 #[derive(Clone, Copy, Debug, PartialEq, Eq)]
@@ -65,15 +70,23 @@ fn read_all(alloc: Global, bytes: &[u8]) -> Result<Vec<Record>, SegmentRefused>
     let mut records = Vec::new(alloc);
     let mut last = 0;
     let mut gate = HEAD;
-    'gates: while let Some(1) = take_u8(bytes, gate) {
+    'gates: while is_open(bytes, gate) {
         let at = gate + 1;
         let (record, end) = read_record(alloc, bytes, at)?;
-        if record.seq() <= last {
+        let seq = record.seq();
+        if seq <= last {
             return Err(SegmentRefused::Order { at: at as u64 });
         }
-        last = record.seq();
+        last = seq;
         records.push(record)?;
         gate = end;
     }
     Ok(records)
+}
+
+// An open gate byte stands there.
+fn is_open(bytes: &[u8], gate: usize) -> bool
+    ensures { IsTrue result ↔ (number_at w8 bytes.now gate ≡ Some 1) }
+{
+    matches!(take_u8(bytes, gate), Some(OPEN))
 }

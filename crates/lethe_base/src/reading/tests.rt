@@ -1,5 +1,5 @@
 use super::*;
-use crate::{entry_len, take_u32, write_entry};
+use crate::{entry_len, one_spelling, take_u32, write_entry};
 use std::test::Fail;
 
 /// The put of key `a`, delete key 5, value `x` at place 1.
@@ -36,6 +36,7 @@ fn entries_are_spelled_as_the_format_says(rt: HostRuntime) -> Result<(), Fail> {
 
 #[test]
 fn the_first_fault_from_the_left_is_told(rt: HostRuntime) {
+    one_spelling();
     let alloc = rt.alloc();
     for (len, at) in [
         (0, 0),
