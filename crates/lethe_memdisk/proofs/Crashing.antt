@@ -1,12 +1,11 @@
 -- What a crash leaves, by the calls that are kept.
-use Rattle.std.proofs.Common.{◌≡◌, ◌+◌, ◌-◌, ◌≤◌, ◌<◌, ℕ, Bool, true, false, List, [], ◌∷◌, ◌++◌, length, take, drop, Some, None, refl, sym, ap, subst, ◌∙◌, arith, length-append, length-drop, append_assoc}
+use Rattle.std.proofs.Common.{◌≡◌, ◌+◌, ◌-◌, ℕ, Bool, true, false, List, [], ◌∷◌, ◌++◌, length, take, drop, Some, None, refl, sym, ap, subst, ◌∙◌, arith, length-drop}
 use Rattle.std.specs.Prelude.{◌≢◌, reverse, replicate, Option, IsSomeAnd, unwrap_or}
 use Rattle.std.specs.List.{fold}
 use Rattle.std.proofs.lemmas.List.{take-append-drop, drop_at, length-take, length-reverse, reverse-append}
-use Rattle.lethe_base.specs.declared.name.Name.{Name}
-use Rattle.lethe_disk.specs.Directory.{Directory, object, content}
+use Rattle.lethe_disk.specs.Directory.{Directory, object}
 use Rattle.lethe_memdisk.specs.Bytes.{IsRange}
-use Rattle.lethe_memdisk.specs.Effects.{Effect, Created, Written, Removed, Synced, Nothing, apply, after, torn, crashed}
+use Rattle.lethe_memdisk.specs.Effects.{Effect, Created, Written, apply, after, torn, crashed}
 use Rattle.lethe_memdisk.specs.declared.past.Call.{Call}
 use Rattle.lethe_memdisk.specs.declared.past.Call.TheVariants.{Create, Write, Byte, Remove, Sync, Nothing as Unchanged}
 use Rattle.lethe_memdisk.specs.Undo.{undone, effect_of, Fits, start_of, effects_of, Follows, torn_call, tear, HasNoSync, IsAtSync}

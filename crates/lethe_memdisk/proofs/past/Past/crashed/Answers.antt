@@ -4,7 +4,7 @@ use Rattle.std.specs.List.{fold}
 use Rattle.lethe_memdisk.specs.Undo.{start_of, Follows, tear}
 use Rattle.lethe_memdisk.specs.Past.{kept_of, left_of}
 use Rattle.lethe_memdisk.proofs.Keeping.{len_is}
-use Rattle.lethe_memdisk.proofs.Crashing.{InParts, in_parts, follows_later, follows_unsynced, crash_leaves}
+use Rattle.lethe_memdisk.proofs.Crashing.{in_parts, follows_later, follows_unsynced, crash_leaves}
 use Rattle.lethe_memdisk.proofs.past.Past.crashed.Goals as goal
 
 pub split_at-requires : goal.split_at-requires

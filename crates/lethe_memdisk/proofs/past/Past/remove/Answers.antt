@@ -1,10 +1,9 @@
-use Rattle.std.proofs.Common.{◌≡◌, ℕ, List, Some, None, length, ap, sym, ◌∙◌, subst, rules}
-use Rattle.std.specs.Prelude.{vec_capacity, option_map, IsSome, Option}
-use Rattle.std.specs.FinMap.{remove}
+use Rattle.std.proofs.Common.{◌≡◌, ℕ, List, Some, None, ap, sym, ◌∙◌, rules}
+use Rattle.std.specs.Prelude.{vec_capacity, IsSome, Option}
 use Rattle.lethe_disk.specs.Directory.{object}
 use Rattle.lethe_memdisk.specs.Effects.{Removed}
 use Rattle.lethe_memdisk.specs.declared.past.Call.TheVariants.{Remove}
-use Rattle.lethe_memdisk.specs.Past.{now_of, with_effect}
+use Rattle.lethe_memdisk.specs.Past.{with_effect}
 use Rattle.lethe_memdisk.proofs.Maps.{held}
 use Rattle.lethe_memdisk.proofs.Undoing.{Adds, adds_remove, adds_to}
 use Rattle.lethe_memdisk.proofs.Keeping.{now_is, has_room, kept_push, push_kept}

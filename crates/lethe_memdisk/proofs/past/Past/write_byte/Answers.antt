@@ -1,7 +1,7 @@
-use Rattle.std.proofs.Common.{◌≡◌, ◌+◌, ◌≤◌, ◌<◌, ℕ, List, [], ◌∷◌, Some, None, length, ap, sym, ◌∙◌, subst, arith, rules}
-use Rattle.std.specs.Prelude.{vec_capacity, slice_get, is_err, IsOk}
+use Rattle.std.proofs.Common.{◌≡◌, ◌+◌, ◌≤◌, ◌<◌, ℕ, [], ◌∷◌, Some, length, ap, sym, ◌∙◌, arith, rules}
+use Rattle.std.specs.Prelude.{vec_capacity, slice_get}
 use Rattle.lethe_base.specs.declared.name.Name.{Name}
-use Rattle.lethe_disk.specs.Directory.{Directory, object, content, write_in}
+use Rattle.lethe_disk.specs.Directory.{Directory, object, content}
 use Rattle.lethe_memdisk.specs.Objects.{write_to}
 use Rattle.lethe_memdisk.specs.Effects.{Written}
 use Rattle.lethe_memdisk.specs.declared.past.Call.TheVariants.{Byte}

@@ -1,8 +1,8 @@
-use Rattle.std.proofs.Common.{◌≡◌, ◌+◌, ◌≤◌, ◌<◌, ℕ, List, [], ◌∷◌, Some, None, Vec, length, take, drop, refl, ap, sym, ◌∙◌, subst, arith, rules}
+use Rattle.std.proofs.Common.{◌≡◌, ◌≤◌, ℕ, List, Some, None, Vec, length, take, drop, refl, ap, sym, ◌∙◌, subst, rules}
 use Rattle.std.specs.Prelude.{vec_capacity, IsSomeAnd}
 use Rattle.std.specs.declared.alloc.Global.{Global}
 use Rattle.lethe_base.specs.declared.name.Name.{Name}
-use Rattle.lethe_disk.specs.Directory.{Directory, object, write_in}
+use Rattle.lethe_disk.specs.Directory.{Directory, object}
 use Rattle.lethe_memdisk.specs.Objects.{write_to}
 use Rattle.lethe_memdisk.specs.Effects.{Written}
 use Rattle.lethe_memdisk.specs.declared.past.Call.TheVariants.{Write}
