@@ -1,10 +1,9 @@
 -- How a run's end follows from what its parts say.
-use Rattle.std.proofs.Common.{◌≡◌, ◌<◌, ◌≤◌, ◌+◌, ◌⊎◌, ℕ, List, [], ◌∷◌, ◌++◌, length, take, Option, Some, None, IfSome, IfOk, Result, Ok, Err, inl, inr, refl, sym, ap, ◌∙◌, subst, arith, lit<, append-nil}
+use Rattle.std.proofs.Common.{◌≡◌, ◌<◌, ◌≤◌, List, [], ◌++◌, length, Option, Some, None, IfSome, IfOk, Result, Ok, Err, inl, inr, refl, sym, ap, ◌∙◌, subst, arith, lit<, append-nil}
 use Rattle.std.specs.Prelude.{IsOk, IsErr}
 use Rattle.std.specs.Io.KnownBytes.{Consumes, IsAtEnd, Appends, Keeps}
 use Rattle.std.proofs.lemmas.Bool.{cases_lt, lt-ltb}
 use Rattle.std.proofs.lemmas.List.{length-append, take-append-le}
-use Rattle.lethe_wire.specs.Causes.{AppendsFront}
 use Rattle.lethe_base.specs.Keys.{Bytes}
 use Rattle.lethe_base.specs.History.{History}
 use Rattle.lethe_script.specs.declared.order.Order.{Order}

@@ -1,8 +1,7 @@
 -- What is kept, as it is seen through the entries.
-use Rattle.std.proofs.Common.{◌≡◌, ℕ, suc, ◌+◌, List, [], Option, Some, None, refl, sym, ap, ◌∙◌, subst, add-one}
-use Rattle.std.specs.FinMap as finmap
-use Rattle.lethe_base.specs.Keys.{Bytes, key_cmp}
-use Rattle.lethe_base.specs.History.{Pair, Map, State, nothing, done}
+use Rattle.std.proofs.Common.{◌≡◌, ℕ, suc, ◌+◌, List, [], Option, None, refl, sym, ap, ◌∙◌, subst, add-one}
+use Rattle.lethe_base.specs.Keys.{Bytes}
+use Rattle.lethe_base.specs.History.{Pair, Map, nothing, done}
 use Rattle.lethe_base.specs.Entries.{IsAscending, entry_of, Inserts, pair_of, shown}
 use Rattle.lethe_base.specs.declared.call.Call.TheVariants as call
 use Rattle.lethe_base.specs.declared.entry.Body.{Body}

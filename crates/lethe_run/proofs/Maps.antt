@@ -1,5 +1,5 @@
 -- The map that entries leave, where they change or stay.
-use Rattle.std.proofs.Common.{◌≡◌, Bool, true, false, List, [], length, Option, Some, None, cond, refl, sym, ap, ◌∙◌}
+use Rattle.std.proofs.Common.{◌≡◌, Bool, true, false, List, [], length, None, cond, refl, sym, ap, ◌∙◌}
 use Rattle.std.specs.Prelude.{option_and_then}
 use Rattle.std.specs.Cmp.Lexicographic.{nat_list_cmp_total}
 use Rattle.std.specs.FinMap as finmap

@@ -1,5 +1,5 @@
 -- A script's lines, one after another.
-use Rattle.std.proofs.Common.{◌≡◌, ℕ, zero, suc, ◌+◌, ◌-◌, ◌<◌, ◌≤◌, Bool, true, false, max, List, [], ◌∷◌, ◌++◌, length, take, cond, Option, Some, None, IsSomeAnd, refl, sym, ap, ◌∙◌, subst, arith, append_assoc, append-nil}
+use Rattle.std.proofs.Common.{◌≡◌, ℕ, suc, ◌-◌, ◌<◌, ◌≤◌, Bool, true, false, max, List, [], ◌∷◌, ◌++◌, length, take, cond, Option, Some, None, IsSomeAnd, refl, sym, ap, ◌∙◌, subst, arith, append_assoc, append-nil}
 use Rattle.std.specs.Prelude.{filter, filter_map, IsPermutation}
 use Rattle.std.proofs.lemmas.List.Sorted.{IsPermutation-refl}
 use Rattle.std.proofs.lemmas.List.{length-append, take-append-le, take_all}
@@ -7,7 +7,7 @@ use Rattle.lethe_base.specs.declared.call.Call.{Call}
 use Rattle.lethe_base.specs.declared.call.Call.TheVariants as call_words
 use Rattle.lethe_base.specs.declared.call.Did.TheVariants as did
 use Rattle.lethe_base.specs.Limits.{max_place}
-use Rattle.lethe_base.specs.History.{History, Change, change_at, after, nothing, done}
+use Rattle.lethe_base.specs.History.{History, Change, after, nothing, done}
 use Rattle.lethe_base.specs.Read.{Read, Answer, answer}
 use Rattle.lethe_base.specs.Read as answers
 use Rattle.lethe_base.proofs.Histories.{after-push, change_at-append, change_at-push, legal_push, done_push, legal_empty, done_empty}
@@ -19,7 +19,7 @@ use Rattle.lethe_run.specs.declared.reply.Line.TheVariants as line
 use Rattle.lethe_run.specs.declared.reply.Reply.{Reply}
 use Rattle.lethe_run.specs.declared.reply.Reply.TheVariants.{Done, Got, Scanned}
 use Rattle.lethe_run.specs.Kept.{Kept, StandsFor, Changes, Reads, Step}
-use Rattle.lethe_run.specs.Transcript.{call_of, read_of, IsDoneAt, IsAnswerAt, listed, Answers, Answered, place_of, places_behind, is_of, shown_by, Sees, Follows, InTurn, IsServed, AreServed}
+use Rattle.lethe_run.specs.Transcript.{call_of, read_of, IsDoneAt, IsAnswerAt, listed, Answers, Answered, place_of, places_behind, is_of, Sees, Follows, InTurn, IsServed, AreServed}
 
 -- what a line says of a history it says of a longer one
 answer_before : (h more : History) (point : ℕ) (read : Read) (given : Answer) → IsAnswerAt h point read given → IsAnswerAt (h ++ more) point read given
