@@ -1,12 +1,11 @@
 -- What a crash leaves, by the calls that are kept.
-use Rattle.std.proofs.Common.{◌≡◌, ◌+◌, ◌-◌, ◌≤◌, ◌<◌, ℕ, Bool, true, false, List, [], ◌∷◌, ◌++◌, length, take, drop, Some, None, refl, sym, ap, subst, ◌∙◌, arith, length-append, length-drop, append_assoc}
+use Rattle.std.proofs.Common.{◌≡◌, ◌+◌, ◌-◌, ℕ, Bool, true, false, List, [], ◌∷◌, ◌++◌, length, take, drop, Some, None, refl, sym, ap, subst, ◌∙◌, arith, length-drop}
 use Rattle.std.specs.Prelude.{◌≢◌, reverse, replicate, Option, IsSomeAnd, unwrap_or}
 use Rattle.std.specs.List.{fold}
 use Rattle.std.proofs.lemmas.List.{take-append-drop, drop_at, length-take, length-reverse, reverse-append}
-use Rattle.lethe_base.specs.declared.name.Name.{Name}
-use Rattle.lethe_disk.specs.Directory.{Directory, object, content}
+use Rattle.lethe_disk.specs.Directory.{Directory, object}
 use Rattle.lethe_memdisk.specs.Bytes.{IsRange}
-use Rattle.lethe_memdisk.specs.Effects.{Effect, Created, Written, Removed, Synced, Nothing, apply, after, torn, crashed}
+use Rattle.lethe_memdisk.specs.Effects.{Effect, Created, Written, apply, after, torn, crashed}
 use Rattle.lethe_memdisk.specs.declared.past.Call.{Call}
 use Rattle.lethe_memdisk.specs.declared.past.Call.TheVariants.{Create, Write, Byte, Remove, Sync, Nothing as Unchanged}
 use Rattle.lethe_memdisk.specs.Undo.{undone, effect_of, Fits, start_of, effects_of, Follows, torn_call, tear, HasNoSync, IsAtSync}
@@ -136,17 +135,17 @@ crash_leaves fill keep now calls synced unsynced later n room p follows long =
     let base = start_of then (reverse unsynced) in
     let both = follows_unsynced now calls synced unsynced later p follows in
     let from_start : start_of base (reverse synced) ≡ start =
-        sym (start_split then (reverse unsynced) (reverse synced)) ∙ sym (start_split now (reverse later) (reverse unsynced ++ reverse synced)) ∙ ap (start_of now) (sym p.parts) in
+    sym (start_split then (reverse unsynced) (reverse synced)) ∙ sym (start_split now (reverse later) (reverse unsynced ++ reverse synced)) ∙ ap (start_of now) (sym p.parts) in
     let at_base : base ≡ crashed fill keep start (effects_of base (reverse synced)) =
-        sym (after_effects base (reverse synced) both.1) ∙ ap (λ d. after d (effects_of base (reverse synced))) from_start ∙ sym (crashed_at_sync fill keep start base (reverse synced) p.at_sync) in
+    sym (after_effects base (reverse synced) both.1) ∙ ap (λ d. after d (effects_of base (reverse synced))) from_start ∙ sym (crashed_at_sync fill keep start base (reverse synced) p.at_sync) in
     let split : effects ≡ effects_of now (reverse later) ++ effects_of then (reverse unsynced ++ reverse synced) =
-        ap (effects_of now) p.parts ∙ effects_split now (reverse later) (reverse unsynced ++ reverse synced) in
+    ap (effects_of now) p.parts ∙ effects_split now (reverse later) (reverse unsynced ++ reverse synced) in
     let behind : length (effects_of now (reverse later)) ≡ length effects - n =
-        let a = length-effects_of now (reverse later) ∙ length-reverse later in
-        let b = length-effects_of now (reverse calls) ∙ length-reverse calls in
-        omega (arith, a, b, long) in
+    let a = length-effects_of now (reverse later) ∙ length-reverse later in
+    let b = length-effects_of now (reverse calls) ∙ length-reverse calls in
+    omega (arith, a, b, long) in
     let cut : drop (length effects - n) effects ≡ effects_of then (reverse unsynced ++ reverse synced) =
-        ap (drop (length effects - n)) split ∙ drop_at (effects_of now (reverse later)) _ (length effects - n) behind in
+    ap (drop (length effects - n)) split ∙ drop_at (effects_of now (reverse later)) _ (length effects - n) behind in
     fold-torn fill keep base unsynced
     ∙ ap (λ d. torn_back fill keep d (reverse unsynced)) at_base
     ∙ torn_crashed fill keep start then (reverse unsynced) (reverse synced) both.0 (HasNoSync-reverse unsynced p.no_sync)

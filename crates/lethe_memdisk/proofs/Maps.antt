@@ -1,9 +1,8 @@
 -- What a map of objects says of its directory.
 use Rattle.std.proofs.Common.{◌≡◌, ℕ, Bool, true, false, cond, List, [], ◌∷◌, Some, None, Vec, refl, sym, ap, subst, arith, ◌∙◌, inl, inr}
-use Rattle.std.specs.Prelude.{◌≢◌, map, length, Option, option_map, unwrap_or, nat_le}
+use Rattle.std.specs.Prelude.{map, length, Option, option_map, unwrap_or, nat_le}
 use Rattle.std.specs.Ordering.{is_eq}
 use Rattle.std.specs.declared.alloc.Global.{Global}
-use Rattle.std.specs.declared.cmp.Ordering.{Ordering}
 use Rattle.std.specs.declared.cmp.Ordering.TheVariants.{Less}
 use Rattle.std.specs.BTreeMap as tree
 use Rattle.std.specs.BTreeMap.{BTreeMap}
@@ -13,7 +12,7 @@ use Rattle.std.specs.List.Sorted.{IsStrictlySortedBy}
 use Rattle.std.specs.FinMap.{insert, remove, keys, entries, find, put, from_entries, get-from_entries, entries-insert, empty, len-entries, len-empty}
 use Rattle.lethe_base.specs.declared.name.Name.{Name}
 use Rattle.lethe_base.specs.Names.{name_cmp, name_total}
-use Rattle.lethe_disk.specs.Directory.{Directory, object, content, write_in, written, SameBut}
+use Rattle.lethe_disk.specs.Directory.{Directory, object, write_in, written, SameBut}
 use Rattle.lethe_disk.proofs.Objects.{name_cases, same_name_false, object_inserted, object_beside_insert, object_removed, object_beside_remove, same_directory}
 use Rattle.lethe_memdisk.specs.Bytes.{write_bytes}
 use Rattle.lethe_memdisk.specs.Objects.{directory_of, write_to}

@@ -1,15 +1,15 @@
 -- Each call of a disk in memory is a device call.
-use Rattle.std.proofs.Common.{◌≡◌, ◌+◌, ◌-◌, ◌≤◌, ◌<◌, ◌^◌, ℕ, suc, Bool, true, false, cond, List, [], ◌∷◌, length, drop, refl, sym, ap, subst, ◌∙◌, arith}
-use Rattle.std.specs.Prelude.{Result, Ok, Err, OnOk, IsErrOf, IsTrue, nat_lt, min, Option, ◌↔◌}
+use Rattle.std.proofs.Common.{◌≡◌, ◌+◌, ◌-◌, ◌≤◌, ◌^◌, ℕ, suc, Bool, true, false, cond, List, ◌∷◌, drop, refl, sym, ap, subst, ◌∙◌, arith}
+use Rattle.std.specs.Prelude.{Result, Ok, Err, OnOk, IsErrOf, nat_lt, min, Option}
 use Rattle.lethe_base.specs.Counts.{Rose}
 use Rattle.lethe_disk.specs.Directory.{Directory}
-use Rattle.lethe_disk.specs.Disk.{Image, IsSynced, Takes, HasCause}
+use Rattle.lethe_disk.specs.Disk.{Image, IsSynced, Takes}
 use Rattle.lethe_disk.specs.declared.disk.DiskRefused.{DiskRefused}
 use Rattle.lethe_disk.specs.declared.disk.DiskRefused.TheVariants.{Failed, NoMemory}
 use Rattle.lethe_memdisk.specs.Effects.{Effect, Created, Written, Removed, Synced, Nothing, after, Step, Images}
 use Rattle.lethe_memdisk.specs.Past.{Kept, with_effect}
 use Rattle.lethe_memdisk.specs.Images.{step_same, directory_image}
-use Rattle.lethe_memdisk.specs.Held.{Held, calls_of, effects_at, seen_of, fails, taken, failed, answered, Answers}
+use Rattle.lethe_memdisk.specs.Held.{Held, calls_of, effects_at, seen_of, fails, taken, failed, Answers}
 
 dropped : (effect : Effect) (effects : List Effect) (more less : ℕ) → more ≡ suc less → drop more (effect ∷ effects) ≡ drop less effects
 dropped effect effects more less is = ap (λ n. drop n (effect ∷ effects)) is

@@ -1,13 +1,13 @@
 -- A call that is undone, and one that is kept.
 use Rattle.std.proofs.Common.{◌≡◌, ◌+◌, ◌≤◌, ◌<◌, ℕ, suc, List, [], ◌∷◌, ◌++◌, length, take, drop, Some, None, Vec, refl, sym, ap, subst, ◌∙◌, inl, inr, arith, length-append, length-drop, append_assoc}
-use Rattle.std.specs.Prelude.{reverse, unwrap_or, nat_le, cond, IsSomeAnd, Option, slice_get}
-use Rattle.std.proofs.lemmas.List.{take-append-drop, drop-drop, take_at, drop_at, take_all, length-take, length-take-le, reverse-append, drop_more}
+use Rattle.std.specs.Prelude.{reverse, unwrap_or, cond, IsSomeAnd, Option, slice_get}
+use Rattle.std.proofs.lemmas.List.{take-append-drop, drop-drop, take_at, drop_at, length-take, length-take-le, reverse-append, drop_more}
 use Rattle.std.proofs.lemmas.Option.{slice_get_within, get_or_from_slice_get}
 use Rattle.std.proofs.lemmas.Bool.{le-leb}
 use Rattle.std.specs.declared.alloc.Global.{Global}
 use Rattle.std.specs.FinMap.{insert, remove}
 use Rattle.lethe_base.specs.declared.name.Name.{Name}
-use Rattle.lethe_disk.specs.Directory.{Directory, object, content, written, write_in, Torn}
+use Rattle.lethe_disk.specs.Directory.{Directory, object, content, written, write_in}
 use Rattle.lethe_disk.proofs.Objects.{name_cases, object_inserted, object_beside_insert, object_removed, object_beside_remove, same_directory, insert_again, written_torn}
 use Rattle.lethe_memdisk.specs.Bytes.{restored, IsRange}
 use Rattle.lethe_memdisk.specs.Objects.{write_to}

@@ -1,11 +1,10 @@
 -- What a disk in memory is seen to hold is one of its images, and so is what a crash leaves of it.
-use Rattle.std.specs.Prelude.{◌≡◌, ◌≤◌, ◌+◌, ◌-◌, ℕ, Bool, true, false, cond, List, [], ◌∷◌, length, drop, replicate, Option, Some, None, nat_le, refl}
-use Rattle.std.proofs.Common.{sym, ap, subst, ◌∙◌, arith, inl, inr}
+use Rattle.std.specs.Prelude.{◌≡◌, ◌-◌, ℕ, Bool, true, false, cond, List, [], ◌∷◌, length, drop, replicate, Option, Some, None, nat_le, refl}
+use Rattle.std.proofs.Common.{sym, subst, arith, inl, inr}
 use Rattle.std.proofs.lemmas.Bool.{cases_Bool, leb-true}
 use Rattle.std.proofs.lemmas.List.{length-replicate}
-use Rattle.std.specs.FinMap.{insert, remove}
 use Rattle.lethe_base.specs.declared.name.Name.{Name}
-use Rattle.lethe_disk.specs.Directory.{Directory, object, write_in, Torn, IsCreated, IsWritten, IsRemoved, IsSame}
+use Rattle.lethe_disk.specs.Directory.{Directory, object, write_in, Torn, IsWritten}
 use Rattle.lethe_disk.specs.Disk.{Image}
 use Rattle.lethe_disk.proofs.Objects.{insert_created, write_written, remove_removed}
 use Rattle.lethe_memdisk.specs.Objects.{write_to}

@@ -6,7 +6,7 @@ use Rattle.std.specs.Coded.{Coded, coded_list, coded_ℕ}
 use Rattle.std.specs.declared.alloc.Global.{Global}
 use Rattle.lethe_base.specs.declared.name.Name.{Name}
 use Rattle.lethe_base.specs.contracts.name.Name as name
-use Rattle.lethe_disk.specs.Directory.{Directory, object, write_in}
+use Rattle.lethe_disk.specs.Directory.{Directory, write_in}
 
 -- how a directory is stored
 abbrev pub directory_code : Coded Directory

@@ -1,5 +1,5 @@
 -- Objects with the calls that made them, as what they began from and what the calls did.
-use Rattle.std.specs.Prelude.{◌≡◌, ◌≤◌, ℕ, List, [], ◌∷◌, length, drop, reverse, ◌-◌, Bool}
+use Rattle.std.specs.Prelude.{◌≤◌, ℕ, List, [], ◌∷◌, length, drop, reverse, ◌-◌, Bool}
 use Rattle.std.specs.FinMap.{insert}
 use Rattle.lethe_base.specs.declared.name.Name.{Name}
 use Rattle.lethe_disk.specs.Directory.{Directory}

@@ -50,7 +50,12 @@ impl MemDisk {
     }
 
     // These objects, all of them synced.
-    fn of(alloc: Global, objects: Objects, calls: u64, failing: Vec<u64>) -> Result<MemDisk, NoMemory>
+    fn of(
+        alloc: Global,
+        objects: Objects,
+        calls: u64,
+        failing: Vec<u64>,
+    ) -> Result<MemDisk, NoMemory>
         ensures { IfOk result (λ disk. disk ≡ fresh objects calls failing.items) }
     {
         Ok(MemDisk {
@@ -228,3 +233,6 @@ impl Disk for MemDisk {
         self.faults
     }
 }
+
+#[cfg(test)]
+mod tests;

@@ -53,10 +53,10 @@ impl Objects {
         requires { IsSome (object self.now name) }
         ensures { IfOk result (λ v. object self.now name ≡ Some v.items) }
     {
-        match self.get(name) {
-            Some(bytes) => bytes.to_vec(alloc),
-            None => Ok(Vec::new(alloc)),
-        }
+        let Some(bytes) = self.get(name) else {
+            unreachable!();
+        };
+        bytes.to_vec(alloc)
     }
 
     /// All names, ascending.
@@ -108,7 +108,7 @@ impl Objects {
         ensures { self.new ≡ insert self.old name (restored (content self.old name) at len before.now) }
     {
         let Some(held) = self.map.get_mut(&name) else {
-            return;
+            unreachable!();
         };
         put_back(held, at as usize, len, before);
     }

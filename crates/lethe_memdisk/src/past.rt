@@ -9,10 +9,13 @@ use std::alloc::{AllocError, Global};
 use std::marker::Model;
 
 /// A device call that was taken, with what it takes to undo it.
-#[derive(Debug, Drop)]
+#[derive(Drop)]
 pub enum Call {
     /// Made an object of so many bytes.
-    Create { name: Name, len: usize },
+    Create {
+        name: Name,
+        len: usize,
+    },
     /// Wrote so many bytes over these, which are fewer where it went past the end.
     Write {
         name: Name,
@@ -21,9 +24,16 @@ pub enum Call {
         before: Vec<u8>,
     },
     /// Wrote one byte over this one.
-    Byte { name: Name, at: u64, before: u8 },
+    Byte {
+        name: Name,
+        at: u64,
+        before: u8,
+    },
     /// Removed an object that held this.
-    Remove { name: Name, before: Vec<u8> },
+    Remove {
+        name: Name,
+        before: Vec<u8>,
+    },
     Sync,
     /// Changed nothing: a read, or a call that failed.
     Nothing,
@@ -128,14 +138,20 @@ impl Past {
         keep(&mut self.calls, Call::Byte { name, at, before });
     }
 
-    fn write_range(&mut self, alloc: Global, name: Name, at: u64, bytes: &[u8]) -> Result<(), AllocError>
+    fn write_range(
+        &mut self,
+        alloc: Global,
+        name: Name,
+        at: u64,
+        bytes: &[u8],
+    ) -> Result<(), AllocError>
         requires room { length self.old.effects < self.old.room }
         requires inside { IsSomeAnd (object (now_of self.old) name) (λ held. at ≤ length held) }
         ensures ok { OnOk result (self.new ≡ with_effect (Written name at bytes.now) self.old) }
         ensures err { OnErr result (self.new ≡ self.old) }
     {
         let Some(held) = self.objects.get(name) else {
-            return Ok(());
+            unreachable!();
         };
         let len = bytes.len();
         let before = range(alloc, held, at as usize, len)?;
@@ -153,7 +169,13 @@ impl Past {
     }
 
     /// Writes over what an object holds, and past its end. One byte inside the object takes no memory.
-    pub fn write(&mut self, alloc: Global, name: Name, at: u64, bytes: &[u8]) -> Result<(), AllocError>
+    pub fn write(
+        &mut self,
+        alloc: Global,
+        name: Name,
+        at: u64,
+        bytes: &[u8],
+    ) -> Result<(), AllocError>
         requires room { length self.old.effects < self.old.room }
         requires inside { IsSomeAnd (object (now_of self.old) name) (λ held. at ≤ length held) }
         ensures ok { OnOk result (self.new ≡ with_effect (Written name at bytes.now) self.old) }
@@ -176,7 +198,7 @@ impl Past {
         ensures { self.new ≡ with_effect (Removed name) self.old }
     {
         let Some(before) = self.objects.remove(name) else {
-            return;
+            unreachable!();
         };
         keep(&mut self.calls, Call::Remove { name, before });
     }
@@ -215,7 +237,13 @@ impl Past {
 
     /// What a crash after so many calls leaves: where no sync followed, a range that was written holds `fill`,
     /// and what was created is there, and what was removed is gone, only where `keep` says so.
-    pub fn crashed(&self, alloc: Global, calls: usize, fill: u8, keep: bool) -> Result<Objects, AllocError>
+    pub fn crashed(
+        &self,
+        alloc: Global,
+        calls: usize,
+        fill: u8,
+        keep: bool,
+    ) -> Result<Objects, AllocError>
         requires { calls ≤ length self.now.effects }
         ensures { IfOk result (λ objects. objects ≡ left_of calls fill keep self.now) }
     {

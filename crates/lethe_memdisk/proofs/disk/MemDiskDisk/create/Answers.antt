@@ -1,4 +1,4 @@
-use Rattle.std.proofs.Common.{◌≡◌, ℕ, List, refl, ap, sym, ◌∙◌, rules}
+use Rattle.std.proofs.Common.{◌≡◌, ℕ, List, ap, sym, ◌∙◌, rules}
 use Rattle.std.specs.Prelude.{Err}
 use Rattle.lethe_disk.specs.declared.disk.DiskRefused.TheVariants.{NoMemory}
 use Rattle.lethe_memdisk.specs.Effects.{Created}

@@ -1,9 +1,8 @@
-use Rattle.std.proofs.Common.{◌≡◌, ℕ, List, refl, ap, sym, ◌∙◌, rules}
+use Rattle.std.proofs.Common.{◌≡◌, refl, sym, ◌∙◌, rules}
 use Rattle.std.specs.Prelude.{Err}
 use Rattle.lethe_disk.specs.declared.disk.DiskRefused.TheVariants.{NoMemory}
 use Rattle.lethe_memdisk.specs.Effects.{Nothing}
-use Rattle.lethe_memdisk.specs.Past.{with_effect}
-use Rattle.lethe_memdisk.proofs.Taking.{answers_ok, answers_failed, answers_refused, held_taken, held_same}
+use Rattle.lethe_memdisk.proofs.Taking.{answers_ok, answers_failed, answers_refused, held_taken}
 use Rattle.lethe_memdisk.proofs.disk.MemDiskDisk.names.Goals as goal
 
 pub returns-then-fails-clause-call : goal.returns-then-fails-clause-call

@@ -1,9 +1,6 @@
-use Rattle.std.proofs.Common.{◌≡◌, ℕ, List, refl, ap, sym, ◌∙◌, rules}
-use Rattle.std.specs.Prelude.{Err}
-use Rattle.lethe_disk.specs.declared.disk.DiskRefused.TheVariants.{NoMemory}
+use Rattle.std.proofs.Common.{sym, ◌∙◌}
 use Rattle.lethe_memdisk.specs.Effects.{Removed}
-use Rattle.lethe_memdisk.specs.Past.{with_effect}
-use Rattle.lethe_memdisk.proofs.Taking.{answers_ok, answers_failed, answers_refused, held_taken, held_same}
+use Rattle.lethe_memdisk.proofs.Taking.{answers_ok, answers_failed, held_taken}
 use Rattle.lethe_memdisk.proofs.disk.MemDiskDisk.remove.Goals as goal
 
 pub returns-then-fails-clause-call : goal.returns-then-fails-clause-call

@@ -1,8 +1,7 @@
-use Rattle.std.proofs.Common.{◌≡◌, ℕ, List, refl, ap, sym, ◌∙◌, rules}
+use Rattle.std.proofs.Common.{◌≡◌, sym, ◌∙◌, rules}
 use Rattle.std.specs.Prelude.{Err}
 use Rattle.lethe_disk.specs.declared.disk.DiskRefused.TheVariants.{NoMemory}
 use Rattle.lethe_memdisk.specs.Effects.{Written}
-use Rattle.lethe_memdisk.specs.Past.{with_effect}
 use Rattle.lethe_memdisk.proofs.Taking.{answers_ok, answers_failed, answers_refused, held_taken, held_same}
 use Rattle.lethe_memdisk.proofs.disk.MemDiskDisk.write_at.Goals as goal
 

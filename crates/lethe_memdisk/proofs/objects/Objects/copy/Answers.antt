@@ -1,4 +1,4 @@
-use Rattle.std.proofs.Common.{◌≡◌, ◌∙◌}
+use Rattle.std.proofs.Common.{◌∙◌}
 use Rattle.lethe_memdisk.proofs.Maps.{directory_cloned, same_items}
 use Rattle.lethe_memdisk.proofs.objects.Objects.copy.Goals as goal
 

@@ -1,4 +1,4 @@
-use Rattle.std.proofs.Common.{◌≡◌, Some, None, ap, sym, ◌∙◌, rules}
+use Rattle.std.proofs.Common.{Some, ap, sym, ◌∙◌}
 use Rattle.lethe_disk.specs.Directory.{object}
 use Rattle.lethe_memdisk.proofs.Maps.{object_of, held}
 use Rattle.lethe_memdisk.proofs.objects.Objects.get.Goals as goal

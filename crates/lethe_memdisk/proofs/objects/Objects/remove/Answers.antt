@@ -1,4 +1,4 @@
-use Rattle.std.proofs.Common.{◌≡◌, ap, sym, ◌∙◌, rules}
+use Rattle.std.proofs.Common.{ap, sym, ◌∙◌}
 use Rattle.std.specs.FinMap.{remove}
 use Rattle.lethe_disk.specs.Directory.{object}
 use Rattle.lethe_memdisk.proofs.Maps.{directory_removed, object_of, held}

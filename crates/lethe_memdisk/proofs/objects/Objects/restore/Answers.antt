@@ -8,12 +8,12 @@ use Rattle.lethe_memdisk.specs.Bytes.{restored, IsRange}
 use Rattle.lethe_memdisk.proofs.Maps.{object_of, held, directory_inserted}
 use Rattle.lethe_memdisk.proofs.objects.Objects.restore.Goals as goal
 
-pub returns-in_default : goal.returns-in_default
-returns-in_default c =
+pub unreachable-requires : goal.unreachable-requires
+unreachable-requires c =
     let none : tree.get name_cmp c.self.inside.map c.args.name ≡ None = search rules in
     let absent : object c.args.self.now c.args.name ≡ None = ap (λ d. object d c.args.name) (sym c.self.view_is) ∙ object_of c.self.inside.map c.args.name ∙ ap held none in
     let nothing = subst (λ o. IsSomeAnd o (λ (bytes : List ℕ). IsRange c.args.at c.args.len (length c.args.before.now) (length bytes))) absent c.requires in
-    absurd nothing
+    nothing
 
 pub put_back-requires : goal.put_back-requires
 put_back-requires c =

@@ -21,8 +21,8 @@ returns-clause-ok c =
     let found : IsSome (tree.get name_cmp m c.args.name) = ap is_some was in
     let updates = (c.get_mut.follows.holds c.overwrite.new.held).3 found in
     on_ok_weaker c.overwrite.result (λ wrote.
-        directory_written m (c.get_mut.follows.lender c.overwrite.new.held) c.args.name c.args.at c.args.bytes.now c.in-Some.held.now c.overwrite.new.held was updates wrote
-        ∙ ap (λ d. write_to (object d c.args.name) d c.args.name c.args.at c.args.bytes.now) c.self.view_is) c.overwrite.ensures.ok
+    directory_written m (c.get_mut.follows.lender c.overwrite.new.held) c.args.name c.args.at c.args.bytes.now c.in-Some.held.now c.overwrite.new.held was updates wrote
+    ∙ ap (λ d. write_to (object d c.args.name) d c.args.name c.args.at c.args.bytes.now) c.self.view_is) c.overwrite.ensures.ok
 
 pub returns-clause-err : goal.returns-clause-err
 returns-clause-err c =
@@ -31,7 +31,7 @@ returns-clause-err c =
     let found : IsSome (tree.get name_cmp m c.args.name) = ap is_some was in
     let updates = (c.get_mut.follows.holds c.overwrite.new.held).3 found in
     on_err_weaker c.overwrite.result (λ same.
-        directory_same m (c.get_mut.follows.lender c.overwrite.new.held) c.args.name c.in-Some.held.now c.overwrite.new.held was updates same ∙ c.self.view_is) c.overwrite.ensures.err
+    directory_same m (c.get_mut.follows.lender c.overwrite.new.held) c.args.name c.in-Some.held.now c.overwrite.new.held was updates same ∙ c.self.view_is) c.overwrite.ensures.err
 
 pub returns-clause-inside : goal.returns-clause-inside
 returns-clause-inside c = λ fits.

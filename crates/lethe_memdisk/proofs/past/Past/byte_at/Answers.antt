@@ -1,8 +1,6 @@
-use Rattle.std.proofs.Common.{◌≡◌, ℕ, List, [], Some, None, ap, sym, ◌∙◌, rules}
-use Rattle.std.specs.Prelude.{slice_get, unwrap_or, option_map}
-use Rattle.std.specs.Option.{option_copied}
-use Rattle.lethe_disk.specs.Directory.{object, content}
-use Rattle.lethe_memdisk.specs.Past.{now_of}
+use Rattle.std.proofs.Common.{◌≡◌, [], Some, None, ap, sym, ◌∙◌}
+use Rattle.std.specs.Prelude.{slice_get, unwrap_or}
+use Rattle.lethe_disk.specs.Directory.{object}
 use Rattle.lethe_memdisk.proofs.Keeping.{now_is}
 use Rattle.lethe_memdisk.proofs.past.Past.byte_at.Goals as goal
 

@@ -4,7 +4,7 @@ use Rattle.std.specs.List.{fold}
 use Rattle.lethe_memdisk.specs.Undo.{start_of, Follows, tear}
 use Rattle.lethe_memdisk.specs.Past.{kept_of, left_of}
 use Rattle.lethe_memdisk.proofs.Keeping.{len_is}
-use Rattle.lethe_memdisk.proofs.Crashing.{InParts, in_parts, follows_later, follows_unsynced, crash_leaves}
+use Rattle.lethe_memdisk.proofs.Crashing.{in_parts, follows_later, follows_unsynced, crash_leaves}
 use Rattle.lethe_memdisk.proofs.past.Past.crashed.Goals as goal
 
 pub split_at-requires : goal.split_at-requires
@@ -17,7 +17,7 @@ pub undo_all-requires : goal.undo_all-requires
 undo_all-requires c =
     let all : c.deref.result.now ≡ c.self.inside.calls.items = search rules in
     let parts = in_parts c.deref.result.now c.split_at.result.0.now c.split_at.result.1.now c.split_at-2.result.0.now c.split_at-2.result.1.now c.args.calls c.last_sync.result
-        c.split_at.ensures.front c.split_at.ensures.back c.split_at-2.ensures.front c.split_at-2.ensures.back c.last_sync.ensures.synced c.last_sync.ensures.unsynced in
+    c.split_at.ensures.front c.split_at.ensures.back c.split_at-2.ensures.front c.split_at-2.ensures.back c.last_sync.ensures.synced c.last_sync.ensures.unsynced in
     let follows = subst (λ l. Follows c.self.inside.objects (reverse l)) (sym all) c.self.invariant.follows in
     subst (λ d. Follows d (reverse c.split_at.result.1.now)) (sym c.in_ok-objects.ensures) (follows_later c.self.inside.objects c.deref.result.now _ _ _ parts follows)
 
@@ -25,7 +25,7 @@ pub undo_all-requires-2 : goal.undo_all-requires-2
 undo_all-requires-2 c =
     let all : c.deref.result.now ≡ c.self.inside.calls.items = search rules in
     let parts = in_parts c.deref.result.now c.split_at.result.0.now c.split_at.result.1.now c.split_at-2.result.0.now c.split_at-2.result.1.now c.args.calls c.last_sync.result
-        c.split_at.ensures.front c.split_at.ensures.back c.split_at-2.ensures.front c.split_at-2.ensures.back c.last_sync.ensures.synced c.last_sync.ensures.unsynced in
+    c.split_at.ensures.front c.split_at.ensures.back c.split_at-2.ensures.front c.split_at-2.ensures.back c.last_sync.ensures.synced c.last_sync.ensures.unsynced in
     let follows = subst (λ l. Follows c.self.inside.objects (reverse l)) (sym all) c.self.invariant.follows in
     let then : c.undo_all.new.objects ≡ start_of c.self.inside.objects (reverse c.split_at.result.1.now) = c.in_ok-undo_all.ensures ∙ ap (λ d. start_of d (reverse c.split_at.result.1.now)) c.in_ok-objects.ensures in
     subst (λ d. Follows d (reverse c.split_at-2.result.1.now)) (sym then) (follows_unsynced c.self.inside.objects c.deref.result.now _ _ _ parts follows).0
@@ -34,7 +34,7 @@ pub returns : goal.returns
 returns c =
     let all : c.deref.result.now ≡ c.self.inside.calls.items = search rules in
     let parts = in_parts c.deref.result.now c.split_at.result.0.now c.split_at.result.1.now c.split_at-2.result.0.now c.split_at-2.result.1.now c.args.calls c.last_sync.result
-        c.split_at.ensures.front c.split_at.ensures.back c.split_at-2.ensures.front c.split_at-2.ensures.back c.last_sync.ensures.synced c.last_sync.ensures.unsynced in
+    c.split_at.ensures.front c.split_at.ensures.back c.split_at-2.ensures.front c.split_at-2.ensures.back c.last_sync.ensures.synced c.last_sync.ensures.unsynced in
     let follows = subst (λ l. Follows c.self.inside.objects (reverse l)) (sym all) c.self.invariant.follows in
     let unsynced = c.split_at-2.result.1.now in
     let later = c.split_at.result.1.now in

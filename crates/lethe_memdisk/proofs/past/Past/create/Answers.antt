@@ -1,10 +1,9 @@
-use Rattle.std.proofs.Common.{◌≡◌, Some, None, length, ap, sym, ◌∙◌, subst, rules}
+use Rattle.std.proofs.Common.{◌≡◌, None, length, ap, ◌∙◌, rules}
 use Rattle.std.specs.Prelude.{vec_capacity}
-use Rattle.std.specs.FinMap.{insert}
 use Rattle.lethe_disk.specs.Directory.{object}
 use Rattle.lethe_memdisk.specs.Effects.{Created}
 use Rattle.lethe_memdisk.specs.declared.past.Call.TheVariants.{Create}
-use Rattle.lethe_memdisk.specs.Past.{now_of, with_effect}
+use Rattle.lethe_memdisk.specs.Past.{with_effect}
 use Rattle.lethe_memdisk.proofs.Undoing.{Adds, adds_create, adds_to}
 use Rattle.lethe_memdisk.proofs.Keeping.{now_is, has_room, kept_push, push_kept}
 use Rattle.lethe_memdisk.proofs.past.Past.create.Goals as goal

@@ -1,4 +1,4 @@
-use Rattle.std.proofs.Common.{◌≡◌, ap, sym, ◌∙◌}
+use Rattle.std.proofs.Common.{ap, sym, ◌∙◌}
 use Rattle.std.specs.Prelude.{reverse}
 use Rattle.lethe_memdisk.specs.Past.{now_of}
 use Rattle.lethe_memdisk.proofs.Undoing.{after_effects}

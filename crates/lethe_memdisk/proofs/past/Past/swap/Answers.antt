@@ -1,9 +1,9 @@
-use Rattle.std.proofs.Common.{◌≡◌, ℕ, List, [], true, false, Some, None, ap, sym, subst, ◌∙◌, rules}
-use Rattle.std.specs.Prelude.{reverse, option_map, IsSome, is_some, is_none, IsTrue, Option}
+use Rattle.std.proofs.Common.{◌≡◌, ℕ, List, [], true, false, Some, None, ap, sym, ◌∙◌, rules}
+use Rattle.std.specs.Prelude.{option_map, is_some, is_none, Option}
 use Rattle.std.specs.FinMap.{insert}
 use Rattle.lethe_disk.specs.Directory.{Directory, object}
 use Rattle.lethe_memdisk.specs.declared.past.Call.{Call}
-use Rattle.lethe_memdisk.specs.Past.{Kept, kept_of, now_of, swapped}
+use Rattle.lethe_memdisk.specs.Past.{kept_of, now_of}
 use Rattle.lethe_memdisk.proofs.Keeping.{now_is, room_is}
 use Rattle.lethe_memdisk.proofs.Results.{not_err}
 use Rattle.lethe_memdisk.proofs.past.Past.swap.Goals as goal

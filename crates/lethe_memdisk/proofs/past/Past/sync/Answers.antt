@@ -1,5 +1,5 @@
-use Rattle.std.proofs.Common.{◌≡◌, ◌<◌, length, subst, rules}
-use Rattle.std.specs.Prelude.{vec_len, vec_capacity}
+use Rattle.std.proofs.Common.{rules}
+use Rattle.std.specs.Prelude.{vec_capacity}
 use Rattle.lethe_memdisk.proofs.Keeping.{has_room}
 use Rattle.lethe_memdisk.proofs.past.Past.sync.Goals as goal
 

@@ -1,7 +1,7 @@
-use Rattle.std.proofs.Common.{◌≡◌, ◌+◌, ◌≤◌, ◌<◌, ℕ, List, [], ◌∷◌, Some, None, length, ap, sym, ◌∙◌, subst, arith, rules}
-use Rattle.std.specs.Prelude.{vec_capacity, slice_get, is_err, IsOk}
+use Rattle.std.proofs.Common.{◌≡◌, ◌+◌, ◌≤◌, ◌<◌, ℕ, [], ◌∷◌, Some, length, ap, sym, ◌∙◌, arith, rules}
+use Rattle.std.specs.Prelude.{vec_capacity, slice_get}
 use Rattle.lethe_base.specs.declared.name.Name.{Name}
-use Rattle.lethe_disk.specs.Directory.{Directory, object, content, write_in}
+use Rattle.lethe_disk.specs.Directory.{Directory, object, content}
 use Rattle.lethe_memdisk.specs.Objects.{write_to}
 use Rattle.lethe_memdisk.specs.Effects.{Written}
 use Rattle.lethe_memdisk.specs.declared.past.Call.TheVariants.{Byte}
@@ -37,7 +37,7 @@ invariant_of-self c =
     let now = now_is old c.self.inside.calls.items c.self.inside.room _ c.args.self.now c.self.invariant c.self.view_is in
     let is = not_err c.write.result c.write.ensures.ok (sym c.is_err.ensures.value ∙ c.if-is_err.false) in
     push_kept old c.write.new.self c.self.inside.calls.items c.keep.new.calls.items _ _ c.self.inside.room (vec_capacity c.self.inside.calls) (vec_capacity c.keep.new.calls) c.keep.ensures.items
-        (wrote old (now_of c.args.self.now) c.write.new.self c.args.name c.args.at c.args.byte c.args.before now c.requires.inside is) c.keep.ensures.capacity c.self.invariant
+    (wrote old (now_of c.args.self.now) c.write.new.self c.args.name c.args.at c.args.byte c.args.before now c.requires.inside is) c.keep.ensures.capacity c.self.invariant
 
 pub returns : goal.returns
 returns c =
@@ -45,4 +45,4 @@ returns c =
     let now = now_is old c.self.inside.calls.items c.self.inside.room _ c.args.self.now c.self.invariant c.self.view_is in
     let is = not_err c.write.result c.write.ensures.ok (sym c.is_err.ensures.value ∙ c.if-is_err.false) in
     kept_push old c.write.new.self c.self.inside.calls.items c.keep.new.calls.items _ _ c.self.inside.room c.keep.ensures.items
-        (wrote old (now_of c.args.self.now) c.write.new.self c.args.name c.args.at c.args.byte c.args.before now c.requires.inside is) ∙ ap (with_effect (Written c.args.name c.args.at (c.args.byte ∷ []))) c.self.view_is
+    (wrote old (now_of c.args.self.now) c.write.new.self c.args.name c.args.at c.args.byte c.args.before now c.requires.inside is) ∙ ap (with_effect (Written c.args.name c.args.at (c.args.byte ∷ []))) c.self.view_is
