@@ -4,3 +4,6 @@
 mod records;
 
 pub use records::append;
+
+#[cfg(test)]
+mod tests;
