@@ -1,0 +1,9 @@
+//! Changes of the disk that a crash leaves whole or undone.
+#![tactic(auto)]
+
+mod records;
+
+pub use records::append;
+
+#[cfg(test)]
+mod tests;

@@ -1,0 +1,103 @@
+//! Appends to a disk in memory, and what a crash leaves of them.
+ghost use Rattle.std.specs.Prelude.{◌≡◌, ◌+◌, [], Some, IfOk, IsTrue, IsSome};
+ghost use Rattle.lethe_disk.specs.Directory.{object};
+ghost use Rattle.lethe_disk.specs.Runs.{Throughout};
+ghost use Rattle.lethe_memdisk.specs.Held.{seen_of, calls_of};
+ghost use Rattle.lethe_commit.specs.Append.{EndsAt};
+
+use super::*;
+use lethe_base::{Kind, Name};
+use lethe_disk::{Disk, DiskRefused};
+use lethe_memdisk::MemDisk;
+use lethe_segment::{Record, new_segment, replay, write_record};
+use std::alloc::Global;
+use std::test::Fail;
+
+const SEGMENT: Name = Name {
+    kind: Kind::Segment,
+    no: 3,
+};
+
+// A disk with a new segment, after two calls. The later calls of these numbers fail.
+fn disk_of_a_segment(alloc: Global, failing: Vec<u64>) -> Result<MemDisk, Fail>
+    ensures ready { IfOk result (λ disk. EndsAt (seen_of disk) SEGMENT 3 [] 11) }
+    ensures calls { IfOk result (λ disk. calls_of disk ≡ 2) }
+{
+    let mut disk = MemDisk::new(alloc, 20, failing)?;
+    let Ok(()) = disk.create(SEGMENT, &new_segment(3)) else {
+        return Err(Fail::new("a new segment"));
+    };
+    let Ok(()) = disk.sync() else {
+        return Err(Fail::new("a synced segment"));
+    };
+    Ok(disk)
+}
+
+// Appends a blind delete to the new segment, and answers whether that was done.
+fn append_one(alloc: Global, disk: &mut MemDisk) -> Result<bool, Fail>
+    requires { EndsAt (seen_of disk.old) SEGMENT 3 [] 11 }
+    ensures there { IfOk result (λ done. Throughout (λ c. IsSome (object c SEGMENT)) (seen_of disk.old) (seen_of disk.new)) }
+    ensures now { IfOk result (λ done. IsSome (object (seen_of disk.new).directory SEGMENT)) }
+    ensures calls { IfOk result (λ done. IsTrue done → calls_of disk.new ≡ calls_of disk.old + 4) }
+{
+    let body = write_record(alloc, &Record::Blind { seq: 1 })?;
+    match append(alloc, disk, SEGMENT, 11, &body) {
+        Ok(()) => Ok(true),
+        Err(DiskRefused::Failed) => Ok(false),
+        Err(DiskRefused::NoMemory) => Err(Fail::new("no memory")),
+    }
+}
+
+// How many records the segment has.
+fn count(alloc: Global, disk: &mut MemDisk) -> Result<usize, Fail>
+    requires { IsSome (object (seen_of disk.old).directory SEGMENT) }
+{
+    let Ok(bytes) = disk.read(alloc, SEGMENT) else {
+        return Err(Fail::new("a segment"));
+    };
+    let Ok(records) = replay(alloc, &bytes) else {
+        return Err(Fail::new("records"));
+    };
+    Ok(records.len())
+}
+
+#[test]
+fn an_append_that_a_crash_cuts_short_counts_from_its_gate_on(rt: HostRuntime) -> Result<(), Fail> {
+    let alloc = rt.alloc();
+    let mut disk = disk_of_a_segment(alloc, Vec::new(alloc))?;
+    if !append_one(alloc, &mut disk)? {
+        return Err(Fail::new("an append"));
+    }
+    let images = [
+        (0, 1, 0),
+        (1, 1, 0),
+        (2, 1, 0),
+        (3, 0, 0),
+        (3, 7, 0),
+        (3, 1, 1),
+        (4, 0, 1),
+    ];
+    for (calls, fill, records) in images {
+        let mut left = disk.crash(2 + calls.min(4), fill, true)?;
+        assert_eq!(rt; count(alloc, &mut left)?, records);
+    }
+    Ok(())
+}
+
+#[test]
+fn an_append_fails_where_the_disk_does(rt: HostRuntime) -> Result<(), Fail> {
+    let alloc = rt.alloc();
+    let rows = [
+        (3, false, 0),
+        (4, false, 0),
+        (5, false, 0),
+        (6, false, 1),
+        (8, true, 1),
+    ];
+    for (failing, done, records) in rows {
+        let mut disk = disk_of_a_segment(alloc, vec![in alloc; failing]?)?;
+        assert_eq!(rt; append_one(alloc, &mut disk)?, done);
+        assert_eq!(rt; count(alloc, &mut disk)?, records);
+    }
+    Ok(())
+}
