@@ -1,5 +1,5 @@
 -- Lists of entries in the order of their keys, at most one of each key.
-use Rattle.std.specs.Prelude.{◌≡◌, Bool, IsTrue, List, map, Option, Some, None, option_and_then, if◌then◌else◌}
+use Rattle.std.specs.Prelude.{◌≡◌, IsTrue, List, map, Option, Some, None, option_and_then, if◌then◌else◌}
 use Rattle.std.specs.FinMap as finmap
 use Rattle.lethe_base.specs.Keys.{Bytes, key_cmp, same_key}
 use Rattle.lethe_base.specs.History.{Pair}

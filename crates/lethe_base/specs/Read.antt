@@ -1,5 +1,5 @@
 -- What a read is answered in a state.
-use Rattle.std.specs.Prelude.{ℕ, Bool, ◌&&◌, List, filter, Option}
+use Rattle.std.specs.Prelude.{Bool, ◌&&◌, List, filter, Option}
 use Rattle.std.specs.FinMap as map
 use Rattle.std.specs.Ordering.{is_lt, is_le}
 use Rattle.lethe_base.specs.Keys.{Bytes, key_cmp}
