@@ -14,7 +14,7 @@ use Rattle.lethe_base.specs.declared.front.BodyKind.TheVariants as kinds
 use Rattle.lethe_base.specs.declared.front.Front.{Front}
 use Rattle.lethe_base.specs.declared.reading.EntryRefused.{EntryRefused}
 use Rattle.lethe_base.specs.declared.reading.EntryRefused.TheVariants.{Short, Kind, NoMemory}
-use Rattle.lethe_base.proofs.Fields.{bind_ok, ok_is, stands_then, stands_parts, long_stands, long_again, kind_stands, kind_again, place_stands, place_again, since_stands, since_again, key_stands, key_again, value_bytes, value_stands, value_again}
+use Rattle.lethe_base.proofs.FieldLaws.{bind_ok, ok_is, stands_then, stands_parts, long_stands, long_again, kind_stands, kind_again, place_stands, place_again, since_stands, since_again, key_stands, key_again, value_bytes, value_stands, value_again}
 
 -- ---- fronts
 

@@ -1,3 +1,4 @@
 pub mod Histories
-pub mod Fields
+pub mod FieldLaws
 pub mod EntryLaws
+pub mod Configurations

@@ -9,3 +9,4 @@ pub mod Entries
 pub mod Numbers
 pub mod Spelling
 pub mod Reading
+pub mod Configuration

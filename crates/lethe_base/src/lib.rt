@@ -2,6 +2,7 @@
 #![tactic(auto)]
 
 mod call;
+mod config;
 mod entry;
 mod front;
 mod key;
@@ -18,6 +19,7 @@ mod value;
 mod writing;
 
 pub use call::{Call, Did};
+pub use config::{Config, ConfigRefused, Field, Fields, MAX_FILE_ENTRIES, Pick};
 pub use entry::{Body, Entry};
 pub use front::{BodyKind, Front};
 pub use key::{Key, KeyRefused, MAX_KEY};

@@ -33,3 +33,151 @@ fn types_of_the_base_keep_what_they_are_made_of(rt: HostRuntime) -> Result<(), F
     assert_eq!(rt; (range.lo(), range.hi()), (2, 9));
     Ok(())
 }
+
+/// Threshold 100, ratio 2, levels 2, page 2, tile 2, file 2, buffer 4.
+const SMALL: Fields = Fields {
+    threshold: 100,
+    ratio: 2,
+    levels: 2,
+    page: 2,
+    tile: 2,
+    file: 2,
+    buffer: 4,
+    pick: Pick::Sd,
+};
+
+#[test]
+fn a_configuration_is_within_its_limits(rt: HostRuntime) -> Result<(), Fail> {
+    let least = Fields {
+        threshold: 1,
+        levels: 1,
+        page: 1,
+        tile: 1,
+        file: 1,
+        buffer: 1,
+        ..SMALL
+    };
+    let greatest = Fields {
+        threshold: 1 << 40,
+        ratio: 16,
+        levels: 6,
+        page: 1024,
+        tile: 64,
+        file: 1,
+        buffer: 16_384,
+        pick: Pick::So,
+    };
+    let long = Fields {
+        page: 4,
+        tile: 64,
+        file: 256,
+        ..greatest
+    };
+    for fields in [Fields::default(), SMALL, least, greatest, long] {
+        let config = Config::new(fields).ok().ok_or("a configuration")?;
+        assert_eq!(rt; *config.fields(), fields);
+    }
+    Ok(())
+}
+
+#[test]
+fn the_first_field_that_breaks_its_limit_is_named(rt: HostRuntime) {
+    for (fields, field, value) in [
+        (
+            Fields {
+                threshold: 0,
+                ..SMALL
+            },
+            Field::Threshold,
+            0,
+        ),
+        (
+            Fields {
+                threshold: (1 << 40) + 1,
+                ratio: 1,
+                ..SMALL
+            },
+            Field::Threshold,
+            (1 << 40) + 1,
+        ),
+        (
+            Fields {
+                ratio: 1,
+                buffer: 0,
+                ..SMALL
+            },
+            Field::Ratio,
+            1,
+        ),
+        (Fields { ratio: 17, ..SMALL }, Field::Ratio, 17),
+        (Fields { levels: 0, ..SMALL }, Field::Levels, 0),
+        (
+            Fields {
+                levels: 7,
+                file: 0,
+                ..SMALL
+            },
+            Field::Levels,
+            7,
+        ),
+        (Fields { page: 0, ..SMALL }, Field::Page, 0),
+        (
+            Fields {
+                page: 1025,
+                ..SMALL
+            },
+            Field::Page,
+            1025,
+        ),
+        (Fields { tile: 0, ..SMALL }, Field::Tile, 0),
+        (
+            Fields {
+                tile: 65,
+                file: 257,
+                ..SMALL
+            },
+            Field::Tile,
+            65,
+        ),
+        (Fields { file: 0, ..SMALL }, Field::File, 0),
+        (Fields { file: 257, ..SMALL }, Field::File, 257),
+        (
+            Fields {
+                page: 1024,
+                tile: 64,
+                ..SMALL
+            },
+            Field::File,
+            2,
+        ),
+        (
+            Fields {
+                page: 257,
+                tile: 1,
+                file: 256,
+                buffer: 0,
+                ..SMALL
+            },
+            Field::File,
+            256,
+        ),
+        (Fields { buffer: 0, ..SMALL }, Field::Buffer, 0),
+        (Fields { buffer: 9, ..SMALL }, Field::Buffer, 9),
+        (
+            Fields {
+                page: 1024,
+                tile: 64,
+                file: 1,
+                buffer: 16_385,
+                ..SMALL
+            },
+            Field::Buffer,
+            16_385,
+        ),
+    ] {
+        assert_eq!(rt;
+            Config::new(fields).err(),
+            Some(ConfigRefused { field, value })
+        );
+    }
+}

@@ -8,7 +8,7 @@ use Rattle.std.specs.Int.{w64, from_be_bytes, to_be_bytes}
 use Rattle.std.proofs.lemmas.Bool.{cases_lt, cases_order, eqb-false, eqb-true, leb-false, not-false, not-true}
 use Rattle.std.proofs.lemmas.List.{drop_at, length-replicate, take-append-drop, take-append-le, take-take, take_all, take_at}
 use Rattle.lethe_base.specs.Numbers.{number_at, IsBytes}
-use Rattle.lethe_base.proofs.Fields.{number_stands, same_number, wide64, IsBytes-drop}
+use Rattle.lethe_base.proofs.FieldLaws.{number_stands, same_number, wide64, IsBytes-drop}
 use Rattle.lethe_segment.specs.Segments.{mark, head_bytes}
 use Rattle.lethe_segment.specs.Heads.{HasHead, IsNoHead, IsHeadFault}
 

@@ -4,7 +4,7 @@ use Rattle.std.specs.Int.{w8}
 use Rattle.std.proofs.lemmas.List.{append-nil}
 use Rattle.lethe_base.specs.Numbers.{number_at, IsBytes}
 use Rattle.lethe_base.specs.Reading.{StandsAt}
-use Rattle.lethe_base.proofs.Fields.{first_byte, stands_then, stands_where}
+use Rattle.lethe_base.proofs.FieldLaws.{first_byte, stands_then, stands_where}
 use Rattle.lethe_base.proofs.EntryLaws.{stands_first}
 use Rattle.lethe_segment.specs.declared.record.Record.{Record}
 use Rattle.lethe_segment.specs.Records.{record_bytes, record_seq, RecordHasSpelling}

@@ -5,7 +5,7 @@ use Rattle.lethe_base.specs.Spelling.{entry_bytes, kind_byte, kind_of, IsPlace}
 use Rattle.lethe_base.specs.declared.entry.Entry.{Entry}
 use Rattle.lethe_base.specs.declared.front.BodyKind.{BodyKind}
 use Rattle.lethe_base.specs.declared.front.BodyKind.TheVariants as kinds
-use Rattle.lethe_base.proofs.Fields.{same_number, wide64}
+use Rattle.lethe_base.proofs.FieldLaws.{same_number, wide64}
 use Rattle.lethe_base.proofs.EntryLaws.{entry_first, one_entry}
 use Rattle.lethe_segment.specs.declared.record.Record.{Record}
 use Rattle.lethe_segment.specs.declared.record.Record.TheVariants as of

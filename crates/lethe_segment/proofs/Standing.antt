@@ -9,7 +9,7 @@ use Rattle.lethe_base.specs.Reading.{StandsAt, place_at}
 use Rattle.lethe_base.specs.declared.entry.Entry.{Entry}
 use Rattle.lethe_base.specs.declared.reading.EntryRefused.{EntryRefused}
 use Rattle.lethe_base.specs.declared.reading.EntryRefused.TheVariants.{Short, Kind, NoMemory}
-use Rattle.lethe_base.proofs.Fields.{byte_stands, first_byte, place_stands, place_again, stands_then, stands_parts}
+use Rattle.lethe_base.proofs.FieldLaws.{byte_stands, first_byte, place_stands, place_again, stands_then, stands_parts}
 use Rattle.lethe_segment.specs.declared.record.Record.{Record}
 use Rattle.lethe_segment.specs.declared.record.Record.TheVariants as of
 use Rattle.lethe_segment.specs.Records.{record_bytes, RecordHasSpelling}
