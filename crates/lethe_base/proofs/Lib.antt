@@ -1,3 +1,5 @@
 pub mod Histories
 pub mod Fields
 pub mod EntryLaws
+pub mod CauseLaws
+pub mod LayoutLaws

@@ -9,3 +9,11 @@ pub mod Entries
 pub mod Numbers
 pub mod Spelling
 pub mod Reading
+pub mod Causes
+pub mod Matching
+pub mod Layout
+pub mod Held
+pub mod Shapes
+pub mod Placed
+pub mod Points
+pub mod Covers

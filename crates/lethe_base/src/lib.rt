@@ -2,6 +2,7 @@
 #![tactic(auto)]
 
 mod call;
+mod covering;
 mod entry;
 mod front;
 mod key;
@@ -14,10 +15,12 @@ mod number;
 mod pending;
 mod range;
 mod reading;
+mod shape;
 mod value;
 mod writing;
 
 pub use call::{Call, Did};
+pub use covering::{cause_is_first, new_layout_covers, new_shape_is_valid};
 pub use entry::{Body, Entry};
 pub use front::{BodyKind, Front};
 pub use key::{Key, KeyRefused, MAX_KEY};
@@ -30,6 +33,7 @@ pub use number::{take_u8, take_u16, take_u32, take_u64};
 pub use pending::Pending;
 pub use range::Range;
 pub use reading::{EntryRefused, read_body, read_entry, read_front, read_key, read_place};
+pub use shape::{FileFacts, Shape};
 pub use value::{MAX_VALUE, Value, ValueRefused};
 pub use writing::{entry_len, write_entry};
 

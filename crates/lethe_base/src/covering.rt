@@ -1,0 +1,22 @@
+//! Laws of what a store's layout stands for. The functions do nothing: their contracts are the laws.
+ghost use Rattle.std.specs.Prelude.{◌≡◌, ◌↔◌, ℕ, [], Some};
+ghost use Rattle.lethe_base.specs.History.{History};
+ghost use Rattle.lethe_base.specs.Causes.{IsCause, cause_of};
+ghost use Rattle.lethe_base.specs.Layout.{new_layout};
+ghost use Rattle.lethe_base.specs.Shapes.{IsValidShape, shape_of};
+ghost use Rattle.lethe_base.specs.Covers.{Covers};
+
+/// The cause of an erasure is the first change behind the put that erases it, so there is at most one.
+pub fn cause_is_first()
+    ensures { (h : History) (place cause : ℕ) → (cause_of h place ≡ Some cause) ↔ IsCause h place cause }
+{}
+
+/// A new store stands for the history without any change.
+pub fn new_layout_covers()
+    ensures { (threshold levels : ℕ) → Covers threshold [] (new_layout levels) }
+{}
+
+/// A new store's shape is one that a store may have.
+pub fn new_shape_is_valid()
+    ensures { (levels : ℕ) → IsValidShape (shape_of (new_layout levels)) }
+{}
