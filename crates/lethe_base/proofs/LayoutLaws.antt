@@ -11,7 +11,7 @@ use Rattle.lethe_base.specs.declared.shape.FileFacts.{FileFacts}
 use Rattle.lethe_base.specs.Layout.{File, Layout, Record, Written, Erasing, files_of, entries_of, runs_of, frozen_records, new_layout}
 use Rattle.lethe_base.specs.Held.{IsFiled, IsRecorded, Holds, Shows, Tells}
 use Rattle.lethe_base.specs.Shapes.{facts_from, shape_of, deepest_files, HasOtherNumber, HasRange, IsBare, IsBelow, IsValidShape}
-use Rattle.lethe_base.specs.Points.{InRun, IsOver}
+use Rattle.lethe_base.specs.NewerAbove.{IsOver}
 use Rattle.lethe_base.specs.Covers.{Covers}
 
 none_in : {X : Type 0} (x : X) → Contains [] x → ⊥

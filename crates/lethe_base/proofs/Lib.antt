@@ -3,3 +3,5 @@ pub mod Fields
 pub mod EntryLaws
 pub mod CauseLaws
 pub mod LayoutLaws
+pub mod HeldLaws
+pub mod Overdue

@@ -3,8 +3,11 @@ use Rattle.std.specs.Prelude.{ℕ}
 use Rattle.lethe_base.specs.History.{History, after}
 use Rattle.lethe_base.specs.Layout.{Layout}
 use Rattle.lethe_base.specs.Held.{Holds, Shows, Tells}
-use Rattle.lethe_base.specs.Placed.{ArePlaced, AreFresh}
-use Rattle.lethe_base.specs.Points.{IsNewerAbove, IsMap, DeletesAreCovered, ErasesAreCovered}
+use Rattle.lethe_base.specs.Placed.{ArePlaced}
+use Rattle.lethe_base.specs.NewerAbove.{IsNewerAbove}
+use Rattle.lethe_base.specs.SameMap.{IsMap}
+use Rattle.lethe_base.specs.Covered.{DeletesAreCovered, ErasesAreCovered}
+use Rattle.lethe_base.specs.Fresh.{AreFresh}
 
 -- What a layout says comes from the history, and together it gives the history's map. No erasure is forgotten: what was
 -- deleted lies below a newer entry that has its time, and what was erased by a range waits for a pending erase.

@@ -1,20 +1,22 @@
 -- What the objects of a layout spell, and what reads see of it.
-use Rattle.std.specs.Prelude.{◌≡◌, ◌⊎◌, ℕ, ◌≤◌, List, Contains, Some}
+use Rattle.std.specs.Prelude.{◌≡◌, ◌⊎◌, ℕ, List, Contains, Some}
 use Rattle.std.specs.FinMap as finmap
 use Rattle.lethe_base.specs.declared.entry.Entry.{Entry}
 use Rattle.lethe_base.specs.declared.pending.Pending.{Pending}
-use Rattle.lethe_base.specs.Matching.{IsPut}
 use Rattle.lethe_base.specs.Layout.{Layout, File, Record, Written, Erasing, Buffer, buffer_of, frozen_records, entries_of, files_of}
 
 -- a record of one of the two segments
 abbrev pub IsRecorded : Layout → Record → Type 0
 IsRecorded l r = Contains l.active r ⊎ Contains (frozen_records l) r
 
--- an entry of a file
-pub record IsFiled (l : Layout) (entry : Entry) : Type 0 where
+-- an entry of one of the files
+pub record InFiles (files : List File) (entry : Entry) : Type 0 where
   pub file : File
-  pub there : Contains (files_of l) file
+  pub there : Contains files file
   pub spelled : Contains (entries_of file) entry
+
+abbrev pub IsFiled : Layout → Entry → Type 0
+IsFiled l entry = InFiles (files_of l) entry
 
 -- an object spells the entry, and was swept up to that place; a segment counts as swept up to 0
 abbrev pub Holds : Layout → Entry → ℕ → Type 0
@@ -30,14 +32,3 @@ Shows l entry = (InBuffer (buffer_of l.active) entry ⊎ InBuffer (buffer_of (fr
 -- the layout tells of an accepted erase: it is pending, or a segment has its record
 abbrev pub Tells : Layout → Pending → Type 0
 Tells l erase = Contains l.pending erase ⊎ IsRecorded l (Erasing erase)
-
--- the erase has nothing left to do: every file is swept up to its place, and no segment holds a put of a smaller place
-pub record IsSpent (l : Layout) (erase : Pending) : Type 0 where
-  pub files : (file : File) → Contains (files_of l) file → erase.seq ≤ file.swept
-  pub segments : (entry : Entry) → IsRecorded l (Written entry) → IsPut entry.body → erase.seq ≤ entry.seq
-
--- A list of erases that may stand for the layout's: it lacks spent ones alone. After a crash the records of a segment may
--- bring such an erase back.
-pub record IsShorter (l : Layout) (pending : List Pending) : Type 0 where
-  pub known : (erase : Pending) → Contains pending erase → Contains l.pending erase
-  pub spent : (erase : Pending) → Contains l.pending erase → Contains pending erase ⊎ IsSpent l erase

@@ -14,6 +14,10 @@ pub mod Matching
 pub mod Layout
 pub mod Held
 pub mod Shapes
+pub mod Spent
 pub mod Placed
-pub mod Points
+pub mod NewerAbove
+pub mod SameMap
+pub mod Covered
+pub mod Fresh
 pub mod Covers

@@ -1,8 +1,11 @@
 //! Laws of what a store's layout stands for. The functions do nothing: their contracts are the laws.
 ghost use Rattle.std.specs.Prelude.{◌≡◌, ◌↔◌, ℕ, [], Some};
+ghost use Rattle.lethe_base.specs.declared.entry.Entry.{Entry};
 ghost use Rattle.lethe_base.specs.History.{History};
-ghost use Rattle.lethe_base.specs.Causes.{IsCause, cause_of};
-ghost use Rattle.lethe_base.specs.Layout.{new_layout};
+ghost use Rattle.lethe_base.specs.Causes.{IsCause, IsOverdue, cause_of};
+ghost use Rattle.lethe_base.specs.Matching.{IsPut};
+ghost use Rattle.lethe_base.specs.Layout.{Layout, new_layout};
+ghost use Rattle.lethe_base.specs.Held.{Holds};
 ghost use Rattle.lethe_base.specs.Shapes.{IsValidShape, shape_of};
 ghost use Rattle.lethe_base.specs.Covers.{Covers};
 
@@ -19,4 +22,11 @@ pub fn new_layout_covers()
 /// A new store's shape is one that a store may have.
 pub fn new_shape_is_valid()
     ensures { (levels : ℕ) → IsValidShape (shape_of (new_layout levels)) }
+{}
+
+/// Of what a layout holds, nothing is overdue at its clock.
+pub fn none_is_overdue()
+    ensures { (threshold : ℕ) (h : History) (l : Layout) → Covers threshold h l
+        → (entry : Entry) (swept : ℕ) → Holds l entry swept → IsPut entry.body
+        → IsOverdue threshold h l.clock entry.seq → ⊥ }
 {}
