@@ -5,3 +5,4 @@ pub mod CauseLaws
 pub mod LayoutLaws
 pub mod HeldLaws
 pub mod Overdue
+pub mod Newest

@@ -1,7 +1,7 @@
 //! Laws of what a store's layout stands for. The functions do nothing: their contracts are the laws.
 ghost use Rattle.std.specs.Prelude.{◌≡◌, ◌↔◌, ℕ, [], Some};
 ghost use Rattle.lethe_base.specs.declared.entry.Entry.{Entry};
-ghost use Rattle.lethe_base.specs.History.{History};
+ghost use Rattle.lethe_base.specs.History.{History, after};
 ghost use Rattle.lethe_base.specs.Causes.{IsCause, IsOverdue, cause_of};
 ghost use Rattle.lethe_base.specs.Matching.{IsPut};
 ghost use Rattle.lethe_base.specs.Layout.{Layout, new_layout};
@@ -29,4 +29,10 @@ pub fn none_is_overdue()
     ensures { (threshold : ℕ) (h : History) (l : Layout) → Covers threshold h l
         → (entry : Entry) (swept : ℕ) → Holds l entry swept → IsPut entry.body
         → IsOverdue threshold h l.clock entry.seq → ⊥ }
+{}
+
+/// The histories that a layout stands for leave one map.
+pub fn layout_has_one_map()
+    ensures { (threshold : ℕ) (h g : History) (l : Layout) → Covers threshold h l → Covers threshold g l
+        → (after h).map ≡ (after g).map }
 {}
