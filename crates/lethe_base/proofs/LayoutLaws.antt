@@ -14,7 +14,7 @@ use Rattle.lethe_base.specs.Shapes.{facts_from, shape_of, deepest_files, HasOthe
 use Rattle.lethe_base.specs.NewerAbove.{IsOver}
 use Rattle.lethe_base.specs.Covers.{Covers}
 
-none_in : {X : Type 0} (x : X) → Contains [] x → ⊥
+pub none_in : {X : Type 0} (x : X) → Contains [] x → ⊥
 none_in x there = absurd (let lt : there.0 < 0 = there.1 in omega arith)
 
 
@@ -31,10 +31,10 @@ facts_empty level zero = refl
 facts_empty level (suc n) = ap (λ deeper. [] ∷ deeper) (facts_empty (level + 1) n)
 
 module _ (levels : ℕ) where
-  no_file : (file : File) → Contains (files_of (new_layout levels)) file → ⊥
+  pub no_file : (file : File) → Contains (files_of (new_layout levels)) file → ⊥
   no_file file there = none_in file (subst (λ files. Contains files file) (flat_empty File levels) there)
 
-  none_filed : (entry : Entry) → IsFiled (new_layout levels) entry → ⊥
+  pub none_filed : (entry : Entry) → IsFiled (new_layout levels) entry → ⊥
   none_filed entry filed = no_file filed.file filed.there
 
   none_recorded : (r : Record) → IsRecorded (new_layout levels) r → ⊥
@@ -67,7 +67,7 @@ module _ (levels : ℕ) where
     | inr filed ↦ none_filed entry filed
   ]
 
-  runs_over : AllPairs IsOver (replicate levels [])
+  pub runs_over : AllPairs IsOver (replicate levels [])
   runs_over = λ i j d lt within entry older above below same.
       let bare : get_or (replicate levels []) i d ≡ [] = get_or-replicate levels i [] d (omega (arith, length-replicate levels (let none : List File = [] in none))) in
       absurd (none_in above.file (subst (λ run. Contains run above.file) bare above.there))

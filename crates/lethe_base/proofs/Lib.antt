@@ -6,3 +6,4 @@ pub mod LayoutLaws
 pub mod HeldLaws
 pub mod Overdue
 pub mod Newest
+pub mod FirstPut

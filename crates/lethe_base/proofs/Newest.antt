@@ -4,12 +4,12 @@ use Rattle.std.proofs.lemmas.List.Elements.{Contains-append_left, Contains-appen
 use Rattle.std.proofs.lemmas.Grind.{common_steps}
 use Rattle.std.specs.declared.cmp.Ordering.{Ordering}
 use Rattle.std.specs.declared.cmp.Ordering.TheVariants.{Less, Equal, Greater}
-use Rattle.std.specs.Ordering.{ordering_reverse}
+use Rattle.std.specs.Ordering.{ordering_reverse, is_eq}
 use Rattle.std.specs.Cmp.Lexicographic.{nat_list_cmp_total}
 use Rattle.std.specs.FinMap as finmap
 use Rattle.std.specs.FinMap.{slice_cmp-IsAntisymmetric, nat_cmp-IsAntisymmetric}
 use Rattle.lethe_base.specs.declared.entry.Entry.{Entry}
-use Rattle.lethe_base.specs.Keys.{Bytes, key_cmp}
+use Rattle.lethe_base.specs.Keys.{Bytes, key_cmp, same_key}
 use Rattle.lethe_base.specs.History.{History, after}
 use Rattle.lethe_base.specs.Layout.{Layout, File, Buffer, buffer_of, frozen_records, entries_of, files_of}
 use Rattle.lethe_base.specs.Held.{InFiles, IsFiled, InBuffer, Shows}
@@ -32,6 +32,22 @@ same_or_not a b = by (key_cmp a b) refl
     by Less is = inr (clash Less (λ e. absurd (let no : Less ≡ Greater = e in cc)) is)
     by Equal is = inl (slice_cmp-IsAntisymmetric nat_cmp-IsAntisymmetric a b is)
     by Greater is = inr (clash Greater (λ e. absurd (let no : Greater ≡ Less = e in cc)) is)
+
+pub same_key-self : (a : Bytes) → same_key a a ≡ true
+same_key-self a = by (key_cmp a a) refl
+  where
+    by : (o : Ordering) → key_cmp a a ≡ o → same_key a a ≡ true
+    by Less is = absurd (let no : Less ≡ Greater = sym is ∙ nat_list_cmp_total.antisymm a a ∙ ap ordering_reverse is in cc)
+    by Equal is = ap is_eq is
+    by Greater is = absurd (let no : Greater ≡ Less = sym is ∙ nat_list_cmp_total.antisymm a a ∙ ap ordering_reverse is in cc)
+
+pub same_key-true : (a b : Bytes) → same_key a b ≡ true → a ≡ b
+same_key-true a b is = by (key_cmp a b) refl
+  where
+    by : (o : Ordering) → key_cmp a b ≡ o → a ≡ b
+    by Less at = absurd (let no : false ≡ true = ap is_eq (sym at) ∙ is in cc)
+    by Equal at = slice_cmp-IsAntisymmetric nat_cmp-IsAntisymmetric a b at
+    by Greater at = absurd (let no : false ≡ true = ap is_eq (sym at) ∙ is in cc)
 
 -- the same entries have the same newest
 newest_same : (P Q : Entry → Type 0) (key : Bytes) → ((e : Entry) → P e → Q e) → ((e : Entry) → Q e → P e) → Newest P key → Newest Q key
@@ -90,14 +106,14 @@ newest_one entry key = elim (same_or_not entry.key key) [
   | inr unlike ↦ inr (λ other is same. unlike (ap (λ e. e.key) is ∙ same))
 ]
 
-first_or_rest : {X : Type 0} (x : X) (xs : List X) (y : X) → Contains (x ∷ xs) y → (x ≡ y) ⊎ Contains xs y
+pub first_or_rest : {X : Type 0} (x : X) (xs : List X) (y : X) → Contains (x ∷ xs) y → (x ≡ y) ⊎ Contains xs y
 first_or_rest x xs y there = by there.0 there.1 there.2
   where
     by : (k : ℕ) → k < suc (length xs) → slice_index_or (x ∷ xs) k y ≡ y → (x ≡ y) ⊎ Contains xs y
     by zero within is = inl is
     by (suc k) within is = inr (k, omega arith, is)
 
-first_is : {X : Type 0} (x : X) (xs : List X) (y : X) → x ≡ y → Contains (x ∷ xs) y
+pub first_is : {X : Type 0} (x : X) (xs : List X) (y : X) → x ≡ y → Contains (x ∷ xs) y
 first_is x xs y is = (0, omega arith, is)
 
 newest_in : (entries : List Entry) (key : Bytes) → Newest (Contains entries) key

@@ -21,3 +21,4 @@ pub mod SameMap
 pub mod Covered
 pub mod Fresh
 pub mod Covers
+pub mod Examples

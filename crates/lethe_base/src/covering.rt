@@ -8,6 +8,8 @@ ghost use Rattle.lethe_base.specs.Layout.{Layout, new_layout};
 ghost use Rattle.lethe_base.specs.Held.{Holds};
 ghost use Rattle.lethe_base.specs.Shapes.{IsValidShape, shape_of};
 ghost use Rattle.lethe_base.specs.Covers.{Covers};
+ghost use Rattle.lethe_base.specs.Examples.{put_alone, with_put};
+ghost use Rattle.lethe_base.specs.Keys.{Bytes};
 
 /// The cause of an erasure is the first change behind the put that erases it, so there is at most one.
 pub fn cause_is_first()
@@ -17,6 +19,12 @@ pub fn cause_is_first()
 /// A new store stands for the history without any change.
 pub fn new_layout_covers()
     ensures { (threshold levels : ℕ) → Covers threshold [] (new_layout levels) }
+{}
+
+/// With the record of a put, a new store stands for the history of that put.
+pub fn first_put_covers()
+    ensures { (threshold levels caller : ℕ) (key : Bytes) (dkey : ℕ) (value : Bytes)
+        → Covers threshold (put_alone caller key dkey value) (with_put levels key dkey value) }
 {}
 
 /// A new store's shape is one that a store may have.
