@@ -88,8 +88,8 @@ cause_at h place n key dkey value put erases first =
     let inside : place + n + 1 ≤ length h = erased_within h key dkey (place + n + 1) erases in
     let within : n < length (drop place h) = omega (arith, length-drop place h) in
     let at = position_is (is_eraser key dkey) (drop place h) n within
-        (λ k lt. missed k lt (omega arith) (is_eraser key dkey (get_or (drop place h) k spare)) refl)
-        (eraser_at h place n key dkey within erases) in
+    (λ k lt. missed k lt (omega arith) (is_eraser key dkey (get_or (drop place h) k spare)) refl)
+    (eraser_at h place n key dkey within erases) in
     ap (option_and_then (cause_behind h place)) put ∙ ap (option_map (λ between. place + between + 1)) at
   where
     missed : (k : ℕ) → k < n → k < length (drop place h) → (b : Bool) → is_eraser key dkey (get_or (drop place h) k spare) ≡ b
@@ -102,4 +102,4 @@ first_is_cause h place cause c =
     let later : place < cause = c.later in
     let there : place + (cause - place - 1) + 1 ≡ cause = omega arith in
     subst (λ p. cause_of h place ≡ Some p) there (cause_at h place (cause - place - 1) c.key c.dkey c.value c.put
-        (subst (IsErasedAt h c.key c.dkey) (sym there) c.erases) (λ k lt is. c.first (place + k + 1) (omega arith) (omega arith) is))
+    (subst (IsErasedAt h c.key c.dkey) (sym there) c.erases) (λ k lt is. c.first (place + k + 1) (omega arith) (omega arith) is))

@@ -1,9 +1,7 @@
 -- A store whose only record is a put.
-use Rattle.std.proofs.Common.{◌≡◌, ◌⊎◌, inl, inr, ℕ, ◌<◌, ◌≤◌, Bool, true, false, cond, List, [], ◌∷◌, Contains, Option, Some, None, refl, sym, ap, ◌∙◌, subst, arith}
+use Rattle.std.proofs.Common.{◌≡◌, inl, inr, ℕ, Bool, true, false, cond, [], Contains, Some, None, refl, sym, ap, ◌∙◌, subst, arith}
 use Rattle.std.specs.Cmp.Lexicographic.{nat_list_cmp_total}
 use Rattle.std.specs.FinMap as finmap
-use Rattle.lethe_base.specs.declared.call.Call.TheVariants.{Put, Delete, Erase}
-use Rattle.lethe_base.specs.declared.call.Did.TheVariants.{Done}
 use Rattle.lethe_base.specs.declared.entry.Body.TheVariants as body
 use Rattle.lethe_base.specs.declared.entry.Entry.{Entry}
 use Rattle.lethe_base.specs.declared.pending.Pending.{Pending}
@@ -11,14 +9,14 @@ use Rattle.lethe_base.specs.Keys.{Bytes, key_cmp, same_key}
 use Rattle.lethe_base.specs.History.{Pair, History, after}
 use Rattle.lethe_base.specs.Causes.{cause_of}
 use Rattle.lethe_base.specs.Matching.{answer_under}
-use Rattle.lethe_base.specs.Layout.{Layout, File, Record, Written, Erasing, written, buffer_of, files_of, new_layout}
-use Rattle.lethe_base.specs.Held.{IsFiled, InBuffer, Holds, Shows, Tells}
+use Rattle.lethe_base.specs.Layout.{Layout, Record, Written, Erasing, written, buffer_of}
+use Rattle.lethe_base.specs.Held.{InBuffer, Holds, Shows, Tells}
 use Rattle.lethe_base.specs.Placed.{IsPlaced}
 use Rattle.lethe_base.specs.Covers.{Covers}
 use Rattle.lethe_base.specs.Examples.{put_alone, with_put}
 use Rattle.lethe_base.proofs.LayoutLaws.{none_in, no_file, none_filed, runs_over}
 use Rattle.lethe_base.proofs.HeldLaws.{buffer_recorded}
-use Rattle.lethe_base.proofs.Newest.{first_is, first_or_rest, same_key-self, same_key-true}
+use Rattle.lethe_base.proofs.Newest.{first_or_rest, same_key-self, same_key-true}
 
 module _ (levels : ℕ) (caller : ℕ) (key : Bytes) (dkey : ℕ) (value : Bytes) where
   abbrev the_put : Entry

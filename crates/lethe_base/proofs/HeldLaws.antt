@@ -1,17 +1,16 @@
 -- What reads see, some object spells.
-use Rattle.std.proofs.Common.{◌≡◌, ◌⊎◌, inl, inr, ℕ, zero, suc, ◌<◌, Bool, true, false, cond, List, [], ◌∷◌, ◌++◌, fold, filter_map, Contains, Option, Some, None, refl, sym, ap, ◌∙◌, subst, arith}
+use Rattle.std.proofs.Common.{◌≡◌, ◌⊎◌, inl, inr, ℕ, Bool, true, false, cond, List, [], ◌∷◌, fold, filter_map, Contains, Some, None, refl, sym, ◌∙◌, subst, arith}
 use Rattle.std.proofs.lemmas.List.Elements.{Contains-append_right}
 use Rattle.std.specs.Cmp.Lexicographic.{nat_list_cmp_total}
 use Rattle.std.specs.FinMap as finmap
 use Rattle.lethe_base.specs.declared.entry.Entry.{Entry}
 use Rattle.lethe_base.specs.Keys.{Bytes, key_cmp, same_key}
 use Rattle.lethe_base.specs.Layout.{Layout, Record, Written, Blind, Erasing, Buffer, written, buffer_of, frozen_records}
-use Rattle.lethe_base.specs.Held.{IsRecorded, IsFiled, Holds, InBuffer, Shows}
+use Rattle.lethe_base.specs.Held.{Holds, InBuffer, Shows}
 
 -- the first of some records
 contains_first : (r : Record) (records : List Record) → Contains (r ∷ records) r
 contains_first r records = (0, omega arith, refl)
-
 
 from_buffer : (records : List Record) (buffer : Buffer) (key : Bytes) (entry : Entry) → finmap.get (fold (λ b e. finmap.insert b e.key e) buffer (filter_map written records)) key ≡ Some entry
     → (finmap.get buffer key ≡ Some entry) ⊎ Contains records (Written entry)

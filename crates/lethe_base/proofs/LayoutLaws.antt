@@ -1,14 +1,13 @@
 -- A new store's layout, which has no entry and no erase.
-use Rattle.std.proofs.Common.{◌≡◌, ◌⊎◌, inl, inr, ℕ, zero, suc, ◌+◌, ◌-◌, ◌<◌, ◌≤◌, List, [], ◌∷◌, ◌++◌, map, length, replicate, get_or, flat_map, Contains, All, AllPairs, Option, Some, None, refl, sym, ap, ◌∙◌, arith, subst}
+use Rattle.std.proofs.Common.{◌≡◌, inl, inr, ℕ, zero, suc, ◌+◌, ◌-◌, ◌<◌, List, [], ◌∷◌, length, replicate, get_or, flat_map, Contains, All, AllPairs, Some, None, refl, sym, ap, ◌∙◌, arith, subst}
 use Rattle.std.proofs.lemmas.List.{get_or-replicate, length-replicate}
 use Rattle.std.proofs.lemmas.List.Elements.{All-replicate}
 use Rattle.std.specs.FinMap as finmap
 use Rattle.lethe_base.specs.Keys.{key_cmp}
-use Rattle.lethe_base.specs.History.{History, after}
 use Rattle.lethe_base.specs.declared.entry.Entry.{Entry}
 use Rattle.lethe_base.specs.declared.pending.Pending.{Pending}
 use Rattle.lethe_base.specs.declared.shape.FileFacts.{FileFacts}
-use Rattle.lethe_base.specs.Layout.{File, Layout, Record, Written, Erasing, files_of, entries_of, runs_of, frozen_records, new_layout}
+use Rattle.lethe_base.specs.Layout.{File, Record, Written, Erasing, files_of, new_layout}
 use Rattle.lethe_base.specs.Held.{IsFiled, IsRecorded, Holds, Shows, Tells}
 use Rattle.lethe_base.specs.Shapes.{facts_from, shape_of, deepest_files, HasOtherNumber, HasRange, IsBare, IsBelow, IsValidShape}
 use Rattle.lethe_base.specs.NewerAbove.{IsOver}
@@ -16,7 +15,6 @@ use Rattle.lethe_base.specs.Covers.{Covers}
 
 pub none_in : {X : Type 0} (x : X) → Contains [] x → ⊥
 none_in x there = absurd (let lt : there.0 < 0 = there.1 in omega arith)
-
 
 -- lists without elements make one without elements
 flat_empty : (X : Type 0) (n : ℕ) → flat_map (λ xs. xs) (replicate n (let none : List X = [] in none)) ≡ []

@@ -1,6 +1,6 @@
 -- Of each key some entry that reads see is the newest, or none is of the key.
-use Rattle.std.proofs.Common.{◌≡◌, ◌⊎◌, inl, inr, ℕ, zero, suc, ◌<◌, ◌≤◌, List, [], ◌∷◌, ◌++◌, length, slice_index_or, Contains, Option, Some, None, refl, sym, ap, ◌∙◌, subst, arith, nat_le, Bool, true, false}
-use Rattle.std.proofs.lemmas.List.Elements.{Contains-append_left, Contains-append_right, Contains-append_cases}
+use Rattle.std.proofs.Common.{◌≡◌, ◌⊎◌, inl, inr, ℕ, zero, suc, ◌<◌, ◌≤◌, List, [], ◌∷◌, length, slice_index_or, Contains, Option, Some, None, refl, sym, ap, ◌∙◌, subst, arith, nat_le, Bool, true, false}
+use Rattle.std.proofs.lemmas.List.Elements.{Contains-append_right}
 use Rattle.std.proofs.lemmas.Grind.{common_steps}
 use Rattle.std.specs.declared.cmp.Ordering.{Ordering}
 use Rattle.std.specs.declared.cmp.Ordering.TheVariants.{Less, Equal, Greater}
@@ -13,7 +13,7 @@ use Rattle.lethe_base.specs.Keys.{Bytes, key_cmp, same_key}
 use Rattle.lethe_base.specs.History.{History, after}
 use Rattle.lethe_base.specs.Layout.{Layout, File, Buffer, buffer_of, frozen_records, entries_of, files_of}
 use Rattle.lethe_base.specs.Held.{InFiles, IsFiled, InBuffer, Shows}
-use Rattle.lethe_base.specs.SameMap.{IsNewest, IsMap}
+use Rattle.lethe_base.specs.SameMap.{IsNewest}
 use Rattle.lethe_base.specs.Covers.{Covers}
 
 -- the newest entry of the key, or that there is none
@@ -28,6 +28,7 @@ same_or_not a b = by (key_cmp a b) refl
     clash o odd is same =
         let self : key_cmp a a ≡ o = subst (λ x. key_cmp a x ≡ o) (sym same) is in
         odd (sym self ∙ nat_list_cmp_total.antisymm a a ∙ ap ordering_reverse self)
+
     by : (o : Ordering) → key_cmp a b ≡ o → (a ≡ b) ⊎ (a ≡ b → ⊥)
     by Less is = inr (clash Less (λ e. absurd (let no : Less ≡ Greater = e in cc)) is)
     by Equal is = inl (slice_cmp-IsAntisymmetric nat_cmp-IsAntisymmetric a b is)
@@ -61,44 +62,60 @@ newest_or : (P Q : Entry → Type 0) (key : Bytes) → Newest P key → Newest Q
 newest_or P Q key p q = elim p [
   | inl best ↦ elim q [
     | inl other ↦ by best.0 best.1 best.2 other.0 other.1 other.2 (nat_le other.0.seq best.0.seq) refl
-    | inr none ↦ inl (best.0, (record {
+    | inr none ↦ inl (
+      best.0,
+      (record {
         shown = inl best.1.shown;
         last = λ e is same. elim is [
           | inl shown ↦ best.1.last e shown same
           | inr shown ↦ absurd (none e shown (same ∙ best.2))
         ];
-      }), best.2)
+      }),
+      best.2,
+    )
   ]
   | inr none ↦ elim q [
-    | inl best ↦ inl (best.0, (record {
+    | inl best ↦ inl (
+      best.0,
+      (record {
         shown = inr best.1.shown;
         last = λ e is same. elim is [
           | inl shown ↦ absurd (none e shown (same ∙ best.2))
           | inr shown ↦ best.1.last e shown same
         ];
-      }), best.2)
+      }),
+      best.2,
+    )
     | inr neither ↦ inr (λ e is same. elim is [
-        | inl shown ↦ none e shown same
-        | inr shown ↦ neither e shown same
-      ])
+      | inl shown ↦ none e shown same
+      | inr shown ↦ neither e shown same
+    ])
   ]
 ]
   where
     by : (x : Entry) → IsNewest P x → x.key ≡ key → (y : Entry) → IsNewest Q y → y.key ≡ key → (b : Bool) → nat_le y.seq x.seq ≡ b → Newest (λ e. P e ⊎ Q e) key
-    by x best named y other called true is = let above : y.seq ≤ x.seq = grind (arith, common_steps) in inl (x, (record {
+    by x best named y other called true is = let above : y.seq ≤ x.seq = grind (arith, common_steps) in inl (
+      x,
+      (record {
         shown = inl best.shown;
         last = λ e there same. elim there [
           | inl shown ↦ best.last e shown same
           | inr shown ↦ let lower : e.seq ≤ y.seq = other.last e shown (same ∙ named ∙ sym called) in omega arith
         ];
-      }), named)
-    by x best named y other called false is = let above : x.seq ≤ y.seq = grind (arith, common_steps) in inl (y, (record {
+      }),
+      named,
+    )
+    by x best named y other called false is = let above : x.seq ≤ y.seq = grind (arith, common_steps) in inl (
+      y,
+      (record {
         shown = inr other.shown;
         last = λ e there same. elim there [
           | inl shown ↦ let lower : e.seq ≤ x.seq = best.last e shown (same ∙ called ∙ sym named) in omega arith
           | inr shown ↦ other.last e shown same
         ];
-      }), called)
+      }),
+      called,
+    )
 
 newest_one : (entry : Entry) (key : Bytes) → Newest (λ e. entry ≡ e) key
 newest_one entry key = elim (same_or_not entry.key key) [
@@ -144,14 +161,19 @@ newest_buffered buffer key = by (finmap.get buffer key) refl
   where
     at_key : (e : Entry) → InBuffer buffer e → e.key ≡ key → finmap.get buffer key ≡ Some e
     at_key e is same = ap (finmap.get buffer) (sym same) ∙ is
+
     by : (o : Option Entry) → finmap.get buffer key ≡ o → Newest (InBuffer buffer) key
     by None is = inr (λ e there same. absurd (let clash : None ≡ Some e = sym is ∙ at_key e there same in cc))
     by (Some entry) is = elim (same_or_not entry.key key) [
-      | inl named ↦ inl (entry, (record {
+      | inl named ↦ inl (
+        entry,
+        (record {
           shown = ap (finmap.get buffer) named ∙ is;
           last = λ e there same. let equal : Some entry ≡ Some e = sym is ∙ at_key e there (same ∙ named) in
-            let one : entry ≡ e = cc in let places : entry.seq ≡ e.seq = ap (λ x. x.seq) one in omega arith;
-        }), named)
+              let one : entry ≡ e = cc in let places : entry.seq ≡ e.seq = ap (λ x. x.seq) one in omega arith;
+        }),
+        named,
+      )
       | inr unlike ↦ inr (λ e there same. let equal : Some entry ≡ Some e = sym is ∙ at_key e there same in
           let one : entry ≡ e = cc in unlike (ap (λ x. x.key) one ∙ same))
     ]
@@ -159,7 +181,7 @@ newest_buffered buffer key = by (finmap.get buffer key) refl
 pub newest_shown : (l : Layout) (key : Bytes) → Newest (Shows l) key
 newest_shown l key = newest_or (λ e. InBuffer (buffer_of l.active) e ⊎ InBuffer (buffer_of (frozen_records l)) e) (IsFiled l) key
     (newest_or (InBuffer (buffer_of l.active)) (InBuffer (buffer_of (frozen_records l))) key
-      (newest_buffered (buffer_of l.active) key) (newest_buffered (buffer_of (frozen_records l)) key))
+    (newest_buffered (buffer_of l.active) key) (newest_buffered (buffer_of (frozen_records l)) key))
     (newest_filed (files_of l) key)
 
 -- histories that a layout stands for have one map

@@ -1,12 +1,12 @@
 -- Where a layout stands for a history, what it holds isn't overdue.
-use Rattle.std.proofs.Common.{◌≡◌, ◌⊎◌, inl, inr, ℕ, ◌+◌, ◌<◌, ◌≤◌, true, false, IsTrue, Option, Some, None, IsSomeAnd, option_map, option_and_then, refl, sym, ap, ◌∙◌, subst, arith}
+use Rattle.std.proofs.Common.{◌≡◌, ◌⊎◌, inl, inr, ℕ, ◌+◌, ◌<◌, ◌≤◌, true, false, IsTrue, Option, Some, None, IsSomeAnd, option_map, option_and_then, refl, ap, ◌∙◌, arith}
 use Rattle.lethe_base.specs.Keys.{Bytes}
 use Rattle.lethe_base.specs.Ranges.{Ends}
 use Rattle.lethe_base.specs.History.{History, Change, change_at, clock_before}
 use Rattle.lethe_base.specs.Causes.{done_call, done_at, is_eraser, erases_if, cause_of, IsErasedAt, IsOverdue}
 use Rattle.lethe_base.specs.Matching.{IsPut}
 use Rattle.lethe_base.specs.Layout.{Layout}
-use Rattle.lethe_base.specs.Held.{Holds, Shows}
+use Rattle.lethe_base.specs.Held.{Holds}
 use Rattle.lethe_base.specs.Covers.{Covers}
 use Rattle.lethe_base.specs.declared.call.Call.{Call}
 use Rattle.lethe_base.specs.declared.call.Call.TheVariants.{Put, Delete, Erase, Tick, Work}
@@ -40,19 +40,19 @@ module _ (threshold : ℕ) (h : History) (l : Layout) (covers : Covers threshold
   not_due : (cause : ℕ) → cause_of h entry.seq ≡ Some cause → l.clock < clock_before h cause + threshold
   not_due cause is = let first = cause_is_first h entry.seq cause is in elim (erased_is h first.key first.dkey cause first.erases) [
     | inl deleted ↦
-      let above = covers.deletes_covered entry swept cause deleted.0 held put is deleted.1 in
-      let there = shown_held l above.above above.shown in
-      let timed = covers.times_fresh.entries above.above there.0 above.since there.1 above.has in
-      let fresh : l.clock < above.since + threshold = timed.fresh in
-      let old : above.since ≤ clock_before h cause = above.old in
-      omega arith
+        let above = covers.deletes_covered entry swept cause deleted.0 held put is deleted.1 in
+        let there = shown_held l above.above above.shown in
+        let timed = covers.times_fresh.entries above.above there.0 above.since there.1 above.has in
+        let fresh : l.clock < above.since + threshold = timed.fresh in
+        let old : above.since ≤ clock_before h cause = above.old in
+        omega arith
     | inr erased ↦
-      let pending = (covers.erases_covered.pending entry swept cause erased.0 held put is erased.1).0 in
-      let timed = covers.times_fresh.erases pending.0 (inl pending.1) in
-      let accepted = covers.places.erases pending.0 (inl pending.1) in
-      let fresh : l.clock < pending.0.time + threshold = timed.fresh in
-      let same : pending.0.time ≡ clock_before h cause = accepted.timed ∙ ap (clock_before h) pending.2 in
-      omega arith
+        let pending = (covers.erases_covered.pending entry swept cause erased.0 held put is erased.1).0 in
+        let timed = covers.times_fresh.erases pending.0 (inl pending.1) in
+        let accepted = covers.places.erases pending.0 (inl pending.1) in
+        let fresh : l.clock < pending.0.time + threshold = timed.fresh in
+        let same : pending.0.time ≡ clock_before h cause = accepted.timed ∙ ap (clock_before h) pending.2 in
+        omega arith
   ]
 
 pub none_overdue : (threshold : ℕ) (h : History) (l : Layout) → Covers threshold h l → (entry : Entry) (swept : ℕ) → Holds l entry swept → IsPut entry.body

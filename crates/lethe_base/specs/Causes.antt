@@ -1,5 +1,5 @@
 -- When what was put is erased, and by which change.
-use Rattle.std.specs.Prelude.{◌≡◌, ℕ, ◌+◌, ◌<◌, ◌≤◌, Bool, true, false, ◌&&◌, IsTrue, drop, position, Option, Some, None, IsSomeAnd, option_map, option_and_then}
+use Rattle.std.specs.Prelude.{◌≡◌, ℕ, ◌+◌, ◌<◌, ◌≤◌, Bool, false, IsTrue, drop, position, Option, Some, None, IsSomeAnd, option_map, option_and_then}
 use Rattle.lethe_base.specs.Keys.{Bytes, same_key}
 use Rattle.lethe_base.specs.Ranges.{in_range}
 use Rattle.lethe_base.specs.History.{History, Change, change_at, clock_before}

@@ -34,7 +34,7 @@ HasErase erases place = (erase : Pending) × Contains erases erase × (erase.seq
 -- what was put and then erased by a range is still to be swept
 pub record ErasesAreCovered (h : History) (l : Layout) : Type 0 where
   pub pending : (entry : Entry) (swept cause : ℕ) (range : Ends) → Holds l entry swept → IsPut entry.body
-    → cause_of h entry.seq ≡ Some cause → done_at h cause ≡ Some (Erase range) → HasErase l.pending cause × (swept < cause)
+      → cause_of h entry.seq ≡ Some cause → done_at h cause ≡ Some (Erase range) → HasErase l.pending cause × (swept < cause)
   pub swept : (file : File) → Contains (files_of l) file → file.swept ≤ length h
   -- a file that isn't swept of a pending erase has no place above it
   pub unswept : (file : File) (erase : Pending) (entry : Entry) → Contains (files_of l) file → Contains l.pending erase

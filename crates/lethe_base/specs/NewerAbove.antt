@@ -1,5 +1,5 @@
 -- The order of a layout's parts: the newer stands above.
-use Rattle.std.specs.Prelude.{◌≡◌, ℕ, ◌<◌, ◌≤◌, List, AllPairs, Contains}
+use Rattle.std.specs.Prelude.{◌≡◌, ◌<◌, ◌≤◌, List, AllPairs, Contains}
 use Rattle.lethe_base.specs.declared.entry.Entry.{Entry}
 use Rattle.lethe_base.specs.Layout.{Layout, File, Record, Written, Buffer, place_of, buffer_of, frozen_records, runs_of}
 use Rattle.lethe_base.specs.Held.{InFiles, IsFiled, InBuffer}

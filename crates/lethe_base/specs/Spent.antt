@@ -1,5 +1,5 @@
 -- Erases that have nothing left to do.
-use Rattle.std.specs.Prelude.{◌⊎◌, ℕ, ◌≤◌, List, Contains}
+use Rattle.std.specs.Prelude.{◌⊎◌, ◌≤◌, List, Contains}
 use Rattle.lethe_base.specs.Matching.{IsPut}
 use Rattle.lethe_base.specs.Layout.{Layout, File, Written, files_of}
 use Rattle.lethe_base.specs.Held.{IsRecorded}

@@ -20,7 +20,10 @@ mod value;
 mod writing;
 
 pub use call::{Call, Did};
-pub use covering::{cause_is_first, first_put_covers, layout_has_one_map, new_layout_covers, new_shape_is_valid, none_is_overdue};
+pub use covering::{
+    cause_is_first, first_put_covers, layout_has_one_map, new_layout_covers, new_shape_is_valid,
+    none_is_overdue,
+};
 pub use entry::{Body, Entry};
 pub use front::{BodyKind, Front};
 pub use key::{Key, KeyRefused, MAX_KEY};
