@@ -1,17 +1,19 @@
 -- The cause of an erasure is the first change behind the put that erases it.
-use Rattle.std.proofs.Common.{◌≡◌, ℕ, zero, suc, ◌+◌, ◌-◌, ◌<◌, ◌≤◌, List, Bool, true, false, IsTrue, drop, length, get_or, position, Option, Some, None, option_map, option_and_then, IsSomeAnd, slice_get, refl, sym, ap, ◌∙◌, subst, arith, length-drop}
+use Rattle.std.proofs.Common.{◌≡◌, ◌⊎◌, inl, inr, ℕ, zero, suc, ◌+◌, ◌-◌, ◌<◌, ◌≤◌, List, Bool, true, false, IsTrue, drop, length, get_or, position, Option, Some, None, option_map, option_and_then, IsSomeAnd, slice_get, refl, sym, ap, ◌∙◌, subst, arith, length-drop}
 use Rattle.std.proofs.lemmas.Grind.{common_steps}
 use Rattle.std.proofs.lemmas.List.{get_or-drop}
 use Rattle.std.proofs.lemmas.List.Quantifiers.{position-Some}
-use Rattle.std.proofs.lemmas.List.Sums.{position_or_len_is}
+use Rattle.std.proofs.lemmas.List.Sums.{position_or_len_is, fails_before_first}
+use Rattle.std.proofs.lemmas.Bool.{cases_lt}
 use Rattle.std.proofs.lemmas.Option.{slice_get-get_or, slice_get_within}
 use Rattle.std.specs.List.{position_or_len}
 use Rattle.lethe_base.specs.Keys.{Bytes}
 use Rattle.lethe_base.specs.History.{History, Change, change_at}
-use Rattle.lethe_base.specs.Causes.{done_at, is_eraser, cause_behind, cause_of, IsErasedAt, IsCause}
+use Rattle.lethe_base.specs.Causes.{done_call, done_at, erases, erases_if, is_eraser, cause_behind, cause_of, IsErasedAt, IsCause}
 use Rattle.lethe_base.specs.declared.call.Call.{Call}
 use Rattle.lethe_base.specs.declared.call.Call.TheVariants.{Put, Delete, Erase, Tick, Work}
-use Rattle.lethe_base.specs.declared.call.Did.TheVariants.{Done}
+use Rattle.lethe_base.specs.declared.call.Did.{Did}
+use Rattle.lethe_base.specs.declared.call.Did.TheVariants.{Done, Failed}
 
 -- stands for what isn't there
 spare : Change
@@ -103,3 +105,33 @@ first_is_cause h place cause c =
     let there : place + (cause - place - 1) + 1 ≡ cause = omega arith in
     subst (λ p. cause_of h place ≡ Some p) there (cause_at h place (cause - place - 1) c.key c.dkey c.value c.put
     (subst (IsErasedAt h c.key c.dkey) (sym there) c.erases) (λ k lt is. c.first (place + k + 1) (omega arith) (omega arith) is))
+
+-- what is erased at a later place has a cause, at that place or before it
+pub cause_by : (h : History) (place n : ℕ) (key : Bytes) (dkey : ℕ) (value : Bytes) → done_at h place ≡ Some (Put key dkey value)
+    → IsErasedAt h key dkey (place + n + 1) → (cause : ℕ) × (cause_of h place ≡ Some cause) × (cause ≤ place + n + 1)
+cause_by h place n key dkey value put erases =
+    let inside : place + n + 1 ≤ length h = erased_within h key dkey (place + n + 1) erases in
+    let within : n < length (drop place h) = omega (arith, length-drop place h) in
+    let first : position_or_len (is_eraser key dkey) (drop place h) ≤ n = not_past (eraser_at h place n key dkey within erases) (cases_lt n (position_or_len (is_eraser key dkey) (drop place h))) in
+    let found : position (is_eraser key dkey) (drop place h) ≡ Some (position_or_len (is_eraser key dkey) (drop place h)) = grind (arith, common_steps) in
+    (place + position_or_len (is_eraser key dkey) (drop place h) + 1,
+      ap (option_and_then (cause_behind h place)) put ∙ ap (option_map (λ between. place + between + 1)) found,
+      omega arith)
+  where
+    not_past : is_eraser key dkey (get_or (drop place h) n spare) ≡ true → (n < position_or_len (is_eraser key dkey) (drop place h)) ⊎ (position_or_len (is_eraser key dkey) (drop place h) ≤ n)
+        → position_or_len (is_eraser key dkey) (drop place h) ≤ n
+    not_past hit cases = elim cases [
+      | inl before ↦ absurd (let clash : true ≡ false = sym hit ∙ fails_before_first (is_eraser key dkey) (drop place h) n spare before in cc)
+      | inr behind ↦ behind
+    ]
+
+-- a done call that erases the pair erases it at its place
+pub erased_by : (h : History) (place : ℕ) (call : Call) (key : Bytes) (dkey : ℕ) → done_at h place ≡ Some call → erases key dkey call ≡ true → IsErasedAt h key dkey place
+erased_by h place call key dkey is hit = by (change_at h place) is
+  where
+    of_did : (did : Did) (made : Call) → done_call did made ≡ Some call → IsTrue (erases_if key dkey did made)
+    of_did Done made is = let same : made ≡ call = cc in subst (λ c. erases key dkey c ≡ true) (sym same) hit
+    of_did (Failed before after) made is = absurd (let clash : None ≡ Some call = is in cc)
+    by : (o : Option Change) → option_and_then (λ change. done_call change.did change.call) o ≡ Some call → IsSomeAnd o (λ change. IsTrue (is_eraser key dkey change))
+    by None is = absurd (let clash : None ≡ Some call = is in cc)
+    by (Some change) is = of_did change.did change.call is

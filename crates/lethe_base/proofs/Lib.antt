@@ -7,3 +7,4 @@ pub mod HeldLaws
 pub mod Overdue
 pub mod Newest
 pub mod FirstPut
+pub mod Shorter

@@ -33,7 +33,7 @@ pub record Layout : Type 0 where
   pub certificate : ℕ
   -- the accepted erases that are still to be carried out
   pub pending : List Pending
-  -- the records of the segments, oldest first
+  -- the records of the active segment, and of the frozen one if there is one, oldest first
   pub active : List Record
   pub frozen : Option (List Record)
   -- from level 0 down; in level 0 the newest file first, in the others the one of the lowest keys

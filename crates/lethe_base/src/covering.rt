@@ -1,11 +1,13 @@
 //! Laws of what a store's layout stands for. The functions do nothing: their contracts are the laws.
-ghost use Rattle.std.specs.Prelude.{◌≡◌, ◌↔◌, ℕ, [], Some};
+ghost use Rattle.std.specs.Prelude.{◌≡◌, ◌↔◌, ℕ, List, [], Some};
 ghost use Rattle.lethe_base.specs.declared.entry.Entry.{Entry};
+ghost use Rattle.lethe_base.specs.declared.pending.Pending.{Pending};
 ghost use Rattle.lethe_base.specs.History.{History, after};
 ghost use Rattle.lethe_base.specs.Causes.{IsCause, IsOverdue, cause_of};
 ghost use Rattle.lethe_base.specs.Matching.{IsPut};
 ghost use Rattle.lethe_base.specs.Layout.{Layout, new_layout};
 ghost use Rattle.lethe_base.specs.Held.{Holds};
+ghost use Rattle.lethe_base.specs.Spent.{IsShorter};
 ghost use Rattle.lethe_base.specs.Shapes.{IsValidShape, shape_of};
 ghost use Rattle.lethe_base.specs.Covers.{Covers};
 ghost use Rattle.lethe_base.specs.Examples.{put_alone, with_put};
@@ -43,4 +45,11 @@ pub fn none_is_overdue()
 pub fn layout_has_one_map()
     ensures { (threshold : ℕ) (h g : History) (l : Layout) → Covers threshold h l → Covers threshold g l
         → (after h).map ≡ (after g).map }
+{}
+
+/// Without erases that are spent a layout stands for the same history.
+pub fn spent_erases_may_go()
+    ensures { (threshold : ℕ) (h : History) (l : Layout) → Covers threshold h l
+        → (pending : List Pending) → IsShorter l pending
+        → Covers threshold h (record l { pending = pending }) }
 {}

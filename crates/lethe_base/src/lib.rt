@@ -22,7 +22,7 @@ mod writing;
 pub use call::{Call, Did};
 pub use covering::{
     cause_is_first, first_put_covers, layout_has_one_map, new_layout_covers, new_shape_is_valid,
-    none_is_overdue,
+    none_is_overdue, spent_erases_may_go,
 };
 pub use entry::{Body, Entry};
 pub use front::{BodyKind, Front};

@@ -19,9 +19,9 @@ pub struct FileFacts {
     pub tombs: u64,
     /// How many entries it has, tombstones included.
     pub entries: u64,
-    /// The greatest place of its entries in the history.
+    /// The greatest place in the history of one of its entries.
     pub max_seq: u64,
-    /// The place up to which each accepted erase has been applied to the file.
+    /// Each accepted erase of a place up to this one has been applied to the file.
     pub swept: u64,
 }
 
