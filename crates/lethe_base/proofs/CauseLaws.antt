@@ -113,10 +113,11 @@ cause_by h place n key dkey value put erases =
     let inside : place + n + 1 ≤ length h = erased_within h key dkey (place + n + 1) erases in
     let within : n < length (drop place h) = omega (arith, length-drop place h) in
     let first : position_or_len (is_eraser key dkey) (drop place h) ≤ n = not_past (eraser_at h place n key dkey within erases) (cases_lt n (position_or_len (is_eraser key dkey) (drop place h))) in
-    let found : position (is_eraser key dkey) (drop place h) ≡ Some (position_or_len (is_eraser key dkey) (drop place h)) = grind (arith, common_steps) in
-    (place + position_or_len (is_eraser key dkey) (drop place h) + 1,
+    let found : position (is_eraser key dkey) (drop place h) ≡ Some (position_or_len (is_eraser key dkey) (drop place h)) = grind (arith, common_steps) in (
+      place + position_or_len (is_eraser key dkey) (drop place h) + 1,
       ap (option_and_then (cause_behind h place)) put ∙ ap (option_map (λ between. place + between + 1)) found,
-      omega arith)
+      omega arith,
+    )
   where
     not_past : is_eraser key dkey (get_or (drop place h) n spare) ≡ true → (n < position_or_len (is_eraser key dkey) (drop place h)) ⊎ (position_or_len (is_eraser key dkey) (drop place h) ≤ n)
         → position_or_len (is_eraser key dkey) (drop place h) ≤ n
@@ -132,6 +133,7 @@ erased_by h place call key dkey is hit = by (change_at h place) is
     of_did : (did : Did) (made : Call) → done_call did made ≡ Some call → IsTrue (erases_if key dkey did made)
     of_did Done made is = let same : made ≡ call = cc in subst (λ c. erases key dkey c ≡ true) (sym same) hit
     of_did (Failed before after) made is = absurd (let clash : None ≡ Some call = is in cc)
+
     by : (o : Option Change) → option_and_then (λ change. done_call change.did change.call) o ≡ Some call → IsSomeAnd o (λ change. IsTrue (is_eraser key dkey change))
     by None is = absurd (let clash : None ≡ Some call = is in cc)
     by (Some change) is = of_did change.did change.call is

@@ -1,23 +1,22 @@
 -- A layout stands for its history also without the erases that are spent.
-use Rattle.std.proofs.Common.{◌≡◌, ◌⊎◌, inl, inr, ℕ, ◌+◌, ◌-◌, ◌<◌, ◌≤◌, Bool, true, false, nat_lt, ◌&&◌, ◌||◌, if◌then◌else◌, List, [], ◌∷◌, Contains, Option, Some, None, refl, sym, ap, ◌∙◌, subst, arith}
+use Rattle.std.proofs.Common.{◌≡◌, inl, inr, ℕ, ◌+◌, ◌-◌, ◌<◌, ◌≤◌, Bool, true, false, nat_lt, ◌&&◌, ◌||◌, if◌then◌else◌, List, [], ◌∷◌, Contains, Some, None, refl, sym, ap, ◌∙◌, subst, arith}
 use Rattle.std.proofs.lemmas.Grind.{common_steps}
 use Rattle.std.proofs.lemmas.List.Elements.{Contains-append_right}
 use Rattle.std.specs.Cmp.{both_ways}
 use Rattle.std.specs.List.{list_any}
-use Rattle.std.specs.FinMap as finmap
 use Rattle.lethe_base.specs.Ranges.{in_range}
 use Rattle.lethe_base.specs.Keys.{Bytes}
-use Rattle.lethe_base.specs.History.{Pair, History, after}
-use Rattle.lethe_base.specs.Causes.{done_at, cause_of, IsErasedAt}
+use Rattle.lethe_base.specs.History.{Pair, History}
+use Rattle.lethe_base.specs.Causes.{done_at, IsErasedAt}
 use Rattle.lethe_base.specs.Matching.{IsPut, matches, pair_under, answer_under}
-use Rattle.lethe_base.specs.Layout.{Layout, File}
+use Rattle.lethe_base.specs.Layout.{Layout}
 use Rattle.lethe_base.specs.Held.{Holds, Shows, Tells}
 use Rattle.lethe_base.specs.Spent.{IsSpent, IsShorter}
 use Rattle.lethe_base.specs.Placed.{IsPlaced}
 use Rattle.lethe_base.specs.SameMap.{IsNewest}
 use Rattle.lethe_base.specs.Covered.{HasErase}
 use Rattle.lethe_base.specs.Covers.{Covers}
-use Rattle.lethe_base.specs.declared.call.Call.TheVariants.{Put, Delete, Erase}
+use Rattle.lethe_base.specs.declared.call.Call.TheVariants.{Put, Erase}
 use Rattle.lethe_base.specs.declared.entry.Body.{Body}
 use Rattle.lethe_base.specs.declared.entry.Body.TheVariants as body
 use Rattle.lethe_base.specs.declared.entry.Entry.{Entry}
@@ -31,7 +30,7 @@ use Rattle.lethe_base.proofs.Overdue.{erased_is}
 any_found : {X : Type 0} (p : X → Bool) (xs : List X) → list_any p xs ≡ true → (x : X) × Contains xs x × (p x ≡ true)
 any_found p [] is = absurd (let clash : false ≡ true = is in cc)
 any_found p (x ∷ xs) is = by (p x) refl
-  (λ rest. let found = any_found p xs rest in (found.0, Contains-append_right (x ∷ []) xs found.0 found.1, found.2))
+    (λ rest. let found = any_found p xs rest in (found.0, Contains-append_right (x ∷ []) xs found.0 found.1, found.2))
   where
     by : (b : Bool) → p x ≡ b → (list_any p xs ≡ true → (y : _) × Contains (x ∷ xs) y × (p y ≡ true)) → (y : _) × Contains (x ∷ xs) y × (p y ≡ true)
     by true at rest = (x, first_is x xs x refl, at)
@@ -80,25 +79,25 @@ module _ (threshold : ℕ) (h : History) (l : Layout) (covers : Covers threshold
       let upto : cause.0 ≤ entry.seq + (erase.seq - entry.seq - 1) + 1 = cause.2 in
       elim (erased_is h first.key first.dkey cause.0 first.erases) [
         | inl deleted ↦
-          let above = covers.deletes_covered entry held.0 cause.0 deleted.0 held.1 put cause.1 deleted.1 in
-          let last : above.above.seq ≤ entry.seq = newest.last above.above above.shown above.same in
-          let newer : entry.seq < above.above.seq = above.newer in
-          absurd (omega arith)
+            let above = covers.deletes_covered entry held.0 cause.0 deleted.0 held.1 put cause.1 deleted.1 in
+            let last : above.above.seq ≤ entry.seq = newest.last above.above above.shown above.same in
+            let newer : entry.seq < above.above.seq = above.newer in
+            absurd (omega arith)
         | inr swept ↦
-          let unswept : held.0 < cause.0 = (covers.erases_covered.pending entry held.0 cause.0 swept.0 held.1 put cause.1 swept.1).1 in
-          not_cause entry held.0 erase held.1 put spent below (omega arith)
+            let unswept : held.0 < cause.0 = (covers.erases_covered.pending entry held.0 cause.0 swept.0 held.1 put cause.1 swept.1).1 in
+            not_cause entry held.0 erase held.1 put spent below (omega arith)
       ]
 
   module _ (pending : List Pending) (shorter : IsShorter l pending) where
     same_any : (entry : Entry) (dkey : ℕ) (value : Bytes) → IsNewest (Shows l) entry → entry.body ≡ body.Put dkey value
         → list_any (λ erase. matches erase entry.seq dkey) pending ≡ list_any (λ erase. matches erase entry.seq dkey) l.pending
     same_any entry dkey value newest is = both_ways _ _
-      (λ some. let found = any_found (λ erase. matches erase entry.seq dkey) pending some in
+        (λ some. let found = any_found (λ erase. matches erase entry.seq dkey) pending some in
         any_made (λ erase. matches erase entry.seq dkey) l.pending found.0 (shorter.known found.0 found.1) found.2)
-      (λ some. let found = any_found (λ erase. matches erase entry.seq dkey) l.pending some in elim (shorter.spent found.0 found.1) [
-        | inl there ↦ any_made (λ erase. matches erase entry.seq dkey) pending found.0 there found.2
-        | inr spent ↦ absurd (missed entry dkey value found.0 newest is found.1 spent found.2)
-      ])
+        (λ some. let found = any_found (λ erase. matches erase entry.seq dkey) l.pending some in elim (shorter.spent found.0 found.1) [
+          | inl there ↦ any_made (λ erase. matches erase entry.seq dkey) pending found.0 there found.2
+          | inr spent ↦ absurd (missed entry dkey value found.0 newest is found.1 spent found.2)
+        ])
 
     same_answer : (entry : Entry) → IsNewest (Shows l) entry → answer_under pending entry ≡ answer_under l.pending entry
     same_answer entry newest = by entry.body refl
