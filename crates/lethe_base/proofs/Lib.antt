@@ -2,3 +2,10 @@ pub mod Histories
 pub mod FieldLaws
 pub mod EntryLaws
 pub mod Configurations
+pub mod CauseLaws
+pub mod LayoutLaws
+pub mod HeldLaws
+pub mod Overdue
+pub mod Newest
+pub mod FirstPut
+pub mod Shorter

@@ -10,3 +10,16 @@ pub mod Numbers
 pub mod Spelling
 pub mod Reading
 pub mod Configuration
+pub mod Causes
+pub mod Matching
+pub mod Layout
+pub mod Held
+pub mod Shapes
+pub mod Spent
+pub mod Placed
+pub mod NewerAbove
+pub mod SameMap
+pub mod Covered
+pub mod Fresh
+pub mod Covers
+pub mod Examples

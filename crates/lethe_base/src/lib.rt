@@ -3,6 +3,7 @@
 
 mod call;
 mod config;
+mod covering;
 mod entry;
 mod front;
 mod key;
@@ -15,11 +16,16 @@ mod number;
 mod pending;
 mod range;
 mod reading;
+mod shape;
 mod value;
 mod writing;
 
 pub use call::{Call, Did};
 pub use config::{Config, ConfigRefused, Field, Fields, MAX_FILE_ENTRIES, Pick};
+pub use covering::{
+    cause_is_first, first_put_covers, layout_has_one_map, new_layout_covers, new_shape_is_valid,
+    none_is_overdue, spent_erases_may_go,
+};
 pub use entry::{Body, Entry};
 pub use front::{BodyKind, Front};
 pub use key::{Key, KeyRefused, MAX_KEY};
@@ -32,6 +38,7 @@ pub use number::{take_u8, take_u16, take_u32, take_u64};
 pub use pending::Pending;
 pub use range::Range;
 pub use reading::{EntryRefused, read_body, read_entry, read_front, read_key, read_place};
+pub use shape::{FileFacts, Shape};
 pub use value::{MAX_VALUE, Value, ValueRefused};
 pub use writing::{entry_len, write_entry};
 
