@@ -4,6 +4,3 @@
 mod records;
 
 pub use records::append;
-
-#[cfg(test)]
-mod tests;

@@ -8,8 +8,8 @@ use Rattle.lethe_segment.specs.declared.record.Record.{Record}
 use Rattle.lethe_segment.specs.declared.record.Record.TheVariants.{Blind}
 use Rattle.lethe_segment.specs.Records.{record_bytes}
 use Rattle.lethe_commit.specs.Append.{Addition, EndsAt, IsReady, HasRecords, IsAppended}
-use Rattle.lethe_commit.specs.declared.tests.TheConstants.{SEGMENT}
-use Rattle.lethe_commit.proofs.tests.append_one.Goals as goal
+use Rattle.lethe_rows.specs.declared.appends.TheConstants.{SEGMENT}
+use Rattle.lethe_rows.proofs.appends.append_one.Goals as goal
 
 abbrev first : Addition
 first = record { number = 3; records = []; next = Blind 1 }

@@ -5,8 +5,8 @@ ghost use Rattle.lethe_disk.specs.Runs.{Throughout};
 ghost use Rattle.lethe_memdisk.specs.Held.{seen_of, calls_of};
 ghost use Rattle.lethe_commit.specs.Append.{EndsAt};
 
-use super::*;
 use lethe_base::{Kind, Name};
+use lethe_commit::append;
 use lethe_disk::{Disk, DiskRefused};
 use lethe_memdisk::MemDisk;
 use lethe_segment::{Record, new_segment, replay, write_record};
