@@ -1,5 +1,6 @@
 -- A disk in memory: what it held and which calls it took, and which of its calls fail.
-use Rattle.std.specs.Prelude.{◌≡◌, ◌≤◌, ◌<◌, ℕ, ◌+◌, ◌-◌, ◌^◌, ◌||◌, ◌==◌, min, nat_lt, Bool, false, if◌then◌else◌, List, [], ◌∷◌, length, drop, Option, Some, None, Result, Ok, Err, IsErrOf, IsTrue, ◌↔◌}
+use Rattle.std.specs.Prelude.{◌≡◌, ◌≤◌, ◌<◌, ℕ, ◌+◌, ◌-◌, ◌^◌, ◌||◌, ◌==◌, min, nat_lt, Bool, false, if◌then◌else◌, List, [], ◌∷◌, length, drop, Option, Some, None, Result, Ok, Err, IsErrOf, IsTrue, ◌↔◌, refl}
+use Rattle.std.specs.Coded.{Coded, code_by, coded_ℕ, coded_list, coded_option, coded×}
 use Rattle.std.specs.List.{list_any}
 use Rattle.std.specs.FinMap.{insert}
 use Rattle.lethe_base.specs.declared.name.Name.{Name}
@@ -7,8 +8,9 @@ use Rattle.lethe_disk.specs.Directory.{Directory}
 use Rattle.lethe_disk.specs.Disk.{Seen, Takes, HasCause}
 use Rattle.lethe_disk.specs.declared.disk.DiskRefused.{DiskRefused}
 use Rattle.lethe_disk.specs.declared.disk.DiskRefused.TheVariants.{Failed, NoMemory}
-use Rattle.lethe_memdisk.specs.Effects.{Effect, after, Step, Images, crashed}
-use Rattle.lethe_memdisk.specs.Effects.{Nothing}
+use Rattle.lethe_memdisk.specs.Objects.{directory_code}
+use Rattle.lethe_memdisk.specs.Codes.{effects_code}
+use Rattle.lethe_memdisk.specs.Effects.{Effect, Nothing, after, Step, Images, crashed}
 
 pub record Held : Type 0 where
   -- what it held, all of it synced, before the calls whose effects it keeps
@@ -24,6 +26,11 @@ pub record Held : Type 0 where
   -- the number of the last call that the fuse lets pass, where one burns
   pub fuse : Option ℕ
   pub faults : ℕ
+
+-- how it is stored
+abbrev pub held_code : Coded Held
+held_code = code_by (Directory × (ℕ × (List Effect × (ℕ × (List ℕ × (Option ℕ × ℕ)))))) (coded× directory_code (coded× coded_ℕ (coded× effects_code (coded× coded_ℕ (coded× (coded_list coded_ℕ) (coded× (coded_option coded_ℕ) coded_ℕ)))))) (λ h. (h.start, (h.earlier, (h.effects, (h.room, (h.failing, (h.fuse, h.faults)))))))
+    (λ p. record { start = p.0; earlier = (p.1).0; effects = ((p.1).1).0; room = (((p.1).1).1).0; failing = ((((p.1).1).1).1).0; fuse = (((((p.1).1).1).1).1).0; faults = (((((p.1).1).1).1).1).1 }) (λ _. refl)
 
 -- the calls that it kept and has room to keep, by how many there are
 pub record IsRoomy (earlier kept room kept_room : ℕ) : Type 0 where

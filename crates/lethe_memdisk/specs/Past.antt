@@ -1,9 +1,12 @@
 -- Objects with the calls that made them, as what they began from and what the calls did.
-use Rattle.std.specs.Prelude.{◌≤◌, ℕ, List, [], ◌∷◌, length, drop, reverse, ◌-◌, Bool}
+use Rattle.std.specs.Prelude.{◌≤◌, ℕ, List, [], ◌∷◌, length, drop, reverse, ◌-◌, Bool, refl}
+use Rattle.std.specs.Coded.{Coded, code_by, coded_ℕ, coded×}
 use Rattle.std.specs.FinMap.{insert}
 use Rattle.lethe_base.specs.declared.name.Name.{Name}
 use Rattle.lethe_disk.specs.Directory.{Directory}
 use Rattle.lethe_memdisk.specs.declared.past.Call.{Call}
+use Rattle.lethe_memdisk.specs.Objects.{directory_code}
+use Rattle.lethe_memdisk.specs.Codes.{effects_code}
 use Rattle.lethe_memdisk.specs.Effects.{Effect, after, crashed}
 use Rattle.lethe_memdisk.specs.Undo.{start_of, effects_of, Follows}
 
@@ -13,6 +16,10 @@ pub record Kept : Type 0 where
   pub effects : List Effect
   -- how many calls can be kept
   pub room : ℕ
+
+-- how it is stored
+abbrev pub kept_code : Coded Kept
+kept_code = code_by (Directory × (List Effect × ℕ)) (coded× directory_code (coded× effects_code coded_ℕ)) (λ k. (k.start, (k.effects, k.room))) (λ p. record { start = p.0; effects = (p.1).0; room = (p.1).1 }) (λ _. refl)
 
 -- the objects now, and the calls, the earliest first
 abbrev pub kept_of : Directory → List Call → ℕ → Kept

@@ -17,22 +17,22 @@ use std::marker::Model;
 pub struct MemDisk {
     alloc: Global,
     past: Past,
+    // How many calls it had taken before those in `past`.
     earlier: u64,
     room: u64,
     failing: Vec<u64>,
+    // The number of the last call that passes. It is wide enough for any fuse after any number of calls.
     fuse: Option<u128>,
     faults: u64,
 }
 
 impl Model for MemDisk {
     ghost use Rattle.std.specs.Prelude.{length};
-    ghost use Rattle.std.specs.Coded.{codes};
-    ghost use Rattle.lethe_memdisk.specs.Objects.{directory_code};
-    ghost use Rattle.lethe_memdisk.specs.Held.{Held, IsRoomy};
+    ghost use Rattle.lethe_memdisk.specs.Held.{Held, held_code, IsRoomy};
 
     ghost Value = { Held };
 
-    ghost coded = { Prim.hlevel (codes, directory_code) };
+    ghost coded = { held_code };
 
     ghost view = { λ d. record { start = d.past.start; earlier = d.earlier; effects = d.past.effects; room = d.room; failing = d.failing.items; fuse = d.fuse; faults = d.faults } };
 

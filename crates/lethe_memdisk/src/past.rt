@@ -49,13 +49,11 @@ pub struct Past {
 
 impl Model for Past {
     ghost use Rattle.std.specs.Prelude.{vec_capacity};
-    ghost use Rattle.std.specs.Coded.{codes};
-    ghost use Rattle.lethe_memdisk.specs.Objects.{directory_code};
-    ghost use Rattle.lethe_memdisk.specs.Past.{Kept, kept_of, IsKept};
+    ghost use Rattle.lethe_memdisk.specs.Past.{Kept, kept_code, kept_of, IsKept};
 
     ghost Value = { Kept };
 
-    ghost coded = { Prim.hlevel (codes, directory_code) };
+    ghost coded = { kept_code };
 
     ghost view = { λ p. kept_of p.objects p.calls.items p.room };
 
