@@ -1,11 +1,12 @@
 //! Appends to a disk in memory, and what a crash leaves of them.
-ghost use Rattle.std.specs.Prelude.{◌≡◌, ◌+◌, [], Some, IfOk, IsTrue, IsSome};
+ghost use Rattle.std.specs.Prelude.{◌≡◌, ◌<◌, ◌+◌, [], Some, IfOk, IsTrue, IsSome};
 ghost use Rattle.lethe_disk.specs.Directory.{object};
 ghost use Rattle.lethe_disk.specs.Runs.{Throughout};
 ghost use Rattle.lethe_memdisk.specs.Held.{seen_of, calls_of};
+ghost use Rattle.lethe_segment.specs.Records.{RecordHasSpelling, record_seq};
 ghost use Rattle.lethe_commit.specs.Append.{EndsAt};
 
-use lethe_base::{Kind, Name};
+use lethe_base::{Body, Entry, Key, Kind, Name, Value};
 use lethe_commit::append;
 use lethe_disk::{Disk, DiskRefused};
 use lethe_memdisk::MemDisk;
@@ -33,14 +34,32 @@ fn disk_of_a_segment(alloc: Global, failing: Vec<u64>) -> Result<MemDisk, Fail>
     Ok(disk)
 }
 
-// Appends a blind delete to the new segment, and answers whether that was done.
-fn append_one(alloc: Global, disk: &mut MemDisk) -> Result<bool, Fail>
-    requires { EndsAt (seen_of disk.old) SEGMENT 3 [] 11 }
+// The put of key `a`, delete key 5, value `x` at place 1.
+fn first_put(alloc: Global) -> Result<Record, Fail>
+    ensures spelled { IfOk result RecordHasSpelling }
+    ensures place { IfOk result (λ item. 0 < record_seq item) }
+{
+    Ok(Record::Entry(Entry {
+        seq: 1,
+        key: Key::new(b"a".to_vec(alloc)?)?,
+        body: Body::Put {
+            dkey: 5,
+            value: Value::new(b"x".to_vec(alloc)?)?,
+        },
+        since: None,
+    }))
+}
+
+// Appends a record to the new segment, and answers whether that was done.
+fn append_one(alloc: Global, disk: &mut MemDisk, item: &Record) -> Result<bool, Fail>
+    requires ready { EndsAt (seen_of disk.old) SEGMENT 3 [] 11 }
+    requires spelled { RecordHasSpelling item.now }
+    requires place { 0 < record_seq item.now }
     ensures there { IfOk result (λ done. Throughout (λ c. IsSome (object c SEGMENT)) (seen_of disk.old) (seen_of disk.new)) }
     ensures now { IfOk result (λ done. IsSome (object (seen_of disk.new).directory SEGMENT)) }
     ensures calls { IfOk result (λ done. IsTrue done → calls_of disk.new ≡ calls_of disk.old + 4) }
 {
-    let body = write_record(alloc, &Record::Blind { seq: 1 })?;
+    let body = write_record(alloc, item)?;
     match append(alloc, disk, SEGMENT, 11, &body) {
         Ok(()) => Ok(true),
         Err(DiskRefused::Failed) => Ok(false),
@@ -65,7 +84,7 @@ fn count(alloc: Global, disk: &mut MemDisk) -> Result<usize, Fail>
 fn an_append_that_a_crash_cuts_short_counts_from_its_gate_on(rt: HostRuntime) -> Result<(), Fail> {
     let alloc = rt.alloc();
     let mut disk = disk_of_a_segment(alloc, Vec::new(alloc))?;
-    if !append_one(alloc, &mut disk)? {
+    if !append_one(alloc, &mut disk, &first_put(alloc)?)? {
         return Err(Fail::new("an append"));
     }
     let images = [
@@ -96,7 +115,8 @@ fn an_append_fails_where_the_disk_does(rt: HostRuntime) -> Result<(), Fail> {
     ];
     for (failing, done, records) in rows {
         let mut disk = disk_of_a_segment(alloc, vec![in alloc; failing]?)?;
-        assert_eq!(rt; append_one(alloc, &mut disk)?, done);
+        let put = first_put(alloc)?;
+        assert_eq!(rt; append_one(alloc, &mut disk, &put)?, done);
         assert_eq!(rt; count(alloc, &mut disk)?, records);
     }
     Ok(())
