@@ -208,6 +208,7 @@ only_manifest result bytes gives m fits e = told result gives
   where
     read : manifest_at bytes ≡ Ok m
     read = ap manifest_at e ∙ manifest_again m fits
+
     told : (result : Result Manifest ManifestRefused) → Gives result (manifest_at bytes) → MatchResult result (λ read. read ≡ m) (λ why. why ≡ NoMemory)
     told (Ok x) gives = ok_is x m (sym gives ∙ read)
     told (Err (Short at)) gives = absurd (differ (Short at) m (sym gives ∙ read))
