@@ -1,5 +1,5 @@
 -- A number that is read in its range stands there, and one that stands there is read.
-use Rattle.std.proofs.Common.{◌≡◌, ℕ, ◌+◌, ◌^◌, ◌<◌, ◌≤◌, Bool, true, false, cond, leb, List, [], ◌∷◌, length, get_or, Option, Some, None, Result, Ok, Err, refl, ap, subst, arith}
+use Rattle.std.proofs.Common.{◌≡◌, ℕ, ◌+◌, ◌^◌, ◌<◌, Bool, true, false, cond, leb, List, [], ◌∷◌, Option, Some, None, Result, Ok, Err, refl, ap, subst, arith}
 use Rattle.std.specs.Prelude.{ok_or}
 use Rattle.std.specs.Int.{Width, w8, w32, byte_len, to_be_bytes, is_in_range, IsInRange}
 use Rattle.std.proofs.lemmas.Bool.{and_from, le-leb}
@@ -9,7 +9,7 @@ use Rattle.lethe_base.specs.Reading.{StandsAt}
 use Rattle.lethe_base.specs.declared.reading.EntryRefused.TheVariants as entry
 use Rattle.lethe_base.proofs.FieldLaws.{IsWide, number_stands, number_again, byte_stands, first_byte}
 use Rattle.lethe_base.proofs.Configurations.{in_range}
-use Rattle.lethe_manifest.specs.Reading.{◌>>=◌, in_place, number_within}
+use Rattle.lethe_manifest.specs.Reading.{◌>>=◌, number_within}
 use Rattle.lethe_manifest.specs.declared.reading.ManifestRefused.{ManifestRefused}
 use Rattle.lethe_manifest.specs.declared.reading.ManifestRefused.TheVariants.{Short, Kind}
 

@@ -1,8 +1,8 @@
 -- The parts of a manifest: what is read stands there, and what stands there is read.
-use Rattle.std.proofs.Common.{◌≡◌, ℕ, ◌+◌, ◌*◌, ◌^◌, ◌<◌, ◌≤◌, Bool, true, false, cond, leb, ltb, eqb, List, [], ◌∷◌, ◌++◌, length, Result, Ok, Err, ◌⊎◌, refl, sym, ap, subst, arith, inl, inr}
-use Rattle.std.specs.Int.{w8, w16, w32, w64, to_be_bytes, IsInRange}
-use Rattle.std.proofs.lemmas.Bool.{le-leb, leb-true, lt-ltb, ltb-true, eqb-true, eqb-false}
-use Rattle.lethe_base.specs.Limits.{max_place, max_time}
+use Rattle.std.proofs.Common.{◌≡◌, ℕ, ◌+◌, ◌*◌, ◌^◌, ◌≤◌, Bool, true, false, cond, leb, eqb, List, [], ◌∷◌, ◌++◌, Result, Ok, refl, sym, subst, arith}
+use Rattle.std.specs.Int.{w8, w16, w64, to_be_bytes, IsInRange}
+use Rattle.std.proofs.lemmas.Bool.{le-leb, leb-true, eqb-true, eqb-false}
+use Rattle.lethe_base.specs.Limits.{max_place}
 use Rattle.lethe_base.specs.Numbers.{IsBytes}
 use Rattle.lethe_base.specs.Reading.{StandsAt}
 use Rattle.lethe_base.specs.Configuration.{IsConfig, default_fields, max_file_entries, file_entries}
@@ -12,11 +12,10 @@ use Rattle.lethe_base.specs.declared.config.Pick.{Pick}
 use Rattle.lethe_base.specs.declared.config.Pick.TheVariants.{So, Sd}
 use Rattle.lethe_base.proofs.FieldLaws.{stands_then, stands_parts, wide16, wide64}
 use Rattle.lethe_manifest.specs.Manifests.{head_bytes, pick_byte, times_bytes, sizes_bytes, config_bytes}
-use Rattle.lethe_manifest.specs.Reading.{◌>>=◌, number_within, head_at, limited_at, file_at, buffer_at, pick_at, sizes_at, config_at, next_at, counts_at, segment_at, parts_at}
-use Rattle.lethe_manifest.specs.declared.reading.Counts.{Counts}
+use Rattle.lethe_manifest.specs.Reading.{◌>>=◌, number_within, head_at, limited_at, file_at, buffer_at, pick_at, sizes_at, config_at}
 use Rattle.lethe_manifest.specs.declared.reading.ManifestRefused.{ManifestRefused}
-use Rattle.lethe_manifest.specs.declared.reading.ManifestRefused.TheVariants.{Short, Kind, Order}
-use Rattle.lethe_manifest.proofs.Numbers.{bind_ok, met_test, tested_ok, wide_ok, wide_again, byte_ok, byte_back, wide32}
+use Rattle.lethe_manifest.specs.declared.reading.ManifestRefused.TheVariants.{Kind}
+use Rattle.lethe_manifest.proofs.Numbers.{bind_ok, tested_ok, wide_ok, wide_again, byte_ok, byte_back}
 
 abbrev ok_of : {A : Type 0} → A → Result A ManifestRefused
 ok_of x = Ok x

@@ -1,5 +1,5 @@
 -- A manifest that has a spelling has one segment and nothing else that isn't built yet.
-use Rattle.std.proofs.Common.{◌≡◌, ℕ, ◌<◌, List, [], ◌∷◌, ◌++◌, get_or, None, refl, sym, ap, subst, ◌∙◌, append_assoc}
+use Rattle.std.proofs.Common.{◌≡◌, ℕ, ◌<◌, List, [], ◌∷◌, ◌++◌, get_or, refl, sym, ap, subst, ◌∙◌, append_assoc}
 use Rattle.std.specs.Int.{w64, to_be_bytes}
 use Rattle.lethe_manifest.specs.Manifests.{parts_bytes, IsOneBelow, HasSpelling}
 use Rattle.lethe_manifest.specs.Reading.{made}
