@@ -1,0 +1,4 @@
+pub mod Numbers
+pub mod Shapes
+pub mod Parts
+pub mod ManifestLaws
