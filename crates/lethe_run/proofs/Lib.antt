@@ -1,5 +1,6 @@
 pub mod Maps
 pub mod Keeping
 pub mod Scanning
+pub mod ScanLaws
 pub mod Serving
 pub mod Ending

@@ -2,6 +2,7 @@
 #![tactic(auto)]
 
 mod keeper;
+mod laws;
 mod print;
 mod reply;
 mod scan;
@@ -9,4 +10,5 @@ mod serve;
 mod status;
 mod top;
 
+pub use laws::one_scan;
 pub use top::run;
