@@ -1,3 +1,4 @@
 pub mod Writes
 mod Bytes
+pub mod Removals
 mod Stages
