@@ -2,3 +2,4 @@ pub mod Writes
 mod Bytes
 pub mod Removals
 mod Stages
+pub mod Switching
