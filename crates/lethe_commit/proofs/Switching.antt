@@ -1,6 +1,6 @@
 -- The images of a disk through a switch: the manifest is created, then its gate.
-use Rattle.std.proofs.Common.{◌≡◌, ◌≢◌, ◌⊎◌, ◌≤◌, ◌<◌, inl, inr, ℕ, List, [], ◌∷◌, Some, None, Option, refl, sym, ◌∙◌, ap, subst, arith}
-use Rattle.std.specs.Prelude.{Result, is_some, IsSome}
+use Rattle.std.proofs.Common.{◌≡◌, ◌≢◌, ◌≤◌, ◌<◌, inl, inr, ℕ, List, [], ◌∷◌, Some, None, Option, refl, sym, ◌∙◌, ap, subst, arith}
+use Rattle.std.specs.Prelude.{Result, is_some}
 use Rattle.std.proofs.lemmas.Bool.{cases_eq}
 use Rattle.std.specs.FinMap.{insert, remove}
 use Rattle.lethe_base.specs.declared.name.Kind.TheVariants.{Gate, Manifest}
@@ -13,7 +13,7 @@ use Rattle.lethe_disk.proofs.Objects.{name_cases, object_inserted, object_beside
 use Rattle.lethe_disk.proofs.Moments.{leads_start, leads_weaker, leads_leads, throughout_leads, after_start, after_call, after_same}
 use Rattle.lethe_commit.specs.Append.{IsUntouched}
 use Rattle.lethe_commit.specs.Clear.{ArePresent, IsCleared}
-use Rattle.lethe_commit.specs.Switch.{gate_name, manifest_name, HasGreatest, IsFree, IsSwitched, HasNew, HasOldOrNew, IsTakenBack}
+use Rattle.lethe_commit.specs.Switch.{gate_name, manifest_name, HasGreatest, IsFree, IsSwitched, HasOldOrNew, IsTakenBack}
 
 -- Names
 

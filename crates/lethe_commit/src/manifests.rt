@@ -23,11 +23,7 @@ use std::alloc::Global;
 ///
 /// `NoMemory` where there was no memory: then both are absent, and each crash leaves them so. `Failed`
 /// where the disk failed: then the new manifest may count or not, and a part of it may be there.
-pub fn switch<D: Disk>(
-    alloc: Global,
-    disk: &mut D,
-    manifest: &Manifest,
-) -> Result<(), DiskRefused>
+pub fn switch<D: Disk>(alloc: Global, disk: &mut D, manifest: &Manifest) -> Result<(), DiskRefused>
     requires spelled { HasSpelling manifest.now }
     requires free { D.tells → (greatest : Option ℕ) × IsFree (D.seen disk.old) manifest.now.no greatest }
 

@@ -22,4 +22,4 @@ returns-clause-greatest g c = λ told greatest free.
     let s1 = g.D.Disk.seen c.place_with_gate.new.disk in
     let bytes : c.deref.result.now ≡ manifest_bytes c.args.manifest.now = search rules in
     greatest_throughout c.args.manifest.now.no (manifest_bytes c.args.manifest.now) greatest s0 s1 free
-        (subst (λ (l : List ℕ). Leads (IsSwitched c.args.manifest.now.no l) s0 s1) bytes (c.place_with_gate.ensures.any_moment told))
+    (subst (λ (l : List ℕ). Leads (IsSwitched c.args.manifest.now.no l) s0 s1) bytes (c.place_with_gate.ensures.any_moment told))
