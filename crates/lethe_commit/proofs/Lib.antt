@@ -1,3 +1,5 @@
 pub mod Writes
 mod Bytes
+pub mod Removals
 mod Stages
+pub mod Switching
