@@ -36,7 +36,8 @@ pub record HasNew (number : ℕ) (bytes : List ℕ) (left : Directory) : Type 0 
 abbrev pub HasOldOrNew : Option ℕ → ℕ → List ℕ → Directory → Type 0
 HasOldOrNew greatest number bytes left = HasGreatest greatest left ⊎ HasNew number bytes left
 
--- what was done is taken back: a crash leaves nothing that it couldn't leave before
+-- what was done is taken back: a crash leaves nothing that it couldn't leave before, and no device call
+-- was taken, or all is synced
 pub record IsTakenBack (old new : Seen) : Type 0 where
   pub directory : new.directory ≡ old.directory
   pub images : (c : Directory) → Image new c → Image old c

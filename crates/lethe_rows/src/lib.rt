@@ -13,3 +13,5 @@ mod refusals;
 mod run;
 #[cfg(test)]
 mod scripts;
+#[cfg(test)]
+mod switches;

@@ -1,0 +1,128 @@
+//! Switches on a disk in memory, what a crash leaves of them, and clearing behind them.
+ghost use Rattle.std.specs.Prelude.{◌≡◌, ◌+◌, ◌∷◌, [], None, IfOk, IsTrue};
+ghost use Rattle.lethe_memdisk.specs.Held.{seen_of, calls_of};
+ghost use Rattle.lethe_manifest.specs.Manifests.{HasSpelling};
+ghost use Rattle.lethe_commit.specs.Clear.{ArePresent};
+ghost use Rattle.lethe_commit.specs.Switch.{gate_name, manifest_name, IsFree};
+
+use lethe_base::{Config, Fields, Kind, List, Name, Pick};
+use lethe_commit::{clear, switch};
+use lethe_disk::{Disk, DiskRefused};
+use lethe_manifest::Manifest;
+use lethe_memdisk::MemDisk;
+use std::alloc::Global;
+use std::test::Fail;
+
+// An empty disk. The calls of these numbers fail.
+fn empty_disk(alloc: Global, failing: Vec<u64>) -> Result<MemDisk, Fail>
+    ensures free { IfOk result (λ disk. IsFree (seen_of disk) 2 None) }
+    ensures calls { IfOk result (λ disk. calls_of disk ≡ 0) }
+{
+    Ok(MemDisk::new(alloc, 20, failing)?)
+}
+
+// The manifest of a new store.
+fn new_store(alloc: Global) -> Result<Manifest, Fail>
+    ensures spelled { IfOk result HasSpelling }
+    ensures number { IfOk result (λ manifest. manifest.no ≡ 2) }
+{
+    let fields = Fields {
+        threshold: 100,
+        ratio: 2,
+        levels: 2,
+        page: 2,
+        tile: 2,
+        file: 2,
+        buffer: 4,
+        pick: Pick::So,
+    };
+    Ok(Manifest {
+        no: 2,
+        config: Config::new(fields).ok().ok_or("a configuration")?,
+        clock: 0,
+        count: 0,
+        next: 3,
+        certificate: None,
+        erases: List::of(Vec::new(alloc)),
+        segments: List::of(vec![in alloc; 1; 1]?),
+        files: List::of(Vec::new(alloc)),
+    })
+}
+
+// Switches to the new store, and answers whether that was done.
+fn switch_to_new(alloc: Global, disk: &mut MemDisk) -> Result<bool, Fail>
+    requires { IsFree (seen_of disk.old) 2 None }
+    ensures calls { IfOk result (λ done. IsTrue done → calls_of disk.new ≡ calls_of disk.old + 4) }
+    ensures both { IfOk result (λ done. IsTrue done → ArePresent (gate_name 2 ∷ manifest_name 2 ∷ []) (seen_of disk.new).directory) }
+{
+    let manifest = new_store(alloc)?;
+    match switch(alloc, disk, &manifest) {
+        Ok(()) => Ok(true),
+        Err(DiskRefused::Failed) => Ok(false),
+        Err(DiskRefused::NoMemory) => Err(Fail::new("no memory")),
+    }
+}
+
+// How many objects there are.
+fn count(alloc: Global, disk: &mut MemDisk) -> Result<usize, Fail> {
+    let Ok(names) = disk.names(alloc) else {
+        return Err(Fail::new("names"));
+    };
+    Ok(names.len())
+}
+
+#[test]
+fn a_switch_that_a_crash_cuts_short_counts_from_its_gate_on(rt: HostRuntime) -> Result<(), Fail> {
+    let alloc = rt.alloc();
+    let mut disk = empty_disk(alloc, Vec::new(alloc))?;
+    if !switch_to_new(alloc, &mut disk)? {
+        return Err(Fail::new("a switch"));
+    }
+    let images = [
+        (0, true, 0),
+        (1, false, 0),
+        (1, true, 1),
+        (2, false, 1),
+        (3, false, 1),
+        (3, true, 2),
+        (4, false, 2),
+    ];
+    for (calls, keep, objects) in images {
+        let mut left = disk.crash(calls.min(4), 0, keep)?;
+        assert_eq!(rt; count(alloc, &mut left)?, objects);
+    }
+    Ok(())
+}
+
+#[test]
+fn a_switch_and_a_clear_fail_where_the_disk_does(rt: HostRuntime) -> Result<(), Fail> {
+    let alloc = rt.alloc();
+    let gate = Name {
+        kind: Kind::Gate,
+        no: 2,
+    };
+    let manifest = Name {
+        kind: Kind::Manifest,
+        no: 2,
+    };
+    let rows = [
+        (1, false, false, 0),
+        (2, false, false, 1),
+        (3, false, false, 1),
+        (4, false, false, 2),
+        (5, true, false, 2),
+        (6, true, false, 1),
+        (7, true, false, 0),
+        (9, true, true, 0),
+    ];
+    for (failing, switched, cleared, objects) in rows {
+        let mut disk = empty_disk(alloc, vec![in alloc; failing]?)?;
+        let done = switch_to_new(alloc, &mut disk)?;
+        assert_eq!(rt; done, switched);
+        if done {
+            assert_eq!(rt; clear(&mut disk, &[gate, manifest]).is_ok(), cleared);
+        }
+        assert_eq!(rt; count(alloc, &mut disk)?, objects);
+    }
+    Ok(())
+}
