@@ -1,5 +1,5 @@
 -- A scan's answer is the one list of the map's pairs in the range.
-use Rattle.std.proofs.Common.{◌≡◌, Bool, true, false, List, Option, Some, None, cond, refl, sym, ap, ◌∙◌, subst}
+use Rattle.std.proofs.Common.{◌≡◌, Bool, true, false, List, None, cond, refl, sym, ap, ◌∙◌, subst}
 use Rattle.std.specs.Prelude.{filter}
 use Rattle.std.specs.Cmp.Lexicographic.{nat_list_cmp_total}
 use Rattle.std.specs.FinMap as finmap
