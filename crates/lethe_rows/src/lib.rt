@@ -1,4 +1,4 @@
-//! Tests that go through the top call: one table for each theme.
+//! Tests that cross crates: one table for each theme.
 #![tactic(auto)]
 
 #[cfg(test)]
