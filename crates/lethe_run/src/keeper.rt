@@ -167,3 +167,6 @@ fn pair_by(body: &Body) -> Result<Option<(u64, Value)>, NoMemory>
         Body::Tomb => Ok(None),
     }
 }
+
+#[cfg(test)]
+mod tests;
