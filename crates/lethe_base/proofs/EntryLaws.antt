@@ -5,7 +5,8 @@ use Rattle.std.specs.Int.{w64, to_be_bytes}
 use Rattle.std.proofs.lemmas.List.{drop_at}
 use Rattle.lethe_base.specs.Numbers.{IsBytes}
 use Rattle.lethe_base.specs.Spelling.{kind_byte, since_bytes, key_bytes, body_bytes, front_bytes, entry_bytes, kind_of, front_of, entry_with, FrontHasSpelling, BodyHasSpelling, HasSpelling}
-use Rattle.lethe_base.specs.Reading.{◌>>=◌, Gives, StandsAt, field_at, kind_at, place_at, since_at, key_at, value_at, front_at, body_at, entry_at}
+use Rattle.lethe_base.specs.Results.{◌>>=◌}
+use Rattle.lethe_base.specs.Reading.{Gives, StandsAt, field_at, kind_at, place_at, since_at, key_at, value_at, front_at, body_at, entry_at}
 use Rattle.lethe_base.specs.declared.entry.Body.{Body}
 use Rattle.lethe_base.specs.declared.entry.Body.TheVariants.{Put, Tomb}
 use Rattle.lethe_base.specs.declared.entry.Entry.{Entry}
@@ -14,7 +15,8 @@ use Rattle.lethe_base.specs.declared.front.BodyKind.TheVariants as kinds
 use Rattle.lethe_base.specs.declared.front.Front.{Front}
 use Rattle.lethe_base.specs.declared.reading.EntryRefused.{EntryRefused}
 use Rattle.lethe_base.specs.declared.reading.EntryRefused.TheVariants.{Short, Kind, NoMemory}
-use Rattle.lethe_base.proofs.FieldLaws.{bind_ok, ok_is, stands_then, stands_parts, long_stands, long_again, kind_stands, kind_again, place_stands, place_again, since_stands, since_again, key_stands, key_again, value_bytes, value_stands, value_again}
+use Rattle.lethe_base.proofs.ReadingSteps.{bind_ok, ok_is}
+use Rattle.lethe_base.proofs.FieldLaws.{stands_then, stands_parts, long_stands, long_again, kind_stands, kind_again, place_stands, place_again, since_stands, since_again, key_stands, key_again, value_bytes, value_stands, value_again}
 
 -- ---- fronts
 

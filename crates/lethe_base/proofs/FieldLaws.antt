@@ -8,39 +8,17 @@ use Rattle.std.proofs.lemmas.Nat.{be_bytes_2, be_bytes_8, from_be_bytes-to_be_by
 use Rattle.lethe_base.specs.Limits.{IsKey, IsValue, max_place, max_time}
 use Rattle.lethe_base.specs.Numbers.{number_at, IsBytes}
 use Rattle.lethe_base.specs.Spelling.{kind_byte, since_bytes, key_bytes, IsPlace, IsMarked, IsTimeOrNone}
-use Rattle.lethe_base.specs.Reading.{◌>>=◌, StandsAt, field_at, kind_at, place_at, may_lack_time, since_at, key_at, value_at}
+use Rattle.lethe_base.specs.Results.{◌>>=◌}
+use Rattle.lethe_base.proofs.ReadingSteps.{bind_ok, past_test, met_test, ok_is, field_ok}
+use Rattle.lethe_base.specs.Reading.{StandsAt, field_at, kind_at, place_at, may_lack_time, since_at, key_at, value_at}
 use Rattle.lethe_base.specs.declared.front.BodyKind.{BodyKind}
 use Rattle.lethe_base.specs.declared.front.BodyKind.TheVariants as kinds
 use Rattle.lethe_base.specs.declared.reading.EntryRefused.{EntryRefused}
 use Rattle.lethe_base.specs.declared.reading.EntryRefused.TheVariants.{Short, Kind}
 
--- ---- steps that did not fail
-
-pub bind_ok : {A B : Type 0} (r : Result A EntryRefused) (f : A → Result B EntryRefused) (y : B) → (r >>= f) ≡ Ok y → (x : A) × (r ≡ Ok x) × (f x ≡ Ok y)
-bind_ok (Ok x) f y e = (x, refl, e)
-bind_ok (Err d) f y e = absurd cc
-
 pub chosen : {A : Type 0} (b : Bool) (x y z : A) → cond b x y ≡ z → ((b ≡ true) × (x ≡ z)) ⊎ ((b ≡ false) × (y ≡ z))
 chosen true x y z e = inl (refl, e)
 chosen false x y z e = inr (refl, e)
-
-pub past_test : {A : Type 0} (b : Bool) (d : EntryRefused) (r : Result A EntryRefused) (y : A) → cond b (Err d) r ≡ Ok y → (b ≡ false) × (r ≡ Ok y)
-past_test true d r y e = absurd cc
-past_test false d r y e = (refl, e)
-
-pub met_test : {A : Type 0} (b : Bool) (x : A) (d : EntryRefused) (y : A) → cond b (Ok x) (Err d) ≡ Ok y → (b ≡ true) × (x ≡ y)
-met_test true x d y e = (refl, cc)
-met_test false x d y e = absurd cc
-
-abbrev done : {A : Type 0} → A → Result A EntryRefused
-done x = Ok x
-
-pub ok_is : {A : Type 0} (x y : A) → done x ≡ done y → x ≡ y
-ok_is x y e = cc
-
-field_ok : (o : Option ℕ) (d : EntryRefused) (n : ℕ) → ok_or o d ≡ Ok n → o ≡ Some n
-field_ok None d n e = absurd cc
-field_ok (Some m) d n e = cc
 
 -- ---- where texts stand
 

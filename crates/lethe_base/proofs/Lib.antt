@@ -1,4 +1,5 @@
 pub mod Histories
+pub mod ReadingSteps
 pub mod FieldLaws
 pub mod EntryLaws
 pub mod Configurations

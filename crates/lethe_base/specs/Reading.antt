@@ -4,6 +4,7 @@ use Rattle.std.specs.Prelude.{◌≡◌, ℕ, ◌+◌, ◌≤◌, Bool, true, fa
 use Rattle.std.specs.Int.{Width, w8, w16, w64}
 use Rattle.lethe_base.specs.Limits.{max_place, max_time}
 use Rattle.lethe_base.specs.Numbers.{number_at}
+use Rattle.lethe_base.specs.Results.{◌>>=◌}
 use Rattle.lethe_base.specs.Spelling.{entry_with}
 use Rattle.lethe_base.specs.declared.entry.Body.{Body}
 use Rattle.lethe_base.specs.declared.entry.Body.TheVariants.{Put, Tomb}
@@ -13,11 +14,6 @@ use Rattle.lethe_base.specs.declared.front.BodyKind.TheVariants as kinds
 use Rattle.lethe_base.specs.declared.front.Front.{Front}
 use Rattle.lethe_base.specs.declared.reading.EntryRefused.{EntryRefused}
 use Rattle.lethe_base.specs.declared.reading.EntryRefused.TheVariants.{Short, Kind, NoMemory}
-
-infixl 10 ◌>>=◌
-abbrev pub ◌>>=◌ : {A B : Type 0} → Result A EntryRefused → (A → Result B EntryRefused) → Result B EntryRefused
-(Ok x) >>= f = f x
-(Err why) >>= f = Err why
 
 -- a function returned what reading gives, unless memory ran out
 abbrev pub Gives : {A : Type 0} → Result A EntryRefused → Result A EntryRefused → Type 0

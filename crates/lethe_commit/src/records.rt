@@ -10,13 +10,8 @@ ghost use Rattle.lethe_commit.specs.Append.{Addition, longer, EndsAt, IsReady, I
 
 use lethe_base::Name;
 use lethe_disk::{Disk, DiskRefused};
+use lethe_segment::{CLOSED_GATE, OPEN_GATE};
 use std::alloc::Global;
-
-/// The gate byte before a record that isn't there yet.
-const CLOSED: u8 = 0;
-
-/// The gate byte before a record that counts.
-const OPEN: u8 = 1;
 
 /// Appends a record to a segment. `at` is the place of the closed gate byte that ends the segment,
 /// and `body` is the spelling of the record.
@@ -68,9 +63,9 @@ pub fn append<D: Disk>(
     };
     let mut bytes = Vec::with_capacity(alloc, body.len() + 1)?;
     bytes.extend_from_slice(body)?;
-    bytes.push(CLOSED)?;
+    bytes.push(CLOSED_GATE)?;
     write_and_sync(disk, segment, behind, &bytes)?;
-    write_and_sync(disk, segment, at, &[OPEN])
+    write_and_sync(disk, segment, at, &[OPEN_GATE])
 }
 
 // Writes these bytes at a place of an object and syncs.

@@ -12,14 +12,16 @@ use Rattle.lethe_base.specs.Configuration.{IsConfig}
 use Rattle.lethe_base.specs.declared.config.Fields.{Fields}
 use Rattle.lethe_base.proofs.FieldLaws.{stands_then, stands_parts, wide64}
 use Rattle.lethe_manifest.specs.Manifests.{head_bytes, times_bytes, sizes_bytes, config_bytes, counts_bytes, parts_bytes, manifest_bytes, HasSpelling}
-use Rattle.lethe_manifest.specs.Reading.{◌>>=◌, Gives, number_within, head_at, config_at, next_at, counts_at, segment_at, parts_at, made, manifest_at}
+use Rattle.lethe_manifest.specs.Reading.{Gives, number_within, head_at, config_at, next_at, counts_at, segment_at, parts_at, made, manifest_at}
 use Rattle.lethe_manifest.specs.declared.manifest.Manifest.{Manifest}
 use Rattle.lethe_manifest.specs.declared.reading.Counts.{Counts}
 use Rattle.lethe_manifest.specs.declared.reading.ManifestRefused.{ManifestRefused}
 use Rattle.lethe_manifest.specs.declared.reading.ManifestRefused.TheVariants.{Short, Kind, Order, Trailing, NoMemory}
-use Rattle.lethe_manifest.proofs.Numbers.{bind_ok, past_test, tested_ok, wide_ok, wide_again, byte_ok, byte_back, wide32}
+use Rattle.lethe_base.specs.Results.{◌>>=◌}
+use Rattle.lethe_base.proofs.ReadingSteps.{bind_ok, past_test, ok_is}
+use Rattle.lethe_manifest.proofs.Numbers.{tested_ok, wide_ok, wide_again, byte_ok, byte_back, wide32}
 use Rattle.lethe_manifest.proofs.Shapes.{counts_of, shape}
-use Rattle.lethe_manifest.proofs.Parts.{ok_is, only, head_ok, head_again, config_ok, config_again}
+use Rattle.lethe_manifest.proofs.Parts.{only, head_ok, head_again, config_ok, config_again}
 
 -- ---- counts
 
@@ -140,7 +142,7 @@ manifest_ok bytes m fits e =
     let b = bind_ok (config_at bytes) (λ config. counts_at a.0 bytes >>= λ counts. parts_at counts.next bytes >>= λ segment. cond (ltb 71 (length bytes)) (Err (Trailing 71)) (Ok (made a.0 config counts segment))) m a.2 in
     let c = bind_ok (counts_at a.0 bytes) (λ counts. parts_at counts.next bytes >>= λ segment. cond (ltb 71 (length bytes)) (Err (Trailing 71)) (Ok (made a.0 b.0 counts segment))) m b.2 in
     let d = bind_ok (parts_at c.0.next bytes) (λ segment. cond (ltb 71 (length bytes)) (Err (Trailing 71)) (Ok (made a.0 b.0 c.0 segment))) m c.2 in
-    let g = past_test (ltb 71 (length bytes)) (Trailing 71) (made a.0 b.0 c.0 d.0) m d.2 in
+    let g = past_test (ltb 71 (length bytes)) (Trailing 71) (Ok (made a.0 b.0 c.0 d.0)) m d.2 in
     let t0 = head_ok bytes a.0 fits a.1 in
     let t1 = config_ok bytes b.0 fits b.1 in
     let t2 = counts_ok a.0 bytes c.0 fits c.1 in
@@ -151,7 +153,7 @@ manifest_ok bytes m fits e =
     let whole = all_stands (spelled a.0 b.0 c.0 d.0) bytes s0 (ltb-false 71 (length bytes) g.0) in
     let read : Manifest = made a.0 b.0 c.0 d.0 in
     let has : HasSpelling read = record { no = t2.above; config = t1.1; clock = t2.clock; count = t2.count; next = t2.next; segments = t3.1; certificate = refl; erases = refl; files = refl } in
-    subst (λ (x : Manifest). HasSpelling x × (bytes ≡ manifest_bytes x)) g.1 (has, whole ∙ sym (made_is a.0 b.0 c.0 d.0))
+    subst (λ (x : Manifest). HasSpelling x × (bytes ≡ manifest_bytes x)) (ok_is read m g.1) (has, whole ∙ sym (made_is a.0 b.0 c.0 d.0))
 
 made_again : (bytes : List ℕ) (own : ℕ) (config : Fields) (counts : Counts) (segment : ℕ) → IsConfig config → own < counts.next → counts.clock ≤ max_time → counts.count ≤ max_place → counts.next ≤ max_place → segment < counts.next → StandsAt (spelled own config counts segment) bytes 0 71 → length bytes ≡ 71 → manifest_at bytes ≡ Ok (made own config counts segment)
 unfolding manifest_at head_bytes times_bytes sizes_bytes

@@ -1,5 +1,5 @@
 -- A number that is read in its range stands there, and one that stands there is read.
-use Rattle.std.proofs.Common.{◌≡◌, ℕ, ◌+◌, ◌^◌, ◌<◌, Bool, true, false, cond, leb, List, [], ◌∷◌, Option, Some, None, Result, Ok, Err, refl, ap, subst, arith}
+use Rattle.std.proofs.Common.{◌≡◌, ℕ, ◌+◌, ◌^◌, ◌<◌, Bool, true, cond, leb, List, [], ◌∷◌, Option, Some, Result, Ok, Err, refl, ap, subst, arith}
 use Rattle.std.specs.Prelude.{ok_or}
 use Rattle.std.specs.Int.{Width, w8, w32, byte_len, to_be_bytes, is_in_range, IsInRange}
 use Rattle.std.proofs.lemmas.Bool.{and_from, le-leb}
@@ -9,23 +9,11 @@ use Rattle.lethe_base.specs.Reading.{StandsAt}
 use Rattle.lethe_base.specs.declared.reading.EntryRefused.TheVariants as entry
 use Rattle.lethe_base.proofs.FieldLaws.{IsWide, number_stands, number_again, byte_stands, first_byte}
 use Rattle.lethe_base.proofs.Configurations.{in_range}
-use Rattle.lethe_manifest.specs.Reading.{◌>>=◌, number_within}
+use Rattle.lethe_base.specs.Results.{◌>>=◌}
+use Rattle.lethe_base.proofs.ReadingSteps.{bind_ok, met_test, field_ok}
+use Rattle.lethe_manifest.specs.Reading.{number_within}
 use Rattle.lethe_manifest.specs.declared.reading.ManifestRefused.{ManifestRefused}
 use Rattle.lethe_manifest.specs.declared.reading.ManifestRefused.TheVariants.{Short, Kind}
-
--- ---- steps that did not fail
-
-pub bind_ok : {A B : Type 0} (r : Result A ManifestRefused) (f : A → Result B ManifestRefused) (y : B) → (r >>= f) ≡ Ok y → (x : A) × (r ≡ Ok x) × (f x ≡ Ok y)
-bind_ok (Ok x) f y e = (x, refl, e)
-bind_ok (Err why) f y e = absurd cc
-
-pub met_test : {A : Type 0} (t : Bool) (x : A) (why : ManifestRefused) (y : A) → cond t (Ok x) (Err why) ≡ Ok y → (t ≡ true) × (x ≡ y)
-met_test true x why y e = (refl, cc)
-met_test false x why y e = absurd cc
-
-pub past_test : {A : Type 0} (t : Bool) (why : ManifestRefused) (x y : A) → cond t (Err why) (Ok x) ≡ Ok y → (t ≡ false) × (x ≡ y)
-past_test true why x y e = absurd cc
-past_test false why x y e = (refl, cc)
 
 -- a number that was read and then passed a test
 pub tested_ok : (r : Result ℕ ManifestRefused) (t : ℕ → Bool) (why : ManifestRefused) (n : ℕ) → (r >>= λ k. cond (t k) (Ok k) (Err why)) ≡ Ok n → (r ≡ Ok n) × (t n ≡ true)
@@ -33,10 +21,6 @@ tested_ok r t why n e =
     let b = bind_ok r (λ k. cond (t k) (Ok k) (Err why)) n e in
     let g = met_test (t b.0) b.0 why n b.2 in
     subst (λ (k : ℕ). (r ≡ Ok k) × (t k ≡ true)) g.1 (b.1, g.0)
-
-field_ok : (o : Option ℕ) (why : ManifestRefused) (n : ℕ) → ok_or o why ≡ Ok n → o ≡ Some n
-field_ok None why n e = absurd cc
-field_ok (Some m) why n e = cc
 
 -- ---- numbers
 

@@ -1,5 +1,5 @@
 -- The parts of a manifest: what is read stands there, and what stands there is read.
-use Rattle.std.proofs.Common.{◌≡◌, ℕ, ◌+◌, ◌*◌, ◌^◌, ◌≤◌, Bool, true, false, cond, leb, eqb, List, [], ◌∷◌, ◌++◌, Result, Ok, refl, sym, subst, arith}
+use Rattle.std.proofs.Common.{◌≡◌, ℕ, ◌+◌, ◌*◌, ◌^◌, ◌≤◌, Bool, true, false, cond, leb, eqb, List, [], ◌∷◌, ◌++◌, Ok, refl, sym, subst, arith}
 use Rattle.std.specs.Int.{w8, w16, w64, to_be_bytes, IsInRange}
 use Rattle.std.proofs.lemmas.Bool.{le-leb, leb-true, eqb-true, eqb-false}
 use Rattle.lethe_base.specs.Limits.{max_place}
@@ -12,16 +12,12 @@ use Rattle.lethe_base.specs.declared.config.Pick.{Pick}
 use Rattle.lethe_base.specs.declared.config.Pick.TheVariants.{So, Sd}
 use Rattle.lethe_base.proofs.FieldLaws.{stands_then, stands_parts, wide16, wide64}
 use Rattle.lethe_manifest.specs.Manifests.{head_bytes, pick_byte, times_bytes, sizes_bytes, config_bytes}
-use Rattle.lethe_manifest.specs.Reading.{◌>>=◌, number_within, head_at, limited_at, file_at, buffer_at, pick_at, sizes_at, config_at}
+use Rattle.lethe_manifest.specs.Reading.{number_within, head_at, limited_at, file_at, buffer_at, pick_at, sizes_at, config_at}
 use Rattle.lethe_manifest.specs.declared.reading.ManifestRefused.{ManifestRefused}
 use Rattle.lethe_manifest.specs.declared.reading.ManifestRefused.TheVariants.{Kind}
-use Rattle.lethe_manifest.proofs.Numbers.{bind_ok, tested_ok, wide_ok, wide_again, byte_ok, byte_back}
-
-abbrev ok_of : {A : Type 0} → A → Result A ManifestRefused
-ok_of x = Ok x
-
-pub ok_is : {A : Type 0} (x y : A) → ok_of x ≡ ok_of y → x ≡ y
-ok_is x y e = cc
+use Rattle.lethe_base.specs.Results.{◌>>=◌}
+use Rattle.lethe_base.proofs.ReadingSteps.{bind_ok, ok_of, ok_is}
+use Rattle.lethe_manifest.proofs.Numbers.{tested_ok, wide_ok, wide_again, byte_ok, byte_back}
 
 pub only : (k n : ℕ) → IsInRange k k n → n ≡ k
 only k n r = omega (arith, r.0, r.1)
@@ -59,7 +55,7 @@ pick_ok bytes at k fits e =
     let t = byte_ok 0 1 bytes at b.0 fits b.1 in
     by_test (eqb b.0 0) b.0 k refl t.1 t.0 b.2
   where
-    by_test : (t : Bool) (byte : ℕ) (k : Pick) → t ≡ eqb byte 0 → IsInRange 0 1 byte → StandsAt (byte ∷ []) bytes at (at + 1) → cond t (ok_of So) (Ok Sd) ≡ Ok k → StandsAt (pick_byte k ∷ []) bytes at (at + 1)
+    by_test : (t : Bool) (byte : ℕ) (k : Pick) → t ≡ eqb byte 0 → IsInRange 0 1 byte → StandsAt (byte ∷ []) bytes at (at + 1) → cond t (ok_of {E = ManifestRefused} So) (Ok Sd) ≡ Ok k → StandsAt (pick_byte k ∷ []) bytes at (at + 1)
     by_test true byte k is r p e =
         let zero_is : byte ≡ 0 = eqb-true byte 0 (sym is) in
         subst (λ (k : Pick). StandsAt (pick_byte k ∷ []) bytes at (at + 1)) (ok_is So k e) (subst (λ (n : ℕ). StandsAt (n ∷ []) bytes at (at + 1)) zero_is p)

@@ -3,6 +3,7 @@ use Rattle.std.specs.Prelude.{◌≡◌, ℕ, ◌*◌, ◌==◌, nat_le, nat_lt,
 use Rattle.std.specs.Int.{Width, w8, w16, w32, w64, is_in_range}
 use Rattle.lethe_base.specs.Limits.{max_place, max_time}
 use Rattle.lethe_base.specs.Numbers.{number_at}
+use Rattle.lethe_base.specs.Results.{◌>>=◌}
 use Rattle.lethe_base.specs.Configuration.{least_of, greatest_of, default_fields, max_file_entries}
 use Rattle.lethe_base.specs.declared.config.Field.{Field}
 use Rattle.lethe_base.specs.declared.config.Field.TheVariants.{Threshold, Ratio, Levels, Page, Tile, File, Buffer}
@@ -13,11 +14,6 @@ use Rattle.lethe_manifest.specs.declared.manifest.Manifest.{Manifest}
 use Rattle.lethe_manifest.specs.declared.reading.Counts.{Counts}
 use Rattle.lethe_manifest.specs.declared.reading.ManifestRefused.{ManifestRefused}
 use Rattle.lethe_manifest.specs.declared.reading.ManifestRefused.TheVariants.{Short, Kind, Order, Trailing, NoMemory}
-
-infixl 10 ◌>>=◌
-abbrev pub ◌>>=◌ : {A B : Type 0} → Result A ManifestRefused → (A → Result B ManifestRefused) → Result B ManifestRefused
-(Ok x) >>= f = f x
-(Err why) >>= f = Err why
 
 -- a function returned what reading gives, unless memory ran out
 abbrev pub Gives : Result Manifest ManifestRefused → Result Manifest ManifestRefused → Type 0

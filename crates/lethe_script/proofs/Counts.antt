@@ -8,7 +8,7 @@ use Rattle.std.proofs.lemmas.List.Sums.{count_by-le-length}
 use Rattle.lethe_base.specs.Keys.{Bytes}
 use Rattle.lethe_script.specs.declared.order.Order.{Order}
 use Rattle.lethe_script.specs.declared.refused.BadLine.{BadLine}
-use Rattle.lethe_script.specs.Results.{◌>>=◌}
+use Rattle.lethe_base.specs.Results.{◌>>=◌}
 use Rattle.lethe_script.specs.Grammar.{lines, order_of, orders_from}
 
 length-cons_option : (order : Option Order) (orders : List Order) → length (cons_option order orders) ≤ length orders + 1

@@ -15,7 +15,7 @@ use Rattle.lethe_script.specs.declared.refused.Why.TheVariants.{Size}
 use Rattle.lethe_script.specs.declared.refused.ScriptRefused.{ScriptRefused}
 use Rattle.lethe_script.specs.declared.refused.ScriptRefused.TheVariants.{Bad, NoMemory}
 use Rattle.lethe_script.specs.Reading.{FailsScript, with_order}
-use Rattle.lethe_script.specs.Results.{◌>>=◌}
+use Rattle.lethe_base.specs.Results.{◌>>=◌}
 use Rattle.lethe_script.specs.Grammar.{lines, order_of, orders_from}
 
 -- orders in front of those that are read

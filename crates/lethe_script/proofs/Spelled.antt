@@ -14,7 +14,7 @@ use Rattle.lethe_script.specs.declared.order.Act.{Act}
 use Rattle.lethe_script.specs.declared.order.Act.TheVariants.{Put, Get, Scan, Delete}
 use Rattle.lethe_script.specs.declared.order.Order.{Order}
 use Rattle.lethe_script.specs.declared.refused.Why.TheVariants.{Byte, Key, Value}
-use Rattle.lethe_script.specs.Results.{◌>>=◌}
+use Rattle.lethe_base.specs.Results.{◌>>=◌}
 use Rattle.lethe_script.specs.Fields.{is_allowed, is_field, fields, is_plain, caller_of, key_of, number_of, value_of}
 use Rattle.lethe_script.specs.Grammar.{lines, put_fields, put_of, get_of, scan_fields, scan_of, del_of, act_of, caller_and_act, request_of, line_of, order_of, orders_from, script_of}
 use Rattle.lethe_script.specs.Spelling.{IsPrinted, IsPlain, act_fields, spelling, IsWritableAct, IsWritable, IsNumbered}

@@ -10,7 +10,7 @@ use Rattle.lethe_script.specs.declared.order.Order.{Order}
 use Rattle.lethe_script.specs.declared.refused.BadLine.{BadLine}
 use Rattle.lethe_script.specs.declared.refused.Why.{Why}
 use Rattle.lethe_script.specs.declared.refused.Why.TheVariants.{Size, Byte, Command, Count}
-use Rattle.lethe_script.specs.Results.{◌>>=◌}
+use Rattle.lethe_base.specs.Results.{◌>>=◌}
 use Rattle.lethe_script.specs.Fields.{fields, is_allowed, is_comment, caller_of, key_of, number_of, value_of}
 
 unfoldable pub put_fields : Bytes → Bytes → Bytes → Result Act Why

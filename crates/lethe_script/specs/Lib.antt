@@ -1,5 +1,4 @@
 pub mod Words
-pub mod Results
 pub mod Fields
 pub mod Grammar
 pub mod Reading

@@ -1,7 +1,7 @@
 -- What a function that reads returns, against what the grammar says.
 use Rattle.std.specs.Prelude.{◌≡◌, ℕ, ◌+◌, ◌<◌, ◌≤◌, List, [], ◌∷◌, ◌++◌, length, slice_index, Option, Result, Ok, Err}
 use Rattle.std.specs.List.{cons_option}
-use Rattle.lethe_script.specs.Results.{◌>>=◌}
+use Rattle.lethe_base.specs.Results.{◌>>=◌}
 use Rattle.lethe_script.specs.Grammar.{lines}
 use Rattle.lethe_script.specs.declared.order.Order.{Order}
 use Rattle.lethe_script.specs.declared.refused.BadLine.{BadLine}

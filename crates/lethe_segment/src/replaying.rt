@@ -12,11 +12,9 @@ ghost use Rattle.lethe_segment.specs.Refusals.{HasReason};
 use crate::Record;
 use crate::head::{HEAD, read_head};
 use crate::reading::read_record;
+use crate::writing::OPEN_GATE;
 use lethe_base::take_u8;
 use std::alloc::{AllocFailed, Global};
-
-/// The byte of a gate behind which a record counts.
-const OPEN: u8 = 1;
 
 /// Why a segment can't be replayed.
 #[derive(Clone, Copy, Debug, PartialEq, Eq)]
@@ -88,5 +86,5 @@ fn read_all(alloc: Global, bytes: &[u8]) -> Result<Vec<Record>, SegmentRefused>
 fn is_open(bytes: &[u8], gate: usize) -> bool
     ensures { IsTrue result ↔ (number_at w8 bytes.now gate ≡ Some 1) }
 {
-    matches!(take_u8(bytes, gate), Some(OPEN))
+    matches!(take_u8(bytes, gate), Some(OPEN_GATE))
 }

@@ -7,6 +7,12 @@ use crate::record::BLIND;
 use lethe_base::{NoMemory, entry_len, write_entry};
 use std::alloc::Global;
 
+/// The byte of a gate behind which a record counts.
+pub const OPEN_GATE: u8 = 1;
+
+/// The byte of the gate that ends a segment.
+pub const CLOSED_GATE: u8 = 0;
+
 /// The record's one spelling. It takes memory once, for all of its bytes.
 #[tactic(auto, unfolding(crate::specs::Records::record_bytes))]
 pub fn write_record(alloc: Global, item: &Record) -> Result<Vec<u8>, NoMemory>
