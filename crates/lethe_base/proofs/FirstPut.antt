@@ -103,7 +103,7 @@ module _ (levels : ℕ) (caller : ℕ) (key : Bytes) (dkey : ℕ) (value : Bytes
       newest = λ entry is. subst (λ e. answer_under [] e ≡ finmap.get (after the_history).map e.key) (shown_is entry is.shown) (sym (found the_pair));
       absent = absent;
     };
-    deletes_covered = λ entry swept cause other held put is. absurd (no_cause entry swept cause held is);
+    deletes_covered = λ entry swept cause held put is. absurd (no_cause entry swept cause held is);
     erases_covered = record {
       pending = λ entry swept cause range held put is. absurd (no_cause entry swept cause held is);
       swept = λ file is. absurd (no_file levels file is);

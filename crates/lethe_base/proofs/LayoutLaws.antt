@@ -88,7 +88,7 @@ module _ (levels : ℕ) where
       newest = λ entry is. absurd (none_shown entry is.shown);
       absent = λ key none. finmap.get-empty key_cmp key;
     };
-    deletes_covered = λ entry swept cause key is. absurd (none_held entry swept is);
+    deletes_covered = λ entry swept cause is. absurd (none_held entry swept is);
     erases_covered = record {
       pending = λ entry swept cause range is. absurd (none_held entry swept is);
       swept = λ file is. absurd (no_file file is);

@@ -1,5 +1,5 @@
 -- Where a layout stands for a history, what it holds isn't overdue.
-use Rattle.std.proofs.Common.{◌≡◌, ◌⊎◌, inl, inr, ℕ, ◌+◌, ◌<◌, ◌≤◌, true, false, IsTrue, Option, Some, None, IsSomeAnd, option_map, option_and_then, refl, ap, ◌∙◌, arith}
+use Rattle.std.proofs.Common.{◌≡◌, ◌⊎◌, inl, inr, ℕ, ◌+◌, ◌<◌, ◌≤◌, true, false, IsTrue, Option, Some, None, IsSomeAnd, option_map, option_and_then, refl, sym, ap, ◌∙◌, arith}
 use Rattle.lethe_base.specs.Keys.{Bytes}
 use Rattle.lethe_base.specs.Ranges.{Ends}
 use Rattle.lethe_base.specs.History.{History, Change, change_at, clock_before}
@@ -7,6 +7,7 @@ use Rattle.lethe_base.specs.Causes.{done_call, done_at, is_eraser, erases_if, ca
 use Rattle.lethe_base.specs.Matching.{IsPut}
 use Rattle.lethe_base.specs.Layout.{Layout}
 use Rattle.lethe_base.specs.Held.{Holds}
+use Rattle.lethe_base.specs.Covered.{IsNoErase}
 use Rattle.lethe_base.specs.Covers.{Covers}
 use Rattle.lethe_base.specs.declared.call.Call.{Call}
 use Rattle.lethe_base.specs.declared.call.Call.TheVariants.{Put, Delete, Erase, Tick, Work}
@@ -29,6 +30,10 @@ eraser_is key dkey Done (Erase range) is = inr (range, refl)
 eraser_is key dkey Done (Tick to) is = absurd (let clash : false ≡ true = is in cc)
 eraser_is key dkey Done Work is = absurd (let clash : false ≡ true = is in cc)
 
+-- what was deleted wasn't erased by a range
+pub no_erase : (h : History) (key : Bytes) (place : ℕ) → done_at h place ≡ Some (Delete key) → IsNoErase h place
+no_erase h key place deleted range erased = let clash : Some (Delete key) ≡ Some (Erase range) = sym deleted ∙ erased in cc
+
 pub erased_is : (h : History) (key : Bytes) (dkey place : ℕ) → IsErasedAt h key dkey place → IsDeleteOrErase (done_at h place)
 erased_is h key dkey place is = by (change_at h place) is
   where
@@ -40,7 +45,7 @@ module _ (threshold : ℕ) (h : History) (l : Layout) (covers : Covers threshold
   not_due : (cause : ℕ) → cause_of h entry.seq ≡ Some cause → l.clock < clock_before h cause + threshold
   not_due cause is = let first = cause_is_first h entry.seq cause is in elim (erased_is h first.key first.dkey cause first.erases) [
     | inl deleted ↦
-        let above = covers.deletes_covered entry swept cause deleted.0 held put is deleted.1 in
+        let above = covers.deletes_covered entry swept cause held put is (no_erase h deleted.0 cause deleted.1) in
         let there = shown_held l above.above above.shown in
         let timed = covers.times_fresh.entries above.above there.0 above.since there.1 above.has in
         let fresh : l.clock < above.since + threshold = timed.fresh in

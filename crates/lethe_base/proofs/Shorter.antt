@@ -24,7 +24,7 @@ use Rattle.lethe_base.specs.declared.pending.Pending.{Pending}
 use Rattle.lethe_base.proofs.CauseLaws.{cause_by, cause_is_first, erased_by}
 use Rattle.lethe_base.proofs.HeldLaws.{shown_held}
 use Rattle.lethe_base.proofs.Newest.{first_is, first_or_rest}
-use Rattle.lethe_base.proofs.Overdue.{erased_is}
+use Rattle.lethe_base.proofs.Overdue.{erased_is, no_erase}
 
 -- some element passes a test exactly where the test of any passes
 any_found : {X : Type 0} (p : X → Bool) (xs : List X) → list_any p xs ≡ true → (x : X) × Contains xs x × (p x ≡ true)
@@ -79,7 +79,7 @@ module _ (threshold : ℕ) (h : History) (l : Layout) (covers : Covers threshold
       let upto : cause.0 ≤ entry.seq + (erase.seq - entry.seq - 1) + 1 = cause.2 in
       elim (erased_is h first.key first.dkey cause.0 first.erases) [
         | inl deleted ↦
-            let above = covers.deletes_covered entry held.0 cause.0 deleted.0 held.1 put cause.1 deleted.1 in
+            let above = covers.deletes_covered entry held.0 cause.0 held.1 put cause.1 (no_erase h deleted.0 cause.0 deleted.1) in
             let last : above.above.seq ≤ entry.seq = newest.last above.above above.shown above.same in
             let newer : entry.seq < above.above.seq = above.newer in
             absurd (omega arith)

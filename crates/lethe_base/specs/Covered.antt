@@ -1,13 +1,12 @@
 -- Which erasures a layout remembers.
 use Rattle.std.specs.Prelude.{◌≡◌, ℕ, ◌<◌, ◌≤◌, List, length, Contains, Some}
-use Rattle.lethe_base.specs.Keys.{Bytes}
 use Rattle.lethe_base.specs.Ranges.{Ends}
 use Rattle.lethe_base.specs.History.{History, clock_before}
 use Rattle.lethe_base.specs.Causes.{done_at, cause_of}
 use Rattle.lethe_base.specs.Matching.{IsPut}
 use Rattle.lethe_base.specs.Layout.{Layout, File, entries_of, files_of}
 use Rattle.lethe_base.specs.Held.{Holds}
-use Rattle.lethe_base.specs.declared.call.Call.TheVariants.{Delete, Erase}
+use Rattle.lethe_base.specs.declared.call.Call.TheVariants.{Erase}
 use Rattle.lethe_base.specs.declared.entry.Entry.{Entry}
 use Rattle.lethe_base.specs.declared.pending.Pending.{Pending}
 
@@ -22,10 +21,14 @@ pub record IsCovered (shows : Entry → Type 0) (entry : Entry) (time : ℕ) : T
   pub has : above.since ≡ Some since
   pub old : since ≤ time
 
--- what was put and then deleted lies below an entry that remembers it
+-- no erase by a range was done at the place
+abbrev pub IsNoErase : History → ℕ → Type 0
+IsNoErase h place = (range : Ends) → done_at h place ≡ Some (Erase range) → ⊥
+
+-- what was put and then deleted, so that its cause isn't an erase by a range, lies below an entry that remembers it
 abbrev pub DeletesAreCovered : History → (Entry → ℕ → Type 0) → (Entry → Type 0) → Type 0
-DeletesAreCovered h holds shows = (entry : Entry) (swept cause : ℕ) (key : Bytes) → holds entry swept → IsPut entry.body
-    → cause_of h entry.seq ≡ Some cause → done_at h cause ≡ Some (Delete key) → IsCovered shows entry (clock_before h cause)
+DeletesAreCovered h holds shows = (entry : Entry) (swept cause : ℕ) → holds entry swept → IsPut entry.body
+    → cause_of h entry.seq ≡ Some cause → IsNoErase h cause → IsCovered shows entry (clock_before h cause)
 
 -- the erase of that place is among them
 abbrev pub HasErase : List Pending → ℕ → Type 0

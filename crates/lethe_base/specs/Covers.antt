@@ -18,7 +18,7 @@ pub record Covers (threshold : ℕ) (h : History) (l : Layout) : Type 0 where
   pub newer_above : IsNewerAbove l
   -- the newest entry of each key, under the pending erases, is what the map has
   pub same_map : IsMap (Shows l) l.pending (after h).map
-  -- a put whose cause is a delete lies below an entry with a time at most the delete's
+  -- a put whose cause is no erase lies below an entry with a time at most the cause's
   pub deletes_covered : DeletesAreCovered h (Holds l) (Shows l)
   -- a put whose cause is an erase isn't swept of it yet, and the erase is pending
   pub erases_covered : ErasesAreCovered h l
