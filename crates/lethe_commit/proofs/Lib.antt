@@ -2,4 +2,7 @@ pub mod Writes
 mod Bytes
 pub mod Removals
 mod Stages
-pub mod Switching
+pub mod Placing
+pub mod Greatest
+pub mod Listed
+pub mod Exchange

@@ -8,7 +8,7 @@ use Rattle.lethe_base.specs.declared.name.Name.{Name}
 use Rattle.lethe_disk.specs.declared.disk.DiskRefused.{DiskRefused}
 use Rattle.lethe_disk.specs.Directory.{Directory, object, IsNoneOf, IsRemoved, IsSame}
 use Rattle.lethe_disk.specs.Disk.{Seen, Takes}
-use Rattle.lethe_disk.specs.Runs.{After}
+use Rattle.lethe_disk.specs.Runs.{Leads, Now, After}
 use Rattle.lethe_disk.proofs.Objects.{name_cases, object_removed, object_beside_remove}
 use Rattle.lethe_disk.proofs.Moments.{after_start, after_call, after_same}
 use Rattle.lethe_commit.specs.Clear.{ArePresent, remove_all, IsCleared}
@@ -32,6 +32,10 @@ cleared_absent (first ∷ names) (suc i) name directory lt is = cleared_absent n
 pub cleared_others : (names : List Name) (directory : Directory) (other : Name) → IsNoneOf names other → object (remove_all names directory) other ≡ object directory other
 cleared_others [] directory other none = refl
 cleared_others (first ∷ names) directory other none = cleared_others names (remove directory first) other none.1 ∙ object_beside_remove directory first other none.0
+
+-- what a run leaves at its end
+pub leads_now : (R : Directory → Directory → Type 0) (old new : Seen) → Leads R old new → Now R old new
+leads_now R old new run c here = run.each new.moment c run.later (omega arith) here
 
 -- One removal after the other
 
@@ -92,8 +96,9 @@ one_more names i name result old mid now lt is cleared call done counted = recor
   moment = omega (arith, counted, cleared.moment);
 }
 
-pub after_sync : {T : Type 0} (names : List Name) (i : ℕ) (result : Result T DiskRefused) (old mid now : Seen) → IsClearedTo names i old mid → Takes IsSame result mid now → After (IsCleared names) (IsCleared names) old now
-after_sync names i result old mid now cleared call = after_same (IsCleared names) (IsCleared names) result old mid now cleared.run call (λ d c here so. so)
+-- a sync behind them
+pub after_sync : {T : Type 0} (names : List Name) (result : Result T DiskRefused) (old mid now : Seen) → Leads (IsCleared names) old mid → Takes IsSame result mid now → Leads (IsCleared names) old now
+after_sync names result old mid now run call = (after_same (IsCleared names) (IsCleared names) result old mid now (record { each = run; last = leads_now (IsCleared names) old mid run }) call (λ d c here so. so)).each
 
 pub all_gone : (names : List Name) (i : ℕ) (old mid : Seen) → length names ≤ i → IsClearedTo names i old mid → mid.directory ≡ remove_all names old.directory
 all_gone names i old mid le cleared = sym (cleared.so_far ∙ ap (λ l. remove_all l mid.directory) (drop_all i names le))

@@ -30,8 +30,22 @@ pub fn clear<D: Disk>(disk: &mut D, names: &[Name]) -> Result<(), DiskRefused>
     ensures no_memory { IsErrOf result NoMemory → ⊥ }
     ensures cause { HasCause (D.faults disk.old) (D.faults disk.new) result }
 {
+    remove_each(disk, names)?;
+    disk.sync()
+}
+
+/// Removes these objects, each of which stands in the list once, and doesn't sync.
+pub(crate) fn remove_each<D: Disk>(disk: &mut D, names: &[Name]) -> Result<(), DiskRefused>
+    requires { D.tells → ArePresent names.now (D.seen disk.old).directory }
+    ensures any_moment { D.tells → Leads (IsCleared names.now) (D.seen disk.old) (D.seen disk.new) }
+    ensures done { D.tells → OnOk result ((D.seen disk.new).directory ≡ remove_all names.now (D.seen disk.old).directory) }
+    ensures calls { D.tells → OnOk result ((D.seen disk.new).moment ≡ (D.seen disk.old).moment + length names.now) }
+    ensures soon { D.tells → (D.seen disk.new).moment ≤ (D.seen disk.old).moment + length names.now }
+    ensures no_memory { IsErrOf result NoMemory → ⊥ }
+    ensures cause { HasCause (D.faults disk.old) (D.faults disk.new) result }
+{
     for name in names {
         disk.remove(*name)?;
     }
-    disk.sync()
+    Ok(())
 }

@@ -1,4 +1,4 @@
-use Rattle.lethe_commit.proofs.Switching.{after_create, after_sync}
+use Rattle.lethe_commit.proofs.Placing.{after_create, after_sync}
 use Rattle.lethe_commit.proofs.manifests.create_and_sync.Goals as goal
 
 pub returns-in_err-create-clause-any_moment : goal.returns-in_err-create-clause-any_moment

@@ -1,5 +1,5 @@
 use Rattle.std.proofs.Common.{Err, ap, ◌∙◌}
-use Rattle.lethe_commit.proofs.Switching.{after_manifest, after_gate, gate_is_absent, is_present, after_undoing, taken_back}
+use Rattle.lethe_commit.proofs.Placing.{after_manifest, after_gate, gate_is_absent, is_present, after_undoing, taken_back}
 use Rattle.lethe_commit.proofs.manifests.place_with_gate.Goals as goal
 
 pub returns-in_err-create_and_sync-clause-any_moment : goal.returns-in_err-create_and_sync-clause-any_moment

@@ -1,19 +1,19 @@
--- The images of a disk through a switch: the manifest is created, then its gate.
-use Rattle.std.proofs.Common.{◌≡◌, ◌≢◌, ◌≤◌, ◌<◌, inl, inr, ℕ, List, [], ◌∷◌, Some, None, Option, refl, sym, ◌∙◌, ap, subst, arith}
+-- The images of a disk while a manifest is created, and then its gate.
+use Rattle.std.proofs.Common.{◌≡◌, ◌≢◌, inl, inr, ℕ, List, [], ◌∷◌, Some, None, Option, refl, sym, ◌∙◌, ap, subst, arith}
 use Rattle.std.specs.Prelude.{Result, is_some}
-use Rattle.std.proofs.lemmas.Bool.{cases_eq}
 use Rattle.std.specs.FinMap.{insert, remove}
 use Rattle.lethe_base.specs.declared.name.Kind.TheVariants.{Gate, Manifest}
 use Rattle.lethe_base.specs.declared.name.Name.{Name}
 use Rattle.lethe_disk.specs.declared.disk.DiskRefused.{DiskRefused}
 use Rattle.lethe_disk.specs.Directory.{Directory, object, IsCreated, IsSame}
 use Rattle.lethe_disk.specs.Disk.{Seen, Image, IsSynced, Takes}
-use Rattle.lethe_disk.specs.Runs.{Leads, Throughout, After}
+use Rattle.lethe_disk.specs.Runs.{Leads, After}
 use Rattle.lethe_disk.proofs.Objects.{name_cases, object_inserted, object_beside_insert, object_removed, object_beside_remove, same_directory}
-use Rattle.lethe_disk.proofs.Moments.{leads_start, leads_weaker, leads_leads, throughout_leads, after_start, after_call, after_same}
+use Rattle.lethe_disk.proofs.Moments.{leads_start, leads_weaker, leads_leads, after_start, after_call, after_same}
 use Rattle.lethe_commit.specs.Append.{IsUntouched}
 use Rattle.lethe_commit.specs.Clear.{ArePresent, IsCleared}
-use Rattle.lethe_commit.specs.Switch.{gate_name, manifest_name, HasGreatest, IsFree, IsSwitched, HasOldOrNew, IsTakenBack}
+use Rattle.lethe_commit.specs.Gates.{gate_name}
+use Rattle.lethe_commit.specs.Switch.{manifest_name, IsFree, IsPlaced, IsTakenBack}
 
 -- Names
 
@@ -48,55 +48,20 @@ removed_again directory name bytes none = same_directory _ _ (λ other. elim (na
   | inr ne ↦ object_beside_remove (insert directory name bytes) name other ne ∙ object_beside_insert directory name bytes other ne
 ])
 
--- The greatest gate
-
-pub greatest_same : (greatest : Option ℕ) (d c : Directory) → ((k : ℕ) → object c (gate_name k) ≡ object d (gate_name k)) → HasGreatest greatest d → HasGreatest greatest c
-greatest_same None d c same has = λ k. same k ∙ has k
-greatest_same (Some greatest) d c same has = (ap is_some (same greatest) ∙ has.0, λ k above. same k ∙ has.1 k above)
-
-Some≢None : (b : List ℕ) → Some b ≡ None → ⊥
-Some≢None b e = cc
-
--- of two directories of which the first has no gate of the number or a greater one
-pub switched_greatest : (number : ℕ) (bytes : List ℕ) (greatest : Option ℕ) (d c : Directory) → HasGreatest greatest d → ((other : ℕ) → number ≤ other → object d (gate_name other) ≡ None)
-    → IsSwitched number bytes d c → HasOldOrNew greatest number bytes c
-switched_greatest number bytes greatest d c has free switched = by_gate (object c (gate_name number)) refl
-  where
-    beside : (k : ℕ) → k ≢ number → object c (gate_name k) ≡ object d (gate_name k)
-    beside k ne = switched.others (gate_name k) (gate≢manifest k number, (gate≢gate k number ne, tt))
-
-    above : (k : ℕ) → number < k → object c (gate_name k) ≡ None
-    above k late = beside k (λ e. omega (arith, late, e)) ∙ free k (omega (arith, late))
-
-    by_gate : (o : Option (List ℕ)) → object c (gate_name number) ≡ o → HasOldOrNew greatest number bytes c
-    by_gate None is = inl (greatest_same greatest d c (λ k. elim (cases_eq k number) [
-      | inl same ↦ ap (λ n. object c (gate_name n)) same ∙ is ∙ sym (ap (λ n. object d (gate_name n)) same ∙ free number (omega arith))
-      | inr ne ↦ beside k ne
-    ]) has)
-    by_gate (Some b) is = elim switched.either [
-      | inl none ↦ absurd (Some≢None b (sym is ∙ none))
-      | inr whole ↦ inr (record { manifest = whole; greatest_gate = (ap is_some is, above) })
-    ]
-
-pub greatest_throughout : (number : ℕ) (bytes : List ℕ) (greatest : Option ℕ) (old new : Seen) → IsFree old number greatest → Leads (IsSwitched number bytes) old new → Throughout (HasOldOrNew greatest number bytes) old new
-greatest_throughout number bytes greatest old new free run =
-    throughout_leads (λ d. HasGreatest greatest d × ((other : ℕ) → number ≤ other → object d (gate_name other) ≡ None)) (HasOldOrNew greatest number bytes) (IsSwitched number bytes) old new run
-    (λ d here. (free.greatest_gate d here, free.no_gate d here)) (λ d c before switched. switched_greatest number bytes greatest d c before.0 before.1 switched)
-
 -- The run
 
 pub untouched : (old : Seen) → IsTakenBack old old
-untouched old = record { directory = refl; images = λ c here. here; either = inl refl }
+untouched old = record { directory = refl; images = λ c here. here }
 
 pub refused_at_once : (old new : Seen) → IsUntouched old new → IsTakenBack old new
-refused_at_once old new same = record { directory = same.directory; images = λ c here. (same.images c).0 here; either = inl same.moment }
+refused_at_once old new same = record { directory = same.directory; images = λ c here. (same.images c).0 here }
 
 module _ (number : ℕ) (bytes : List ℕ) (greatest : Option ℕ) (old : Seen) (free : IsFree old number greatest) where
   absent : (d : Directory) → Image old d → object d (gate_name number) ≡ None
   absent d here = free.no_gate d here number (omega arith)
 
-  pub at_start : Leads (IsSwitched number bytes) old old
-  at_start = leads_start (IsSwitched number bytes) old (λ d here. record { others = λ other none. refl; either = inl (absent d here) })
+  pub at_start : Leads (IsPlaced number bytes) old old
+  at_start = leads_start (IsPlaced number bytes) old (λ d here. record { others = λ other none. refl; either = inl (absent d here) })
 
   module _ (mid : Seen) (first : Leads (IsCreated (manifest_name number)) old mid) where
     record Made (d c : Directory) : Type 0 where
@@ -106,24 +71,24 @@ module _ (number : ℕ) (bytes : List ℕ) (greatest : Option ℕ) (old : Seen) 
     made : Leads Made old mid
     made = leads_weaker (IsCreated (manifest_name number)) Made old mid first (λ d c here made. record { others = made.others; no_gate = made.others (gate_name number) (gate≢manifest number number) ∙ absent d here })
 
-    made_switched : (d c : Directory) → Made d c → IsSwitched number bytes d c
-    made_switched d c made = record { others = λ other none. made.others other none.0; either = inl made.no_gate }
+    made_placed : (d c : Directory) → Made d c → IsPlaced number bytes d c
+    made_placed d c made = record { others = λ other none. made.others other none.0; either = inl made.no_gate }
 
-    pub after_manifest : Leads (IsSwitched number bytes) old mid
-    after_manifest = leads_weaker Made (IsSwitched number bytes) old mid made (λ d c here made. made_switched d c made)
+    pub after_manifest : Leads (IsPlaced number bytes) old mid
+    after_manifest = leads_weaker Made (IsPlaced number bytes) old mid made (λ d c here made. made_placed d c made)
 
     module _ (synced : IsSynced mid) (done : mid.directory ≡ insert old.directory (manifest_name number) bytes) where
       record Gated (e c : Directory) : Type 0 where
         whole : object e (manifest_name number) ≡ Some bytes
         others : (other : Name) → other ≢ gate_name number → object c other ≡ object e other
 
-      pub after_gate : (new : Seen) → Leads (IsCreated (gate_name number)) mid new → Leads (IsSwitched number bytes) old new
+      pub after_gate : (new : Seen) → Leads (IsCreated (gate_name number)) mid new → Leads (IsPlaced number bytes) old new
       after_gate new second =
           let gated : Leads Gated mid new = leads_weaker (IsCreated (gate_name number)) Gated mid new second (λ e c here made. record {
             whole = ap (λ x. object x (manifest_name number)) (synced e here ∙ done) ∙ object_inserted old.directory (manifest_name number) bytes;
             others = made.others;
           }) in
-          leads_leads Made Gated (IsSwitched number bytes) old mid new made gated made_switched (λ d e c here made gated. record {
+          leads_leads Made Gated (IsPlaced number bytes) old mid new made gated made_placed (λ d e c here made gated. record {
             others = λ other none. gated.others other none.1.0 ∙ made.others other none.0;
             either = inr (gated.others (manifest_name number) (manifest≢gate number number) ∙ gated.whole);
           })
@@ -146,18 +111,18 @@ module _ (number : ℕ) (bytes : List ℕ) (greatest : Option ℕ) (old : Seen) 
           no_gate : object e (gate_name number) ≡ None
           cleared : IsCleared (manifest_name number ∷ []) e c
 
-        pub after_undoing : (new : Seen) → Leads (IsSwitched number bytes) old refused → Leads (IsCleared (manifest_name number ∷ [])) refused new → Leads (IsSwitched number bytes) old new
+        pub after_undoing : (new : Seen) → Leads (IsPlaced number bytes) old refused → Leads (IsCleared (manifest_name number ∷ [])) refused new → Leads (IsPlaced number bytes) old new
         after_undoing new so_far last =
             let undone : Leads Undone refused new = leads_weaker (IsCleared (manifest_name number ∷ [])) Undone refused new last (λ e c there cleared. record {
               no_gate = ap (λ x. object x (gate_name number)) (synced e ((same.images e).0 there)) ∙ gate_is_absent here;
               cleared = cleared;
             }) in
-            leads_leads (IsSwitched number bytes) Undone (IsSwitched number bytes) old refused new so_far undone (λ d c switched. switched) (λ d e c there switched undone. record {
-              others = λ other none. undone.cleared.others other (none.0, tt) ∙ switched.others other none;
+            leads_leads (IsPlaced number bytes) Undone (IsPlaced number bytes) old refused new so_far undone (λ d c placed. placed) (λ d e c there placed undone. record {
+              others = λ other none. undone.cleared.others other (none.0, tt) ∙ placed.others other none;
               either = inl (undone.cleared.others (gate_name number) (gate≢manifest number number, tt) ∙ undone.no_gate);
             })
 
         pub taken_back : (new : Seen) → new.directory ≡ remove refused.directory (manifest_name number) → IsSynced new → IsTakenBack old new
         taken_back new gone now =
             let back : new.directory ≡ old.directory = gone ∙ ap (λ x. remove x (manifest_name number)) held ∙ removed_again old.directory (manifest_name number) bytes (free.no_manifest old.directory here) in
-            record { directory = back; images = λ c there. subst (Image old) (sym (now c there ∙ back)) here; either = inr now }
+            record { directory = back; images = λ c there. subst (Image old) (sym (now c there ∙ back)) here }
