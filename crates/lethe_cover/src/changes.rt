@@ -26,7 +26,7 @@ pub fn put_covers()
     ensures { (threshold caller : ℕ) (h : History) (l : Layout) → Covers threshold h l → IsCounted h l
         → (key : Bytes) (dkey : ℕ) (value : Bytes)
         → Covers threshold (with_done h caller (Put key dkey value)) (recorded l (Written (put_entry h l key dkey value)))
-            × IsCounted (with_done h caller (Put key dkey value)) (recorded l (Written (put_entry h l key dkey value))) }
+        × IsCounted (with_done h caller (Put key dkey value)) (recorded l (Written (put_entry h l key dkey value))) }
 {}
 
 /// A delete writes a tombstone with the clock, or with the smaller time of the entry that it replaces in the active buffer.
@@ -35,7 +35,7 @@ pub fn delete_covers()
         → 0 < threshold → l.clock ≡ (after h).clock
         → (key : Bytes)
         → Covers threshold (with_done h caller (Delete key)) (recorded l (Written (tomb_entry h l key)))
-            × IsCounted (with_done h caller (Delete key)) (recorded l (Written (tomb_entry h l key))) }
+        × IsCounted (with_done h caller (Delete key)) (recorded l (Written (tomb_entry h l key))) }
 {}
 
 /// A delete of a key of which reads see no entry writes its place alone.
@@ -43,7 +43,7 @@ pub fn blind_covers()
     ensures { (threshold caller : ℕ) (h : History) (l : Layout) → Covers threshold h l → IsCounted h l
         → (key : Bytes) → ((entry : Entry) → Shows l entry → entry.key ≡ key → ⊥)
         → Covers threshold (with_done h caller (Delete key)) (recorded l (Blind (next_place h)))
-            × IsCounted (with_done h caller (Delete key)) (recorded l (Blind (next_place h))) }
+        × IsCounted (with_done h caller (Delete key)) (recorded l (Blind (next_place h))) }
 {}
 
 /// A call in which the disk failed changes nothing that the layout stands for.
