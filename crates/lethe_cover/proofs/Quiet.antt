@@ -11,10 +11,11 @@ use Rattle.lethe_base.specs.Covered.{IsCovered}
 use Rattle.lethe_base.specs.Fresh.{AreFresh}
 use Rattle.lethe_base.specs.Covers.{Covers}
 use Rattle.lethe_base.specs.declared.call.Call.{Call}
-use Rattle.lethe_base.specs.declared.call.Did.TheVariants.{Failed}
+use Rattle.lethe_base.specs.declared.call.Call.TheVariants.{Tick}
+use Rattle.lethe_base.specs.declared.call.Did.TheVariants.{Done, Failed}
 use Rattle.lethe_base.specs.declared.entry.Entry.{Entry}
 use Rattle.lethe_base.proofs.Histories.{after-push}
-use Rattle.lethe_cover.specs.Steps.{with_failed}
+use Rattle.lethe_cover.specs.Steps.{IsCounted, next_place, with_done, with_failed, ticked}
 use Rattle.lethe_cover.proofs.Grown.{done_old, placed_more, accepted_more, fresh_more, clock_old, cause_more}
 use Rattle.lethe_cover.proofs.Recorded.{held_within}
 
@@ -71,3 +72,16 @@ failed_covers threshold caller h l covers call before behind =
     (λ key dkey erases. let clash : false ≡ true = erases in cc)
     (ap (λ s. s.map) (after-push h (record { caller = caller; call = call; did = Failed before behind })))
     l.clock l.count covers.times_fresh
+
+pub tick_covers : (threshold caller : ℕ) (h : History) (l : Layout) → Covers threshold h l → IsCounted h l → (to : ℕ) → AreFresh threshold h to (Holds l) (Tells l)
+    → Covers threshold (with_done h caller (Tick to)) (ticked h l to) × IsCounted (with_done h caller (Tick to)) (ticked h l to)
+tick_covers threshold caller h l covers counted to fresh = (
+  quiet_covers threshold h l covers (record { caller = caller; call = Tick to; did = Done })
+      (λ key dkey erases. let clash : false ≡ true = erases in cc)
+      (ap (λ s. s.map) (after-push h (record { caller = caller; call = Tick to; did = Done })))
+      to (next_place h) fresh,
+  record {
+    count = omega (arith, length_push h (record { caller = caller; call = Tick to; did = Done }));
+    places = λ r is. let within = counted.places r is in omega (arith, length_push h (record { caller = caller; call = Tick to; did = Done }));
+  },
+)

@@ -3,12 +3,14 @@ use Rattle.std.specs.Prelude.{◌≡◌, ℕ, ◌+◌, ◌≤◌, min, [], ◌�
 use Rattle.std.specs.FinMap as finmap
 use Rattle.lethe_base.specs.Keys.{Bytes}
 use Rattle.lethe_base.specs.History.{History}
-use Rattle.lethe_base.specs.Layout.{Layout, Record, place_of, buffer_of}
+use Rattle.lethe_base.specs.Ranges.{Ends}
+use Rattle.lethe_base.specs.Layout.{Layout, Record, Erasing, place_of, buffer_of}
 use Rattle.lethe_base.specs.Held.{IsRecorded}
 use Rattle.lethe_base.specs.declared.call.Call.{Call}
 use Rattle.lethe_base.specs.declared.call.Did.TheVariants.{Done, Failed}
 use Rattle.lethe_base.specs.declared.entry.Body.TheVariants.{Put, Tomb}
 use Rattle.lethe_base.specs.declared.entry.Entry.{Entry}
+use Rattle.lethe_base.specs.declared.pending.Pending.{Pending}
 
 -- the place of the next change
 abbrev pub next_place : History → ℕ
@@ -42,3 +44,19 @@ put_entry h l key dkey value = record { seq = next_place h; key = key; body = Pu
 -- what a delete writes: with the clock, or the smaller time of the entry that it replaces
 abbrev pub tomb_entry : History → Layout → Bytes → Entry
 tomb_entry h l key = record { seq = next_place h; key = key; body = Tomb; since = Some (min l.clock (unwrap_or (time_of key l) l.clock)) }
+
+-- what an erase writes: the place, the clock and the range
+abbrev pub accepted : History → Layout → Ends → Pending
+accepted h l range = record { seq = next_place h; time = l.clock; range = range }
+
+-- the layout with one more erase, which is pending
+abbrev pub erasing : Layout → Pending → Layout
+erasing l erase = record (recorded l (Erasing erase)) { pending = l.pending ++ erase ∷ [] }
+
+-- the layout whose active segment is frozen, with a new one
+abbrev pub frozen : Layout → Layout
+frozen l = record l { active = []; frozen = Some l.active }
+
+-- the layout at another time, with a change more
+abbrev pub ticked : History → Layout → ℕ → Layout
+ticked h l to = record l { clock = to; count = next_place h }

@@ -1,17 +1,19 @@
 //! A layout that stands for its history stands for it after each change. The functions do nothing: their contracts are
 //! the laws.
-ghost use Rattle.std.specs.Prelude.{◌≡◌, ℕ, ◌<◌, List};
+ghost use Rattle.std.specs.Prelude.{◌≡◌, ℕ, ◌<◌, List, None};
 ghost use Rattle.lethe_base.specs.Covers.{Covers};
-ghost use Rattle.lethe_base.specs.Held.{Shows};
+ghost use Rattle.lethe_base.specs.Fresh.{AreFresh};
+ghost use Rattle.lethe_base.specs.Held.{Holds, Shows, Tells};
 ghost use Rattle.lethe_base.specs.History.{History, after};
 ghost use Rattle.lethe_base.specs.Keys.{Bytes};
 ghost use Rattle.lethe_base.specs.Layout.{Blind, Layout, Record, Written};
+ghost use Rattle.lethe_base.specs.Ranges.{Ends};
 ghost use Rattle.lethe_base.specs.declared.call.Call.{Call};
-ghost use Rattle.lethe_base.specs.declared.call.Call.TheVariants.{Delete, Put};
+ghost use Rattle.lethe_base.specs.declared.call.Call.TheVariants.{Delete, Erase, Put, Tick};
 ghost use Rattle.lethe_base.specs.declared.entry.Entry.{Entry};
 ghost use Rattle.lethe_base.specs.declared.pending.Pending.{Pending};
 ghost use Rattle.lethe_cover.specs.Changes.{IsChange, followed};
-ghost use Rattle.lethe_cover.specs.Steps.{IsCounted, next_place, put_entry, recorded, tomb_entry, with_done, with_failed};
+ghost use Rattle.lethe_cover.specs.Steps.{IsCounted, accepted, erasing, frozen, next_place, put_entry, recorded, ticked, tomb_entry, with_done, with_failed};
 
 /// With the record of a change, and of each put that the change ends a newer entry or a pending erase, a layout stands for
 /// the history with that change.
@@ -44,6 +46,30 @@ pub fn blind_covers()
         → (key : Bytes) → ((entry : Entry) → Shows l entry → entry.key ≡ key → ⊥)
         → Covers threshold (with_done h caller (Delete key)) (recorded l (Blind (next_place h)))
         × IsCounted (with_done h caller (Delete key)) (recorded l (Blind (next_place h))) }
+{}
+
+/// An erase writes its place, the clock and its range, and becomes pending.
+pub fn erase_covers()
+    ensures { (threshold caller : ℕ) (h : History) (l : Layout) → Covers threshold h l → IsCounted h l
+        → 0 < threshold → l.clock ≡ (after h).clock
+        → (range : Ends)
+        → Covers threshold (with_done h caller (Erase range)) (erasing l (accepted h l range))
+        × IsCounted (with_done h caller (Erase range)) (erasing l (accepted h l range)) }
+{}
+
+/// A tick moves the clock to a time at which no remembered erasure is due.
+pub fn tick_covers()
+    ensures { (threshold caller : ℕ) (h : History) (l : Layout) → Covers threshold h l → IsCounted h l
+        → (to : ℕ) → AreFresh threshold h to (Holds l) (Tells l)
+        → Covers threshold (with_done h caller (Tick to)) (ticked h l to)
+        × IsCounted (with_done h caller (Tick to)) (ticked h l to) }
+{}
+
+/// A freeze makes the active segment the frozen one, where there is none.
+pub fn freeze_covers()
+    ensures { (threshold : ℕ) (h : History) (l : Layout) → Covers threshold h l → IsCounted h l
+        → l.frozen ≡ None
+        → Covers threshold h (frozen l) × IsCounted h (frozen l) }
 {}
 
 /// A call in which the disk failed changes nothing that the layout stands for.

@@ -3,4 +3,7 @@
 
 mod changes;
 
-pub use changes::{blind_covers, change_covers, delete_covers, failed_covers, put_covers};
+pub use changes::{
+    blind_covers, change_covers, delete_covers, erase_covers, failed_covers, freeze_covers,
+    put_covers, tick_covers,
+};
