@@ -1,0 +1,10 @@
+pub mod Grown
+pub mod Buffers
+pub mod Recorded
+pub mod Changed
+pub mod Ranges
+pub mod Matches
+pub mod Entered
+pub mod Unentered
+pub mod Quiet
+pub mod Frozen

@@ -1,0 +1,9 @@
+//! Which history a store's layout stands for, step by step.
+#![tactic(auto)]
+
+mod changes;
+
+pub use changes::{
+    blind_covers, change_covers, delete_covers, erase_covers, failed_covers, freeze_covers,
+    put_covers, tick_covers,
+};
