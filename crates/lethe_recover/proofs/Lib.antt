@@ -1,0 +1,11 @@
+pub mod Quieting
+pub mod Replaying
+pub mod Reading
+pub mod Unique
+pub mod Exact
+pub mod Frame
+pub mod Steps
+pub mod Meanings
+pub mod Changes
+pub mod ExamplesSpelled
+pub mod Firsts
