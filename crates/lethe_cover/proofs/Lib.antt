@@ -8,3 +8,5 @@ pub mod Entered
 pub mod Unentered
 pub mod Quiet
 pub mod Frozen
+pub mod Swept
+pub mod Replaced
