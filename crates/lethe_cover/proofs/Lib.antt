@@ -10,3 +10,4 @@ pub mod Quiet
 pub mod Frozen
 pub mod Swept
 pub mod Replaced
+pub mod EachRun

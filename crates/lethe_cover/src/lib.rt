@@ -2,8 +2,10 @@
 #![tactic(auto)]
 
 mod changes;
+mod runs;
 
 pub use changes::{
     blind_covers, change_covers, delete_covers, erase_covers, failed_covers, freeze_covers,
     put_covers, tick_covers,
 };
+pub use runs::each_run_follows;
