@@ -11,3 +11,6 @@ pub mod Frozen
 pub mod Swept
 pub mod Replaced
 pub mod EachRun
+pub mod Bridge
+pub mod Files
+pub mod Flushed

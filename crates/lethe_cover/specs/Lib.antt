@@ -2,3 +2,4 @@ pub mod Steps
 pub mod Changes
 pub mod Outcomes
 pub mod Reaches
+pub mod Flushes

@@ -2,10 +2,12 @@
 #![tactic(auto)]
 
 mod changes;
+mod jobs;
 mod runs;
 
 pub use changes::{
     blind_covers, change_covers, delete_covers, erase_covers, failed_covers, freeze_covers,
     put_covers, tick_covers,
 };
+pub use jobs::flush_covers;
 pub use runs::each_run_follows;
