@@ -14,3 +14,6 @@ pub mod EachRun
 pub mod Bridge
 pub mod Files
 pub mod Flushed
+pub mod Joined
+pub mod Ascending
+pub mod Merging

@@ -3,3 +3,4 @@ pub mod Changes
 pub mod Outcomes
 pub mod Reaches
 pub mod Flushes
+pub mod Merged

@@ -1,9 +1,13 @@
-//! A layout that stands for its history stands for it after each flush.
-ghost use Rattle.std.specs.Prelude.{ℕ, Bool, Option};
+//! A layout that stands for its history stands for it after each flush, and what a merge makes.
+ghost use Rattle.std.specs.Prelude.{ℕ, Bool, Contains, IsTrue, List, Option};
 ghost use Rattle.lethe_base.specs.Covers.{Covers};
 ghost use Rattle.lethe_base.specs.History.{History};
 ghost use Rattle.lethe_base.specs.Layout.{File, Layout};
+ghost use Rattle.lethe_base.specs.declared.entry.Entry.{Entry};
+ghost use Rattle.lethe_base.specs.declared.pending.Pending.{Pending};
 ghost use Rattle.lethe_cover.specs.Flushes.{IsFlush, flushed};
+ghost use Rattle.lethe_cover.specs.Merged.{IsMerged};
+ghost use Rattle.lethe_cover.specs.Outcomes.{IsOutcome};
 ghost use Rattle.lethe_cover.specs.Steps.{IsCounted};
 
 /// A flush makes the newest file of level 0 of what is left of the frozen buffer, or none where nothing is left.
@@ -11,4 +15,10 @@ pub fn flush_covers()
     ensures { (threshold : ℕ) (h : History) (l : Layout) → Covers threshold h l → IsCounted h l
         → (alone : Bool) (made : Option File) → IsFlush h l alone made
         → Covers threshold h (flushed l made) × IsCounted h (flushed l made) }
+{}
+
+/// A merged list is an outcome of its inputs.
+pub fn merged_is_outcome()
+    ensures { (inputs : List Entry) (erases : List Pending) (alone : Bool) (merged : List Entry) → IsMerged inputs erases alone merged
+        → IsOutcome erases (IsTrue alone) (Contains inputs) (Contains merged) }
 {}
