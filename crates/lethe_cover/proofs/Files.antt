@@ -1,5 +1,5 @@
 -- The files of levels and of runs.
-use Rattle.std.proofs.Common.{◌≡◌, inl, inr, List, [], ◌∷◌, map, flat_map, Contains, Option, Some, None, refl, sym, subst}
+use Rattle.std.proofs.Common.{◌≡◌, inl, inr, List, [], ◌∷◌, map, flat_map, Contains, Option, Some, None, refl, ap, sym, subst}
 use Rattle.std.proofs.lemmas.List.Elements.{Contains-append_left, Contains-append_right, Contains-append_cases}
 use Rattle.std.specs.List.{cons_option}
 use Rattle.lethe_base.specs.Layout.{File, runs_of}
@@ -48,3 +48,31 @@ files_newest None [] = refl
 files_newest None (newest ∷ deeper) = refl
 files_newest (Some file) [] = refl
 files_newest (Some file) (newest ∷ deeper) = refl
+
+pub flat_from : {X : Type 0} (xss : List (List X)) (x : X) → Contains (flat_map (λ ys. ys) xss) x → (xs : List X) × Contains xss xs × Contains xs x
+flat_from [] x there = absurd (none_in x there)
+flat_from (ys ∷ xss) x there = elim (Contains-append_cases ys (flat_map (λ ys. ys) xss) x there) [
+  | inl first ↦ (ys, first_is ys xss ys refl, first)
+  | inr rest ↦ let found = flat_from xss x rest in (found.0, Contains-append_right (ys ∷ []) xss found.0 found.1, found.2)
+]
+
+-- the runs have the files of the levels
+pub runs_file : (levels : List (List File)) (file : File) → Contains (flat_map (λ files. files) (runs_of levels)) file → Contains (flat_map (λ files. files) levels) file
+runs_file levels file there = let found = flat_from (runs_of levels) file there in run_file levels found.0 file found.1 found.2
+
+single_in : (newest : List File) (file : File) → Contains newest file → Contains (map (λ file. file ∷ []) newest) (file ∷ [])
+single_in [] file there = absurd (none_in file there)
+single_in (first ∷ newest) file there = elim (first_or_rest first newest file there) [
+  | inl same ↦ first_is (first ∷ []) (map (λ file. file ∷ []) newest) (file ∷ []) (ap (λ f. f ∷ []) same)
+  | inr rest ↦ Contains-append_right ((first ∷ []) ∷ []) (map (λ file. file ∷ []) newest) (file ∷ []) (single_in newest file rest)
+]
+
+pub file_runs : (levels : List (List File)) (file : File) → Contains (flat_map (λ files. files) levels) file → Contains (flat_map (λ files. files) (runs_of levels)) file
+file_runs [] file there = absurd (none_in file there)
+file_runs (newest ∷ deeper) file there = elim (Contains-append_cases newest (flat_map (λ files. files) deeper) file there) [
+  | inl first ↦ flat_in (runs_of (newest ∷ deeper)) (file ∷ []) file
+      (Contains-append_left (map (λ file. file ∷ []) newest) deeper (file ∷ []) (single_in newest file first)) (first_is file [] file refl)
+  | inr rest ↦
+      let found = flat_from deeper file rest in
+      flat_in (runs_of (newest ∷ deeper)) found.0 file (Contains-append_right (map (λ file. file ∷ []) newest) deeper found.0 found.1) found.2
+]

@@ -17,3 +17,5 @@ pub mod Flushed
 pub mod Joined
 pub mod Ascending
 pub mod Merging
+pub mod Falling
+pub mod Moved

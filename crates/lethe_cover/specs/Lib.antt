@@ -4,3 +4,4 @@ pub mod Outcomes
 pub mod Reaches
 pub mod Flushes
 pub mod Merged
+pub mod Moves

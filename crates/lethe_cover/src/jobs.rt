@@ -1,4 +1,4 @@
-//! A layout that stands for its history stands for it after each flush, and what a merge makes.
+//! A layout that stands for its history stands for it after each flush, merge and sweep.
 ghost use Rattle.std.specs.Prelude.{ℕ, Bool, Contains, IsTrue, List, Option};
 ghost use Rattle.lethe_base.specs.Covers.{Covers};
 ghost use Rattle.lethe_base.specs.History.{History};
@@ -7,6 +7,7 @@ ghost use Rattle.lethe_base.specs.declared.entry.Entry.{Entry};
 ghost use Rattle.lethe_base.specs.declared.pending.Pending.{Pending};
 ghost use Rattle.lethe_cover.specs.Flushes.{IsFlush, flushed};
 ghost use Rattle.lethe_cover.specs.Merged.{IsMerged};
+ghost use Rattle.lethe_cover.specs.Moves.{Move, Moves};
 ghost use Rattle.lethe_cover.specs.Outcomes.{IsOutcome};
 ghost use Rattle.lethe_cover.specs.Steps.{IsCounted};
 
@@ -15,6 +16,13 @@ pub fn flush_covers()
     ensures { (threshold : ℕ) (h : History) (l : Layout) → Covers threshold h l → IsCounted h l
         → (alone : Bool) (made : Option File) → IsFlush h l alone made
         → Covers threshold h (flushed l made) × IsCounted h (flushed l made) }
+{}
+
+/// A merge or a sweep takes files and makes others of what is left of their entries.
+pub fn move_covers()
+    ensures { (threshold : ℕ) (h : History) (l : Layout) → Covers threshold h l → IsCounted h l
+        → (levels : List (List File)) (alone : Bool) (applied : List Pending) (swept : ℕ) (m : Move) → Moves threshold h l levels alone applied swept m
+        → Covers threshold h (record l { levels = levels }) × IsCounted h (record l { levels = levels }) }
 {}
 
 /// A merged list is an outcome of its inputs.

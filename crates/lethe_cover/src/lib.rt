@@ -9,5 +9,5 @@ pub use changes::{
     blind_covers, change_covers, delete_covers, erase_covers, failed_covers, freeze_covers,
     put_covers, tick_covers,
 };
-pub use jobs::{flush_covers, merged_is_outcome};
+pub use jobs::{flush_covers, merged_is_outcome, move_covers};
 pub use runs::each_run_follows;
