@@ -52,3 +52,21 @@ module _ (threshold : ℕ) (h : History) (l : Layout) (covers : Covers threshold
         | inl there ↦ inl there
         | inr recorded ↦ inr (known (Erasing erase) recorded)
       ]
+
+-- the numbers of objects and certificates say nothing of the history
+pub numbered_covers : (threshold : ℕ) (h : History) (l : Layout) → Covers threshold h l → (next certificate : ℕ) → Covers threshold h (record l { next = next; certificate = certificate })
+numbered_covers threshold h l covers next certificate = record {
+  places = record { entries = covers.places.entries; erases = covers.places.erases };
+  newer_above = record {
+    runs = covers.newer_above.runs;
+    active_frozen = covers.newer_above.active_frozen;
+    active_files = covers.newer_above.active_files;
+    frozen_files = covers.newer_above.frozen_files;
+    active_buffer = covers.newer_above.active_buffer;
+    frozen_buffer = covers.newer_above.frozen_buffer;
+  };
+  same_map = record { newest = covers.same_map.newest; absent = covers.same_map.absent };
+  deletes_covered = covers.deletes_covered;
+  erases_covered = record { pending = covers.erases_covered.pending; swept = covers.erases_covered.swept; unswept = covers.erases_covered.unswept };
+  times_fresh = record { entries = covers.times_fresh.entries; erases = covers.times_fresh.erases };
+}

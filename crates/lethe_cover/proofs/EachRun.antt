@@ -10,8 +10,11 @@ use Rattle.lethe_base.proofs.Histories.{after-push}
 use Rattle.lethe_base.proofs.LayoutLaws.{none_in, new_covers}
 use Rattle.lethe_base.proofs.Shorter.{shorter_covers}
 use Rattle.lethe_cover.specs.Steps.{with_done}
-use Rattle.lethe_cover.specs.Reaches.{Follows, Reaches, New, Put, Delete, Blind, Erase, Tick, Freeze, Leave}
+use Rattle.lethe_cover.specs.Reaches.{Follows, Reaches, New, Put, Delete, Blind, Erase, Tick, Freeze, Leave, Flush, Job, Number}
 use Rattle.lethe_cover.proofs.Entered.{put_covers, delete_covers}
+use Rattle.lethe_cover.proofs.Bridge.{numbered_covers}
+use Rattle.lethe_cover.proofs.Flushed.{flush_covers}
+use Rattle.lethe_cover.proofs.Moved.{move_covers}
 use Rattle.lethe_cover.proofs.Frozen.{freeze_covers}
 use Rattle.lethe_cover.proofs.Quiet.{tick_covers}
 use Rattle.lethe_cover.proofs.Unentered.{blind_covers, erase_covers}
@@ -64,6 +67,21 @@ module _ (threshold levels : ℕ) (some : 0 < threshold) where
       let before = each_run g m run in
       record {
         covers = shorter_covers threshold g m before.covers pending shorter;
+        counted = record { count = before.counted.count; places = before.counted.places };
+        clock = before.clock;
+      }
+  each_run h l (Flush g m alone made flush run) =
+      let before = each_run g m run in
+      let step = flush_covers threshold g m before.covers before.counted alone made flush in
+      record { covers = step.0; counted = step.1; clock = before.clock }
+  each_run h l (Job g m left alone applied swept move moves run) =
+      let before = each_run g m run in
+      let step = move_covers threshold g m before.covers before.counted left alone applied swept move moves in
+      record { covers = step.0; counted = step.1; clock = before.clock }
+  each_run h l (Number g m next certificate run) =
+      let before = each_run g m run in
+      record {
+        covers = numbered_covers threshold g m before.covers next certificate;
         counted = record { count = before.counted.count; places = before.counted.places };
         clock = before.clock;
       }

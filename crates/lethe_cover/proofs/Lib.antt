@@ -19,3 +19,4 @@ pub mod Ascending
 pub mod Merging
 pub mod Falling
 pub mod Moved
+pub mod Returned

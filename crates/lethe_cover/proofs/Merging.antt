@@ -193,3 +193,20 @@ module _ (inputs : List Entry) (erases : List Pending) (alone : Bool) (merged : 
 
   pub merged_outcome : IsOutcome erases (IsTrue alone) (Contains inputs) (Contains merged)
   merged_outcome = record { source = source; kept = kept; since = since }
+
+-- the same inputs, told otherwise
+pub outcome_same : (erases : List Pending) (Alone : Type 0) (P Q outputs : Entry → Type 0) → ((e : Entry) → P e → Q e) → ((e : Entry) → Q e → P e) → IsOutcome erases Alone P outputs → IsOutcome erases Alone Q outputs
+outcome_same erases Alone P Q outputs to back is = record {
+  source = λ output made. let from = is.source output made in record { input = from.input; newest = newest from.input from.newest; same = from.same; place = from.place; answer = from.answer };
+  kept = λ input taken. elim (is.kept input (back input taken)) [
+    | inl kept ↦ inl kept
+    | inr dropped ↦ inr (record { alone = dropped.alone; none = dropped.none; newest = dropped.newest; is = newest dropped.newest dropped.is; same = dropped.same; nothing = dropped.nothing })
+  ];
+  since = λ output time made has. elim (is.since output time made has) [
+    | inl from ↦ inl (from.0, to from.0 from.1, from.2)
+    | inr erased ↦ inr erased
+  ];
+}
+  where
+    newest : (input : Entry) → IsNewest P input → IsNewest Q input
+    newest input best = record { shown = to input best.shown; last = λ other there same. best.last other (back other there) same }

@@ -1,10 +1,10 @@
 -- Every run of a store: which layouts come to follow which histories, step by step.
-use Rattle.std.specs.Prelude.{◌≡◌, ℕ, ◌≤◌, List, [], None}
+use Rattle.std.specs.Prelude.{◌≡◌, ℕ, ◌≤◌, Bool, List, [], Option, None}
 use Rattle.lethe_base.specs.Keys.{Bytes}
 use Rattle.lethe_base.specs.Ranges.{Ends}
 use Rattle.lethe_base.specs.History.{History, after}
 use Rattle.lethe_base.specs.Layout as layout
-use Rattle.lethe_base.specs.Layout.{Layout, new_layout}
+use Rattle.lethe_base.specs.Layout.{Layout, File, new_layout}
 use Rattle.lethe_base.specs.Held.{Holds, Shows, Tells}
 use Rattle.lethe_base.specs.Fresh.{AreFresh}
 use Rattle.lethe_base.specs.Spent.{IsShorter}
@@ -12,6 +12,8 @@ use Rattle.lethe_base.specs.Covers.{Covers}
 use Rattle.lethe_base.specs.declared.call.Call.TheVariants as call
 use Rattle.lethe_base.specs.declared.entry.Entry.{Entry}
 use Rattle.lethe_base.specs.declared.pending.Pending.{Pending}
+use Rattle.lethe_cover.specs.Flushes.{IsFlush, flushed}
+use Rattle.lethe_cover.specs.Moves.{Move, Moves}
 use Rattle.lethe_cover.specs.Steps.{IsCounted, next_place, with_done, recorded, put_entry, tomb_entry, accepted, erasing, frozen, ticked}
 
 -- the layout stands for the history, and has its count and its clock
@@ -36,3 +38,9 @@ pub data Reaches (threshold levels : ℕ) : History → Layout → Type 0 where
   Freeze : (h : History) (l : Layout) → l.frozen ≡ None → Reaches threshold levels h l → Reaches threshold levels h (frozen l)
   -- erases that are spent may leave the pending ones
   Leave : (h : History) (l : Layout) (pending : List Pending) → IsShorter l pending → Reaches threshold levels h l → Reaches threshold levels h (record l { pending = pending })
+  Flush : (h : History) (l : Layout) (alone : Bool) (made : Option File) → IsFlush h l alone made → Reaches threshold levels h l → Reaches threshold levels h (flushed l made)
+  -- a merge or a sweep
+  Job : (h : History) (l : Layout) (left : List (List File)) (alone : Bool) (applied : List Pending) (swept : ℕ) (m : Move) → Moves threshold h l left alone applied swept m
+      → Reaches threshold levels h l → Reaches threshold levels h (record l { levels = left })
+  -- objects and certificates get their numbers
+  Number : (h : History) (l : Layout) (next certificate : ℕ) → Reaches threshold levels h l → Reaches threshold levels h (record l { next = next; certificate = certificate })

@@ -1,8 +1,12 @@
 //! A layout that stands for its history stands for it after each flush, merge and sweep.
-ghost use Rattle.std.specs.Prelude.{ℕ, Bool, Contains, IsTrue, List, Option};
+ghost use Rattle.std.specs.Prelude.{◌↔◌, ℕ, Bool, Contains, IsTrue, List, Option};
 ghost use Rattle.lethe_base.specs.Covers.{Covers};
+ghost use Rattle.lethe_base.specs.Fresh.{IsFresh};
+ghost use Rattle.lethe_base.specs.Held.{InBuffer};
 ghost use Rattle.lethe_base.specs.History.{History};
-ghost use Rattle.lethe_base.specs.Layout.{File, Layout};
+ghost use Rattle.lethe_base.specs.Layout.{Buffer, File, Layout};
+ghost use Rattle.lethe_base.specs.Placed.{IsAccepted};
+ghost use Rattle.lethe_base.specs.Spent.{IsShorter};
 ghost use Rattle.lethe_base.specs.declared.entry.Entry.{Entry};
 ghost use Rattle.lethe_base.specs.declared.pending.Pending.{Pending};
 ghost use Rattle.lethe_cover.specs.Flushes.{IsFlush, flushed};
@@ -29,4 +33,25 @@ pub fn move_covers()
 pub fn merged_is_outcome()
     ensures { (inputs : List Entry) (erases : List Pending) (alone : Bool) (merged : List Entry) → IsMerged inputs erases alone merged
         → IsOutcome erases (IsTrue alone) (Contains inputs) (Contains merged) }
+{}
+
+/// A merged list of what a buffer has is an outcome of the buffer.
+pub fn merged_buffer_is_outcome()
+    ensures { (buffer : Buffer) (inputs : List Entry) → ((entry : Entry) → Contains inputs entry ↔ InBuffer buffer entry)
+        → (erases : List Pending) (alone : Bool) (merged : List Entry) → IsMerged inputs erases alone merged
+        → IsOutcome erases (IsTrue alone) (InBuffer buffer) (Contains merged) }
+{}
+
+/// Erases that are spent may come back to the pending ones, as the records of a segment bring them back after a crash.
+pub fn spent_erases_may_return()
+    ensures { (threshold : ℕ) (h : History) (l : Layout) (pending : List Pending) → Covers threshold h (record l { pending = pending })
+        → IsShorter l pending
+        → ((erase : Pending) → Contains l.pending erase → IsAccepted h erase × IsFresh threshold h l.clock erase.time)
+        → Covers threshold h l }
+{}
+
+/// The numbers of objects and of certificates say nothing of the history.
+pub fn numbers_are_free()
+    ensures { (threshold : ℕ) (h : History) (l : Layout) → Covers threshold h l
+        → (next certificate : ℕ) → Covers threshold h (record l { next = next; certificate = certificate }) }
 {}
