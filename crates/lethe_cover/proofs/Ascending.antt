@@ -46,3 +46,16 @@ own_entry (x ∷ entries) entry ascending there =
     by : (t : Bool) → same_key entry.key x.key ≡ t → is_lt (key_cmp x.key entry.key) ≡ true → entry_of entry.key entries ≡ Some entry → cond t (Some x) (entry_of entry.key entries) ≡ Some entry
     by true at below is = absurd (not_both (key_cmp x.key x.key) (subst (λ k. is_lt (key_cmp x.key k) ≡ true) (same_key-true entry.key x.key at) below) (same_key-self x.key))
     by false at below is = is
+
+pub no_entry : (key : Bytes) (entries : List Entry) → entry_of key entries ≡ None → (entry : Entry) → Contains entries entry → entry.key ≡ key → ⊥
+no_entry key [] is entry there named = none_in entry there
+no_entry key (x ∷ entries) is entry there named = by (no_entry key entries) (same_key key x.key) refl is
+  where
+    by : (entry_of key entries ≡ None → (entry : Entry) → Contains entries entry → entry.key ≡ key → ⊥) → (t : Bool) → same_key key x.key ≡ t → cond t (Some x) (entry_of key entries) ≡ None → ⊥
+    by more true at is = let clash : Some x ≡ None = is in cc
+    by more false at is = elim (first_or_rest x entries entry there) [
+      | inl same ↦
+          let one : same_key key x.key ≡ true = subst (λ k. same_key key k ≡ true) (sym named ∙ ap (λ e. e.key) (sym same)) (same_key-self key) in
+          let clash : true ≡ false = sym one ∙ at in cc
+      | inr rest ↦ more is entry rest named
+    ]

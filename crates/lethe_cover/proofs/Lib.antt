@@ -20,3 +20,4 @@ pub mod Merging
 pub mod Falling
 pub mod Moved
 pub mod Returned
+pub mod Reading

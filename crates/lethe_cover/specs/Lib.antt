@@ -5,3 +5,4 @@ pub mod Reaches
 pub mod Flushes
 pub mod Merged
 pub mod Moves
+pub mod Reads

@@ -13,4 +13,4 @@ pub use jobs::{
     flush_covers, merged_buffer_is_outcome, merged_is_outcome, move_covers, numbers_are_free,
     spent_erases_may_return,
 };
-pub use runs::each_run_follows;
+pub use runs::{each_run_follows, reads_answer};
