@@ -21,3 +21,4 @@ pub mod Falling
 pub mod Moved
 pub mod Returned
 pub mod Reading
+pub mod Sweeping

@@ -27,7 +27,7 @@ in_map f (y ∷ xs) x there = elim (first_or_rest y xs x there) [
 ]
 
 -- the body answers what the entry answers under the erases
-struck_answer : (erases : List Pending) (seq : ℕ) (body : Body) → pair_of (body_under erases seq body) ≡ pair_under erases seq body
+pub struck_answer : (erases : List Pending) (seq : ℕ) (body : Body) → pair_of (body_under erases seq body) ≡ pair_under erases seq body
 struck_answer erases seq Tomb = refl
 struck_answer erases seq (Put dkey value) = by (list_any (λ erase. matches erase seq dkey) erases)
   where
@@ -35,7 +35,7 @@ struck_answer erases seq (Put dkey value) = by (list_any (λ erase. matches eras
     by true = refl
     by false = refl
 
-struck_by : (erases : List Pending) (entry : Entry) (time : ℕ) → entry.since ≡ Some time → IsBy (struck erases entry).since time
+pub struck_by : (erases : List Pending) (entry : Entry) (time : ℕ) → entry.since ≡ Some time → IsBy (struck erases entry).since time
 struck_by erases entry time has = by entry.body
   where
     by : (body : Body) → IsBy (since_under erases entry.seq body entry.since) time
@@ -43,7 +43,7 @@ struck_by erases entry time has = by entry.body
     by Tomb = own_by entry.since time has
 
 -- an erase of the list has the time
-abbrev IsErasesTime : List Pending → ℕ → Type 0
+abbrev pub IsErasesTime : List Pending → ℕ → Type 0
 IsErasesTime erases time = (erase : Pending) × Contains erases erase × (erase.time ≡ time)
 
 time_from : (erases : List Pending) (seq dkey time : ℕ) → time_under erases seq dkey ≡ Some time → IsErasesTime erases time
@@ -57,7 +57,7 @@ time_from (first ∷ erases) seq dkey time is = elim (earlier_from (cond (matche
     by true is = (first, first_is first erases first refl, cc)
     by false is = absurd (let clash : None ≡ Some time = is in cc)
 
-struck_from : (erases : List Pending) (entry : Entry) (time : ℕ) → (struck erases entry).since ≡ Some time → (entry.since ≡ Some time) ⊎ IsErasesTime erases time
+pub struck_from : (erases : List Pending) (entry : Entry) (time : ℕ) → (struck erases entry).since ≡ Some time → (entry.since ≡ Some time) ⊎ IsErasesTime erases time
 struck_from erases entry time is = by entry.body is
   where
     by : (body : Body) → since_under erases entry.seq body entry.since ≡ Some time → (entry.since ≡ Some time) ⊎ IsErasesTime erases time

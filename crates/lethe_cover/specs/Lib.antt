@@ -6,3 +6,4 @@ pub mod Flushes
 pub mod Merged
 pub mod Moves
 pub mod Reads
+pub mod Sweeps

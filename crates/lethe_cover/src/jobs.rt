@@ -1,8 +1,8 @@
 //! A layout that stands for its history stands for it after each flush, merge and sweep.
-ghost use Rattle.std.specs.Prelude.{◌↔◌, ℕ, Bool, Contains, IsTrue, List, Option};
+ghost use Rattle.std.specs.Prelude.{[], ◌↔◌, ◌∷◌, ℕ, Bool, Contains, IsTrue, List, Option};
 ghost use Rattle.lethe_base.specs.Covers.{Covers};
 ghost use Rattle.lethe_base.specs.Fresh.{IsFresh};
-ghost use Rattle.lethe_base.specs.Held.{InBuffer};
+ghost use Rattle.lethe_base.specs.Held.{InBuffer, InFiles};
 ghost use Rattle.lethe_base.specs.History.{History};
 ghost use Rattle.lethe_base.specs.Layout.{Buffer, File, Layout};
 ghost use Rattle.lethe_base.specs.Placed.{IsAccepted};
@@ -14,6 +14,7 @@ ghost use Rattle.lethe_cover.specs.Merged.{IsMerged};
 ghost use Rattle.lethe_cover.specs.Moves.{Move, Moves};
 ghost use Rattle.lethe_cover.specs.Outcomes.{IsOutcome};
 ghost use Rattle.lethe_cover.specs.Steps.{IsCounted};
+ghost use Rattle.lethe_cover.specs.Sweeps.{IsSwept};
 
 /// A flush makes the newest file of level 0 of what is left of the frozen buffer, or none where nothing is left.
 pub fn flush_covers()
@@ -40,6 +41,12 @@ pub fn merged_buffer_is_outcome()
     ensures { (buffer : Buffer) (inputs : List Entry) → ((entry : Entry) → Contains inputs entry ↔ InBuffer buffer entry)
         → (erases : List Pending) (alone : Bool) (merged : List Entry) → IsMerged inputs erases alone merged
         → IsOutcome erases (IsTrue alone) (InBuffer buffer) (Contains merged) }
+{}
+
+/// What a sweep leaves of files in which no key stands twice is an outcome of them.
+pub fn sweep_is_outcome()
+    ensures { (erase : Pending) (alone : Bool) (taken made : List File) → IsSwept erase alone taken made
+        → IsOutcome (erase ∷ []) (IsTrue alone) (InFiles taken) (InFiles made) }
 {}
 
 /// Erases that are spent may come back to the pending ones, as the records of a segment bring them back after a crash.

@@ -11,6 +11,6 @@ pub use changes::{
 };
 pub use jobs::{
     flush_covers, merged_buffer_is_outcome, merged_is_outcome, move_covers, numbers_are_free,
-    spent_erases_may_return,
+    spent_erases_may_return, sweep_is_outcome,
 };
 pub use runs::{each_run_follows, reads_answer};
