@@ -8,3 +8,17 @@ pub mod Entered
 pub mod Unentered
 pub mod Quiet
 pub mod Frozen
+pub mod Swept
+pub mod Replaced
+pub mod EachRun
+pub mod Bridge
+pub mod Files
+pub mod Flushed
+pub mod Joined
+pub mod Ascending
+pub mod Merging
+pub mod Falling
+pub mod Moved
+pub mod Returned
+pub mod Reading
+pub mod Sweeping

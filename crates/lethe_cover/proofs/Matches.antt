@@ -1,8 +1,8 @@
 -- What entries answer under pending erases.
-use Rattle.std.proofs.Common.{◌≡◌, ℕ, ◌<◌, ◌≤◌, true, false, Bool, nat_lt, ◌&&◌, ◌||◌, if◌then◌else◌, cond, List, [], ◌∷◌, ◌++◌, Contains, Some, None, refl, ap, ◌∙◌, arith}
+use Rattle.std.proofs.Common.{◌≡◌, ◌⊎◌, inl, inr, sym, subst, ℕ, ◌<◌, ◌≤◌, true, false, Bool, nat_lt, ◌&&◌, ◌||◌, if◌then◌else◌, cond, List, [], ◌∷◌, ◌++◌, Contains, Some, None, refl, ap, ◌∙◌, arith}
 use Rattle.std.proofs.lemmas.Bool.Decides.{nat_tests}
 use Rattle.std.proofs.lemmas.List.Elements.{Contains-append_right}
-use Rattle.std.proofs.lemmas.List.Folds.{list_any-append}
+use Rattle.std.proofs.lemmas.List.Folds.{list_any-append, Any-from_list_any, list_any-from_Any}
 use Rattle.std.specs.List.{list_any}
 use Rattle.lethe_base.specs.Ranges.{in_range}
 use Rattle.lethe_base.specs.History.{Pair}
@@ -49,3 +49,68 @@ answer_push erases erase seq (body.Put dkey value) lower =
     by : (a : Bool) → cond (a || in_range erase.range dkey) None (Some (let pair : Pair = (dkey, value) in pair)) ≡ left_by erase.range (cond a None (Some (let pair : Pair = (dkey, value) in pair)))
     by true = refl
     by false = refl
+
+pub any_found : {X : Type 0} (p : X → Bool) (xs : List X) → list_any p xs ≡ true → (x : X) × Contains xs x × (p x ≡ true)
+any_found p xs is = let any = Any-from_list_any p xs is in (any.1, (any.0, any.2, any.3), any.4)
+
+pub any_made : {X : Type 0} (p : X → Bool) (xs : List X) (x : X) → Contains xs x → p x ≡ true → list_any p xs ≡ true
+any_made p xs x there passes = list_any-from_Any p xs (there.0, x, there.1, there.2, passes)
+
+-- what a match says
+pub match_parts : (erase : Pending) (seq dkey : ℕ) → matches erase seq dkey ≡ true → (seq < erase.seq) × (in_range erase.range dkey ≡ true)
+match_parts erase seq dkey is = by (nat_lt seq erase.seq) (in_range erase.range dkey) refl is
+  where
+    lower : nat_lt seq erase.seq ≡ true → seq < erase.seq
+    lower at = grind (arith, nat_tests)
+
+    by : (a b : Bool) → nat_lt seq erase.seq ≡ a → (a && b) ≡ true → (seq < erase.seq) × (b ≡ true)
+    by true true at is = (lower at, refl)
+    by true false at is = absurd (let clash : false ≡ true = is in cc)
+    by false b at is = absurd (let clash : false ≡ true = is in cc)
+
+pub match_made : (erase : Pending) (seq dkey : ℕ) → seq < erase.seq → in_range erase.range dkey ≡ true → matches erase seq dkey ≡ true
+match_made erase seq dkey lower within = ap (λ a. a && in_range erase.range dkey) (below seq erase.seq lower) ∙ within
+
+abbrev any_match : List Pending → ℕ → ℕ → Bool
+any_match erases seq dkey = list_any (λ erase. matches erase seq dkey) erases
+
+-- what answers a pair is its put, which no erase matches
+pub under_some : (erases : List Pending) (seq : ℕ) (b : Body) (pair : Pair) → pair_under erases seq b ≡ Some pair → (b ≡ body.Put pair.0 pair.1) × (list_any (λ erase. matches erase seq pair.0) erases ≡ false)
+under_some erases seq body.Tomb pair is = absurd (let clash : None ≡ Some pair = is in cc)
+under_some erases seq (body.Put dkey value) pair is = by (any_match erases seq dkey) refl is
+  where
+    by : (t : Bool) → any_match erases seq dkey ≡ t → cond t None (Some (let pair : Pair = (dkey, value) in pair)) ≡ Some pair → (body.Put dkey value ≡ body.Put pair.0 pair.1) × (any_match erases seq pair.0 ≡ false)
+    by true at is = absurd (let clash : None ≡ Some pair = is in cc)
+    by false at is =
+        let mine : Pair = (dkey, value) in
+        let same : mine ≡ pair = cc in
+        (ap (λ p. body.Put p.0 p.1) same, subst (λ p. any_match erases seq p.0 ≡ false) same at)
+
+-- what answers nothing is a tombstone, or a put that an erase matches
+pub under_none : (erases : List Pending) (seq : ℕ) (b : Body) → pair_under erases seq b ≡ None → (b ≡ body.Tomb) ⊎ ((pair : Pair) × (b ≡ body.Put pair.0 pair.1) × (list_any (λ erase. matches erase seq pair.0) erases ≡ true))
+under_none erases seq body.Tomb is = inl refl
+under_none erases seq (body.Put dkey value) is = by (any_match erases seq dkey) refl is
+  where
+    by : (t : Bool) → any_match erases seq dkey ≡ t → cond t None (Some (let pair : Pair = (dkey, value) in pair)) ≡ None
+        → (body.Put dkey value ≡ body.Tomb) ⊎ ((pair : Pair) × (body.Put dkey value ≡ body.Put pair.0 pair.1) × (any_match erases seq pair.0 ≡ true))
+    by true at is = inr ((dkey, value), refl, at)
+    by false at is = absurd (let pair : Pair = (dkey, value) in let clash : Some pair ≡ None = is in cc)
+
+pub put_is : (b : Body) (pair : Pair) → pair_of b ≡ Some pair → b ≡ body.Put pair.0 pair.1
+put_is (body.Put dkey value) pair is = let mine : Pair = (dkey, value) in let same : mine ≡ pair = cc in ap (λ p. body.Put p.0 p.1) same
+put_is body.Tomb pair is = absurd (let clash : None ≡ Some pair = is in cc)
+
+pub tomb_is : (b : Body) → pair_of b ≡ None → b ≡ body.Tomb
+tomb_is (body.Put dkey value) is = absurd (let pair : Pair = (dkey, value) in let clash : Some pair ≡ None = is in cc)
+tomb_is body.Tomb is = refl
+
+-- erases that match nothing more than the others change no answer where they are applied first
+pub answer_applied : (pending applied : List Pending) (seq : ℕ) (made b : Body)
+    → ((pair : Pair) → b ≡ body.Put pair.0 pair.1 → list_any (λ erase. matches erase seq pair.0) applied ≡ true → list_any (λ erase. matches erase seq pair.0) pending ≡ true)
+    → pair_of made ≡ pair_under applied seq b → pair_under pending seq made ≡ pair_under pending seq b
+answer_applied pending applied seq made body.Tomb more is = ap (pair_under pending seq) (tomb_is made is)
+answer_applied pending applied seq made (body.Put dkey value) more is = by (any_match applied seq dkey) refl is
+  where
+    by : (t : Bool) → any_match applied seq dkey ≡ t → pair_of made ≡ cond t None (Some (let pair : Pair = (dkey, value) in pair)) → pair_under pending seq made ≡ pair_under pending seq (body.Put dkey value)
+    by true at is = ap (pair_under pending seq) (tomb_is made is) ∙ sym (ap (λ t. cond t None (Some (let pair : Pair = (dkey, value) in pair))) (more (dkey, value) refl at))
+    by false at is = ap (pair_under pending seq) (put_is made (dkey, value) is)

@@ -1,6 +1,6 @@
 -- What a layout with one more record holds and shows.
 use Rattle.std.proofs.Common.{◌≡◌, ◌⊎◌, inl, inr, ℕ, ◌+◌, ◌≤◌, Bool, true, false, cond, List, [], ◌∷◌, ◌++◌, length, Contains, Some, refl, sym, ap, ◌∙◌, subst, arith}
-use Rattle.std.proofs.lemmas.List.Elements.{Contains-append_cases}
+use Rattle.std.proofs.lemmas.List.Elements.{Contains-push_cases}
 use Rattle.std.specs.Cmp.Lexicographic.{nat_list_cmp_total}
 use Rattle.std.specs.FinMap as finmap
 use Rattle.lethe_base.specs.Keys.{Bytes, same_key}
@@ -12,8 +12,7 @@ use Rattle.lethe_base.specs.Covers.{Covers}
 use Rattle.lethe_base.specs.declared.entry.Entry.{Entry}
 use Rattle.lethe_base.specs.declared.pending.Pending.{Pending}
 use Rattle.lethe_base.proofs.HeldLaws.{shown_held}
-use Rattle.lethe_base.proofs.LayoutLaws.{none_in}
-use Rattle.lethe_base.proofs.Newest.{first_or_rest, same_key-self, same_key-true}
+use Rattle.lethe_base.proofs.Newest.{same_key-self, same_key-true}
 use Rattle.lethe_cover.specs.Changes.{followed}
 use Rattle.lethe_cover.specs.Steps.{IsCounted}
 use Rattle.lethe_cover.proofs.Buffers.{pushed, buffer_push}
@@ -61,12 +60,9 @@ pushed_still buffer (Erasing erase) old is = inl is
 module _ (l : Layout) (r : Record) (pending : List Pending) where
   pub recorded_cases : (x : Record) → IsRecorded (followed l r pending) x → IsRecorded l x ⊎ (r ≡ x)
   recorded_cases x is = elim is [
-    | inl active ↦ elim (Contains-append_cases l.active (r ∷ []) x active) [
+    | inl active ↦ elim (Contains-push_cases l.active r x active) [
       | inl old ↦ inl (inl old)
-      | inr last ↦ elim (first_or_rest r [] x last) [
-        | inl same ↦ inr same
-        | inr rest ↦ absurd (none_in x rest)
-      ]
+      | inr same ↦ inr same
     ]
     | inr frozen ↦ inl (inr frozen)
   ]
@@ -138,12 +134,9 @@ module _ (threshold : ℕ) (h : History) (l : Layout) (covers : Covers threshold
 
   module _ (counted : IsCounted h l) (r : Record) (pending : List Pending) (next : place_of r ≡ length h + 1) where
     newest_more : (entry : Entry) → Contains (l.active ++ r ∷ []) (Written entry) → (newest : Entry) × InBuffer (pushed (buffer_of l.active) (written r)) newest × (newest.key ≡ entry.key) × (entry.seq ≤ newest.seq)
-    newest_more entry there = elim (Contains-append_cases l.active (r ∷ []) (Written entry) there) [
+    newest_more entry there = elim (Contains-push_cases l.active r (Written entry) there) [
       | inl active ↦ before (covers.newer_above.active_buffer entry active)
-      | inr last ↦ elim (first_or_rest r [] (Written entry) last) [
-        | inl same ↦ here same
-        | inr rest ↦ absurd (none_in (Written entry) rest)
-      ]
+      | inr same ↦ here same
     ]
       where
         here : r ≡ Written entry → (newest : Entry) × InBuffer (pushed (buffer_of l.active) (written r)) newest × (newest.key ≡ entry.key) × (entry.seq ≤ newest.seq)
@@ -179,10 +172,7 @@ module _ (threshold : ℕ) (h : History) (l : Layout) (covers : Covers threshold
     }
       where
         last : (x : Record) → Contains (l.active ++ r ∷ []) x → Contains l.active x ⊎ (place_of x ≡ length h + 1)
-        last x there = elim (Contains-append_cases l.active (r ∷ []) x there) [
+        last x there = elim (Contains-push_cases l.active r x there) [
           | inl old ↦ inl old
-          | inr new ↦ elim (first_or_rest r [] x new) [
-            | inl same ↦ inr (sym (ap place_of same) ∙ next)
-            | inr rest ↦ absurd (none_in x rest)
-          ]
+          | inr same ↦ inr (sym (ap place_of same) ∙ next)
         ]

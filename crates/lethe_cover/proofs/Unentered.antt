@@ -1,6 +1,6 @@
 -- Changes whose record is no entry: deletes of what isn't there, and erases.
 use Rattle.std.proofs.Common.{◌≡◌, ◌⊎◌, inl, inr, ℕ, ◌<◌, Bool, true, false, cond, List, [], ◌∷◌, ◌++◌, Contains, Option, None, refl, sym, ap, ◌∙◌, arith}
-use Rattle.std.proofs.lemmas.List.Elements.{Contains-append_left, Contains-append_right, Contains-append_cases}
+use Rattle.std.proofs.lemmas.List.Elements.{Contains-append_left, Contains-push, Contains-push_cases}
 use Rattle.std.specs.Cmp.Lexicographic.{nat_list_cmp_total}
 use Rattle.std.specs.FinMap as finmap
 use Rattle.lethe_base.specs.Keys.{Bytes, same_key}
@@ -15,8 +15,7 @@ use Rattle.lethe_base.specs.declared.call.Did.TheVariants.{Done}
 use Rattle.lethe_base.specs.declared.entry.Entry.{Entry}
 use Rattle.lethe_base.specs.declared.pending.Pending.{Pending}
 use Rattle.lethe_base.proofs.Histories.{after-push}
-use Rattle.lethe_base.proofs.LayoutLaws.{none_in}
-use Rattle.lethe_base.proofs.Newest.{first_or_rest, first_is, same_key-true}
+use Rattle.lethe_base.proofs.Newest.{same_key-true}
 use Rattle.lethe_cover.specs.Changes.{IsChange, followed}
 use Rattle.lethe_cover.specs.Steps.{IsCounted, next_place, with_done, recorded, accepted, erasing}
 use Rattle.lethe_cover.proofs.Changed.{done_next, change_covers}
@@ -107,12 +106,9 @@ module _ (threshold caller : ℕ) (h : History) (l : Layout) (covers : Covers th
     }
 
     comes : (erase : Pending) → Contains the_pending erase → Contains l.pending erase ⊎ (Erasing the_erase ≡ Erasing erase)
-    comes erase there = elim (Contains-append_cases l.pending (the_erase ∷ []) erase there) [
+    comes erase there = elim (Contains-push_cases l.pending the_erase erase there) [
       | inl old ↦ inl old
-      | inr last ↦ elim (first_or_rest the_erase [] erase last) [
-        | inl same ↦ inr (ap Erasing same)
-        | inr rest ↦ absurd (none_in erase rest)
-      ]
+      | inr same ↦ inr (ap Erasing same)
     ]
 
     erase_is : IsChange threshold h caller (Erase range) l (Erasing the_erase) the_pending
@@ -130,7 +126,7 @@ module _ (threshold caller : ℕ) (h : History) (l : Layout) (covers : Covers th
       older = λ entry old since is. absurd (let clash : Erasing the_erase ≡ Written entry = is in cc);
       stays = λ erase there. Contains-append_left l.pending (the_erase ∷ []) erase there;
       comes = comes;
-      ends = λ entry swept dkey value held is erases. (the_erase, Contains-append_right l.pending (the_erase ∷ []) the_erase (first_is the_erase [] the_erase refl), refl);
+      ends = λ entry swept dkey value held is erases. (the_erase, Contains-push l.pending the_erase, refl);
       map = map_behind l (Erasing the_erase) the_pending (λ entry is. let clash : Erasing the_erase ≡ Written entry = is in cc)
           (after (with_done h caller (Erase range))).map erase_map;
     }

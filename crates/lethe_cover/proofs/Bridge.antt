@@ -1,0 +1,72 @@
+-- A layout stands for a history where its entries cover that, its parts are in order and its files are swept.
+use Rattle.std.proofs.Common.{inl, inr, ℕ, ◌<◌, ◌≤◌, List, length, Contains, Option}
+use Rattle.lethe_base.specs.History.{History}
+use Rattle.lethe_base.specs.Layout.{Layout, File, Record, Erasing, entries_of, files_of}
+use Rattle.lethe_base.specs.Held.{IsRecorded, Holds, Shows, Tells}
+use Rattle.lethe_base.specs.NewerAbove.{IsNewerAbove}
+use Rattle.lethe_base.specs.Covers.{Covers}
+use Rattle.lethe_base.specs.declared.entry.Entry.{Entry}
+use Rattle.lethe_base.specs.declared.pending.Pending.{Pending}
+use Rattle.lethe_base.proofs.HeldLaws.{shown_held}
+use Rattle.lethe_cover.specs.Outcomes.{EntriesCover, IsApplied}
+
+pub entries_cover : (threshold : ℕ) (h : History) (l : Layout) → Covers threshold h l → EntriesCover threshold h l.clock (Holds l) (Shows l) l.pending
+entries_cover threshold h l covers = record {
+  held = shown_held l;
+  places = covers.places.entries;
+  same_map = covers.same_map;
+  deletes_covered = covers.deletes_covered;
+  erases_covered = covers.erases_covered.pending;
+  times_fresh = covers.times_fresh.entries;
+}
+
+-- the pending erases may be applied to all inputs
+pub all_applied : (threshold : ℕ) (h : History) (l : Layout) (inputs : Entry → Type 0) (swept : ℕ) → Covers threshold h l → IsApplied threshold h l.clock (Holds l) l.pending l.pending inputs swept
+all_applied threshold h l inputs swept covers = record {
+  complete = λ erase there upto. there;
+  accepted = λ erase there. covers.places.erases erase (inl there);
+  fresh = λ erase there. (covers.times_fresh.erases erase (inl there)).fresh;
+  sound = λ erase input dkey value there taken is hit. inl there;
+}
+
+-- other parts with records of the old ones
+module _ (threshold : ℕ) (h : History) (l : Layout) (covers : Covers threshold h l) (active : List Record) (frozen : Option (List Record)) (levels : List (List File)) where
+  abbrev then : Layout
+  then = record l { active = active; frozen = frozen; levels = levels }
+
+  pub parts_cover : ((r : Record) → IsRecorded then r → IsRecorded l r) → EntriesCover threshold h l.clock (Holds then) (Shows then) l.pending → IsNewerAbove then
+      → ((file : File) → Contains (files_of then) file → file.swept ≤ length h)
+      → ((file : File) (erase : Pending) (entry : Entry) → Contains (files_of then) file → Contains l.pending erase → file.swept < erase.seq → Contains (entries_of file) entry → entry.seq < erase.seq)
+      → Covers threshold h then
+  parts_cover known entries newer swept unswept = record {
+    places = record { entries = entries.places; erases = λ erase is. covers.places.erases erase (told erase is) };
+    newer_above = newer;
+    same_map = entries.same_map;
+    deletes_covered = entries.deletes_covered;
+    erases_covered = record { pending = entries.erases_covered; swept = swept; unswept = unswept };
+    times_fresh = record { entries = entries.times_fresh; erases = λ erase is. covers.times_fresh.erases erase (told erase is) };
+  }
+    where
+      told : (erase : Pending) → Tells then erase → Tells l erase
+      told erase is = elim is [
+        | inl there ↦ inl there
+        | inr recorded ↦ inr (known (Erasing erase) recorded)
+      ]
+
+-- the numbers of objects and certificates say nothing of the history
+pub numbered_covers : (threshold : ℕ) (h : History) (l : Layout) → Covers threshold h l → (next certificate : ℕ) → Covers threshold h (record l { next = next; certificate = certificate })
+numbered_covers threshold h l covers next certificate = record {
+  places = record { entries = covers.places.entries; erases = covers.places.erases };
+  newer_above = record {
+    runs = covers.newer_above.runs;
+    active_frozen = covers.newer_above.active_frozen;
+    active_files = covers.newer_above.active_files;
+    frozen_files = covers.newer_above.frozen_files;
+    active_buffer = covers.newer_above.active_buffer;
+    frozen_buffer = covers.newer_above.frozen_buffer;
+  };
+  same_map = record { newest = covers.same_map.newest; absent = covers.same_map.absent };
+  deletes_covered = covers.deletes_covered;
+  erases_covered = record { pending = covers.erases_covered.pending; swept = covers.erases_covered.swept; unswept = covers.erases_covered.unswept };
+  times_fresh = record { entries = covers.times_fresh.entries; erases = covers.times_fresh.erases };
+}

@@ -1,0 +1,100 @@
+-- Erases that are spent may come back to the pending ones.
+use Rattle.std.proofs.Common.{◌≡◌, inl, inr, ℕ, ◌<◌, ◌≤◌, true, if◌then◌else◌, List, Contains, Some, None, refl, sym, ap, ◌∙◌, subst, arith}
+use Rattle.std.specs.Cmp.{both_ways}
+use Rattle.std.specs.List.{list_any}
+use Rattle.lethe_base.specs.Keys.{Bytes}
+use Rattle.lethe_base.specs.History.{Pair, History}
+use Rattle.lethe_base.specs.Matching.{IsPut, matches, pair_under, answer_under}
+use Rattle.lethe_base.specs.Layout.{Layout}
+use Rattle.lethe_base.specs.Held.{Holds, Shows}
+use Rattle.lethe_base.specs.Spent.{IsSpent, IsShorter}
+use Rattle.lethe_base.specs.Placed.{IsAccepted}
+use Rattle.lethe_base.specs.SameMap.{IsNewest}
+use Rattle.lethe_base.specs.Fresh.{IsFresh}
+use Rattle.lethe_base.specs.Covers.{Covers}
+use Rattle.lethe_base.specs.declared.entry.Body.{Body}
+use Rattle.lethe_base.specs.declared.entry.Body.TheVariants as body
+use Rattle.lethe_base.specs.declared.entry.Entry.{Entry}
+use Rattle.lethe_base.specs.declared.pending.Pending.{Pending}
+use Rattle.lethe_base.proofs.HeldLaws.{shown_held}
+use Rattle.lethe_cover.proofs.Bridge.{entries_cover}
+use Rattle.lethe_cover.proofs.Matches.{any_found, any_made, match_parts}
+use Rattle.lethe_cover.proofs.Swept.{hidden}
+
+module _ (threshold : ℕ) (h : History) (l : Layout) (pending : List Pending) (covers : Covers threshold h (record l { pending = pending })) (shorter : IsShorter l pending)
+    (accepted : (erase : Pending) → Contains l.pending erase → IsAccepted h erase × IsFresh threshold h l.clock erase.time)
+  where
+    -- a spent erase matches no newest put
+    missed : (entry : Entry) (dkey : ℕ) (value : Bytes) (erase : Pending) → IsNewest (Shows l) entry → entry.body ≡ body.Put dkey value → IsAccepted h erase → IsSpent l erase
+        → matches erase entry.seq dkey ≡ true → ⊥
+    missed entry dkey value erase newest is done spent hit =
+        let held = shown_held l entry newest.shown in
+        let lower : entry.seq < erase.seq = (match_parts erase entry.seq dkey hit).0 in
+        elim (held.1) [
+          | inl recorded ↦ let above : erase.seq ≤ entry.seq = spent.segments entry recorded.0 (subst IsPut (sym is) tt) in absurd (omega arith)
+          | inr filed ↦
+              let upto : erase.seq ≤ filed.0.file.swept = spent.files filed.0.file filed.0.there in
+              let above = hidden threshold h l.clock (Holds l) (Shows l) pending (entries_cover threshold h (record l { pending = pending }) covers)
+              entry filed.0.file.swept dkey value erase (inr (filed.0, refl)) is done hit upto in
+              let last : above.above.seq ≤ entry.seq = newest.last above.above above.shown above.same in
+              let newer : entry.seq < above.above.seq = above.newer in absurd (omega arith)
+        ]
+
+    same_answer : (entry : Entry) → IsNewest (Shows l) entry → answer_under l.pending entry ≡ answer_under pending entry
+    same_answer entry newest = by entry.body refl
+      where
+        same_any : (dkey : ℕ) (value : Bytes) → entry.body ≡ body.Put dkey value
+            → list_any (λ erase. matches erase entry.seq dkey) l.pending ≡ list_any (λ erase. matches erase entry.seq dkey) pending
+        same_any dkey value is = both_ways _ _
+            (λ some. let found = any_found (λ erase. matches erase entry.seq dkey) l.pending some in elim (shorter.spent found.0 found.1) [
+              | inl there ↦ any_made (λ erase. matches erase entry.seq dkey) pending found.0 there found.2
+              | inr spent ↦ absurd (missed entry dkey value found.0 newest is (accepted found.0 found.1).0 spent found.2)
+            ])
+            (λ some. let found = any_found (λ erase. matches erase entry.seq dkey) pending some in
+            any_made (λ erase. matches erase entry.seq dkey) l.pending found.0 (shorter.known found.0 found.1) found.2)
+
+        by : (b : Body) → entry.body ≡ b → pair_under l.pending entry.seq b ≡ pair_under pending entry.seq b
+        by (body.Put dkey value) is = ap (λ any. if any then None else Some (let pair : Pair = (dkey, value) in pair)) (same_any dkey value is)
+        by body.Tomb is = refl
+
+    pub returned_covers : Covers threshold h l
+    returned_covers = record {
+      places = record {
+        entries = covers.places.entries;
+        erases = λ erase is. elim is [
+          | inl there ↦ (accepted erase there).0
+          | inr recorded ↦ covers.places.erases erase (inr recorded)
+        ];
+      };
+      newer_above = record {
+        runs = covers.newer_above.runs;
+        active_frozen = covers.newer_above.active_frozen;
+        active_files = covers.newer_above.active_files;
+        frozen_files = covers.newer_above.frozen_files;
+        active_buffer = covers.newer_above.active_buffer;
+        frozen_buffer = covers.newer_above.frozen_buffer;
+      };
+      same_map = record {
+        newest = λ entry newest. same_answer entry newest ∙ covers.same_map.newest entry newest;
+        absent = covers.same_map.absent;
+      };
+      deletes_covered = covers.deletes_covered;
+      erases_covered = record {
+        pending = λ entry swept cause range held put is at.
+            let old = covers.erases_covered.pending entry swept cause range held put is at in
+            let has = old.0 in
+            ((has.0, shorter.known has.0 has.1, has.2), old.1);
+        swept = covers.erases_covered.swept;
+        unswept = λ file erase entry there among unswept spelled. elim (shorter.spent erase among) [
+          | inl old ↦ covers.erases_covered.unswept file erase entry there old unswept spelled
+          | inr spent ↦ let upto : erase.seq ≤ file.swept = spent.files file there in absurd (omega arith)
+        ];
+      };
+      times_fresh = record {
+        entries = covers.times_fresh.entries;
+        erases = λ erase is. elim is [
+          | inl there ↦ (accepted erase there).1
+          | inr recorded ↦ covers.times_fresh.erases erase (inr recorded)
+        ];
+      };
+    }
