@@ -6,8 +6,9 @@ use Rattle.lethe_disk.proofs.Objects.{object_inserted, object_beside_insert, obj
 use Rattle.lethe_memdisk.specs.Held.{seen_of}
 use Rattle.lethe_manifest.specs.Manifests.{manifest_bytes}
 use Rattle.lethe_commit.specs.Clear.{ArePresent}
-use Rattle.lethe_commit.specs.Switch.{gate_name, manifest_name, IsFree}
-use Rattle.lethe_commit.proofs.Switching.{manifest≢gate}
+use Rattle.lethe_commit.specs.Gates.{gate_name}
+use Rattle.lethe_commit.specs.Switch.{manifest_name, IsFree}
+use Rattle.lethe_commit.proofs.Placing.{manifest≢gate}
 use Rattle.lethe_rows.proofs.switches.switch_to_new.Goals as goal
 
 both_made : (old : Directory) (bytes : List ℕ) → ArePresent (gate_name 2 ∷ manifest_name 2 ∷ []) (insert (insert old (manifest_name 2) bytes) (gate_name 2) [])
@@ -30,4 +31,4 @@ pub switch-requires-clause-free : goal.switch-requires-clause-free
 switch-requires-clause-free c κs = λ told. (None, subst (λ n. IsFree (seen_of c.args.disk.now) n None) (sym c.in_ok-manifest.ensures.number) c.requires)
 
 pub returns-in-Ok-clause-both : goal.returns-in-Ok-clause-both
-returns-in-Ok-clause-both c = λ so. both_now (seen_of c.args.disk.now).directory (seen_of c.switch.new.disk).directory c.in_ok-manifest.manifest.no (manifest_bytes c.in_ok-manifest.manifest) c.in_ok-manifest.ensures.number (c.in-Ok.ensures.done tt)
+returns-in-Ok-clause-both c = λ so. both_now (seen_of c.args.disk.now).directory (seen_of c.switch.new.disk).directory c.in_ok-manifest.manifest.no (manifest_bytes c.in_ok-manifest.manifest) c.in_ok-manifest.ensures.number (c.in-Ok.ensures.done tt None (subst (λ n. IsFree (seen_of c.args.disk.now) n None) (sym c.in_ok-manifest.ensures.number) c.requires))
