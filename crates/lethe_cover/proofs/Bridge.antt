@@ -23,7 +23,7 @@ entries_cover threshold h l covers = record {
 -- the pending erases may be applied to all inputs
 pub all_applied : (threshold : ℕ) (h : History) (l : Layout) (inputs : Entry → Type 0) (swept : ℕ) → Covers threshold h l → IsApplied threshold h l.clock (Holds l) l.pending l.pending inputs swept
 all_applied threshold h l inputs swept covers = record {
-  complete = λ erase there upto. there;
+  complete = λ erase input there upto taken. inl there;
   accepted = λ erase there. covers.places.erases erase (inl there);
   fresh = λ erase there. (covers.times_fresh.erases erase (inl there)).fresh;
   sound = λ erase input dkey value there taken is hit. inl there;

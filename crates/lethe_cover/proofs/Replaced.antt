@@ -219,7 +219,7 @@ module _ (threshold : ℕ) (h : History) (clock : ℕ) (pending applied : List P
             old.0,
             subst (λ n. n < cause) (sym made.1) (elim (cases swept cause) [
               | inl lower ↦ lower
-              | inr upper ↦ absurd (unmatched entry source cause there (old.0).0 (old.0).1 (old.0).2 upper)
+              | inr upper ↦ absurd (unmatched entry source cause there erased (old.0).0 (old.0).1 (old.0).2 upper)
             ]),
           )
     ]
@@ -227,13 +227,18 @@ module _ (threshold : ℕ) (h : History) (clock : ℕ) (pending applied : List P
         cases : (a b : ℕ) → (a < b) ⊎ (b ≤ a)
         cases a b = grind arith
 
-        -- a pending erase up to that place is applied, and a put of which it is the cause becomes a tombstone
-        unmatched : (output : Entry) (source : IsSame output) (cause : ℕ) → cause_of h source.from.input.seq ≡ Some cause → (erase : Pending) → Contains pending erase → erase.seq ≡ cause → cause ≤ swept → ⊥
-        unmatched output source cause is erase there at upper =
-            let among = applies.complete erase there (omega arith) in
-            let hit = match_of h source.from.input cause source.dkey source.value erase (covers.places source.from.input source.upto source.held) source.body_is is (applies.accepted erase among) at in
-            let any = any_made (λ erase. matches erase source.from.input.seq source.dkey) applied erase among hit in
-            let clash : true ≡ false = sym any ∙ source.free in cc
+        -- a pending erase up to that place is applied, so that a put of which it is the cause becomes a tombstone, or the input was swept of it
+        unmatched : (output : Entry) (source : IsSame output) (cause : ℕ) → cause_of h source.from.input.seq ≡ Some cause → done_at h cause ≡ Some (Erase range)
+            → (erase : Pending) → Contains pending erase → erase.seq ≡ cause → cause ≤ swept → ⊥
+        unmatched output source cause is erased erase there at upper = elim (applies.complete erase source.from.input there (omega arith) source.from.newest.shown) [
+          | inl among ↦
+              let hit = match_of h source.from.input cause source.dkey source.value erase (covers.places source.from.input source.upto source.held) source.body_is is (applies.accepted erase among) at in
+              let any = any_made (λ erase. matches erase source.from.input.seq source.dkey) applied erase among hit in
+              let clash : true ≡ false = sym any ∙ source.free in cc
+          | inr before ↦
+              let unswept : before.0 < cause = (covers.erases_covered source.from.input before.0 cause range before.1 (subst IsPut (sym source.body_is) tt) is erased).1 in
+              let upto : erase.seq ≤ before.0 = before.2 in omega arith
+        ]
 
     fresh_then : (entry : Entry) (upto since : ℕ) → holds_then entry upto → entry.since ≡ Some since → IsFresh threshold h clock since
     fresh_then entry upto since held has = elim (replaced.only_held entry upto held) [
