@@ -22,3 +22,4 @@ pub mod Moved
 pub mod Returned
 pub mod Reading
 pub mod Sweeping
+pub mod FirstMerge
