@@ -24,7 +24,6 @@ by_left (Some a) None time by = by
 by_left (Some a) (Some b) time by =
     let is = by.is in
     let same : a ≡ by.least = cc in
-    let upto : by.least ≤ time = by.upto in
     record { least = min a b; is = refl; upto = omega arith }
 
 pub by_right : (a b : Option ℕ) (time : ℕ) → IsBy b time → IsBy (earlier a b) time
@@ -33,7 +32,6 @@ by_right (Some a) None time by = absurd (let is = by.is in let clash : None ≡ 
 by_right (Some a) (Some b) time by =
     let is = by.is in
     let same : b ≡ by.least = cc in
-    let upto : by.least ≤ time = by.upto in
     record { least = min a b; is = refl; upto = omega arith }
 
 pub earlier_from : (a b : Option ℕ) (time : ℕ) → earlier a b ≡ Some time → (a ≡ Some time) ⊎ (b ≡ Some time)

@@ -166,8 +166,6 @@ module _ (inputs : List Entry) (erases : List Pending) (alone : Bool) (merged : 
         since = λ time has.
             let mine = struck_by erases input time has in
             let least = joined.least (struck erases input) mine.least own mine.is in
-            let upto : mine.least ≤ time = mine.upto in
-            let lesser : least.least ≤ mine.least = least.upto in
             inr (least.least, least.is, omega arith);
       })
       by_bare left joined true (Put dkey value) lone at found = let out = entry_in input.key merged (record left { since = None }) found in inl (record {

@@ -151,7 +151,6 @@ module _ (threshold : ℕ) (h : History) (l : Layout) (covers : Covers threshold
               subst (λ o. InBuffer (pushed (buffer_of l.active) o) replaced.entry) (sym (ap written replaced.is)) (pushed_new (buffer_of l.active) replaced.entry) in
               let place : place_of r ≡ replaced.entry.seq = ap place_of replaced.is in
               let within = shown_within newest.0 (inl (inl newest.1)) in
-              let upto : entry.seq ≤ newest.0.seq = newest.3 in
               (replaced.entry, there, sym replaced.same ∙ newest.2, omega arith)
         ]
 

@@ -179,10 +179,6 @@ module _ (threshold : ℕ) (h : History) (clock : ℕ) (pending applied : List P
         | inl kept ↦ elim (kept.since is.since is.has) [
           | inl alone ↦ absurd (not_alone is.above is.same is.newer taken alone)
           | inr least ↦
-              let newer : is.above.seq ≤ kept.output.seq = kept.newer in
-              let below : entry.seq < is.above.seq = is.newer in
-              let old : is.since ≤ time = is.old in
-              let lesser : least.0 ≤ is.since = least.2 in
               record { above = kept.output; shown = replaced.comes kept.output kept.made; same = kept.same ∙ is.same; newer = omega arith; since = least.0; has = least.1; old = omega arith }
         ]
       ]
@@ -202,8 +198,6 @@ module _ (threshold : ℕ) (h : History) (clock : ℕ) (pending applied : List P
           (let last : above.seq ≤ from.input.seq = from.newest.last above taken (same ∙ sym from.same) in
           let place : from.input.seq ≡ entry.seq = from.place in absurd {A = ⊥} (omega arith)) in
           let old = covers.deletes_covered from.input source.upto cause source.held (subst IsPut (sym source.body_is) tt) (ap (cause_of h) from.place ∙ is) no_erase in
-          let place : from.input.seq ≡ entry.seq = from.place in
-          let newer : from.input.seq < old.above.seq = old.newer in
           covered_then entry (clock_before h cause) (λ above same newer taken alone. none above same newer taken) (λ above same newer taken dropped. none above same newer taken)
           (record { above = old.above; shown = old.shown; same = old.same ∙ from.same; newer = omega arith; since = old.since; has = old.has; old = old.old })
     ]

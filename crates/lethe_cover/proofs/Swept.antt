@@ -31,14 +31,12 @@ pub hidden : (threshold : ℕ) (h : History) (clock : ℕ) (holds : Entry → �
     → matches erase entry.seq dkey ≡ true → erase.seq ≤ swept → IsHidden shows entry
 hidden threshold h clock holds shows pending covers entry swept dkey value erase held is accepted hit upto =
     let parts = match_parts erase entry.seq dkey hit in
-    let lower : entry.seq < erase.seq = parts.0 in
     let put : IsPut entry.body = subst IsPut (sym is) tt in
     let placed : done_at h entry.seq ≡ Some (Put entry.key dkey value) = subst (IsPlaced h entry.seq entry.key) is (covers.places entry swept held) in
     let at : erase.seq ≡ entry.seq + (erase.seq - entry.seq - 1) + 1 = omega arith in
     let erased = subst (IsErasedAt h entry.key dkey) at (erased_by h erase.seq (Erase erase.range) entry.key dkey accepted.done parts.1) in
     let cause = cause_by h entry.seq (erase.seq - entry.seq - 1) entry.key dkey value placed erased in
     let first = cause_is_first h entry.seq cause.0 cause.1 in
-    let before : cause.0 ≤ entry.seq + (erase.seq - entry.seq - 1) + 1 = cause.2 in
     elim (erased_is h first.key first.dkey cause.0 first.erases) [
       | inl deleted ↦
           let covered = covers.deletes_covered entry swept cause.0 held put cause.1 (no_erase h deleted.0 cause.0 deleted.1) in
@@ -55,7 +53,6 @@ match_of h entry cause dkey value erase placed is caused accepted at =
     let put : done_at h entry.seq ≡ Some (Put entry.key dkey value) = subst (IsPlaced h entry.seq entry.key) is placed in
     let same : Some (Put first.key first.dkey first.value) ≡ Some (Put entry.key dkey value) = sym first.put ∙ put in
     let d : first.dkey ≡ dkey = cc in
-    let later : entry.seq < cause = first.later in
     match_made erase entry.seq dkey (omega arith) (subst (λ d. in_range erase.range d ≡ true) d
     (by (change_at h erase.seq) accepted.done first.key first.dkey (subst (IsErasedAt h first.key first.dkey) (sym at) first.erases)))
   where
