@@ -21,7 +21,7 @@ use Rattle.lethe_base.proofs.Histories.{change_at-push}
 use Rattle.lethe_cover.specs.Changes.{IsSaid, HasTime, IsRemembered, IsChange, followed}
 use Rattle.lethe_cover.specs.Steps.{IsCounted, next_place, with_done}
 use Rattle.lethe_cover.proofs.Grown.{done_old, placed_more, accepted_more, fresh_more, clock_old, clock_next, EndsNow, cause_more, none_behind}
-use Rattle.lethe_cover.proofs.Recorded.{recorded_cases, holds_cases, shows_still, shows_new, held_within, swept_within, newer_above_more}
+use Rattle.lethe_cover.proofs.Records.{recorded_cases, holds_cases, shows_still, shows_new, held_within, swept_within, newer_above_more}
 
 -- a done call stands at the place that it took
 pub done_next : (h : History) (caller : ℕ) (call : Call) (place : ℕ) → place ≡ next_place h → done_at (with_done h caller call) place ≡ Some call

@@ -15,9 +15,8 @@ use Rattle.lethe_base.proofs.LayoutLaws.{none_in}
 use Rattle.lethe_base.proofs.Newest.{first_or_rest, first_is}
 use Rattle.lethe_cover.specs.Merged.{body_under, time_under, since_under, struck, left_of, bared, IsMerged}
 use Rattle.lethe_cover.specs.Outcomes.{IsFrom, IsKept, IsDropped, IsOutcome}
-use Rattle.lethe_cover.proofs.Ascending.{entry_in, own_entry}
-use Rattle.lethe_cover.proofs.Files.{map_from}
-use Rattle.lethe_cover.proofs.Joined.{IsBy, own_by, by_left, earlier_from, IsJoined, OfKey, left_none, left_some}
+use Rattle.lethe_cover.proofs.ByKey.{entry_in, own_entry, IsBy, own_by, by_left, earlier_from, IsJoined, OfKey, left_none, left_some}
+use Rattle.lethe_cover.proofs.FilesInRuns.{map_from}
 
 in_map : {X Y : Type 0} (f : X → Y) (xs : List X) (x : X) → Contains xs x → Contains (map f xs) (f x)
 in_map f [] x there = absurd (none_in x there)

@@ -12,8 +12,7 @@ use Rattle.lethe_cover.specs.Moves.{files_in, Move, runs_before, runs_then, IsMo
 use Rattle.lethe_cover.specs.Outcomes.{IsReplaced}
 use Rattle.lethe_cover.specs.Steps.{IsCounted}
 use Rattle.lethe_cover.proofs.Bridge.{entries_cover, parts_cover}
-use Rattle.lethe_cover.proofs.Falling.{in_more, files_left, files_right, files_cases, Falls, falls_from, falls_to, over_append, falls_left, falls_right, falls_append}
-use Rattle.lethe_cover.proofs.Files.{runs_file, file_runs}
+use Rattle.lethe_cover.proofs.FilesInRuns.{in_more, files_left, files_right, files_cases, Falls, falls_from, falls_to, over_append, falls_left, falls_right, falls_append, runs_file, file_runs}
 use Rattle.lethe_cover.proofs.Replaced.{replaced_cover}
 
 -- which of four kinds of runs a file is in

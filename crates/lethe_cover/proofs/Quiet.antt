@@ -18,7 +18,7 @@ use Rattle.lethe_base.proofs.Histories.{after-push}
 use Rattle.lethe_cover.specs.Steps.{IsCounted, next_place, with_done, with_failed, ticked}
 use Rattle.lethe_cover.proofs.Bridge.{same_order}
 use Rattle.lethe_cover.proofs.Grown.{done_old, placed_more, accepted_more, fresh_more, clock_old, cause_more}
-use Rattle.lethe_cover.proofs.Recorded.{held_within}
+use Rattle.lethe_cover.proofs.Records.{held_within}
 
 module _ (threshold : ℕ) (h : History) (l : Layout) (covers : Covers threshold h l) (change : Change)
     (quiet : (key : Bytes) (dkey : ℕ) → IsTrue (is_eraser key dkey change) → ⊥)

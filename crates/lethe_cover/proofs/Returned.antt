@@ -18,8 +18,8 @@ use Rattle.lethe_base.specs.declared.entry.Entry.{Entry}
 use Rattle.lethe_base.specs.declared.pending.Pending.{Pending}
 use Rattle.lethe_base.proofs.HeldLaws.{shown_held}
 use Rattle.lethe_cover.proofs.Bridge.{entries_cover, same_order}
-use Rattle.lethe_cover.proofs.Matches.{any_found, any_made, match_parts}
-use Rattle.lethe_cover.proofs.Swept.{hidden}
+use Rattle.lethe_cover.proofs.Erasures.{any_found, any_made, match_parts}
+use Rattle.lethe_cover.proofs.Replaced.{hidden}
 
 module _ (threshold : ℕ) (h : History) (l : Layout) (pending : List Pending) (covers : Covers threshold h (record l { pending = pending })) (shorter : IsShorter l pending)
     (accepted : (erase : Pending) → Contains l.pending erase → IsAccepted h erase × IsFresh threshold h l.clock erase.time)
