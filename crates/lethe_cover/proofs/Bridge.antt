@@ -23,7 +23,7 @@ entries_cover threshold h l covers = record {
 -- the pending erases may be applied to all inputs
 pub all_applied : (threshold : ℕ) (h : History) (l : Layout) (inputs : Entry → Type 0) (swept : ℕ) → Covers threshold h l → IsApplied threshold h l.clock (Holds l) l.pending l.pending inputs swept
 all_applied threshold h l inputs swept covers = record {
-  complete = λ erase there upto. there;
+  complete = λ erase input there upto taken. inl there;
   accepted = λ erase there. covers.places.erases erase (inl there);
   fresh = λ erase there. (covers.times_fresh.erases erase (inl there)).fresh;
   sound = λ erase input dkey value there taken is hit. inl there;
@@ -53,18 +53,23 @@ module _ (threshold : ℕ) (h : History) (l : Layout) (covers : Covers threshold
         | inr recorded ↦ inr (known (Erasing erase) recorded)
       ]
 
+-- the order of the parts is that of the segments and the levels alone
+pub same_order : (l : Layout) (clock count next certificate : ℕ) (pending : List Pending) → IsNewerAbove l
+    → IsNewerAbove (record l { clock = clock; count = count; next = next; certificate = certificate; pending = pending })
+same_order l clock count next certificate pending order = record {
+  runs = order.runs;
+  active_frozen = order.active_frozen;
+  active_files = order.active_files;
+  frozen_files = order.frozen_files;
+  active_buffer = order.active_buffer;
+  frozen_buffer = order.frozen_buffer;
+}
+
 -- the numbers of objects and certificates say nothing of the history
 pub numbered_covers : (threshold : ℕ) (h : History) (l : Layout) → Covers threshold h l → (next certificate : ℕ) → Covers threshold h (record l { next = next; certificate = certificate })
 numbered_covers threshold h l covers next certificate = record {
   places = record { entries = covers.places.entries; erases = covers.places.erases };
-  newer_above = record {
-    runs = covers.newer_above.runs;
-    active_frozen = covers.newer_above.active_frozen;
-    active_files = covers.newer_above.active_files;
-    frozen_files = covers.newer_above.frozen_files;
-    active_buffer = covers.newer_above.active_buffer;
-    frozen_buffer = covers.newer_above.frozen_buffer;
-  };
+  newer_above = same_order l l.clock l.count next certificate l.pending covers.newer_above;
   same_map = record { newest = covers.same_map.newest; absent = covers.same_map.absent };
   deletes_covered = covers.deletes_covered;
   erases_covered = record { pending = covers.erases_covered.pending; swept = covers.erases_covered.swept; unswept = covers.erases_covered.unswept };

@@ -21,7 +21,7 @@ use Rattle.lethe_base.proofs.Histories.{change_at-push}
 use Rattle.lethe_cover.specs.Changes.{IsSaid, HasTime, IsRemembered, IsChange, followed}
 use Rattle.lethe_cover.specs.Steps.{IsCounted, next_place, with_done}
 use Rattle.lethe_cover.proofs.Grown.{done_old, placed_more, accepted_more, fresh_more, clock_old, clock_next, EndsNow, cause_more, none_behind}
-use Rattle.lethe_cover.proofs.Recorded.{recorded_cases, holds_cases, shows_still, shows_new, held_within, swept_within, newer_above_more}
+use Rattle.lethe_cover.proofs.Records.{recorded_cases, holds_cases, shows_still, shows_new, held_within, swept_within, newer_above_more}
 
 -- a done call stands at the place that it took
 pub done_next : (h : History) (caller : ℕ) (call : Call) (place : ℕ) → place ≡ next_place h → done_at (with_done h caller call) place ≡ Some call
@@ -39,14 +39,12 @@ module _ (threshold caller : ℕ) (h : History) (l : Layout) (covers : Covers th
     newer : (entry above : Entry) (swept : ℕ) → Holds l entry swept → r ≡ Written above → entry.seq < above.seq
     newer entry above swept held is =
         let place : place_of r ≡ above.seq = ap place_of is in
-        let next : place_of r ≡ next_place h = change.next in
         let within = held_within threshold h l covers entry swept held in omega arith
 
     -- what is put by the change has no cause
     no_cause : (entry : Entry) (cause : ℕ) → r ≡ Written entry → cause_of (with_done h caller call) entry.seq ≡ Some cause → ⊥
     no_cause entry cause is found =
         let place : place_of r ≡ entry.seq = ap place_of is in
-        let next : place_of r ≡ next_place h = change.next in
         none_behind h new entry.seq cause (omega arith) found
 
     -- what lay below an entry lies below it still, or below the new one
@@ -56,7 +54,6 @@ module _ (threshold caller : ℕ) (h : History) (l : Layout) (covers : Covers th
       | inr replaced ↦
           let key = replaced.0 in
           let time = change.older key.entry is.above is.since key.is replaced.1 key.same is.has in
-          let kept : time.0 ≤ is.since = time.2 in
           let old : is.since ≤ _ = is.old in record {
             above = key.entry;
             shown = shows_new l r pending key.entry key.is;
@@ -118,7 +115,6 @@ module _ (threshold caller : ℕ) (h : History) (l : Layout) (covers : Covers th
             let erase = has.0 in
             ((erase.0, change.stays erase.0 erase.1, erase.2), has.1)
         | inr now ↦
-            let at : cause ≡ suc (length h) = now.at in
             let next : cause ≡ next_place h = omega arith in
             let same : Some call ≡ Some (Erase range) = sym (done_next h caller call cause next) ∙ erased in
             let made : call ≡ Erase range = cc in
@@ -161,7 +157,6 @@ module _ (threshold caller : ℕ) (h : History) (l : Layout) (covers : Covers th
           | inl old ↦ covers.erases_covered.unswept file erase entry there old unswept spelled
           | inr new_one ↦
               let place : place_of r ≡ erase.seq = ap place_of new_one in
-              let next : place_of r ≡ next_place h = change.next in
               let within = held_within threshold h l covers entry file.swept (inr (record { file = file; there = there; spelled = spelled }, refl)) in omega arith
         ];
       };

@@ -21,11 +21,10 @@ use Rattle.lethe_base.proofs.Histories.{after-push}
 use Rattle.lethe_base.proofs.Newest.{same_key-self, same_key-true}
 use Rattle.lethe_cover.specs.Changes.{IsChange, followed}
 use Rattle.lethe_cover.specs.Steps.{IsCounted, next_place, with_done, recorded, time_of, put_entry, tomb_entry}
-use Rattle.lethe_cover.proofs.Buffers.{buffer_keyed}
+use Rattle.lethe_cover.proofs.Records.{buffer_keyed, same_key-false, shows_cases, shows_still, shows_new, held_within, shown_within}
 use Rattle.lethe_cover.proofs.Changed.{done_next, change_covers}
 use Rattle.lethe_cover.proofs.Grown.{done_within, fresh_more, clock_next}
-use Rattle.lethe_cover.proofs.Matches.{answer_late}
-use Rattle.lethe_cover.proofs.Recorded.{same_key-false, shows_cases, shows_still, shows_new, held_within, shown_within}
+use Rattle.lethe_cover.proofs.Erasures.{answer_late}
 
 -- the active buffer's entry of a key has its time
 time_at : (key : Bytes) (l : Layout) (old : Entry) → InBuffer (buffer_of l.active) old → old.key ≡ key → time_of key l ≡ old.since

@@ -18,7 +18,7 @@ use Rattle.lethe_cover.specs.Flushes.{IsFlush, entries_in, with_newest, flushed}
 use Rattle.lethe_cover.specs.Outcomes.{IsReplaced}
 use Rattle.lethe_cover.specs.Steps.{IsCounted}
 use Rattle.lethe_cover.proofs.Bridge.{entries_cover, all_applied, parts_cover}
-use Rattle.lethe_cover.proofs.Files.{run_file, runs_newest, runs_none, files_newest}
+use Rattle.lethe_cover.proofs.FilesInRuns.{run_file, runs_newest, runs_none, files_newest}
 use Rattle.lethe_cover.proofs.Grown.{done_within}
 use Rattle.lethe_cover.proofs.Replaced.{replaced_cover}
 

@@ -147,5 +147,4 @@ module _ (h : History) (change : Change) where
   pub none_behind : (place cause : ℕ) → length h < place → cause_of (h ++ change ∷ []) place ≡ Some cause → ⊥
   none_behind place cause last is =
       let first = cause_is_first (h ++ change ∷ []) place cause is in
-      let later : place < cause = first.later in
       let within = cause_within place cause is in absurd (omega arith)

@@ -15,9 +15,8 @@ use Rattle.lethe_base.proofs.LayoutLaws.{none_in}
 use Rattle.lethe_base.proofs.Newest.{first_or_rest, first_is}
 use Rattle.lethe_cover.specs.Merged.{body_under, time_under, since_under, struck, left_of, bared, IsMerged}
 use Rattle.lethe_cover.specs.Outcomes.{IsFrom, IsKept, IsDropped, IsOutcome}
-use Rattle.lethe_cover.proofs.Ascending.{entry_in, own_entry}
-use Rattle.lethe_cover.proofs.Files.{map_from}
-use Rattle.lethe_cover.proofs.Joined.{IsBy, own_by, by_left, earlier_from, IsJoined, OfKey, left_none, left_some}
+use Rattle.lethe_cover.proofs.ByKey.{entry_in, own_entry, IsBy, own_by, by_left, earlier_from, IsJoined, OfKey, left_none, left_some}
+use Rattle.lethe_cover.proofs.FilesInRuns.{map_from}
 
 in_map : {X Y : Type 0} (f : X → Y) (xs : List X) (x : X) → Contains xs x → Contains (map f xs) (f x)
 in_map f [] x there = absurd (none_in x there)
@@ -166,8 +165,6 @@ module _ (inputs : List Entry) (erases : List Pending) (alone : Bool) (merged : 
         since = λ time has.
             let mine = struck_by erases input time has in
             let least = joined.least (struck erases input) mine.least own mine.is in
-            let upto : mine.least ≤ time = mine.upto in
-            let lesser : least.least ≤ mine.least = least.upto in
             inr (least.least, least.is, omega arith);
       })
       by_bare left joined true (Put dkey value) lone at found = let out = entry_in input.key merged (record left { since = None }) found in inl (record {

@@ -12,8 +12,7 @@ use Rattle.lethe_cover.specs.Moves.{files_in, Move, runs_before, runs_then, IsMo
 use Rattle.lethe_cover.specs.Outcomes.{IsReplaced}
 use Rattle.lethe_cover.specs.Steps.{IsCounted}
 use Rattle.lethe_cover.proofs.Bridge.{entries_cover, parts_cover}
-use Rattle.lethe_cover.proofs.Falling.{in_more, files_left, files_right, files_cases, Falls, falls_from, falls_to, over_append, falls_left, falls_right, falls_append}
-use Rattle.lethe_cover.proofs.Files.{runs_file, file_runs}
+use Rattle.lethe_cover.proofs.FilesInRuns.{in_more, files_left, files_right, files_cases, Falls, falls_from, falls_to, over_append, falls_left, falls_right, falls_append, runs_file, file_runs}
 use Rattle.lethe_cover.proofs.Replaced.{replaced_cover}
 
 -- which of four kinds of runs a file is in
@@ -144,7 +143,6 @@ module _ (alone : Bool) (m : Move) (moves : IsMove alone m) (falls : Falls (runs
       | inr from ↦
           let input = from.0 in
           let taken = from.1 in
-          let place : input.seq ≡ older.seq = from.3 in
           elim (moves.taken_from taken.file taken.there) [
             | inl here ↦ let lower = over_here input (record { file = taken.file; there = here; spelled = taken.spelled }) (same ∙ sym from.2) in omega arith
             | inr next ↦ let lower = over_next input (record { file = taken.file; there = next; spelled = taken.spelled }) (same ∙ sym from.2) in omega arith
@@ -157,7 +155,6 @@ module _ (alone : Bool) (m : Move) (moves : IsMove alone m) (falls : Falls (runs
       | inr from ↦
           let input = from.0 in
           let taken = from.1 in
-          let place : input.seq ≡ entry.seq = from.3 in
           elim (moves.taken_from taken.file taken.there) [
             | inl here ↦ let lower = here_over input older (record { file = taken.file; there = here; spelled = taken.spelled }) (in_more below (files_right m.next m.below)) (from.2 ∙ same) in omega arith
             | inr next ↦ let lower = next_over input older (record { file = taken.file; there = next; spelled = taken.spelled }) below (from.2 ∙ same) in omega arith
@@ -172,7 +169,6 @@ module _ (alone : Bool) (m : Move) (moves : IsMove alone m) (falls : Falls (runs
         | inr from ↦
             let input = from.0 in
             let taken = from.1 in
-            let place : input.seq ≡ older.seq = from.3 in
             elim (moves.taken_from taken.file taken.there) [
               | inl here ↦ absurd (moves.here_apart above.file taken.file above.there taken.there here entry input above.spelled taken.spelled (same ∙ sym from.2))
               | inr of_next ↦
@@ -308,11 +304,9 @@ module _ (threshold : ℕ) (h : History) (l : Layout) (covers : Covers threshold
       active_frozen = covers.newer_above.active_frozen;
       active_files = λ r entry is filed.
           let from = older entry filed in
-          let place : from.0.seq ≡ entry.seq = from.2 in
           let lower : from.0.seq < place_of r = covers.newer_above.active_files r from.0 is from.1 in omega arith;
       frozen_files = λ r entry is filed.
           let from = older entry filed in
-          let place : from.0.seq ≡ entry.seq = from.2 in
           let lower : from.0.seq < place_of r = covers.newer_above.frozen_files r from.0 is from.1 in omega arith;
       active_buffer = covers.newer_above.active_buffer;
       frozen_buffer = covers.newer_above.frozen_buffer;
@@ -333,7 +327,6 @@ module _ (threshold : ℕ) (h : History) (l : Layout) (covers : Covers threshold
             | inr made ↦
                 let at : file.swept ≡ swept = moves.made_swept file made in
                 let from = source entry (record { file = file; there = made; spelled = spelled }) in
-                let place : from.0.seq ≡ entry.seq = from.3 in
                 let low : from.0.seq ≤ swept = moves.low from.0 from.1 in omega arith
           ]),
       record { count = counted.count; places = counted.places },

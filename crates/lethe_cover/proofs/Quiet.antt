@@ -16,8 +16,9 @@ use Rattle.lethe_base.specs.declared.call.Did.TheVariants.{Done, Failed}
 use Rattle.lethe_base.specs.declared.entry.Entry.{Entry}
 use Rattle.lethe_base.proofs.Histories.{after-push}
 use Rattle.lethe_cover.specs.Steps.{IsCounted, next_place, with_done, with_failed, ticked}
+use Rattle.lethe_cover.proofs.Bridge.{same_order}
 use Rattle.lethe_cover.proofs.Grown.{done_old, placed_more, accepted_more, fresh_more, clock_old, cause_more}
-use Rattle.lethe_cover.proofs.Recorded.{held_within}
+use Rattle.lethe_cover.proofs.Records.{held_within}
 
 module _ (threshold : ℕ) (h : History) (l : Layout) (covers : Covers threshold h l) (change : Change)
     (quiet : (key : Bytes) (dkey : ℕ) → IsTrue (is_eraser key dkey change) → ⊥)
@@ -38,14 +39,7 @@ module _ (threshold : ℕ) (h : History) (l : Layout) (covers : Covers threshold
         entries = λ entry swept held. placed_more h change entry.seq entry.key entry.body (covers.places.entries entry swept held);
         erases = λ erase is. accepted_more h change erase (covers.places.erases erase is);
       };
-      newer_above = record {
-        runs = covers.newer_above.runs;
-        active_frozen = covers.newer_above.active_frozen;
-        active_files = covers.newer_above.active_files;
-        frozen_files = covers.newer_above.frozen_files;
-        active_buffer = covers.newer_above.active_buffer;
-        frozen_buffer = covers.newer_above.frozen_buffer;
-      };
+      newer_above = same_order l clock count l.next l.certificate l.pending covers.newer_above;
       same_map = subst (IsMap (Shows l) l.pending) (sym same) covers.same_map;
       deletes_covered = λ entry swept cause held put is no_erase.
           let before = cause_same entry swept cause held is in

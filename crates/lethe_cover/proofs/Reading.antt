@@ -16,10 +16,9 @@ use Rattle.lethe_base.proofs.LayoutLaws.{none_in}
 use Rattle.lethe_base.proofs.Newest.{first_or_rest, first_is}
 use Rattle.lethe_cover.specs.Moves.{files_in}
 use Rattle.lethe_cover.specs.Reads.{found_in, found, answered, AreOnce}
-use Rattle.lethe_cover.proofs.Ascending.{entry_in, no_entry}
-use Rattle.lethe_cover.proofs.Buffers.{buffer_keyed}
-use Rattle.lethe_cover.proofs.Falling.{in_more, Falls, falls_from}
-use Rattle.lethe_cover.proofs.Files.{runs_file, file_runs}
+use Rattle.lethe_cover.proofs.ByKey.{entry_in, no_entry}
+use Rattle.lethe_cover.proofs.Records.{buffer_keyed}
+use Rattle.lethe_cover.proofs.FilesInRuns.{in_more, Falls, falls_from, runs_file, file_runs}
 
 spelled_from : (files : List File) (entry : Entry) → Contains (flat_map entries_of files) entry → InFiles files entry
 spelled_from [] entry there = absurd (none_in entry there)

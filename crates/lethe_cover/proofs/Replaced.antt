@@ -1,25 +1,75 @@
 -- Where inputs go and what is left of them comes, the entries say of the history what they said.
-use Rattle.std.proofs.Common.{◌≡◌, ◌⊎◌, inl, inr, ℕ, ◌<◌, ◌≤◌, Bool, true, false, cond, List, Contains, Option, Some, None, refl, sym, ap, ◌∙◌, subst, arith}
+use Rattle.std.proofs.Common.{◌≡◌, inl, inr, ℕ, ◌+◌, ◌-◌, ◌<◌, ◌≤◌, true, IsTrue, List, Option, Some, None, IsSomeAnd, option_and_then, sym, ◌∙◌, subst, arith, ◌⊎◌, Bool, false, cond, Contains, refl, ap}
+use Rattle.lethe_base.specs.declared.entry.Body.TheVariants as body
 use Rattle.std.specs.FinMap as finmap
-use Rattle.std.specs.List.{list_any}
 use Rattle.lethe_base.specs.Keys.{Bytes}
-use Rattle.lethe_base.specs.Ranges.{Ends}
-use Rattle.lethe_base.specs.History.{Pair, History, after, clock_before}
-use Rattle.lethe_base.specs.Causes.{done_at, cause_of}
-use Rattle.lethe_base.specs.Entries.{pair_of}
+use Rattle.lethe_base.specs.History.{History, Change, change_at, Pair, after, clock_before}
+use Rattle.lethe_base.specs.Causes.{done_call, done_at, erases, erases_if, is_eraser, cause_of, IsErasedAt}
+use Rattle.lethe_base.specs.Ranges.{in_range, Ends}
 use Rattle.lethe_base.specs.Matching.{IsPut, matches, pair_under, answer_under}
-use Rattle.lethe_base.specs.Placed.{IsPlaced}
+use Rattle.lethe_base.specs.Placed.{IsPlaced, IsAccepted}
+use Rattle.lethe_base.specs.declared.call.Call.{Call}
+use Rattle.lethe_base.specs.declared.call.Call.TheVariants.{Put, Erase}
+use Rattle.lethe_base.specs.declared.call.Did.{Did}
+use Rattle.lethe_base.specs.declared.call.Did.TheVariants.{Done, Failed}
+use Rattle.lethe_base.specs.declared.entry.Entry.{Entry}
+use Rattle.lethe_base.specs.declared.pending.Pending.{Pending}
+use Rattle.lethe_base.proofs.CauseLaws.{cause_by, cause_is_first, erased_by}
+use Rattle.lethe_base.proofs.Overdue.{erased_is, no_erase}
+use Rattle.lethe_cover.specs.Outcomes.{EntriesCover, IsFrom, IsDropped, IsOutcome, IsApplied, IsReplaced}
+use Rattle.lethe_cover.proofs.Erasures.{match_parts, match_made, any_found, any_made, under_some, under_none, put_is, tomb_is, answer_applied}
+use Rattle.std.specs.List.{list_any}
+use Rattle.lethe_base.specs.Entries.{pair_of}
 use Rattle.lethe_base.specs.SameMap.{IsNewest}
 use Rattle.lethe_base.specs.Covered.{IsCovered, IsNoErase, HasErase}
 use Rattle.lethe_base.specs.Fresh.{IsFresh}
-use Rattle.lethe_base.specs.declared.call.Call.TheVariants.{Erase}
 use Rattle.lethe_base.specs.declared.entry.Body.{Body}
-use Rattle.lethe_base.specs.declared.entry.Body.TheVariants as body
-use Rattle.lethe_base.specs.declared.entry.Entry.{Entry}
-use Rattle.lethe_base.specs.declared.pending.Pending.{Pending}
-use Rattle.lethe_cover.specs.Outcomes.{EntriesCover, IsFrom, IsDropped, IsOutcome, IsApplied, IsReplaced}
-use Rattle.lethe_cover.proofs.Swept.{hidden, match_of}
-use Rattle.lethe_cover.proofs.Matches.{any_found, any_made, match_parts, under_some, under_none, put_is, tomb_is, answer_applied}
+
+-- an entry of the key is seen that is newer
+pub record IsHidden (shows : Entry → Type 0) (entry : Entry) : Type 0 where
+  pub above : Entry
+  pub shown : shows above
+  pub same : above.key ≡ entry.key
+  pub newer : entry.seq < above.seq
+
+-- its cause isn't the erase, nor an earlier one, since it was swept of these: so the cause is no erase
+pub hidden : (threshold : ℕ) (h : History) (clock : ℕ) (holds : Entry → ℕ → Type 0) (shows : Entry → Type 0) (pending : List Pending) → EntriesCover threshold h clock holds shows pending
+    → (entry : Entry) (swept dkey : ℕ) (value : Bytes) (erase : Pending) → holds entry swept → entry.body ≡ body.Put dkey value → IsAccepted h erase
+    → matches erase entry.seq dkey ≡ true → erase.seq ≤ swept → IsHidden shows entry
+hidden threshold h clock holds shows pending covers entry swept dkey value erase held is accepted hit upto =
+    let parts = match_parts erase entry.seq dkey hit in
+    let put : IsPut entry.body = subst IsPut (sym is) tt in
+    let placed : done_at h entry.seq ≡ Some (Put entry.key dkey value) = subst (IsPlaced h entry.seq entry.key) is (covers.places entry swept held) in
+    let at : erase.seq ≡ entry.seq + (erase.seq - entry.seq - 1) + 1 = omega arith in
+    let erased = subst (IsErasedAt h entry.key dkey) at (erased_by h erase.seq (Erase erase.range) entry.key dkey accepted.done parts.1) in
+    let cause = cause_by h entry.seq (erase.seq - entry.seq - 1) entry.key dkey value placed erased in
+    let first = cause_is_first h entry.seq cause.0 cause.1 in
+    elim (erased_is h first.key first.dkey cause.0 first.erases) [
+      | inl deleted ↦
+          let covered = covers.deletes_covered entry swept cause.0 held put cause.1 (no_erase h deleted.0 cause.0 deleted.1) in
+          record { above = covered.above; shown = covered.shown; same = covered.same; newer = covered.newer }
+      | inr by_range ↦
+          let unswept : swept < cause.0 = (covers.erases_covered entry swept cause.0 by_range.0 held put cause.1 by_range.1).1 in absurd (omega arith)
+    ]
+
+-- an erase that is the cause of a put matches it
+pub match_of : (h : History) (entry : Entry) (cause dkey : ℕ) (value : Bytes) (erase : Pending) → IsPlaced h entry.seq entry.key entry.body → entry.body ≡ body.Put dkey value
+    → cause_of h entry.seq ≡ Some cause → IsAccepted h erase → erase.seq ≡ cause → matches erase entry.seq dkey ≡ true
+match_of h entry cause dkey value erase placed is caused accepted at =
+    let first = cause_is_first h entry.seq cause caused in
+    let put : done_at h entry.seq ≡ Some (Put entry.key dkey value) = subst (IsPlaced h entry.seq entry.key) is placed in
+    let same : Some (Put first.key first.dkey first.value) ≡ Some (Put entry.key dkey value) = sym first.put ∙ put in
+    let d : first.dkey ≡ dkey = cc in
+    match_made erase entry.seq dkey (omega arith) (subst (λ d. in_range erase.range d ≡ true) d
+    (by (change_at h erase.seq) accepted.done first.key first.dkey (subst (IsErasedAt h first.key first.dkey) (sym at) first.erases)))
+  where
+    of_did : (did : Did) (call : Call) (key : Bytes) (d : ℕ) → done_call did call ≡ Some (Erase erase.range) → IsTrue (erases_if key d did call) → in_range erase.range d ≡ true
+    of_did Done call key d is hit = let made : call ≡ Erase erase.range = cc in subst (λ c. erases key d c ≡ true) made hit
+    of_did (Failed before behind) call key d is hit = absurd (let clash : None ≡ Some (Erase erase.range) = is in cc)
+
+    by : (o : Option Change) → option_and_then (λ change. done_call change.did change.call) o ≡ Some (Erase erase.range) → (key : Bytes) (d : ℕ) → IsSomeAnd o (λ change. IsTrue (is_eraser key d change)) → in_range erase.range d ≡ true
+    by None is key d hit = absurd hit
+    by (Some change) is key d hit = of_did change.did change.call key d is hit
 
 module _ (threshold : ℕ) (h : History) (clock : ℕ) (pending applied : List Pending) (Alone : Type 0) (inputs outputs : Entry → Type 0) (swept : ℕ)
     (holds : Entry → ℕ → Type 0) (shows : Entry → Type 0) (holds_rest : Entry → ℕ → Type 0) (shows_rest : Entry → Type 0) (holds_then : Entry → ℕ → Type 0) (shows_then : Entry → Type 0)
@@ -179,10 +229,6 @@ module _ (threshold : ℕ) (h : History) (clock : ℕ) (pending applied : List P
         | inl kept ↦ elim (kept.since is.since is.has) [
           | inl alone ↦ absurd (not_alone is.above is.same is.newer taken alone)
           | inr least ↦
-              let newer : is.above.seq ≤ kept.output.seq = kept.newer in
-              let below : entry.seq < is.above.seq = is.newer in
-              let old : is.since ≤ time = is.old in
-              let lesser : least.0 ≤ is.since = least.2 in
               record { above = kept.output; shown = replaced.comes kept.output kept.made; same = kept.same ∙ is.same; newer = omega arith; since = least.0; has = least.1; old = omega arith }
         ]
       ]
@@ -202,8 +248,6 @@ module _ (threshold : ℕ) (h : History) (clock : ℕ) (pending applied : List P
           (let last : above.seq ≤ from.input.seq = from.newest.last above taken (same ∙ sym from.same) in
           let place : from.input.seq ≡ entry.seq = from.place in absurd {A = ⊥} (omega arith)) in
           let old = covers.deletes_covered from.input source.upto cause source.held (subst IsPut (sym source.body_is) tt) (ap (cause_of h) from.place ∙ is) no_erase in
-          let place : from.input.seq ≡ entry.seq = from.place in
-          let newer : from.input.seq < old.above.seq = old.newer in
           covered_then entry (clock_before h cause) (λ above same newer taken alone. none above same newer taken) (λ above same newer taken dropped. none above same newer taken)
           (record { above = old.above; shown = old.shown; same = old.same ∙ from.same; newer = omega arith; since = old.since; has = old.has; old = old.old })
     ]
@@ -219,7 +263,7 @@ module _ (threshold : ℕ) (h : History) (clock : ℕ) (pending applied : List P
             old.0,
             subst (λ n. n < cause) (sym made.1) (elim (cases swept cause) [
               | inl lower ↦ lower
-              | inr upper ↦ absurd (unmatched entry source cause there (old.0).0 (old.0).1 (old.0).2 upper)
+              | inr upper ↦ absurd (unmatched entry source cause there erased (old.0).0 (old.0).1 (old.0).2 upper)
             ]),
           )
     ]
@@ -227,13 +271,18 @@ module _ (threshold : ℕ) (h : History) (clock : ℕ) (pending applied : List P
         cases : (a b : ℕ) → (a < b) ⊎ (b ≤ a)
         cases a b = grind arith
 
-        -- a pending erase up to that place is applied, and a put of which it is the cause becomes a tombstone
-        unmatched : (output : Entry) (source : IsSame output) (cause : ℕ) → cause_of h source.from.input.seq ≡ Some cause → (erase : Pending) → Contains pending erase → erase.seq ≡ cause → cause ≤ swept → ⊥
-        unmatched output source cause is erase there at upper =
-            let among = applies.complete erase there (omega arith) in
-            let hit = match_of h source.from.input cause source.dkey source.value erase (covers.places source.from.input source.upto source.held) source.body_is is (applies.accepted erase among) at in
-            let any = any_made (λ erase. matches erase source.from.input.seq source.dkey) applied erase among hit in
-            let clash : true ≡ false = sym any ∙ source.free in cc
+        -- a pending erase up to that place is applied, so that a put of which it is the cause becomes a tombstone, or the input was swept of it
+        unmatched : (output : Entry) (source : IsSame output) (cause : ℕ) → cause_of h source.from.input.seq ≡ Some cause → done_at h cause ≡ Some (Erase range)
+            → (erase : Pending) → Contains pending erase → erase.seq ≡ cause → cause ≤ swept → ⊥
+        unmatched output source cause is erased erase there at upper = elim (applies.complete erase source.from.input there (omega arith) source.from.newest.shown) [
+          | inl among ↦
+              let hit = match_of h source.from.input cause source.dkey source.value erase (covers.places source.from.input source.upto source.held) source.body_is is (applies.accepted erase among) at in
+              let any = any_made (λ erase. matches erase source.from.input.seq source.dkey) applied erase among hit in
+              let clash : true ≡ false = sym any ∙ source.free in cc
+          | inr before ↦
+              let unswept : before.0 < cause = (covers.erases_covered source.from.input before.0 cause range before.1 (subst IsPut (sym source.body_is) tt) is erased).1 in
+              let upto : erase.seq ≤ before.0 = before.2 in omega arith
+        ]
 
     fresh_then : (entry : Entry) (upto since : ℕ) → holds_then entry upto → entry.since ≡ Some since → IsFresh threshold h clock since
     fresh_then entry upto since held has = elim (replaced.only_held entry upto held) [

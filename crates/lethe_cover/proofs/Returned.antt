@@ -17,9 +17,9 @@ use Rattle.lethe_base.specs.declared.entry.Body.TheVariants as body
 use Rattle.lethe_base.specs.declared.entry.Entry.{Entry}
 use Rattle.lethe_base.specs.declared.pending.Pending.{Pending}
 use Rattle.lethe_base.proofs.HeldLaws.{shown_held}
-use Rattle.lethe_cover.proofs.Bridge.{entries_cover}
-use Rattle.lethe_cover.proofs.Matches.{any_found, any_made, match_parts}
-use Rattle.lethe_cover.proofs.Swept.{hidden}
+use Rattle.lethe_cover.proofs.Bridge.{entries_cover, same_order}
+use Rattle.lethe_cover.proofs.Erasures.{any_found, any_made, match_parts}
+use Rattle.lethe_cover.proofs.Replaced.{hidden}
 
 module _ (threshold : ℕ) (h : History) (l : Layout) (pending : List Pending) (covers : Covers threshold h (record l { pending = pending })) (shorter : IsShorter l pending)
     (accepted : (erase : Pending) → Contains l.pending erase → IsAccepted h erase × IsFresh threshold h l.clock erase.time)
@@ -66,14 +66,7 @@ module _ (threshold : ℕ) (h : History) (l : Layout) (pending : List Pending) (
           | inr recorded ↦ covers.places.erases erase (inr recorded)
         ];
       };
-      newer_above = record {
-        runs = covers.newer_above.runs;
-        active_frozen = covers.newer_above.active_frozen;
-        active_files = covers.newer_above.active_files;
-        frozen_files = covers.newer_above.frozen_files;
-        active_buffer = covers.newer_above.active_buffer;
-        frozen_buffer = covers.newer_above.frozen_buffer;
-      };
+      newer_above = same_order (record l { pending = pending }) l.clock l.count l.next l.certificate l.pending covers.newer_above;
       same_map = record {
         newest = λ entry newest. same_answer entry newest ∙ covers.same_map.newest entry newest;
         absent = covers.same_map.absent;

@@ -20,9 +20,8 @@ use Rattle.lethe_cover.specs.Changes.{IsChange, followed}
 use Rattle.lethe_cover.specs.Steps.{IsCounted, next_place, with_done, recorded, accepted, erasing}
 use Rattle.lethe_cover.proofs.Changed.{done_next, change_covers}
 use Rattle.lethe_cover.proofs.Grown.{clock_next}
-use Rattle.lethe_cover.proofs.Matches.{answer_push}
-use Rattle.lethe_cover.proofs.Ranges.{left_by, get_left}
-use Rattle.lethe_cover.proofs.Recorded.{same_key-false, shows_cases, shows_still, held_shown, shown_within}
+use Rattle.lethe_cover.proofs.Erasures.{answer_push, left_by, get_left}
+use Rattle.lethe_cover.proofs.Records.{same_key-false, shows_cases, shows_still, held_shown, shown_within}
 
 -- a record that is no entry leaves what reads see
 module _ (l : Layout) (r : Record) (pending : List Pending) (none : (entry : Entry) → r ≡ Written entry → ⊥) where

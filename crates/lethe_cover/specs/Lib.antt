@@ -7,3 +7,4 @@ pub mod Merged
 pub mod Moves
 pub mod Reads
 pub mod Sweeps
+pub mod Examples

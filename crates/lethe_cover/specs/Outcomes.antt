@@ -59,10 +59,11 @@ pub record IsOutcome (erases : List Pending) (Alone : Type 0) (inputs outputs : 
   pub since : (output : Entry) (time : ℕ) → outputs output → output.since ≡ Some time
       → ((input : Entry) × inputs input × (input.since ≡ Some time)) ⊎ ((erase : Pending) × Contains erases erase × (erase.time ≡ time))
 
--- The erases that are applied are those that are pending up to a place. One that matches an input may have ended since, where
--- the input was swept of it.
+-- The erases that are applied are those that are pending up to a place, but for those that an input was swept of before. One
+-- that matches an input may have ended since, where the input was swept of it.
 pub record IsApplied (threshold : ℕ) (h : History) (clock : ℕ) (holds : Entry → ℕ → Type 0) (pending applied : List Pending) (inputs : Entry → Type 0) (swept : ℕ) : Type 0 where
-  pub complete : (erase : Pending) → Contains pending erase → erase.seq ≤ swept → Contains applied erase
+  pub complete : (erase : Pending) (input : Entry) → Contains pending erase → erase.seq ≤ swept → inputs input
+      → Contains applied erase ⊎ ((upto : ℕ) × holds input upto × (erase.seq ≤ upto))
   pub accepted : (erase : Pending) → Contains applied erase → IsAccepted h erase
   pub fresh : (erase : Pending) → Contains applied erase → clock < erase.time + threshold
   pub sound : (erase : Pending) (input : Entry) (dkey : ℕ) (value : Bytes) → Contains applied erase → inputs input → input.body ≡ body.Put dkey value

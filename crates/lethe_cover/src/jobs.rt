@@ -1,17 +1,18 @@
 //! A layout that stands for its history stands for it after each flush, merge and sweep.
-ghost use Rattle.std.specs.Prelude.{[], ◌↔◌, ◌∷◌, ℕ, Bool, Contains, IsTrue, List, Option};
+ghost use Rattle.std.specs.Prelude.{[], ◌↔◌, ◌∷◌, ◌≡◌, ◌≢◌, ℕ, Bool, Contains, IsTrue, List, Option};
 ghost use Rattle.lethe_base.specs.Covers.{Covers};
 ghost use Rattle.lethe_base.specs.Fresh.{IsFresh};
 ghost use Rattle.lethe_base.specs.Held.{InBuffer, InFiles};
 ghost use Rattle.lethe_base.specs.History.{History};
-ghost use Rattle.lethe_base.specs.Layout.{Buffer, File, Layout};
+ghost use Rattle.lethe_base.specs.Layout.{Buffer, File, Layout, runs_of};
 ghost use Rattle.lethe_base.specs.Placed.{IsAccepted};
 ghost use Rattle.lethe_base.specs.Spent.{IsShorter};
 ghost use Rattle.lethe_base.specs.declared.entry.Entry.{Entry};
 ghost use Rattle.lethe_base.specs.declared.pending.Pending.{Pending};
+ghost use Rattle.lethe_cover.specs.Examples.{first_merge};
 ghost use Rattle.lethe_cover.specs.Flushes.{IsFlush, flushed};
 ghost use Rattle.lethe_cover.specs.Merged.{IsMerged};
-ghost use Rattle.lethe_cover.specs.Moves.{Move, Moves};
+ghost use Rattle.lethe_cover.specs.Moves.{IsMove, Move, Moves, runs_before, runs_then};
 ghost use Rattle.lethe_cover.specs.Outcomes.{IsOutcome};
 ghost use Rattle.lethe_cover.specs.Steps.{IsCounted};
 ghost use Rattle.lethe_cover.specs.Sweeps.{IsSwept};
@@ -28,6 +29,14 @@ pub fn move_covers()
     ensures { (threshold : ℕ) (h : History) (l : Layout) → Covers threshold h l → IsCounted h l
         → (levels : List (List File)) (alone : Bool) (applied : List Pending) (swept : ℕ) (m : Move) → Moves threshold h l levels alone applied swept m
         → Covers threshold h (record l { levels = levels }) × IsCounted h (record l { levels = levels }) }
+{}
+
+/// A merge of level 0's only file into an empty level 1 is a move of files.
+pub fn first_merge_moves()
+    ensures { (alone : Bool) (file made : File) → file ≢ made
+        → IsMove alone (first_merge file made)
+        × (runs_of ((file ∷ []) ∷ [] ∷ []) ≡ runs_before (first_merge file made))
+        × (runs_of ([] ∷ (made ∷ []) ∷ []) ≡ runs_then (first_merge file made)) }
 {}
 
 /// A merged list is an outcome of its inputs.

@@ -10,7 +10,7 @@ pub use changes::{
     put_covers, tick_covers,
 };
 pub use jobs::{
-    flush_covers, merged_buffer_is_outcome, merged_is_outcome, move_covers, numbers_are_free,
-    spent_erases_may_return, sweep_is_outcome,
+    first_merge_moves, flush_covers, merged_buffer_is_outcome, merged_is_outcome, move_covers,
+    numbers_are_free, spent_erases_may_return, sweep_is_outcome,
 };
 pub use runs::{each_run_follows, reads_answer};

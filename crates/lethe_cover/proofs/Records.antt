@@ -1,22 +1,55 @@
 -- What a layout with one more record holds and shows.
-use Rattle.std.proofs.Common.{◌≡◌, ◌⊎◌, inl, inr, ℕ, ◌+◌, ◌≤◌, Bool, true, false, cond, List, [], ◌∷◌, ◌++◌, length, Contains, Some, refl, sym, ap, ◌∙◌, subst, arith}
-use Rattle.std.proofs.lemmas.List.Elements.{Contains-push_cases}
-use Rattle.std.specs.Cmp.Lexicographic.{nat_list_cmp_total}
+use Rattle.std.proofs.Common.{◌≡◌, Bool, true, false, cond, List, [], ◌∷◌, ◌++◌, fold, filter_map, Option, Some, None, refl, sym, ap, ◌∙◌, ◌⊎◌, inl, inr, ℕ, ◌+◌, ◌≤◌, length, Contains, subst, arith}
 use Rattle.std.specs.FinMap as finmap
-use Rattle.lethe_base.specs.Keys.{Bytes, same_key}
+use Rattle.std.proofs.lemmas.List.Elements.{filter_map-append, Contains-push_cases}
+use Rattle.std.proofs.lemmas.List.Sums.{fold-append}
+use Rattle.std.specs.Cmp.Lexicographic.{nat_list_cmp_total}
+use Rattle.lethe_base.specs.declared.entry.Entry.{Entry}
+use Rattle.lethe_base.specs.Keys.{Bytes, key_cmp, same_key}
+use Rattle.lethe_base.specs.Layout.{Record, Written, Blind, Erasing, Buffer, written, buffer_of, Layout, place_of}
+use Rattle.lethe_base.proofs.Newest.{same_key-true, same_key-self}
 use Rattle.lethe_base.specs.History.{History}
-use Rattle.lethe_base.specs.Layout.{Layout, Record, Written, Blind, Erasing, Buffer, place_of, written, buffer_of}
 use Rattle.lethe_base.specs.Held.{IsRecorded, Holds, InBuffer, Shows}
 use Rattle.lethe_base.specs.NewerAbove.{IsNewestOf, IsNewerAbove}
 use Rattle.lethe_base.specs.Covers.{Covers}
-use Rattle.lethe_base.specs.declared.entry.Entry.{Entry}
 use Rattle.lethe_base.specs.declared.pending.Pending.{Pending}
 use Rattle.lethe_base.proofs.HeldLaws.{shown_held}
-use Rattle.lethe_base.proofs.Newest.{same_key-self, same_key-true}
 use Rattle.lethe_cover.specs.Changes.{followed}
 use Rattle.lethe_cover.specs.Steps.{IsCounted}
-use Rattle.lethe_cover.proofs.Buffers.{pushed, buffer_push}
 use Rattle.lethe_cover.proofs.Grown.{placed_within}
+
+abbrev insert : Buffer → Entry → Buffer
+insert buffer entry = finmap.insert buffer entry.key entry
+
+abbrev pub pushed : Buffer → Option Entry → Buffer
+pushed buffer None = buffer
+pushed buffer (Some entry) = insert buffer entry
+
+pub buffer_push : (records : List Record) (r : Record) → buffer_of (records ++ r ∷ []) ≡ pushed (buffer_of records) (written r)
+buffer_push records r = ap (fold insert finmap.empty) (filter_map-append written records (r ∷ []))
+    ∙ fold-append insert finmap.empty (filter_map written records) (filter_map written (r ∷ [])) ∙ last r
+  where
+    last : (r : Record) → fold insert (buffer_of records) (filter_map written (r ∷ [])) ≡ pushed (buffer_of records) (written r)
+    last (Written entry) = refl
+    last (Blind place) = refl
+    last (Erasing erase) = refl
+
+abbrev IsKeyed : Buffer → Type 0
+IsKeyed buffer = (key : Bytes) (entry : Entry) → finmap.get buffer key ≡ Some entry → entry.key ≡ key
+
+keyed_more : (entries : List Entry) (buffer : Buffer) → IsKeyed buffer → IsKeyed (fold insert buffer entries)
+keyed_more [] buffer keyed = keyed
+keyed_more (first ∷ entries) buffer keyed = keyed_more entries (insert buffer first)
+    (λ key entry is. by key entry (same_key key first.key) refl (sym (finmap.get-insert nat_list_cmp_total buffer first.key first key) ∙ is))
+  where
+    by : (key : Bytes) (entry : Entry) (b : Bool) → same_key key first.key ≡ b → cond b (Some first) (finmap.get buffer key) ≡ Some entry → entry.key ≡ key
+    by key entry true same is = let one : first ≡ entry = cc in ap (λ e. e.key) (sym one) ∙ sym (same_key-true key first.key same)
+    by key entry false same is = keyed key entry is
+
+-- a buffer has each entry under its key
+pub buffer_keyed : (records : List Record) → IsKeyed (buffer_of records)
+buffer_keyed records = keyed_more (filter_map written records) finmap.empty
+    (λ key entry is. absurd (let clash : None ≡ Some entry = sym (finmap.get-empty key_cmp key) ∙ is in cc))
 
 -- two keys are one or not, as a test
 pub same_or : {P : Type 0} (a b : Bytes) → (same_key a b ≡ true → P) → (same_key a b ≡ false → P) → P
@@ -151,7 +184,6 @@ module _ (threshold : ℕ) (h : History) (l : Layout) (covers : Covers threshold
               subst (λ o. InBuffer (pushed (buffer_of l.active) o) replaced.entry) (sym (ap written replaced.is)) (pushed_new (buffer_of l.active) replaced.entry) in
               let place : place_of r ≡ replaced.entry.seq = ap place_of replaced.is in
               let within = shown_within newest.0 (inl (inl newest.1)) in
-              let upto : entry.seq ≤ newest.0.seq = newest.3 in
               (replaced.entry, there, sym replaced.same ∙ newest.2, omega arith)
         ]
 

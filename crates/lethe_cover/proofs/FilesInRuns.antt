@@ -1,0 +1,146 @@
+-- The files of levels and of runs, and runs each of which is over the ones behind it.
+use Rattle.std.proofs.Common.{◌≡◌, inl, inr, List, [], ◌∷◌, map, flat_map, Contains, Option, Some, None, refl, ap, sym, subst, ◌⊎◌, suc, ◌<◌, ◌++◌, length, get_or, AllPairs, arith}
+use Rattle.std.proofs.lemmas.List.Elements.{Contains-append_left, Contains-append_right, Contains-append_cases, Contains-get_or}
+use Rattle.std.specs.List.{cons_option}
+use Rattle.lethe_base.specs.Layout.{File, runs_of}
+use Rattle.lethe_base.proofs.LayoutLaws.{none_in}
+use Rattle.lethe_base.proofs.Newest.{first_or_rest, first_is}
+use Rattle.lethe_cover.specs.Flushes.{with_newest}
+use Rattle.std.proofs.lemmas.Grind.{flat_map-append}
+use Rattle.std.proofs.lemmas.List.Kept.{AllPairs-cons}
+use Rattle.lethe_base.specs.Held.{InFiles}
+use Rattle.lethe_base.specs.NewerAbove.{IsOver}
+use Rattle.lethe_base.specs.declared.entry.Entry.{Entry}
+use Rattle.lethe_cover.specs.Moves.{files_in}
+
+pub map_from : {X Y : Type 0} (f : X → Y) (xs : List X) (y : Y) → Contains (map f xs) y → (x : X) × Contains xs x × (f x ≡ y)
+map_from f [] y there = absurd (none_in y there)
+map_from f (x ∷ xs) y there = elim (first_or_rest (f x) (map f xs) y there) [
+  | inl same ↦ (x, first_is x xs x refl, same)
+  | inr rest ↦ let found = map_from f xs y rest in (found.0, Contains-append_right (x ∷ []) xs found.0 found.1, found.2)
+]
+
+pub flat_in : {X : Type 0} (xss : List (List X)) (xs : List X) (x : X) → Contains xss xs → Contains xs x → Contains (flat_map (λ ys. ys) xss) x
+flat_in [] xs x there is = absurd (none_in xs there)
+flat_in (ys ∷ xss) xs x there is = elim (first_or_rest ys xss xs there) [
+  | inl same ↦ Contains-append_left ys (flat_map (λ ys. ys) xss) x (subst (λ ys. Contains ys x) (sym same) is)
+  | inr rest ↦ Contains-append_right ys (flat_map (λ ys. ys) xss) x (flat_in xss xs x rest is)
+]
+
+-- a file of a run is one of the levels
+pub run_file : (levels : List (List File)) (run : List File) (file : File) → Contains (runs_of levels) run → Contains run file → Contains (flat_map (λ files. files) levels) file
+run_file [] run file there is = absurd (none_in run there)
+run_file (newest ∷ deeper) run file there is = elim (Contains-append_cases (map (λ file. file ∷ []) newest) deeper run there) [
+  | inl first ↦
+      let found = map_from (λ file. file ∷ []) newest run first in
+      Contains-append_left newest (flat_map (λ files. files) deeper) file (elim (first_or_rest found.0 [] file (subst (λ run. Contains run file) (sym found.2) is)) [
+        | inl same ↦ subst (Contains newest) same found.1
+        | inr rest ↦ absurd (none_in file rest)
+      ])
+  | inr other ↦ Contains-append_right newest (flat_map (λ files. files) deeper) file (flat_in deeper run file other is)
+]
+
+-- a newer file is a run above the others
+pub runs_newest : (file : File) (levels : List (List File)) → runs_of (with_newest (Some file) levels) ≡ (file ∷ []) ∷ runs_of levels
+runs_newest file [] = refl
+runs_newest file (newest ∷ deeper) = refl
+
+pub runs_none : (levels : List (List File)) → runs_of (with_newest None levels) ≡ runs_of levels
+runs_none [] = refl
+runs_none (newest ∷ deeper) = refl
+
+pub files_newest : (made : Option File) (levels : List (List File)) → flat_map (λ files. files) (with_newest made levels) ≡ cons_option made (flat_map (λ files. files) levels)
+files_newest None [] = refl
+files_newest None (newest ∷ deeper) = refl
+files_newest (Some file) [] = refl
+files_newest (Some file) (newest ∷ deeper) = refl
+
+pub flat_from : {X : Type 0} (xss : List (List X)) (x : X) → Contains (flat_map (λ ys. ys) xss) x → (xs : List X) × Contains xss xs × Contains xs x
+flat_from [] x there = absurd (none_in x there)
+flat_from (ys ∷ xss) x there = elim (Contains-append_cases ys (flat_map (λ ys. ys) xss) x there) [
+  | inl first ↦ (ys, first_is ys xss ys refl, first)
+  | inr rest ↦ let found = flat_from xss x rest in (found.0, Contains-append_right (ys ∷ []) xss found.0 found.1, found.2)
+]
+
+-- the runs have the files of the levels
+pub runs_file : (levels : List (List File)) (file : File) → Contains (flat_map (λ files. files) (runs_of levels)) file → Contains (flat_map (λ files. files) levels) file
+runs_file levels file there = let found = flat_from (runs_of levels) file there in run_file levels found.0 file found.1 found.2
+
+single_in : (newest : List File) (file : File) → Contains newest file → Contains (map (λ file. file ∷ []) newest) (file ∷ [])
+single_in [] file there = absurd (none_in file there)
+single_in (first ∷ newest) file there = elim (first_or_rest first newest file there) [
+  | inl same ↦ first_is (first ∷ []) (map (λ file. file ∷ []) newest) (file ∷ []) (ap (λ f. f ∷ []) same)
+  | inr rest ↦ Contains-append_right ((first ∷ []) ∷ []) (map (λ file. file ∷ []) newest) (file ∷ []) (single_in newest file rest)
+]
+
+pub file_runs : (levels : List (List File)) (file : File) → Contains (flat_map (λ files. files) levels) file → Contains (flat_map (λ files. files) (runs_of levels)) file
+file_runs [] file there = absurd (none_in file there)
+file_runs (newest ∷ deeper) file there = elim (Contains-append_cases newest (flat_map (λ files. files) deeper) file there) [
+  | inl first ↦ flat_in (runs_of (newest ∷ deeper)) (file ∷ []) file
+      (Contains-append_left (map (λ file. file ∷ []) newest) deeper (file ∷ []) (single_in newest file first)) (first_is file [] file refl)
+  | inr rest ↦
+      let found = flat_from deeper file rest in
+      flat_in (runs_of (newest ∷ deeper)) found.0 file (Contains-append_right (map (λ file. file ∷ []) newest) deeper found.0 found.1) found.2
+]
+
+-- an entry of some files is one of more files
+abbrev pub in_more : {entry : Entry} {files more : List File} → (is : InFiles files entry) → ((file : File) → Contains files file → Contains more file) → InFiles more entry
+in_more is to = record { file = is.file; there = to is.file is.there; spelled = is.spelled }
+
+pub files_left : (a b : List (List File)) (file : File) → Contains (files_in a) file → Contains (files_in (a ++ b)) file
+files_left a b file there = subst (λ files. Contains files file) (sym (flat_map-append (λ files. files) a b)) (Contains-append_left (files_in a) (files_in b) file there)
+
+pub files_right : (a b : List (List File)) (file : File) → Contains (files_in b) file → Contains (files_in (a ++ b)) file
+files_right a b file there = subst (λ files. Contains files file) (sym (flat_map-append (λ files. files) a b)) (Contains-append_right (files_in a) (files_in b) file there)
+
+pub files_cases : (a b : List (List File)) (file : File) → Contains (files_in (a ++ b)) file → Contains (files_in a) file ⊎ Contains (files_in b) file
+files_cases a b file there = Contains-append_cases (files_in a) (files_in b) file (subst (λ files. Contains files file) (flat_map-append (λ files. files) a b) there)
+
+abbrev pub Falls : List (List File) → Type 0
+Falls [] = Unit {0}
+Falls (run ∷ runs) = IsOver run (files_in runs) × Falls runs
+
+pub falls_from : (runs : List (List File)) → AllPairs IsOver runs → Falls runs
+falls_from [] order = tt
+falls_from (run ∷ runs) order = (
+  (λ entry older above below same.
+      let found = flat_from runs below.file below.there in
+      let k = found.1.0 in
+      let within : k < length runs = found.1.1 in
+      let at : get_or runs k found.0 ≡ found.0 = found.1.2 in
+      order 0 (suc k) found.0 (omega arith) (omega arith) entry older above
+      (record { file = below.file; there = subst (λ files. Contains files below.file) (sym at) found.2; spelled = below.spelled }) same),
+  falls_from runs (λ i j d before within. order (suc i) (suc j) d (omega arith) (omega arith)),
+)
+
+pub falls_to : (runs : List (List File)) → Falls runs → AllPairs IsOver runs
+falls_to [] falls = λ i j d before within. absurd (omega arith)
+falls_to (run ∷ runs) falls = AllPairs-cons IsOver run runs
+    (λ k d within entry older above below same. falls.0 entry older above
+    (in_more below (λ file there. flat_in runs (get_or runs k d) file (Contains-get_or runs k d within) there)) same)
+    (falls_to runs falls.1)
+
+pub over_append : (a b : List (List File)) → Falls (a ++ b) → IsOver (files_in a) (files_in b)
+over_append [] b falls entry older above below same = absurd (none_in above.file above.there)
+over_append (run ∷ a) b falls entry older above below same = elim (Contains-append_cases run (files_in a) above.file above.there) [
+  | inl first ↦ falls.0 entry older (record { file = above.file; there = first; spelled = above.spelled }) (in_more below (files_right a b)) same
+  | inr rest ↦ over_append a b falls.1 entry older (record { file = above.file; there = rest; spelled = above.spelled }) below same
+]
+
+pub falls_left : (a b : List (List File)) → Falls (a ++ b) → Falls a
+falls_left [] b falls = tt
+falls_left (run ∷ a) b falls = (λ entry older above below same. falls.0 entry older above (in_more below (files_left a b)) same, falls_left a b falls.1)
+
+pub falls_right : (a b : List (List File)) → Falls (a ++ b) → Falls b
+falls_right [] b falls = falls
+falls_right (run ∷ a) b falls = falls_right a b falls.1
+
+pub falls_append : (a b : List (List File)) → Falls a → Falls b → IsOver (files_in a) (files_in b) → Falls (a ++ b)
+falls_append [] b falls_a falls_b over = falls_b
+falls_append (run ∷ a) b falls_a falls_b over = (
+  (λ entry older above below same. elim (files_cases a b below.file below.there) [
+    | inl first ↦ falls_a.0 entry older above (record { file = below.file; there = first; spelled = below.spelled }) same
+    | inr rest ↦ over entry older (in_more above (λ file there. Contains-append_left run (files_in a) file there)) (record { file = below.file; there = rest; spelled = below.spelled }) same
+  ]),
+  falls_append a b falls_a.1 falls_b (λ entry older above below same. over entry older (in_more above (λ file there. Contains-append_right run (files_in a) file there)) below same),
+)

@@ -1,0 +1,33 @@
+-- The smallest merge is a move of files.
+use Rattle.std.proofs.Common.{◌≡◌, ◌≢◌, inl, inr, Bool, [], ◌∷◌, Contains, refl, sym, ◌∙◌, arith}
+use Rattle.lethe_base.specs.Layout.{File, runs_of}
+use Rattle.lethe_base.proofs.LayoutLaws.{none_in}
+use Rattle.lethe_base.proofs.Newest.{first_or_rest}
+use Rattle.lethe_cover.specs.Examples.{first_merge}
+use Rattle.lethe_cover.specs.Moves.{IsMove, runs_before, runs_then}
+
+module _ (alone : Bool) (file made : File) (other : file ≢ made) where
+  single : (one x : File) → Contains (one ∷ []) x → one ≡ x
+  single one x there = elim (first_or_rest one [] x there) [
+    | inl same ↦ same
+    | inr rest ↦ absurd (none_in x rest)
+  ]
+
+  pub first_move : IsMove alone (first_merge file made)
+  first_move = record {
+    taken_from = λ x there. inl there;
+    here_split = λ x there. inr there;
+    here_from = λ x there. absurd (none_in x there);
+    next_split = λ x there. absurd (none_in x there);
+    next_from = λ x there. inr there;
+    made_there = λ x there. there;
+    made_new = λ x there before. other (single file x before ∙ sym (single made x there));
+    here_apart = λ x y there. absurd (none_in x there);
+    next_apart = λ x y there before. absurd (none_in x before);
+    alone_apart = λ lone x y there. absurd (none_in x there);
+    here_order = λ i j d before within. absurd (omega arith);
+    next_order = λ i j d before within. absurd (omega arith);
+  }
+
+  pub first_merge_moves : IsMove alone (first_merge file made) × (runs_of ((file ∷ []) ∷ [] ∷ []) ≡ runs_before (first_merge file made)) × (runs_of ([] ∷ (made ∷ []) ∷ []) ≡ runs_then (first_merge file made))
+  first_merge_moves = (first_move, refl, refl)
