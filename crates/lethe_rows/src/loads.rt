@@ -1,0 +1,191 @@
+//! Reading a disk back: what is there, what is damaged, another configuration, and faults.
+
+use lethe_base::{Config, Fields, Kind, Name, Pick};
+use lethe_disk::Disk;
+use lethe_memdisk::MemDisk;
+use lethe_recover::{RecoverRefused, load};
+use std::alloc::Global;
+use std::test::Fail;
+
+/// Manifest 2 of a new store, which cites segment 1.
+const MANIFEST: [u8; 71] =
+    *b"LM\x01\0\0\0\0\0\0\0\x02\0\0\0\0\0\0\0\x64\x02\x02\0\x02\x02\0\x02\0\x04\0\0\0\0\0\0\0\0\0\0\0\0\0\0\0\0\0\0\0\0\0\0\0\0\x03\0\0\0\0\0\x01\0\0\0\0\0\0\0\x01\0\0\0\0";
+
+/// Segment 1 with one put.
+const SEGMENT: [u8; 36] =
+    *b"LS\x01\0\0\0\0\0\0\0\x01\x01\x01\0\0\0\0\0\0\0\x01\0\x01a\0\0\0\0\0\0\0\x05\0\x01x\0";
+
+fn small() -> Fields {
+    Fields {
+        threshold: 100,
+        ratio: 2,
+        levels: 2,
+        page: 2,
+        tile: 2,
+        file: 2,
+        buffer: 4,
+        pick: Pick::So,
+    }
+}
+
+// Adds an object of a new name.
+fn add(alloc: Global, disk: &mut MemDisk, kind: Kind, no: u64, bytes: &[u8]) -> Result<(), Fail> {
+    let name = Name { kind, no };
+    let Ok(names) = disk.names(alloc) else {
+        return Err(Fail::new("names"));
+    };
+    if names.contains(&name) {
+        return Err(Fail::new("a new name"));
+    }
+    match disk.create(name, bytes) {
+        Ok(()) => Ok(()),
+        Err(_) => Err(Fail::new("an object")),
+    }
+}
+
+// What of a store a disk is to have: its gates, manifest 2 and segment 1.
+#[derive(Clone, Copy, Debug)]
+struct Parts {
+    gates: &'static [u64],
+    manifest: Option<&'static [u8]>,
+    segment: Option<&'static [u8]>,
+}
+
+fn disk_of(alloc: Global, parts: Parts, failing: Vec<u64>) -> Result<MemDisk, Fail> {
+    let mut disk = MemDisk::new(alloc, 30, failing)?;
+    for gate in parts.gates {
+        add(alloc, &mut disk, Kind::Gate, *gate, &[])?;
+    }
+    if let Some(bytes) = parts.manifest {
+        add(alloc, &mut disk, Kind::Manifest, 2, bytes)?;
+    }
+    if let Some(bytes) = parts.segment {
+        add(alloc, &mut disk, Kind::Segment, 1, bytes)?;
+    }
+    Ok(disk)
+}
+
+// How many records there are, if there is a gate, or why nothing was read.
+fn records(
+    alloc: Global,
+    disk: &mut MemDisk,
+    fields: Fields,
+) -> Result<Result<Option<usize>, RecoverRefused>, Fail> {
+    let config = Config::new(fields).ok().ok_or("a configuration")?;
+    Ok(match load(alloc, disk, &config) {
+        Ok(read) if read.manifest.is_none() => Ok(None),
+        Ok(read) => Ok(read.segments.items().first().map(|held| held.items().len())),
+        Err(why) => Err(why),
+    })
+}
+
+const WHOLE: Parts = Parts {
+    gates: &[2],
+    manifest: Some(&MANIFEST),
+    segment: Some(&SEGMENT),
+};
+
+#[test]
+fn the_greatest_gate_tells_what_is_loaded(rt: HostRuntime) -> Result<(), Fail> {
+    let alloc = rt.alloc();
+    let damaged = |kind, no| {
+        Err(RecoverRefused::Damaged {
+            name: Name { kind, no },
+        })
+    };
+    for (parts, read) in [
+        (WHOLE, Ok(Some(1))),
+        (
+            Parts {
+                segment: Some(b"LS\x01\0\0\0\0\0\0\0\x01\0"),
+                ..WHOLE
+            },
+            Ok(Some(0)),
+        ),
+        (
+            Parts {
+                segment: Some(b"LS\x01\0\0\0\0\0\0\0\x01"),
+                ..WHOLE
+            },
+            Ok(Some(0)),
+        ),
+        (
+            Parts {
+                gates: &[],
+                ..WHOLE
+            },
+            Ok(None),
+        ),
+        (
+            Parts {
+                gates: &[1, 2],
+                ..WHOLE
+            },
+            Ok(Some(1)),
+        ),
+        (
+            Parts {
+                gates: &[2, 3],
+                ..WHOLE
+            },
+            damaged(Kind::Manifest, 3),
+        ),
+        (
+            Parts {
+                manifest: None,
+                ..WHOLE
+            },
+            damaged(Kind::Manifest, 2),
+        ),
+        (
+            Parts {
+                manifest: Some(b"LM\x01"),
+                ..WHOLE
+            },
+            damaged(Kind::Manifest, 2),
+        ),
+        (
+            Parts {
+                segment: None,
+                ..WHOLE
+            },
+            damaged(Kind::Segment, 1),
+        ),
+        (
+            Parts {
+                segment: Some(b"LS"),
+                ..WHOLE
+            },
+            damaged(Kind::Segment, 1),
+        ),
+        (
+            Parts {
+                segment: Some(b"LS\x01\0\0\0\0\0\0\0\x03\0"),
+                ..WHOLE
+            },
+            damaged(Kind::Segment, 1),
+        ),
+    ] {
+        let mut disk = disk_of(alloc, parts, Vec::new(alloc))?;
+        assert_eq!(rt; records(alloc, &mut disk, small())?, read);
+    }
+    Ok(())
+}
+
+#[test]
+fn another_configuration_and_faults_are_told(rt: HostRuntime) -> Result<(), Fail> {
+    let alloc = rt.alloc();
+    let mut disk = disk_of(alloc, WHOLE, Vec::new(alloc))?;
+    let kept = Config::new(small()).ok().ok_or("a configuration")?;
+    let other = Err(RecoverRefused::OtherConfig { kept });
+    assert_eq!(rt; records(alloc, &mut disk, Fields::default())?, other);
+    for failing in 7..10 {
+        let mut disk = disk_of(alloc, WHOLE, vec![in alloc; failing]?)?;
+        let fault = Err(RecoverRefused::Fault {
+            before: 0,
+            after: 1,
+        });
+        assert_eq!(rt; records(alloc, &mut disk, small())?, fault);
+    }
+    Ok(())
+}
