@@ -1,5 +1,5 @@
 -- Reading entries through a port.
-use Rattle.std.specs.Prelude.{◌≡◌, ◌≤◌, ℕ, List, [], ◌∷◌, Option, Some, None, Result, Ok, Err, IsErrOf}
+use Rattle.std.specs.Prelude.{◌≡◌, ◌≤◌, ℕ, List, [], ◌∷◌, Option, Some, None, Result, IsErrOf}
 use Rattle.lethe_base.specs.Counts.{Rose}
 use Rattle.lethe_base.specs.declared.entry.Entry.{Entry}
 use Rattle.lethe_disk.specs.declared.cursor.ReadRefused.{ReadRefused}

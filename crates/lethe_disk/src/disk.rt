@@ -140,7 +140,11 @@ pub trait Disk: Send + Drop {
         ensures faults { faults self.new ≡ faults self.old };
 
     /// A copy of the page's bytes. It is no device call. On a disk that tells nothing it may be any bytes.
-    fn fetch(alloc: Global, port: &mut Self::Port, page: &Self::Page) -> Result<Vec<u8>, DiskRefused>
+    fn fetch(
+        alloc: Global,
+        port: &mut Self::Port,
+        page: &Self::Page,
+    ) -> Result<Vec<u8>, DiskRefused>
         ensures done { tells → IfOk result (λ bytes. bytes.items ≡ page_bytes page.now) }
 
         // Whatever it answers.
