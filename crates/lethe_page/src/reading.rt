@@ -150,7 +150,7 @@ fn read_entries(
 {
     let mut entries = Vec::new(alloc);
     let mut at = 8;
-    while entries.len() < count as usize {
+    'entries: while entries.len() < count as usize {
         let (entry, end) = read_entry_above(alloc, class, &entries, bytes, at)?;
         entries.push(entry)?;
         at = end;

@@ -1,0 +1,4 @@
+pub mod Loop
+pub mod Heads
+pub mod Entries
+pub mod PageLaws
