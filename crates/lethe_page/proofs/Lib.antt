@@ -1,4 +1,4 @@
 pub mod Loop
-pub mod Heads
-pub mod Entries
+pub mod HeadLaws
+pub mod EntryLaws
 pub mod PageLaws

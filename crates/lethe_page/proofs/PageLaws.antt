@@ -17,8 +17,8 @@ use Rattle.lethe_page.specs.Reading.{GivesPage, head_at, entries_above, page_at}
 use Rattle.lethe_page.specs.declared.class.Class.{Class}
 use Rattle.lethe_page.specs.declared.refused.PageRefused.{PageRefused}
 use Rattle.lethe_page.specs.declared.refused.PageRefused.TheVariants.{Short, Kind, Order, Trailing, NoMemory}
-use Rattle.lethe_page.proofs.Heads.{head_ok, head_again}
-use Rattle.lethe_page.proofs.Entries.{ascending_if, above_if, entries_ok, entries_back}
+use Rattle.lethe_page.proofs.HeadLaws.{head_ok, head_again}
+use Rattle.lethe_page.proofs.EntryLaws.{ascending_if, above_if, entries_ok, entries_back}
 
 abbrev Page : Type 0
 Page = Class × List Entry
@@ -50,7 +50,7 @@ page_ok bytes p fits e =
     let stands = stands_then (head_bytes class count) (flat_map entry_bytes entries) bytes 0 8 end head.0 all.0 in
     let whole : bytes ≡ head_bytes class count ++ flat_map entry_bytes entries = all_stands _ bytes end stands (ltb-false end (length bytes) g.0) in
     let made : Page = (class, entries) in
-    subst (λ (y : Page). HasSpelling y.0 y.1 × (bytes ≡ head_bytes y.0 (length y.1) ++ flat_map entry_bytes y.1)) (ok_is made p g.1) (
+    subst (λ (y : Page). HasSpelling y.0 y.1 × (bytes ≡ head_bytes y.0 (length y.1) ++ flat_map entry_bytes y.1)) {x = made} (ok_is made p g.1) (
       record { some = omega (arith, all.1, head.1); few = omega (arith, all.1, head.2); each = all.2; ascending = ascending_if None entries all.3 },
       whole ∙ ap (λ (n : ℕ). head_bytes class n ++ flat_map entry_bytes entries) (sym all.1),
     )

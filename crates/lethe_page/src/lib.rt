@@ -2,6 +2,8 @@
 #![tactic(auto)]
 
 mod class;
+mod entries;
+mod head;
 mod laws;
 mod reading;
 mod refused;
@@ -12,3 +14,6 @@ pub use laws::one_page;
 pub use reading::read_page;
 pub use refused::PageRefused;
 pub use writing::write_page;
+
+#[cfg(test)]
+mod tests;

@@ -1,7 +1,7 @@
 use Rattle.std.proofs.Common.{◌≡◌, ◌<◌, ◌++◌, ◌∷◌, [], length, Ok, subst, arith, rules}
 use Rattle.lethe_page.specs.Reading.{last_key, entry_above}
 use Rattle.lethe_page.proofs.Loop.{one_more}
-use Rattle.lethe_page.proofs.reading.read_entries.Goals as goal
+use Rattle.lethe_page.proofs.entries.read_entries.Goals as goal
 
 pub entries-preserved : goal.entries-preserved
 entries-preserved c =

@@ -29,7 +29,7 @@ use Rattle.lethe_page.specs.declared.class.Class.{Class}
 use Rattle.lethe_page.specs.declared.class.Class.TheVariants.{Puts, Tombs}
 use Rattle.lethe_page.specs.declared.refused.PageRefused.{PageRefused}
 use Rattle.lethe_page.specs.declared.refused.PageRefused.TheVariants.{Order}
-use Rattle.lethe_page.proofs.Heads.{fixed_ok, fixed_again}
+use Rattle.lethe_page.proofs.HeadLaws.{fixed_ok, fixed_again}
 
 -- ---- the order of the keys
 
@@ -131,7 +131,7 @@ entry_back class last bytes at end entry fits above p =
     let is : made ≡ (entry, end) = ok_is made (entry, end) b.2 in
     let kind : number_at w8 bytes at ≡ Some (class_byte class) = kind_there bytes at end entry p ∙ ap (λ (k : BodyKind). Some (kind_byte k)) fits.kind ∙ ap (λ (n : ℕ). Some n) (byte_of class) in
     let higher : is_above last a.0.0.key ≡ true = ap (λ (y : Entry × ℕ). is_above last y.0.key) is ∙ above in
-    above_so class last bytes at a.0 b.0 kind a.1 higher b.1 ∙ ap (λ (y : Entry × ℕ). let read : Result (Entry × ℕ) PageRefused = Ok y in read) is
+    subst (λ (y : Entry × ℕ). entry_above class last bytes at ≡ Ok y) {x = made} is (above_so class last bytes at a.0 b.0 kind a.1 higher b.1)
 
 -- ---- all entries
 
@@ -150,7 +150,7 @@ entries_ok class (suc n) last bytes at x fits here e =
     let first = entry_ok class last bytes at a.0 fits a.1 in
     let behind : StandsAt [] bytes a.0.1 a.0.1 = record { parts = refl; ends = omega arith; within = first.0.within } in
     let rest = entries_ok class n (Some a.0.0.key) bytes a.0.1 b.0 fits behind b.1 in
-    subst (λ (y : List Entry × ℕ). StandsAt (flat_map entry_bytes y.0) bytes at y.1 × (length y.0 ≡ suc n) × All (IsIn class) y.0 × Above last y.0) (ok_is made x b.2)
+    subst (λ (y : List Entry × ℕ). StandsAt (flat_map entry_bytes y.0) bytes at y.1 × (length y.0 ≡ suc n) × All (IsIn class) y.0 × Above last y.0) {x = made} (ok_is made x b.2)
     (stands_then (entry_bytes a.0.0) (flat_map entry_bytes b.0.0) bytes at a.0.1 b.0.1 first.0 rest.0, ap suc rest.1, all_more class a.0.0 b.0.0 first.1 rest.2, (first.2, rest.3))
 
 pub entries_back : (class : Class) (entries : List Entry) (last : Option Bytes) (bytes : List ℕ) (at end : ℕ) → All (IsIn class) entries → Above last entries → StandsAt (flat_map entry_bytes entries) bytes at end → entries_above class (length entries) last bytes at ≡ Ok (entries, end)
