@@ -1,5 +1,5 @@
 -- The head of a page: what is read stands there, and what stands there is read.
-use Rattle.std.proofs.Common.{◌≡◌, ℕ, ◌+◌, ◌^◌, ◌<◌, Bool, true, false, cond, eqb, List, [], ◌∷◌, ◌++◌, Option, Some, Result, Ok, Err, refl, sym, ap, subst, ◌∙◌, arith, inl, inr}
+use Rattle.std.proofs.Common.{◌≡◌, ℕ, ◌+◌, ◌^◌, ◌<◌, false, cond, eqb, List, [], ◌∷◌, ◌++◌, Option, Some, Ok, Err, refl, ap, subst, ◌∙◌, arith, inl, inr}
 use Rattle.std.specs.Prelude.{ok_or}
 use Rattle.std.specs.Int.{Width, w8, w16, w32, to_be_bytes}
 use Rattle.std.proofs.lemmas.Bool.{eqb-true, eqb-false, eq-eqb, ne_eqb}
@@ -14,7 +14,6 @@ use Rattle.lethe_page.specs.Pages.{class_byte, head_bytes}
 use Rattle.lethe_page.specs.Reading.{field_at, fixed_at, class_at, count_at, head_at}
 use Rattle.lethe_page.specs.declared.class.Class.{Class}
 use Rattle.lethe_page.specs.declared.class.Class.TheVariants.{Puts, Tombs}
-use Rattle.lethe_page.specs.declared.refused.PageRefused.{PageRefused}
 use Rattle.lethe_page.specs.declared.refused.PageRefused.TheVariants.{Short, Kind}
 
 wide32 : IsWide w32 (2 ^ 32)
