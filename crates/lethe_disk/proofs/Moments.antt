@@ -5,7 +5,7 @@ use Rattle.std.proofs.lemmas.Bool.{cases_lt}
 use Rattle.lethe_disk.specs.declared.disk.DiskRefused.{DiskRefused}
 use Rattle.lethe_disk.specs.declared.disk.DiskRefused.TheVariants.{NoMemory}
 use Rattle.lethe_disk.specs.Directory.{Directory, IsSame}
-use Rattle.lethe_disk.specs.Disk.{Seen, Image, IsSynced, Takes}
+use Rattle.lethe_disk.specs.Disk.{Seen, Image, IsSynced, IsIdle, Takes}
 use Rattle.lethe_disk.specs.Runs.{Leads, Now, Throughout, After}
 
 -- Before the first call
@@ -134,3 +134,16 @@ synced_step step result old new call synced c here =
 -- a call that changes no object leaves a disk synced that was
 pub same_synced : {T : Type 0} (result : Result T DiskRefused) (old new : Seen) → Takes IsSame result old new → new.directory ≡ old.directory → IsSynced old → IsSynced new
 same_synced result old new call is synced c here = synced_step IsSame result old new call synced c here ∙ sym is
+
+-- Where nothing was done
+
+pub now_idle : (S : Directory → Directory → Type 0) (old mid new : Seen) → Now S old mid → IsIdle mid new → Now S old new
+now_idle S old mid new so_far idle c here = so_far c (subst (λ n. mid.left n c) idle.moment ((idle.left new.moment c).0 here))
+
+pub leads_idle : (R : Directory → Directory → Type 0) (old mid new : Seen) → Leads R old mid → IsIdle mid new → Leads R old new
+leads_idle R old mid new run idle = record {
+  later = omega (arith, run.later, idle.moment);
+  past = λ m c le.
+      (λ left. (run.past m c le).0 ((idle.left m c).0 left), λ left. (idle.left m c).1 ((run.past m c le).1 left));
+  each = λ m c low high left. run.each m c low (omega (arith, high, idle.moment)) ((idle.left m c).0 left);
+}

@@ -20,6 +20,12 @@ Image disk c = disk.left disk.moment c
 abbrev pub IsSynced : Seen → Type 0
 IsSynced disk = (c : Directory) → Image disk c → c ≡ disk.directory
 
+-- Nothing was done: the directory, the moment and all that a crash may leave are as before.
+pub record IsIdle (old new : Seen) : Type 0 where
+  pub directory : new.directory ≡ old.directory
+  pub moment : new.moment ≡ old.moment
+  pub left : (m : ℕ) (c : Directory) → (new.left m c ↔ old.left m c)
+
 -- One device call. At Ok it is one moment, and else at most one.
 pub record Takes {T : Type 0} (step : Directory → Directory → Type 0) (result : Result T DiskRefused) (old new : Seen) : Type 0 where
   pub later : old.moment ≤ new.moment

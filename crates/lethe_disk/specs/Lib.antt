@@ -1,3 +1,4 @@
 pub mod Directory
 pub mod Disk
 pub mod Runs
+pub mod Reads

@@ -5,8 +5,9 @@ ghost use Rattle.lethe_disk.specs.Directory.{object, content};
 ghost use Rattle.lethe_disk.specs.Disk.{IsSynced};
 
 use crate::objects::Objects;
+use crate::page::{MemPage, MemPort};
 use crate::past::Past;
-use lethe_base::{Name, NoMemory};
+use lethe_base::{Kind, Name, NoMemory};
 use lethe_disk::{Disk, DiskRefused};
 use std::alloc::Global;
 use std::marker::Model;
@@ -145,6 +146,10 @@ impl MemDisk {
 }
 
 impl Disk for MemDisk {
+    type Page = MemPage;
+
+    type Port = MemPort;
+
     ghost use Rattle.lethe_memdisk.specs.Effects.{Created, Written, Removed, Synced, Nothing};
     ghost use Rattle.lethe_memdisk.specs.Held.{seen_of, Answers};
     ghost use Rattle.lethe_memdisk.specs.Images.{directory_image};
@@ -154,6 +159,14 @@ impl Disk for MemDisk {
     ghost seen = { seen_of };
 
     ghost faults = { λ d. d.faults };
+
+    ghost ports_fail = { ⊥ };
+
+    ghost page_bytes = { λ p. p };
+
+    ghost port_faults = { λ _. 0 };
+
+    ghost fetches = { λ p. p };
 
     ghost itself = { λ told d. directory_image d };
 
@@ -227,6 +240,35 @@ impl Disk for MemDisk {
         let bytes = self.past.objects().read(alloc, name)?;
         self.past.nothing();
         Ok(bytes)
+    }
+
+    fn open_page(&mut self, alloc: Global, name: Name) -> Result<MemPage, DiskRefused>
+        requires kind { name.kind ≡ Kind.Page }
+        requires present { IsSome (object (seen_of self.old).directory name) }
+        ensures call { Answers Nothing result self.old self.new }
+        ensures done { IfOk result (λ page. object (seen_of self.old).directory name ≡ Some page) }
+    {
+        Ok(MemPage::of(self.read(alloc, name)?))
+    }
+
+    fn port(&mut self, alloc: Global) -> Result<MemPort, NoMemory>
+        ensures port { IfOk result (λ port. port ≡ 0) }
+        ensures same { self.new ≡ self.old }
+    {
+        Ok(MemPort::new())
+    }
+
+    fn fetch(alloc: Global, port: &mut MemPort, page: &MemPage) -> Result<Vec<u8>, DiskRefused>
+        ensures done { IfOk result (λ bytes. bytes.items ≡ page.now) }
+        ensures counted { port.new ≡ port.old + 1 }
+        ensures refused { IsErrOf result DiskRefused.Failed → ⊥ }
+    {
+        port.count();
+        Ok(page.read(alloc)?)
+    }
+
+    fn port_faults(port: &MemPort) -> u64 {
+        0
     }
 
     fn faults(&self) -> u64 {

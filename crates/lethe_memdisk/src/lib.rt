@@ -4,6 +4,8 @@
 mod crash;
 mod disk;
 mod objects;
+mod page;
 mod past;
 
 pub use disk::MemDisk;
+pub use page::{MemPage, MemPort};

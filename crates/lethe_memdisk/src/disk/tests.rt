@@ -1,4 +1,4 @@
-ghost use Rattle.std.specs.Prelude.{◌≡◌, ◌≤◌, ◌↔◌, None, length, IsTrue, IsSome, IsSomeAnd};
+ghost use Rattle.std.specs.Prelude.{◌≡◌, ◌≤◌, ◌+◌, ◌↔◌, None, length, IsTrue, IsSome, IsSomeAnd};
 ghost use Rattle.lethe_disk.specs.Directory.{object};
 
 use super::*;
@@ -164,5 +164,76 @@ fn a_crash_leaves_what_was_synced(rt: HostRuntime) -> Result<(), Fail> {
         assert_eq!(rt; take(&mut left, alloc, Step::Names)?.as_slice(), names);
         assert_eq!(rt; take(&mut left, alloc, Step::Read(1))?.as_slice(), bytes);
     }
+    Ok(())
+}
+
+fn page(no: u64) -> Name
+    ensures { result.kind ≡ Kind.Page }
+{
+    Name {
+        kind: Kind::Page,
+        no,
+    }
+}
+
+// None where there is no such page.
+fn open(disk: &mut MemDisk, alloc: Global, no: u64) -> Option<Result<MemPage, DiskRefused>> {
+    let name = page(no);
+    if disk.holds(name) {
+        Some(disk.open_page(alloc, name))
+    } else {
+        None
+    }
+}
+
+fn fetch_twice<D: Disk>(
+    alloc: Global,
+    port: &mut D::Port,
+    page: &D::Page,
+) -> Result<Vec<u8>, DiskRefused>
+    ensures { D.fetches port.new ≡ D.fetches port.old + 2 }
+{
+    let first = D::fetch(alloc, port, page);
+    let second = D::fetch(alloc, port, page)?;
+    if first? == second {
+        Ok(second)
+    } else {
+        Ok(Vec::new(alloc))
+    }
+}
+
+#[test]
+fn a_page_keeps_the_bytes_that_it_had(rt: HostRuntime) -> Result<(), Fail> {
+    let alloc = rt.alloc();
+    let mut disk = MemDisk::new(alloc, 5, vec![in alloc; 2]?)?;
+    let name = page(1);
+    if disk.is_absent(name) {
+        disk.create(name, b"abc").ok().ok_or("an object")?;
+    }
+    assert_eq!(rt; open(&mut disk, alloc, 2).is_none(), true);
+    let failed = open(&mut disk, alloc, 1).ok_or("an object")?.err();
+    assert_eq!(rt; failed, Some(DiskRefused::Failed));
+    let old = open(&mut disk, alloc, 1)
+        .ok_or("an object")?
+        .ok()
+        .ok_or("a page")?;
+    assert!(rt; disk.swap(name, b"new".to_vec(alloc)?));
+    let new = open(&mut disk, alloc, 1)
+        .ok_or("an object")?
+        .ok()
+        .ok_or("a page")?;
+    if disk.holds(name) {
+        disk.remove(name).ok().ok_or("a removal")?;
+    }
+    assert_eq!(rt; open(&mut disk, alloc, 1).is_none(), true);
+    let mut port = disk.port(alloc)?;
+    for (page, want) in [(&old, b"abc".as_slice()), (&new, b"new"), (&old, b"abc")] {
+        let got = fetch_twice::<MemDisk>(alloc, &mut port, page)
+            .ok()
+            .ok_or("a fetch")?;
+        assert_eq!(rt; got.as_slice(), want);
+    }
+    assert_eq!(rt; MemDisk::port_faults(&port), 0);
+    assert_eq!(rt; disk.faults(), 1);
     Ok(())
 }

@@ -1,0 +1,78 @@
+//! Reading entries one after another, and why that is refused.
+ghost use Rattle.std.specs.Prelude.{◌≡◌, ◌≤◌, List, IfOk, OnOk, IsErrOf};
+ghost use Rattle.lethe_base.specs.Entries.{IsAscending};
+ghost use Rattle.lethe_base.specs.declared.entry.Entry.{Entry};
+ghost use Rattle.lethe_base.specs.declared.name.Name.{Name};
+ghost use Rattle.lethe_disk.specs.declared.cursor.ReadRefused.TheVariants.{NoMemory, Damaged};
+ghost use Rattle.lethe_disk.specs.Reads.{IsNext, HasReadCause, IsFault};
+
+use crate::Disk;
+use lethe_base::{Entry, Name};
+use std::alloc::{AllocError, AllocFailed, Global};
+
+/// Why entries could not be read.
+#[derive(Clone, Copy, Debug, PartialEq, Eq)]
+pub enum ReadRefused {
+    /// A fetch failed. The counts are the port's count of faults before the call and after it; it rose, up to the end of
+    /// its type.
+    ReadFault { before: u64, after: u64 },
+    /// A page isn't the one that was written: its bytes have another digest than its header says, or they spell no
+    /// page, or don't agree with the page's line. A read on a disk that tells nothing may give any bytes, so there it
+    /// may come at any fetch. It never comes on a disk that tells what it holds, where the pages are sound.
+    Damaged { name: Name },
+    /// There was no memory.
+    NoMemory,
+}
+
+impl From<AllocError> for ReadRefused {
+    ghost from_gives = { λ _ e. e ≡ NoMemory };
+
+    fn from(_: AllocError) -> Self {
+        ReadRefused::NoMemory
+    }
+}
+
+impl From<lethe_base::NoMemory> for ReadRefused {
+    ghost from_gives = { λ _ e. e ≡ NoMemory };
+
+    fn from(_: lethe_base::NoMemory) -> Self {
+        ReadRefused::NoMemory
+    }
+}
+
+impl<T: Drop> From<AllocFailed<T>> for ReadRefused {
+    ghost from_gives = { λ _ e. e ≡ NoMemory };
+
+    fn from(_: AllocFailed<T>) -> Self {
+        ReadRefused::NoMemory
+    }
+}
+
+/// Gives entries one after another, ascending by key.
+///
+/// What it gives is said of disks that tell what they hold. On others a fetch may give any bytes, so the reader compares
+/// the page's digest with its header and answers `Damaged` where they differ.
+pub trait Cursor<D: Disk> {
+    /// It may be asked: no earlier `next` was refused.
+    ghost may_ask: { Self → Type 0 };
+
+    /// Its pages agree with what their file says of them. It holds of every cursor after a successful opening.
+    ghost sound: { Self → Type 0 };
+
+    /// The entries that it has still to give.
+    ghost left: { Self → List Entry };
+
+    /// The next entry, and None at the end.
+    fn next(&mut self, alloc: Global, port: &mut D::Port) -> Result<Option<Entry>, ReadRefused>
+        requires { may_ask self.old }
+        ensures given { D.tells → sound self.old → IfOk result (λ next. IsNext next (left self.old) (left self.new)) }
+        ensures again { OnOk result (may_ask self.new) }
+        ensures still_sound { sound self.old → OnOk result (sound self.new) }
+        ensures undamaged { D.tells → sound self.old → (name : Name) → IsErrOf result (Damaged name) → ⊥ }
+        ensures cause { HasReadCause (D.port_faults port.old) (D.port_faults port.new) result }
+        ensures can_fail { IsFault result → D.ports_fail }
+        ensures fetches { D.fetches port.old ≤ D.fetches port.new };
+
+    /// They ascend.
+    ghost ascends: { (c : Self) → may_ask c → sound c → IsAscending (left c) };
+}

@@ -1,0 +1,4 @@
+pub mod Loop
+pub mod HeadLaws
+pub mod EntryLaws
+pub mod PageLaws
