@@ -29,7 +29,7 @@ use Rattle.lethe_segment.specs.declared.record.Record.TheVariants as of
 use Rattle.lethe_segment.specs.Records.{record_seq, RecordHasSpelling}
 use Rattle.lethe_segment.specs.Segments.{Ascends, last_seq}
 use Rattle.lethe_cover.specs.Steps.{IsCounted, next_place, with_done, recorded, time_of, put_entry, tomb_entry}
-use Rattle.lethe_cover.proofs.Buffers.{buffer_keyed}
+use Rattle.lethe_cover.proofs.Records.{buffer_keyed}
 use Rattle.lethe_cover.proofs.Entered.{put_covers, delete_covers}
 use Rattle.lethe_cover.proofs.Unentered.{blind_covers}
 use Rattle.lethe_recover.specs.Stored.{Stored, Segment, IsStored, records_from, plain, erase_of, in_order, layout_of, count_of, appended}
