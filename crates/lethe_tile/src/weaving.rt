@@ -1,0 +1,76 @@
+//! Weaving entries into tiles.
+ghost use Rattle.std.specs.Prelude.{◌≡◌, ◌<◌, ◌++◌, map, length, IfOk};
+ghost use Rattle.lethe_base.specs.Entries.{IsAscending};
+ghost use Rattle.lethe_tile.specs.Woven.{plain, IsWoven, IsTile, IsPaged, HaveOtherKeys};
+
+use crate::cutting::{cut, part_by_body};
+use crate::ordering::{sort_by_delete_key, sort_by_key};
+use lethe_base::{Config, Entry, Key, List, NoMemory};
+use std::alloc::Global;
+
+/// Some neighbouring entries of a file. The tombstones are the first page, where there are any; the puts are in the pages
+/// behind it, by their delete keys from page to page and by their keys inside a page.
+#[derive(Debug, Drop)]
+pub struct Tile {
+    /// The least key.
+    pub lo: Key,
+    /// The greatest key.
+    pub hi: Key,
+    pub pages: List<List<Entry>>,
+}
+
+/// Weaves entries, whose keys ascend, into tiles of `page * tile` entries in pages of `page` puts; what is over goes into a
+/// last tile and into last pages that have fewer. Only the keys of the tiles are copied.
+pub fn weave(alloc: Global, entries: Vec<Entry>, config: &Config) -> Result<Vec<Tile>, NoMemory>
+    requires { IsAscending entries.items }
+    ensures { IfOk result (λ tiles. IsWoven config.now entries.items (map plain tiles.items)) }
+{
+    let fields = config.fields();
+    let page = fields.page as usize;
+    let slices = cut(alloc, entries, page * fields.tile as usize)?;
+    let mut tiles = Vec::with_capacity(alloc, slices.len())?;
+    for slice in slices {
+        tiles.push(weave_tile(alloc, slice, page)?)?;
+    }
+    Ok(tiles)
+}
+
+fn weave_tile(alloc: Global, entries: Vec<Entry>, page: usize) -> Result<Tile, NoMemory>
+    requires page { 0 < page }
+    requires some { 0 < length entries.items }
+    requires ascending { IsAscending entries.items }
+    ensures { IfOk result (λ tile. IsTile page entries.items (plain tile)) }
+{
+    let lo = entries[0].key.copy()?;
+    let hi = entries[entries.len() - 1].key.copy()?;
+    let (tombs, puts) = part_by_body(alloc, entries)?;
+    let mut pages = Vec::new(alloc);
+    if !tombs.is_empty() {
+        pages.push(List::of(tombs))?;
+    }
+    pages.append(&mut pages_of_puts(alloc, puts, page)?)?;
+    Ok(Tile {
+        lo,
+        hi,
+        pages: List::of(pages),
+    })
+}
+
+fn pages_of_puts(
+    alloc: Global,
+    mut puts: Vec<Entry>,
+    page: usize,
+) -> Result<Vec<List<Entry>>, NoMemory>
+    requires page { 0 < page }
+    requires keys { HaveOtherKeys puts.items }
+    ensures { IfOk result (λ pages. IsPaged page puts.items pages.items) }
+{
+    sort_by_delete_key(&mut puts);
+    let parts = cut(alloc, puts, page)?;
+    let mut pages = Vec::with_capacity(alloc, parts.len())?;
+    for mut part in parts {
+        sort_by_key(&mut part);
+        pages.push(List::of(part))?;
+    }
+    Ok(pages)
+}
