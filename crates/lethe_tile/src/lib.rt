@@ -11,3 +11,6 @@ mod weaving;
 pub use filter::Filter;
 pub use laws::one_weave;
 pub use weaving::{Tile, weave};
+
+#[cfg(test)]
+mod tests;
