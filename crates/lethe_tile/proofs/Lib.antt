@@ -1,1 +1,4 @@
 pub mod Bits
+pub mod Parts
+pub mod Orders
+pub mod Pages

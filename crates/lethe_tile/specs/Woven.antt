@@ -1,12 +1,12 @@
 -- Entries woven into tiles. A tile's puts stand in pages by their delete keys, so that an erase of a range of delete keys
 -- drops whole pages; inside a page they stand by their keys. (The weaving of Sarkar and others' Lethe.)
-use Rattle.std.specs.Prelude.{◌≡◌, ◌≢◌, ℕ, ◌*◌, ◌-◌, Bool, not, List, [], ◌∷◌, ◌++◌, length, filter, map, flat_map, slice_get, Option, Some, option_map, All, AllPairs, IsPermutation}
-use Rattle.std.specs.List.{AllZip}
+use Rattle.std.specs.Prelude.{◌≡◌, ℕ, ◌*◌, ◌-◌, Bool, not, List, [], ◌∷◌, ◌++◌, length, filter, map, flat_map, slice_get, Option, Some, option_map, All, AllPairs, IsPermutation}
+use Rattle.std.specs.List.{AllZip, IsDistinct}
 use Rattle.std.specs.Int.{IsInRange}
 use Rattle.std.specs.declared.cmp.Ordering.{Ordering}
 use Rattle.std.specs.declared.cmp.Ordering.TheVariants.{Less}
 use Rattle.std.specs.Ordering.{nat_cmp, ordering_then}
-use Rattle.lethe_base.specs.Keys.{Bytes, key_cmp}
+use Rattle.lethe_base.specs.Keys.{Bytes, key_cmp, same_key}
 use Rattle.lethe_base.specs.Entries.{IsAscending}
 use Rattle.lethe_base.specs.Shapes.{is_tomb}
 use Rattle.lethe_base.specs.Layout as layout
@@ -58,7 +58,7 @@ IsBelow page other = All (λ entry. All (ComesBefore entry) other) page
 
 -- no two entries have one key
 abbrev pub HaveOtherKeys : List Entry → Type 0
-HaveOtherKeys entries = AllPairs (λ entry other. entry.key ≢ other.key) entries
+HaveOtherKeys entries = IsDistinct (λ entry other. same_key entry.key other.key) entries
 
 -- pages of so many of these puts, each in exactly one page
 pub record IsPaged (page : ℕ) (puts : List Entry) (pages : List (List Entry)) : Type 0 where
@@ -83,7 +83,7 @@ pub record IsWoven (fields : Fields) (entries : List Entry) (tiles : List layout
   pub slices : List (List Entry)
   pub consecutive : joined slices ≡ entries
   pub lengths : IsCut (fields.page * fields.tile) slices
-  pub tiles : AllZip (IsTile fields.page) slices tiles
+  pub each : AllZip (IsTile fields.page) slices tiles
 
 -- entries in order are woven in one way
 abbrev pub OneWeave : Type 0
