@@ -53,9 +53,9 @@ set_elsewhere : (words : List ℕ) (w k bit : ℕ) → w < length words → k < 
 set_elsewhere words w k bit within below other =
     elim (cases_eq (bit / 64) w) [
       | inl same ↦
-        let elsewhere : bit % 64 ≡ k → ⊥ = λ e. other (let whole : bit / 64 * 64 + bit % 64 ≡ bit = div-add-mod' bit 64 in omega arith) in
-        let read : get_or (set words w (with_bit (get_or words w 0) k)) w 0 ≡ with_bit (get_or words w 0) k = get_or-set_same words w _ 0 within in
-        rw (same, read) (bit_at_set_other w64 (get_or words w 0) k below (bit % 64) elsewhere)
+          let elsewhere : bit % 64 ≡ k → ⊥ = λ e. other (let whole : bit / 64 * 64 + bit % 64 ≡ bit = div-add-mod' bit 64 in omega arith) in
+          let read : get_or (set words w (with_bit (get_or words w 0) k)) w 0 ≡ with_bit (get_or words w 0) k = get_or-set_same words w _ 0 within in
+          rw (same, read) (bit_at_set_other w64 (get_or words w 0) k below (bit % 64) elsewhere)
       | inr away ↦ ap (λ x. bit_at x (bit % 64)) (get_or-set_other words w (bit / 64) _ 0 away)
     ]
 
@@ -68,8 +68,8 @@ set_bit words place bit some =
     elim (cases_eq bit (place % (64 * length words))) [
       | inl here ↦ (λ is. inr here, λ either. set_here words _ _ bit within (low place) (here ∙ at))
       | inr away ↦
-        let kept = set_elsewhere words _ _ bit within (low place) (λ e. away (e ∙ sym at)) in
-        (λ is. inl (sym kept ∙ is), λ either. elim either [ inl is ↦ kept ∙ is | inr here ↦ absurd (away here) ])
+          let kept = set_elsewhere words _ _ bit within (low place) (λ e. away (e ∙ sym at)) in
+          (λ is. inl (sym kept ∙ is), λ either. elim either [ inl is ↦ kept ∙ is | inr here ↦ absurd (away here) ])
     ]
 
 -- one of the first n bits of a hash
@@ -86,18 +86,18 @@ sets_none old hash bit = (λ is. inl is, λ either. elim either [ inl is ↦ is 
 pub sets_more : (old mid new : List ℕ) (hash n : ℕ) → length mid ≡ length old → SetsBelow old mid hash n
     → ((bit : ℕ) → IsSet new bit ↔ (IsSet mid bit ⊎ (bit ≡ (start_of hash + n * step_of hash) % (64 * length mid)))) → SetsBelow old new hash (n + 1)
 sets_more old mid new hash n same before step bit =
-    let next : (start_of hash + n * step_of hash) % (64 * length mid) ≡ (start_of hash + n * step_of hash) % (64 * length old) = ap (λ x. (start_of hash + n * step_of hash) % (64 * x)) same in
-    ( λ is. elim ((step bit).0 is) [
+    let next : (start_of hash + n * step_of hash) % (64 * length mid) ≡ (start_of hash + n * step_of hash) % (64 * length old) = ap (λ x. (start_of hash + n * step_of hash) % (64 * x)) same in (
+      λ is. elim ((step bit).0 is) [
         | inl was ↦ elim ((before bit).0 was) [ inl old' ↦ inl old' | inr there ↦ inr (there.0, omega (arith, there.1), there.2) ]
         | inr here ↦ inr (n, omega arith, here ∙ next)
-      ]
-    , λ either. elim either [
+      ],
+      λ either. elim either [
         | inl was ↦ (step bit).1 (inl ((before bit).1 (inl was)))
         | inr there ↦ elim (cases_eq there.0 n) [
           | inl last ↦ (step bit).1 (inr (there.2 ∙ ap (λ i. (start_of hash + i * step_of hash) % (64 * length old)) last ∙ sym next))
           | inr earlier ↦ (step bit).1 (inl ((before bit).1 (inr (there.0, omega (arith, there.1), there.2))))
         ]
-      ]
+      ],
     )
 
 -- the first n bits of a hash are set
@@ -127,32 +127,32 @@ zeros n i =
     ]
 
 pub keys_none : (words : List ℕ) (keys : List Bytes) (n : ℕ) → words ≡ replicate n 0 → SetsKeys words keys 0
-keys_none words keys n is bit =
-    ( λ set. absurd (let none : bit_of words bit ≡ 0 = rw is (rw (zeros n (bit / 64)) (bit_at-zero (bit % 64))) in let one : bit_of words bit ≡ 1 = set in omega arith)
-    , λ there. absurd (omega (arith, there.1))
-    )
+keys_none words keys n is bit = (
+  λ set. absurd (let none : bit_of words bit ≡ 0 = rw is (rw (zeros n (bit / 64)) (bit_at-zero (bit % 64))) in let one : bit_of words bit ≡ 1 = set in omega arith),
+  λ there. absurd (omega (arith, there.1)),
+)
 
 pub keys_more : (old new : List ℕ) (keys : List Bytes) (hash n : ℕ) → 64 * length old ≡ filter_len (length keys) → SetsKeys old keys n
     → ((bit : ℕ) → IsSet new bit ↔ (IsSet old bit ⊎ IsPlace (64 * length old) hash bit)) → hash ≡ hash_of (get_or keys n []) → SetsKeys new keys (n + 1)
 keys_more old new keys hash n long before step same bit =
     let one : (b h : ℕ) → 64 * length old ≡ b → hash ≡ h → IsPlace (64 * length old) hash bit ≡ IsPlace b h bit = λ b h p q. rw (sym p, sym q) refl in
-    let here : IsPlace (64 * length old) hash bit ≡ IsProbe (filter_len (length keys)) (get_or keys n []) bit = one _ _ long same in
-    ( λ is. elim ((step bit).0 is) [
+    let here : IsPlace (64 * length old) hash bit ≡ IsProbe (filter_len (length keys)) (get_or keys n []) bit = one _ _ long same in (
+      λ is. elim ((step bit).0 is) [
         | inl was ↦ let there = (before bit).0 was in (there.0, omega (arith, there.1), there.2)
         | inr now ↦ (n, omega arith, subst (λ (P : Type 0). P) here now)
-      ]
-    , λ there. elim (cases_eq there.0 n) [
+      ],
+      λ there. elim (cases_eq there.0 n) [
         | inl last ↦ (step bit).1 (inr (subst (λ (P : Type 0). P) (sym here) (subst (λ k. IsProbe (filter_len (length keys)) (get_or keys k []) bit) last there.2)))
         | inr earlier ↦ (step bit).1 (inl ((before bit).1 (there.0, omega (arith, there.1), there.2)))
-      ]
+      ],
     )
 
 -- so with all keys they have exactly the bits of the keys
 pub keys_all : (words : List ℕ) (keys : List Bytes) (n : ℕ) → SetsKeys words keys n → n ≡ length keys → (bit : ℕ) → IsSet words bit ↔ filter_bits keys bit
-keys_all words keys n sets all bit =
-    ( λ is. let there = (sets bit).0 is in let below : there.0 < length keys = omega (arith, there.1) in (there.0, get_or keys there.0 [], below, get_or_default keys there.0 _ _ below, there.2)
-    , λ there. (sets bit).1 (there.0, omega (arith, there.2), subst (λ key. IsProbe (filter_len (length keys)) key bit) (sym (get_or_default keys there.0 [] there.1 there.2 ∙ there.3)) there.4)
-    )
+keys_all words keys n sets all bit = (
+  λ is. let there = (sets bit).0 is in let below : there.0 < length keys = omega (arith, there.1) in (there.0, get_or keys there.0 [], below, get_or_default keys there.0 _ _ below, there.2),
+  λ there. (sets bit).1 (there.0, omega (arith, there.2), subst (λ key. IsProbe (filter_len (length keys)) key bit) (sym (get_or_default keys there.0 [] there.1 there.2 ∙ there.3)) there.4),
+)
 
 pub keys_held : (words : List ℕ) (keys : List Bytes) (n : ℕ) → 64 * length words ≡ filter_len (length keys) → SetsKeys words keys n → n ≡ length keys → All (MayHold words) keys
 keys_held words keys n long sets all k d below bit probe =

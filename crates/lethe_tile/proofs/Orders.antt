@@ -1,11 +1,11 @@
 -- The orders of entries.
-use Rattle.std.proofs.Common.{◌≡◌, ℕ, zero, suc, ◌<◌, ◌≤◌, Bool, true, false, List, [], ◌∷◌, ◌++◌, length, IsTrue, All, AllPairs, refl, sym, ap, ◌∙◌, arith}
+use Rattle.std.proofs.Common.{◌≡◌, ℕ, zero, suc, ◌<◌, ◌≤◌, Bool, true, false, List, [], ◌∷◌, ◌++◌, length, IsTrue, All, AllPairs, IsPermutation, refl, sym, ap, ◌∙◌, arith}
 use Rattle.std.proofs.lemmas.Bool.{and_parts, and_from, true≢false}
 use Rattle.std.proofs.lemmas.Cmp.{nat_cmp_total, nat_list_cmp_total, on_total, then_total, eq_by_cmp_equiv}
 use Rattle.std.proofs.lemmas.List.Elements.{All-nil, All-cons, All-head, All-tail}
 use Rattle.std.proofs.lemmas.List.Kept.{AllPairs-cons, AllPairs-filter}
 use Rattle.std.proofs.lemmas.List.Sorted.{ranks_by, sorted_far}
-use Rattle.std.proofs.lemmas.Map.Keys.{apart_from_distinct, IsDistinct-from_apart}
+use Rattle.std.proofs.lemmas.Map.Keys.{apart_from_distinct, IsDistinct-from_apart, IsDistinct-IsPermutation}
 use Rattle.std.specs.Cmp.{IsTotalOrder}
 use Rattle.std.specs.FinMap.Entries.{below_all}
 use Rattle.std.specs.List.Sorted.{IsSortedBy}
@@ -130,3 +130,6 @@ sorted_strictly cmp total ties es sorted other i j d lt below =
 
 pub key_flips : (e f : Entry) → same_key e.key f.key ≡ same_key f.key e.key
 key_flips e f = (eq_by_cmp_equiv nat_list_cmp_total).symm e.key f.key
+
+pub other_permuted : (es fs : List Entry) → IsPermutation es fs → HaveOtherKeys es → HaveOtherKeys fs
+other_permuted es fs same other = IsDistinct-IsPermutation (λ (e f : Entry). same_key e.key f.key) key_flips es fs same other

@@ -43,7 +43,7 @@ cut_from_full most (first ∷ []) part full some within = (All-head (λ p. lengt
 cut_from_full most (first ∷ second ∷ parts) part full some within =
     (All-head (λ p. length p ≡ most) first (second ∷ parts) full, cut_from_full most (second ∷ parts) part (All-tail (λ p. length p ≡ most) first (second ∷ parts) full) some within)
 
-empty_is : {X : Type 0} (xs : List X) → length xs ≡ 0 → xs ≡ []
+pub empty_is : {X : Type 0} (xs : List X) → length xs ≡ 0 → xs ≡ []
 empty_is [] none = refl
 empty_is (x ∷ xs) none = absurd (omega arith)
 
@@ -56,9 +56,9 @@ cutting_turn most parts parts' part part' new x rest whole some before branch pu
     elim branch [
       | inl full ↦ rw (pushed, full.1, full.2) (cutting_next most parts part x rest whole some before full.0)
       | inr room ↦
-        let within : length part ≤ most = before.within in
-        let other = room.0 in
-        rw (pushed, room.1, room.2) (cutting_more most parts part x rest whole before (elim (cases_order (length part) most) [ inl same ↦ absurd (other same) | inr apart ↦ elim apart [ inl lt ↦ lt | inr gt ↦ absurd (omega arith) ] ]))
+          let within : length part ≤ most = before.within in
+          let other = room.0 in
+          rw (pushed, room.1, room.2) (cutting_more most parts part x rest whole before (elim (cases_order (length part) most) [ inl same ↦ absurd (other same) | inr apart ↦ elim apart [ inl lt ↦ lt | inr gt ↦ absurd (omega arith) ] ]))
     ]
 
 -- the end of the loop

@@ -1,7 +1,7 @@
 //! Weaving entries into tiles.
-ghost use Rattle.std.specs.Prelude.{◌≡◌, ◌<◌, ◌++◌, map, length, IfOk};
+ghost use Rattle.std.specs.Prelude.{◌≡◌, ◌-◌, ◌<◌, map, length, IfOk, Some};
 ghost use Rattle.lethe_base.specs.Entries.{IsAscending};
-ghost use Rattle.lethe_tile.specs.Woven.{plain, IsWoven, IsTile, IsPaged, HaveOtherKeys};
+ghost use Rattle.lethe_tile.specs.Woven.{plain, IsWoven, IsTile, IsPaged, HaveOtherKeys, key_at, page_of};
 
 use crate::cutting::{cut, part_by_body};
 use crate::ordering::{sort_by_delete_key, sort_by_key};
@@ -41,14 +41,11 @@ fn weave_tile(alloc: Global, entries: Vec<Entry>, page: usize) -> Result<Tile, N
     requires ascending { IsAscending entries.items }
     ensures { IfOk result (λ tile. IsTile page entries.items (plain tile)) }
 {
-    let lo = entries[0].key.copy()?;
-    let hi = entries[entries.len() - 1].key.copy()?;
+    let (lo, hi) = end_keys(&entries)?;
     let (tombs, puts) = part_by_body(alloc, entries)?;
-    let mut pages = Vec::new(alloc);
-    if !tombs.is_empty() {
-        pages.push(List::of(tombs))?;
-    }
-    pages.append(&mut pages_of_puts(alloc, puts, page)?)?;
+    let mut pages = page_of_tombs(alloc, tombs)?;
+    let mut puts = pages_of_puts(alloc, puts, page)?;
+    pages.append(&mut puts)?;
     Ok(Tile {
         lo,
         hi,
@@ -56,6 +53,29 @@ fn weave_tile(alloc: Global, entries: Vec<Entry>, page: usize) -> Result<Tile, N
     })
 }
 
+/// Copies of the first and the last key.
+fn end_keys(entries: &[Entry]) -> Result<(Key, Key), NoMemory>
+    requires { 0 < length entries.now }
+    ensures lo { IfOk result (λ keys. key_at 0 entries.now ≡ Some keys.0) }
+    ensures hi { IfOk result (λ keys. key_at (length entries.now - 1) entries.now ≡ Some keys.1) }
+{
+    let lo = entries[0].key.copy()?;
+    let hi = entries[entries.len() - 1].key.copy()?;
+    Ok((lo, hi))
+}
+
+/// The page of the tombstones, where there are any.
+fn page_of_tombs(alloc: Global, tombs: Vec<Entry>) -> Result<Vec<List<Entry>>, NoMemory>
+    ensures { IfOk result (λ pages. pages.items ≡ page_of tombs.items) }
+{
+    let mut pages = Vec::new(alloc);
+    if !tombs.is_empty() {
+        pages.push(List::of(tombs))?;
+    }
+    Ok(pages)
+}
+
+/// The puts in their order, cut into pages, of which each is then put into the order of the keys.
 fn pages_of_puts(
     alloc: Global,
     mut puts: Vec<Entry>,
