@@ -68,20 +68,26 @@ pub record IsSortOf (part page : List Entry) : Type 0 where
   pub same : IsPermutation part page
   pub ascending : IsAscending page
 
-pub sorts_cut : (most : ℕ) (parts pages : List (List Entry)) → AllZip IsSortOf parts pages → IsCut most parts → IsCut most pages
+pub all_zip_weaker : {A B : Type 0} (R S : A → B → Type 0) → ((x : A) (y : B) → R x y → S x y) → (xs : List A) (ys : List B) → AllZip R xs ys → AllZip S xs ys
+all_zip_weaker R S f [] [] h = tt
+all_zip_weaker R S f [] (y ∷ ys) h = absurd h
+all_zip_weaker R S f (x ∷ xs) [] h = absurd h
+all_zip_weaker R S f (x ∷ xs) (y ∷ ys) h = (f x y h.0, all_zip_weaker R S f xs ys h.1)
+
+pub sorts_cut : (most : ℕ) (parts pages : List (List Entry)) → AllZip IsPermutation parts pages → IsCut most parts → IsCut most pages
 sorts_cut most [] [] h cut = tt
 sorts_cut most [] (q ∷ qs) h cut = absurd h
 sorts_cut most (p ∷ ps) [] h cut = absurd h
-sorts_cut most (p ∷ []) (q ∷ []) h cut = let long : length q ≡ length p = length_permutation p q h.0.same in (omega (arith, cut.0), omega (arith, cut.1))
+sorts_cut most (p ∷ []) (q ∷ []) h cut = let long : length q ≡ length p = length_permutation p q h.0 in (omega (arith, cut.0), omega (arith, cut.1))
 sorts_cut most (p ∷ []) (q ∷ q' ∷ qs) h cut = absurd h.1
 sorts_cut most (p ∷ p' ∷ ps) (q ∷ []) h cut = absurd h.1
-sorts_cut most (p ∷ p' ∷ ps) (q ∷ q' ∷ qs) h cut = (length_permutation p q h.0.same ∙ cut.0, sorts_cut most (p' ∷ ps) (q' ∷ qs) h.1 cut.1)
+sorts_cut most (p ∷ p' ∷ ps) (q ∷ q' ∷ qs) h cut = (length_permutation p q h.0 ∙ cut.0, sorts_cut most (p' ∷ ps) (q' ∷ qs) h.1 cut.1)
 
-pub sorts_same : (parts pages : List (List Entry)) → AllZip IsSortOf parts pages → IsPermutation (joined parts) (joined pages)
+pub sorts_same : (parts pages : List (List Entry)) → AllZip IsPermutation parts pages → IsPermutation (joined parts) (joined pages)
 sorts_same [] [] h = IsPermutation-refl []
 sorts_same [] (q ∷ qs) h = absurd h
 sorts_same (p ∷ ps) [] h = absurd h
-sorts_same (p ∷ ps) (q ∷ qs) h = IsPermutation-append p q (joined ps) (joined qs) h.0.same (sorts_same ps qs h.1)
+sorts_same (p ∷ ps) (q ∷ qs) h = IsPermutation-append p q (joined ps) (joined qs) h.0 (sorts_same ps qs h.1)
 
 pub sorts_ascend : (parts pages : List (List Entry)) → AllZip IsSortOf parts pages → All IsAscending pages
 sorts_ascend [] [] h = All-nil IsAscending
@@ -89,31 +95,33 @@ sorts_ascend [] (q ∷ qs) h = absurd h
 sorts_ascend (p ∷ ps) [] h = absurd h
 sorts_ascend (p ∷ ps) (q ∷ qs) h = All-cons IsAscending q qs h.0.ascending (sorts_ascend ps qs h.1)
 
-below_sorts : (p q : List Entry) → IsPermutation p q → (parts pages : List (List Entry)) → AllZip IsSortOf parts pages → All (IsBelow p) parts → All (IsBelow q) pages
+pub below_sorts : (p q : List Entry) → IsPermutation p q → (parts pages : List (List Entry)) → AllZip IsPermutation parts pages → All (IsBelow p) parts → All (IsBelow q) pages
 below_sorts p q same [] [] h below = All-nil (IsBelow q)
 below_sorts p q same [] (y ∷ ys) h below = absurd h
 below_sorts p q same (x ∷ xs) [] h below = absurd h
 below_sorts p q same (x ∷ xs) (y ∷ ys) h below =
     let outer : All (λ e. All (ComesBefore e) x) q = All-permutation (λ e. All (ComesBefore e) x) p q same (All-head (IsBelow p) x xs below) in
     All-cons (IsBelow q) y ys
-    (All-weaker (λ e. All (ComesBefore e) x) (λ e. All (ComesBefore e) y) (λ e. All-permutation (ComesBefore e) x y h.0.same) q outer)
+    (All-weaker (λ e. All (ComesBefore e) x) (λ e. All (ComesBefore e) y) (λ e. All-permutation (ComesBefore e) x y h.0) q outer)
     (below_sorts p q same xs ys h.1 (All-tail (IsBelow p) x xs below))
 
-pub sorts_below : (parts pages : List (List Entry)) → AllZip IsSortOf parts pages → AllPairs IsBelow parts → AllPairs IsBelow pages
+pub sorts_below : (parts pages : List (List Entry)) → AllZip IsPermutation parts pages → AllPairs IsBelow parts → AllPairs IsBelow pages
 sorts_below [] [] h below = pairs_nil IsBelow
 sorts_below [] (q ∷ qs) h below = absurd h
 sorts_below (p ∷ ps) [] h below = absurd h
 sorts_below (p ∷ ps) (q ∷ qs) h below =
-    AllPairs-cons IsBelow q qs (below_sorts p q h.0.same ps qs h.1 (pairs_head IsBelow p ps below)) (sorts_below ps qs h.1 (pairs_tail IsBelow p ps below))
+    AllPairs-cons IsBelow q qs (below_sorts p q h.0 ps qs h.1 (pairs_head IsBelow p ps below)) (sorts_below ps qs h.1 (pairs_tail IsBelow p ps below))
 
 -- puts in the order of a tile, cut and sorted part by part
 pub paged : (page : ℕ) (puts ordered : List Entry) (parts pages : List (List Entry)) → IsPermutation puts ordered → AllPairs ComesBefore ordered
     → joined parts ≡ ordered → IsCut page parts → AllZip IsSortOf parts pages → IsPaged page puts pages
-paged page puts ordered parts pages same order is cut sorts = record {
-  lengths = sorts_cut page parts pages sorts cut;
-  once = IsPermutation-trans puts (joined parts) (joined pages) (subst (IsPermutation puts) (sym is) same) (sorts_same parts pages sorts);
+paged page puts ordered parts pages same order is cut sorts =
+    let same_parts : AllZip IsPermutation parts pages = all_zip_weaker IsSortOf IsPermutation (λ p q sort. sort.same) parts pages sorts in
+    record {
+  lengths = sorts_cut page parts pages same_parts cut;
+  once = IsPermutation-trans puts (joined parts) (joined pages) (subst (IsPermutation puts) (sym is) same) (sorts_same parts pages same_parts);
   ascending = sorts_ascend parts pages sorts;
-  below = sorts_below parts pages sorts (parts_below parts (subst (AllPairs ComesBefore) (sym is) order));
+  below = sorts_below parts pages same_parts (parts_below parts (subst (AllPairs ComesBefore) (sym is) order));
 }
 
 -- no part of a cut is empty
