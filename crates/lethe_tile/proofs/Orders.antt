@@ -1,13 +1,14 @@
 -- The orders of entries.
-use Rattle.std.proofs.Common.{◌≡◌, ℕ, zero, suc, ◌<◌, ◌≤◌, Bool, true, false, List, [], ◌∷◌, ◌++◌, length, IsTrue, All, AllPairs, IsPermutation, refl, sym, ap, ◌∙◌, arith}
+use Rattle.std.proofs.Common.{◌≡◌, ℕ, suc, ◌+◌, true, false, List, [], ◌∷◌, ◌++◌, length, get_or, IsTrue, All, AllPairs, IsPermutation, refl, sym, ap, ◌∙◌, subst, arith}
 use Rattle.std.proofs.lemmas.Bool.{and_parts, and_from, true≢false}
 use Rattle.std.proofs.lemmas.Cmp.{nat_cmp_total, nat_list_cmp_total, on_total, then_total, eq_by_cmp_equiv}
-use Rattle.std.proofs.lemmas.List.Elements.{All-nil, All-cons, All-head, All-tail}
+use Rattle.std.proofs.lemmas.List.Elements.{All-nil, All-cons, All-head, All-tail, All-weaker}
 use Rattle.std.proofs.lemmas.List.Kept.{AllPairs-cons, AllPairs-filter}
 use Rattle.std.proofs.lemmas.List.Sorted.{ranks_by, sorted_far}
 use Rattle.std.proofs.lemmas.Map.Keys.{apart_from_distinct, IsDistinct-from_apart, IsDistinct-IsPermutation}
 use Rattle.std.specs.Cmp.{IsTotalOrder}
 use Rattle.std.specs.FinMap.Entries.{below_all}
+use Rattle.std.specs.List.{AllAdjacentBelow}
 use Rattle.std.specs.List.Sorted.{IsSortedBy}
 use Rattle.std.specs.Ordering.{is_lt, is_eq, ordering_reverse, ordering_then, nat_cmp}
 use Rattle.std.specs.declared.cmp.Ordering.{Ordering}
@@ -15,7 +16,7 @@ use Rattle.std.specs.declared.cmp.Ordering.TheVariants.{Less, Equal, Greater}
 use Rattle.lethe_base.specs.Keys.{Bytes, key_cmp, same_key}
 use Rattle.lethe_base.specs.Entries.{by_key, IsAscending}
 use Rattle.lethe_base.specs.declared.entry.Entry.{Entry}
-use Rattle.lethe_tile.specs.Woven.{HaveOtherKeys, weave_cmp, dkey_of, puts_of}
+use Rattle.lethe_tile.specs.Woven.{HaveDistinctKeys, weave_cmp, dkey_of, puts_of}
 
 -- a relation of each item to all later ones, item by item
 
@@ -82,17 +83,17 @@ ascending_from_pairs (e ∷ es) h =
 abbrev pub HasOtherKey : Entry → Entry → Type 0
 HasOtherKey e f = same_key e.key f.key ≡ false
 
-pub pairs_from_other : (es : List Entry) → HaveOtherKeys es → AllPairs HasOtherKey es
+pub pairs_from_other : (es : List Entry) → HaveDistinctKeys es → AllPairs HasOtherKey es
 pairs_from_other es h i j d lt below = apart_from_distinct (λ e f. same_key e.key f.key) es i j d h lt below
 
-pub other_from_pairs : (es : List Entry) → AllPairs HasOtherKey es → HaveOtherKeys es
+pub other_from_pairs : (es : List Entry) → AllPairs HasOtherKey es → HaveDistinctKeys es
 other_from_pairs es h = IsDistinct-from_apart (λ e f. same_key e.key f.key) es h
 
-pub other_from_ascending : (es : List Entry) → AllPairs HasLowerKey es → HaveOtherKeys es
+pub other_from_ascending : (es : List Entry) → AllPairs HasLowerKey es → HaveDistinctKeys es
 other_from_ascending es h = other_from_pairs es (λ i j d lt below. ap is_eq (h i j d lt below))
 
-pub puts_have_other_keys : (es : List Entry) → IsAscending es → HaveOtherKeys (puts_of es)
-puts_have_other_keys es s = other_from_ascending (puts_of es) (AllPairs-filter HasLowerKey _ es (pairs_from_ascending es s))
+pub puts_have_distinct_keys : (es : List Entry) → IsAscending es → HaveDistinctKeys (puts_of es)
+puts_have_distinct_keys es s = other_from_ascending (puts_of es) (AllPairs-filter HasLowerKey _ es (pairs_from_ascending es s))
 
 -- sorted entries of different keys
 
@@ -123,7 +124,7 @@ strict cmp total ties e f Greater is not_above other =
 
 -- where no two have one key, a sort leaves each below all later ones
 pub sorted_strictly : (cmp : Entry → Entry → Ordering) → IsTotalOrder cmp → ((e f : Entry) → cmp e f ≡ Equal → same_key e.key f.key ≡ true)
-    → (es : List Entry) → IsSortedBy (λ e f. is_lt (cmp e f)) es → HaveOtherKeys es → AllPairs (λ e f. cmp e f ≡ Less) es
+    → (es : List Entry) → IsSortedBy (λ e f. is_lt (cmp e f)) es → HaveDistinctKeys es → AllPairs (λ e f. cmp e f ≡ Less) es
 sorted_strictly cmp total ties es sorted other i j d lt below =
     let not_above = sorted_far (λ e f. is_lt (cmp e f)) (ranks_by total (λ (e : Entry). e)) es sorted i j d (omega arith) below in
     strict cmp total ties _ _ _ refl not_above (pairs_from_other es other i j d lt below)
@@ -131,5 +132,16 @@ sorted_strictly cmp total ties es sorted other i j d lt below =
 pub key_flips : (e f : Entry) → same_key e.key f.key ≡ same_key f.key e.key
 key_flips e f = (eq_by_cmp_equiv nat_list_cmp_total).symm e.key f.key
 
-pub other_permuted : (es fs : List Entry) → IsPermutation es fs → HaveOtherKeys es → HaveOtherKeys fs
+pub other_permuted : (es fs : List Entry) → IsPermutation es fs → HaveDistinctKeys es → HaveDistinctKeys fs
 other_permuted es fs same other = IsDistinct-IsPermutation (λ (e f : Entry). same_key e.key f.key) key_flips es fs same other
+
+-- where each key is below the next one, each is below all later ones
+pub pairs_from_neighbours : (es : List Entry) → AllAdjacentBelow HasLowerKey es (length es) → AllPairs HasLowerKey es
+pairs_from_neighbours [] next = pairs_nil HasLowerKey
+pairs_from_neighbours (e ∷ []) next = AllPairs-cons HasLowerKey e [] (All-nil (HasLowerKey e)) (pairs_nil HasLowerKey)
+pairs_from_neighbours (e ∷ f ∷ es) next =
+    let rest = pairs_from_neighbours (f ∷ es) (λ k d below. let here : HasLowerKey (get_or (f ∷ es) k d) (get_or (e ∷ f ∷ es) (suc k + 1) d) = next (suc k) d (omega arith) in
+    subst (λ (n : ℕ). HasLowerKey (get_or (f ∷ es) k d) (get_or (e ∷ f ∷ es) n d)) (let same : suc k + 1 ≡ suc (k + 1) = omega arith in same) here) in
+    let here : HasLowerKey e f = next 0 e (omega arith) in
+    let behind = All-weaker (HasLowerKey f) (HasLowerKey e) (λ g above. nat_list_cmp_total.trans e.key f.key g.key here above) es (pairs_head HasLowerKey f es rest) in
+    AllPairs-cons HasLowerKey e (f ∷ es) (All-cons (HasLowerKey e) f es here behind) rest

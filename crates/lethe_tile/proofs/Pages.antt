@@ -1,12 +1,12 @@
 -- Pages and tiles of the parts of a list.
-use Rattle.std.proofs.Common.{◌≡◌, ℕ, zero, suc, ◌+◌, ◌<◌, ◌≤◌, List, [], ◌∷◌, ◌++◌, length, All, AllPairs, IsPermutation, refl, sym, ap, ◌∙◌, subst, append_assoc, append-nil, arith}
+use Rattle.std.proofs.Common.{◌≡◌, ℕ, ◌<◌, List, [], ◌∷◌, ◌++◌, length, All, AllPairs, IsPermutation, refl, sym, ◌∙◌, subst, append_assoc, append-nil, arith}
 use Rattle.std.specs.List.{AllZip}
 use Rattle.std.proofs.lemmas.List.Elements.{All-nil, All-cons, All-head, All-tail, All-weaker}
 use Rattle.std.proofs.lemmas.List.Kept.{AllPairs-cons}
 use Rattle.std.proofs.lemmas.List.Sorted.{All-permutation, IsPermutation-append, IsPermutation-refl, IsPermutation-trans, length_permutation}
 use Rattle.lethe_base.specs.Entries.{IsAscending}
 use Rattle.lethe_base.specs.declared.entry.Entry.{Entry}
-use Rattle.lethe_tile.specs.Woven.{joined, IsCut, ComesBefore, IsBelow, IsPaged, HaveOtherKeys}
+use Rattle.lethe_tile.specs.Woven.{joined, IsCut, ComesBefore, IsBelow, IsPaged, HaveDistinctKeys}
 use Rattle.lethe_tile.proofs.Orders.{pairs_nil, pairs_head, pairs_tail, pairs_append, all_left, all_right, Across, HasOtherKey, pairs_from_other, other_from_pairs, HasLowerKey, pairs_from_ascending, ascending_from_pairs}
 
 -- a loop that makes something of each item: those done have theirs, in their order
@@ -45,9 +45,9 @@ parts_pairs R (part ∷ parts) h =
     let both = pairs_append R part (joined parts) h in
     All-cons (AllPairs R) part parts both.0 (parts_pairs R parts both.1)
 
-pub parts_have_other_keys : (parts : List (List Entry)) → HaveOtherKeys (joined parts) → All HaveOtherKeys parts
-parts_have_other_keys parts h =
-    All-weaker (AllPairs HasOtherKey) HaveOtherKeys other_from_pairs parts (parts_pairs HasOtherKey parts (pairs_from_other (joined parts) h))
+pub parts_have_distinct_keys : (parts : List (List Entry)) → HaveDistinctKeys (joined parts) → All HaveDistinctKeys parts
+parts_have_distinct_keys parts h =
+    All-weaker (AllPairs HasOtherKey) HaveDistinctKeys other_from_pairs parts (parts_pairs HasOtherKey parts (pairs_from_other (joined parts) h))
 
 across_parts : {X : Type 0} (R : X → X → Type 0) (part : List X) (parts : List (List X)) → Across R part (joined parts) → All (Across R part) parts
 across_parts R part [] h = All-nil (Across R part)
@@ -118,11 +118,11 @@ pub paged : (page : ℕ) (puts ordered : List Entry) (parts pages : List (List E
 paged page puts ordered parts pages same order is cut sorts =
     let same_parts : AllZip IsPermutation parts pages = all_zip_weaker IsSortOf IsPermutation (λ p q sort. sort.same) parts pages sorts in
     record {
-  lengths = sorts_cut page parts pages same_parts cut;
-  once = IsPermutation-trans puts (joined parts) (joined pages) (subst (IsPermutation puts) (sym is) same) (sorts_same parts pages same_parts);
-  ascending = sorts_ascend parts pages sorts;
-  below = sorts_below parts pages same_parts (parts_below parts (subst (AllPairs ComesBefore) (sym is) order));
-}
+      lengths = sorts_cut page parts pages same_parts cut;
+      once = IsPermutation-trans puts (joined parts) (joined pages) (subst (IsPermutation puts) (sym is) same) (sorts_same parts pages same_parts);
+      ascending = sorts_ascend parts pages sorts;
+      below = sorts_below parts pages same_parts (parts_below parts (subst (AllPairs ComesBefore) (sym is) order));
+    }
 
 -- no part of a cut is empty
 pub cut_some : {X : Type 0} (most : ℕ) (parts : List (List X)) → 0 < most → IsCut most parts → All (λ part. 0 < length part) parts

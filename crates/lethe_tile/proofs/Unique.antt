@@ -1,22 +1,21 @@
 -- Entries in order are woven in one way: a cut has one form, and a page one order.
-use Rattle.std.proofs.Common.{◌≡◌, ℕ, zero, suc, ◌+◌, ◌*◌, ◌<◌, ◌≤◌, ◌⊎◌, Bool, true, false, List, [], ◌∷◌, ◌++◌, length, get_or, Some, All, AllPairs, Contains, IsPermutation, refl, sym, ap, ◌∙◌, subst, inl, inr, append-nil, length-append, arith}
+use Rattle.std.proofs.Common.{◌≡◌, ℕ, zero, suc, ◌*◌, ◌<◌, ◌≤◌, ◌⊎◌, List, [], ◌∷◌, ◌++◌, length, get_or, Some, All, AllPairs, Contains, IsPermutation, refl, sym, ap, ◌∙◌, subst, inl, inr, append-nil, length-append, arith}
 use Rattle.std.specs.Cmp.{IsTotalOrder}
 use Rattle.std.specs.List.{AllZip}
-use Rattle.std.specs.Ordering.{is_eq, ordering_reverse}
+use Rattle.std.specs.Ordering.{ordering_reverse}
 use Rattle.std.specs.declared.cmp.Ordering.{Ordering}
 use Rattle.std.specs.declared.cmp.Ordering.TheVariants.{Less, Equal, Greater}
 use Rattle.std.proofs.lemmas.Bool.{true≢false}
 use Rattle.std.proofs.lemmas.List.Elements.{All-nil, All-cons, All-head, All-tail, All-weaker, All-append, All-contains, All-contains_itself}
 use Rattle.std.proofs.lemmas.List.Kept.{AllPairs-cons}
-use Rattle.std.proofs.lemmas.List.Sorted.{All-permutation, Contains-permutation, IsPermutation-append, IsPermutation-append_left, IsPermutation-append_comm, IsPermutation-cons, IsPermutation-refl, IsPermutation-sym, IsPermutation-trans}
-use Rattle.lethe_base.specs.Keys.{key_cmp, same_key}
+use Rattle.std.proofs.lemmas.List.Sorted.{All-permutation, Contains-permutation, IsPermutation-append_left, IsPermutation-append_comm, IsPermutation-cons, IsPermutation-refl, IsPermutation-sym, IsPermutation-trans}
+use Rattle.lethe_base.specs.Keys.{key_cmp}
 use Rattle.lethe_base.specs.Entries.{IsAscending}
 use Rattle.lethe_base.specs.Layout as layout
-use Rattle.lethe_base.specs.declared.config.Fields.{Fields}
 use Rattle.lethe_base.specs.declared.entry.Entry.{Entry}
-use Rattle.lethe_tile.specs.Woven.{joined, IsCut, ComesBefore, IsBelow, IsPaged, IsTile, IsWoven, OneWeave, HaveOtherKeys, weave_cmp, puts_of, tombs_of, page_of}
-use Rattle.lethe_tile.proofs.Orders.{pairs_nil, pairs_head, pairs_tail, Across, HasLowerKey, HasOtherKey, pairs_from_ascending, pairs_from_other, puts_have_other_keys, other_permuted, key_total, weave_total, weave_ties}
-use Rattle.lethe_tile.proofs.Pages.{parts_pairs, sorts_cut, sorts_same, below_sorts, all_zip_weaker, slices_ascend, cut_some}
+use Rattle.lethe_tile.specs.Woven.{joined, IsCut, ComesBefore, IsBelow, IsPaged, IsTile, OneWeave, HaveDistinctKeys, weave_cmp, puts_of, tombs_of, page_of}
+use Rattle.lethe_tile.proofs.Orders.{pairs_nil, pairs_head, pairs_tail, Across, HasOtherKey, pairs_from_ascending, pairs_from_other, puts_have_distinct_keys, other_permuted, key_total, weave_total, weave_ties}
+use Rattle.lethe_tile.proofs.Pages.{parts_pairs, sorts_cut, sorts_same, below_sorts, all_zip_weaker, slices_ascend}
 
 -- a cut
 
@@ -86,13 +85,13 @@ same_order cmp total (x ∷ xs) (y ∷ ys) o o' xy yx =
     let above = pairs_head R x xs o in
     let above' = pairs_head R y ys o' in
     let first : x ≡ y =
-        elim (Contains-cases x y ys (All-head (Contains (y ∷ ys)) x xs xy)) [
-          | inl is ↦ sym is
-          | inr there ↦ elim (Contains-cases y x xs (All-head (Contains (x ∷ xs)) y ys yx)) [
-            | inl is ↦ is
-            | inr there' ↦ absurd (not_both cmp total x y (All-contains (R x) xs y above there') (All-contains (R y) ys x above' there))
-          ]
-        ]
+    elim (Contains-cases x y ys (All-head (Contains (y ∷ ys)) x xs xy)) [
+      | inl is ↦ sym is
+      | inr there ↦ elim (Contains-cases y x xs (All-head (Contains (x ∷ xs)) y ys yx)) [
+        | inl is ↦ is
+        | inr there' ↦ absurd (not_both cmp total x y (All-contains (R x) xs y above there') (All-contains (R y) ys x above' there))
+      ]
+    ]
     in
     let rest = same_order cmp total xs ys (pairs_tail R x xs o) (pairs_tail R y ys o') (behind cmp total x y xs ys first above (All-tail (Contains (y ∷ ys)) x xs xy)) (behind cmp total y x ys xs (sym first) above' (All-tail (Contains (x ∷ xs)) y ys yx)) in
     ap (λ e. e ∷ xs) first ∙ ap (λ es. y ∷ es) rest
@@ -164,7 +163,7 @@ pairs_join : {X : Type 0} (R : X → X → Type 0) (xs ys : List X) → AllPairs
 pairs_join R [] ys h k across = k
 pairs_join R (x ∷ xs) ys h k across =
     AllPairs-cons R x (xs ++ ys) (All-append (R x) xs ys (pairs_head R x xs h) (All-head (λ z. All (R z) ys) x xs across))
-        (pairs_join R xs ys (pairs_tail R x xs h) k (All-tail (λ z. All (R z) ys) x xs across))
+    (pairs_join R xs ys (pairs_tail R x xs h) k (All-tail (λ z. All (R z) ys) x xs across))
 
 across_joined : {X : Type 0} (R : X → X → Type 0) (xs : List X) (parts : List (List X)) → All (Across R xs) parts → Across R xs (joined parts)
 across_joined R xs [] h = λ k d below. All-nil (R (get_or xs k d))
@@ -178,7 +177,7 @@ lists_ordered (p ∷ ps) [] h below = absurd h
 lists_ordered (p ∷ ps) (q ∷ qs) h below =
     let same = all_zip_weaker IsOrderOf IsPermutation (λ x y is. is.same) ps qs h.1 in
     pairs_join ComesBefore q (joined qs) h.0.order (lists_ordered ps qs h.1 (pairs_tail IsBelow p ps below))
-        (across_joined ComesBefore q qs (below_sorts p q h.0.same ps qs same (pairs_head IsBelow p ps below)))
+    (across_joined ComesBefore q qs (below_sorts p q h.0.same ps qs same (pairs_head IsBelow p ps below)))
 
 -- pages of the same entries, which ascend
 same_pages : (ps qs lists : List (List Entry)) → AllZip IsPermutation ps lists → AllZip IsPermutation qs lists → All IsAscending ps → All IsAscending qs → ps ≡ qs
@@ -193,10 +192,10 @@ same_pages (p ∷ ps) (q ∷ qs) (o ∷ os) a b up up' =
     ap (λ z. z ∷ ps) first ∙ ap (λ zs. q ∷ zs) (same_pages ps qs os a.1 b.1 (All-tail IsAscending p ps up) (All-tail IsAscending q qs up'))
 
 -- the pages of a page list in the order of a tile, joined
-pages_other : (page : ℕ) (puts : List Entry) (pages : List (List Entry)) → HaveOtherKeys puts → IsPaged page puts pages → All (AllPairs HasOtherKey) pages
+pages_other : (page : ℕ) (puts : List Entry) (pages : List (List Entry)) → HaveDistinctKeys puts → IsPaged page puts pages → All (AllPairs HasOtherKey) pages
 pages_other page puts pages other is = parts_pairs HasOtherKey pages (pairs_from_other (joined pages) (other_permuted puts (joined pages) is.once other))
 
-pub one_paged : (page : ℕ) (puts : List Entry) (ps qs : List (List Entry)) → HaveOtherKeys puts → IsPaged page puts ps → IsPaged page puts qs → ps ≡ qs
+pub one_paged : (page : ℕ) (puts : List Entry) (ps qs : List (List Entry)) → HaveDistinctKeys puts → IsPaged page puts ps → IsPaged page puts qs → ps ≡ qs
 one_paged page puts ps qs other a b =
     let P = all_ordered ps (pages_other page puts ps other a) in
     let Q = all_ordered qs (pages_other page puts qs other b) in
@@ -205,8 +204,8 @@ one_paged page puts ps qs other a b =
     let from_p : IsPermutation puts (joined P.lists) = IsPermutation-trans puts (joined ps) (joined P.lists) a.once (sorts_same ps P.lists same_p) in
     let from_q : IsPermutation puts (joined Q.lists) = IsPermutation-trans puts (joined qs) (joined Q.lists) b.once (sorts_same qs Q.lists same_q) in
     let whole : joined P.lists ≡ joined Q.lists =
-        one_order weave_cmp weave_total (joined P.lists) (joined Q.lists) (lists_ordered ps P.lists P.each a.below) (lists_ordered qs Q.lists Q.each b.below)
-            (IsPermutation-trans (joined P.lists) puts (joined Q.lists) (IsPermutation-sym puts (joined P.lists) from_p) from_q)
+    one_order weave_cmp weave_total (joined P.lists) (joined Q.lists) (lists_ordered ps P.lists P.each a.below) (lists_ordered qs Q.lists Q.each b.below)
+    (IsPermutation-trans (joined P.lists) puts (joined Q.lists) (IsPermutation-sym puts (joined P.lists) from_p) from_q)
     in
     let lists : P.lists ≡ Q.lists = one_cut page P.lists Q.lists (sorts_cut page ps P.lists same_p a.lengths) (sorts_cut page qs Q.lists same_q b.lengths) whole in
     same_pages ps qs Q.lists (subst (AllZip IsPermutation ps) lists same_p) same_q a.ascending b.ascending
@@ -220,7 +219,7 @@ pub one_tile : (page : ℕ) (es : List Entry) (s t : layout.Tile) → IsAscendin
 one_tile page es s t up a b =
     let lo : s.lo ≡ t.lo = some_is _ _ (sym a.lo ∙ b.lo) in
     let hi : s.hi ≡ t.hi = some_is _ _ (sym a.hi ∙ b.hi) in
-    let puts : a.pages ≡ b.pages = one_paged page (puts_of es) a.pages b.pages (puts_have_other_keys es up) a.paged b.paged in
+    let puts : a.pages ≡ b.pages = one_paged page (puts_of es) a.pages b.pages (puts_have_distinct_keys es up) a.paged b.paged in
     let pages : s.pages ≡ t.pages = a.is ∙ ap (λ ps. page_of (tombs_of es) ++ ps) puts ∙ sym b.is in
     λ i. record { lo = lo i; hi = hi i; pages = pages i }
 

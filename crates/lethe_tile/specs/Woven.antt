@@ -1,6 +1,7 @@
 -- Entries woven into tiles. A tile's puts stand in pages by their delete keys, so that an erase of a range of delete keys
--- drops whole pages; inside a page they stand by their keys. (The weaving of Sarkar and others' Lethe.)
-use Rattle.std.specs.Prelude.{◌≡◌, ℕ, ◌*◌, ◌-◌, Bool, not, List, [], ◌∷◌, ◌++◌, length, filter, map, flat_map, slice_get, Option, Some, option_map, All, AllPairs, IsPermutation}
+-- drops whole pages; inside a page they stand by their keys. (Key weaving, of
+-- Sarkar, Papon, Staratzis and Athanassoulis, 2020.)
+use Rattle.std.specs.Prelude.{◌≡◌, ℕ, ◌*◌, ◌-◌, not, List, [], ◌∷◌, ◌++◌, length, filter, flat_map, slice_get, Option, Some, option_map, All, AllPairs, IsPermutation}
 use Rattle.std.specs.List.{AllZip, IsDistinct}
 use Rattle.std.specs.Int.{IsInRange}
 use Rattle.std.specs.declared.cmp.Ordering.{Ordering}
@@ -57,8 +58,8 @@ abbrev pub IsBelow : List Entry → List Entry → Type 0
 IsBelow page other = All (λ entry. All (ComesBefore entry) other) page
 
 -- no two entries have one key
-abbrev pub HaveOtherKeys : List Entry → Type 0
-HaveOtherKeys entries = IsDistinct (λ entry other. same_key entry.key other.key) entries
+abbrev pub HaveDistinctKeys : List Entry → Type 0
+HaveDistinctKeys entries = IsDistinct (λ entry other. same_key entry.key other.key) entries
 
 -- pages of so many of these puts, each in exactly one page
 pub record IsPaged (page : ℕ) (puts : List Entry) (pages : List (List Entry)) : Type 0 where

@@ -10,6 +10,7 @@ mod weaving;
 
 pub use filter::Filter;
 pub use laws::one_weave;
+pub use ordering::is_ascending;
 pub use weaving::{Tile, weave};
 
 #[cfg(test)]

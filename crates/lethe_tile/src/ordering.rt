@@ -1,15 +1,28 @@
 //! The two orders of a tile's entries.
-ghost use Rattle.std.specs.Prelude.{◌≡◌, ◌≢◌, AllPairs, IsPermutation};
+ghost use Rattle.std.specs.Prelude.{◌≡◌, ◌↔◌, AllPairs, IsPermutation, IsTrue};
 ghost use Rattle.lethe_base.specs.Entries.{IsAscending};
 ghost use Rattle.lethe_base.specs.Keys.{key_cmp};
-ghost use Rattle.lethe_tile.specs.Woven.{dkey_of, weave_cmp, ComesBefore, HaveOtherKeys};
+ghost use Rattle.lethe_tile.specs.Woven.{dkey_of, weave_cmp, ComesBefore, HaveDistinctKeys};
 
 use lethe_base::{Body, Entry};
 use std::cmp::Ordering;
 
+/// Whether the keys ascend, each strictly above the one before it.
+pub fn is_ascending(entries: &[Entry]) -> bool
+    ensures { IsTrue result ↔ IsAscending entries.now }
+{
+    for i in 1..entries.len() {
+        match compare_by_key(&entries[i - 1], &entries[i]) {
+            Ordering::Less => {}
+            _ => return false,
+        }
+    }
+    true
+}
+
 /// Puts entries of different keys into the order of their delete keys, and where these are equal of their keys.
 pub fn sort_by_delete_key(entries: &mut Vec<Entry>)
-    requires { HaveOtherKeys entries.old.items }
+    requires { HaveDistinctKeys entries.old.items }
     ensures same { IsPermutation entries.old.items entries.new.items }
     ensures order { AllPairs ComesBefore entries.new.items }
 {
@@ -18,7 +31,7 @@ pub fn sort_by_delete_key(entries: &mut Vec<Entry>)
 
 /// Puts entries of different keys into the order of their keys.
 pub fn sort_by_key(entries: &mut Vec<Entry>)
-    requires { HaveOtherKeys entries.old.items }
+    requires { HaveDistinctKeys entries.old.items }
     ensures same { IsPermutation entries.old.items entries.new.items }
     ensures order { IsAscending entries.new.items }
 {

@@ -45,6 +45,23 @@ fn entries_of(alloc: Global, row: &str) -> Result<Vec<Entry>, Fail> {
     Ok(entries)
 }
 
+fn weave_row(alloc: Global, row: &str, config: &Config) -> Result<Vec<Tile>, Fail> {
+    let entries = entries_of(alloc, row)?;
+    if is_ascending(&entries) {
+        Ok(weave(alloc, entries, config)?)
+    } else {
+        Err("the keys don't ascend")?
+    }
+}
+
+fn filter_of(alloc: Global, keys: &[Key]) -> Result<Filter, Fail> {
+    if keys.is_empty() {
+        Err("there are no keys")?
+    } else {
+        Ok(Filter::build(alloc, keys)?)
+    }
+}
+
 /// Tiles as a text: each tile its keys, and behind them its pages, of which each is its keys.
 fn text_of(alloc: Global, tiles: &[Tile]) -> Result<String, Fail> {
     let mut text = String::new(alloc);
@@ -87,8 +104,10 @@ fn entries_are_woven_by_delete_key_and_by_key(rt: HostRuntime) -> Result<(), Fai
         ("b=18446744073709551615", "b..b b;"),
         ("", ""),
     ];
+    assert!(rt; !is_ascending(&entries_of(alloc, "a=1 b=2 b-")?));
+    assert!(rt; !is_ascending(&entries_of(alloc, "b=1 a=2 c=3")?));
     for (row, woven) in rows {
-        let tiles = weave(alloc, entries_of(alloc, row)?, &config)?;
+        let tiles = weave_row(alloc, row, &config)?;
         assert_eq!(rt; text_of(alloc, &tiles)?.as_str(), woven, "{row}");
     }
     Ok(())
@@ -99,7 +118,7 @@ fn a_filter_has_the_bits_of_its_keys(rt: HostRuntime) -> Result<(), Fail> {
     let alloc = rt.alloc();
     let key = key_of(alloc, "a")?;
     let keys = vec![in alloc; key_of(alloc, "a")?]?;
-    let filter = Filter::build(alloc, &keys)?;
+    let filter = filter_of(alloc, &keys)?;
     assert_eq!(rt; hash::hash_key(&key), 0xaf63_dc4c_8601_ec8c);
     assert_eq!(rt; filter.words(), [0x0008_0040_0200_3001].as_slice());
     assert!(rt; filter.may_hold(&key));
@@ -107,7 +126,7 @@ fn a_filter_has_the_bits_of_its_keys(rt: HostRuntime) -> Result<(), Fail> {
     for text in ["a", "b", "key", "another", "ab", "ba", "z"] {
         more.push(key_of(alloc, text)?)?;
     }
-    let filter = Filter::build(alloc, &more)?;
+    let filter = filter_of(alloc, &more)?;
     assert_eq!(rt; filter.words().len(), 2);
     let words = filter.words().to_vec(alloc)?;
     let again = Filter::of_words(words).ok_or("no filter")?;

@@ -1,7 +1,7 @@
 //! Weaving entries into tiles.
 ghost use Rattle.std.specs.Prelude.{◌≡◌, ◌-◌, ◌<◌, map, length, IfOk, Some};
 ghost use Rattle.lethe_base.specs.Entries.{IsAscending};
-ghost use Rattle.lethe_tile.specs.Woven.{plain, IsWoven, IsTile, IsPaged, HaveOtherKeys, key_at, page_of};
+ghost use Rattle.lethe_tile.specs.Woven.{plain, IsWoven, IsTile, IsPaged, HaveDistinctKeys, key_at, page_of};
 
 use crate::cutting::{cut, part_by_body};
 use crate::ordering::{sort_by_delete_key, sort_by_key};
@@ -19,7 +19,7 @@ pub struct Tile {
     pub pages: List<List<Entry>>,
 }
 
-/// Weaves entries, whose keys ascend, into tiles of `page * tile` entries in pages of `page` puts; what is over goes into a
+/// Weaves entries, whose keys ascend (`is_ascending` tests it), into tiles of `page * tile` entries in pages of `page` puts; what is over goes into a
 /// last tile and into last pages that have fewer. Only the keys of the tiles are copied.
 pub fn weave(alloc: Global, entries: Vec<Entry>, config: &Config) -> Result<Vec<Tile>, NoMemory>
     requires { IsAscending entries.items }
@@ -82,7 +82,7 @@ fn pages_of_puts(
     page: usize,
 ) -> Result<Vec<List<Entry>>, NoMemory>
     requires page { 0 < page }
-    requires keys { HaveOtherKeys puts.items }
+    requires keys { HaveDistinctKeys puts.items }
     ensures { IfOk result (λ pages. IsPaged page puts.items pages.items) }
 {
     sort_by_delete_key(&mut puts);

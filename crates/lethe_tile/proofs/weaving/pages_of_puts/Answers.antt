@@ -1,20 +1,19 @@
-use Rattle.std.proofs.Common.{rules, ◌≡◌, List, map, length, All, ap, sym, ◌∙◌, subst, arith}
-use Rattle.std.proofs.lemmas.List.{map-append}
+use Rattle.std.proofs.Common.{rules, ◌≡◌, List, map, length, All, sym, subst, arith}
 use Rattle.lethe_base.specs.declared.entry.Entry.{Entry}
-use Rattle.lethe_tile.specs.Woven.{HaveOtherKeys}
+use Rattle.lethe_tile.specs.Woven.{HaveDistinctKeys}
 use Rattle.lethe_tile.proofs.Orders.{other_permuted}
 use Rattle.lethe_tile.proofs.Parts.{empty_is}
-use Rattle.lethe_tile.proofs.Pages.{IsGoing, IsSortOf, going_next, going_more, going_all, parts_have_other_keys, paged}
+use Rattle.lethe_tile.proofs.Pages.{IsSortOf, going_next, going_more, going_all, parts_have_distinct_keys, paged}
 use Rattle.lethe_tile.proofs.weaving.pages_of_puts.Goals as goal
 
 pub sort_by_key-requires : goal.sort_by_key-requires
 sort_by_key-requires c =
     let parts : List (List Entry) = map (λ part. part.items) c.in_ok-parts.parts.items in
     let ordered = other_permuted _ _ c.sort_by_delete_key.ensures.same c.requires.keys in
-    let other : All HaveOtherKeys parts = parts_have_other_keys parts (subst HaveOtherKeys (sym c.in_ok-parts.ensures.joined) ordered) in
+    let other : All HaveDistinctKeys parts = parts_have_distinct_keys parts (subst HaveDistinctKeys (sym c.in_ok-parts.ensures.joined) ordered) in
     let all : c.into_iter-part-iterator.result.rest.items ≡ c.in_ok-parts.parts.items = search rules in
     let start = rw (c.in-Some.ensures.steps.0, all) at c.loop-part.invariant in
-    going_next IsSortOf HaveOtherKeys parts _ _ c.in-Some.part.items start other
+    going_next IsSortOf HaveDistinctKeys parts _ _ c.in-Some.part.items start other
 
 pub loop-part-preserved : goal.loop-part-preserved
 loop-part-preserved c =

@@ -1,11 +1,9 @@
-use Rattle.std.proofs.Common.{rules, ◌≡◌, ◌<◌, ◌*◌, List, map, length, All, ap, sym, ◌∙◌, subst, arith}
+use Rattle.std.proofs.Common.{rules, ◌≡◌, ◌<◌, ◌*◌, List, map, length, sym, subst}
 use Rattle.std.proofs.lemmas.List.{map-append}
-use Rattle.std.proofs.lemmas.List.Elements.{All-weaker}
 use Rattle.lethe_base.specs.Entries.{IsAscending}
 use Rattle.lethe_base.specs.declared.entry.Entry.{Entry}
 use Rattle.lethe_tile.specs.Woven.{IsTile, plain}
-use Rattle.lethe_tile.proofs.Orders.{HasLowerKey, pairs_from_ascending, ascending_from_pairs}
-use Rattle.lethe_tile.proofs.Pages.{IsGoing, going_next, going_more, going_all, parts_pairs, cut_some, slices_ascend}
+use Rattle.lethe_tile.proofs.Pages.{going_next, going_more, cut_some, slices_ascend}
 use Rattle.lethe_tile.proofs.weaving.weave.Goals as goal
 
 pub weave_tile-requires-clause-some : goal.weave_tile-requires-clause-some
