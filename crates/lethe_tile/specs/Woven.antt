@@ -1,6 +1,5 @@
 -- Entries woven into tiles. A tile's puts stand in pages by their delete keys, so that an erase of a range of delete keys
--- drops whole pages; inside a page they stand by their keys. (Key weaving, of
--- Sarkar, Papon, Staratzis and Athanassoulis, 2020.)
+-- drops whole pages; inside a page they stand by their keys. (The key weaving of Sarkar, Papon, Staratzis and Athanassoulis.)
 use Rattle.std.specs.Prelude.{◌≡◌, ℕ, ◌*◌, ◌-◌, not, List, [], ◌∷◌, ◌++◌, length, filter, flat_map, slice_get, Option, Some, option_map, All, AllPairs, IsPermutation}
 use Rattle.std.specs.List.{AllZip, IsDistinct}
 use Rattle.std.specs.Int.{IsInRange}
@@ -21,6 +20,7 @@ use Rattle.lethe_tile.specs.declared.weaving.Tile.{Tile}
 abbrev pub plain : Tile → layout.Tile
 plain tile = record { lo = tile.lo; hi = tile.hi; pages = tile.pages }
 
+-- the parts end to end
 abbrev pub joined : {X : Type 0} → List (List X) → List X
 joined parts = flat_map (λ part. part) parts
 
@@ -61,7 +61,7 @@ IsBelow page other = All (λ entry. All (ComesBefore entry) other) page
 abbrev pub HaveDistinctKeys : List Entry → Type 0
 HaveDistinctKeys entries = IsDistinct (λ entry other. same_key entry.key other.key) entries
 
--- pages of so many of these puts, each in exactly one page
+-- pages of so many of these puts, each put in exactly one page
 pub record IsPaged (page : ℕ) (puts : List Entry) (pages : List (List Entry)) : Type 0 where
   pub lengths : IsCut page pages
   pub once : IsPermutation puts (joined pages)

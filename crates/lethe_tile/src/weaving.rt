@@ -19,8 +19,8 @@ pub struct Tile {
     pub pages: List<List<Entry>>,
 }
 
-/// Weaves entries, whose keys ascend (`is_ascending` tests it), into tiles of `page * tile` entries in pages of `page` puts; what is over goes into a
-/// last tile and into last pages that have fewer. Only the keys of the tiles are copied.
+/// Weaves entries into tiles of `page * tile` entries, and their puts into pages of `page`; a last tile, and the last page of a
+/// tile, may have fewer. The keys must ascend (`is_ascending` tests it). No entry gives no tile. Only the tiles' keys are copied.
 pub fn weave(alloc: Global, entries: Vec<Entry>, config: &Config) -> Result<Vec<Tile>, NoMemory>
     requires { IsAscending entries.items }
     ensures { IfOk result (λ tiles. IsWoven config.now entries.items (map plain tiles.items)) }
