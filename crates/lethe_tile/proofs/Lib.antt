@@ -1,0 +1,5 @@
+pub mod Bits
+pub mod Parts
+pub mod Orders
+pub mod Pages
+pub mod Unique

@@ -1,0 +1,5 @@
+use Rattle.lethe_tile.proofs.Bits.{SetsBelow}
+use Rattle.lethe_tile.proofs.filter.set_all.Given as goal
+
+abbrev pub invariant-loop-probe : goal.invariant-loop-probe
+invariant-loop-probe l = SetsBelow l.initial.words l.words l.hash l.probe

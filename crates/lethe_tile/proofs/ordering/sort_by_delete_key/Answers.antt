@@ -1,0 +1,15 @@
+use Rattle.std.proofs.Common.{rules}
+use Rattle.std.proofs.lemmas.Fn.{always_returns_same}
+use Rattle.std.proofs.lemmas.List.Sorted.{ranks_by}
+use Rattle.std.specs.Ordering.{is_lt}
+use Rattle.lethe_base.specs.declared.entry.Entry.{Entry}
+use Rattle.lethe_tile.specs.Woven.{weave_cmp}
+use Rattle.lethe_tile.proofs.Orders.{weave_total, weave_ties, other_permuted, sorted_strictly}
+use Rattle.lethe_tile.proofs.ordering.sort_by_delete_key.Goals as goal
+
+pub returns-clause-order : goal.returns-clause-order
+returns-clause-order c =
+    let facts = c.sort_unstable_by.ensures in
+    let sorted = facts.sorted (λ e f. is_lt (weave_cmp e f)) (ranks_by weave_total (λ (e : Entry). e)) (always_returns_same _ _ _ (λ a r g called. search rules)) in
+    let other = other_permuted _ _ facts.permutation c.requires in
+    sorted_strictly weave_cmp weave_total weave_ties _ sorted other
