@@ -42,7 +42,7 @@ impl<T: Drop> From<AllocFailed<T>> for DiskRefused {
 }
 
 /// A disk of named objects, and ports through which several readers fetch its pages at once.
-/// Device calls are those that change the disk or ask it by a name, `open_page` among them; `port`, `fetch` and the two counts are none.
+/// All functions but `port`, `fetch`, `port_faults` and `faults` are device calls.
 ///
 /// Since the last sync that succeeded, a crash may leave an object that was created absent or with any bytes,
 /// a range that was written with any bytes, and an object that was removed there or not.
