@@ -1,17 +1,16 @@
 //! Switching to a new manifest.
-ghost use Rattle.std.specs.Prelude.{◌≡◌, ◌+◌, ◌≤◌, ℕ, Option, None, OnOk, IsErrOf};
-ghost use Rattle.std.specs.FinMap.{insert};
+ghost use Rattle.std.specs.Prelude.{◌≡◌, ◌+◌, ◌≤◌, ℕ, Option, OnOk, IsErrOf};
 ghost use Rattle.lethe_disk.specs.declared.disk.DiskRefused.TheVariants.{NoMemory};
-ghost use Rattle.lethe_disk.specs.Directory.{Directory, object, IsCreated};
+ghost use Rattle.lethe_disk.specs.Directory.{Directory};
 ghost use Rattle.lethe_disk.specs.Disk.{Image, IsSynced, HasCause};
 ghost use Rattle.lethe_disk.specs.Runs.{Leads, Throughout};
 ghost use Rattle.lethe_manifest.specs.Manifests.{manifest_bytes, HasSpelling};
-ghost use Rattle.lethe_commit.specs.Append.{IsUntouched};
 ghost use Rattle.lethe_commit.specs.Clear.{IsCleared, remove_all};
 ghost use Rattle.lethe_commit.specs.Switch.{IsFree, IsPlaced, IsSwitched, HasNew, HasOldOrNew, IsTakenBack, TellsOlder, older_names, placed, switched};
 
 use crate::clearing::{clear, remove_each};
 use crate::gates::choose;
+use crate::objects::place;
 use lethe_base::{Kind, Name};
 use lethe_disk::{Disk, DiskRefused};
 use lethe_manifest::{Manifest, write_manifest};
@@ -124,8 +123,8 @@ fn place_with_gate<D: Disk>(disk: &mut D, number: u64, bytes: &[u8]) -> Result<(
         kind: Kind::Gate,
         no: number,
     };
-    create_and_sync(disk, manifest, bytes)?;
-    match create_and_sync(disk, gate, &[]) {
+    place(disk, manifest, bytes)?;
+    match place(disk, gate, &[]) {
         Ok(()) => Ok(()),
         Err(DiskRefused::Failed) => Err(DiskRefused::Failed),
         Err(DiskRefused::NoMemory) => {
@@ -133,19 +132,4 @@ fn place_with_gate<D: Disk>(disk: &mut D, number: u64, bytes: &[u8]) -> Result<(
             Err(DiskRefused::NoMemory)
         }
     }
-}
-
-// Creates an object of these bytes and syncs.
-fn create_and_sync<D: Disk>(disk: &mut D, name: Name, bytes: &[u8]) -> Result<(), DiskRefused>
-    requires { D.tells → object (D.seen disk.old).directory name ≡ None }
-    ensures any_moment { D.tells → Leads (IsCreated name) (D.seen disk.old) (D.seen disk.new) }
-    ensures done { D.tells → OnOk result ((D.seen disk.new).directory ≡ insert (D.seen disk.old).directory name bytes.now) }
-    ensures synced { D.tells → OnOk result (IsSynced (D.seen disk.new)) }
-    ensures calls { D.tells → OnOk result ((D.seen disk.new).moment ≡ (D.seen disk.old).moment + 2) }
-    ensures soon { D.tells → (D.seen disk.new).moment ≤ (D.seen disk.old).moment + 2 }
-    ensures no_memory { D.tells → IsErrOf result NoMemory → IsUntouched (D.seen disk.old) (D.seen disk.new) }
-    ensures cause { HasCause (D.faults disk.old) (D.faults disk.new) result }
-{
-    disk.create(name, bytes)?;
-    disk.sync()
 }

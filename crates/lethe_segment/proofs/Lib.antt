@@ -3,3 +3,4 @@ pub mod HeadLaws
 pub mod Standing
 pub mod Runs
 pub mod Loop
+pub mod Spelling

@@ -1,7 +1,7 @@
 //! The head of a segment: `LS`, the format and the segment's number.
 ghost use Rattle.std.specs.Prelude.{◌≡◌, ◌==◌, not, [], IfOk, IfErr, MatchOption, position};
 ghost use Rattle.std.specs.List.{zip};
-ghost use Rattle.lethe_segment.specs.Segments.{mark, segment_bytes};
+ghost use Rattle.lethe_segment.specs.Segments.{mark, head_bytes, segment_bytes};
 ghost use Rattle.lethe_segment.specs.Heads.{HasHead, IsNoHead, IsHeadFault};
 
 use lethe_base::take_u64;
@@ -20,6 +20,16 @@ pub fn new_segment(number: u64) -> [u8; 12]
     let [l, s, format] = MARK;
     let [a, b, c, d, e, f, g, h] = number.to_be_bytes();
     [l, s, format, a, b, c, d, e, f, g, h, 0]
+}
+
+/// A segment's head.
+#[tactic(auto, unfolding(crate::specs::Segments::head_bytes))]
+pub(crate) fn head(number: u64) -> [u8; 11]
+    ensures { result ≡ head_bytes number }
+{
+    let [l, s, format] = MARK;
+    let [a, b, c, d, e, f, g, h] = number.to_be_bytes();
+    [l, s, format, a, b, c, d, e, f, g, h]
 }
 
 /// The number of the segment, by its head. None exactly where the bytes don't begin with a head.

@@ -12,7 +12,7 @@ pub use head::{new_segment, segment_number};
 pub use laws::{ascending_places, one_record, one_segment, spelling_holds};
 pub use record::Record;
 pub use replaying::{SegmentRefused, replay};
-pub use writing::{CLOSED_GATE, OPEN_GATE, write_record};
+pub use writing::{CLOSED_GATE, OPEN_GATE, write_record, write_segment};
 
 #[cfg(test)]
 mod tests;

@@ -1,8 +1,10 @@
 //! Writing one record.
 ghost use Rattle.std.specs.Prelude.{◌≡◌, IfOk};
 ghost use Rattle.lethe_segment.specs.Records.{record_bytes, RecordHasSpelling};
+ghost use Rattle.lethe_segment.specs.Segments.{segment_bytes, Ascends};
 
 use crate::Record;
+use crate::head::head;
 use crate::record::BLIND;
 use lethe_base::{NoMemory, entry_len, write_entry};
 use std::alloc::Global;
@@ -33,4 +35,21 @@ pub fn write_record(alloc: Global, item: &Record) -> Result<Vec<u8>, NoMemory>
         }
         Record::Erase(_) => unreachable!(),
     }
+}
+
+/// A segment with these records: its head, each record behind an open gate byte, and a closed gate byte.
+#[tactic(auto, unfolding(crate::specs::Segments::segment_bytes))]
+pub fn write_segment(alloc: Global, number: u64, records: &[Record]) -> Result<Vec<u8>, NoMemory>
+    requires { Ascends 0 records.now }
+    ensures { IfOk result (λ bytes. bytes.items ≡ segment_bytes number records.now) }
+{
+    let mut out = Vec::new(alloc);
+    out.extend_from_slice(&head(number))?;
+    for record in records {
+        let body = write_record(alloc, record)?;
+        out.push(OPEN_GATE)?;
+        out.extend_from_slice(&body)?;
+    }
+    out.push(CLOSED_GATE)?;
+    Ok(out)
 }

@@ -1,5 +1,5 @@
 use Rattle.lethe_commit.proofs.Placing.{after_create, after_sync}
-use Rattle.lethe_commit.proofs.manifests.create_and_sync.Goals as goal
+use Rattle.lethe_commit.proofs.objects.place.Goals as goal
 
 pub returns-in_err-create-clause-any_moment : goal.returns-in_err-create-clause-any_moment
 returns-in_err-create-clause-any_moment g c = λ told.
