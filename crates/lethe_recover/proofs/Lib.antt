@@ -9,3 +9,6 @@ pub mod Meanings
 pub mod Changes
 pub mod ExamplesSpelled
 pub mod Firsts
+pub mod Going
+pub mod Uncited
+pub mod Anew

@@ -157,7 +157,7 @@ clear_keeps h d c names (inl none) spare left = inl (
 )
 clear_keeps h d c names (inr k) spare left = inr (record { s = k.s; stored = k.stored; encodes = besides k.s d c names k.encodes (spare k.s k.stored k.encodes) left.others; stands = k.stands })
 
-one_name : (name other : Name) → Contains (name ∷ []) other → name ≡ other
+pub one_name : (name other : Name) → Contains (name ∷ []) other → name ≡ other
 one_name name other there = by there.0 there.1 there.2
   where
     by : (k : ℕ) → k < 1 → get_or (name ∷ []) k other ≡ other → name ≡ other

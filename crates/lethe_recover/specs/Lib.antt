@@ -8,3 +8,6 @@ pub mod Clean
 pub mod Loaded
 pub mod Quiet
 pub mod Examples
+pub mod Goes
+pub mod Settled
+pub mod Rewritten

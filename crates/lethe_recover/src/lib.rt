@@ -5,6 +5,8 @@ mod laws;
 mod loading;
 mod recovered;
 mod refused;
+mod rewriting;
+mod tidying;
 
 pub use laws::{
     append_keeps, clear_keeps, create_keeps, delete_follows, kept_has_no_damage,
@@ -14,3 +16,5 @@ pub use laws::{
 pub use loading::load;
 pub use recovered::Recovered;
 pub use refused::RecoverRefused;
+pub use rewriting::rewrite;
+pub use tidying::tidy;
