@@ -1,5 +1,5 @@
 -- The images of a disk while what is stored is written anew: the new segment is placed, the manifest switched, and the old segment cleared.
-use Rattle.std.proofs.Common.{◌≡◌, ◌≢◌, ◌<◌, ◌≤◌, ◌⊎◌, inl, inr, ℕ, ◌+◌, List, [], ◌∷◌, get_or, Option, Some, None, true, false, refl, sym, ap, ◌∙◌, subst, arith}
+use Rattle.std.proofs.Common.{◌≡◌, ◌≢◌, ◌<◌, ◌≤◌, ◌⊎◌, inl, inr, ℕ, ◌+◌, List, [], ◌∷◌, get_or, Option, Some, None, true, false, refl, sym, ap, ◌∙◌, subst, arith, length, length-append, ◌++◌}
 use Rattle.std.specs.Prelude.{Contains, IsSome, is_some, IsSomeAnd, Result}
 use Rattle.std.specs.FinMap.{insert}
 use Rattle.lethe_base.specs.Limits.{max_place}
@@ -11,7 +11,8 @@ use Rattle.lethe_disk.specs.Directory.{Directory, object, IsNoneOf, SameBut, IsC
 use Rattle.lethe_disk.specs.Disk.{Seen, Image, IsSynced}
 use Rattle.lethe_disk.specs.Runs.{Leads}
 use Rattle.lethe_disk.proofs.Objects.{name_cases, object_inserted, object_beside_insert, object_removed, object_beside_remove}
-use Rattle.lethe_segment.specs.Segments.{segment_bytes}
+use Rattle.lethe_segment.specs.declared.record.Record.{Record}
+use Rattle.lethe_segment.specs.Segments.{head_bytes, open_records, segment_bytes}
 use Rattle.lethe_segment.proofs.Runs.{holds_spelling}
 use Rattle.lethe_manifest.specs.Manifests.{HasSpelling, IsOneBelow, manifest_bytes}
 use Rattle.lethe_manifest.specs.declared.manifest.Manifest.{Manifest}
@@ -34,6 +35,11 @@ use Rattle.lethe_recover.proofs.Going.{goes_leads, goes_then, goes_weaker}
 
 true≢false : true ≡ false → ⊥
 true≢false e = cc
+
+-- a segment has a byte at least
+pub segment_some : (number : ℕ) (records : List Record) → 1 ≤ length (segment_bytes number records)
+unfolding segment_bytes
+segment_some number records = let long = length-append (head_bytes number ++ open_records records) (0 ∷ []) in omega (arith, long)
 
 pub successor_spelled : (m : Manifest) (count : ℕ) → HasSpelling m → m.next + 2 ≤ max_place → count ≤ max_place → HasSpelling (successor m count)
 successor_spelled m count spelled room few = record {

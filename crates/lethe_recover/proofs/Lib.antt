@@ -12,3 +12,4 @@ pub mod Firsts
 pub mod Going
 pub mod Uncited
 pub mod Anew
+pub mod Begun

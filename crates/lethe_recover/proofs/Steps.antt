@@ -120,30 +120,25 @@ switch_keeps h s t d c s_is e s_for t_is parts t_for lt left = elim (switch_enco
 ]
 
 -- the first switch, where there is no gate
-pub first_switch_keeps : (t : Stored) (d c : Directory) → HasGreatest None d → IsStored t → HasParts d t → IsFor [] t → IsSwitched t.manifest.no (manifest_bytes t.manifest) None d c → IsKept c []
-first_switch_keeps t d c none t_is parts t_for (inl un) = inl (
-  (λ k. elim (cases_eq k t.manifest.no) [
-    | inl same ↦ ap (λ n. object c (gate_name n)) same ∙ un.no_gate
-    | inr ne ↦ un.others (gate_name k) (gate≢manifest k t.manifest.no, (gate≢gate k t.manifest.no ne, tt)) ∙ none k
-  ]),
-  refl,
-)
-first_switch_keeps t d c none t_is parts t_for (inr new) = inr (record {
-  s = t;
-  stored = t_is;
-  encodes = record {
-    greatest = (
-      new.gate,
-      λ k above. elim (new.older (gate_name k) (gate≢manifest k t.manifest.no, (gate≢gate k t.manifest.no (λ same. omega (arith, same, above)), tt))) [
-        | inl gone ↦ gone
-        | inr same ↦ same ∙ none k
-      ],
-    );
-    manifest = new.manifest;
-    parts = parts_framed d c t (λ name is. new.others name (segment_new t t.manifest.no name is)) parts;
-  };
-  stands = t_for;
+pub first_switch_encodes : (t : Stored) (d c : Directory) → HasGreatest None d → HasParts d t → IsSwitched t.manifest.no (manifest_bytes t.manifest) None d c → HasGreatest None c ⊎ Encodes c t
+first_switch_encodes t d c none parts (inl un) = inl (λ k. elim (cases_eq k t.manifest.no) [
+  | inl same ↦ ap (λ n. object c (gate_name n)) same ∙ un.no_gate
+  | inr ne ↦ un.others (gate_name k) (gate≢manifest k t.manifest.no, (gate≢gate k t.manifest.no ne, tt)) ∙ none k
+])
+first_switch_encodes t d c none parts (inr new) = inr (record {
+  greatest = (new.gate, λ k above. elim (new.older (gate_name k) (gate≢manifest k t.manifest.no, (gate≢gate k t.manifest.no (λ same. omega (arith, same, above)), tt))) [
+    | inl gone ↦ gone
+    | inr same ↦ same ∙ none k
+  ]);
+  manifest = new.manifest;
+  parts = parts_framed d c t (λ name is. new.others name (segment_new t t.manifest.no name is)) parts;
 })
+
+pub first_switch_keeps : (t : Stored) (d c : Directory) → HasGreatest None d → IsStored t → HasParts d t → IsFor [] t → IsSwitched t.manifest.no (manifest_bytes t.manifest) None d c → IsKept c []
+first_switch_keeps t d c none t_is parts t_for left = elim (first_switch_encodes t d c none parts left) [
+  | inl still ↦ inl (still, refl)
+  | inr new ↦ inr (record { s = t; stored = t_is; encodes = new; stands = t_for })
+]
 
 -- Clearing and creating
 

@@ -1,6 +1,7 @@
 //! What a disk's greatest gate commits, how it is read back, and which history it is kept for.
 #![tactic(auto)]
 
+mod beginning;
 mod laws;
 mod loading;
 mod recovered;
@@ -8,6 +9,7 @@ mod refused;
 mod rewriting;
 mod tidying;
 
+pub use beginning::begin;
 pub use laws::{
     append_keeps, clear_keeps, create_keeps, delete_follows, kept_has_no_damage,
     kept_holds_nothing_overdue, kept_means_its_history, new_store_is_kept, one_put_is_kept,

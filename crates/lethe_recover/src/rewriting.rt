@@ -1,8 +1,8 @@
 //! Writing what is stored into one new segment.
-ghost use Rattle.std.specs.Prelude.{◌≡◌, ◌⊎◌, ◌+◌, ◌≤◌, IfOk, OnOk};
+ghost use Rattle.std.specs.Prelude.{◌≡◌, ◌⊎◌, ◌+◌, ◌≤◌, length, IfOk, OnOk};
 ghost use Rattle.lethe_base.specs.Limits.{max_place};
 ghost use Rattle.lethe_disk.specs.Disk.{HasCause};
-ghost use Rattle.lethe_segment.specs.Segments.{Ascends};
+ghost use Rattle.lethe_segment.specs.Segments.{Ascends, segment_bytes};
 ghost use Rattle.lethe_manifest.specs.Manifests.{HasSpelling};
 ghost use Rattle.lethe_recover.specs.Stored.{Stored};
 ghost use Rattle.lethe_recover.specs.Encodes.{Encodes};
@@ -18,7 +18,7 @@ use lethe_segment::{Record, write_segment};
 use std::alloc::Global;
 
 /// Writes the records of the active segment into a new one of the next number, switches to a manifest that cites it, and removes
-/// the old segment. `count` is how many changes there were.
+/// the old segment. `count` is how many changes there were. It answers the place of the closed gate byte that ends the segment.
 ///
 /// # Errors
 ///
@@ -30,7 +30,7 @@ pub fn rewrite<D: Disk>(
     manifest: &Manifest,
     records: &[Record],
     count: u64,
-) -> Result<(), DiskRefused>
+) -> Result<u64, DiskRefused>
     requires spelled { HasSpelling manifest.now }
     requires room { manifest.now.next + 2 ≤ max_place }
     requires counted { count ≤ max_place }
@@ -47,6 +47,7 @@ pub fn rewrite<D: Disk>(
     ensures done { D.tells → (s : Stored) → IsSettled (D.seen disk.old) s → HasOnly s (D.seen disk.old).directory
         → s.manifest ≡ manifest.now → s.active.records ≡ records.now
         → OnOk result (IsSettled (D.seen disk.new) (rewritten s count) × HasOnly (rewritten s count) (D.seen disk.new).directory) }
+    ensures end { IfOk result (λ end. end + 1 ≡ length (segment_bytes manifest.now.next records.now)) }
     ensures cause { HasCause (D.faults disk.old) (D.faults disk.new) result }
 {
     let bytes = write_segment(alloc, manifest.next, records)?;
@@ -61,7 +62,8 @@ pub fn rewrite<D: Disk>(
     };
     place(disk, segment, &bytes)?;
     switch(alloc, disk, &next)?;
-    clear(disk, &[old])
+    clear(disk, &[old])?;
+    Ok(bytes.len() as u64 - 1)
 }
 
 // The manifest that follows this one.
