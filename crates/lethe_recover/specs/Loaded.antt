@@ -1,5 +1,5 @@
 -- What is read of a directory, and why nothing is.
-use Rattle.std.specs.Prelude.{◌≡◌, ◌≢◌, ◌⊎◌, ℕ, List, [], map, Contains, Some, None}
+use Rattle.std.specs.Prelude.{◌≡◌, ◌≢◌, ◌⊎◌, ℕ, List, [], ◌∷◌, map, Contains, Some, None}
 use Rattle.lethe_base.specs.Counts.{Rose}
 use Rattle.lethe_base.specs.declared.config.Fields.{Fields}
 use Rattle.lethe_base.specs.declared.name.Name.{Name}
@@ -25,6 +25,10 @@ nothing = record { manifest = None; segments = [] }
 -- the manifest, and the records of each segment that it cites
 abbrev pub recovered_of : Stored → Recovered
 recovered_of s = record { manifest = Some s.manifest; segments = map (λ segment. segment.records) (segments_of s) }
+
+-- nothing, or a manifest with the records of its one segment, each of which has a spelling
+abbrev pub IsSpelledOut : Recovered → Type 0
+IsSpelledOut read = (read ≡ nothing) ⊎ ((m : Manifest) × (records : List Record) × (read ≡ record { manifest = Some m; segments = records ∷ [] }) × HasSpelling m × Ascends 0 records)
 
 -- the directory encodes what was read, of this configuration
 pub record IsRead (config : Fields) (d : Directory) (read : Recovered) : Type 0 where

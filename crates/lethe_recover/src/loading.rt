@@ -5,11 +5,12 @@ ghost use Rattle.lethe_base.specs.Counts.{Rose};
 ghost use Rattle.lethe_disk.specs.Directory.{object};
 ghost use Rattle.lethe_disk.specs.declared.disk.DiskRefused.TheVariants.{Failed};
 ghost use Rattle.lethe_manifest.specs.Manifests.{HasSpelling};
+ghost use Rattle.lethe_segment.specs.Segments.{Ascends};
 ghost use Rattle.lethe_commit.specs.Switch.{HasGreatest};
 ghost use Rattle.lethe_recover.specs.declared.refused.RecoverRefused.{RecoverRefused};
 ghost use Rattle.lethe_recover.specs.Stored.{Stored, IsStored};
 ghost use Rattle.lethe_recover.specs.Encodes.{Encodes};
-ghost use Rattle.lethe_recover.specs.Loaded.{nothing, recovered_of, IsLoaded, IsRead, IsSpelled, HasReason, IsInterrupted, MayRefuse, MayFail, IsMissing, IsUnspelled, IsReplayed, IsUnreplayed, refusal_of};
+ghost use Rattle.lethe_recover.specs.Loaded.{nothing, recovered_of, IsLoaded, IsRead, IsSpelled, IsSpelledOut, HasReason, IsInterrupted, MayRefuse, MayFail, IsMissing, IsUnspelled, IsReplayed, IsUnreplayed, refusal_of};
 ghost use Rattle.lethe_recover.specs.Quiet.{IsQuiet};
 
 use crate::{RecoverRefused, Recovered};
@@ -31,7 +32,8 @@ pub fn load<D: Disk>(
     disk: &mut D,
     config: &Config,
 ) -> Result<Recovered, RecoverRefused>
-    // What is read, the directory encodes.
+    // What is read has a spelling, and the directory encodes it.
+    ensures spelled { IfOk result IsSpelledOut }
     ensures found { D.tells → IfOk result (IsLoaded config.now (D.seen disk.old).directory) }
 
     // What it encodes is read, unless the disk fails or memory runs out.
@@ -58,6 +60,7 @@ fn load_greatest<D: Disk>(
     disk: &mut D,
     config: &Config,
 ) -> Result<Recovered, RecoverRefused>
+    ensures spelled { IfOk result IsSpelledOut }
     ensures found { D.tells → IfOk result (IsLoaded config.now (D.seen disk.old).directory) }
     ensures refused { IfErr result (MayRefuse D.tells config.now (D.seen disk.old).directory (D.faults disk.old) (D.faults disk.new)) }
     ensures quiet { D.tells → IsQuiet (D.seen disk.old) (D.seen disk.new) }
@@ -89,6 +92,7 @@ fn load_gated<D: Disk>(
     requires before { before ≤ D.faults disk.old }
     requires listed { D.tells → names.now ≡ keys (D.seen disk.old).directory }
     requires greatest { D.tells → HasGreatest (Some number) (D.seen disk.old).directory }
+    ensures spelled { IfOk result IsSpelledOut }
     ensures found { D.tells → IfOk result (IsRead config.now (D.seen disk.old).directory) }
     ensures refused { IfErr result (MayRefuse D.tells config.now (D.seen disk.old).directory before (D.faults disk.new)) }
     ensures quiet { D.tells → IsQuiet (D.seen disk.old) (D.seen disk.new) }
@@ -152,6 +156,7 @@ fn load_segment<D: Disk>(
 ) -> Result<Vec<Record>, RecoverRefused>
     requires before { before ≤ D.faults disk.old }
     requires listed { D.tells → names.now ≡ keys (D.seen disk.old).directory }
+    ensures ascends { IfOk result (λ records. Ascends 0 records.items) }
     ensures found { D.tells → IfOk result (λ records. IsReplayed (D.seen disk.old).directory number records.items) }
     ensures refused { IfErr result (MayFail D.tells (IsUnreplayed (D.seen disk.old).directory number) before (D.faults disk.new)) }
     ensures quiet { D.tells → IsQuiet (D.seen disk.old) (D.seen disk.new) }

@@ -1,4 +1,4 @@
-use Rattle.std.proofs.Common.{◌≡◌, [], ◌∷◌, ◌++◌, get_or, Some, sym, ap, ◌∙◌}
+use Rattle.std.proofs.Common.{◌≡◌, [], ◌∷◌, ◌++◌, get_or, Some, sym, ap, ◌∙◌, inr}
 use Rattle.lethe_recover.specs.Loaded.{MayRefuse}
 use Rattle.lethe_recover.proofs.Quieting.{quiet_then}
 use Rattle.lethe_recover.proofs.Reading.{err_moved, one_segment, contains_one, gated_of, segment_refused, is_read}
@@ -38,3 +38,9 @@ returns-clause-found g c = λ told.
 pub returns-clause-quiet : goal.returns-clause-quiet
 returns-clause-quiet g c = λ told.
     quiet_then (g.D.Disk.seen c.args.disk.now) (g.D.Disk.seen c.load_manifest.new.disk) (g.D.Disk.seen c.load_segment.new.disk) (c.load_manifest.ensures.quiet told) (c.load_segment.ensures.quiet told)
+
+pub returns-clause-spelled : goal.returns-clause-spelled
+returns-clause-spelled g c =
+    let m = c.in_ok-manifest.manifest in
+    let segments : c.of-2.result ≡ c.in_ok-records.records.items ∷ [] = c.of-2.ensures ∙ c.in_ok-push.ensures.items ∙ ap (λ l. l ++ c.of.result ∷ []) c.new-segments.ensures.items ∙ ap (λ r. r ∷ []) c.of.ensures in
+    inr (m, c.in_ok-records.records.items, ap (λ l. record { manifest = Some m; segments = l }) segments, c.in_ok-manifest.ensures.spelled, c.in_ok-records.ensures.ascends)

@@ -24,3 +24,6 @@ load_gated-requires-clause-greatest g c κs within = λ told.
 pub returns-clause-quiet : goal.returns-clause-quiet
 returns-clause-quiet g c = λ told. quiet_then (g.D.Disk.seen c.args.disk.now) (g.D.Disk.seen c.names.new.self) (g.D.Disk.seen c.load_gated.new.disk)
     (quiet_call c.names.result (g.D.Disk.seen c.args.disk.now) (g.D.Disk.seen c.names.new.self) (c.names.ensures.call told) (c.names.ensures.directory told)) (c.load_gated.ensures.quiet told)
+
+pub returns-in-None-clause-spelled : goal.returns-in-None-clause-spelled
+returns-in-None-clause-spelled g c = inl (ap (λ l. record { manifest = None; segments = l }) (c.of.ensures ∙ c.new.ensures.items))
