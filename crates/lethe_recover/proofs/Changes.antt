@@ -35,6 +35,7 @@ use Rattle.lethe_cover.proofs.Unentered.{blind_covers}
 use Rattle.lethe_recover.specs.Stored.{Stored, Segment, IsStored, records_from, plain, erase_of, in_order, layout_of, count_of, appended}
 use Rattle.lethe_recover.specs.Kept.{IsFor, certifies, certificates}
 use Rattle.lethe_recover.proofs.Unique.{none_frozen}
+use Rattle.lethe_recover.proofs.Numbered.{covers_numbered}
 use Rattle.lethe_recover.proofs.Meanings.{plain_place}
 use Rattle.lethe_recover.proofs.Steps.{stored_appended}
 
@@ -123,24 +124,6 @@ module _ (s : Stored) (stored : IsStored s) (r : Record) (none : erase_of r ≡ 
   pub layout_appended : layout_of (appended s r) ≡ record (layout_of s) { count = count_of (appended s r); active = (layout_of s).active ++ plain r ∷ [] }
   layout_appended = λ i. record (layout_of s) { count = count_of (appended s r); active = map_push plain s.active.records r i; pending = same_pending s.frozen i }
 
--- how many changes there are and which number is next says nothing of what a layout covers
-covers_counted : (threshold : ℕ) (h : History) (l : Layout) (count : ℕ) → Covers threshold h l → Covers threshold h (record l { count = count })
-covers_counted threshold h l count covers = record {
-  places = record { entries = covers.places.entries; erases = covers.places.erases };
-  newer_above = record {
-    runs = covers.newer_above.runs;
-    active_frozen = covers.newer_above.active_frozen;
-    active_files = covers.newer_above.active_files;
-    frozen_files = covers.newer_above.frozen_files;
-    active_buffer = covers.newer_above.active_buffer;
-    frozen_buffer = covers.newer_above.frozen_buffer;
-  };
-  same_map = covers.same_map;
-  deletes_covered = covers.deletes_covered;
-  erases_covered = record { pending = covers.erases_covered.pending; swept = covers.erases_covered.swept; unswept = covers.erases_covered.unswept };
-  times_fresh = record { entries = covers.times_fresh.entries; erases = covers.times_fresh.erases };
-}
-
 certificates_push : (threshold : ℕ) (h : History) (change : Change) → certifies threshold change.did change.call ≡ false → certificates threshold (h ++ change ∷ []) ≡ certificates threshold h
 certificates_push threshold h change no_more = fold-append count 0 h (change ∷ []) ∙ ap (λ b. certificates threshold h + cond b 1 0) no_more ∙ plus_none (certificates threshold h)
   where
@@ -163,7 +146,7 @@ module _ (h : History) (s : Stored) (stored : IsStored s) (stands : IsFor h s) (
       record {
         legal = legal_push h change stands.legal stands.done few works (λ to is. absurd (ticks to is));
         done = done_push h change stands.done refl;
-        covers = subst (Covers s.manifest.config.threshold (with_done h caller call)) (sym is) (covers_counted s.manifest.config.threshold (with_done h caller call) (recorded (layout_of s) (plain r)) (count_of (appended s r)) covers);
+        covers = subst (Covers s.manifest.config.threshold (with_done h caller call)) (sym is) (covers_numbered s.manifest.config.threshold (with_done h caller call) (recorded (layout_of s) (plain r)) (count_of (appended s r)) s.manifest.next covers);
         shape = subst (λ x. IsValidShape (shape_of x)) (sym is) stands.shape;
         clock = stands.clock ∙ sym clock ∙ sym (ap (λ st. st.clock) (after-push h change));
         count = count_more;

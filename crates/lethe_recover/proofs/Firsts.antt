@@ -32,6 +32,7 @@ use Rattle.lethe_recover.specs.Kept.{IsFor, IsKept}
 use Rattle.lethe_recover.specs.Examples.{small, new_manifest, new_segment, put_manifest, put_segment, IsNewStore, IsOnePut, the_put}
 use Rattle.lethe_recover.proofs.ExamplesSpelled.{new_manifest_spelled, put_manifest_spelled, new_segment_spelled, put_segment_spelled, empty_manifest}
 use Rattle.lethe_recover.proofs.Reading.{pairs_of_one}
+use Rattle.lethe_recover.proofs.Numbered.{covers_numbered}
 use Rattle.lethe_recover.proofs.Changes.{put_stored, put_for}
 
 no_items : {X : Type 0} (xs : List X) → length xs ≡ 0 → xs ≡ []
@@ -59,28 +60,11 @@ module _ (config : Fields) (own next segment : ℕ) (limits : IsConfig config) (
   empty_layout : layout_of (empty_stored config own next segment) ≡ record (new_layout config.levels) { next = next }
   empty_layout = ap (λ pending. record (new_layout config.levels) { next = next; pending = pending }) none_pending
 
-  covers_next : (threshold : ℕ) (h : History) (l : Layout) → Covers threshold h l → Covers threshold h (record l { next = next })
-  covers_next threshold h l covers = record {
-    places = record { entries = covers.places.entries; erases = covers.places.erases };
-    newer_above = record {
-      runs = covers.newer_above.runs;
-      active_frozen = covers.newer_above.active_frozen;
-      active_files = covers.newer_above.active_files;
-      frozen_files = covers.newer_above.frozen_files;
-      active_buffer = covers.newer_above.active_buffer;
-      frozen_buffer = covers.newer_above.frozen_buffer;
-    };
-    same_map = covers.same_map;
-    deletes_covered = covers.deletes_covered;
-    erases_covered = record { pending = covers.erases_covered.pending; swept = covers.erases_covered.swept; unswept = covers.erases_covered.unswept };
-    times_fresh = record { entries = covers.times_fresh.entries; erases = covers.times_fresh.erases };
-  }
-
   pub empty_stands : IsFor [] (empty_stored config own next segment)
   empty_stands = record {
     legal = legal_empty;
     done = done_empty;
-    covers = subst (Covers config.threshold []) (sym empty_layout) (covers_next config.threshold [] (new_layout config.levels) (new_covers config.threshold config.levels));
+    covers = subst (Covers config.threshold []) (sym empty_layout) (covers_numbered config.threshold [] (new_layout config.levels) 0 next (new_covers config.threshold config.levels));
     shape = subst (λ l. IsValidShape (shape_of l)) (sym empty_layout) (new_is_valid config.levels);
     clock = refl;
     count = refl;

@@ -6,6 +6,7 @@ pub mod Exact
 pub mod Frame
 pub mod Steps
 pub mod Meanings
+pub mod Numbered
 pub mod Changes
 pub mod ExamplesSpelled
 pub mod Firsts
@@ -13,3 +14,5 @@ pub mod Going
 pub mod Uncited
 pub mod Anew
 pub mod Begun
+pub mod Standing
+pub mod Resumed

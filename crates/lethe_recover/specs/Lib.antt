@@ -11,3 +11,4 @@ pub mod Examples
 pub mod Goes
 pub mod Settled
 pub mod Rewritten
+pub mod Opening

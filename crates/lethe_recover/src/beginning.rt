@@ -1,10 +1,12 @@
 //! Making an empty store.
 ghost use Rattle.std.specs.Prelude.{◌≡◌, ◌⊎◌, None, IfOk, OnOk};
+ghost use Rattle.lethe_base.specs.Configuration.{IsConfig};
 ghost use Rattle.lethe_base.specs.declared.name.Name.{Name};
 ghost use Rattle.lethe_disk.specs.Directory.{object};
 ghost use Rattle.lethe_disk.specs.Disk.{IsSynced, HasCause};
 ghost use Rattle.lethe_manifest.specs.Manifests.{HasSpelling};
 ghost use Rattle.lethe_commit.specs.Switch.{HasGreatest};
+ghost use Rattle.lethe_recover.specs.Stored.{IsStored};
 ghost use Rattle.lethe_recover.specs.Encodes.{Encodes};
 ghost use Rattle.lethe_recover.specs.Goes.{Goes};
 ghost use Rattle.lethe_recover.specs.Settled.{IsSettled, HasOnly};
@@ -35,6 +37,9 @@ pub fn begin<D: Disk>(
     // Acknowledged: each crash leaves the new store, and nothing else.
     ensures done { D.tells → OnOk result (IsSettled (D.seen disk.new) (new_stored config.now) × HasOnly (new_stored config.now) (D.seen disk.new).directory) }
     ensures cause { HasCause (D.faults disk.old) (D.faults disk.new) result }
+
+    // What is made has a spelling.
+    ensures stored { IsStored (new_stored config.now) }
 {
     let manifest = first_manifest(alloc, config)?;
     let segment = Name {
@@ -63,6 +68,7 @@ fn remove_everything<D: Disk>(alloc: Global, disk: &mut D) -> Result<(), DiskRef
 fn first_manifest(alloc: Global, config: &Config) -> Result<Manifest, NoMemory>
     ensures is { IfOk result (λ manifest. manifest ≡ first_manifest config.now) }
     ensures spelled { IfOk result HasSpelling }
+    ensures limits { IsConfig config.now }
 {
     // A configuration keeps its limits, which a spelling needs.
     let _limits = config.fields();

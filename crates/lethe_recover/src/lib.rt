@@ -4,6 +4,7 @@
 mod beginning;
 mod laws;
 mod loading;
+mod opening;
 mod recovered;
 mod refused;
 mod rewriting;
@@ -16,6 +17,7 @@ pub use laws::{
     one_stored, put_follows, switch_keeps, what_is_cited_counts,
 };
 pub use loading::load;
+pub use opening::{OpenWhy, Opened, open};
 pub use recovered::Recovered;
 pub use refused::RecoverRefused;
 pub use rewriting::rewrite;

@@ -1,0 +1,40 @@
+use Rattle.std.proofs.Common.{◌≡◌, None, sym, subst}
+use Rattle.lethe_recover.specs.Kept.{IsKept}
+use Rattle.lethe_recover.specs.Left.{IsKeptOr}
+use Rattle.std.specs.Prelude.{IfErr}
+use Rattle.lethe_recover.specs.Opening.{IsResumed, MayNotOpen}
+use Rattle.lethe_recover.proofs.Going.{goes_quiet, goes_then, goes_weaker}
+use Rattle.lethe_recover.proofs.Quieting.{quiet_call}
+use Rattle.lethe_recover.proofs.Resumed.{ok_weaker, err_weaker, same_may, from_left}
+use Rattle.lethe_recover.proofs.opening.open.Goals as goal
+
+pub returns-in-Ok-clause-resumed : goal.returns-in-Ok-clause-resumed
+returns-in-Ok-clause-resumed g c = λ told h change left.
+    let s1 = g.D.Disk.seen c.sync.new.self in
+    let s2 = g.D.Disk.seen c.open_synced.new.disk in
+    let config = c.args.config.now in
+    let now = left.now in
+    let kept : IsKept s1.directory now.0 = subst (λ x. IsKept x now.0) (sym (c.sync.ensures.directory told)) now.2 in
+    ok_weaker c.open_synced.result (IsResumed config now.0 None s2) (IsResumed config h change s2) (c.open_synced.ensures.resumed told now.0 kept) (from_left config h now.0 change now.1 s2)
+
+pub returns-in-Ok-clause-any_moment : goal.returns-in-Ok-clause-any_moment
+returns-in-Ok-clause-any_moment g c = λ told h change left.
+    let s0 = g.D.Disk.seen c.args.disk.now in
+    let s1 = g.D.Disk.seen c.sync.new.self in
+    let s2 = g.D.Disk.seen c.open_synced.new.disk in
+    let now = left.now in
+    let kept : IsKept s1.directory now.0 = subst (λ x. IsKept x now.0) (sym (c.sync.ensures.directory told)) now.2 in
+    goes_then (IsKeptOr h change) s0 s1 s2
+      (goes_quiet (IsKeptOr h change) s0 s1 (quiet_call c.sync.result s0 s1 (c.sync.ensures.call told) (c.sync.ensures.directory told)) left.images)
+      (goes_weaker (λ x. IsKept x now.0) (IsKeptOr h change) s1 s2 (λ x k. (now.0, now.1, k)) (c.open_synced.ensures.any_moment told now.0 kept))
+
+pub returns-in-Ok-clause-refused : goal.returns-in-Ok-clause-refused
+returns-in-Ok-clause-refused g c =
+    let d = (g.D.Disk.seen c.args.disk.now).directory in
+    let s1 = g.D.Disk.seen c.sync.new.self in
+    let config = c.args.config.now in
+    let now = g.D.Disk.faults c.open_synced.new.disk in
+    let before = c.faults-before.result in
+    subst (λ b. IfErr c.open_synced.result (MayNotOpen g.D.Disk.tells config d b now)) c.faults-before.ensures
+      (err_weaker c.open_synced.result (MayNotOpen g.D.Disk.tells config s1.directory before now) (MayNotOpen g.D.Disk.tells config d before now) c.open_synced.ensures.refused
+        (same_may g.D.Disk.tells config s1.directory d before now (λ told. c.sync.ensures.directory told)))
