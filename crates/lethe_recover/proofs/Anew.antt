@@ -1,13 +1,11 @@
 -- The images of a disk while what is stored is written anew: the new segment is placed, the manifest switched, and the old segment cleared.
-use Rattle.std.proofs.Common.{◌≡◌, ◌≢◌, ◌<◌, ◌≤◌, ◌⊎◌, inl, inr, ℕ, ◌+◌, List, [], ◌∷◌, get_or, Option, Some, None, true, false, refl, sym, ap, ◌∙◌, subst, arith, length, length-append, ◌++◌}
-use Rattle.std.specs.Prelude.{Contains, IsSome, is_some, IsSomeAnd, Result}
+use Rattle.std.proofs.Common.{◌≡◌, ◌≢◌, ◌<◌, ◌≤◌, ◌⊎◌, inl, inr, ℕ, ◌+◌, List, [], ◌∷◌, Option, Some, None, true, false, refl, sym, ap, ◌∙◌, subst, arith, length, length-append, ◌++◌}
+use Rattle.std.specs.Prelude.{IsSome, is_some, IsSomeAnd}
 use Rattle.std.specs.FinMap.{insert}
 use Rattle.lethe_base.specs.Limits.{max_place}
 use Rattle.lethe_base.specs.declared.name.Kind.TheVariants as kinds
 use Rattle.lethe_base.specs.declared.name.Name.{Name}
-use Rattle.lethe_base.proofs.LayoutLaws.{none_in}
-use Rattle.lethe_base.proofs.Newest.{first_or_rest}
-use Rattle.lethe_disk.specs.Directory.{Directory, object, IsNoneOf, SameBut, IsCreated}
+use Rattle.lethe_disk.specs.Directory.{Directory, object, IsCreated}
 use Rattle.lethe_disk.specs.Disk.{Seen, Image, IsSynced}
 use Rattle.lethe_disk.specs.Runs.{Leads}
 use Rattle.lethe_disk.proofs.Objects.{name_cases, object_inserted, object_beside_insert, object_removed, object_beside_remove}
@@ -19,8 +17,8 @@ use Rattle.lethe_manifest.specs.declared.manifest.Manifest.{Manifest}
 use Rattle.lethe_commit.specs.Clear.{ArePresent, IsCleared, remove_all}
 use Rattle.lethe_commit.specs.Gates.{gate_name}
 use Rattle.lethe_commit.specs.Switch.{manifest_name, HasGreatest, IsFree, HasNew, IsSwitched, older_names, placed, switched}
-use Rattle.lethe_commit.proofs.Placing.{gate≢manifest, manifest≢gate, gate≢gate}
-use Rattle.lethe_commit.proofs.Exchange.{manifest≢manifest, beside_placed}
+use Rattle.lethe_commit.proofs.Placing.{gate≢manifest}
+use Rattle.lethe_commit.proofs.Exchange.{beside_placed}
 use Rattle.lethe_recover.specs.Stored.{Stored, Segment, IsStored, segment_name, IsCited, IsSpare}
 use Rattle.lethe_recover.specs.Encodes.{Encodes, HasParts, AreSpare}
 use Rattle.lethe_recover.specs.Goes.{Goes}
@@ -31,7 +29,7 @@ use Rattle.lethe_recover.proofs.Frame.{gate≢segment, manifest≢segment, same_
 use Rattle.lethe_recover.proofs.Steps.{switch_encodes, one_name}
 use Rattle.lethe_recover.proofs.Replaying.{absent_of}
 use Rattle.lethe_recover.proofs.Reading.{pairs_of_one}
-use Rattle.lethe_recover.proofs.Going.{goes_leads, goes_then, goes_weaker}
+use Rattle.lethe_recover.proofs.Going.{goes_leads, goes_then}
 
 true≢false : true ≡ false → ⊥
 true≢false e = cc
@@ -180,7 +178,7 @@ module _ (s : Stored) (count : ℕ) (stored : IsStored s) (room : s.manifest.nex
               | inr ne_manifest ↦ elim (name_cases name (segment_name s.manifest.next)) [
                 | inl is_segment ↦ inr (inr (inl is_segment))
                 | inr ne_segment ↦ absurd (in_old not_old (gone_gate here) (gone_manifest here)
-                  (sym (ap is_some (beside_all name ne_manifest ne_gate (gone_gate here) (gone_manifest here) ∙ beside_new name ne_segment)) ∙ here))
+                    (sym (ap is_some (beside_all name ne_manifest ne_gate (gone_gate here) (gone_manifest here) ∙ beside_new name ne_segment)) ∙ here))
               ]
             ]
           ]
@@ -193,7 +191,7 @@ module _ (s : Stored) (count : ℕ) (stored : IsStored s) (room : s.manifest.nex
   module _ (s0 : Seen) (settled : IsSettled s0 s) (only : HasOnly s s0.directory) (s1 : Seen) (placing : Leads (IsCreated (segment_name s.manifest.next)) s0 s1) where
     pub place_moments : Goes Either s0 s1
     place_moments = goes_leads Either (IsCreated (segment_name s.manifest.next)) s0 s1 placing (λ d c here made.
-      inl (besides s d c (segment_name s.manifest.next ∷ []) (subst (λ x. Encodes x s) (sym (settled.synced d here)) settled.encodes)
+        inl (besides s d c (segment_name s.manifest.next ∷ []) (subst (λ x. Encodes x s) (sym (settled.synced d here)) settled.encodes)
         (λ x there. subst (IsSpare s) (one_name (segment_name s.manifest.next) x there) (fresh_spare s (segment_name s.manifest.next) stored (omega arith) (λ k. let clash : kinds.Segment ≡ kinds.Gate = k in cc)))
         (λ name none. made.others name none.0)))
 
@@ -205,7 +203,7 @@ module _ (s : Stored) (count : ℕ) (stored : IsStored s) (room : s.manifest.nex
         pub switch_moments : Goes Either s0 s2
         switch_moments = goes_then Either s0 s1 s2 place_moments
             (goes_leads Either (IsSwitched t.manifest.no (manifest_bytes t.manifest) (Some s.manifest.no)) s1 s2 switching (λ d c here left.
-              switch_left s0.directory settled.encodes only s1.directory done c (subst (λ x. IsSwitched t.manifest.no (manifest_bytes t.manifest) (Some s.manifest.no) x c) (synced d here) left)))
+            switch_left s0.directory settled.encodes only s1.directory done c (subst (λ x. IsSwitched t.manifest.no (manifest_bytes t.manifest) (Some s.manifest.no) x c) (synced d here) left)))
 
         module _ (new : (c : Directory) → Image s2 c → HasNew t.manifest.no (manifest_bytes t.manifest) c) where
           pub image_new : (c : Directory) → Image s2 c → Encodes c t
@@ -217,7 +215,7 @@ module _ (s : Stored) (count : ℕ) (stored : IsStored s) (room : s.manifest.nex
             pub clear_moments : Goes Either s0 s3
             clear_moments = goes_then Either s0 s2 s3 switch_moments
                 (goes_leads Either (IsCleared (segment_name s.active.no ∷ [])) s2 s3 clearing (λ e c here cleared.
-                  inr (besides t e c (segment_name s.active.no ∷ []) (image_new e here) (old_spare s0.directory settled.encodes only s1.directory done) cleared.others)))
+                inr (besides t e c (segment_name s.active.no ∷ []) (image_new e here) (old_spare s0.directory settled.encodes only s1.directory done) cleared.others)))
 
             pub settled_new : Image s2 s2.directory → s2.directory ≡ switched t.manifest.no (manifest_bytes t.manifest) (Some s.manifest.no) s1.directory → s3.directory ≡ remove_all (segment_name s.active.no ∷ []) s2.directory → IsSynced s3
                 → IsSettled s3 t × HasOnly t s3.directory

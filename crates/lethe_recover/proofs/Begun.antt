@@ -1,15 +1,12 @@
 -- The images of a disk while an empty store is made on it.
-use Rattle.std.proofs.Common.{◌≡◌, ◌≢◌, ◌<◌, ◌≤◌, ◌⊎◌, inl, inr, ℕ, ◌+◌, List, [], ◌∷◌, Option, Some, None, true, false, refl, sym, ap, ◌∙◌, subst, arith, Result}
-use Rattle.std.specs.Prelude.{Contains, IsSome, is_some}
+use Rattle.std.proofs.Common.{◌≡◌, ◌≢◌, ◌⊎◌, inl, inr, ℕ, List, [], Option, Some, None, true, false, refl, sym, ap, ◌∙◌, subst, arith}
+use Rattle.std.specs.Prelude.{is_some}
 use Rattle.std.specs.FinMap.{insert, keys}
 use Rattle.lethe_base.specs.Configuration.{IsConfig}
-use Rattle.lethe_base.specs.Limits.{max_place}
 use Rattle.lethe_base.specs.declared.config.Fields.{Fields}
-use Rattle.lethe_base.specs.declared.name.Kind.TheVariants as kinds
 use Rattle.lethe_base.specs.declared.name.Name.{Name}
-use Rattle.lethe_disk.specs.declared.disk.DiskRefused.{DiskRefused}
-use Rattle.lethe_disk.specs.Directory.{Directory, object, IsCreated, IsSame}
-use Rattle.lethe_disk.specs.Disk.{Seen, Image, IsSynced, Takes}
+use Rattle.lethe_disk.specs.Directory.{Directory, object, IsCreated}
+use Rattle.lethe_disk.specs.Disk.{Seen, Image, IsSynced}
 use Rattle.lethe_disk.specs.Runs.{Leads}
 use Rattle.lethe_disk.proofs.Objects.{name_cases, object_inserted, object_beside_insert, same_directory}
 use Rattle.lethe_segment.specs.Segments.{segment_bytes}
@@ -17,22 +14,20 @@ use Rattle.lethe_segment.proofs.Runs.{holds_spelling}
 use Rattle.lethe_manifest.specs.Manifests.{HasSpelling, manifest_bytes}
 use Rattle.lethe_commit.specs.Clear.{ArePresent, IsCleared, remove_all}
 use Rattle.lethe_commit.specs.Gates.{gate_name}
-use Rattle.lethe_commit.specs.Switch.{manifest_name, HasGreatest, IsFree, HasNew, IsSwitched, placed, switched}
-use Rattle.lethe_commit.proofs.Placing.{gate≢manifest, manifest≢gate, gate≢gate}
+use Rattle.lethe_commit.specs.Switch.{manifest_name, HasGreatest, IsFree, HasNew, IsSwitched, switched}
 use Rattle.lethe_commit.proofs.Exchange.{beside_placed}
 use Rattle.lethe_commit.proofs.Listed.{listed}
 use Rattle.lethe_commit.proofs.Removals.{all_absent, cleared_absent}
-use Rattle.lethe_recover.specs.Stored.{Stored, IsStored, segment_name, IsCited}
+use Rattle.lethe_recover.specs.Stored.{Stored, IsStored, segment_name}
 use Rattle.lethe_recover.specs.Encodes.{Encodes, HasParts}
 use Rattle.lethe_recover.specs.Goes.{Goes}
-use Rattle.lethe_recover.specs.Quiet.{IsQuiet}
 use Rattle.lethe_recover.specs.Settled.{IsSettled, HasOnly}
 use Rattle.lethe_recover.specs.Rewritten.{first_manifest, new_stored}
 use Rattle.lethe_recover.proofs.Frame.{gate≢segment, manifest≢segment}
 use Rattle.lethe_recover.proofs.Firsts.{empty_is_stored}
 use Rattle.lethe_recover.proofs.Steps.{first_switch_encodes}
 use Rattle.lethe_recover.proofs.Uncited.{all_present, apart_keys}
-use Rattle.lethe_recover.proofs.Going.{goes_leads, goes_quiet, goes_then, goes_weaker}
+use Rattle.lethe_recover.proofs.Going.{goes_leads}
 
 true≢false : true ≡ false → ⊥
 true≢false e = cc
@@ -73,7 +68,7 @@ module _ (config : Fields) (limits : IsConfig config) where
   module _ (s1 : Seen) (synced : IsSynced s1) (nothing : (name : Name) → object s1.directory name ≡ None) (s2 : Seen) (placing : Leads (IsCreated (segment_name 1)) s1 s2) where
     pub place_none : Goes (HasGreatest None) s1 s2
     place_none = goes_leads (HasGreatest None) (IsCreated (segment_name 1)) s1 s2 placing (λ d c here made k.
-      made.others (gate_name k) (gate≢segment k 1) ∙ ap (λ x. object x (gate_name k)) (synced d here) ∙ nothing (gate_name k))
+        made.others (gate_name k) (gate≢segment k 1) ∙ ap (λ x. object x (gate_name k)) (synced d here) ∙ nothing (gate_name k))
 
     module _ (placed_synced : IsSynced s2) (done : s2.directory ≡ insert s1.directory (segment_name 1) (segment_bytes 1 [])) where
       beside_new : (name : Name) → name ≢ segment_name 1 → object s2.directory name ≡ None
@@ -105,7 +100,7 @@ module _ (config : Fields) (limits : IsConfig config) where
       module _ (s3 : Seen) (switching : Leads (IsSwitched 2 (manifest_bytes (first_manifest config)) None) s2 s3) where
         pub switch_either : Goes Either s2 s3
         switch_either = goes_leads Either (IsSwitched 2 (manifest_bytes (first_manifest config)) None) s2 s3 switching (λ d c here left.
-          switched_either c (subst (λ x. IsSwitched 2 (manifest_bytes (first_manifest config)) None x c) (placed_synced d here) left))
+            switched_either c (subst (λ x. IsSwitched 2 (manifest_bytes (first_manifest config)) None x c) (placed_synced d here) left))
 
         module _ (new : (c : Directory) → Image s3 c → HasNew 2 (manifest_bytes (first_manifest config)) c) where
           pub image_new : (c : Directory) → Image s3 c → Encodes c t

@@ -4,9 +4,8 @@ use Rattle.std.specs.FinMap as finmap
 use Rattle.std.specs.FinMap.{len-empty, len-entries}
 use Rattle.std.specs.Ordering.{nat_cmp}
 use Rattle.std.specs.Prelude.{option_and_then}
-use Rattle.lethe_base.specs.History.{History}
 use Rattle.lethe_base.specs.Configuration.{IsConfig}
-use Rattle.lethe_base.specs.Layout.{Layout, new_layout}
+use Rattle.lethe_base.specs.Layout.{new_layout}
 use Rattle.lethe_base.specs.Shapes.{IsValidShape, shape_of}
 use Rattle.lethe_base.specs.Covers.{Covers}
 use Rattle.lethe_base.specs.Keys.{key_cmp}

@@ -1,5 +1,5 @@
 -- Runs at whose each moment something holds of all that a crash may leave.
-use Rattle.std.proofs.Common.{◌≡◌, ◌≤◌, ◌⊎◌, inl, inr, ℕ, sym, subst, arith}
+use Rattle.std.proofs.Common.{inl, inr, sym, subst, arith}
 use Rattle.std.proofs.lemmas.Bool.{cases_lt}
 use Rattle.lethe_disk.specs.Directory.{Directory, IsSame}
 use Rattle.lethe_disk.specs.Disk.{Seen, Image}

@@ -1,12 +1,11 @@
 -- What opening comes to.
 use Rattle.std.proofs.Common.{◌≡◌, ◌≤◌, ◌+◌, ◌⊎◌, inl, inr, ℕ, List, [], ◌∷◌, length, map, Option, Some, None, Result, Ok, Err, refl, sym, ap, ◌∙◌, subst, arith}
 use Rattle.std.specs.Prelude.{IfOk, IfErr}
-use Rattle.lethe_base.specs.Counts.{Rose}
 use Rattle.lethe_base.specs.Limits.{max_place}
 use Rattle.lethe_base.specs.History.{History, Change}
 use Rattle.lethe_base.specs.declared.config.Fields.{Fields}
 use Rattle.lethe_disk.specs.Directory.{Directory}
-use Rattle.lethe_disk.specs.Disk.{Seen, Image, IsSynced}
+use Rattle.lethe_disk.specs.Disk.{Seen, IsSynced}
 use Rattle.lethe_segment.specs.declared.record.Record.{Record}
 use Rattle.lethe_segment.specs.Segments.{segment_bytes}
 use Rattle.lethe_manifest.specs.declared.manifest.Manifest.{Manifest}
@@ -22,12 +21,12 @@ use Rattle.lethe_recover.specs.Encodes.{Encodes}
 use Rattle.lethe_recover.specs.Goes.{Goes}
 use Rattle.lethe_recover.specs.Kept.{IsFor, IsKept}
 use Rattle.lethe_recover.specs.Left.{IsHistoryOr}
-use Rattle.lethe_recover.specs.Loaded.{nothing, recovered_of, IsRead, IsLoaded, MayRefuse}
+use Rattle.lethe_recover.specs.Loaded.{IsRead, IsLoaded, IsInterrupted, MayRefuse}
 use Rattle.lethe_recover.specs.Quiet.{IsQuiet}
 use Rattle.lethe_recover.specs.Rewritten.{rewritten, new_stored}
 use Rattle.lethe_recover.specs.Settled.{IsSettled}
-use Rattle.lethe_recover.specs.Opening.{IsTold, IsThere, IsOpened, IsResumed, IsExhausted, MayNotOpen, IsCut, since_start}
-use Rattle.lethe_recover.proofs.Going.{goes_quiet, goes_then, goes_weaker}
+use Rattle.lethe_recover.specs.Opening.{IsTold, IsThere, IsResumed, IsExhausted, MayNotOpen, IsCut, since_start}
+use Rattle.lethe_recover.proofs.Going.{goes_quiet}
 use Rattle.lethe_recover.proofs.Quieting.{quiet_itself}
 use Rattle.lethe_recover.proofs.Unique.{none_or_some, none_frozen, one_stored, encodes_gated}
 use Rattle.lethe_recover.proofs.Firsts.{empty_stands}
@@ -53,6 +52,16 @@ since_may Tells config d before old now (recover.Damaged name) le may = may
 since_may Tells config d before old now (recover.Fault told_before told_now) le may = let rose = may.2 in (refl, may.1, omega (arith, le, rose))
 since_may Tells config d before old now recover.NoMemory le may = tt
 since_may Tells config d before old now (recover.OtherConfig kept) le may = may
+
+pub since_exact : (before old now : ℕ) (told why : RecoverRefused) → before ≤ old → (told ≡ why) ⊎ IsInterrupted old now told → (since_start before told ≡ since_start before why) ⊎ IsCut ⊥ before now (since_start before told)
+since_exact before old now told why le (inl same) = inl (ap (since_start before) same)
+since_exact before old now told why le (inr cut) = inr (by told cut)
+  where
+    by : (told : RecoverRefused) → IsInterrupted old now told → IsCut ⊥ before now (since_start before told)
+    by (recover.Damaged name) cut = absurd cut
+    by (recover.Fault told_before told_now) cut = let rose = cut.2 in (refl, cut.1, omega (arith, le, rose))
+    by recover.NoMemory cut = tt
+    by (recover.OtherConfig kept) cut = absurd cut
 
 pub cut_may : (Tells IsFull : Type 0) (config : Fields) (d : Directory) (before now : ℕ) → (IsFull → Tells → IsExhausted d) → (why : OpenWhy) → IsCut IsFull before now why → MayNotOpen Tells config d before now why
 cut_may Tells IsFull config d before now full (Damaged name) cut = absurd cut

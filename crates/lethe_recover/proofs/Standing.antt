@@ -1,9 +1,8 @@
 -- What is written anew stands for the same history.
-use Rattle.std.proofs.Common.{◌≡◌, ◌≤◌, ◌+◌, ◌-◌, ℕ, List, [], ◌∷◌, ◌++◌, length, map, max, Option, Some, None, refl, sym, ap, ◌∙◌, subst, arith}
+use Rattle.std.proofs.Common.{◌≡◌, ◌≤◌, ◌+◌, ◌-◌, ℕ, List, [], ◌∷◌, ◌++◌, length, map, max, Option, Some, refl, sym, ap, ◌∙◌, subst, arith}
 use Rattle.std.specs.Prelude.{suc, slice_get, filter_map, option_map}
 use Rattle.lethe_base.specs.History.{History}
 use Rattle.lethe_base.specs.Limits.{max_place}
-use Rattle.lethe_base.specs.Layout.{Layout}
 use Rattle.lethe_base.specs.Shapes.{IsValidShape, shape_of}
 use Rattle.lethe_base.specs.Covers.{Covers}
 use Rattle.lethe_segment.specs.declared.record.Record.{Record}

@@ -126,10 +126,13 @@ first_switch_encodes t d c none parts (inl un) = inl (λ k. elim (cases_eq k t.m
   | inr ne ↦ un.others (gate_name k) (gate≢manifest k t.manifest.no, (gate≢gate k t.manifest.no ne, tt)) ∙ none k
 ])
 first_switch_encodes t d c none parts (inr new) = inr (record {
-  greatest = (new.gate, λ k above. elim (new.older (gate_name k) (gate≢manifest k t.manifest.no, (gate≢gate k t.manifest.no (λ same. omega (arith, same, above)), tt))) [
-    | inl gone ↦ gone
-    | inr same ↦ same ∙ none k
-  ]);
+  greatest = (
+    new.gate,
+    λ k above. elim (new.older (gate_name k) (gate≢manifest k t.manifest.no, (gate≢gate k t.manifest.no (λ same. omega (arith, same, above)), tt))) [
+      | inl gone ↦ gone
+      | inr same ↦ same ∙ none k
+    ],
+  );
   manifest = new.manifest;
   parts = parts_framed d c t (λ name is. new.others name (segment_new t t.manifest.no name is)) parts;
 })

@@ -1,29 +1,26 @@
 -- What is listed of a directory beside what is cited.
-use Rattle.std.proofs.Common.{◌≡◌, ◌≢◌, ◌<◌, ◌⊎◌, ◌↔◌, inl, inr, ℕ, zero, suc, Bool, true, false, not, cond, T, List, [], ◌∷◌, map, filter, get_or, length, Option, Some, None, refl, sym, ap, ◌∙◌, subst, arith}
+use Rattle.std.proofs.Common.{◌≡◌, ◌≢◌, ◌⊎◌, inl, inr, ℕ, suc, Bool, true, false, not, cond, T, List, [], ◌∷◌, map, filter, get_or, Option, Some, None, refl, sym, ap, ◌∙◌, subst, arith}
 use Rattle.std.specs.Prelude.{Contains, IsSome, is_some, ◌||◌, ◌&&◌, IsSomeAnd}
 use Rattle.std.proofs.lemmas.Bool.{cases_Bool}
-use Rattle.std.specs.FinMap.{FinMap, keys, entries, entries_sorted, remove}
+use Rattle.std.specs.FinMap.{keys, entries, entries_sorted, remove}
 use Rattle.std.specs.FinMap.Entries.{below_all, is_sorted}
 use Rattle.std.specs.Ordering.{is_lt, is_eq}
 use Rattle.std.specs.Cmp.{tied_itself}
 use Rattle.lethe_base.specs.Names.{name_cmp, name_eq, name_eq_ties, name_total}
 use Rattle.lethe_base.specs.declared.name.Name.{Name}
 use Rattle.lethe_base.proofs.Newest.{first_or_rest, first_is}
-use Rattle.lethe_disk.specs.Directory.{Directory, object, IsNoneOf}
-use Rattle.lethe_disk.specs.Disk.{Seen, Image, IsSynced}
-use Rattle.lethe_disk.proofs.Objects.{same_name_itself, same_name_true, object_beside_remove, name_cases}
+use Rattle.lethe_disk.specs.Directory.{Directory, object}
+use Rattle.lethe_disk.proofs.Objects.{same_name_itself, same_name_true, object_beside_remove}
 use Rattle.lethe_manifest.specs.declared.manifest.Manifest.{Manifest}
 use Rattle.lethe_commit.specs.Clear.{ArePresent, remove_all}
 use Rattle.lethe_commit.specs.Gates.{gate_name}
 use Rattle.lethe_commit.specs.Switch.{manifest_name}
 use Rattle.lethe_commit.proofs.Listed.{listed}
-use Rattle.lethe_commit.proofs.Removals.{all_absent, cleared_absent, cleared_others}
-use Rattle.lethe_recover.specs.Stored.{Stored, Segment, IsStored, segment_name, IsSegmentOf, IsCited, IsSpare}
+use Rattle.lethe_commit.proofs.Removals.{all_absent, cleared_absent}
+use Rattle.lethe_recover.specs.Stored.{Stored, Segment, IsStored, segment_name, IsCited}
 use Rattle.lethe_recover.specs.Encodes.{Encodes, AreSpare}
 use Rattle.lethe_recover.specs.Settled.{is_cited, HasOnly}
 use Rattle.lethe_recover.proofs.Unique.{none_frozen, one_cited}
-use Rattle.lethe_recover.proofs.Frame.{none_of}
-use Rattle.lethe_recover.proofs.Replaying.{absent_of}
 
 -- Names that differ from each other
 

@@ -24,11 +24,7 @@ use std::alloc::Global;
 /// # Errors
 ///
 /// `NoMemory` where there was no memory: then there is no gate. `Failed` where the disk failed: then there is none, or the new store.
-pub fn begin<D: Disk>(
-    alloc: Global,
-    disk: &mut D,
-    config: &Config,
-) -> Result<(), DiskRefused>
+pub fn begin<D: Disk>(alloc: Global, disk: &mut D, config: &Config) -> Result<(), DiskRefused>
     requires none { D.tells → IsSynced (D.seen disk.old) × HasGreatest None (D.seen disk.old).directory }
 
     // A crash at any moment of the call leaves no gate, or the new store.

@@ -1,6 +1,6 @@
 //! Opening a store.
 ghost use Rattle.std.specs.Prelude as prelude;
-ghost use Rattle.std.specs.Prelude.{◌≡◌, ◌≤◌, ◌<◌, ◌+◌, ◌⊎◌, ◌∷◌, [], max, None, Option, IfErr, IfOk};
+ghost use Rattle.std.specs.Prelude.{◌≡◌, ◌≤◌, ◌<◌, ◌+◌, ◌⊎◌, ◌∷◌, [], max, None, Option, IfErr, IfOk, MatchResult};
 ghost use Rattle.lethe_segment.specs.declared.record.Record.{Record};
 ghost use Rattle.lethe_base.specs.Counts.{Rose};
 ghost use Rattle.lethe_base.specs.Limits.{max_place};
@@ -14,6 +14,9 @@ ghost use Rattle.lethe_recover.specs.Stored.{Stored, count_of};
 ghost use Rattle.lethe_recover.specs.Goes.{Goes};
 ghost use Rattle.lethe_recover.specs.Kept.{IsFor, IsKept};
 ghost use Rattle.lethe_recover.specs.Left.{IsLeft, IsKeptOr};
+ghost use Rattle.lethe_recover.specs.Loaded.{HasReason};
+ghost use Rattle.lethe_recover.specs.Quiet.{IsQuiet};
+ghost use Rattle.lethe_recover.specs.declared.refused.RecoverRefused.{RecoverRefused};
 ghost use Rattle.lethe_recover.specs.Rewritten.{rewritten, new_stored};
 ghost use Rattle.lethe_recover.specs.Settled.{IsSettled};
 ghost use Rattle.lethe_recover.specs.Opening.{IsThere, IsOpened, IsResumed, MayNotOpen, IsCut, since_start};
@@ -71,7 +74,15 @@ pub fn open<D: Disk>(alloc: Global, disk: &mut D, config: &Config) -> Result<Ope
     // A crash at any moment of the call, whatever it answers, leaves a disk that is kept for one of the two.
     ensures any_moment { D.tells → (h : History) (change : Option Change) → IsLeft (D.seen disk.old) h change
         → Goes (IsKeptOr h change) (D.seen disk.old) (D.seen disk.new) }
+
+    // A refusal has its reason.
     ensures refused { IfErr result (MayNotOpen D.tells config.now (D.seen disk.old).directory (D.faults disk.old) (D.faults disk.new)) }
+
+    // Where the directory has damage or another configuration, that is told, unless the disk fails or memory runs out, and nothing is touched.
+    ensures exact { D.tells → (why : RecoverRefused) → HasReason config.now (D.seen disk.old).directory why
+        → MatchResult result (λ opened. ⊥) (λ told. (told ≡ since_start (D.faults disk.old) why) ⊎ IsCut ⊥ (D.faults disk.old) (D.faults disk.new) told) }
+    ensures untouched { D.tells → (why : RecoverRefused) → HasReason config.now (D.seen disk.old).directory why
+        → IsQuiet (D.seen disk.old) (D.seen disk.new) }
     ensures faults { D.faults disk.old ≤ D.faults disk.new }
 {
     let before = disk.faults();
@@ -96,6 +107,10 @@ fn open_synced<D: Disk>(
     ensures any_moment { D.tells → (h : History) → IsKept (D.seen disk.old).directory h
         → Goes (λ c. IsKept c h) (D.seen disk.old) (D.seen disk.new) }
     ensures refused { IfErr result (MayNotOpen D.tells config.now (D.seen disk.old).directory before (D.faults disk.new)) }
+    ensures exact { D.tells → (why : RecoverRefused) → HasReason config.now (D.seen disk.old).directory why
+        → MatchResult result (λ opened. ⊥) (λ told. (told ≡ since_start before why) ⊎ IsCut ⊥ before (D.faults disk.new) told) }
+    ensures untouched { D.tells → (why : RecoverRefused) → HasReason config.now (D.seen disk.old).directory why
+        → IsQuiet (D.seen disk.old) (D.seen disk.new) }
     ensures faults { D.faults disk.old ≤ D.faults disk.new }
 {
     let read = match load(alloc, disk, config) {

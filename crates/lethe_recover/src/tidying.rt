@@ -18,11 +18,7 @@ use std::alloc::Global;
 /// # Errors
 ///
 /// `NoMemory` before any change. `Failed` where the disk failed: then each object that counts for nothing may be there or not.
-pub fn tidy<D: Disk>(
-    alloc: Global,
-    disk: &mut D,
-    manifest: &Manifest,
-) -> Result<(), DiskRefused>
+pub fn tidy<D: Disk>(alloc: Global, disk: &mut D, manifest: &Manifest) -> Result<(), DiskRefused>
     requires spelled { HasSpelling manifest.now }
     requires settled { D.tells → (s : Stored) × IsSettled (D.seen disk.old) s × (s.manifest ≡ manifest.now) }
 
@@ -42,12 +38,7 @@ pub fn tidy<D: Disk>(
 }
 
 // The names that are neither the gate's nor the manifest's of this number, nor the segment's.
-fn uncited(
-    alloc: Global,
-    names: &[Name],
-    number: u64,
-    segment: u64,
-) -> Result<Vec<Name>, NoMemory>
+fn uncited(alloc: Global, names: &[Name], number: u64, segment: u64) -> Result<Vec<Name>, NoMemory>
     ensures { IfOk result (λ rest. rest.items ≡ filter (λ name. not (is_cited number segment name)) names.now) }
 {
     let mut rest = Vec::new(alloc);

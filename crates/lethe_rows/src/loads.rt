@@ -1,9 +1,9 @@
-//! Reading a disk back: what is there, what is damaged, another configuration, and faults.
+//! Reading a disk back, and opening it: what is there, what is damaged, another configuration, and faults.
 
 use lethe_base::{Config, Fields, Kind, Name, Pick};
 use lethe_disk::Disk;
 use lethe_memdisk::MemDisk;
-use lethe_recover::{RecoverRefused, load};
+use lethe_recover::{OpenWhy, RecoverRefused, load, open};
 use std::alloc::Global;
 use std::test::Fail;
 
@@ -52,7 +52,7 @@ struct Parts {
 }
 
 fn disk_of(alloc: Global, parts: Parts, failing: Vec<u64>) -> Result<MemDisk, Fail> {
-    let mut disk = MemDisk::new(alloc, 30, failing)?;
+    let mut disk = MemDisk::new(alloc, 100, failing)?;
     for gate in parts.gates {
         add(alloc, &mut disk, Kind::Gate, *gate, &[])?;
     }
@@ -187,5 +187,70 @@ fn another_configuration_and_faults_are_told(rt: HostRuntime) -> Result<(), Fail
         });
         assert_eq!(rt; records(alloc, &mut disk, small())?, fault);
     }
+    Ok(())
+}
+
+const EMPTY: Parts = Parts {
+    gates: &[],
+    manifest: None,
+    segment: None,
+};
+
+// How many changes there are, the segment, its end and the next number, or why nothing is opened.
+fn opened(
+    alloc: Global,
+    disk: &mut MemDisk,
+    fields: Fields,
+) -> Result<Result<[u64; 4], OpenWhy>, Fail> {
+    let config = Config::new(fields).ok().ok_or("a configuration")?;
+    Ok(match open(alloc, disk, &config) {
+        Ok(store) => Ok([store.count, store.segment, store.end, store.next]),
+        Err(why) => Err(why),
+    })
+}
+
+#[test]
+fn a_store_is_opened_and_opened_again(rt: HostRuntime) -> Result<(), Fail> {
+    let alloc = rt.alloc();
+    for (parts, first, second) in [
+        (EMPTY, [0, 1, 11, 3], [0, 3, 11, 5]),
+        (
+            Parts {
+                gates: &[],
+                ..WHOLE
+            },
+            [0, 1, 11, 3],
+            [0, 3, 11, 5],
+        ),
+        (WHOLE, [1, 3, 35, 5], [1, 5, 35, 7]),
+    ] {
+        let mut disk = disk_of(alloc, parts, Vec::new(alloc))?;
+        assert_eq!(rt; opened(alloc, &mut disk, small())?, Ok(first));
+        assert_eq!(rt; opened(alloc, &mut disk, small())?, Ok(second));
+    }
+    Ok(())
+}
+
+#[test]
+fn what_is_not_opened_stays(rt: HostRuntime) -> Result<(), Fail> {
+    let alloc = rt.alloc();
+    let mut disk = disk_of(alloc, WHOLE, Vec::new(alloc))?;
+    let kept = Config::new(small()).ok().ok_or("a configuration")?;
+    let other = Err(OpenWhy::OtherConfig { kept });
+    assert_eq!(rt; opened(alloc, &mut disk, Fields::default())?, other);
+    assert_eq!(rt; opened(alloc, &mut disk, small())?, Ok([1, 3, 35, 5]));
+    let missing = Parts {
+        segment: None,
+        ..WHOLE
+    };
+    let damaged = Err(OpenWhy::Damaged {
+        name: Name {
+            kind: Kind::Segment,
+            no: 1,
+        },
+    });
+    let mut disk = disk_of(alloc, missing, Vec::new(alloc))?;
+    assert_eq!(rt; opened(alloc, &mut disk, small())?, damaged);
+    assert_eq!(rt; opened(alloc, &mut disk, small())?, damaged);
     Ok(())
 }

@@ -1,13 +1,12 @@
-use Rattle.std.proofs.Common.{◌≡◌, ◌⊎◌, inl, ℕ, List, [], None, sym, ap, subst, ◌∙◌}
+use Rattle.std.proofs.Common.{◌≡◌, ◌⊎◌, inl, [], None, sym, ap, subst, ◌∙◌}
 use Rattle.std.specs.FinMap.{insert}
 use Rattle.lethe_base.specs.Configuration.{IsConfig}
 use Rattle.lethe_disk.specs.Directory.{Directory}
-use Rattle.lethe_disk.specs.Disk.{Seen, Image, IsSynced}
+use Rattle.lethe_disk.specs.Disk.{Image, IsSynced}
 use Rattle.lethe_disk.specs.Runs.{Leads}
 use Rattle.lethe_segment.specs.Segments.{segment_bytes}
 use Rattle.lethe_manifest.specs.declared.manifest.Manifest.{Manifest}
 use Rattle.lethe_manifest.specs.Manifests.{manifest_bytes}
-use Rattle.lethe_commit.specs.Clear.{IsCleared, remove_all}
 use Rattle.lethe_commit.specs.Switch.{HasGreatest, IsFree, IsSwitched, HasNew, switched}
 use Rattle.lethe_recover.specs.Stored.{segment_name}
 use Rattle.lethe_recover.specs.Encodes.{Encodes}
@@ -37,10 +36,10 @@ returns-in_err-switch-clause-any_moment g c = λ told.
     let free_next : IsFree s2 c.in_ok-manifest.manifest.no None = subst (λ (x : Manifest). IsFree s2 x.no None) (sym manifest_is) free in
     let switching : Leads (IsSwitched 2 (manifest_bytes (first_manifest config)) None) s2 s3 = subst (λ (x : Manifest). Leads (IsSwitched x.no (manifest_bytes x) None) s2 s3) manifest_is (c.switch.ensures.any_moment told None free_next) in
     let to_switch : Goes (λ x. HasGreatest None x ⊎ Encodes x (new_stored config)) s0 s3 =
-          goes_then (λ x. HasGreatest None x ⊎ Encodes x (new_stored config)) s0 s2 s3
-          (goes_weaker (HasGreatest None) (λ x. HasGreatest None x ⊎ Encodes x (new_stored config)) s0 s2 (λ x none. inl none)
-            (goes_then (HasGreatest None) s0 s1 s2 (c.remove_everything.ensures.any_moment told) (place_none config limits s1 empty nothing s2 placing)))
-          (switch_either config limits s1 empty nothing s2 placing synced done s3 switching) in
+    goes_then (λ x. HasGreatest None x ⊎ Encodes x (new_stored config)) s0 s2 s3
+    (goes_weaker (HasGreatest None) (λ x. HasGreatest None x ⊎ Encodes x (new_stored config)) s0 s2 (λ x none. inl none)
+    (goes_then (HasGreatest None) s0 s1 s2 (c.remove_everything.ensures.any_moment told) (place_none config limits s1 empty nothing s2 placing)))
+    (switch_either config limits s1 empty nothing s2 placing synced done s3 switching) in
     to_switch
 
 pub returns-clause-any_moment : goal.returns-clause-any_moment
@@ -61,10 +60,10 @@ returns-clause-any_moment g c = λ told.
     let free_next : IsFree s2 c.in_ok-manifest.manifest.no None = subst (λ (x : Manifest). IsFree s2 x.no None) (sym manifest_is) free in
     let switching : Leads (IsSwitched 2 (manifest_bytes (first_manifest config)) None) s2 s3 = subst (λ (x : Manifest). Leads (IsSwitched x.no (manifest_bytes x) None) s2 s3) manifest_is (c.switch.ensures.any_moment told None free_next) in
     let to_switch : Goes (λ x. HasGreatest None x ⊎ Encodes x (new_stored config)) s0 s3 =
-          goes_then (λ x. HasGreatest None x ⊎ Encodes x (new_stored config)) s0 s2 s3
-          (goes_weaker (HasGreatest None) (λ x. HasGreatest None x ⊎ Encodes x (new_stored config)) s0 s2 (λ x none. inl none)
-            (goes_then (HasGreatest None) s0 s1 s2 (c.remove_everything.ensures.any_moment told) (place_none config limits s1 empty nothing s2 placing)))
-          (switch_either config limits s1 empty nothing s2 placing synced done s3 switching) in
+    goes_then (λ x. HasGreatest None x ⊎ Encodes x (new_stored config)) s0 s2 s3
+    (goes_weaker (HasGreatest None) (λ x. HasGreatest None x ⊎ Encodes x (new_stored config)) s0 s2 (λ x none. inl none)
+    (goes_then (HasGreatest None) s0 s1 s2 (c.remove_everything.ensures.any_moment told) (place_none config limits s1 empty nothing s2 placing)))
+    (switch_either config limits s1 empty nothing s2 placing synced done s3 switching) in
     let s4 = g.D.Disk.seen c.clear.new.disk in
     let new : (x : Directory) → Image s3 x → HasNew 2 (manifest_bytes (first_manifest config)) x = subst (λ (n : Manifest). (x : Directory) → Image s3 x → HasNew n.no (manifest_bytes n) x) manifest_is (c.in_ok-switch.ensures.new told) in
     goes_then (λ x. HasGreatest None x ⊎ Encodes x (new_stored config)) s0 s3 s4 to_switch
@@ -88,14 +87,14 @@ returns-clause-done g c = λ told.
     let free_next : IsFree s2 c.in_ok-manifest.manifest.no None = subst (λ (x : Manifest). IsFree s2 x.no None) (sym manifest_is) free in
     let switching : Leads (IsSwitched 2 (manifest_bytes (first_manifest config)) None) s2 s3 = subst (λ (x : Manifest). Leads (IsSwitched x.no (manifest_bytes x) None) s2 s3) manifest_is (c.switch.ensures.any_moment told None free_next) in
     let to_switch : Goes (λ x. HasGreatest None x ⊎ Encodes x (new_stored config)) s0 s3 =
-          goes_then (λ x. HasGreatest None x ⊎ Encodes x (new_stored config)) s0 s2 s3
-          (goes_weaker (HasGreatest None) (λ x. HasGreatest None x ⊎ Encodes x (new_stored config)) s0 s2 (λ x none. inl none)
-            (goes_then (HasGreatest None) s0 s1 s2 (c.remove_everything.ensures.any_moment told) (place_none config limits s1 empty nothing s2 placing)))
-          (switch_either config limits s1 empty nothing s2 placing synced done s3 switching) in
+    goes_then (λ x. HasGreatest None x ⊎ Encodes x (new_stored config)) s0 s2 s3
+    (goes_weaker (HasGreatest None) (λ x. HasGreatest None x ⊎ Encodes x (new_stored config)) s0 s2 (λ x none. inl none)
+    (goes_then (HasGreatest None) s0 s1 s2 (c.remove_everything.ensures.any_moment told) (place_none config limits s1 empty nothing s2 placing)))
+    (switch_either config limits s1 empty nothing s2 placing synced done s3 switching) in
     let s4 = g.D.Disk.seen c.clear.new.disk in
     let new : (x : Directory) → Image s3 x → HasNew 2 (manifest_bytes (first_manifest config)) x = subst (λ (n : Manifest). (x : Directory) → Image s3 x → HasNew n.no (manifest_bytes n) x) manifest_is (c.in_ok-switch.ensures.new told) in
     let switched_is : s3.directory ≡ switched 2 (manifest_bytes (first_manifest config)) None s2.directory =
-          subst (λ (n : Manifest). s3.directory ≡ switched n.no (manifest_bytes n) None s2.directory) manifest_is (c.in_ok-switch.ensures.done told None free_next) in
+    subst (λ (n : Manifest). s3.directory ≡ switched n.no (manifest_bytes n) None s2.directory) manifest_is (c.in_ok-switch.ensures.done told None free_next) in
     let here = (g.met.D.Disk g.world.𝓛 g.world.𝓜 g.world.𝓡 ((λ s x. x), (λ x. x), (λ x. x), λ x. x)).itself told c.switch.new.disk in
     on_ok_both c.clear.result (s4.directory ≡ s3.directory) (IsSynced s4) (IsSettled s4 (new_stored config) × HasOnly (new_stored config) s4.directory) (c.clear.ensures.done told) (c.clear.ensures.synced told) (λ cleared now.
-      settled_new config limits s1 empty nothing s2 placing synced done s3 switching new s4 (c.clear.ensures.any_moment told) here switched_is cleared now)
+    settled_new config limits s1 empty nothing s2 placing synced done s3 switching new s4 (c.clear.ensures.any_moment told) here switched_is cleared now)

@@ -1,7 +1,7 @@
-use Rattle.std.proofs.Common.{◌≡◌, None, List, sym, ap, subst, ◌∙◌}
+use Rattle.std.proofs.Common.{◌≡◌, None, sym, ap, subst, ◌∙◌}
 use Rattle.std.specs.FinMap.{keys}
 use Rattle.lethe_base.specs.declared.name.Name.{Name}
-use Rattle.lethe_disk.specs.Directory.{Directory, object}
+use Rattle.lethe_disk.specs.Directory.{object}
 use Rattle.lethe_disk.proofs.Moments.{same_synced}
 use Rattle.lethe_commit.specs.Clear.{ArePresent, IsCleared, remove_all}
 use Rattle.lethe_commit.specs.Switch.{HasGreatest}

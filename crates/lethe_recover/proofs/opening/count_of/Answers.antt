@@ -1,4 +1,4 @@
-use Rattle.std.proofs.Common.{◌≡◌, max, Some, sym, ap, ◌∙◌}
+use Rattle.std.proofs.Common.{max, sym, ap, ◌∙◌}
 use Rattle.lethe_recover.proofs.Standing.{last_is}
 use Rattle.lethe_recover.proofs.opening.count_of.Goals as goal
 

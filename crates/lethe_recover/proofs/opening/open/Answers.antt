@@ -1,10 +1,11 @@
-use Rattle.std.proofs.Common.{◌≡◌, None, sym, subst}
+use Rattle.std.proofs.Common.{◌≡◌, ◌⊎◌, None, sym, subst}
 use Rattle.lethe_recover.specs.Kept.{IsKept}
 use Rattle.lethe_recover.specs.Left.{IsKeptOr}
-use Rattle.std.specs.Prelude.{IfErr}
-use Rattle.lethe_recover.specs.Opening.{IsResumed, MayNotOpen}
+use Rattle.lethe_recover.specs.Loaded.{HasReason}
+use Rattle.std.specs.Prelude.{IfErr, MatchResult}
+use Rattle.lethe_recover.specs.Opening.{IsResumed, MayNotOpen, IsCut, since_start}
 use Rattle.lethe_recover.proofs.Going.{goes_quiet, goes_then, goes_weaker}
-use Rattle.lethe_recover.proofs.Quieting.{quiet_call}
+use Rattle.lethe_recover.proofs.Quieting.{quiet_call, quiet_then}
 use Rattle.lethe_recover.proofs.Resumed.{ok_weaker, err_weaker, same_may, from_left}
 use Rattle.lethe_recover.proofs.opening.open.Goals as goal
 
@@ -25,8 +26,8 @@ returns-in-Ok-clause-any_moment g c = λ told h change left.
     let now = left.now in
     let kept : IsKept s1.directory now.0 = subst (λ x. IsKept x now.0) (sym (c.sync.ensures.directory told)) now.2 in
     goes_then (IsKeptOr h change) s0 s1 s2
-      (goes_quiet (IsKeptOr h change) s0 s1 (quiet_call c.sync.result s0 s1 (c.sync.ensures.call told) (c.sync.ensures.directory told)) left.images)
-      (goes_weaker (λ x. IsKept x now.0) (IsKeptOr h change) s1 s2 (λ x k. (now.0, now.1, k)) (c.open_synced.ensures.any_moment told now.0 kept))
+    (goes_quiet (IsKeptOr h change) s0 s1 (quiet_call c.sync.result s0 s1 (c.sync.ensures.call told) (c.sync.ensures.directory told)) left.images)
+    (goes_weaker (λ x. IsKept x now.0) (IsKeptOr h change) s1 s2 (λ x k. (now.0, now.1, k)) (c.open_synced.ensures.any_moment told now.0 kept))
 
 pub returns-in-Ok-clause-refused : goal.returns-in-Ok-clause-refused
 returns-in-Ok-clause-refused g c =
@@ -36,5 +37,25 @@ returns-in-Ok-clause-refused g c =
     let now = g.D.Disk.faults c.open_synced.new.disk in
     let before = c.faults-before.result in
     subst (λ b. IfErr c.open_synced.result (MayNotOpen g.D.Disk.tells config d b now)) c.faults-before.ensures
-      (err_weaker c.open_synced.result (MayNotOpen g.D.Disk.tells config s1.directory before now) (MayNotOpen g.D.Disk.tells config d before now) c.open_synced.ensures.refused
-        (same_may g.D.Disk.tells config s1.directory d before now (λ told. c.sync.ensures.directory told)))
+    (err_weaker c.open_synced.result (MayNotOpen g.D.Disk.tells config s1.directory before now) (MayNotOpen g.D.Disk.tells config d before now) c.open_synced.ensures.refused
+    (same_may g.D.Disk.tells config s1.directory d before now (λ told. c.sync.ensures.directory told)))
+
+pub returns-in-Ok-clause-exact : goal.returns-in-Ok-clause-exact
+returns-in-Ok-clause-exact g c = λ told why reason.
+    let config = c.args.config.now in
+    let now = g.D.Disk.faults c.open_synced.new.disk in
+    subst (λ b. MatchResult c.open_synced.result (λ opened. ⊥) (λ x. (x ≡ since_start b why) ⊎ IsCut ⊥ b now x)) c.faults-before.ensures
+    (c.open_synced.ensures.exact told why (subst (λ d. HasReason config d why) (sym (c.sync.ensures.directory told)) reason))
+
+pub returns-in-Ok-clause-untouched : goal.returns-in-Ok-clause-untouched
+returns-in-Ok-clause-untouched g c = λ told why reason.
+    let s0 = g.D.Disk.seen c.args.disk.now in
+    let s1 = g.D.Disk.seen c.sync.new.self in
+    let s2 = g.D.Disk.seen c.open_synced.new.disk in
+    let config = c.args.config.now in
+    quiet_then s0 s1 s2 (quiet_call c.sync.result s0 s1 (c.sync.ensures.call told) (c.sync.ensures.directory told))
+    (c.open_synced.ensures.untouched told why (subst (λ d. HasReason config d why) (sym (c.sync.ensures.directory told)) reason))
+
+pub returns-in-Err-clause-untouched : goal.returns-in-Err-clause-untouched
+returns-in-Err-clause-untouched g c = λ told why reason.
+    quiet_call c.sync.result (g.D.Disk.seen c.args.disk.now) (g.D.Disk.seen c.sync.new.self) (c.sync.ensures.call told) (c.sync.ensures.directory told)

@@ -1,12 +1,12 @@
-use Rattle.std.proofs.Common.{◌≡◌, ◌≤◌, ◌+◌, None, sym, subst}
+use Rattle.std.proofs.Common.{◌≡◌, ◌≤◌, ◌+◌, ◌⊎◌, None, sym, subst}
 use Rattle.lethe_base.specs.Limits.{max_place}
 use Rattle.lethe_recover.specs.Stored.{count_of}
 use Rattle.lethe_recover.specs.Goes.{Goes}
 use Rattle.lethe_recover.specs.Kept.{IsKept}
 use Rattle.lethe_recover.specs.Rewritten.{rewritten, new_stored}
-use Rattle.lethe_recover.specs.Opening.{IsThere, IsOpened, IsResumed, MayNotOpen, IsCut}
+use Rattle.lethe_recover.specs.Opening.{IsThere, IsOpened, IsResumed, MayNotOpen, IsCut, since_start}
 use Rattle.lethe_recover.proofs.Going.{goes_then}
-use Rattle.lethe_recover.proofs.Resumed.{ok_weaker, err_weaker, since_may, cut_may, new_resumed, kept_of_none, kept_for, resumed_of, read_some, read_none, manifest_of, segments_are, exhausted_of, settled_again, kept_goes}
+use Rattle.lethe_recover.proofs.Resumed.{ok_weaker, err_weaker, since_may, since_exact, cut_may, new_resumed, kept_of_none, kept_for, resumed_of, read_some, read_none, manifest_of, segments_are, exhausted_of, settled_again, kept_goes}
 use Rattle.lethe_recover.proofs.opening.open_synced.Goals as goal
 
 pub returns-in-Err-clause-any_moment : goal.returns-in-Err-clause-any_moment
@@ -18,7 +18,7 @@ returns-in-Err-clause-refused g c =
     let d = (g.D.Disk.seen c.args.disk.now).directory in
     let now = g.D.Disk.faults c.load.new.disk in
     subst (MayNotOpen g.D.Disk.tells c.args.config.now d c.args.before now) (sym c.since_start.ensures)
-      (since_may g.D.Disk.tells c.args.config.now d c.args.before (g.D.Disk.faults c.args.disk.now) now c.in-Err.why c.requires.before c.in-Err.ensures.refused)
+    (since_may g.D.Disk.tells c.args.config.now d c.args.before (g.D.Disk.faults c.args.disk.now) now c.in-Err.why c.requires.before c.in-Err.ensures.refused)
 
 pub resume-requires-clause-settled : goal.resume-requires-clause-settled
 resume-requires-clause-settled g c κs within = λ told.
@@ -51,7 +51,7 @@ returns-in-None-clause-any_moment g c = λ told h kept.
     let none = read_none c.args.config.now s0.directory c.in-Ok.read c.in-None.is (c.in-Ok.ensures.found told) in
     let empty = kept_of_none s0.directory h none kept in
     goes_then (λ x. IsKept x h) s0 s1 s2 (kept_goes h s0 s1 (c.load.ensures.quiet told) (c.requires.synced told) kept)
-      (subst (λ k. Goes (λ x. IsKept x k) s1 s2) (sym empty) (c.start.ensures.any_moment told))
+    (subst (λ k. Goes (λ x. IsKept x k) s1 s2) (sym empty) (c.start.ensures.any_moment told))
 
 pub returns-in-Some-clause-opened : goal.returns-in-Some-clause-opened
 returns-in-Some-clause-opened g c = λ told.
@@ -68,7 +68,7 @@ returns-in-Some-clause-opened g c = λ told.
     let held = sym (c.only-records.ensures s.active.records (segments_are config d c.in-Ok.read there)) in
     let s2 = g.D.Disk.seen c.resume.new.disk in
     ok_weaker c.resume.result (IsThere s2 (rewritten s (count_of s))) (IsOpened config s2) (c.resume.ensures.there told s settled same held) (λ opened is.
-      record { s = rewritten s (count_of s); settled = is.settled; only = is.only; config_is = there.config_is; told = is.told })
+    record { s = rewritten s (count_of s); settled = is.settled; only = is.only; config_is = there.config_is; told = is.told })
 
 pub returns-in-Some-clause-resumed : goal.returns-in-Some-clause-resumed
 returns-in-Some-clause-resumed g c = λ told h kept.
@@ -111,5 +111,26 @@ returns-in-Some-clause-refused g c =
     let config = c.args.config.now in
     let now = g.D.Disk.faults c.resume.new.disk in
     err_weaker c.resume.result (IsCut (max_place ≤ m.next + 1) c.args.before now) (MayNotOpen g.D.Disk.tells config d c.args.before now) c.resume.ensures.refused
-      (cut_may g.D.Disk.tells (max_place ≤ m.next + 1) config d c.args.before now (λ full told.
-        exhausted_of config d c.in-Ok.read (read_some config d c.in-Ok.read m c.in-Some.is (c.in-Ok.ensures.found told)) m c.in-Some.is full))
+    (cut_may g.D.Disk.tells (max_place ≤ m.next + 1) config d c.args.before now (λ full told.
+    exhausted_of config d c.in-Ok.read (read_some config d c.in-Ok.read m c.in-Some.is (c.in-Ok.ensures.found told)) m c.in-Some.is full))
+
+pub returns-in-Err-clause-exact : goal.returns-in-Err-clause-exact
+returns-in-Err-clause-exact g c = λ told why reason.
+    let now = g.D.Disk.faults c.load.new.disk in
+    subst (λ x. (x ≡ since_start c.args.before why) ⊎ IsCut ⊥ c.args.before now x) (sym c.since_start.ensures)
+    (since_exact c.args.before (g.D.Disk.faults c.args.disk.now) now c.in-Err.why why c.requires.before (c.in-Err.ensures.exact told why reason))
+
+pub returns-in-Err-clause-untouched : goal.returns-in-Err-clause-untouched
+returns-in-Err-clause-untouched g c = λ told why reason. c.load.ensures.quiet told
+
+pub returns-in-None-clause-exact : goal.returns-in-None-clause-exact
+returns-in-None-clause-exact g c = λ told why reason. absurd (c.in-Ok.ensures.exact told why reason)
+
+pub returns-in-None-clause-untouched : goal.returns-in-None-clause-untouched
+returns-in-None-clause-untouched g c = λ told why reason. absurd (c.in-Ok.ensures.exact told why reason)
+
+pub returns-in-Some-clause-exact : goal.returns-in-Some-clause-exact
+returns-in-Some-clause-exact g c = λ told why reason. absurd (c.in-Ok.ensures.exact told why reason)
+
+pub returns-in-Some-clause-untouched : goal.returns-in-Some-clause-untouched
+returns-in-Some-clause-untouched g c = λ told why reason. absurd (c.in-Ok.ensures.exact told why reason)

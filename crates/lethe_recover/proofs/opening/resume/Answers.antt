@@ -33,13 +33,13 @@ returns-in-Ok-clause-any_moment g c = λ told s settled same held h stands.
     let tidied = c.in_default.ensures.done told s settled same in
     let room : s.manifest.next + 2 ≤ max_place = subst (λ (x : Manifest). x.next + 2 ≤ max_place) (sym same) (room_of m.next c.if-manifest-ge-MAX_PLACE.false) in
     let counted : c.count_of-count.result ≡ count_of s =
-          c.count_of-count.ensures ∙ ap (λ records. max m.count (last_seq 0 records)) c.items.ensures ∙ count_is s m c.args.records settled.stored same held in
+    c.count_of-count.ensures ∙ ap (λ records. max m.count (last_seq 0 records)) c.items.ensures ∙ count_is s m c.args.records settled.stored same held in
     let writing : Goes (λ x. Encodes x s ⊎ Encodes x (rewritten s (count_of s))) s1 s2 =
-          subst (λ n. Goes (λ x. Encodes x s ⊎ Encodes x (rewritten s n)) s1 s2) counted (c.rewrite.ensures.any_moment told s tidied.0 tidied.1 same (held ∙ sym c.items-2.ensures)) in
+    subst (λ n. Goes (λ x. Encodes x s ⊎ Encodes x (rewritten s n)) s1 s2) counted (c.rewrite.ensures.any_moment told s tidied.0 tidied.1 same (held ∙ sym c.items-2.ensures)) in
     let anew = rewritten_stored s (count_of s) settled.stored room (count_fits s settled.stored) in
     goes_then (λ x. IsKept x h) s0 s1 s2
-      (goes_weaker (λ x. Encodes x s) (λ x. IsKept x h) s0 s1 (old_kept h s settled.stored stands) (c.tidy.ensures.any_moment told s settled same))
-      (goes_weaker (λ x. Encodes x s ⊎ Encodes x (rewritten s (count_of s))) (λ x. IsKept x h) s1 s2 (either_kept h s settled.stored stands anew) writing)
+    (goes_weaker (λ x. Encodes x s) (λ x. IsKept x h) s0 s1 (old_kept h s settled.stored stands) (c.tidy.ensures.any_moment told s settled same))
+    (goes_weaker (λ x. Encodes x s ⊎ Encodes x (rewritten s (count_of s))) (λ x. IsKept x h) s1 s2 (either_kept h s settled.stored stands anew) writing)
 
 pub returns-in-Err-rewrite-clause-any_moment : goal.returns-in-Err-rewrite-clause-any_moment
 returns-in-Err-rewrite-clause-any_moment g c = λ told s settled same held h stands.
@@ -50,10 +50,10 @@ returns-in-Err-rewrite-clause-any_moment g c = λ told s settled same held h sta
     let tidied = c.in_default.ensures.done told s settled same in
     let room : s.manifest.next + 2 ≤ max_place = subst (λ (x : Manifest). x.next + 2 ≤ max_place) (sym same) (room_of m.next c.if-manifest-ge-MAX_PLACE.false) in
     let counted : c.count_of-count.result ≡ count_of s =
-          c.count_of-count.ensures ∙ ap (λ records. max m.count (last_seq 0 records)) c.items.ensures ∙ count_is s m c.args.records settled.stored same held in
+    c.count_of-count.ensures ∙ ap (λ records. max m.count (last_seq 0 records)) c.items.ensures ∙ count_is s m c.args.records settled.stored same held in
     let writing : Goes (λ x. Encodes x s ⊎ Encodes x (rewritten s (count_of s))) s1 s2 =
-          subst (λ n. Goes (λ x. Encodes x s ⊎ Encodes x (rewritten s n)) s1 s2) counted (c.rewrite.ensures.any_moment told s tidied.0 tidied.1 same (held ∙ sym c.items-2.ensures)) in
+    subst (λ n. Goes (λ x. Encodes x s ⊎ Encodes x (rewritten s n)) s1 s2) counted (c.rewrite.ensures.any_moment told s tidied.0 tidied.1 same (held ∙ sym c.items-2.ensures)) in
     let anew = rewritten_stored s (count_of s) settled.stored room (count_fits s settled.stored) in
     goes_then (λ x. IsKept x h) s0 s1 s2
-      (goes_weaker (λ x. Encodes x s) (λ x. IsKept x h) s0 s1 (old_kept h s settled.stored stands) (c.tidy.ensures.any_moment told s settled same))
-      (goes_weaker (λ x. Encodes x s ⊎ Encodes x (rewritten s (count_of s))) (λ x. IsKept x h) s1 s2 (either_kept h s settled.stored stands anew) writing)
+    (goes_weaker (λ x. Encodes x s) (λ x. IsKept x h) s0 s1 (old_kept h s settled.stored stands) (c.tidy.ensures.any_moment told s settled same))
+    (goes_weaker (λ x. Encodes x s ⊎ Encodes x (rewritten s (count_of s))) (λ x. IsKept x h) s1 s2 (either_kept h s settled.stored stands anew) writing)

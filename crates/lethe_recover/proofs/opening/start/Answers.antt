@@ -21,10 +21,10 @@ pub returns-in-Ok-clause-any_moment : goal.returns-in-Ok-clause-any_moment
 returns-in-Ok-clause-any_moment g c = λ told.
     let config = c.args.config.now in
     goes_weaker (λ x. HasGreatest None x ⊎ Encodes x (new_stored config)) (λ x. IsKept x []) (g.D.Disk.seen c.args.disk.now) (g.D.Disk.seen c.begin.new.disk)
-      (new_kept config c.begin.ensures.stored) (c.begin.ensures.any_moment told)
+    (new_kept config c.begin.ensures.stored) (c.begin.ensures.any_moment told)
 
 pub returns-in-Err-clause-any_moment : goal.returns-in-Err-clause-any_moment
 returns-in-Err-clause-any_moment g c = λ told.
     let config = c.args.config.now in
     goes_weaker (λ x. HasGreatest None x ⊎ Encodes x (new_stored config)) (λ x. IsKept x []) (g.D.Disk.seen c.args.disk.now) (g.D.Disk.seen c.begin.new.disk)
-      (new_kept config c.begin.ensures.stored) (c.begin.ensures.any_moment told)
+    (new_kept config c.begin.ensures.stored) (c.begin.ensures.any_moment told)

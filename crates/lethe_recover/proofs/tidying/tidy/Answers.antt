@@ -1,14 +1,12 @@
-use Rattle.std.proofs.Common.{◌≡◌, ℕ, List, not, filter, get_or, sym, ap, subst, ◌∙◌}
-use Rattle.std.specs.FinMap.{keys}
-use Rattle.lethe_base.specs.declared.name.Name.{Name}
+use Rattle.std.proofs.Common.{◌≡◌, get_or, sym, ap, subst, ◌∙◌}
 use Rattle.lethe_disk.specs.Directory.{Directory, object, SameBeside}
 use Rattle.lethe_disk.specs.Disk.{Seen, Image, IsSynced}
 use Rattle.lethe_disk.proofs.Moments.{same_synced}
 use Rattle.lethe_commit.specs.Clear.{ArePresent, IsCleared, remove_all}
 use Rattle.lethe_commit.proofs.Removals.{cleared_others}
-use Rattle.lethe_recover.specs.Stored.{Stored, IsStored}
+use Rattle.lethe_recover.specs.Stored.{Stored}
 use Rattle.lethe_recover.specs.Encodes.{Encodes, AreSpare}
-use Rattle.lethe_recover.specs.Settled.{IsSettled, HasOnly, is_cited}
+use Rattle.lethe_recover.specs.Settled.{IsSettled, HasOnly}
 use Rattle.lethe_recover.proofs.Quieting.{quiet_call, on_ok_both}
 use Rattle.lethe_recover.proofs.Going.{goes_leads, goes_quiet, goes_then}
 use Rattle.lethe_recover.proofs.Frame.{besides}
@@ -40,8 +38,8 @@ clear-requires-after_bounds g c κs within = λ told.
     let s1 = g.D.Disk.seen c.names.new.self in
     let d = s0.directory in
     let items : c.deref-2.result.now ≡ rest s settled.stored d settled.encodes =
-          c.deref-2.ensures.value ∙ c.in_ok-rest.ensures
-          ∙ rest_is s settled.stored d settled.encodes c.args.manifest.now (get_or c.items.result.now 0 0) c.deref.result.now same (ap (λ l. get_or l 0 0) c.items.ensures) (c.deref.ensures.value ∙ c.in_ok-names.ensures.done told) in
+    c.deref-2.ensures.value ∙ c.in_ok-rest.ensures
+    ∙ rest_is s settled.stored d settled.encodes c.args.manifest.now (get_or c.items.result.now 0 0) c.deref.result.now same (ap (λ l. get_or l 0 0) c.items.ensures) (c.deref.ensures.value ∙ c.in_ok-names.ensures.done told) in
     subst (λ x. ArePresent c.deref-2.result.now x) (sym (c.names.ensures.directory told)) (subst (λ l. ArePresent l d) (sym items) (rest_present s settled.stored d settled.encodes))
 
 pub returns-clause-any_moment : goal.returns-clause-any_moment
@@ -50,15 +48,15 @@ returns-clause-any_moment g c = λ told s settled same.
     let s1 = g.D.Disk.seen c.names.new.self in
     let d = s0.directory in
     let items : c.deref-2.result.now ≡ rest s settled.stored d settled.encodes =
-          c.deref-2.ensures.value ∙ c.in_ok-rest.ensures
-          ∙ rest_is s settled.stored d settled.encodes c.args.manifest.now (get_or c.items.result.now 0 0) c.deref.result.now same (ap (λ l. get_or l 0 0) c.items.ensures) (c.deref.ensures.value ∙ c.in_ok-names.ensures.done told) in
+    c.deref-2.ensures.value ∙ c.in_ok-rest.ensures
+    ∙ rest_is s settled.stored d settled.encodes c.args.manifest.now (get_or c.items.result.now 0 0) c.deref.result.now same (ap (λ l. get_or l 0 0) c.items.ensures) (c.deref.ensures.value ∙ c.in_ok-names.ensures.done told) in
     let s2 = g.D.Disk.seen c.clear.new.disk in
     let spare : AreSpare s c.deref-2.result.now = subst (AreSpare s) (sym items) (rest_spare s settled.stored d settled.encodes) in
     let synced = same_synced c.names.result s0 s1 (c.names.ensures.call told) (c.names.ensures.directory told) settled.synced in
     let listed = quiet_call c.names.result s0 s1 (c.names.ensures.call told) (c.names.ensures.directory told) in
     goes_then (λ x. Encodes x s) s0 s1 s2 (goes_quiet (λ x. Encodes x s) s0 s1 listed (in_image s0 s settled))
     (goes_leads (λ x. Encodes x s) (IsCleared c.deref-2.result.now) s1 s2 (c.clear.ensures.any_moment told) (λ e x here cleared.
-      besides s e x c.deref-2.result.now (subst (λ y. Encodes y s) (sym (synced e here ∙ c.names.ensures.directory told)) settled.encodes) spare cleared.others))
+    besides s e x c.deref-2.result.now (subst (λ y. Encodes y s) (sym (synced e here ∙ c.names.ensures.directory told)) settled.encodes) spare cleared.others))
 
 pub returns-clause-done : goal.returns-clause-done
 returns-clause-done g c = λ told s settled same.
@@ -66,17 +64,17 @@ returns-clause-done g c = λ told s settled same.
     let s1 = g.D.Disk.seen c.names.new.self in
     let d = s0.directory in
     let items : c.deref-2.result.now ≡ rest s settled.stored d settled.encodes =
-          c.deref-2.ensures.value ∙ c.in_ok-rest.ensures
-          ∙ rest_is s settled.stored d settled.encodes c.args.manifest.now (get_or c.items.result.now 0 0) c.deref.result.now same (ap (λ l. get_or l 0 0) c.items.ensures) (c.deref.ensures.value ∙ c.in_ok-names.ensures.done told) in
+    c.deref-2.ensures.value ∙ c.in_ok-rest.ensures
+    ∙ rest_is s settled.stored d settled.encodes c.args.manifest.now (get_or c.items.result.now 0 0) c.deref.result.now same (ap (λ l. get_or l 0 0) c.items.ensures) (c.deref.ensures.value ∙ c.in_ok-names.ensures.done told) in
     let s2 = g.D.Disk.seen c.clear.new.disk in
     let spare : AreSpare s c.deref-2.result.now = subst (AreSpare s) (sym items) (rest_spare s settled.stored d settled.encodes) in
     on_ok_both c.clear.result (s2.directory ≡ remove_all c.deref-2.result.now s1.directory) (IsSynced s2) (IsSettled s2 s × HasOnly s s2.directory) (c.clear.ensures.done told) (c.clear.ensures.synced told) (λ done synced.
-      let gone : s2.directory ≡ remove_all (rest s settled.stored d settled.encodes) d = done ∙ (λ i. remove_all (items i) (c.names.ensures.directory told i)) in
-      let others : SameBeside (rest s settled.stored d settled.encodes) d s2.directory = λ name none. ap (λ x. object x name) gone ∙ cleared_others (rest s settled.stored d settled.encodes) d name none in (
-        record {
-          synced = synced;
-          stored = settled.stored;
-          encodes = besides s d s2.directory (rest s settled.stored d settled.encodes) settled.encodes (rest_spare s settled.stored d settled.encodes) others;
-        },
-        subst (HasOnly s) (sym gone) (rest_gone s settled.stored d settled.encodes),
-      ))
+    let gone : s2.directory ≡ remove_all (rest s settled.stored d settled.encodes) d = done ∙ (λ i. remove_all (items i) (c.names.ensures.directory told i)) in
+    let others : SameBeside (rest s settled.stored d settled.encodes) d s2.directory = λ name none. ap (λ x. object x name) gone ∙ cleared_others (rest s settled.stored d settled.encodes) d name none in (
+      record {
+        synced = synced;
+        stored = settled.stored;
+        encodes = besides s d s2.directory (rest s settled.stored d settled.encodes) settled.encodes (rest_spare s settled.stored d settled.encodes) others;
+      },
+      subst (HasOnly s) (sym gone) (rest_gone s settled.stored d settled.encodes),
+    ))
