@@ -63,6 +63,15 @@ number_from least bytes at = do
   n ← field_at w64 bytes at
   if nat_le least n then Ok n else Err (Order at)
 
+-- Lists.
+
+-- so many more items behind these, each read with those before it in mind
+abbrev pub all_at : {A : Type 0} → (List A → List ℕ → ℕ → Result (A × ℕ) HeaderRefused) → ℕ → List A → List ℕ → ℕ → Result (List A × ℕ) HeaderRefused
+all_at read zero items bytes at = Ok (items, at)
+all_at read (suc n) items bytes at = do
+  item ← read items bytes at
+  all_at read n (items ++ item.0 ∷ []) bytes item.1
+
 -- Lines.
 
 -- the class, where the lines before leave room for it
@@ -94,18 +103,17 @@ fence_at Puts dkey bytes at = do
   Ok (Some (lo, hi), at + 16)
 fence_at Tombs dkey bytes at = Ok (None, at)
 
--- so many words, behind these
-abbrev pub words_at : ℕ → List ℕ → List ℕ → ℕ → Result (List ℕ × ℕ) HeaderRefused
-words_at zero words bytes at = Ok (words, at)
-words_at (suc n) words bytes at = do
+-- a word, whatever stands before it
+abbrev pub word_at : List ℕ → List ℕ → ℕ → Result (ℕ × ℕ) HeaderRefused
+word_at before bytes at = do
   word ← field_at w64 bytes at
-  words_at n (words ++ word ∷ []) bytes (at + 8)
+  Ok (word, at + 8)
 
 -- the filter of so many keys
 unfoldable pub filter_at : ℕ → List ℕ → ℕ → Result (List ℕ × ℕ) HeaderRefused
 filter_at entries bytes at = do
   len ← number_within w32 (div_ceil (10 * entries) 64) (div_ceil (10 * entries) 64) bytes at
-  words_at len [] bytes (at + 4)
+  all_at word_at len [] bytes (at + 4)
 
 unfoldable pub digest_at : List ℕ → ℕ → Result (List ℕ × ℕ) HeaderRefused
 digest_at bytes at = if nat_le (at + 32) (length bytes) then Ok (take 32 (drop at bytes), at + 32) else Err (Short at)
@@ -120,12 +128,9 @@ line_at before bytes at = do
   digest ← digest_at bytes filter.1
   Ok (record { no = counts.no; class = counts.class; entries = counts.entries; max_seq = counts.max_seq; oldest = oldest.0; fence = fence.0; filter = filter.0; digest = digest.0 }, digest.1)
 
--- so many lines of a tile, behind these
-abbrev pub lines_at : ℕ → List PageLine → List ℕ → ℕ → Result (List PageLine × ℕ) HeaderRefused
-lines_at zero lines bytes at = Ok (lines, at)
-lines_at (suc n) lines bytes at = do
-  line ← line_at (before_of lines) bytes at
-  lines_at n (lines ++ line.0 ∷ []) bytes line.1
+-- a line behind these of its tile
+abbrev pub line_behind : List PageLine → List ℕ → ℕ → Result (PageLine × ℕ) HeaderRefused
+line_behind lines = line_at (before_of lines)
 
 -- Tiles.
 
@@ -147,15 +152,12 @@ tile_at last bytes at = do
   lo ← lo_at last bytes at
   hi ← hi_at lo.0 bytes lo.1
   count ← number_within w8 1 65 bytes hi.1
-  lines ← lines_at count [] bytes (hi.1 + 1)
+  lines ← all_at line_behind count [] bytes (hi.1 + 1)
   Ok (record { lo = lo.0; hi = hi.0; pages = lines.0 }, lines.1)
 
--- so many tiles, behind these
-abbrev pub tiles_at : ℕ → List TileLine → List ℕ → ℕ → Result (List TileLine × ℕ) HeaderRefused
-tiles_at zero tiles bytes at = Ok (tiles, at)
-tiles_at (suc n) tiles bytes at = do
-  tile ← tile_at (last_hi tiles) bytes at
-  tiles_at n (tiles ++ tile.0 ∷ []) bytes tile.1
+-- a tile behind these of its file
+abbrev pub tile_behind : List TileLine → List ℕ → ℕ → Result (TileLine × ℕ) HeaderRefused
+tile_behind tiles = tile_at (last_hi tiles)
 
 -- Headers.
 
@@ -171,5 +173,5 @@ head_at bytes = do
 unfoldable pub header_at : List ℕ → Result Header HeaderRefused
 header_at bytes = do
   head ← head_at bytes
-  tiles ← tiles_at head.1 [] bytes 13
+  tiles ← all_at tile_behind head.1 [] bytes 13
   if nat_lt tiles.1 (length bytes) then Err (Trailing tiles.1) else Ok (record { no = head.0; tiles = tiles.0 })

@@ -1,10 +1,10 @@
 //! Reading a page's line.
-ghost use Rattle.std.specs.Prelude.{◌≡◌, ◌≤◌, ◌<◌, ◌^◌, ◌+◌, ◌*◌, ◌-◌, [], IfOk};
+ghost use Rattle.std.specs.Prelude.{◌≡◌, ◌≤◌, ◌<◌, ◌^◌, ◌+◌, ◌*◌, ◌-◌, [], IfOk, length};
 ghost use Rattle.std.specs.Int.{div_ceil};
 ghost use Rattle.lethe_base.specs.Reading.{since_at};
 ghost use Rattle.lethe_base.specs.declared.front.BodyKind.TheVariants as kinds;
 ghost use Rattle.lethe_header.specs.Headers.{max_tile_entries};
-ghost use Rattle.lethe_header.specs.Reading.{Gives, part, class_at, entries_at, counts_at, fence_at, words_at, filter_at, digest_at, line_at};
+ghost use Rattle.lethe_header.specs.Reading.{Gives, part, class_at, entries_at, counts_at, fence_at, word_at, all_at, filter_at, digest_at, line_at};
 
 use crate::before::Before;
 use crate::fields::{read_from, read_u8, read_u32, read_u64, take_long};
@@ -67,6 +67,7 @@ fn read_counts(before: Before, bytes: &[u8], at: usize) -> Result<Counts, Header
     requires { before.entries ≤ max_tile_entries }
     ensures counts { result ≡ counts_at before bytes.now at }
     ensures some { IfOk result (λ counts. 0 < counts.entries) }
+    ensures ends { IfOk result (λ _. at + 21 ≤ length bytes.now) }
     ensures entries { IfOk result (λ counts. before.entries + counts.entries ≤ max_tile_entries) }
 {
     let no = read_u64(bytes, at, 0, MAX_PLACE)?;
@@ -88,8 +89,7 @@ fn read_oldest(bytes: &[u8], at: usize) -> Result<(Option<u64>, usize), EntryRef
 {
     match take_u8(bytes, at).ok_or(EntryRefused::Short { at: at as u64 })? {
         1 => {
-            let time =
-                take_u64(bytes, at + 1).ok_or(EntryRefused::Short { at: at as u64 + 1 })?;
+            let time = take_u64(bytes, at + 1).ok_or(EntryRefused::Short { at: at as u64 + 1 })?;
             if time <= MAX_TIME {
                 Ok((Some(time), at + 9))
             } else {
@@ -133,7 +133,8 @@ fn read_words(
     bytes: &[u8],
     start: usize,
 ) -> Result<(List<u64>, usize), HeaderRefused>
-    ensures { Gives result (words_at count [] bytes.now start) }
+    ensures words { Gives result (all_at word_at count [] bytes.now start) }
+    ensures len { IfOk result (λ words. length words.0 ≡ count) }
 {
     let mut words = Vec::new(alloc);
     let mut at = start;

@@ -3,7 +3,7 @@ ghost use Rattle.std.specs.Prelude.{◌≡◌, None, []};
 ghost use Rattle.lethe_base.specs.Reading.{key_at};
 ghost use Rattle.lethe_page.specs.Reading.{is_above};
 ghost use Rattle.lethe_header.specs.Headers.{last_hi};
-ghost use Rattle.lethe_header.specs.Reading.{Gives, part, lo_at, hi_at, lines_at, tile_at, tiles_at};
+ghost use Rattle.lethe_header.specs.Reading.{Gives, part, lo_at, hi_at, all_at, line_behind, tile_at, tile_behind};
 
 use crate::before::Before;
 use crate::fields::read_u8;
@@ -50,12 +50,7 @@ fn read_lo(
 }
 
 #[tactic(auto, unfolding(crate::specs::Reading::hi_at))]
-fn read_hi(
-    alloc: Global,
-    lo: &Key,
-    bytes: &[u8],
-    at: usize,
-) -> Result<(Key, usize), HeaderRefused>
+fn read_hi(alloc: Global, lo: &Key, bytes: &[u8], at: usize) -> Result<(Key, usize), HeaderRefused>
     ensures { Gives result (hi_at lo.now bytes.now at) }
 {
     let (key, end) = key_part(alloc, bytes, at)?;
@@ -73,7 +68,7 @@ fn read_lines(
     bytes: &[u8],
     start: usize,
 ) -> Result<(List<PageLine>, usize), HeaderRefused>
-    ensures { Gives result (lines_at count [] bytes.now start) }
+    ensures { Gives result (all_at line_behind count [] bytes.now start) }
 {
     let mut lines = Vec::new(alloc);
     let mut before = Before::none();
@@ -110,7 +105,7 @@ pub fn read_tiles(
     count: u16,
     bytes: &[u8],
 ) -> Result<(List<TileLine>, usize), HeaderRefused>
-    ensures { Gives result (tiles_at count [] bytes.now 13) }
+    ensures { Gives result (all_at tile_behind count [] bytes.now 13) }
 {
     let mut tiles = Vec::new(alloc);
     let mut at = 13;

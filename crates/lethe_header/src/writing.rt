@@ -125,9 +125,16 @@ fn write_fence(out: &mut Vec<u8>, fence: Option<(u64, u64)>) -> Result<(), NoMem
     ensures { OnOk result (out.new.items ≡ out.old.items ++ fence_bytes fence) }
 {
     if let Some((lo, hi)) = fence {
-        out.extend_from_slice(&lo.to_be_bytes())?;
-        out.extend_from_slice(&hi.to_be_bytes())?;
+        write_ends(out, lo, hi)?;
     }
+    Ok(())
+}
+
+fn write_ends(out: &mut Vec<u8>, lo: u64, hi: u64) -> Result<(), NoMemory>
+    ensures { OnOk result (out.new.items ≡ out.old.items ++ (to_be_bytes w64 lo ++ to_be_bytes w64 hi)) }
+{
+    out.extend_from_slice(&lo.to_be_bytes())?;
+    out.extend_from_slice(&hi.to_be_bytes())?;
     Ok(())
 }
 
