@@ -5,3 +5,4 @@ pub mod LineLaws
 pub mod Lines
 pub mod TileLaws
 pub mod HeaderLaws
+pub mod Sums

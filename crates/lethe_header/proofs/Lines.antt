@@ -1,7 +1,9 @@
 -- The lines of a tile as they are read, and what is kept of those before the next one.
-use Rattle.std.proofs.Common.{◌≡◌, ℕ, ◌+◌, ◌*◌, ◌≤◌, ◌<◌, ◌^◌, List, [], ◌∷◌, ◌++◌, length, get_or, take, All, Ok, refl, sym, ap, subst, ◌∙◌, arith}
+use Rattle.std.proofs.Common.{◌≡◌, ℕ, ◌+◌, ◌*◌, ◌≤◌, ◌<◌, ◌^◌, List, [], ◌∷◌, ◌++◌, length, get_or, take, drop, All, Ok, refl, sym, ap, subst, ◌∙◌, arith}
 use Rattle.std.proofs.lemmas.List.Sums.{sum_by-append, count_by-le-length}
-use Rattle.lethe_header.specs.Headers.{before_of, entries_in, puts_in, is_puts, max_tile_entries, EachFollows, HasFewWords, IsTile, LineFollows, TileFollows}
+use Rattle.std.proofs.lemmas.List.{take-append-drop, drop_more}
+use Rattle.std.proofs.Math.ListN.{drop_of_length-le}
+use Rattle.lethe_header.specs.Headers.{before_of, entries_in, puts_in, is_puts, max_tile_entries, EachFollows, HasFewEntries, HasFewWords, IsTile, LineFollows, TileFollows}
 use Rattle.lethe_header.specs.Reading.{line_at, line_behind}
 use Rattle.lethe_header.specs.declared.before.Before.{Before}
 use Rattle.lethe_header.specs.declared.header.PageLine.{PageLine}
@@ -44,3 +46,20 @@ have_few_words lines each k d lt =
 
 pub are_tiles : (tiles : List TileLine) → EachFollows TileFollows tiles → All IsTile tiles
 are_tiles tiles each k d lt = (follows_at TileFollows tiles k d each lt).itself
+
+-- ---- how many entries
+
+few_entries : (lines : List PageLine) → EachFollows LineFollows lines → entries_in lines ≤ max_tile_entries
+few_entries [] each = omega arith
+few_entries (l ∷ ls) each =
+    let lines = l ∷ ls in
+    let k = length ls in
+    let inside : k < length lines = omega arith in
+    let last = get_or lines k l in
+    let line = follows_at LineFollows lines k l each inside in
+    let past : length lines ≤ k + 1 = omega arith in
+    let parts : lines ≡ take k lines ++ last ∷ [] = sym (take-append-drop k lines) ∙ ap (λ (l : List PageLine). take k lines ++ l) (drop_more lines k l inside) ∙ ap (λ (rest : List PageLine). take k lines ++ last ∷ rest) (drop_of_length-le lines past) in
+    omega (arith, line.entries, ap entries_in parts, sum_by-append (λ (l : PageLine). l.entries) (take k lines) (last ∷ []))
+
+pub have_few_entries : (tiles : List TileLine) → EachFollows TileFollows tiles → All HasFewEntries tiles
+have_few_entries tiles each k d lt = few_entries (get_or tiles k d).pages (follows_at TileFollows tiles k d each lt).itself.lines

@@ -146,3 +146,7 @@ pub record HasSpelling (h : Header) : Type 0 where
 -- the number of its filter's words has a spelling
 abbrev pub HasFewWords : PageLine → Type 0
 HasFewWords line = length line.filter < 2 ^ 32
+
+-- its pages have not too many entries
+abbrev pub HasFewEntries : TileLine → Type 0
+HasFewEntries tile = entries_in tile.pages ≤ max_tile_entries

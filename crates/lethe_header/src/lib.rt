@@ -2,6 +2,7 @@
 #![tactic(auto)]
 
 mod before;
+mod facts;
 mod fields;
 mod header;
 mod laws;
