@@ -1,13 +1,7 @@
-// A library with one function.
+//! Files: finding the entry of a key, fetching a page, and reading the entries in order.
 #![tactic(auto)]
 
-ghost use Rattle.std.specs.Prelude.{◌≡◌};
-ghost use Rattle.lethe_file.specs.Echo.{echo_of};
+mod page;
+mod view;
 
-// The `ensures` clause is the contract: what `echo` returns is `echo_of` of its argument, a definition
-// in `specs/Echo.antt`, which a caller's clause can cite too.
-pub fn echo(x: usize) -> usize
-    ensures { result ≡ echo_of x }
-{
-    x
-}
+pub use view::FileView;

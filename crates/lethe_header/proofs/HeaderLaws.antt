@@ -1,5 +1,5 @@
 -- What is read of a header is spelled so, and what is spelled so is read.
-use Rattle.std.proofs.Common.{◌≡◌, ℕ, ◌+◌, ◌^◌, ◌<◌, ◌≤◌, false, cond, ltb, List, [], ◌∷◌, ◌++◌, length, flat_map, Result, Ok, Err, refl, sym, ap, subst, ◌∙◌, arith}
+use Rattle.std.proofs.Common.{◌≡◌, ℕ, ◌^◌, ◌<◌, ◌≤◌, false, cond, ltb, List, [], ◌∷◌, ◌++◌, length, flat_map, Result, Ok, Err, refl, sym, ap, subst, ◌∙◌, arith}
 use Rattle.std.specs.Prelude.{IfOk, MatchResult}
 use Rattle.std.specs.Int.{w8, w16, w64, to_be_bytes}
 use Rattle.std.proofs.lemmas.Bool.{le-ltb, ltb-false}
@@ -14,7 +14,6 @@ use Rattle.lethe_base.proofs.ReadingSteps.{bind_ok, past_test, ok_is}
 use Rattle.lethe_header.specs.Headers.{head_bytes, header_bytes, tile_bytes, HasSpelling}
 use Rattle.lethe_header.specs.Reading.{Gives, number_within, all_at, tile_behind, head_at, header_at}
 use Rattle.lethe_header.specs.declared.header.Header.{Header}
-use Rattle.lethe_header.specs.declared.header.TileLine.{TileLine}
 use Rattle.lethe_header.specs.declared.refused.HeaderRefused.{HeaderRefused}
 use Rattle.lethe_header.specs.declared.refused.HeaderRefused.TheVariants.{Short, Kind, Order, Trailing, NoMemory}
 use Rattle.lethe_header.proofs.Numbers.{wide_ok, wide_again, byte_ok, byte_back}

@@ -1,7 +1,7 @@
 -- A page's line: what is read stands there, and what stands there is read.
-use Rattle.std.proofs.Common.{◌≡◌, ℕ, ◌+◌, ◌-◌, ◌*◌, ◌^◌, ◌<◌, ◌≤◌, Bool, true, false, cond, eqb, ltb, leb, List, [], ◌∷◌, ◌++◌, length, take, drop, flat_map, Option, Some, None, Result, Ok, Err, refl, sym, ap, subst, ◌∙◌, arith, inl, inr, length-drop}
+use Rattle.std.proofs.Common.{◌≡◌, ℕ, ◌+◌, ◌-◌, ◌*◌, ◌^◌, ◌<◌, ◌≤◌, true, cond, eqb, ltb, leb, List, [], ◌∷◌, ◌++◌, length, take, drop, flat_map, Option, Some, None, Result, Ok, Err, refl, sym, ap, subst, ◌∙◌, arith, inl, inr, length-drop}
 use Rattle.std.specs.Int.{w8, w32, w64, div_ceil, to_be_bytes}
-use Rattle.std.proofs.lemmas.Bool.{eqb-true, eqb-false, eq-eqb, ne_eqb, le-leb, leb-true, lt-ltb, ltb-true}
+use Rattle.std.proofs.lemmas.Bool.{eqb-true, eqb-false, eq-eqb, le-leb, leb-true, lt-ltb, ltb-true}
 use Rattle.std.proofs.lemmas.List.{drop-drop, length-take, take-append-drop, take_at}
 use Rattle.lethe_base.specs.Limits.{max_place}
 use Rattle.lethe_base.specs.Numbers.{IsBytes}
@@ -19,8 +19,7 @@ use Rattle.lethe_header.specs.Headers.{counts_bytes, fence_bytes, filter_bytes, 
 use Rattle.lethe_header.specs.Reading.{part, field_at, number_within, number_from, all_at, word_at, class_at, entries_at, counts_at, fence_at, filter_at, digest_at, line_at}
 use Rattle.lethe_header.specs.declared.header.PageLine.{PageLine}
 use Rattle.lethe_header.specs.declared.line.Counts.{Counts}
-use Rattle.lethe_header.specs.declared.refused.HeaderRefused.{HeaderRefused}
-use Rattle.lethe_header.specs.declared.refused.HeaderRefused.TheVariants.{Short, Kind, Order}
+use Rattle.lethe_header.specs.declared.refused.HeaderRefused.TheVariants.{Short, Order}
 use Rattle.lethe_header.proofs.Follows.{all_of, each_of, follows_none, all_ok, all_again}
 use Rattle.lethe_header.proofs.Numbers.{wide32, wide_ok, wide_again, byte_ok, byte_back, long_ok, long_back, from_ok, from_again}
 

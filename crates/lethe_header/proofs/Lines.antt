@@ -1,9 +1,9 @@
 -- The lines of a tile as they are read, and what is kept of those before the next one.
-use Rattle.std.proofs.Common.{◌≡◌, ℕ, ◌+◌, ◌*◌, ◌≤◌, ◌<◌, ◌^◌, List, [], ◌∷◌, ◌++◌, length, get_or, take, drop, All, Ok, refl, sym, ap, subst, ◌∙◌, arith}
+use Rattle.std.proofs.Common.{◌≡◌, ℕ, ◌+◌, ◌≤◌, ◌<◌, List, [], ◌∷◌, ◌++◌, length, get_or, take, All, Ok, sym, ap, ◌∙◌, arith}
 use Rattle.std.proofs.lemmas.List.Sums.{sum_by-append, count_by-le-length}
 use Rattle.std.proofs.lemmas.List.{take-append-drop, drop_more}
 use Rattle.std.proofs.Math.ListN.{drop_of_length-le}
-use Rattle.lethe_header.specs.Headers.{before_of, entries_in, puts_in, is_puts, max_tile_entries, EachFollows, HasFewEntries, HasFewWords, IsTile, LineFollows, TileFollows}
+use Rattle.lethe_header.specs.Headers.{before_of, entries_in, is_puts, max_tile_entries, EachFollows, HasFewEntries, HasFewWords, IsTile, LineFollows, TileFollows}
 use Rattle.lethe_header.specs.Reading.{line_at, line_behind}
 use Rattle.lethe_header.specs.declared.before.Before.{Before}
 use Rattle.lethe_header.specs.declared.header.PageLine.{PageLine}

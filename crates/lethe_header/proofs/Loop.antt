@@ -1,5 +1,5 @@
 -- Reading items one after another, and what reading all of them gives.
-use Rattle.std.proofs.Common.{◌≡◌, ℕ, suc, ◌+◌, ◌-◌, ◌<◌, ◌≤◌, List, [], ◌∷◌, ◌++◌, length, Result, Ok, Err, refl, sym, ap, ◌∙◌, arith, length-append}
+use Rattle.std.proofs.Common.{◌≡◌, ℕ, suc, ◌+◌, ◌-◌, ◌<◌, ◌≤◌, List, [], ◌∷◌, ◌++◌, length, Result, Ok, Err, ap, ◌∙◌, arith, length-append}
 use Rattle.std.specs.Int.{w64}
 use Rattle.lethe_base.specs.Results.{◌>>=◌}
 use Rattle.lethe_header.specs.Reading.{IsRefused, field_at, word_at, all_at}

@@ -1,5 +1,5 @@
 -- A number that is read in its range stands there, and one that stands there is read.
-use Rattle.std.proofs.Common.{◌≡◌, ℕ, ◌+◌, ◌^◌, ◌<◌, ◌≤◌, Bool, true, cond, leb, List, [], ◌∷◌, Option, Some, Result, Ok, Err, refl, ap, subst, arith}
+use Rattle.std.proofs.Common.{◌≡◌, ℕ, ◌+◌, ◌^◌, ◌<◌, ◌≤◌, true, cond, leb, List, [], ◌∷◌, Option, Some, Ok, Err, refl, ap, subst, arith}
 use Rattle.std.specs.Prelude.{ok_or}
 use Rattle.std.specs.Int.{Width, w8, w32, w64, byte_len, to_be_bytes, is_in_range, IsInRange}
 use Rattle.std.proofs.lemmas.Bool.{and_from, le-leb, leb-true}
@@ -9,10 +9,8 @@ use Rattle.lethe_base.specs.Reading.{StandsAt}
 use Rattle.lethe_base.specs.declared.reading.EntryRefused.TheVariants as entry
 use Rattle.lethe_base.proofs.FieldLaws.{IsWide, wide64, number_stands, number_again, byte_stands, first_byte}
 use Rattle.lethe_base.proofs.Configurations.{in_range}
-use Rattle.lethe_base.specs.Results.{◌>>=◌}
 use Rattle.lethe_base.proofs.ReadingSteps.{bind_ok, met_test, field_ok}
 use Rattle.lethe_header.specs.Reading.{number_within, number_from, field_at}
-use Rattle.lethe_header.specs.declared.refused.HeaderRefused.{HeaderRefused}
 use Rattle.lethe_header.specs.declared.refused.HeaderRefused.TheVariants.{Short, Kind, Order}
 
 within_ok : (w : Width) (lo hi : ℕ) (bytes : List ℕ) (at n : ℕ) → number_within w lo hi bytes at ≡ Ok n → (number_at w bytes at ≡ Some n) × IsInRange lo hi n

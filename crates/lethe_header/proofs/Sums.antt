@@ -1,8 +1,7 @@
 -- What lines say together, as they are counted one after another.
-use Rattle.std.proofs.Common.{◌≡◌, ℕ, ◌+◌, ◌*◌, ◌≤◌, ◌<◌, List, [], ◌∷◌, ◌++◌, length, get_or, take, flat_map, All, refl, sym, ap, ◌∙◌, arith, append_assoc}
-use Rattle.std.proofs.lemmas.List.Sums.{sum_by-append, sum_by-take-le}
+use Rattle.std.proofs.Common.{◌≡◌, ◌+◌, ◌*◌, ◌≤◌, List, ◌++◌, length}
 use Rattle.lethe_header.specs.Facts.{sums_of, lines_of}
-use Rattle.lethe_header.specs.Headers.{entries_in, max_tile_entries, HasFewEntries}
+use Rattle.lethe_header.specs.Headers.{entries_in, max_tile_entries}
 use Rattle.lethe_header.specs.declared.facts.Sums.{Sums}
 use Rattle.lethe_header.specs.declared.header.PageLine.{PageLine}
 use Rattle.lethe_header.specs.declared.header.TileLine.{TileLine}

@@ -1,5 +1,5 @@
 -- A tile: what is read stands there, and what stands there is read.
-use Rattle.std.proofs.Common.{◌≡◌, ℕ, ◌+◌, ◌<◌, ◌≤◌, Bool, true, cond, List, [], ◌∷◌, ◌++◌, length, flat_map, Option, Result, Ok, Err, refl, ap, subst, ◌∙◌, arith}
+use Rattle.std.proofs.Common.{◌≡◌, ℕ, ◌+◌, Bool, true, cond, List, [], ◌∷◌, ◌++◌, length, flat_map, Ok, Err, refl, subst, arith}
 use Rattle.std.specs.Int.{w8}
 use Rattle.std.specs.Ordering.{is_le}
 use Rattle.lethe_base.specs.Keys.{Bytes, key_cmp}
@@ -13,9 +13,7 @@ use Rattle.lethe_base.proofs.ReadingSteps.{bind_ok, met_test, ok_is}
 use Rattle.lethe_page.specs.Reading.{is_above}
 use Rattle.lethe_header.specs.Headers.{line_bytes, tile_bytes, last_hi, EachFollows, LineFollows, TileFollows}
 use Rattle.lethe_header.specs.Reading.{part, number_within, all_at, line_behind, lo_at, hi_at, tile_at, tile_behind}
-use Rattle.lethe_header.specs.declared.header.PageLine.{PageLine}
 use Rattle.lethe_header.specs.declared.header.TileLine.{TileLine}
-use Rattle.lethe_header.specs.declared.refused.HeaderRefused.{HeaderRefused}
 use Rattle.lethe_header.specs.declared.refused.HeaderRefused.TheVariants.{Order}
 use Rattle.lethe_header.proofs.Follows.{follows_none, all_ok, all_again}
 use Rattle.lethe_header.proofs.LineLaws.{part_ok, line_ok, line_again}

@@ -1,5 +1,5 @@
 -- The facts of a file, by its header.
-use Rattle.std.specs.Prelude.{ℕ, max, Bool, true, false, List, [], ◌∷◌, fold, flat_map, sum_by, Option, None, if◌then◌else◌}
+use Rattle.std.specs.Prelude.{ℕ, max, List, [], ◌∷◌, fold, flat_map, sum_by, Option, None, if◌then◌else◌}
 use Rattle.lethe_base.specs.Keys.{Bytes}
 use Rattle.lethe_base.specs.Shapes.{earlier}
 use Rattle.lethe_base.specs.declared.shape.FileFacts.{FileFacts}

@@ -1,7 +1,4 @@
-use Rattle.std.proofs.Common.{◌≡◌, ◌≤◌, ◌-◌, length}
-use Rattle.lethe_header.specs.Headers.{before_of, max_tile_entries}
-use Rattle.lethe_header.specs.Reading.{line_behind}
-use Rattle.lethe_header.proofs.Loop.{IsReadTo}
+use Rattle.std.proofs.Common.{◌-◌, length}
 use Rattle.lethe_header.proofs.Lines.{AreLines}
 use Rattle.lethe_header.proofs.tile.read_lines.Given as goal
 

@@ -1,7 +1,6 @@
 use Rattle.std.proofs.Common.{◌≡◌, ◌++◌, take}
 use Rattle.std.specs.List.{flat_map}
-use Rattle.std.specs.Int.{to_be_bytes, w64}
-use Rattle.lethe_header.specs.Headers.{line_bytes, tile_bytes}
+use Rattle.lethe_header.specs.Headers.{line_bytes}
 use Rattle.lethe_header.proofs.writing.write_lines.Given as goal
 
 -- those so far
