@@ -1,0 +1,70 @@
+-- A number that is read in its range stands there, and one that stands there is read.
+use Rattle.std.proofs.Common.{◌≡◌, ℕ, ◌+◌, ◌^◌, ◌<◌, ◌≤◌, true, cond, leb, List, [], ◌∷◌, Option, Some, Ok, Err, refl, ap, subst, arith}
+use Rattle.std.specs.Prelude.{ok_or}
+use Rattle.std.specs.Int.{Width, w8, w32, w64, byte_len, to_be_bytes, is_in_range, IsInRange}
+use Rattle.std.proofs.lemmas.Bool.{and_from, le-leb, leb-true}
+use Rattle.std.proofs.lemmas.Nat.{be_bytes_4, from_be_bytes-to_be_bytes_4}
+use Rattle.lethe_base.specs.Numbers.{number_at, IsBytes}
+use Rattle.lethe_base.specs.Reading.{StandsAt}
+use Rattle.lethe_base.specs.declared.reading.EntryRefused.TheVariants as entry
+use Rattle.lethe_base.proofs.FieldLaws.{IsWide, wide64, number_stands, number_again, byte_stands, first_byte}
+use Rattle.lethe_base.proofs.Configurations.{in_range}
+use Rattle.lethe_base.proofs.ReadingSteps.{bind_ok, met_test, field_ok}
+use Rattle.lethe_header.specs.Reading.{number_within, number_from, field_at}
+use Rattle.lethe_header.specs.declared.refused.HeaderRefused.TheVariants.{Short, Kind, Order}
+
+within_ok : (w : Width) (lo hi : ℕ) (bytes : List ℕ) (at n : ℕ) → number_within w lo hi bytes at ≡ Ok n → (number_at w bytes at ≡ Some n) × IsInRange lo hi n
+unfolding number_within
+within_ok w lo hi bytes at n e =
+    let b = bind_ok (ok_or (number_at w bytes at) (Short at)) (λ k. cond (is_in_range lo hi k) (Ok k) (Err (Kind at))) n e in
+    let g = met_test (is_in_range lo hi b.0) b.0 (Kind at) n b.2 in
+    let read = field_ok (number_at w bytes at) (Short at) b.0 b.1 in
+    subst (λ (k : ℕ). (number_at w bytes at ≡ Some k) × IsInRange lo hi k) g.1 (read, in_range lo hi b.0 g.0)
+
+within_again : (w : Width) (lo hi : ℕ) (bytes : List ℕ) (at n : ℕ) → number_at w bytes at ≡ Some n → IsInRange lo hi n → number_within w lo hi bytes at ≡ Ok n
+unfolding number_within
+within_again w lo hi bytes at n e r =
+    let met : is_in_range lo hi n ≡ true = and_from (leb lo n) (leb n hi) (le-leb lo n r.0) (le-leb n hi r.1) in
+    rw (e, met) refl
+
+pub wide_ok : (w : Width) (limit : ℕ) (wide : IsWide w limit) (lo hi : ℕ) (bytes : List ℕ) (at n : ℕ) → IsBytes bytes → number_within w lo hi bytes at ≡ Ok n → StandsAt (to_be_bytes w n) bytes at (at + byte_len w) × IsInRange lo hi n
+wide_ok w limit wide lo hi bytes at n fits e =
+    let read = within_ok w lo hi bytes at n e in
+    ((number_stands w limit wide bytes at n fits read.0).0, read.1)
+
+pub wide_again : (w : Width) (limit : ℕ) (wide : IsWide w limit) (lo hi : ℕ) (bytes : List ℕ) (at end n : ℕ) → n < limit → IsInRange lo hi n → StandsAt (to_be_bytes w n) bytes at end → number_within w lo hi bytes at ≡ Ok n
+wide_again w limit wide lo hi bytes at end n small r p = within_again w lo hi bytes at n (number_again w limit wide bytes at end n small p) r
+
+pub byte_ok : (lo hi : ℕ) (bytes : List ℕ) (at n : ℕ) → IsBytes bytes → number_within w8 lo hi bytes at ≡ Ok n → StandsAt (n ∷ []) bytes at (at + 1) × IsInRange lo hi n
+byte_ok lo hi bytes at n fits e =
+    let read = within_ok w8 lo hi bytes at n e in
+    ((byte_stands bytes at n fits (ap (λ (o : Option ℕ). ok_or o (entry.Short at)) read.0)).0, read.1)
+
+pub byte_back : (lo hi : ℕ) (bytes : List ℕ) (at end n : ℕ) → IsInRange lo hi n → StandsAt (n ∷ []) bytes at end → number_within w8 lo hi bytes at ≡ Ok n
+byte_back lo hi bytes at end n r p = within_again w8 lo hi bytes at n (first_byte n [] bytes at end p) r
+
+pub wide32 : IsWide w32 (2 ^ 32)
+wide32 = record {
+  len = λ n. refl;
+  back = λ bytes len fits. be_bytes_4 bytes _ len fits refl;
+  again = λ n lt. from_be_bytes-to_be_bytes_4 n lt;
+  below = λ bytes fits. omega (arith, fits 0, fits 1, fits 2, fits 3);
+}
+
+pub long_ok : (bytes : List ℕ) (at n : ℕ) → IsBytes bytes → field_at w64 bytes at ≡ Ok n → StandsAt (to_be_bytes w64 n) bytes at (at + 8) × (n < 2 ^ 64)
+long_ok bytes at n fits e = number_stands w64 (2 ^ 64) wide64 bytes at n fits (field_ok (number_at w64 bytes at) (Short at) n e)
+
+pub long_back : (bytes : List ℕ) (at end n : ℕ) → n < 2 ^ 64 → StandsAt (to_be_bytes w64 n) bytes at end → field_at w64 bytes at ≡ Ok n
+long_back bytes at end n small p = ap (λ (o : Option ℕ). ok_or o (Short at)) (number_again w64 (2 ^ 64) wide64 bytes at end n small p)
+
+pub from_ok : (least : ℕ) (bytes : List ℕ) (at n : ℕ) → IsBytes bytes → number_from least bytes at ≡ Ok n → StandsAt (to_be_bytes w64 n) bytes at (at + 8) × (n < 2 ^ 64) × (least ≤ n)
+unfolding number_from
+from_ok least bytes at n fits e =
+    let b = bind_ok (field_at w64 bytes at) (λ k. cond (leb least k) (Ok k) (Err (Order at))) n e in
+    let g = met_test (leb least b.0) b.0 (Order at) n b.2 in
+    let t = long_ok bytes at b.0 fits b.1 in
+    subst (λ (k : ℕ). StandsAt (to_be_bytes w64 k) bytes at (at + 8) × (k < 2 ^ 64) × (least ≤ k)) g.1 (t.0, t.1, leb-true _ _ g.0)
+
+pub from_again : (least : ℕ) (bytes : List ℕ) (at end n : ℕ) → n < 2 ^ 64 → least ≤ n → StandsAt (to_be_bytes w64 n) bytes at end → number_from least bytes at ≡ Ok n
+unfolding number_from
+from_again least bytes at end n small above p = rw (long_back bytes at end n small p, le-leb least n above) refl
