@@ -1,0 +1,20 @@
+-- What a job claims, and when two claims meet.
+use Rattle.std.specs.Prelude.{ℕ, ◌+◌, Bool, ◌&&◌, nat_le, List}
+use Rattle.lethe_base.specs.declared.shape.FileFacts.{FileFacts}
+use Rattle.lethe_fade.specs.declared.claim.Claim.{Claim}
+use Rattle.lethe_fade.specs.Spans.{KeyRange, overlaps, hull, overlapping}
+
+abbrev pub keys_of : Claim → KeyRange
+keys_of claim = record { lo = claim.lo; hi = claim.hi }
+
+-- they share a level, and a key
+abbrev pub meets : Claim → Claim → Bool
+meets a b = nat_le a.first b.last && nat_le b.first a.last && overlaps (keys_of a) (keys_of b)
+
+-- a level and the next one, with a range of keys
+abbrev pub claim_at : ℕ → KeyRange → Claim
+claim_at level keys = record { first = level; last = level + 1; lo = keys.lo; hi = keys.hi }
+
+-- a merge of files of a level whose keys have that hull takes the files of the next level that overlap it, and claims the keys of all that it takes
+abbrev pub merge_claim : ℕ → KeyRange → List FileFacts → Claim
+merge_claim level sources next = claim_at level (hull sources (overlapping sources next))
