@@ -17,9 +17,12 @@ pub record Candidate : Type 0 where
   pub plan : Plan
   pub claim : Claim
 
+abbrev pub merge_plan : ℕ → Plan
+merge_plan number = record { file = number; erase = None }
+
 -- the merge that a file's number names, of sources with these keys
 abbrev pub merge_named : ℕ → ℕ → KeyRange → List FileFacts → Candidate
-merge_named number level sources next = record { plan = record { file = number; erase = None }; claim = merge_claim level sources next }
+merge_named number level sources next = record { plan = merge_plan number; claim = merge_claim level sources next }
 
 -- level 0 is merged as a whole, and the least of its numbers names the merge
 abbrev pub whole_merges : List FileFacts → List FileFacts → List Candidate
@@ -30,19 +33,20 @@ whole_merges (first ∷ others) next = merge_named (fold (λ least file. min lea
 abbrev pub file_merges : Pick → ℕ → List FileFacts → List FileFacts → List Candidate
 file_merges order level files next = map (λ file. merge_named file.no level (range_of file) next) (sorted_by (file_cmp order next) files)
 
-abbrev pub merges_at : Fields → ℕ → List FileFacts → List FileFacts → List Candidate
-merges_at fields level files next = if level == 0 then whole_merges files next else file_merges fields.pick level files next
+-- a level that isn't saturated gives none
+abbrev pub level_merges : Fields → ℕ → List FileFacts → List FileFacts → List Candidate
+level_merges fields level files next =
+  if is_saturated fields level files then (if level == 0 then whole_merges files next else file_merges fields.pick level files next) else []
 
 -- the files of the first of some levels
 abbrev pub first_files : List (List FileFacts) → List FileFacts
 first_files [] = []
 first_files (files ∷ deeper) = files
 
--- the merges of saturated levels, lowest level first, where the first of the levels has that number
+-- the merges of some levels, the first of which has that number, lowest level first
 abbrev pub candidates_from : Fields → ℕ → List (List FileFacts) → List Candidate
 candidates_from fields level [] = []
-candidates_from fields level (files ∷ deeper) =
-  (if is_saturated fields level files then merges_at fields level files (first_files deeper) else []) ++ candidates_from fields (level + 1) deeper
+candidates_from fields level (files ∷ deeper) = level_merges fields level files (first_files deeper) ++ candidates_from fields (level + 1) deeper
 
 abbrev pub candidates : Fields → Shape → List Candidate
 candidates fields shape = candidates_from fields 0 shape.levels

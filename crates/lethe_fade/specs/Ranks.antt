@@ -2,7 +2,7 @@
 use Rattle.std.specs.Prelude.{ℕ, List, [], ◌∷◌, Option, Some, None, if◌then◌else◌}
 use Rattle.std.specs.declared.cmp.Ordering.{Ordering}
 use Rattle.std.specs.declared.cmp.Ordering.TheVariants.{Less, Equal, Greater}
-use Rattle.std.specs.Ordering.{nat_cmp, ordering_then, is_gt}
+use Rattle.std.specs.Ordering.{nat_cmp, ordering_then, is_gt, min_by_ordering}
 use Rattle.lethe_base.specs.declared.config.Pick.{Pick}
 use Rattle.lethe_base.specs.declared.config.Pick.TheVariants.{So, Sd}
 use Rattle.lethe_base.specs.declared.shape.FileFacts.{FileFacts}
@@ -28,6 +28,11 @@ rank_of next file = record { below = entries_in (overlapping (range_of file) nex
 
 abbrev pub file_cmp : Pick → List FileFacts → FileFacts → FileFacts → Ordering
 file_cmp order next a b = rank_cmp order (rank_of next a) (rank_of next b)
+
+-- the lesser of two ranks, the first where they are tied
+abbrev pub better_rank : Pick → Option Rank → Rank → Rank
+better_rank order None rank = rank
+better_rank order (Some before) rank = min_by_ordering (rank_cmp order before rank) before rank
 
 -- a list with one more item at its place in an order, before what it is tied with
 abbrev pub with_item : {X : Type 0} → (X → X → Ordering) → X → List X → List X

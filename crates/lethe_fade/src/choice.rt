@@ -1,6 +1,7 @@
 //! The choice of the next merge.
 ghost use Rattle.std.specs.Prelude.{◌≡◌, ◌+◌, ◌<◌, ◌^◌, length, find, option_map};
-ghost use Rattle.lethe_fade.specs.Choice.{whole_merges, file_merges, is_free, choice};
+ghost use Rattle.lethe_fade.specs.Ranks.{better_rank};
+ghost use Rattle.lethe_fade.specs.Choice.{whole_merges, file_merges, level_merges, is_free, choice};
 
 use crate::merge::{is_free, merge_of};
 use crate::rank::{Rank, compare_ranks};
@@ -17,28 +18,46 @@ pub fn pick(shape: &Shape, config: &Config, _clock: u64, claims: &[Claim]) -> Op
     requires { length shape.now.levels ≡ config.now.levels + 1 }
     ensures { result ≡ choice config.now shape.now claims.now }
 {
-    let fields = config.fields();
     let levels = shape.levels.items();
-    for level in 0..fields.levels {
-        let files = levels[level as usize].items();
-        if is_saturated(config, level, files) {
-            let next = levels[level as usize + 1].items();
-            let file = if level == 0 {
-                whole_level(files, next, claims)
-            } else {
-                best_file(fields.pick, level, files, next, claims)
-            };
-            if let Some(file) = file {
-                return Some(Plan { file, erase: None });
-            }
+    for level in 0..config.fields().levels {
+        let place = level as usize;
+        let plan = first_free(
+            config,
+            level,
+            levels[place].items(),
+            levels[place + 1].items(),
+            claims,
+        );
+        if plan.is_some() {
+            return plan;
         }
     }
     None
 }
 
-/// The least number of a file of level 0, where the merge of all its files is free.
-fn whole_level(files: &[FileFacts], next: &[FileFacts], claims: &[Claim]) -> Option<u64>
-    ensures { result ≡ option_map (λ c. c.plan.file) (find (is_free claims.now) (whole_merges files.now next.now)) }
+/// The first merge of a level that is free, where the level is saturated.
+fn first_free(
+    config: &Config,
+    level: u64,
+    files: &[FileFacts],
+    next: &[FileFacts],
+    claims: &[Claim],
+) -> Option<Plan>
+    requires { level < 2 ^ 63 }
+    ensures { result ≡ option_map (λ c. c.plan) (find (is_free claims.now) (level_merges config.now level files.now next.now)) }
+{
+    if !is_saturated(config, level, files) {
+        None
+    } else if level == 0 {
+        whole_level(files, next, claims)
+    } else {
+        best_file(config.fields().pick, level, files, next, claims)
+    }
+}
+
+/// The merge of all files of level 0, where it is free.
+fn whole_level(files: &[FileFacts], next: &[FileFacts], claims: &[Claim]) -> Option<Plan>
+    ensures { result ≡ option_map (λ c. c.plan) (find (is_free claims.now) (whole_merges files.now next.now)) }
 {
     let (first, others) = files.split_first()?;
     let mut keys = Span::of(first);
@@ -49,22 +68,25 @@ fn whole_level(files: &[FileFacts], next: &[FileFacts], claims: &[Claim]) -> Opt
     }
     let merge = merge_of(&keys, next);
     if is_free(0, &merge.keys, claims) {
-        Some(least)
+        Some(Plan {
+            file: least,
+            erase: None,
+        })
     } else {
         None
     }
 }
 
-/// The number of the first file in the order of `order` whose merge is free.
+/// The merge of the first file in an order whose merge is free.
 fn best_file(
     order: Pick,
     level: u64,
     files: &[FileFacts],
     next: &[FileFacts],
     claims: &[Claim],
-) -> Option<u64>
+) -> Option<Plan>
     requires { level < 2 ^ 63 }
-    ensures { result ≡ option_map (λ c. c.plan.file) (find (is_free claims.now) (file_merges order level files.now next.now)) }
+    ensures { result ≡ option_map (λ c. c.plan) (find (is_free claims.now) (file_merges order level files.now next.now)) }
 {
     let mut best = None;
     for file in files {
@@ -80,15 +102,20 @@ fn best_file(
         }
     }
     match best {
-        Some(rank) => Some(rank.no),
+        Some(rank) => Some(Plan {
+            file: rank.no,
+            erase: None,
+        }),
         None => None,
     }
 }
 
-/// The rank that stands first, the one before where they are tied.
-fn better(order: Pick, best: Option<Rank>, rank: Rank) -> Rank {
+/// The lesser of two ranks, the one before where they are tied.
+fn better(order: Pick, best: Option<Rank>, rank: Rank) -> Rank
+    ensures { result ≡ better_rank order best rank }
+{
     match best {
-        Some(before) if compare_ranks(order, &rank, &before) != Ordering::Less => before,
+        Some(before) if compare_ranks(order, &before, &rank) != Ordering::Greater => before,
         _ => rank,
     }
 }

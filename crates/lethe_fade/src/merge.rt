@@ -40,7 +40,12 @@ pub fn is_free(level: u64, keys: &Span, claims: &[Claim]) -> bool
     requires { level < 2 ^ 63 }
     ensures { result ≡ not (list_any (meets (claim_at level keys.now)) claims.now) }
 {
-    !claims.iter().any(|claim| does_meet(level, keys, claim))
+    for claim in claims {
+        if does_meet(level, keys, claim) {
+            return false;
+        }
+    }
+    true
 }
 
 /// Whether a merge of a level with the next one meets a claim.

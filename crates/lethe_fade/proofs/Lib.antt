@@ -1,0 +1,4 @@
+pub mod Powers
+pub mod Sorting
+pub mod Ranking
+pub mod Chosen
