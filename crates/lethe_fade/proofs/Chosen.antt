@@ -1,5 +1,5 @@
 -- What the loops of the choice find, as candidates.
-use Rattle.std.proofs.Common.{◌≡◌, ℕ, ◌+◌, ◌<◌, ◌≤◌, min, Bool, true, false, not, cond, List, [], ◌∷◌, ◌++◌, length, drop, take, get_or, fold, map, Option, Some, None, refl, sym, ap, ◌∙◌, subst, arith}
+use Rattle.std.proofs.Common.{◌≡◌, ℕ, ◌+◌, ◌<◌, min, Bool, true, false, not, cond, List, [], ◌∷◌, ◌++◌, length, drop, take, get_or, fold, Option, Some, None, refl, sym, ap, ◌∙◌, arith}
 use Rattle.std.specs.List.{find, list_any}
 use Rattle.std.proofs.lemmas.Bool.{true≢false}
 use Rattle.std.specs.Option.{option_map, option_or, is_some}
@@ -15,7 +15,7 @@ use Rattle.lethe_fade.specs.declared.rank.Rank.{Rank}
 use Rattle.lethe_fade.specs.Saturation.{entries_in, is_saturated}
 use Rattle.lethe_fade.specs.Spans.{KeyRange, range_of, hull, overlapping}
 use Rattle.lethe_fade.specs.Claims.{meets, claim_at, merge_claim}
-use Rattle.lethe_fade.specs.Ranks.{rank_of, better_rank, file_cmp, sorted_by}
+use Rattle.lethe_fade.specs.Ranks.{better_rank, file_cmp, sorted_by}
 use Rattle.lethe_fade.specs.Choice.{Candidate, merge_plan, merge_named, whole_merges, file_merges, level_merges, first_files, candidates_from, is_free}
 use Rattle.lethe_fade.proofs.Ranking.{first_rank, first_rank_more, find-map, plan-rank}
 

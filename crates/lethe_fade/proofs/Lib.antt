@@ -2,3 +2,6 @@ pub mod Powers
 pub mod Sorting
 pub mod Ranking
 pub mod Chosen
+pub mod MeetingLaws
+pub mod OrderLaws
+pub mod ClaimLaws

@@ -1,19 +1,19 @@
 -- The order of the files of a level is total, and a loop over them finds the first one that is free.
-use Rattle.std.proofs.Common.{◌≡◌, ℕ, ◌+◌, ◌<◌, Bool, true, false, cond, List, [], ◌∷◌, length, take, get_or, map, Option, Some, None, refl, sym, ap, ◌∙◌}
+use Rattle.std.proofs.Common.{◌≡◌, ℕ, ◌+◌, ◌<◌, Bool, true, false, cond, List, [], ◌∷◌, length, take, get_or, map, Option, Some, None, refl, ap, ◌∙◌}
 use Rattle.std.proofs.lemmas.Cmp.{nat_cmp_total, on_total, then_total, back_total}
 use Rattle.std.specs.Cmp.{IsTotalOrder}
 use Rattle.std.specs.List.{find}
 use Rattle.std.specs.Option.{option_map}
 use Rattle.std.specs.declared.cmp.Ordering.{Ordering}
 use Rattle.std.specs.declared.cmp.Ordering.TheVariants.{Less, Equal, Greater}
-use Rattle.std.specs.Ordering.{nat_cmp, ordering_reverse, min_by_ordering}
+use Rattle.std.specs.Ordering.{ordering_reverse, min_by_ordering}
 use Rattle.lethe_base.specs.declared.config.Pick.{Pick}
 use Rattle.lethe_base.specs.declared.config.Pick.TheVariants.{So, Sd}
 use Rattle.lethe_base.specs.declared.shape.FileFacts.{FileFacts}
 use Rattle.lethe_fade.specs.declared.rank.Rank.{Rank}
 use Rattle.lethe_fade.specs.Ranks.{oldest_cmp, rank_cmp, rank_of, file_cmp, better_rank, sorted_by}
 use Rattle.lethe_fade.specs.Choice.{merge_plan}
-use Rattle.lethe_fade.proofs.Sorting.{better, passing, find-sorted_more}
+use Rattle.lethe_fade.proofs.Sorting.{better, find-sorted_more}
 
 oldest_antisymm : (a b : Option ℕ) → oldest_cmp a b ≡ ordering_reverse (oldest_cmp b a)
 oldest_antisymm None None = refl
@@ -70,7 +70,7 @@ rank-passing order next (Some x) y false = refl
 -- a step of a loop over the files
 pub first_rank_more : (order : Pick) (next : List FileFacts) (p : FileFacts → Bool) (files : List FileFacts) (i : ℕ) (d : FileFacts) → i < length files
     → first_rank order next p (take (i + 1) files)
-      ≡ cond (p (get_or files i d)) (Some (better_rank order (first_rank order next p (take i files)) (rank_of next (get_or files i d)))) (first_rank order next p (take i files))
+    ≡ cond (p (get_or files i d)) (Some (better_rank order (first_rank order next p (take i files)) (rank_of next (get_or files i d)))) (first_rank order next p (take i files))
 first_rank_more order next p files i d h =
     ap (option_map (rank_of next)) (find-sorted_more (file_total order next) p files i d h)
     ∙ rank-passing order next (find p (sorted_by (file_cmp order next) (take i files))) (get_or files i d) (p (get_or files i d))

@@ -1,6 +1,5 @@
 -- The first item that passes a test, among items in an order: the best of those that pass.
-use Rattle.std.proofs.Common.{◌≡◌, ℕ, ◌+◌, ◌<◌, Bool, true, false, cond, List, [], ◌∷◌, ◌++◌, length, take, get_or, Option, Some, None, refl, sym, ap, ◌∙◌, subst, arith}
-use Rattle.std.proofs.lemmas.Bool.{true≢false}
+use Rattle.std.proofs.Common.{◌≡◌, ℕ, ◌+◌, ◌<◌, Bool, true, false, cond, List, [], ◌∷◌, ◌++◌, length, take, get_or, Option, Some, None, refl, sym, ap, ◌∙◌}
 use Rattle.std.proofs.lemmas.Cmp.{upto}
 use Rattle.std.proofs.lemmas.List.{take_more}
 use Rattle.std.specs.Cmp.{IsTotalOrder}
@@ -47,11 +46,11 @@ above_trans : {X : Type 0} {cmp : X → X → Ordering} (o : IsTotalOrder cmp) (
 above_trans o x y z e f = ap is_gt (o.antisymm x z ∙ ap ordering_reverse (o.trans z y x (above_back o y z f) (above_back o x y e)))
 
 -- none of the items is below x
-abbrev Leads : {X : Type 0} → (X → X → Ordering) → X → List X → Type 0
+abbrev pub Leads : {X : Type 0} → (X → X → Ordering) → X → List X → Type 0
 Leads cmp x [] = Unit {0}
 Leads cmp x (y ∷ ys) = (is_gt (cmp x y) ≡ false) × Leads cmp x ys
 
-abbrev Ascends : {X : Type 0} → (X → X → Ordering) → List X → Type 0
+abbrev pub Ascends : {X : Type 0} → (X → X → Ordering) → List X → Type 0
 Ascends cmp [] = Unit {0}
 Ascends cmp (x ∷ xs) = Leads cmp x xs × Ascends cmp xs
 

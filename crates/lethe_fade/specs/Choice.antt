@@ -8,7 +8,7 @@ use Rattle.lethe_base.specs.declared.shape.Shape.{Shape}
 use Rattle.lethe_fade.specs.declared.claim.Claim.{Claim}
 use Rattle.lethe_fade.specs.declared.plan.Plan.{Plan}
 use Rattle.lethe_fade.specs.Saturation.{is_saturated}
-use Rattle.lethe_fade.specs.Spans.{KeyRange, range_of, hull}
+use Rattle.lethe_fade.specs.Spans.{KeyRange, range_of, hull_of}
 use Rattle.lethe_fade.specs.Claims.{meets, merge_claim}
 use Rattle.lethe_fade.specs.Ranks.{file_cmp, sorted_by}
 
@@ -27,7 +27,7 @@ merge_named number level sources next = record { plan = merge_plan number; claim
 -- level 0 is merged as a whole, and the least of its numbers names the merge
 abbrev pub whole_merges : List FileFacts → List FileFacts → List Candidate
 whole_merges [] next = []
-whole_merges (first ∷ others) next = merge_named (fold (λ least file. min least file.no) first.no others) 0 (hull (range_of first) others) next ∷ []
+whole_merges (first ∷ others) next = merge_named (fold (λ least file. min least file.no) first.no others) 0 (hull_of (first ∷ others)) next ∷ []
 
 -- another level gives a merge of each of its files, in the order of `so` or `sd`
 abbrev pub file_merges : Pick → ℕ → List FileFacts → List FileFacts → List Candidate
@@ -36,7 +36,7 @@ file_merges order level files next = map (λ file. merge_named file.no level (ra
 -- a level that isn't saturated gives none
 abbrev pub level_merges : Fields → ℕ → List FileFacts → List FileFacts → List Candidate
 level_merges fields level files next =
-  if is_saturated fields level files then (if level == 0 then whole_merges files next else file_merges fields.pick level files next) else []
+    if is_saturated fields level files then (if level == 0 then whole_merges files next else file_merges fields.pick level files next) else []
 
 -- the files of the first of some levels
 abbrev pub first_files : List (List FileFacts) → List FileFacts

@@ -4,3 +4,4 @@ pub mod Spans
 pub mod Claims
 pub mod Ranks
 pub mod Choice
+pub mod Claimed

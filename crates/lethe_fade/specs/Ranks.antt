@@ -1,8 +1,9 @@
 -- The order in which the files of a saturated level are candidates.
-use Rattle.std.specs.Prelude.{ℕ, List, [], ◌∷◌, Option, Some, None, if◌then◌else◌}
+use Rattle.std.specs.Prelude.{ℕ, IsTrue, List, [], ◌∷◌, AllPairs, Option, Some, None, if◌then◌else◌}
 use Rattle.std.specs.declared.cmp.Ordering.{Ordering}
 use Rattle.std.specs.declared.cmp.Ordering.TheVariants.{Less, Equal, Greater}
-use Rattle.std.specs.Ordering.{nat_cmp, ordering_then, is_gt, min_by_ordering}
+use Rattle.std.specs.Ordering.{nat_cmp, ordering_then, is_le, is_gt, min_by_ordering}
+use Rattle.std.specs.List.Sorted.{IsPermutation}
 use Rattle.lethe_base.specs.declared.config.Pick.{Pick}
 use Rattle.lethe_base.specs.declared.config.Pick.TheVariants.{So, Sd}
 use Rattle.lethe_base.specs.declared.shape.FileFacts.{FileFacts}
@@ -43,3 +44,11 @@ with_item cmp x (y ∷ ys) = if is_gt (cmp x y) then y ∷ with_item cmp x ys el
 abbrev pub sorted_by : {X : Type 0} → (X → X → Ordering) → List X → List X
 sorted_by cmp [] = []
 sorted_by cmp (x ∷ xs) = with_item cmp x (sorted_by cmp xs)
+
+-- the same files, and none before a lesser one
+pub record InOrder (order : Pick) (next files sorted : List FileFacts) : Type 0 where
+  pub same : IsPermutation files sorted
+  pub ascending : AllPairs (λ file later. IsTrue (is_le (file_cmp order next file later))) sorted
+
+abbrev pub FilesComeInOrder : Type 0
+FilesComeInOrder = (order : Pick) (next files : List FileFacts) → InOrder order next files (sorted_by (file_cmp order next) files)

@@ -10,4 +10,4 @@ entries_in files = sum_by (λ file. file.entries) files
 -- level 0 by the number of its files, the levels between by their entries, and the last never
 abbrev pub is_saturated : Fields → ℕ → List FileFacts → Bool
 is_saturated fields level files =
-  if level == 0 then nat_le fields.ratio (length files) else (nat_lt level fields.levels && nat_lt (fields.buffer * fields.ratio ^ (level + 1)) (entries_in files))
+    if level == 0 then nat_le fields.ratio (length files) else (nat_lt level fields.levels && nat_lt (fields.buffer * fields.ratio ^ (level + 1)) (entries_in files))

@@ -1,5 +1,5 @@
 -- Ranges of keys that both ends belong to.
-use Rattle.std.specs.Prelude.{Bool, ◌&&◌, List, fold, filter}
+use Rattle.std.specs.Prelude.{Bool, ◌&&◌, List, [], ◌∷◌, fold, filter}
 use Rattle.std.specs.Ordering.{is_le, ord_min, ord_max}
 use Rattle.lethe_base.specs.Keys.{Bytes, key_cmp}
 use Rattle.lethe_base.specs.declared.shape.FileFacts.{FileFacts}
@@ -23,6 +23,11 @@ joined a b = record { lo = ord_min key_cmp a.lo b.lo; hi = ord_max key_cmp a.hi 
 -- the least range with all keys of a range and of some files
 abbrev pub hull : KeyRange → List FileFacts → KeyRange
 hull range files = fold (λ keys file. joined keys (range_of file)) range files
+
+-- the least range with all keys of some files, of which there has to be one
+abbrev pub hull_of : List FileFacts → KeyRange
+hull_of [] = record { lo = []; hi = [] }
+hull_of (first ∷ others) = hull (range_of first) others
 
 -- the files that share a key with a range
 abbrev pub overlapping : KeyRange → List FileFacts → List FileFacts

@@ -3,6 +3,7 @@
 
 mod choice;
 mod claim;
+mod laws;
 mod level_times;
 mod merge;
 mod plan;
@@ -12,6 +13,7 @@ mod span;
 
 pub use choice::pick;
 pub use claim::Claim;
+pub use laws::{choice_is_free, deadlines_rise, files_come_in_order, meeting_is_sharing};
 pub use level_times::cum;
 pub use plan::Plan;
 

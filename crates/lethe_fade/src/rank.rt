@@ -26,9 +26,7 @@ pub fn compare_ranks(order: Pick, a: &Rank, b: &Rank) -> Ordering
     let number = a.no.cmp(&b.no);
     match order {
         Pick::So => a.below.cmp(&b.below).then(tombs).then(number),
-        Pick::Sd => tombs
-            .then(compare_oldest(a.oldest, b.oldest))
-            .then(number),
+        Pick::Sd => tombs.then(compare_oldest(a.oldest, b.oldest)).then(number),
     }
 }
 

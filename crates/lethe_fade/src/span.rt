@@ -54,8 +54,16 @@ impl<'a> Span<'a> {
         ensures { result ≡ joined self.now other.now }
     {
         Span {
-            lo: if other.lo < self.lo { other.lo } else { self.lo },
-            hi: if other.hi < self.hi { self.hi } else { other.hi },
+            lo: if other.lo < self.lo {
+                other.lo
+            } else {
+                self.lo
+            },
+            hi: if other.hi < self.hi {
+                self.hi
+            } else {
+                other.hi
+            },
         }
     }
 }

@@ -92,7 +92,10 @@ fn times_of(alloc: Global, config: &Config) -> Result<Vec<u64>, Fail> {
 fn the_time_of_a_level_is_its_part_of_the_threshold(rt: HostRuntime) -> Result<(), Fail> {
     let alloc = rt.alloc();
     let default = Config::new(Fields::default())?;
-    assert_eq!(rt; times_of(alloc, &default)?.as_slice(), [47, 238, 1000].as_slice());
+    assert_eq!(rt;
+        times_of(alloc, &default)?.as_slice(),
+        [47, 238, 1000].as_slice()
+    );
     let small = config_of(2, Pick::So)?;
     assert_eq!(rt; times_of(alloc, &small)?.as_slice(), [33, 100].as_slice());
     Ok(())
@@ -119,9 +122,17 @@ fn level_0_is_merged_from_as_many_files_as_the_ratio(rt: HostRuntime) -> Result<
         (2, 3, "a", "p", Some(5)),
     ];
     for (first, last, lo, hi, file) in rows {
-        assert_eq!(rt; picked(alloc, Pick::So, &two, &[(first, last, lo, hi)])?, file, "{first} {last} {lo} {hi}");
+        assert_eq!(rt;
+            picked(alloc, Pick::So, &two, &[(first, last, lo, hi)])?,
+            file,
+            "{first} {last} {lo} {hi}"
+        );
     }
-    assert_eq!(rt; picked(alloc, Pick::Sd, &two, &[])?, Some(5), "the least number");
+    assert_eq!(rt;
+        picked(alloc, Pick::Sd, &two, &[])?,
+        Some(5),
+        "the least number"
+    );
     Ok(())
 }
 
@@ -142,7 +153,11 @@ fn a_deeper_level_is_saturated_by_its_entries(rt: HostRuntime) -> Result<(), Fai
             (1, 4, "d", "f", None, 0, second),
             (2, 1, "f", "h", None, 0, deepest),
         ];
-        assert_eq!(rt; picked(alloc, Pick::So, &files, &[])?, file, "{first} {second} {deepest}");
+        assert_eq!(rt;
+            picked(alloc, Pick::So, &files, &[])?,
+            file,
+            "{first} {second} {deepest}"
+        );
     }
     Ok(())
 }
@@ -151,7 +166,18 @@ fn a_deeper_level_is_saturated_by_its_entries(rt: HostRuntime) -> Result<(), Fai
 fn files_are_merged_in_the_order_of_the_configuration(rt: HostRuntime) -> Result<(), Fail> {
     let alloc = rt.alloc();
     // The number, oldest time and tombstones of two files, what lies below each, and what `so` and `sd` pick of them.
-    let rows: [(u64, Option<u64>, u64, u64, u64, Option<u64>, u64, u64, u64, u64); 7] = [
+    let rows: [(
+        u64,
+        Option<u64>,
+        u64,
+        u64,
+        u64,
+        Option<u64>,
+        u64,
+        u64,
+        u64,
+        u64,
+    ); 7] = [
         (3, None, 5, 10, 4, None, 1, 9, 4, 3),
         (3, None, 1, 10, 4, None, 5, 9, 4, 4),
         (3, None, 1, 9, 4, None, 5, 10, 3, 4),
@@ -160,15 +186,34 @@ fn files_are_merged_in_the_order_of_the_configuration(rt: HostRuntime) -> Result
         (4, Some(7), 5, 9, 3, None, 5, 9, 3, 4),
         (4, None, 5, 9, 3, None, 5, 9, 3, 3),
     ];
-    for (no, oldest, tombs, below, other_no, other_oldest, other_tombs, other_below, so, sd) in rows {
+    for (
+        no,
+        oldest,
+        tombs,
+        below,
+        other_no,
+        other_oldest,
+        other_tombs,
+        other_below,
+        so,
+        sd,
+    ) in rows {
         let files: [Row; 4] = [
             (1, no, "a", "c", oldest, tombs, 9),
             (1, other_no, "d", "f", other_oldest, other_tombs, 9),
             (2, 1, "c", "cc", None, 0, below),
             (2, 2, "e", "g", None, 0, other_below),
         ];
-        assert_eq!(rt; picked(alloc, Pick::So, &files, &[])?, Some(so), "so {no} {other_no}");
-        assert_eq!(rt; picked(alloc, Pick::Sd, &files, &[])?, Some(sd), "sd {no} {other_no}");
+        assert_eq!(rt;
+            picked(alloc, Pick::So, &files, &[])?,
+            Some(so),
+            "so {no} {other_no}"
+        );
+        assert_eq!(rt;
+            picked(alloc, Pick::Sd, &files, &[])?,
+            Some(sd),
+            "sd {no} {other_no}"
+        );
     }
     Ok(())
 }
@@ -193,8 +238,21 @@ fn a_claim_in_the_way_leaves_the_next_candidate(rt: HostRuntime) -> Result<(), F
         (0, 1, "a", "z", None),
     ];
     for (first, last, lo, hi, file) in rows {
-        assert_eq!(rt; picked(alloc, Pick::So, &files, &[(first, last, lo, hi)])?, file, "{first} {last} {lo} {hi}");
+        assert_eq!(rt;
+            picked(alloc, Pick::So, &files, &[(first, last, lo, hi)])?,
+            file,
+            "{first} {last} {lo} {hi}"
+        );
     }
-    assert_eq!(rt; picked(alloc, Pick::So, &files, &[(0, 0, "d", "x"), (2, 2, "e", "f")])?, Some(4), "beyond the file's own keys");
+    assert_eq!(rt;
+        picked(
+            alloc,
+            Pick::So,
+            &files,
+            &[(0, 0, "d", "x"), (2, 2, "e", "f")]
+        )?,
+        Some(4),
+        "beyond the file's own keys"
+    );
     Ok(())
 }

@@ -1,4 +1,4 @@
-use Rattle.std.proofs.Common.{◌≡◌, ℕ, ◌+◌, ◌<◌, [], drop, length, sym, ap, ◌∙◌, arith}
+use Rattle.std.proofs.Common.{◌≡◌, ◌+◌, ◌<◌, [], drop, length, sym, ap, ◌∙◌, arith}
 use Rattle.std.specs.List.{find}
 use Rattle.std.specs.Option.{option_map}
 use Rattle.lethe_base.specs.declared.config.Fields.{Fields}
@@ -10,10 +10,10 @@ pub returns-then-is_some : goal.returns-then-is_some
 returns-then-is_some c =
     let inside : c.loop-level.level + 1 < length c.args.shape.now.levels = omega (arith, ap (λ (f : Fields). f.levels) c.fields.ensures.fields) in
     let step : Step (is_free c.args.claims.now) c.args.config.now c.args.shape.now.levels c.loop-level.level c.first_free-plan.result =
-        level_step (is_free c.args.claims.now) c.args.config.now c.args.shape.now.levels c.loop-level.level c.items.result.now c.items-in-loop-level.result.now c.first_free-plan.result inside
-        (read_at c.items-levels.result.now c.args.shape.now.levels c.loop-level.level c.items.result.now c.index-levels-place.result c.items.ensures c.index-levels-place.is c.items-levels.ensures)
-        (read_at c.items-levels.result.now c.args.shape.now.levels (c.loop-level.level + 1) c.items-in-loop-level.result.now c.index-levels-place-in-loop-level.result c.items-in-loop-level.ensures c.index-levels-place-in-loop-level.is c.items-levels.ensures)
-        c.first_free-plan.ensures
+    level_step (is_free c.args.claims.now) c.args.config.now c.args.shape.now.levels c.loop-level.level c.items.result.now c.items-in-loop-level.result.now c.first_free-plan.result inside
+    (read_at c.items-levels.result.now c.args.shape.now.levels c.loop-level.level c.items.result.now c.index-levels-place.result c.items.ensures c.index-levels-place.is c.items-levels.ensures)
+    (read_at c.items-levels.result.now c.args.shape.now.levels (c.loop-level.level + 1) c.items-in-loop-level.result.now c.index-levels-place-in-loop-level.result c.items-in-loop-level.ensures c.index-levels-place-in-loop-level.is c.items-levels.ensures)
+    c.first_free-plan.ensures
     in
     step.found (sym c.is_some.ensures ∙ c.if-is_some.true) ∙ ap (option_map (λ (candidate : Candidate). candidate.plan)) (sym c.loop-level.invariant)
 
@@ -21,10 +21,10 @@ pub loop-level-preserved : goal.loop-level-preserved
 loop-level-preserved c =
     let inside : c.loop-level.level + 1 < length c.args.shape.now.levels = omega (arith, ap (λ (f : Fields). f.levels) c.fields.ensures.fields) in
     let step : Step (is_free c.args.claims.now) c.args.config.now c.args.shape.now.levels c.loop-level.level c.first_free-plan.result =
-        level_step (is_free c.args.claims.now) c.args.config.now c.args.shape.now.levels c.loop-level.level c.items.result.now c.items-in-loop-level.result.now c.first_free-plan.result inside
-        (read_at c.items-levels.result.now c.args.shape.now.levels c.loop-level.level c.items.result.now c.index-levels-place.result c.items.ensures c.index-levels-place.is c.items-levels.ensures)
-        (read_at c.items-levels.result.now c.args.shape.now.levels (c.loop-level.level + 1) c.items-in-loop-level.result.now c.index-levels-place-in-loop-level.result c.items-in-loop-level.ensures c.index-levels-place-in-loop-level.is c.items-levels.ensures)
-        c.first_free-plan.ensures
+    level_step (is_free c.args.claims.now) c.args.config.now c.args.shape.now.levels c.loop-level.level c.items.result.now c.items-in-loop-level.result.now c.first_free-plan.result inside
+    (read_at c.items-levels.result.now c.args.shape.now.levels c.loop-level.level c.items.result.now c.index-levels-place.result c.items.ensures c.index-levels-place.is c.items-levels.ensures)
+    (read_at c.items-levels.result.now c.args.shape.now.levels (c.loop-level.level + 1) c.items-in-loop-level.result.now c.index-levels-place-in-loop-level.result c.items-in-loop-level.ensures c.index-levels-place-in-loop-level.is c.items-levels.ensures)
+    c.first_free-plan.ensures
     in
     c.loop-level.invariant ∙ step.later (sym c.is_some.ensures ∙ c.if-is_some.false)
 

@@ -1,7 +1,7 @@
-use Rattle.std.proofs.Common.{◌≡◌, ◌∷◌, true, false, not, min, fold, take, sym, ap, ◌∙◌}
+use Rattle.std.proofs.Common.{◌≡◌, true, false, not, min, fold, take, sym, ap, ◌∙◌}
 use Rattle.std.proofs.lemmas.List.{take_all}
 use Rattle.std.specs.List.{list_any}
-use Rattle.lethe_fade.specs.Spans.{range_of, hull}
+use Rattle.lethe_fade.specs.Spans.{hull}
 use Rattle.lethe_fade.specs.Claims.{meets, claim_at}
 use Rattle.lethe_fade.proofs.Chosen.{whole_result}
 use Rattle.lethe_fade.proofs.choice.whole_level.Goals as goal

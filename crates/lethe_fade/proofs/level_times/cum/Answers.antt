@@ -1,4 +1,4 @@
-use Rattle.std.proofs.Common.{ℕ, ◌≡◌, ◌<◌, ◌≤◌, ◌-◌, ◌^◌, ◌∙◌, ap, arith}
+use Rattle.std.proofs.Common.{◌≤◌, ap, arith}
 use Rattle.lethe_base.specs.declared.config.Fields.{Fields}
 use Rattle.lethe_fade.proofs.Powers.{power_above}
 use Rattle.lethe_fade.proofs.level_times.cum.Goals as goal

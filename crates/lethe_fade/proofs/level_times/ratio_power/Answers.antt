@@ -1,4 +1,4 @@
-use Rattle.std.proofs.Common.{ℕ, ◌≡◌, ◌<◌, ◌≤◌, ◌^◌, ◌∙◌, ap, arith}
+use Rattle.std.proofs.Common.{◌≡◌, ◌≤◌, ◌^◌, ◌∙◌, ap, arith}
 use Rattle.lethe_base.specs.declared.config.Fields.{Fields}
 use Rattle.lethe_fade.proofs.Powers.{ratio_power_limits}
 use Rattle.lethe_fade.proofs.level_times.ratio_power.Goals as goal
