@@ -1,5 +1,5 @@
 -- In a shape whose files have distinct numbers each candidate's claim is the one of its plan.
-use Rattle.std.proofs.Common.{◌≡◌, ◌⊎◌, inl, inr, ℕ, suc, ◌+◌, ◌<◌, min, Bool, true, false, not, cond, List, [], ◌∷◌, ◌++◌, length, get_or, fold, map, Option, Some, None, refl, sym, ap, ◌∙◌, arith}
+use Rattle.std.proofs.Common.{IsTrue, ◌≡◌, ◌⊎◌, inl, inr, ℕ, suc, ◌+◌, ◌<◌, min, Bool, true, false, not, cond, List, [], ◌∷◌, ◌++◌, length, get_or, fold, map, Option, Some, None, refl, sym, ap, ◌∙◌, arith}
 use Rattle.std.specs.Prelude.{◌≢◌, ◌==◌, ◌≤◌, nat_le, flat_map}
 use Rattle.std.proofs.lemmas.Bool.{leb-true, leb-false}
 use Rattle.std.proofs.lemmas.Bool.Decides.{nat_tests}
@@ -7,18 +7,22 @@ use Rattle.std.proofs.lemmas.List.Concat.{flat_map-cons}
 use Rattle.std.specs.List.{find, list_any, AllPairs}
 use Rattle.std.specs.Option.{option_map, is_some}
 use Rattle.std.specs.declared.cmp.Ordering.{Ordering}
-use Rattle.std.specs.Ordering.{is_gt}
-use Rattle.lethe_base.specs.Shapes.{HasOtherNumber, all_files}
+use Rattle.std.specs.declared.cmp.Ordering.TheVariants.{Less, Equal, Greater}
+use Rattle.std.specs.Ordering.{ordering_reverse, is_lt, is_le, is_gt}
+use Rattle.std.specs.Cmp.Lexicographic.{nat_list_cmp_total}
+use Rattle.lethe_base.specs.Keys.{Bytes, key_cmp}
+use Rattle.lethe_base.specs.Shapes.{HasOtherNumber, HasRange, all_files}
 use Rattle.lethe_base.specs.declared.config.Fields.{Fields}
 use Rattle.lethe_base.specs.declared.config.Pick.{Pick}
 use Rattle.lethe_base.specs.declared.shape.FileFacts.{FileFacts}
 use Rattle.lethe_fade.specs.declared.claim.Claim.{Claim}
 use Rattle.lethe_fade.specs.declared.plan.Plan.{Plan}
 use Rattle.lethe_fade.specs.Saturation.{is_saturated}
-use Rattle.lethe_fade.specs.Spans.{range_of, hull_of}
-use Rattle.lethe_fade.specs.Claims.{meets, merge_claim}
+use Rattle.lethe_fade.specs.Spans.{KeyRange, range_of, joined, hull, hull_of, overlapping}
+use Rattle.lethe_fade.specs.Claims.{meets, IsProper, merge_claim}
 use Rattle.lethe_fade.specs.Ranks.{with_item, sorted_by, file_cmp}
 use Rattle.lethe_fade.specs.Choice.{Candidate, merge_named, whole_merges, file_merges, level_merges, first_files, candidates_from, candidates, is_free}
+use Rattle.lethe_fade.proofs.MeetingLaws.{key_upto, key_itself}
 use Rattle.lethe_fade.specs.Claimed.{job_claim, claim_in, IsFreePlan, ChoiceIsFree}
 
 -- P holds of each item
@@ -217,6 +221,52 @@ levels_claimed fields level (files ∷ deeper) d =
     (each_weaker (λ c. claim_in c.plan (level + 1) deeper ≡ Some c.claim) (λ c. claim_in c.plan level (files ∷ deeper) ≡ Some c.claim) (candidates_from fields (level + 1) deeper)
     (λ c e. rw (none_above c.plan (level + 1) files deeper c.claim parts.1.0 e) e) (levels_claimed fields (level + 1) deeper parts.1.1))
 
+-- the ends of a range are in order
+abbrev IsRange : KeyRange → Type 0
+IsRange range = IsTrue (is_le (key_cmp range.lo range.hi))
+
+abbrev IsProperMerge : Candidate → Type 0
+IsProperMerge c = IsProper c.claim
+
+min_upto : (r : Ordering) (x y : Bytes) → key_cmp y x ≡ r → IsTrue (is_le (key_cmp (cond (is_lt r) y x) x))
+min_upto Less x y e = ap is_le e
+min_upto Equal x y e = key_itself x
+min_upto Greater x y e = key_itself x
+
+upto_max : (r : Ordering) (x y : Bytes) → key_cmp y x ≡ r → IsTrue (is_le (key_cmp x (cond (is_lt r) x y)))
+upto_max Less x y e = key_itself x
+upto_max Equal x y e = ap is_le (nat_list_cmp_total.antisymm x y ∙ ap ordering_reverse e)
+upto_max Greater x y e = ap is_le (nat_list_cmp_total.antisymm x y ∙ ap ordering_reverse e)
+
+joined_range : (a b : KeyRange) → IsRange a → IsRange (joined a b)
+joined_range a b h =
+    key_upto (joined a b).lo a.lo (joined a b).hi (min_upto (key_cmp b.lo a.lo) a.lo b.lo refl) (key_upto a.lo a.hi (joined a b).hi h (upto_max (key_cmp b.hi a.hi) a.hi b.hi refl))
+
+hull_range : (range : KeyRange) (files : List FileFacts) → IsRange range → IsRange (hull range files)
+hull_range range [] h = h
+hull_range range (file ∷ files) h = hull_range (joined range (range_of file)) files (joined_range range (range_of file) h)
+
+merge_proper : (level : ℕ) (sources : KeyRange) (next : List FileFacts) → IsRange sources → IsProper (merge_claim level sources next)
+merge_proper level sources next h = record { levels = omega arith; keys = hull_range sources (overlapping sources next) h }
+
+level_proper : (fields : Fields) (level : ℕ) (files next : List FileFacts) → Each HasRange files → Each IsProperMerge (level_merges fields level files next)
+level_proper fields level files next ranges = by_tests (is_saturated fields level files) (level == 0) files ranges
+  where
+    by_tests : (full first : Bool) (files : List FileFacts) → Each HasRange files → Each IsProperMerge (cond full (cond first (whole_merges files next) (file_merges fields.pick level files next)) [])
+    by_tests true true [] h = tt
+    by_tests true true (file ∷ others) h = (merge_proper 0 (hull (range_of file) others) next (hull_range (range_of file) others h.0), tt)
+    by_tests true false files h =
+        each_map IsProperMerge (λ file. merge_named file.no level (range_of file) next) (sorted_by (file_cmp fields.pick next) files)
+        (each_sorted (λ file. IsProperMerge (merge_named file.no level (range_of file) next)) (file_cmp fields.pick next) files
+        (each_weaker HasRange (λ file. IsProperMerge (merge_named file.no level (range_of file) next)) files (λ file r. merge_proper level (range_of file) next r) h))
+    by_tests false first files h = tt
+
+levels_proper : (fields : Fields) (level : ℕ) (levels : List (List FileFacts)) → Each HasRange (flat levels) → Each IsProperMerge (candidates_from fields level levels)
+levels_proper fields level [] h = tt
+levels_proper fields level (files ∷ deeper) h =
+    let parts = each_parts HasRange files (flat deeper) h in
+    each_append IsProperMerge (level_merges fields level files (first_files deeper)) (candidates_from fields (level + 1) deeper) (level_proper fields level files (first_files deeper) parts.0) (levels_proper fields (level + 1) deeper parts.1)
+
 no_false : (b : Bool) → not b ≡ true → b ≡ false
 no_false true e = absurd cc
 no_false false e = refl
@@ -229,5 +279,8 @@ choice_is_free fields shape claims plan valid chosen = by_found (find (is_free c
     by_found (Some c) e p =
         let same : c.plan ≡ plan = cc in
         let distinct : Distinct (flat shape.levels) = rw (← flat-is shape.levels) (distinct_from (all_files shape) valid.numbers) in
-        let found = found_is (λ (c : Candidate). claim_in c.plan 0 shape.levels ≡ Some c.claim) (is_free claims) (candidates fields shape) c (levels_claimed fields 0 shape.levels distinct) e in
-        record { claim = c.claim; is = rw (← same) found.0; free = no_false (list_any (meets c.claim) claims) found.1 }
+        let ranges : Each HasRange (flat shape.levels) = rw (← flat-is shape.levels) (each_from HasRange (all_files shape) valid.ranges) in
+        let found = found_is (λ (c : Candidate). (claim_in c.plan 0 shape.levels ≡ Some c.claim) × IsProperMerge c) (is_free claims) (candidates fields shape) c
+        (each_both (λ (c : Candidate). claim_in c.plan 0 shape.levels ≡ Some c.claim) IsProperMerge (candidates fields shape) (levels_claimed fields 0 shape.levels distinct) (levels_proper fields 0 shape.levels ranges)) e
+        in
+        record { claim = c.claim; is = rw (← same) found.0.0; proper = found.0.1; free = no_false (list_any (meets c.claim) claims) found.1 }

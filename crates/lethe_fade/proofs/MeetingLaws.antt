@@ -22,10 +22,10 @@ upto_is Less h = refl
 upto_is Equal h = refl
 upto_is Greater h = absurd cc
 
-key_upto : (x y z : Bytes) → IsTrue (is_le (key_cmp x y)) → IsTrue (is_le (key_cmp y z)) → IsTrue (is_le (key_cmp x z))
+pub key_upto : (x y z : Bytes) → IsTrue (is_le (key_cmp x y)) → IsTrue (is_le (key_cmp y z)) → IsTrue (is_le (key_cmp x z))
 key_upto x y z h k = upto_is _ (upto nat_list_cmp_total x y z (not_above _ h) (not_above _ k))
 
-key_itself : (x : Bytes) → IsTrue (is_le (key_cmp x x))
+pub key_itself : (x : Bytes) → IsTrue (is_le (key_cmp x x))
 key_itself x = ap is_le (tied_itself nat_list_cmp_total x)
 
 -- of two keys one is at most the other

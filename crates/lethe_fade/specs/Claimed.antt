@@ -9,7 +9,7 @@ use Rattle.lethe_base.specs.declared.shape.Shape.{Shape}
 use Rattle.lethe_fade.specs.declared.claim.Claim.{Claim}
 use Rattle.lethe_fade.specs.declared.plan.Plan.{Plan}
 use Rattle.lethe_fade.specs.Spans.{range_of, hull_of}
-use Rattle.lethe_fade.specs.Claims.{meets, merge_claim}
+use Rattle.lethe_fade.specs.Claims.{meets, IsProper, merge_claim}
 use Rattle.lethe_fade.specs.Choice.{first_files, choice}
 
 -- of a file among the files of its level: a sweep claims its level and keys, a merge of level 0 takes all files there, and another merge the file
@@ -27,10 +27,11 @@ claim_in plan level (files ∷ deeper) =
 abbrev pub claim_of : Shape → Plan → Option Claim
 claim_of shape plan = claim_in plan 0 shape.levels
 
--- a plan has a claim, which meets none of those that stand
+-- a plan has a claim, of a level and a key at least, which meets none of those that stand
 pub record IsFreePlan (shape : Shape) (claims : List Claim) (plan : Plan) : Type 0 where
   pub claim : Claim
   pub is : claim_of shape plan ≡ Some claim
+  pub proper : IsProper claim
   pub free : list_any (meets claim) claims ≡ false
 
 abbrev pub ChoiceIsFree : Type 0

@@ -9,7 +9,7 @@ use Rattle.lethe_fade.specs.Spans.{KeyRange, overlaps, hull, overlapping}
 abbrev pub keys_of : Claim → KeyRange
 keys_of claim = record { lo = claim.lo; hi = claim.hi }
 
--- they share a level, and a key
+-- they share a level and a key, where each one's ends are in order
 abbrev pub meets : Claim → Claim → Bool
 meets a b = nat_le a.first b.last && nat_le b.first a.last && overlaps (keys_of a) (keys_of b)
 

@@ -12,7 +12,7 @@ pub record KeyRange : Type 0 where
 abbrev pub range_of : FileFacts → KeyRange
 range_of file = record { lo = file.lo; hi = file.hi }
 
--- whether two ranges share a key
+-- whether two ranges, each with its ends in order, share a key
 abbrev pub overlaps : KeyRange → KeyRange → Bool
 overlaps a b = is_le (key_cmp a.lo b.hi) && is_le (key_cmp b.lo a.hi)
 
@@ -29,6 +29,6 @@ abbrev pub hull_of : List FileFacts → KeyRange
 hull_of [] = record { lo = []; hi = [] }
 hull_of (first ∷ others) = hull (range_of first) others
 
--- the files that share a key with a range
+-- the files that overlap a range
 abbrev pub overlapping : KeyRange → List FileFacts → List FileFacts
 overlapping range files = filter (λ file. overlaps range (range_of file)) files

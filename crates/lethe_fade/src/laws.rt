@@ -9,7 +9,7 @@ pub fn deadlines_rise()
     ensures { AllDeadlinesRise }
 {}
 
-/// Two claims meet exactly where they share a level and a key.
+/// Two claims, each with its ends in order, meet exactly where they share a level and a key.
 pub fn meeting_is_sharing()
     ensures { MeetingIsSharing }
 {}
@@ -19,7 +19,7 @@ pub fn files_come_in_order()
     ensures { FilesComeInOrder }
 {}
 
-/// In a valid shape the plan that is picked has a claim, which meets none of those given.
+/// In a valid shape the plan that is picked has a claim, with its ends in order, which meets none of those given.
 pub fn choice_is_free()
     ensures { ChoiceIsFree }
 {}
