@@ -1,12 +1,13 @@
 -- What the loops of the choice find, as candidates.
-use Rattle.std.proofs.Common.{◌≡◌, ℕ, ◌+◌, ◌<◌, min, Bool, true, false, not, cond, List, [], ◌∷◌, ◌++◌, length, drop, take, get_or, fold, Option, Some, None, refl, sym, ap, ◌∙◌, arith}
+use Rattle.std.proofs.Common.{◌≡◌, ℕ, ◌+◌, ◌<◌, ◌≤◌, min, Bool, true, false, not, cond, List, [], ◌∷◌, ◌++◌, length, drop, take, get_or, fold, Option, Some, None, refl, sym, ap, ◌∙◌, arith}
 use Rattle.std.specs.List.{find, list_any}
 use Rattle.std.proofs.lemmas.Bool.{true≢false}
+use Rattle.std.specs.Bool.{then_some}
 use Rattle.std.specs.Option.{option_map, option_or, is_some}
 use Rattle.lethe_fade.specs.declared.plan.Plan.{Plan}
 use Rattle.std.proofs.lemmas.Bool.Decides.{nat_tests}
 use Rattle.std.proofs.lemmas.List.Folds.{find-append}
-use Rattle.std.proofs.lemmas.List.{drop_more, drop_all}
+use Rattle.std.proofs.lemmas.List.{take_all, drop_more, drop_all}
 use Rattle.lethe_base.specs.declared.config.Fields.{Fields}
 use Rattle.lethe_base.specs.declared.config.Pick.{Pick}
 use Rattle.lethe_base.specs.declared.shape.FileFacts.{FileFacts}
@@ -20,24 +21,26 @@ use Rattle.lethe_fade.specs.Choice.{Candidate, merge_plan, merge_named, whole_me
 use Rattle.lethe_fade.proofs.Ranking.{first_rank, first_rank_more, find-map, plan-rank}
 
 -- the plan of a single candidate that is free, or none
-single : (candidate : Candidate) (b : Bool) → option_map (λ (c : Candidate). c.plan) (cond b (Some candidate) None) ≡ cond b (Some candidate.plan) None
+single : (candidate : Candidate) (b : Bool) → then_some b candidate.plan ≡ option_map (λ (c : Candidate). c.plan) (cond b (Some candidate) None)
 single candidate true = refl
 single candidate false = refl
 
 pub whole_result : (claims : List Claim) (files others next : List FileFacts) (first : FileFacts) (keys : KeyRange) (least : ℕ) (b : Bool)
     → files ≡ first ∷ others → keys ≡ hull (range_of first) others → least ≡ fold (λ least file. min least file.no) first.no others → b ≡ not (list_any (meets (merge_claim 0 keys next)) claims)
-    → cond b (Some (merge_plan least)) None ≡ option_map (λ (c : Candidate). c.plan) (find (is_free claims) (whole_merges files next))
+    → then_some b (merge_plan least) ≡ option_map (λ (c : Candidate). c.plan) (find (is_free claims) (whole_merges files next))
 whole_result claims files others next first keys least b e k n f =
-    rw (e, f, k, n) (sym (single (merge_named (fold (λ least file. min least file.no) first.no others) 0 (hull (range_of first) others) next) (not (list_any (meets (merge_claim 0 (hull (range_of first) others) next)) claims))))
+    rw (e, f, k, n) (single (merge_named (fold (λ least file. min least file.no) first.no others) 0 (hull (range_of first) others) next) (not (list_any (meets (merge_claim 0 (hull (range_of first) others) next)) claims)))
 
 -- whether the merge of a file is free
 abbrev pub is_file_free : ℕ → List FileFacts → List Claim → FileFacts → Bool
 is_file_free level next claims file = is_free claims (merge_named file.no level (range_of file) next)
 
-pub best_result : (order : Pick) (level : ℕ) (claims : List Claim) (files next : List FileFacts) (best : Option Rank) → best ≡ first_rank order next (is_file_free level next claims) files
+-- what the loop over the files has found behind the last one
+pub best_result : (order : Pick) (level : ℕ) (claims : List Claim) (files next : List FileFacts) (i : ℕ) (best : Option Rank) → length files ≤ i → best ≡ first_rank order next (is_file_free level next claims) (take i files)
     → option_map (λ (r : Rank). merge_plan r.no) best ≡ option_map (λ (c : Candidate). c.plan) (find (is_free claims) (file_merges order level files next))
-best_result order level claims files next best e =
-    ap (option_map (λ (r : Rank). merge_plan r.no)) e ∙ plan-rank next (find (is_file_free level next claims) (sorted_by (file_cmp order next) files))
+best_result order level claims files next i best end e =
+    ap (option_map (λ (r : Rank). merge_plan r.no)) (e ∙ ap (first_rank order next (is_file_free level next claims)) (take_all i files end))
+    ∙ plan-rank next (find (is_file_free level next claims) (sorted_by (file_cmp order next) files))
     ∙ sym (find-map (λ file. merge_named file.no level (range_of file) next) (λ (c : Candidate). c.plan) (is_free claims) (sorted_by (file_cmp order next) files))
 
 -- a step of the loop over the files

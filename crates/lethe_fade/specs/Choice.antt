@@ -43,7 +43,7 @@ abbrev pub first_files : List (List FileFacts) → List FileFacts
 first_files [] = []
 first_files (files ∷ deeper) = files
 
--- the merges of some levels, the first of which has that number, lowest level first
+-- the merges of the saturated ones of some levels, the first of which has that number, lowest level first
 abbrev pub candidates_from : Fields → ℕ → List (List FileFacts) → List Candidate
 candidates_from fields level [] = []
 candidates_from fields level (files ∷ deeper) = level_merges fields level files (first_files deeper) ++ candidates_from fields (level + 1) deeper

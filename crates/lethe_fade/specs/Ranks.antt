@@ -46,9 +46,9 @@ sorted_by cmp [] = []
 sorted_by cmp (x ∷ xs) = with_item cmp x (sorted_by cmp xs)
 
 -- the same files, and none before a lesser one
-pub record InOrder (order : Pick) (next files sorted : List FileFacts) : Type 0 where
+pub record IsInOrder (order : Pick) (next files sorted : List FileFacts) : Type 0 where
   pub same : IsPermutation files sorted
   pub ascending : AllPairs (λ file later. IsTrue (is_le (file_cmp order next file later))) sorted
 
 abbrev pub FilesComeInOrder : Type 0
-FilesComeInOrder = (order : Pick) (next files : List FileFacts) → InOrder order next files (sorted_by (file_cmp order next) files)
+FilesComeInOrder = (order : Pick) (next files : List FileFacts) → IsInOrder order next files (sorted_by (file_cmp order next) files)

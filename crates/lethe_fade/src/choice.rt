@@ -67,14 +67,10 @@ fn whole_level(files: &[FileFacts], next: &[FileFacts], claims: &[Claim]) -> Opt
         least = least.min(file.no);
     }
     let merge = merge_of(&keys, next);
-    if is_free(0, &merge.keys, claims) {
-        Some(Plan {
-            file: least,
-            erase: None,
-        })
-    } else {
-        None
-    }
+    is_free(0, &merge.keys, claims).then_some(Plan {
+        file: least,
+        erase: None,
+    })
 }
 
 /// The merge of the first file in an order whose merge is free.
@@ -101,13 +97,11 @@ fn best_file(
             best = Some(better(order, best, rank));
         }
     }
-    match best {
-        Some(rank) => Some(Plan {
-            file: rank.no,
-            erase: None,
-        }),
-        None => None,
-    }
+    let rank = best?;
+    Some(Plan {
+        file: rank.no,
+        erase: None,
+    })
 }
 
 /// The lesser of two ranks, the one before where they are tied.

@@ -1,8 +1,5 @@
 //! What a job reads and writes while it runs.
-ghost use Rattle.std.specs.Prelude.{◌≡◌};
-ghost use Rattle.lethe_fade.specs.Claims.{meets};
 
-use crate::span::Span;
 use lethe_base::Key;
 
 /// Some levels and a range of keys. Two claims meet where they share a level and a key.

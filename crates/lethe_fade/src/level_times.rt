@@ -4,7 +4,7 @@ ghost use Rattle.lethe_fade.specs.LevelTimes.{level_deadline};
 
 use lethe_base::Config;
 
-/// By what age an entry has to leave a level for the next one, in the time of the clock, counted from the moment that its `since` has. The last level has none.
+/// The age by which an entry has to have left a level and those above it, counted from its `since` in the time of the clock. The last level has none.
 pub fn cum(config: &Config, level: u64) -> u64
     requires { level < config.now.levels }
     ensures { result ≡ level_deadline config.now level }

@@ -12,7 +12,7 @@ pub struct Rank {
     pub below: u128,
     /// How many of its entries are tombstones.
     pub tombs: u64,
-    /// The least `since` of its entries.
+    /// The least `since` of its entries, if one has any.
     pub oldest: Option<u64>,
     /// Its number.
     pub no: u64,

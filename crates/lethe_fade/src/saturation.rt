@@ -1,5 +1,5 @@
 //! When a level has to give files to the next one.
-ghost use Rattle.std.specs.Prelude.{◌≡◌, ◌<◌, ◌≤◌, ◌*◌, ◌^◌, length};
+ghost use Rattle.std.specs.Prelude.{◌≡◌};
 ghost use Rattle.lethe_fade.specs.Saturation.{entries_in, is_saturated};
 
 use crate::level_times::ratio_power;

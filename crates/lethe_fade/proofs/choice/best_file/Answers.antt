@@ -1,10 +1,8 @@
-use Rattle.std.proofs.Common.{◌≡◌, true, false, take, Some, sym, ap, ◌∙◌}
-use Rattle.std.proofs.lemmas.List.{take_all}
+use Rattle.std.proofs.Common.{true, false, Some, sym, ap, ◌∙◌}
 use Rattle.std.specs.Option.{option_map}
 use Rattle.lethe_fade.specs.declared.rank.Rank.{Rank}
 use Rattle.lethe_fade.specs.Choice.{merge_plan}
-use Rattle.lethe_fade.proofs.Ranking.{first_rank}
-use Rattle.lethe_fade.proofs.Chosen.{is_file_free, best_result, best_more}
+use Rattle.lethe_fade.proofs.Chosen.{best_result, best_more}
 use Rattle.lethe_fade.proofs.choice.best_file.Goals as goal
 use Rattle.lethe_fade.proofs.choice.best_file.Goals.{then-is_free, else-is_free}
 
@@ -20,16 +18,12 @@ loop-file-preserved c = elim c.if-is_free.branch [
       c.loop-file-test.true c.file-item.is c.of.ensures c.merge_of-merge.ensures.keys c.merge_of-merge.ensures.below (sym w.if-is_free.false ∙ c.is_free.ensures) c.loop-file.invariant
 ]
 
-pub returns-in-Some : goal.returns-in-Some
-returns-in-Some c =
-    let all : take c.loop-file.file-index c.args.files.now ≡ c.args.files.now = take_all c.loop-file.file-index c.args.files.now c.loop-file-test.false in
-    ap (option_map (λ (r : Rank). merge_plan r.no)) (sym c.in-Some.is)
-    ∙ best_result c.args.order c.args.level c.args.claims.now c.args.files.now c.args.next.now c.loop-file.best
-    (c.loop-file.invariant ∙ ap (first_rank c.args.order c.args.next.now (is_file_free c.args.level c.args.next.now c.args.claims.now)) all)
+pub returns-in_err-rank : goal.returns-in_err-rank
+returns-in_err-rank c =
+    c.from_residual.ensures ∙ ap (option_map (λ (r : Rank). merge_plan r.no)) (sym c.in_err-rank.was)
+    ∙ best_result c.args.order c.args.level c.args.claims.now c.args.files.now c.args.next.now c.loop-file.file-index c.loop-file.best c.loop-file-test.false c.loop-file.invariant
 
-pub returns-in-None : goal.returns-in-None
-returns-in-None c =
-    let all : take c.loop-file.file-index c.args.files.now ≡ c.args.files.now = take_all c.loop-file.file-index c.args.files.now c.loop-file-test.false in
-    ap (option_map (λ (r : Rank). merge_plan r.no)) (sym c.in-None.is)
-    ∙ best_result c.args.order c.args.level c.args.claims.now c.args.files.now c.args.next.now c.loop-file.best
-    (c.loop-file.invariant ∙ ap (first_rank c.args.order c.args.next.now (is_file_free c.args.level c.args.next.now c.args.claims.now)) all)
+pub returns : goal.returns
+returns c =
+    ap (option_map (λ (r : Rank). merge_plan r.no)) (sym c.in_ok-rank.was)
+    ∙ best_result c.args.order c.args.level c.args.claims.now c.args.files.now c.args.next.now c.loop-file.file-index c.loop-file.best c.loop-file-test.false c.loop-file.invariant
