@@ -1,0 +1,59 @@
+//! What a merge of some files takes with it from the next level.
+ghost use Rattle.std.specs.Prelude.{◌≡◌, ◌<◌, ◌^◌, not};
+ghost use Rattle.std.specs.List.{list_any};
+ghost use Rattle.lethe_fade.specs.Saturation.{entries_in};
+ghost use Rattle.lethe_fade.specs.Spans.{overlapping, hull};
+ghost use Rattle.lethe_fade.specs.Claims.{claim_at, meets};
+
+use crate::Claim;
+use crate::span::Span;
+use lethe_base::FileFacts;
+
+/// A merge of files of a level with those of the next level that they overlap.
+#[derive(Drop)]
+pub struct Merge<'a> {
+    /// The keys of all its inputs.
+    pub keys: Span<'a>,
+    /// How many entries the files of the next level have that it takes.
+    pub below: u128,
+}
+
+/// The merge of files that have these keys.
+pub fn merge_of<'a>(sources: &Span<'a>, next: &'a [FileFacts]) -> Merge<'a>
+    ensures keys { result.keys ≡ hull sources.now (overlapping sources.now next.now) }
+    ensures below { result.below ≡ entries_in (overlapping sources.now next.now) }
+{
+    let mut keys = sources.copy();
+    let mut below = 0u128;
+    for file in next {
+        let other = Span::of(file);
+        if sources.overlaps(&other) {
+            keys = keys.join(&other);
+            below += u128::from(file.entries);
+        }
+    }
+    Merge { keys, below }
+}
+
+/// Whether a merge of a level with the next one meets none of the claims.
+pub fn is_free(level: u64, keys: &Span, claims: &[Claim]) -> bool
+    requires { level < 2 ^ 63 }
+    ensures { result ≡ not (list_any (meets (claim_at level keys.now)) claims.now) }
+{
+    for claim in claims {
+        if does_meet(level, keys, claim) {
+            return false;
+        }
+    }
+    true
+}
+
+/// Whether a merge of a level with the next one meets a claim.
+fn does_meet(level: u64, keys: &Span, claim: &Claim) -> bool
+    requires { level < 2 ^ 63 }
+    ensures { result ≡ meets (claim_at level keys.now) claim.now }
+{
+    level <= claim.last
+        && claim.first <= level + 1
+        && keys.overlaps(&Span::new(&claim.lo, &claim.hi))
+}
