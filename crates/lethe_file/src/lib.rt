@@ -1,7 +1,0 @@
-//! Files: finding the entry of a key, fetching a page, and reading the entries in order.
-#![tactic(auto)]
-
-mod page;
-mod view;
-
-pub use view::FileView;
