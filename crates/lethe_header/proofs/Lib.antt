@@ -6,3 +6,4 @@ pub mod Lines
 pub mod TileLaws
 pub mod HeaderLaws
 pub mod Sums
+pub mod Props

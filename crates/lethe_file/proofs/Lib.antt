@@ -1,0 +1,4 @@
+pub mod Orders
+pub mod Allowed
+pub mod Pages
+pub mod Tiles

@@ -1,0 +1,53 @@
+//! Fetching a page.
+ghost use Rattle.std.specs.Prelude.{◌≡◌, ◌+◌, ◌<◌, List, map, length, slice_get, Some, IfOk, IsErrOf};
+ghost use Rattle.lethe_base.specs.declared.entry.Entry.{Entry};
+ghost use Rattle.lethe_base.specs.declared.name.Name.{Name};
+ghost use Rattle.lethe_disk.specs.Reads.{HasReadCause, IsFault};
+ghost use Rattle.lethe_disk.specs.declared.cursor.ReadRefused.TheVariants.{Damaged};
+ghost use Rattle.lethe_page.specs.Pages.{page_bytes};
+ghost use Rattle.lethe_file.specs.Agreement.{IsPage, page_name};
+
+use crate::page::{PageFault, page_of};
+use lethe_base::{Entry, Kind, Name};
+use lethe_disk::{Disk, DiskRefused, ReadRefused};
+use lethe_header::PageLine;
+use std::alloc::Global;
+
+/// The entries of the page that the line tells of, with one fetch.
+pub fn fetch_line<D: Disk>(
+    alloc: Global,
+    port: &mut D::Port,
+    line: &PageLine,
+    page: &D::Page,
+) -> Result<Vec<Entry>, ReadRefused>
+    ensures page { IfOk result (λ entries. IsPage line.now entries.items) }
+    ensures told { D.tells → IfOk result (λ entries. D.page_bytes page.now ≡ page_bytes line.now.class entries.items) }
+    ensures damaged { (name : Name) → IsErrOf result (Damaged name) → name ≡ page_name line.now.no }
+    ensures undamaged { D.tells → (entries : List Entry) → IsPage line.now entries → D.page_bytes page.now ≡ page_bytes line.now.class entries
+        → (name : Name) → IsErrOf result (Damaged name) → ⊥ }
+    ensures fetches { D.fetches port.new ≡ D.fetches port.old + 1 }
+    ensures cause { HasReadCause (D.port_faults port.old) (D.port_faults port.new) result }
+    ensures can_fail { IsFault result → D.ports_fail }
+{
+    let before = D::port_faults(port);
+    let bytes = match D::fetch(alloc, port, page) {
+        Ok(bytes) => bytes,
+        Err(DiskRefused::Failed) => {
+            return Err(ReadRefused::ReadFault {
+                before,
+                after: D::port_faults(port),
+            });
+        }
+        Err(DiskRefused::NoMemory) => return Err(ReadRefused::NoMemory),
+    };
+    match page_of(alloc, line, &bytes) {
+        Ok(entries) => Ok(entries),
+        Err(PageFault::Other) => Err(ReadRefused::Damaged {
+            name: Name {
+                kind: Kind::Page,
+                no: line.no,
+            },
+        }),
+        Err(PageFault::NoMemory) => Err(ReadRefused::NoMemory),
+    }
+}

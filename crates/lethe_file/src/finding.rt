@@ -1,0 +1,197 @@
+//! Finding the entry of a key.
+ghost use Rattle.std.specs.Prelude.{◌≡◌, ◌≢◌, ◌+◌, ◌<◌, ◌≤◌, ◌^◌, ◌∷◌, [], List, ℕ, map, length, take, drop, slice_index_or, slice_get, Some, sum_by, ◌↔◌, HoldsAt, IfNone, IfSome, Any, IfOk, IsErrOf, IsTrue};
+ghost use Rattle.std.specs.List.{AllZip};
+ghost use Rattle.std.specs.Ordering.{is_lt, is_le};
+ghost use Rattle.lethe_base.specs.Keys.{key_cmp};
+ghost use Rattle.lethe_base.specs.declared.entry.Entry.{Entry};
+ghost use Rattle.lethe_base.specs.declared.name.Name.{Name};
+ghost use Rattle.lethe_disk.specs.Reads.{HasReadCause, IsFault};
+ghost use Rattle.lethe_disk.specs.declared.cursor.ReadRefused.TheVariants.{Damaged};
+ghost use Rattle.lethe_header.specs.Facts.{lines_of};
+ghost use Rattle.lethe_header.specs.Headers.{EachFollows, TileFollows};
+ghost use Rattle.lethe_header.specs.declared.header.TileLine.{TileLine};
+ghost use Rattle.lethe_file.specs.Agreement.{Agrees, entries_in, page_name};
+ghost use Rattle.lethe_file.specs.Finding.{Lacks, IsEntryOf, IsTileOf, allowed_in, allows, of_tile, refused_since};
+
+use crate::fetching::fetch_line;
+use lethe_base::{Entry, Key};
+use lethe_disk::{Disk, ReadRefused};
+use lethe_header::{PageLine, TileLine};
+use lethe_tile::Filter;
+use std::alloc::Global;
+use std::cmp::Ordering;
+use std::sync::Arc;
+
+/// Whether it is the entry of the key.
+fn has_key(entry: &Entry, key: &Key) -> bool
+    ensures { IsTrue result ↔ (entry.now.key ≡ key.now) }
+{
+    entry.key.cmp(key) == Ordering::Equal
+}
+
+/// The place of the entry of the key in a page.
+fn place_of(entries: &[Entry], key: &Key) -> Option<usize>
+    ensures none { IfNone result (Lacks key.now entries.now) }
+    ensures some { IfSome result (λ place. place < length entries.now) }
+    ensures key { IfSome result (HoldsAt (λ entry. entry.key ≡ key.now) entries.now) }
+{
+    for (place, entry) in entries.iter().enumerate() {
+        if has_key(entry, key) {
+            return Some(place);
+        }
+    }
+    None
+}
+
+/// The entry of the key in a page.
+fn entry_of(mut entries: Vec<Entry>, key: &Key) -> Option<Entry>
+    ensures { IsEntryOf key.now (entries.items ∷ []) result }
+{
+    let place = place_of(&entries, key)?;
+    Some(entries.swap_remove(place))
+}
+
+/// A refusal with the count of faults before an earlier fetch.
+fn since(why: ReadRefused, before: u64) -> ReadRefused
+    ensures { result ≡ refused_since before why }
+{
+    match why {
+        ReadRefused::ReadFault { after, .. } => ReadRefused::ReadFault { before, after },
+        ReadRefused::Damaged { name } => ReadRefused::Damaged { name },
+        ReadRefused::NoMemory => ReadRefused::NoMemory,
+    }
+}
+
+/// Whether the filter allows the key.
+fn is_allowed(filter: &Filter, key: &Key) -> bool
+    ensures { result ≡ allows key.now filter.now }
+{
+    filter.may_hold(key)
+}
+
+/// Whether the key is above the tile's greatest key.
+fn ends_below(tile: &TileLine, key: &Key) -> bool
+    ensures { result ≡ is_lt (key_cmp tile.now.hi key.now) }
+{
+    tile.hi.cmp(key) == Ordering::Less
+}
+
+/// Whether the key isn't below the tile's least key.
+fn begins_by(tile: &TileLine, key: &Key) -> bool
+    ensures { result ≡ is_le (key_cmp tile.now.lo key.now) }
+{
+    tile.lo.cmp(key) != Ordering::Greater
+}
+
+/// The place of the tile whose fence has the key, by a binary search, and the number of tiles where there is none.
+pub fn tile_of(tiles: &[TileLine], key: &Key) -> usize
+    requires { EachFollows TileFollows tiles.now }
+    ensures { IsTileOf key.now tiles.now result }
+{
+    let place = tiles.partition_point(|tile| ends_below(tile, key));
+    if place == tiles.len() {
+        return place;
+    }
+    if begins_by(&tiles[place], key) {
+        place
+    } else {
+        tiles.len()
+    }
+}
+
+/// How many pages the tiles have.
+pub fn count_pages(tiles: &[TileLine]) -> usize
+    requires { length (lines_of tiles.now) < 2 ^ 64 }
+    ensures { result ≡ length (lines_of tiles.now) }
+{
+    let mut count = 0;
+    for tile in tiles {
+        count += tile.pages.items().len();
+    }
+    count
+}
+
+/// Of what the lines of these tiles have, one for each, what those of one tile have.
+pub fn part_of_tile<'a, P>(tiles: &[TileLine], place: usize, items: &'a [P]) -> &'a [P]
+    requires tile { place < length tiles.now }
+    requires items { length items.now ≡ length (lines_of tiles.now) }
+    ensures part { (other : TileLine) → result.now ≡ of_tile tiles.now place other items.now }
+    ensures len { (other : TileLine) → length result.now ≡ length (slice_index_or tiles.now place other).pages }
+{
+    let (before, from) = tiles.split_at(place);
+    let (_, items) = items.split_at(count_pages(before));
+    let (part, _) = items.split_at(from[0].pages.items().len());
+    part
+}
+
+/// The line at a place in the order of all lines, from 0.
+pub fn line_at(tiles: &[TileLine], place: usize) -> &PageLine
+    requires { place < length (lines_of tiles.now) }
+    ensures { slice_get (lines_of tiles.now) place ≡ Some result.now }
+{
+    let mut at = place;
+    for tile in tiles {
+        let lines = tile.pages.items();
+        if at < lines.len() {
+            return &lines[at];
+        }
+        at -= lines.len();
+    }
+    unreachable!()
+}
+
+/// The entry of the key in a page, which is fetched where the filter of its line allows the key.
+fn look<D: Disk>(
+    alloc: Global,
+    port: &mut D::Port,
+    key: &Key,
+    line: &PageLine,
+    page: &D::Page,
+) -> Result<Option<Entry>, ReadRefused>
+    ensures found { D.tells → Agrees line.now (D.page_bytes page.now) → IfOk result (IsEntryOf key.now (entries_in (D.page_bytes page.now) ∷ [])) }
+    ensures fetches { D.fetches port.new ≤ D.fetches port.old + allowed_in key.now (line.now ∷ []) }
+    ensures later { D.fetches port.old ≤ D.fetches port.new }
+    ensures damaged { (name : Name) → IsErrOf result (Damaged name) → name ≡ page_name line.now.no }
+    ensures undamaged { D.tells → Agrees line.now (D.page_bytes page.now) → (name : Name) → IsErrOf result (Damaged name) → ⊥ }
+    ensures cause { HasReadCause (D.port_faults port.old) (D.port_faults port.new) result }
+    ensures can_fail { IsFault result → D.ports_fail }
+{
+    if is_allowed(&line.filter, key) {
+        match fetch_line::<D>(alloc, port, line, page) {
+            Ok(entries) => Ok(entry_of(entries, key)),
+            Err(why) => Err(why),
+        }
+    } else {
+        Ok(None)
+    }
+}
+
+/// The entry of the key in the pages of a tile. Only pages whose filter allows the key are fetched.
+pub fn find_in<D: Disk>(
+    alloc: Global,
+    port: &mut D::Port,
+    key: &Key,
+    lines: &[PageLine],
+    pages: &[Arc<D::Page>],
+) -> Result<Option<Entry>, ReadRefused>
+    requires { length pages.now ≡ length lines.now }
+    ensures found { D.tells → AllZip Agrees lines.now (map (λ page. D.page_bytes page.value) pages.now)
+        → IfOk result (IsEntryOf key.now (map (λ page. entries_in (D.page_bytes page.value)) pages.now)) }
+    ensures fetches { D.fetches port.new ≤ D.fetches port.old + allowed_in key.now lines.now }
+    ensures later { D.fetches port.old ≤ D.fetches port.new }
+    ensures damaged { (name : Name) → IsErrOf result (Damaged name) → Any (λ line. name ≡ page_name line.no) lines.now }
+    ensures undamaged { D.tells → AllZip Agrees lines.now (map (λ page. D.page_bytes page.value) pages.now)
+        → (name : Name) → IsErrOf result (Damaged name) → ⊥ }
+    ensures cause { HasReadCause (D.port_faults port.old) (D.port_faults port.new) result }
+    ensures can_fail { IsFault result → D.ports_fail }
+{
+    let before = D::port_faults(port);
+    for (place, line) in lines.iter().enumerate() {
+        match look::<D>(alloc, port, key, line, &pages[place]) {
+            Ok(None) => {}
+            Ok(Some(entry)) => return Ok(Some(entry)),
+            Err(why) => return Err(since(why, before)),
+        }
+    }
+    Ok(None)
+}

@@ -1,0 +1,12 @@
+//! Files: finding the entry of a key, fetching a page, and reading the entries in order.
+#![tactic(auto)]
+
+mod fetching;
+mod finding;
+mod page;
+mod view;
+
+pub use view::FileView;
+
+#[cfg(test)]
+mod tests;

@@ -1,0 +1,114 @@
+//! A file as its readers see it.
+ghost use Rattle.std.specs.Prelude.{◌≡◌, ◌+◌, ◌<◌, ◌≤◌, map, length, slice_get, Some, Any, IfOk, IsErrOf};
+ghost use Rattle.std.specs.Option.{option_copied};
+ghost use Rattle.lethe_base.specs.declared.name.Name.{Name};
+ghost use Rattle.lethe_disk.specs.Reads.{HasReadCause, IsFault};
+ghost use Rattle.lethe_disk.specs.declared.cursor.ReadRefused.TheVariants.{Damaged};
+ghost use Rattle.lethe_header.specs.declared.header.PageLine.{PageLine};
+ghost use Rattle.lethe_file.specs.Agreement.{FileAgrees, IsPage, entries_in, page_name};
+ghost use Rattle.lethe_file.specs.Finding.{IsEntryOf, allowed_pages};
+ghost use Rattle.lethe_header.proofs.Props.{HasSpelling-prop};
+ghost use Rattle.lethe_header.specs.Headers.{HasSpelling};
+ghost use Rattle.lethe_header.specs.Facts.{lines_of, facts_of};
+
+use crate::fetching::fetch_line;
+use crate::finding::{find_in, line_at, part_of_tile, tile_of};
+use lethe_base::{Entry, FileFacts, Key, NoMemory};
+use lethe_disk::{Disk, ReadRefused};
+use lethe_header::Header;
+use std::alloc::Global;
+use std::sync::Arc;
+
+/// A file: its header and its pages, which are opened and stay on the disk. Versions of the store share a page.
+#[derive(Drop)]
+pub struct FileView<D: Disk> {
+    pub(crate) header: Header,
+    pub(crate) pages: Vec<Arc<D::Page>>,
+    ghost spelled: { HasSpelling header } by { HasSpelling-prop header },
+    ghost paged: { length pages.items ≡ length (lines_of header.tiles) },
+}
+
+impl<D: Disk> FileView<D> {
+    /// The file of this header, which has a spelling, and these pages, one for each page line, in their order.
+    pub fn new(header: Header, pages: Vec<Arc<D::Page>>) -> FileView<D>
+        requires spelled { HasSpelling header }
+        requires paged { length pages.items ≡ length (lines_of header.tiles) }
+        ensures header { result.header ≡ header }
+        ensures pages { result.pages ≡ pages }
+    {
+        FileView { header, pages }
+    }
+
+    /// Its header.
+    pub fn header(&self) -> &Header
+        ensures { result.now ≡ self.now.header }
+    {
+        &self.header
+    }
+
+    /// The page at a place in the order of the page lines, from 0.
+    pub fn page(&self, place: usize) -> Option<&Arc<D::Page>>
+        ensures { option_copied result ≡ slice_get self.now.pages.items place }
+    {
+        self.pages.get(place)
+    }
+
+    /// The facts of the file, which stands in that level and is swept up to that place. Only its two keys are copied.
+    pub fn facts(&self, level: u64, swept: u64) -> Result<FileFacts, NoMemory>
+        ensures { IfOk result (λ facts. facts ≡ facts_of level swept self.now.header) }
+    {
+        self.header.facts(level, swept)
+    }
+
+    /// The entries of the page at a place, with one fetch.
+    pub fn fetch_page(
+        &self,
+        alloc: Global,
+        port: &mut D::Port,
+        place: usize,
+    ) -> Result<Vec<Entry>, ReadRefused>
+        requires { place < length self.now.pages.items }
+
+        // On any disk the entries are those of a page of the digest, the class and the number of entries that the line tells of.
+        ensures page { (line : PageLine) → slice_get (lines_of self.now.header.tiles) place ≡ Some line → IfOk result (λ entries. IsPage line entries.items) }
+        ensures told { D.tells → IfOk result (λ entries. slice_get (map entries_in (map (λ page. D.page_bytes page.value) self.now.pages.items)) place ≡ Some entries.items) }
+        ensures damaged { (line : PageLine) → slice_get (lines_of self.now.header.tiles) place ≡ Some line
+            → (name : Name) → IsErrOf result (Damaged name) → name ≡ page_name line.no }
+        ensures undamaged { D.tells → FileAgrees self.now.header.tiles (map (λ page. D.page_bytes page.value) self.now.pages.items)
+            → (name : Name) → IsErrOf result (Damaged name) → ⊥ }
+        ensures fetches { D.fetches port.new ≡ D.fetches port.old + 1 }
+        ensures cause { HasReadCause (D.port_faults port.old) (D.port_faults port.new) result }
+        ensures can_fail { IsFault result → D.ports_fail }
+    {
+        let line = line_at(self.header.tiles.items(), place);
+        fetch_line::<D>(alloc, port, line, &self.pages[place])
+    }
+
+    /// The entry of the key. A page is fetched only where its tile's fence has the key and its filter allows it.
+    pub fn find(
+        &self,
+        alloc: Global,
+        port: &mut D::Port,
+        key: &Key,
+    ) -> Result<Option<Entry>, ReadRefused>
+        ensures found { D.tells → FileAgrees self.now.header.tiles (map (λ page. D.page_bytes page.value) self.now.pages.items)
+            → IfOk result (IsEntryOf key.now (map entries_in (map (λ page. D.page_bytes page.value) self.now.pages.items))) }
+
+        // None where no tile has the key.
+        ensures fetches { D.fetches port.new ≤ D.fetches port.old + allowed_pages key.now self.now.header.tiles }
+        ensures later { D.fetches port.old ≤ D.fetches port.new }
+        ensures damaged { (name : Name) → IsErrOf result (Damaged name) → Any (λ line. name ≡ page_name line.no) (lines_of self.now.header.tiles) }
+        ensures undamaged { D.tells → FileAgrees self.now.header.tiles (map (λ page. D.page_bytes page.value) self.now.pages.items)
+            → (name : Name) → IsErrOf result (Damaged name) → ⊥ }
+        ensures cause { HasReadCause (D.port_faults port.old) (D.port_faults port.new) result }
+        ensures can_fail { IsFault result → D.ports_fail }
+    {
+        let tiles = self.header.tiles.items();
+        let tile = tile_of(tiles, key);
+        if tile == tiles.len() {
+            return Ok(None);
+        }
+        let pages = part_of_tile(tiles, tile, &self.pages);
+        find_in::<D>(alloc, port, key, tiles[tile].pages.items(), pages)
+    }
+}
