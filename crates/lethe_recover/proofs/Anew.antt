@@ -22,7 +22,7 @@ use Rattle.lethe_commit.proofs.Exchange.{beside_placed}
 use Rattle.lethe_recover.specs.Stored.{Stored, Segment, IsStored, segment_name, IsCited, IsSpare}
 use Rattle.lethe_recover.specs.Encodes.{Encodes, HasParts, AreSpare}
 use Rattle.lethe_recover.specs.Goes.{Goes}
-use Rattle.lethe_recover.specs.Settled.{IsSettled, HasOnly}
+use Rattle.lethe_recover.specs.Settled.{IsSettled, HasOnly, IsWhole}
 use Rattle.lethe_recover.specs.Rewritten.{successor, rewritten}
 use Rattle.lethe_recover.proofs.Unique.{none_frozen, one_cited}
 use Rattle.lethe_recover.proofs.Frame.{gate≢segment, manifest≢segment, same_no, besides, fresh_spare}
@@ -141,6 +141,13 @@ module _ (s : Stored) (count : ℕ) (stored : IsStored s) (room : s.manifest.nex
         tt,
       )
 
+      pub whole_new : object (remove_all (segment_name s.active.no ∷ []) after) (segment_name s.manifest.next) ≡ Some (segment_bytes s.manifest.next s.active.records)
+      whole_new =
+          let apart : segment_name s.manifest.next ≢ segment_name s.active.no = λ e. let same = same_no (segment_name s.manifest.next) (segment_name s.active.no) e in absurd (omega (arith, same, old_below)) in
+          object_beside_remove after (segment_name s.active.no) (segment_name s.manifest.next) apart
+            ∙ beside_all (segment_name s.manifest.next) (λ k. manifest≢segment t.manifest.no s.manifest.next (sym k)) (λ k. gate≢segment t.manifest.no s.manifest.next (sym k)) (λ k. gate≢segment s.manifest.no s.manifest.next (sym k)) (λ k. manifest≢segment s.manifest.no s.manifest.next (sym k))
+            ∙ ap (λ x. object x (segment_name s.manifest.next)) done ∙ object_inserted d (segment_name s.manifest.next) (segment_bytes s.manifest.next s.active.records)
+
       pub only_new : HasOnly t (remove_all (segment_name s.active.no ∷ []) after)
       only_new name there = elim (name_cases name (segment_name s.active.no)) [
         | inl old ↦ absurd (true≢false (sym there ∙ ap is_some (ap (object (remove_all (segment_name s.active.no ∷ []) after)) old ∙ object_removed after (segment_name s.active.no))))
@@ -218,7 +225,7 @@ module _ (s : Stored) (count : ℕ) (stored : IsStored s) (room : s.manifest.nex
                 inr (besides t e c (segment_name s.active.no ∷ []) (image_new e here) (old_spare s0.directory settled.encodes only s1.directory done) cleared.others)))
 
             pub settled_new : Image s2 s2.directory → s2.directory ≡ switched t.manifest.no (manifest_bytes t.manifest) (Some s.manifest.no) s1.directory → s3.directory ≡ remove_all (segment_name s.active.no ∷ []) s2.directory → IsSynced s3
-                → IsSettled s3 t × HasOnly t s3.directory
+                → IsSettled s3 t × HasOnly t s3.directory × IsWhole t s3.directory
             settled_new here switched_is cleared_is synced_now = (
               record {
                 synced = synced_now;
@@ -227,4 +234,5 @@ module _ (s : Stored) (count : ℕ) (stored : IsStored s) (room : s.manifest.nex
                     (λ name none. ap (λ x. object x name) cleared_is ∙ object_beside_remove s2.directory (segment_name s.active.no) name none.0);
               },
               subst (HasOnly t) (sym cleared_is) (only_new s0.directory settled.encodes only s1.directory done s2.directory switched_is),
+              ap (λ x. object x (segment_name s.manifest.next)) cleared_is ∙ whole_new s0.directory settled.encodes only s1.directory done s2.directory switched_is,
             )

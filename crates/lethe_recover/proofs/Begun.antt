@@ -21,7 +21,7 @@ use Rattle.lethe_commit.proofs.Removals.{all_absent, cleared_absent}
 use Rattle.lethe_recover.specs.Stored.{Stored, IsStored, segment_name}
 use Rattle.lethe_recover.specs.Encodes.{Encodes, HasParts}
 use Rattle.lethe_recover.specs.Goes.{Goes}
-use Rattle.lethe_recover.specs.Settled.{IsSettled, HasOnly}
+use Rattle.lethe_recover.specs.Settled.{IsSettled, HasOnly, IsWhole}
 use Rattle.lethe_recover.specs.Rewritten.{first_manifest, new_stored}
 use Rattle.lethe_recover.proofs.Frame.{gate≢segment, manifest≢segment}
 use Rattle.lethe_recover.proofs.Firsts.{empty_is_stored}
@@ -118,10 +118,12 @@ module _ (config : Fields) (limits : IsConfig config) where
                 same_all : (e c : Directory) → IsCleared [] e c → e ≡ c
                 same_all e c cleared = sym (same_directory c e (λ name. cleared.others name tt))
 
-            pub settled_new : Image s3 s3.directory → s3.directory ≡ switched 2 (manifest_bytes (first_manifest config)) None s2.directory → s4.directory ≡ s3.directory → IsSynced s4 → IsSettled s4 t × HasOnly t s4.directory
+            pub settled_new : Image s3 s3.directory → s3.directory ≡ switched 2 (manifest_bytes (first_manifest config)) None s2.directory → s4.directory ≡ s3.directory → IsSynced s4 → IsSettled s4 t × HasOnly t s4.directory × IsWhole t s4.directory
             settled_new here switched_is cleared_is synced_now = (
               record { synced = synced_now; stored = new_is_stored; encodes = subst (λ x. Encodes x t) (sym cleared_is) (image_new s3.directory here) },
               subst (HasOnly t) (sym cleared_is) only,
+              ap (λ x. object x (segment_name 1)) (cleared_is ∙ switched_is) ∙ beside_placed 2 (manifest_bytes (first_manifest config)) s2.directory (segment_name 1) ((λ k. manifest≢segment 2 1 (sym k)), ((λ k. gate≢segment 2 1 (sym k)), tt))
+                  ∙ ap (λ x. object x (segment_name 1)) done ∙ object_inserted s1.directory (segment_name 1) (segment_bytes 1 []),
             )
               where
                 only : HasOnly t s3.directory

@@ -4,11 +4,12 @@ use Rattle.std.specs.Prelude.{IfOk, IfErr}
 use Rattle.lethe_base.specs.Limits.{max_place}
 use Rattle.lethe_base.specs.History.{History, Change}
 use Rattle.lethe_base.specs.declared.config.Fields.{Fields}
-use Rattle.lethe_disk.specs.Directory.{Directory}
+use Rattle.lethe_disk.specs.Directory.{Directory, object}
 use Rattle.lethe_disk.specs.Disk.{Seen, IsSynced}
 use Rattle.lethe_segment.specs.declared.record.Record.{Record}
 use Rattle.lethe_segment.specs.Segments.{segment_bytes}
 use Rattle.lethe_manifest.specs.declared.manifest.Manifest.{Manifest}
+use Rattle.lethe_commit.specs.Append.{EndsAt}
 use Rattle.lethe_commit.specs.Switch.{HasGreatest}
 use Rattle.lethe_recover.specs.declared.opening.OpenWhy.{OpenWhy}
 use Rattle.lethe_recover.specs.declared.opening.OpenWhy.TheVariants.{Damaged, OtherConfig, Fault, Exhausted, NoMemory}
@@ -16,7 +17,7 @@ use Rattle.lethe_recover.specs.declared.opening.Opened.{Opened}
 use Rattle.lethe_recover.specs.declared.recovered.Recovered.{Recovered}
 use Rattle.lethe_recover.specs.declared.refused.RecoverRefused.{RecoverRefused}
 use Rattle.lethe_recover.specs.declared.refused.RecoverRefused.TheVariants as recover
-use Rattle.lethe_recover.specs.Stored.{Stored, Segment, IsStored, segments_of, count_of}
+use Rattle.lethe_recover.specs.Stored.{Stored, segment_name, Segment, IsStored, segments_of, count_of}
 use Rattle.lethe_recover.specs.Encodes.{Encodes}
 use Rattle.lethe_recover.specs.Goes.{Goes}
 use Rattle.lethe_recover.specs.Kept.{IsFor, IsKept}
@@ -77,6 +78,15 @@ same_may Tells config d e before now same (Fault told_before told_now) may = may
 same_may Tells config d e before now same (Exhausted last) may = (may.0, λ told. subst IsExhausted (same told) (may.1 told))
 same_may Tells config d e before now same NoMemory may = tt
 
+-- Where the next record goes
+
+pub ends_of : (disk : Seen) (s : Stored) (opened : Opened) → IsThere disk s opened → EndsAt disk (segment_name s.active.no) s.active.no s.active.records opened.end
+ends_of disk s opened there = record {
+  ascends = there.settled.stored.active;
+  spelled = λ c here. ap (λ x. object x (segment_name s.active.no)) (there.settled.synced c here) ∙ there.whole;
+  place = there.told.end;
+}
+
 -- An empty store
 
 module _ (config : Fields) (stored : IsStored (new_stored config)) where
@@ -91,7 +101,7 @@ pub new_resumed : (config : Fields) (h : History) (disk : Seen) (opened : Opened
 new_resumed config h disk opened none there = record {
   history = h;
   either = refl;
-  is = record { s = new_stored config; settled = there.settled; only = there.only; config_is = refl; told = there.told };
+  is = record { s = new_stored config; settled = there.settled; only = there.only; config_is = refl; told = there.told; ends = ends_of disk (new_stored config) opened there };
   stands = subst (λ g. IsFor g (new_stored config)) (sym none) (new_stands config there.settled.stored);
 }
 
@@ -119,7 +129,7 @@ pub resumed_of : (config : Fields) (h : History) (s : Stored) → IsStored s →
 resumed_of config h s stored config_is stands disk opened there = record {
   history = h;
   either = refl;
-  is = record { s = rewritten s (count_of s); settled = there.settled; only = there.only; config_is = config_is; told = there.told };
+  is = record { s = rewritten s (count_of s); settled = there.settled; only = there.only; config_is = config_is; told = there.told; ends = ends_of disk (rewritten s (count_of s)) opened there };
   stands = rewritten_stands s stored h stands;
 }
 

@@ -8,16 +8,17 @@ use Rattle.lethe_disk.specs.Directory.{Directory}
 use Rattle.lethe_disk.specs.Disk.{Seen}
 use Rattle.lethe_segment.specs.Segments.{segment_bytes}
 use Rattle.lethe_manifest.specs.declared.manifest.Manifest.{Manifest}
+use Rattle.lethe_commit.specs.Append.{EndsAt}
 use Rattle.lethe_recover.specs.declared.opening.OpenWhy.{OpenWhy}
 use Rattle.lethe_recover.specs.declared.opening.OpenWhy.TheVariants.{Damaged, OtherConfig, Fault, Exhausted, NoMemory}
 use Rattle.lethe_recover.specs.declared.opening.Opened.{Opened}
 use Rattle.lethe_recover.specs.declared.refused.RecoverRefused.{RecoverRefused}
 use Rattle.lethe_recover.specs.declared.refused.RecoverRefused.TheVariants as recover
-use Rattle.lethe_recover.specs.Stored.{Stored, count_of}
+use Rattle.lethe_recover.specs.Stored.{Stored, count_of, segment_name}
 use Rattle.lethe_recover.specs.Kept.{IsFor}
 use Rattle.lethe_recover.specs.Left.{IsHistoryOr}
 use Rattle.lethe_recover.specs.Loaded.{IsGated, IsDamaged, HasOtherConfig}
-use Rattle.lethe_recover.specs.Settled.{IsSettled, HasOnly}
+use Rattle.lethe_recover.specs.Settled.{IsSettled, HasOnly, IsWhole}
 
 -- what is told of an opened store is so
 pub record IsTold (opened : Opened) (s : Stored) : Type 0 where
@@ -35,6 +36,8 @@ pub record IsOpened (config : Fields) (disk : Seen) (opened : Opened) : Type 0 w
   pub only : HasOnly s disk.directory
   pub config_is : s.manifest.config ≡ config
   pub told : IsTold opened s
+  -- and the next record can be appended at that end
+  pub ends : EndsAt disk (segment_name s.active.no) s.active.no s.active.records opened.end
 
 -- And it stands for the history that the disk was left for, or for that with the change carried out.
 pub record IsResumed (config : Fields) (h : History) (change : Option Change) (disk : Seen) (opened : Opened) : Type 0 where
@@ -69,6 +72,7 @@ IsCut IsFull before now NoMemory = Unit {0}
 pub record IsThere (disk : Seen) (s : Stored) (opened : Opened) : Type 0 where
   pub settled : IsSettled disk s
   pub only : HasOnly s disk.directory
+  pub whole : IsWhole s disk.directory
   pub told : IsTold opened s
 
 -- the same refusal with the count of faults from an earlier start on

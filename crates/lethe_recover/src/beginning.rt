@@ -9,7 +9,7 @@ ghost use Rattle.lethe_commit.specs.Switch.{HasGreatest};
 ghost use Rattle.lethe_recover.specs.Stored.{IsStored};
 ghost use Rattle.lethe_recover.specs.Encodes.{Encodes};
 ghost use Rattle.lethe_recover.specs.Goes.{Goes};
-ghost use Rattle.lethe_recover.specs.Settled.{IsSettled, HasOnly};
+ghost use Rattle.lethe_recover.specs.Settled.{IsSettled, HasOnly, IsWhole};
 ghost use Rattle.lethe_recover.specs.Rewritten.{first_manifest, new_stored};
 
 use lethe_base::{Config, Kind, List, Name, NoMemory};
@@ -31,7 +31,8 @@ pub fn begin<D: Disk>(alloc: Global, disk: &mut D, config: &Config) -> Result<()
     ensures any_moment { D.tells → Goes (λ c. HasGreatest None c ⊎ Encodes c (new_stored config.now)) (D.seen disk.old) (D.seen disk.new) }
 
     // Acknowledged: each crash leaves the new store, and nothing else.
-    ensures done { D.tells → OnOk result (IsSettled (D.seen disk.new) (new_stored config.now) × HasOnly (new_stored config.now) (D.seen disk.new).directory) }
+    ensures done { D.tells → OnOk result (IsSettled (D.seen disk.new) (new_stored config.now) × HasOnly (new_stored config.now) (D.seen disk.new).directory
+        × IsWhole (new_stored config.now) (D.seen disk.new).directory) }
     ensures cause { HasCause (D.faults disk.old) (D.faults disk.new) result }
 
     // What is made has a spelling.

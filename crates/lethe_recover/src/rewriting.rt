@@ -7,7 +7,7 @@ ghost use Rattle.lethe_manifest.specs.Manifests.{HasSpelling};
 ghost use Rattle.lethe_recover.specs.Stored.{Stored};
 ghost use Rattle.lethe_recover.specs.Encodes.{Encodes};
 ghost use Rattle.lethe_recover.specs.Goes.{Goes};
-ghost use Rattle.lethe_recover.specs.Settled.{IsSettled, HasOnly};
+ghost use Rattle.lethe_recover.specs.Settled.{IsSettled, HasOnly, IsWhole};
 ghost use Rattle.lethe_recover.specs.Rewritten.{successor, rewritten};
 
 use lethe_base::{Kind, List, Name, NoMemory};
@@ -46,7 +46,8 @@ pub fn rewrite<D: Disk>(
     // Acknowledged: each crash leaves it written anew, and nothing else.
     ensures done { D.tells → (s : Stored) → IsSettled (D.seen disk.old) s → HasOnly s (D.seen disk.old).directory
         → s.manifest ≡ manifest.now → s.active.records ≡ records.now
-        → OnOk result (IsSettled (D.seen disk.new) (rewritten s count) × HasOnly (rewritten s count) (D.seen disk.new).directory) }
+        → OnOk result (IsSettled (D.seen disk.new) (rewritten s count) × HasOnly (rewritten s count) (D.seen disk.new).directory
+            × IsWhole (rewritten s count) (D.seen disk.new).directory) }
     ensures end { IfOk result (λ end. end + 1 ≡ length (segment_bytes manifest.now.next records.now)) }
     ensures cause { HasCause (D.faults disk.old) (D.faults disk.new) result }
 {

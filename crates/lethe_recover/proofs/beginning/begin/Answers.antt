@@ -11,7 +11,7 @@ use Rattle.lethe_commit.specs.Switch.{HasGreatest, IsFree, IsSwitched, HasNew, s
 use Rattle.lethe_recover.specs.Stored.{segment_name}
 use Rattle.lethe_recover.specs.Encodes.{Encodes}
 use Rattle.lethe_recover.specs.Goes.{Goes}
-use Rattle.lethe_recover.specs.Settled.{IsSettled, HasOnly}
+use Rattle.lethe_recover.specs.Settled.{IsSettled, HasOnly, IsWhole}
 use Rattle.lethe_recover.specs.Rewritten.{first_manifest, new_stored}
 use Rattle.lethe_recover.proofs.Quieting.{on_ok_both}
 use Rattle.lethe_recover.proofs.Going.{goes_then, goes_weaker}
@@ -96,5 +96,5 @@ returns-clause-done g c = λ told.
     let switched_is : s3.directory ≡ switched 2 (manifest_bytes (first_manifest config)) None s2.directory =
     subst (λ (n : Manifest). s3.directory ≡ switched n.no (manifest_bytes n) None s2.directory) manifest_is (c.in_ok-switch.ensures.done told None free_next) in
     let here = (g.met.D.Disk g.world.𝓛 g.world.𝓜 g.world.𝓡 ((λ s x. x), (λ x. x), (λ x. x), λ x. x)).itself told c.switch.new.disk in
-    on_ok_both c.clear.result (s4.directory ≡ s3.directory) (IsSynced s4) (IsSettled s4 (new_stored config) × HasOnly (new_stored config) s4.directory) (c.clear.ensures.done told) (c.clear.ensures.synced told) (λ cleared now.
+    on_ok_both c.clear.result (s4.directory ≡ s3.directory) (IsSynced s4) (IsSettled s4 (new_stored config) × HasOnly (new_stored config) s4.directory × IsWhole (new_stored config) s4.directory) (c.clear.ensures.done told) (c.clear.ensures.synced told) (λ cleared now.
     settled_new config limits s1 empty nothing s2 placing synced done s3 switching new s4 (c.clear.ensures.any_moment told) here switched_is cleared now)

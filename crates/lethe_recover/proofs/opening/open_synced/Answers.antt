@@ -6,7 +6,7 @@ use Rattle.lethe_recover.specs.Kept.{IsKept}
 use Rattle.lethe_recover.specs.Rewritten.{rewritten, new_stored}
 use Rattle.lethe_recover.specs.Opening.{IsThere, IsOpened, IsResumed, MayNotOpen, IsCut, since_start}
 use Rattle.lethe_recover.proofs.Going.{goes_then}
-use Rattle.lethe_recover.proofs.Resumed.{ok_weaker, err_weaker, since_may, since_exact, cut_may, new_resumed, kept_of_none, kept_for, resumed_of, read_some, read_none, manifest_of, segments_are, exhausted_of, settled_again, kept_goes}
+use Rattle.lethe_recover.proofs.Resumed.{ends_of, ok_weaker, err_weaker, since_may, since_exact, cut_may, new_resumed, kept_of_none, kept_for, resumed_of, read_some, read_none, manifest_of, segments_are, exhausted_of, settled_again, kept_goes}
 use Rattle.lethe_recover.proofs.opening.open_synced.Goals as goal
 
 pub returns-in-Err-clause-any_moment : goal.returns-in-Err-clause-any_moment
@@ -68,7 +68,7 @@ returns-in-Some-clause-opened g c = λ told.
     let held = sym (c.only-records.ensures s.active.records (segments_are config d c.in-Ok.read there)) in
     let s2 = g.D.Disk.seen c.resume.new.disk in
     ok_weaker c.resume.result (IsThere s2 (rewritten s (count_of s))) (IsOpened config s2) (c.resume.ensures.there told s settled same held) (λ opened is.
-    record { s = rewritten s (count_of s); settled = is.settled; only = is.only; config_is = there.config_is; told = is.told })
+    record { s = rewritten s (count_of s); settled = is.settled; only = is.only; config_is = there.config_is; told = is.told; ends = ends_of s2 (rewritten s (count_of s)) opened is })
 
 pub returns-in-Some-clause-resumed : goal.returns-in-Some-clause-resumed
 returns-in-Some-clause-resumed g c = λ told h kept.

@@ -15,7 +15,7 @@ empty_long = refl
 pub returns-in-Ok-clause-there : goal.returns-in-Ok-clause-there
 returns-in-Ok-clause-there g c = λ told.
     let done = c.in-Ok.ensures.done told in
-    record { settled = done.0; only = done.1; told = record { clock = refl; count = refl; segment = refl; end = empty_long; next = refl; records = c.of.ensures ∙ c.new.ensures.items } }
+    record { settled = done.0; only = done.1; whole = done.2; told = record { clock = refl; count = refl; segment = refl; end = empty_long; next = refl; records = c.of.ensures ∙ c.new.ensures.items } }
 
 pub returns-in-Ok-clause-any_moment : goal.returns-in-Ok-clause-any_moment
 returns-in-Ok-clause-any_moment g c = λ told.
