@@ -145,8 +145,8 @@ module _ (s : Stored) (count : ℕ) (stored : IsStored s) (room : s.manifest.nex
       whole_new =
           let apart : segment_name s.manifest.next ≢ segment_name s.active.no = λ e. let same = same_no (segment_name s.manifest.next) (segment_name s.active.no) e in absurd (omega (arith, same, old_below)) in
           object_beside_remove after (segment_name s.active.no) (segment_name s.manifest.next) apart
-            ∙ beside_all (segment_name s.manifest.next) (λ k. manifest≢segment t.manifest.no s.manifest.next (sym k)) (λ k. gate≢segment t.manifest.no s.manifest.next (sym k)) (λ k. gate≢segment s.manifest.no s.manifest.next (sym k)) (λ k. manifest≢segment s.manifest.no s.manifest.next (sym k))
-            ∙ ap (λ x. object x (segment_name s.manifest.next)) done ∙ object_inserted d (segment_name s.manifest.next) (segment_bytes s.manifest.next s.active.records)
+          ∙ beside_all (segment_name s.manifest.next) (λ k. manifest≢segment t.manifest.no s.manifest.next (sym k)) (λ k. gate≢segment t.manifest.no s.manifest.next (sym k)) (λ k. gate≢segment s.manifest.no s.manifest.next (sym k)) (λ k. manifest≢segment s.manifest.no s.manifest.next (sym k))
+          ∙ ap (λ x. object x (segment_name s.manifest.next)) done ∙ object_inserted d (segment_name s.manifest.next) (segment_bytes s.manifest.next s.active.records)
 
       pub only_new : HasOnly t (remove_all (segment_name s.active.no ∷ []) after)
       only_new name there = elim (name_cases name (segment_name s.active.no)) [

@@ -47,7 +47,7 @@ pub fn rewrite<D: Disk>(
     ensures done { D.tells → (s : Stored) → IsSettled (D.seen disk.old) s → HasOnly s (D.seen disk.old).directory
         → s.manifest ≡ manifest.now → s.active.records ≡ records.now
         → OnOk result (IsSettled (D.seen disk.new) (rewritten s count) × HasOnly (rewritten s count) (D.seen disk.new).directory
-            × IsWhole (rewritten s count) (D.seen disk.new).directory) }
+        × IsWhole (rewritten s count) (D.seen disk.new).directory) }
     ensures end { IfOk result (λ end. end + 1 ≡ length (segment_bytes manifest.now.next records.now)) }
     ensures cause { HasCause (D.faults disk.old) (D.faults disk.new) result }
 {
