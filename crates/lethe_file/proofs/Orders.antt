@@ -30,7 +30,7 @@ less_is Less h = refl
 less_is Equal h = absurd cc
 less_is Greater h = absurd cc
 
-le_less : (x y z : Bytes) → is_le (key_cmp x y) ≡ true → key_cmp y z ≡ Less → key_cmp x z ≡ Less
+pub le_less : (x y z : Bytes) → is_le (key_cmp x y) ≡ true → key_cmp y z ≡ Less → key_cmp x z ≡ Less
 le_less x y z le lt = by (key_cmp x y) refl le
   where
     by : (r : Ordering) → key_cmp x y ≡ r → is_le r ≡ true → key_cmp x z ≡ Less
@@ -38,7 +38,7 @@ le_less x y z le lt = by (key_cmp x y) refl le
     by Equal e le = subst (λ (k : Bytes). key_cmp k z ≡ Less) (sym (tied x y e)) lt
     by Greater e le = absurd cc
 
-less_le : (x y z : Bytes) → key_cmp x y ≡ Less → is_le (key_cmp y z) ≡ true → key_cmp x z ≡ Less
+pub less_le : (x y z : Bytes) → key_cmp x y ≡ Less → is_le (key_cmp y z) ≡ true → key_cmp x z ≡ Less
 less_le x y z lt le = by (key_cmp y z) refl le
   where
     by : (r : Ordering) → key_cmp y z ≡ r → is_le r ≡ true → key_cmp x z ≡ Less
@@ -57,7 +57,7 @@ not_less x y h = by (key_cmp x y) refl h
     by Equal e h = ap is_le (turned x y Equal e)
     by Greater e h = ap is_le (turned x y Greater e)
 
-own_key : (x : Bytes) → key_cmp x x ≡ Equal
+pub own_key : (x : Bytes) → key_cmp x x ≡ Equal
 own_key x = tied_itself nat_list_cmp_total x
 
 pub index_is : (r : Ordering) → (ordering_index r == 1) ≡ is_eq r

@@ -3,9 +3,11 @@
 
 mod fetching;
 mod finding;
+mod laws;
 mod page;
 mod view;
 
+pub use laws::one_entry;
 pub use view::FileView;
 
 #[cfg(test)]
