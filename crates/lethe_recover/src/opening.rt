@@ -53,7 +53,7 @@ pub enum OpenWhy {
     OtherConfig { kept: Config },
     /// The disk failed, and its count of faults went from `before` to `after`.
     Fault { before: u64, after: u64 },
-    /// The two numbers that opening draws would pass the greatest, which is `last`.
+    /// Behind the two numbers that opening draws, the next one would pass the greatest, which is `last`. The directory is as it was.
     Exhausted { last: u64 },
     /// There was no memory.
     NoMemory,
