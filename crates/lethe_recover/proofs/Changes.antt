@@ -74,7 +74,7 @@ spelled_of (of.Entry other) entry spelled is = let same : other ≡ entry = cc i
 spelled_of (of.Blind place) entry spelled is = absurd cc
 spelled_of (of.Erase erase) entry spelled is = absurd spelled
 
-spelled_in : (last : ℕ) (records : List Record) (entry : Entry) → Ascends last records → Contains (map plain records) (Written entry) → HasSpelling entry
+pub spelled_in : (last : ℕ) (records : List Record) (entry : Entry) → Ascends last records → Contains (map plain records) (Written entry) → HasSpelling entry
 spelled_in last [] entry up there = absurd (none_in (Written entry) there)
 spelled_in last (first ∷ records) entry up there = elim (first_or_rest (plain first) (map plain records) (Written entry) there) [
   | inl same ↦ spelled_of first entry up.0 same

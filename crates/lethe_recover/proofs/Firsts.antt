@@ -38,7 +38,7 @@ no_items : {X : Type 0} (xs : List X) → length xs ≡ 0 → xs ≡ []
 no_items [] e = refl
 no_items (x ∷ xs) e = absurd (omega arith)
 
-none_pending : in_order [] ≡ []
+pub none_pending : in_order [] ≡ []
 none_pending = ap (map (λ (p : ℕ × Pending). p.1)) (no_items (finmap.entries (finmap.empty {X = Pending} {R = nat_cmp})) (sym (len-entries (finmap.empty {X = Pending} {R = nat_cmp})) ∙ len-empty nat_cmp Pending))
 
 -- A store without records: its manifest, and an empty segment.

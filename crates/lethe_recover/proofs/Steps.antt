@@ -41,7 +41,7 @@ stored_appended s next stored spelled above = record {
     same (Some older) = refl
 
 -- all but the active segment is as it was
-active_changed : (s : Stored) (d c : Directory) (records : List Record) → IsStored s → Encodes d s → SameBut (segment_name s.active.no) d c → HasRecords (segment_name s.active.no) s.active.no records c
+pub active_changed : (s : Stored) (d c : Directory) (records : List Record) → IsStored s → Encodes d s → SameBut (segment_name s.active.no) d c → HasRecords (segment_name s.active.no) s.active.no records c
     → Encodes c (record s { active = record s.active { records = records } })
 active_changed s d c records stored e others has = record {
   greatest = (

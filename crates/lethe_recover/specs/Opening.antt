@@ -1,12 +1,12 @@
 -- A store that was opened, and why one wasn't.
 use Rattle.std.specs.Prelude.{◌≡◌, ◌≤◌, ◌+◌, ℕ, length, Option}
 use Rattle.lethe_base.specs.Counts.{Rose}
-use Rattle.lethe_base.specs.Limits.{max_place}
+use Rattle.lethe_base.specs.Limits.{max_place, max_time}
 use Rattle.lethe_base.specs.History.{History, Change}
 use Rattle.lethe_base.specs.declared.config.Fields.{Fields}
 use Rattle.lethe_disk.specs.Directory.{Directory}
 use Rattle.lethe_disk.specs.Disk.{Seen}
-use Rattle.lethe_segment.specs.Segments.{segment_bytes}
+use Rattle.lethe_segment.specs.Segments.{segment_bytes, Ascends}
 use Rattle.lethe_manifest.specs.declared.manifest.Manifest.{Manifest}
 use Rattle.lethe_commit.specs.Append.{EndsAt}
 use Rattle.lethe_recover.specs.declared.opening.OpenWhy.{OpenWhy}
@@ -28,6 +28,12 @@ pub record IsTold (opened : Opened) (s : Stored) : Type 0 where
   pub end : opened.end + 1 ≡ length (segment_bytes s.active.no s.active.records)
   pub next : opened.next ≡ s.manifest.next
   pub records : opened.records ≡ s.active.records
+
+-- what is told of a store can be written
+pub record IsSpellable (opened : Opened) : Type 0 where
+  pub clock : opened.clock ≤ max_time
+  pub count : opened.count ≤ max_place
+  pub records : Ascends 0 opened.records
 
 -- The disk has one store of the configuration and nothing else, as it is told.
 pub record IsOpened (config : Fields) (disk : Seen) (opened : Opened) : Type 0 where

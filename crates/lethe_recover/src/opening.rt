@@ -1,6 +1,6 @@
 //! Opening a store.
 ghost use Rattle.std.specs.Prelude as prelude;
-ghost use Rattle.std.specs.Prelude.{◌≡◌, ◌≤◌, ◌<◌, ◌+◌, ◌⊎◌, ◌∷◌, [], max, None, Option, IfErr, IfOk, MatchResult};
+ghost use Rattle.std.specs.Prelude.{◌≡◌, ◌≤◌, ◌<◌, ◌+◌, ◌⊎◌, ◌∷◌, [], max, ℕ, None, Option, IsErrOf, IfErr, IfOk, MatchResult};
 ghost use Rattle.lethe_segment.specs.declared.record.Record.{Record};
 ghost use Rattle.lethe_base.specs.Counts.{Rose};
 ghost use Rattle.lethe_base.specs.Limits.{max_place};
@@ -19,7 +19,8 @@ ghost use Rattle.lethe_recover.specs.Quiet.{IsQuiet};
 ghost use Rattle.lethe_recover.specs.declared.refused.RecoverRefused.{RecoverRefused};
 ghost use Rattle.lethe_recover.specs.Rewritten.{rewritten, new_stored};
 ghost use Rattle.lethe_recover.specs.Settled.{IsSettled};
-ghost use Rattle.lethe_recover.specs.Opening.{IsThere, IsOpened, IsResumed, MayNotOpen, IsCut, since_start};
+ghost use Rattle.lethe_recover.specs.Opening.{IsThere, IsOpened, IsSpellable, IsResumed, MayNotOpen, IsCut, since_start};
+ghost use Rattle.lethe_recover.specs.declared.opening.OpenWhy.TheVariants.{Exhausted};
 
 use crate::{RecoverRefused, Recovered, begin, load, rewrite, tidy};
 use lethe_base::{Config, List, MAX_PLACE, Name};
@@ -67,6 +68,9 @@ pub fn open<D: Disk>(alloc: Global, disk: &mut D, config: &Config) -> Result<Ope
     // Opened: the disk has this store and nothing else.
     ensures opened { D.tells → IfOk result (IsOpened config.now (D.seen disk.new)) }
 
+    // What is told can be written, whatever the disk is.
+    ensures spelled { IfOk result IsSpellable }
+
     // Where the disk was left for a history, the store stands for it, or for it with the change carried out.
     ensures resumed { D.tells → (h : History) (change : Option Change) → IsLeft (D.seen disk.old) h change
         → IfOk result (IsResumed config.now h change (D.seen disk.new)) }
@@ -83,6 +87,10 @@ pub fn open<D: Disk>(alloc: Global, disk: &mut D, config: &Config) -> Result<Ope
         → MatchResult result (λ opened. ⊥) (λ told. (told ≡ since_start (D.faults disk.old) why) ⊎ IsCut ⊥ (D.faults disk.old) (D.faults disk.new) told) }
     ensures untouched { D.tells → (why : RecoverRefused) → HasReason config.now (D.seen disk.old).directory why
         → IsQuiet (D.seen disk.old) (D.seen disk.new) }
+
+    // Nor where numbers ran out, which is told behind the first device call.
+    ensures exhausted { D.tells → (last : ℕ) → IsErrOf result (Exhausted last)
+        → IsQuiet (D.seen disk.old) (D.seen disk.new) × ((D.seen disk.old).moment < (D.seen disk.new).moment) }
     ensures faults { D.faults disk.old ≤ D.faults disk.new }
 {
     let before = disk.faults();
@@ -102,6 +110,7 @@ fn open_synced<D: Disk>(
     requires before { before ≤ D.faults disk.old }
     requires synced { D.tells → IsSynced (D.seen disk.old) }
     ensures opened { D.tells → IfOk result (IsOpened config.now (D.seen disk.new)) }
+    ensures spelled { IfOk result IsSpellable }
     ensures resumed { D.tells → (h : History) → IsKept (D.seen disk.old).directory h
         → IfOk result (IsResumed config.now h None (D.seen disk.new)) }
     ensures any_moment { D.tells → (h : History) → IsKept (D.seen disk.old).directory h
@@ -111,6 +120,7 @@ fn open_synced<D: Disk>(
         → MatchResult result (λ opened. ⊥) (λ told. (told ≡ since_start before why) ⊎ IsCut ⊥ before (D.faults disk.new) told) }
     ensures untouched { D.tells → (why : RecoverRefused) → HasReason config.now (D.seen disk.old).directory why
         → IsQuiet (D.seen disk.old) (D.seen disk.new) }
+    ensures exhausted { D.tells → (last : ℕ) → IsErrOf result (Exhausted last) → IsQuiet (D.seen disk.old) (D.seen disk.new) }
     ensures faults { D.faults disk.old ≤ D.faults disk.new }
 {
     let read = match load(alloc, disk, config) {
@@ -137,6 +147,7 @@ fn start<D: Disk>(
     requires before { before ≤ D.faults disk.old }
     requires none { D.tells → IsSynced (D.seen disk.old) × HasGreatest None (D.seen disk.old).directory }
     ensures there { D.tells → IfOk result (IsThere (D.seen disk.new) (new_stored config.now)) }
+    ensures spelled { IfOk result IsSpellable }
     ensures any_moment { D.tells → Goes (λ c. IsKept c []) (D.seen disk.old) (D.seen disk.new) }
     ensures refused { IfErr result (IsCut ⊥ before (D.faults disk.new)) }
     ensures faults { D.faults disk.old ≤ D.faults disk.new }
@@ -168,9 +179,11 @@ fn resume<D: Disk>(
     requires settled { D.tells → (s : Stored) × IsSettled (D.seen disk.old) s × (s.manifest ≡ manifest.now) × (s.active.records ≡ records) }
     ensures there { D.tells → (s : Stored) → IsSettled (D.seen disk.old) s → s.manifest ≡ manifest.now → s.active.records ≡ records
         → IfOk result (IsThere (D.seen disk.new) (rewritten s (count_of s))) }
+    ensures spelled { IfOk result IsSpellable }
     ensures any_moment { D.tells → (s : Stored) → IsSettled (D.seen disk.old) s → s.manifest ≡ manifest.now → s.active.records ≡ records
         → (h : History) → IsFor h s → Goes (λ c. IsKept c h) (D.seen disk.old) (D.seen disk.new) }
     ensures refused { IfErr result (IsCut (max_place ≤ manifest.now.next + 1) before (D.faults disk.new)) }
+    ensures exhausted { (last : ℕ) → IsErrOf result (Exhausted last) → disk.new ≡ disk.old }
     ensures faults { D.faults disk.old ≤ D.faults disk.new }
 {
     if manifest.next + 1 >= MAX_PLACE {

@@ -1,4 +1,4 @@
-use Rattle.std.proofs.Common.{◌≡◌, ◌⊎◌, None, sym, subst}
+use Rattle.std.proofs.Common.{◌≡◌, ◌⊎◌, None, sym, subst, arith}
 use Rattle.lethe_recover.specs.Kept.{IsKept}
 use Rattle.lethe_recover.specs.Left.{IsKeptOr}
 use Rattle.lethe_recover.specs.Loaded.{HasReason}
@@ -59,3 +59,14 @@ returns-in-Ok-clause-untouched g c = λ told why reason.
 pub returns-in-Err-clause-untouched : goal.returns-in-Err-clause-untouched
 returns-in-Err-clause-untouched g c = λ told why reason.
     quiet_call c.sync.result (g.D.Disk.seen c.args.disk.now) (g.D.Disk.seen c.sync.new.self) (c.sync.ensures.call told) (c.sync.ensures.directory told)
+
+pub returns-in-Ok-clause-exhausted : goal.returns-in-Ok-clause-exhausted
+returns-in-Ok-clause-exhausted g c = λ told last is.
+    let s0 = g.D.Disk.seen c.args.disk.now in
+    let s1 = g.D.Disk.seen c.sync.new.self in
+    let s2 = g.D.Disk.seen c.open_synced.new.disk in
+    let call = c.in-Ok.ensures.call told in
+    let more = call.counted in
+    let quiet = c.open_synced.ensures.exhausted told last is in
+    let later = quiet.any_moment.later in
+    (quiet_then s0 s1 s2 (quiet_call c.sync.result s0 s1 (c.sync.ensures.call told) (c.sync.ensures.directory told)) quiet, omega (arith, more, later))

@@ -57,3 +57,15 @@ returns-in-Err-rewrite-clause-any_moment g c = λ told s settled same held h sta
     goes_then (λ x. IsKept x h) s0 s1 s2
     (goes_weaker (λ x. Encodes x s) (λ x. IsKept x h) s0 s1 (old_kept h s settled.stored stands) (c.tidy.ensures.any_moment told s settled same))
     (goes_weaker (λ x. Encodes x s ⊎ Encodes x (rewritten s (count_of s))) (λ x. IsKept x h) s1 s2 (either_kept h s settled.stored stands anew) writing)
+
+pub returns-in-Ok-clause-spelled : goal.returns-in-Ok-clause-spelled
+returns-in-Ok-clause-spelled g c = record {
+  clock = c.requires.spelled.clock;
+  count =
+      let is = c.count_of-count.ensures in
+      let last = last_fits 0 c.args.records c.requires.ascends (omega arith) in
+      let same = ap (last_seq 0) c.items.ensures in
+      let counted = c.requires.spelled.count in
+      omega (arith, is, last, same, counted);
+  records = c.requires.ascends;
+}

@@ -1,9 +1,9 @@
 use Rattle.std.proofs.Common.{◌<◌, sym, ap, ◌∙◌, arith}
 use Rattle.std.specs.Option.{option_copied}
 use Rattle.lethe_mem.specs.Order.{count_below}
-use Rattle.lethe_run.proofs.Scanning.{from_first, next_in_range, stands_before, all_found}
-use Rattle.lethe_run.proofs.scan.scan.Goals as goal
-use Rattle.lethe_run.proofs.scan.scan.Goals.{in-Some+in_ok-push_pair, in_default}
+use Rattle.lethe_engine.proofs.Ranges.{from_first, next_in_range, stands_before, all_found}
+use Rattle.lethe_engine.proofs.scanning.scan.Goals as goal
+use Rattle.lethe_engine.proofs.scanning.scan.Goals.{in-Some+in_ok-push_pair, in_default}
 
 pub loop-place-init : goal.loop-place-init
 loop-place-init g c =

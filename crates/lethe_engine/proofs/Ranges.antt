@@ -14,7 +14,7 @@ use Rattle.lethe_mem.specs.Order.{count_below}
 use Rattle.lethe_mem.specs.Pairs.{pairs_of}
 use Rattle.lethe_mem.proofs.Places.{turned}
 use Rattle.lethe_mem.proofs.Order.{below_stands, rest_stands, nothing_stands, drop-count_below}
-use Rattle.lethe_run.specs.Scans.{pairs_between}
+use Rattle.lethe_engine.specs.Scans.{pairs_between}
 
 -- one entry more in front
 pick : (lo hi : Bytes) (e : Entry) (es : List Entry) → is_between lo hi e.key ≡ true → pairs_between lo hi (e ∷ es) ≡ pairs_of (e ∷ []) ++ pairs_between lo hi es

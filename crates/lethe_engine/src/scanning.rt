@@ -1,8 +1,7 @@
 //! Scans of a buffer.
 ghost use Rattle.std.specs.Prelude.{◌≡◌, ◌++◌, [], ◌∷◌, IfOk, OnOk};
 ghost use Rattle.lethe_mem.specs.Pairs.{pairs_of};
-ghost use Rattle.lethe_run.specs.Transcript.{by_keys};
-ghost use Rattle.lethe_run.specs.Scans.{pairs_between};
+ghost use Rattle.lethe_engine.specs.Scans.{by_keys, pairs_between};
 
 use lethe_base::{Body, Entry, Key, NoMemory, Value};
 use lethe_mem::{Buffer, first_from};

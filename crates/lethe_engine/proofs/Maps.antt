@@ -9,7 +9,7 @@ use Rattle.lethe_base.specs.declared.entry.Entry.{Entry}
 use Rattle.lethe_mem.specs.Pairs.{pairs_of}
 use Rattle.lethe_mem.proofs.PairsLemmas.{pairs_sorted, get-pairs_of}
 use Rattle.lethe_mem.proofs.Places.{to_T, tied, equal_is}
-use Rattle.lethe_run.specs.Kept.{map_of}
+use Rattle.lethe_engine.specs.StandsFor.{map_of}
 
 -- its entries are the pairs
 pub entries-map_of : (entries : List Entry) → IsAscending entries → finmap.entries (map_of entries) ≡ pairs_of entries

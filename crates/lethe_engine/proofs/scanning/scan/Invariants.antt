@@ -1,8 +1,8 @@
 use Rattle.std.proofs.Common.{◌≡◌, ◌++◌, ◌≤◌, drop}
 use Rattle.lethe_mem.specs.Order.{count_below}
-use Rattle.lethe_run.specs.Transcript.{by_keys}
-use Rattle.lethe_run.specs.Scans.{pairs_between}
-use Rattle.lethe_run.proofs.scan.scan.Given as goal
+use Rattle.lethe_engine.specs.Scans.{by_keys}
+use Rattle.lethe_engine.specs.Scans.{pairs_between}
+use Rattle.lethe_engine.proofs.scanning.scan.Given as goal
 
 -- the pairs so far and those from the place on are all
 abbrev pub invariant-loop-place : goal.invariant-loop-place

@@ -1,0 +1,11 @@
+pub mod Maps
+pub mod Ranges
+pub mod NewestEntries
+pub mod Times
+pub mod Recording
+pub mod Standings
+pub mod Prepared
+pub mod Followed
+pub mod Appendable
+pub mod Shown
+pub mod Answering
