@@ -1,13 +1,12 @@
 -- What a store answers, and what it is when it was opened.
-use Rattle.std.proofs.Common.{◌≡◌, ◌⊎◌, inl, inr, ℕ, ◌+◌, List, length, map, Option, Some, None, refl, sym, ap, ◌∙◌, subst}
+use Rattle.std.proofs.Common.{◌≡◌, ◌⊎◌, inl, inr, ℕ, List, Option, refl, sym, ap, ◌∙◌, subst}
 use Rattle.std.specs.Prelude.{filter}
 use Rattle.std.specs.FinMap as finmap
 use Rattle.lethe_base.specs.Keys.{Bytes}
-use Rattle.lethe_base.specs.Entries.{IsAscending, shown}
-use Rattle.lethe_base.specs.History.{History, Change, Pair, State, after}
+use Rattle.lethe_base.specs.Entries.{shown}
+use Rattle.lethe_base.specs.History.{History, Change, Pair, after}
 use Rattle.lethe_base.specs.Read.{Get, Scan, Found, Listed, answer, is_between}
 use Rattle.lethe_base.specs.declared.config.Fields.{Fields}
-use Rattle.lethe_base.specs.declared.entry.Entry.{Entry}
 use Rattle.lethe_disk.specs.Disk.{Seen}
 use Rattle.lethe_mem.proofs.PairsLemmas.{get-pairs_of}
 use Rattle.lethe_commit.specs.Append.{EndsAt}
@@ -25,8 +24,7 @@ use Rattle.lethe_recover.specs.Quiet.{IsQuiet}
 use Rattle.lethe_engine.specs.Opening.{IsOf, IsResumed, IsUntold}
 use Rattle.lethe_engine.specs.Replayed.{AreNewestOf}
 use Rattle.lethe_engine.specs.Scans.{by_keys, listed, pairs_between}
-use Rattle.lethe_engine.specs.Sound.{IsAppendable, IsSound}
-use Rattle.lethe_engine.specs.StandsFor.{map_of, StandsFor}
+use Rattle.lethe_engine.specs.StandsFor.{StandsFor}
 use Rattle.lethe_engine.proofs.Maps.{entries-map_of}
 use Rattle.lethe_engine.proofs.Shown.{newest_map}
 use Rattle.lethe_engine.proofs.Standings.{open_held}

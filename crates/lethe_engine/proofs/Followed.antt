@@ -1,31 +1,27 @@
 -- The record of a put and of a delete is that of the change.
-use Rattle.std.proofs.Common.{◌≡◌, ◌<◌, ◌^◌, ◌⊎◌, inl, inr, ℕ, ◌+◌, min, List, [], ◌∷◌, length, map, Option, Some, None, refl, sym, ap, ◌∙◌, subst}
-use Rattle.std.specs.Prelude.{option_and_then, unwrap_or, Contains, flat_map, replicate, zero, suc}
+use Rattle.std.proofs.Common.{◌≡◌, ◌<◌, ◌^◌, ℕ, ◌+◌, min, length, map, Option, Some, None, refl, sym, ap, ◌∙◌, subst}
+use Rattle.std.specs.Prelude.{option_and_then, unwrap_or}
 use Rattle.std.specs.FinMap as finmap
-use Rattle.lethe_base.specs.Keys.{Bytes, key_cmp}
+use Rattle.lethe_base.specs.Keys.{Bytes}
 use Rattle.lethe_base.specs.Limits.{IsKey, IsValue, max_place}
-use Rattle.lethe_base.specs.Entries.{IsAscending, entry_of, pair_of}
+use Rattle.lethe_base.specs.Entries.{entry_of}
 use Rattle.lethe_base.specs.History.{History, after, done}
-use Rattle.lethe_base.specs.Held.{Shows, InBuffer, IsFiled}
-use Rattle.lethe_base.specs.Layout.{buffer_of, frozen_records, files_of}
+use Rattle.lethe_base.specs.Layout.{buffer_of}
 use Rattle.lethe_base.specs.declared.call.Call.{Call}
 use Rattle.lethe_base.specs.declared.call.Call.TheVariants.{Put, Delete, Tick, Work}
 use Rattle.lethe_base.specs.declared.config.Fields.{Fields}
 use Rattle.lethe_base.specs.declared.entry.Body.TheVariants as body
 use Rattle.lethe_base.specs.declared.entry.Entry.{Entry}
 use Rattle.lethe_base.proofs.Histories.{after-push}
-use Rattle.lethe_base.proofs.LayoutLaws.{none_in}
 use Rattle.lethe_disk.specs.Disk.{Seen}
 use Rattle.lethe_mem.proofs.PairsLemmas.{map-inserts_put, map-inserts_tomb}
-use Rattle.lethe_segment.specs.declared.record.Record.{Record}
 use Rattle.lethe_segment.specs.declared.record.Record.TheVariants as of
 use Rattle.lethe_cover.specs.Steps.{next_place, with_done, put_entry, tomb_entry}
-use Rattle.lethe_recover.specs.Stored.{Stored, Segment, layout_of, plain}
+use Rattle.lethe_recover.specs.Stored.{Stored, layout_of, plain}
 use Rattle.lethe_recover.proofs.Changes.{put_stored, put_for, delete_stored, delete_for, blind_stored, blind_for}
-use Rattle.lethe_recover.proofs.Unique.{none_frozen}
 use Rattle.lethe_engine.specs.declared.journal.Journal.{Journal}
 use Rattle.lethe_engine.specs.Changes.{done_by, IsRecordOf}
-use Rattle.lethe_engine.specs.Journals.{put_record, delete_over, delete_record, Enters}
+use Rattle.lethe_engine.specs.Journals.{put_record, delete_over, delete_record}
 use Rattle.lethe_engine.specs.StandsFor.{map_of, IsOpen, StandsFor}
 use Rattle.lethe_engine.proofs.Shown.{nothing_shown}
 use Rattle.lethe_engine.proofs.Maps.{map_of-blind}

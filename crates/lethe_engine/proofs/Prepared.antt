@@ -1,18 +1,17 @@
 -- A change whose memory was taken first.
-use Rattle.std.proofs.Common.{◌≡◌, ◌<◌, ℕ, ◌+◌, List, ◌∷◌, [], ◌++◌, length, Some, None, refl, sym, ap, ◌∙◌, subst}
+use Rattle.std.proofs.Common.{◌≡◌, ◌<◌, ℕ, ◌+◌, List, Some, None, refl, sym, ◌∙◌, subst}
 use Rattle.std.specs.FinMap.{insert}
 use Rattle.lethe_base.specs.History.{History}
 use Rattle.lethe_base.specs.Limits.{max_place}
 use Rattle.lethe_base.specs.declared.call.Call.{Call}
 use Rattle.lethe_base.specs.declared.config.Fields.{Fields}
-use Rattle.lethe_base.specs.declared.name.Name.{Name}
 use Rattle.lethe_disk.specs.Disk.{Seen, Image, IsSynced}
 use Rattle.lethe_disk.specs.Runs.{Leads}
 use Rattle.lethe_segment.specs.declared.record.Record.{Record}
 use Rattle.lethe_segment.specs.Records.{record_bytes}
 use Rattle.lethe_segment.specs.Segments.{segment_bytes}
 use Rattle.lethe_cover.specs.Steps.{with_done, with_failed}
-use Rattle.lethe_commit.specs.Append.{EndsAt, IsReady, IsAppended, IsUntouched, longer}
+use Rattle.lethe_commit.specs.Append.{EndsAt, IsReady, IsAppended, longer}
 use Rattle.lethe_recover.specs.Stored.{segment_name}
 use Rattle.lethe_recover.specs.Goes.{Goes}
 use Rattle.lethe_recover.specs.Left.{IsKeptOr}

@@ -1,8 +1,8 @@
 -- The record of a change is appended.
-use Rattle.std.proofs.Common.{◌≡◌, ◌<◌, ◌≤◌, ◌⊎◌, inl, inr, ℕ, ◌+◌, List, [], ◌∷◌, ◌++◌, length, Option, Some, None, refl, sym, ap, ◌∙◌, subst, arith}
+use Rattle.std.proofs.Common.{◌≡◌, ◌<◌, inl, inr, ℕ, ◌+◌, List, [], ◌∷◌, ◌++◌, Some, None, refl, sym, ap, ◌∙◌, subst, arith}
 use Rattle.std.specs.Prelude.{IsSome}
 use Rattle.std.specs.FinMap.{insert}
-use Rattle.lethe_base.specs.History.{History, Change}
+use Rattle.lethe_base.specs.History.{History}
 use Rattle.lethe_base.specs.declared.call.Call.{Call}
 use Rattle.lethe_base.specs.declared.config.Fields.{Fields}
 use Rattle.lethe_base.specs.Entries.{entry_of}
@@ -17,7 +17,7 @@ use Rattle.lethe_segment.specs.Segments.{segment_bytes, Ascends, last_seq}
 use Rattle.lethe_segment.proofs.Runs.{holds_spelling}
 use Rattle.lethe_cover.specs.Steps.{with_done}
 use Rattle.lethe_commit.specs.Append.{EndsAt, IsReady, IsAppended, IsUntouched, longer}
-use Rattle.lethe_recover.specs.Stored.{Stored, IsStored, IsCited, segment_name, appended}
+use Rattle.lethe_recover.specs.Stored.{Stored, segment_name, appended}
 use Rattle.lethe_recover.specs.Encodes.{Encodes}
 use Rattle.lethe_recover.specs.Goes.{Goes}
 use Rattle.lethe_recover.specs.Kept.{IsKept}

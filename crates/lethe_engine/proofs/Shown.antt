@@ -1,27 +1,25 @@
 -- What reads see of a store whose journal is one segment.
-use Rattle.std.proofs.Common.{◌≡◌, ◌≤◌, ◌⊎◌, inl, inr, ℕ, zero, suc, List, [], ◌∷◌, ◌++◌, length, map, Option, Some, None, refl, sym, ap, ◌∙◌, subst, arith}
+use Rattle.std.proofs.Common.{◌≡◌, inl, inr, ℕ, zero, suc, List, [], ◌∷◌, ◌++◌, map, Option, Some, None, refl, sym, ap, ◌∙◌, subst, arith}
 use Rattle.std.specs.Prelude.{option_and_then, Contains, flat_map, filter_map, replicate}
 use Rattle.std.specs.Cmp.Lexicographic.{nat_list_cmp_total}
 use Rattle.std.specs.FinMap as finmap
 use Rattle.lethe_base.specs.Keys.{Bytes, key_cmp}
-use Rattle.lethe_base.specs.Entries.{IsAscending, entry_of, pair_of, shown}
-use Rattle.lethe_base.specs.History.{History, Pair, after}
+use Rattle.lethe_base.specs.Entries.{IsAscending, pair_of}
+use Rattle.lethe_base.specs.History.{History, after}
 use Rattle.lethe_base.specs.Held.{Shows, InBuffer, IsFiled}
 use Rattle.lethe_base.specs.Layout.{buffer_of, frozen_records}
 use Rattle.lethe_base.specs.Matching.{answer_under, pair_under}
 use Rattle.lethe_base.specs.declared.entry.Body.{Body}
 use Rattle.lethe_base.specs.declared.entry.Body.TheVariants.{Put, Tomb}
 use Rattle.lethe_base.specs.declared.entry.Entry.{Entry}
-use Rattle.lethe_base.specs.declared.pending.Pending.{Pending}
 use Rattle.lethe_base.proofs.LayoutLaws.{none_in}
 use Rattle.lethe_mem.proofs.PairsLemmas.{get-pairs_of}
 use Rattle.lethe_mem.proofs.Places.{tied}
 use Rattle.lethe_segment.specs.declared.record.Record.{Record}
 use Rattle.lethe_segment.specs.declared.record.Record.TheVariants as of
-use Rattle.lethe_segment.specs.Records.{record_seq}
 use Rattle.lethe_segment.specs.Segments.{Ascends}
 use Rattle.lethe_cover.proofs.Records.{buffer_keyed}
-use Rattle.lethe_recover.specs.Stored.{Stored, Segment, IsStored, layout_of, plain, erase_of, in_order, records_from}
+use Rattle.lethe_recover.specs.Stored.{Stored, IsStored, layout_of, plain, erase_of, in_order, records_from}
 use Rattle.lethe_recover.specs.Kept.{IsFor}
 use Rattle.lethe_recover.proofs.Firsts.{none_pending}
 use Rattle.lethe_recover.proofs.Unique.{none_frozen}

@@ -1,7 +1,6 @@
 -- What a store stands for, behind a change.
-use Rattle.std.proofs.Common.{◌≡◌, ◌<◌, ◌≤◌, ◌⊎◌, inl, inr, ℕ, ◌+◌, List, [], ◌∷◌, ◌++◌, length, Option, Some, None, refl, sym, ap, ◌∙◌, subst, arith}
+use Rattle.std.proofs.Common.{◌≡◌, ◌<◌, ℕ, ◌+◌, [], ◌∷◌, ◌++◌, length, Option, Some, None, refl, sym, ap, ◌∙◌, subst}
 use Rattle.std.proofs.lemmas.List.{length_push}
-use Rattle.lethe_base.specs.Entries.{IsAscending}
 use Rattle.lethe_base.specs.History.{History, Change, after}
 use Rattle.lethe_base.specs.Limits.{max_place}
 use Rattle.lethe_base.specs.declared.call.Call.{Call}
@@ -10,8 +9,7 @@ use Rattle.lethe_base.specs.declared.config.Fields.{Fields}
 use Rattle.lethe_base.specs.declared.refused.Refused.{Refused}
 use Rattle.lethe_base.specs.declared.refused.Refused.TheVariants.{Fault, Stopped, Backwards, Pinned, NothingDue, Cancelled, Exhausted, ReadFault, NoMemory, Damaged}
 use Rattle.lethe_base.proofs.Histories.{after-push, legal_push}
-use Rattle.lethe_disk.specs.Directory.{Directory}
-use Rattle.lethe_disk.specs.Disk.{Seen, Image}
+use Rattle.lethe_disk.specs.Disk.{Seen}
 use Rattle.lethe_segment.specs.declared.record.Record.{Record}
 use Rattle.lethe_cover.specs.Steps.{with_done, with_failed}
 use Rattle.lethe_commit.specs.Append.{IsUntouched}
@@ -19,7 +17,7 @@ use Rattle.lethe_recover.specs.Left.{IsLeft, IsKeptOr}
 use Rattle.lethe_engine.specs.declared.journal.Journal.{Journal}
 use Rattle.lethe_engine.specs.Changes.{done_by, tried_by, IsRecordOf}
 use Rattle.lethe_engine.specs.Journals.{MayRefuse, Enters, IsNext, IsLike}
-use Rattle.lethe_engine.specs.StandsFor.{map_of, IsOpen, IsStopped, IsOpenOrStopped, StandsFor}
+use Rattle.lethe_engine.specs.StandsFor.{map_of, IsOpen, IsOpenOrStopped, StandsFor}
 use Rattle.lethe_engine.proofs.Recording.{open_still}
 
 pub untouched : (disk : Seen) → IsUntouched disk disk
@@ -50,7 +48,9 @@ module _ (config : Fields) (h : History) (disk disk' : Seen) (old new : Journal)
     change = now.change;
     history = now.history;
     place = now.place;
+    legal = now.legal;
     done = now.done;
+    works = now.works;
     faults_before = now.faults_before;
     faults = now.faults;
     failed = now.failed;
@@ -97,7 +97,9 @@ module _ (config : Fields) (h : History) (disk : Seen) (old new : Journal) (stan
           change = change;
           history = refl;
           place = ap (λ n. n + 1) stands.count ∙ sym (length_push h change);
+          legal = stands.legal;
           done = now.stands.done;
+          works = is.works;
           faults_before = before;
           faults = faults;
           failed = refl;

@@ -2,6 +2,7 @@
 use Rattle.std.specs.Prelude.{◌≡◌, ℕ, List, ◌∷◌, [], ◌++◌, length, Option, Some, None}
 use Rattle.std.specs.FinMap as finmap
 use Rattle.lethe_base.specs.History.{Map, History, Change, IsLegal, AreDone, after}
+use Rattle.lethe_base.specs.declared.call.Call.TheVariants.{Work}
 use Rattle.lethe_base.specs.declared.call.Did.TheVariants.{Failed}
 use Rattle.lethe_base.specs.declared.config.Fields.{Fields}
 use Rattle.lethe_base.specs.declared.entry.Entry.{Entry}
@@ -37,7 +38,9 @@ pub record IsStopped (h : History) (disk : Seen) (at : ℕ) : Type 0 where
   pub change : Change
   pub history : h ≡ before ++ change ∷ []
   pub place : at ≡ length h
+  pub legal : IsLegal before
   pub done : AreDone before
+  pub works : change.call ≡ Work → ⊥
   pub faults_before : ℕ
   pub faults : ℕ
   pub failed : change.did ≡ Failed faults_before faults

@@ -1,20 +1,38 @@
 -- How a run's end follows from what its parts say.
-use Rattle.std.proofs.Common.{◌≡◌, ◌<◌, ◌≤◌, List, [], ◌++◌, length, Option, Some, None, IfSome, IfOk, Result, Ok, Err, inl, inr, refl, sym, ap, ◌∙◌, subst, arith, lit<, append-nil}
-use Rattle.std.specs.Prelude.{IsOk, IsErr}
+use Rattle.std.proofs.Common.{◌≡◌, ◌<◌, ◌≤◌, ◌+◌, ◌-◌, ℕ, Bool, true, false, List, [], ◌++◌, length, take, Option, Some, None, IfSome, IfOk, Result, Ok, Err, inl, inr, refl, sym, ap, ◌∙◌, subst, arith, append-nil}
 use Rattle.std.specs.Io.KnownBytes.{Consumes, IsAtEnd, Appends, Keeps}
 use Rattle.std.proofs.lemmas.Bool.{cases_lt, lt-ltb}
 use Rattle.std.proofs.lemmas.List.{length-append, take-append-le}
+use Rattle.lethe_base.specs.Configuration.{default_fields}
 use Rattle.lethe_base.specs.Keys.{Bytes}
-use Rattle.lethe_base.specs.History.{History}
+use Rattle.lethe_base.specs.History.{History, Change}
+use Rattle.lethe_disk.specs.Disk.{Seen}
+use Rattle.lethe_engine.specs.declared.journal.Journal.{Journal}
+use Rattle.lethe_engine.specs.Opening.{IsResumed}
+use Rattle.lethe_engine.proofs.Standings.{held_open}
+use Rattle.lethe_recover.specs.Goes.{Goes}
+use Rattle.lethe_recover.specs.Left.{IsLeft, IsKeptOr}
+use Rattle.lethe_manifest.specs.declared.manifest.Manifest.{Manifest}
+use Rattle.lethe_recover.specs.Loaded.{HasReason, IsGated}
+use Rattle.lethe_recover.specs.Opening.{MayNotOpen}
+use Rattle.lethe_recover.specs.declared.opening.OpenWhy.{OpenWhy}
+use Rattle.lethe_recover.specs.declared.opening.OpenWhy.TheVariants as open_why
+use Rattle.lethe_recover.specs.declared.refused.RecoverRefused.{RecoverRefused}
+use Rattle.lethe_recover.proofs.Going.{goes_then, goes_weaker}
 use Rattle.lethe_script.specs.declared.order.Order.{Order}
 use Rattle.lethe_script.specs.declared.refused.BadLine.{BadLine}
 use Rattle.lethe_script.specs.Grammar.{script_of}
+use Rattle.lethe_run.specs.declared.reply.Line.{Line}
 use Rattle.lethe_run.specs.declared.status.Status.{Status}
-use Rattle.lethe_run.specs.declared.status.Status.TheVariants.{Answered, BadWords, BadScript, ReadFault, WriteFault, NoMemory}
-use Rattle.lethe_run.specs.Printed.{bad_words, bad_line}
-use Rattle.lethe_run.specs.Transcript.{IsTranscript}
-use Rattle.lethe_run.specs.Ends.{Ends, IsRun, IsAsked, Prints, Refuses, Wrote, WroteFront}
-use Rattle.lethe_run.specs.Status.{EndsWith, Says, code_of}
+use Rattle.lethe_run.specs.declared.status.Status.TheVariants.{Answered, BadWords, BadScript, ReadFault, WriteFault, Refused, NoMemory, Damaged, OtherConfig}
+use Rattle.lethe_run.specs.Carried.{IsKeptMeanwhile, IsCarriedOut}
+use Rattle.lethe_run.specs.Ends as ends
+use Rattle.lethe_run.specs.Ends.{Run, IsRun, OnLeft, OnScript, Carries, IsFront, IsNoScript, IsNotOpened, Refuses, IsAsked, IsUnbegun, IsOpenFault, StoppedBehind, StoppedInside}
+use Rattle.lethe_run.specs.Printed.{bad_words, bad_line, open_line}
+use Rattle.lethe_run.specs.Scripts.{Serves, All, ScriptEnds}
+use Rattle.lethe_run.specs.Serving.{IsKeptFor, IsOn, IsCarried}
+use Rattle.lethe_run.specs.Status.{EndsWith, Says, IsToldOf, status_for}
+use Rattle.lethe_run.specs.Transcript.{text_of}
 
 -- what stands behind the limit changes nothing
 past_limit : (bytes more : Bytes) → 16777216 < length bytes → script_of (bytes ++ more) ≡ script_of bytes
@@ -39,150 +57,142 @@ if_ok_both (Ok x) p q f = f x p q
 if_ok_both (Err e) p q f = tt
 
 -- a fact of a value that may be there
-some_then : {X : Type 0} {P Q : X → Type 0} (o : Option X) → IfSome o P → ((x : X) → P x → Q x) → IfSome o Q
+pub some_then : {X : Type 0} {P Q : X → Type 0} (o : Option X) → IfSome o P → ((x : X) → P x → Q x) → IfSome o Q
 some_then None p f = tt
 some_then (Some x) p f = f x p
 
-some_now : {X : Type 0} {Q : X → Type 0} (o : Option X) → ((x : X) → Q x) → IfSome o Q
+pub some_now : {X : Type 0} {Q : X → Type 0} (o : Option X) → ((x : X) → Q x) → IfSome o Q
 some_now None f = tt
 some_now (Some x) f = f x
 
--- what the bytes that were read say, the source's bytes say
-pub source_refused : (source : Option Bytes) (bytes text : Bytes) (bad : BadLine) → IfSome source (λ all. script_of all ≡ script_of bytes)
-    → script_of bytes ≡ Err bad → text ≡ bad_line bad → IfSome source (λ all. Refuses all text)
-source_refused source bytes text bad same e is = some_then source same (λ all same. record { bad = bad; script = same ∙ e; named = is })
+-- the script that was read is the source's
+pub on_script : (source : Option Bytes) (bytes : Bytes) (phases : List (List Order)) (P : List (List Order) → Type 0) → IfSome source (λ all. script_of all ≡ script_of bytes) → script_of bytes ≡ Ok phases → P phases
+    → IfSome source (λ all. (read : List (List Order)) × (script_of all ≡ Ok read) × P read)
+on_script source bytes phases P same e p = some_then source same (λ all is. (phases, is ∙ e, p))
 
-pub source_printed : (source : Option Bytes) (bytes text : Bytes) (phases : List (List Order)) (h : History) → IfSome source (λ all. script_of all ≡ script_of bytes)
-    → script_of bytes ≡ Ok phases → IsTranscript [] phases text h → IfSome source (λ all. Prints all text)
-source_printed source bytes text phases h same e printed = some_then source same (λ all same. record { phases = phases; history = h; script = same ∙ e; transcript = printed })
+pub no_script : (source : Option Bytes) (bytes : Bytes) (bad : BadLine) → IfSome source (λ all. script_of all ≡ script_of bytes) → script_of bytes ≡ Err bad → IfSome source (λ all. script_of all ≡ Err bad)
+no_script source bytes bad same e = some_then source same (λ all is. is ∙ e)
 
-module _ (words : List Bytes) (source old new : Option Bytes) (SourceRose SinkRose : Type 0) where
-  -- a text was asked for and said, or the sink failed
-  said : (status end : Status) (text : Bytes) → IsAsked words source text → (Appends old new text → EndsWith words source old new SourceRose SinkRose status)
-      → Says status text old new SinkRose end → EndsWith words source old new SourceRose SinkRose end
-  said status end text asked whole (inl says) = subst (EndsWith words source old new SourceRose SinkRose) (sym says.0) (whole says.1)
-  said status end text asked whole (inr says) =
-      subst (EndsWith words source old new SourceRose SinkRose) (sym says.0) (says.1, record { text = text; asked = asked; written = says.2 })
+-- Words that are no command, and bytes that are no script
 
-  pub said_bad_words : (end : Status) → (IsRun words → ⊥) → Says BadWords bad_words old new SinkRose end → EndsWith words source old new SourceRose SinkRose end
-  said_bad_words end other says = said BadWords end bad_words (inl (other, refl)) (λ whole. (other, whole)) says
+pub said_bad_words : (run : Run) (end : Status) → (IsRun run.words → ⊥) → run.Unused → Says BadWords bad_words run.taken_before run.taken run.SinkRose end → EndsWith run end
+said_bad_words run end other unused (inl says) = subst (EndsWith run) (sym says.0) (other, says.1, unused)
+said_bad_words run end other unused (inr says) = subst (EndsWith run) (sym says.0) (says.1, bad_words, inl (other, refl, unused), says.2)
 
-  pub said_bad_script : (end : Status) (text : Bytes) → IsRun words → IfSome source (λ all. Refuses all text) → Says BadScript text old new SinkRose end
-      → EndsWith words source old new SourceRose SinkRose end
-  said_bad_script end text run refuses says =
-      said BadScript end text (inr (run, some_then source refuses (λ all r. inr r))) (λ whole. (run, record { text = text; asked = refuses; written = whole })) says
+pub said_bad_script : (run : Run) (end : Status) (bad : BadLine) → IsRun run.words → IsNoScript run bad → IsToldOf BadScript (bad_line bad) run.taken_before run.taken run.SinkRose end → EndsWith run end
+said_bad_script run end bad words none (inl (inl says)) = subst (EndsWith run) (sym says.0) (words, bad, none, says.1)
+said_bad_script run end bad words none (inl (inr says)) = subst (EndsWith run) (sym says.0) (says.1, bad_line bad, inr (inl (words, bad, none, refl)), says.2)
+said_bad_script run end bad words none (inr silent) = subst (EndsWith run) (sym silent.0) (words, inl (silent.1, inl none.1))
 
-  pub said_answers : (end : Status) (text : Bytes) → IsRun words → IfSome source (λ all. Prints all text) → Says Answered text old new SinkRose end
-      → EndsWith words source old new SourceRose SinkRose end
-  said_answers end text run prints says =
-      said Answered end text (inr (run, some_then source prints (λ all p. inl p))) (λ whole. (run, record { text = text; asked = prints; written = whole })) says
+-- A store that wasn't opened
 
--- ---- the named parts of the end
+no_memory_why : (run : Run) (why : OpenWhy) → IsNotOpened run why → IsNotOpened run open_why.NoMemory
+no_memory_why run why not = record {
+  script = not.script;
+  reason = tt;
+  untouched = λ told. inl tt;
+  drawn = λ told last is. absurd (clash last is);
+  any_moment = not.any_moment;
+}
+  where
+    clash : (last : ℕ) → open_why.NoMemory ≡ open_why.Exhausted last → ⊥
+    clash last e = cc
 
-ok_no_err : {T E : Type 0} (r : Result T E) (x : T) → r ≡ Ok x → IsErr r → ⊥
-ok_no_err (Ok y) x e is = cc
-ok_no_err (Err y) x e is = cc
+told_by : (run : Run) (why : OpenWhy) → IsRun run.words → IsNotOpened run why → Appends run.taken_before run.taken (open_line default_fields why) → EndsWith run (status_for why)
+told_by run (open_why.Damaged name) words not written = (words, name, (not, written))
+told_by run (open_why.OtherConfig kept) words not written = (words, kept, (not, written))
+told_by run (open_why.Fault before after) words not written = (words, inr (inl (before, after, (not, written))))
+told_by run (open_why.Exhausted last) words not written = (words, inr (inr (last, (not, written))))
+told_by run open_why.NoMemory words not written = (words, inl (keeps run.taken_before run.taken written, inr not))
+  where
+    keeps : (old new : Option Bytes) → Appends old new [] → Keeps old new
+    keeps None new a = tt
+    keeps (Some xs) None a = absurd a
+    keeps (Some xs) (Some ys) a = a ∙ append-nil xs
 
-err_no_ok : {T E : Type 0} (r : Result T E) (x : E) → r ≡ Err x → IsOk r → ⊥
-err_no_ok (Ok y) x e is = cc
-err_no_ok (Err y) x e is = cc
+pub said_not_opened : (run : Run) (end : Status) (why : OpenWhy) → IsRun run.words → IsNotOpened run why → IsToldOf (status_for why) (open_line default_fields why) run.taken_before run.taken run.SinkRose end → EndsWith run end
+said_not_opened run end why words not (inl (inl says)) = subst (EndsWith run) (sym says.0) (told_by run why words not says.1)
+said_not_opened run end why words not (inl (inr says)) = subst (EndsWith run) (sym says.0) (says.1, open_line default_fields why, inr (inr (inl (words, why, not, refl))), says.2)
+said_not_opened run end why words not (inr silent) = subst (EndsWith run) (sym silent.0) (words, inl (silent.1, inr (no_memory_why run why not)))
 
-module _ (words : List Bytes) (source old new : Option Bytes) (SourceRose SinkRose : Type 0) where
-  answered_end : IsRun words × Wrote Prints source old new → Ends words source old new SourceRose SinkRose 0
-  answered_end e = record {
-    answered = λ is. e;
-    bad_words = λ is. absurd (omega (arith, is));
-    bad_script = λ is. absurd (omega (arith, is));
-    read_fault = λ is. absurd (omega (arith, is));
-    write_fault = λ is. absurd (omega (arith, is));
-    no_memory = λ is. absurd (omega (arith, is));
-    other_words = λ other. absurd (other e.0);
-    no_script = λ run. some_then source e.1.asked (λ bytes p is. absurd (ok_no_err (script_of bytes) p.phases p.script is));
-    a_script = λ run. some_now source (λ bytes is. (0, lit< tt, refl));
-    complete = λ run calm kind. some_now source (λ bytes is. (0, lit< tt, refl));
-    known = (0, lit< tt, refl);
+-- A script that was carried out
+
+module _ (run : Run) (words : IsRun run.words) (phases : List (List Order)) (script : (P : List (List Order) → Type 0) → P phases → OnScript run P) (mid : Seen) (journal : Journal) (counted : ℕ) (up : run.faults_before ≤ counted)
+    (resumed : run.Tells → (h : History) (change : Option Change) → IsLeft run.start h change → IsResumed default_fields h change mid journal)
+    (moments : run.Tells → (h : History) (change : Option Change) → IsLeft run.start h change → Goes (IsKeptOr h change) run.start mid)
+    (sound : run.Tells → (why : RecoverRefused) → HasReason default_fields run.start.directory why → ⊥) where
+  none_some : (at : ℕ) → journal.stopped ≡ None → journal.stopped ≡ Some at → ⊥
+  none_some at a b = let clash : None ≡ Some at = sym a ∙ b in cc
+
+  on : (h : History) (change : Option Change) → (r : IsResumed default_fields h change mid journal) → IsOn (record { before = counted; now = counted }) r.history r.history mid journal
+  on h change r = record {
+    begins = ([], sym (append-nil r.history));
+    done = (held_open default_fields r.history mid journal r.runs r.stands.held).stands.done;
+    stands = r.stands;
+    stopped = λ at is. absurd (none_some at r.runs is);
   }
 
-  bad_words_end : (IsRun words → ⊥) × Appends old new bad_words → Ends words source old new SourceRose SinkRose 2
-  bad_words_end e = record {
-    answered = λ is. absurd (omega (arith, is));
-    bad_words = λ is. e;
-    bad_script = λ is. absurd (omega (arith, is));
-    read_fault = λ is. absurd (omega (arith, is));
-    write_fault = λ is. absurd (omega (arith, is));
-    no_memory = λ is. absurd (omega (arith, is));
-    other_words = λ other. (0, lit< tt, refl);
-    no_script = λ run. absurd (e.0 run);
-    a_script = λ run. absurd (e.0 run);
-    complete = λ run calm kind. absurd (e.0 run);
-    known = (1, lit< tt, refl);
+  carried_out : (left : History) (change : Option Change) (r : IsResumed default_fields left change mid journal) (front : List (List Order)) (lines : List (List Line)) → Goes (IsKeptOr left change) run.start mid
+      → IsCarried (record { before = run.faults_before; now = run.faults }) r.history front lines mid run.finish
+      → IsCarriedOut (record { before = run.faults_before; now = run.faults }) run.start run.finish left change front lines
+  carried_out left change r front lines opening c = record {
+    opened = r.history;
+    either = r.either;
+    history = c.history;
+    served = c.served;
+    any_moment = goes_then (IsKeptMeanwhile left change r.history c.history) run.start mid run.finish
+        (goes_weaker (IsKeptOr left change) (IsKeptMeanwhile left change r.history c.history) run.start mid (λ d kept. (kept.0, inl kept.1, kept.2)) opening)
+        (goes_weaker (IsKeptFor r.history c.history) (IsKeptMeanwhile left change r.history c.history) mid run.finish (λ d kept. (kept.0, inr kept.1, kept.2)) c.any_moment);
+    leaves = c.leaves;
   }
 
-  bad_script_end : IsRun words × Wrote Refuses source old new → Ends words source old new SourceRose SinkRose 3
-  bad_script_end e = record {
-    answered = λ is. absurd (omega (arith, is));
-    bad_words = λ is. absurd (omega (arith, is));
-    bad_script = λ is. e;
-    read_fault = λ is. absurd (omega (arith, is));
-    write_fault = λ is. absurd (omega (arith, is));
-    no_memory = λ is. absurd (omega (arith, is));
-    other_words = λ other. absurd (other e.0);
-    no_script = λ run. some_now source (λ bytes is. (0, lit< tt, refl));
-    a_script = λ run. some_then source e.1.asked (λ bytes r is. absurd (err_no_ok (script_of bytes) r.bad r.script is));
-    complete = λ run calm kind. some_then source e.1.asked (λ bytes r is. absurd (err_no_ok (script_of bytes) r.bad r.script is));
-    known = (2, lit< tt, refl);
-  }
+  carries : (front : List (List Order)) (lines : List (List Line)) → Serves run.Tells mid run.finish journal counted run.faults front lines → Carries run front lines
+  carries front lines served = λ told left change is.
+      let r = resumed told left change is in
+      carried_out left change r front lines (moments told left change is) (served told r.history (on left change r) run.faults_before up)
 
-  read_fault_end : IsRun words × SourceRose × Keeps old new → Ends words source old new SourceRose SinkRose 4
-  read_fault_end e = record {
-    answered = λ is. absurd (omega (arith, is));
-    bad_words = λ is. absurd (omega (arith, is));
-    bad_script = λ is. absurd (omega (arith, is));
-    read_fault = λ is. e;
-    write_fault = λ is. absurd (omega (arith, is));
-    no_memory = λ is. absurd (omega (arith, is));
-    other_words = λ other. absurd (other e.0);
-    no_script = λ run. some_now source (λ bytes is. (1, lit< tt, refl));
-    a_script = λ run. some_now source (λ bytes is. (1, lit< tt, refl));
-    complete = λ run calm kind. absurd (calm e.1);
-    known = (3, lit< tt, refl);
-  }
+  all : (refused : Bool) → All run.Tells mid run.finish journal counted run.faults run.taken_before run.taken phases refused → ends.Answered run refused
+  all refused a = record { lines = a.lines; script = script (λ p. Carries run p a.lines) (carries phases a.lines a.served); written = a.written; is = a.is; sound = sound }
 
-  write_fault_end : SinkRose × WroteFront words source old new → Ends words source old new SourceRose SinkRose 5
-  write_fault_end e = record {
-    answered = λ is. absurd (omega (arith, is));
-    bad_words = λ is. absurd (omega (arith, is));
-    bad_script = λ is. absurd (omega (arith, is));
-    read_fault = λ is. absurd (omega (arith, is));
-    write_fault = λ is. e;
-    no_memory = λ is. absurd (omega (arith, is));
-    other_words = λ other. (1, lit< tt, refl);
-    no_script = λ run. some_now source (λ bytes is. (2, lit< tt, refl));
-    a_script = λ run. some_now source (λ bytes is. (2, lit< tt, refl));
-    complete = λ run calm kind. absurd (kind e.0);
-    known = (4, lit< tt, refl);
-  }
+  pub script_ended : (status : Status) → ScriptEnds run.Tells mid run.finish journal counted run.faults run.taken_before run.taken run.SinkRose phases status → EndsWith run status
+  script_ended Answered e = (words, all false e)
+  script_ended Refused e = (words, inl (all true e))
+  script_ended WriteFault e = (
+    e.0,
+    text_of e.1.lines,
+    inr (inr (inr (
+      words,
+      record {
+        lines = e.1.lines;
+        script = script (λ p. (count : ℕ) × Carries run (take count p) e.1.lines) (e.1.count, carries (take e.1.count phases) e.1.lines e.1.served);
+        is = refl;
+      },
+    ))),
+    e.1.written,
+  )
+  script_ended NoMemory e = (words, inr (record { lines = e.lines; script = script (λ p. Inner p) inner; written = e.written }))
+    where
+      Inner : List (List Order) → Type 0
+      Inner p = OnLeft run (λ left change. (front : List (List Order)) × IsFront p front × IsCarriedOut (record { before = run.faults_before; now = run.faults }) run.start run.finish left change front e.lines)
 
-  no_memory_end : IsRun words × Keeps old new → Ends words source old new SourceRose SinkRose 7
-  no_memory_end e = record {
-    answered = λ is. absurd (omega (arith, is));
-    bad_words = λ is. absurd (omega (arith, is));
-    bad_script = λ is. absurd (omega (arith, is));
-    read_fault = λ is. absurd (omega (arith, is));
-    write_fault = λ is. absurd (omega (arith, is));
-    no_memory = λ is. e;
-    other_words = λ other. absurd (other e.0);
-    no_script = λ run. some_now source (λ bytes is. (3, lit< tt, refl));
-    a_script = λ run. some_now source (λ bytes is. (3, lit< tt, refl));
-    complete = λ run calm kind. some_now source (λ bytes is. (1, lit< tt, refl));
-    known = (5, lit< tt, refl);
-  }
+      inner : Inner phases
+      inner = λ told left change is.
+          let r = resumed told left change is in
+          let c = e.served told r.history (on left change r) run.faults_before up in
+          (c.0, c.1, carried_out left change r c.0 e.lines (moments told left change is) c.2)
+  script_ended BadWords e = absurd e
+  script_ended BadScript e = absurd e
+  script_ended ReadFault e = absurd e
+  script_ended Damaged e = absurd e
+  script_ended OtherConfig e = absurd e
 
-  -- each case has the named parts
-  pub ends_by_cases : (end : Status) → EndsWith words source old new SourceRose SinkRose end → Ends words source old new SourceRose SinkRose (code_of end)
-  ends_by_cases Answered e = answered_end e
-  ends_by_cases BadWords e = bad_words_end e
-  ends_by_cases BadScript e = bad_script_end e
-  ends_by_cases ReadFault e = read_fault_end e
-  ends_by_cases WriteFault e = write_fault_end e
-  ends_by_cases NoMemory e = no_memory_end e
+-- where numbers ran out, the manifest's next number and the device calls reach the last one
+pub drawn_by : (Tells : Type 0) (start finish : Seen) (before now : ℕ) (why : OpenWhy) → MayNotOpen Tells default_fields start.directory before now why → ((last : ℕ) → why ≡ open_why.Exhausted last → start.moment < finish.moment) → Tells → (last : ℕ) → why ≡ open_why.Exhausted last
+    → (manifest : Manifest) × IsGated start.directory manifest × (last ≤ manifest.next + (finish.moment - start.moment))
+drawn_by Tells start finish before now why may later told last is =
+    let full = subst (MayNotOpen Tells default_fields start.directory before now) is may in
+    let e = full.1 told in
+    let more = later last is in
+    let all = full.0 in
+    let next = e.last in
+    (e.manifest, e.gated, omega (arith, all, next, more))

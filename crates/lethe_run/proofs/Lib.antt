@@ -1,6 +1,10 @@
-pub mod Maps
-pub mod Keeping
-pub mod Scanning
 pub mod ScanLaws
+pub mod Cuts
+pub mod Images
+pub mod Steps
+pub mod Runs
 pub mod Serving
+pub mod Phases
+pub mod Endings
 pub mod Ending
+pub mod Named

@@ -1,65 +1,162 @@
--- How a run may end, and what it has written then.
-use Rattle.std.specs.Prelude.{◌≡◌, ◌⊎◌, ℕ, List, [], ◌∷◌, Option, IfSome, IsOk, IsErr, Ok, Err, Contains, codes}
+-- How a run may end, what it has written then, and what it leaves on the disk.
+use Rattle.std.specs.Prelude.{◌≡◌, ◌⊎◌, ◌≤◌, ◌+◌, ◌-◌, ℕ, Bool, true, false, List, [], ◌∷◌, ◌++◌, length, take, slice_get, sum_by, Option, Some, IfSome, IsOk, IsErr, Ok, Err, Contains, codes}
 use Rattle.std.specs.Io.KnownBytes.{Appends, Keeps}
 use Rattle.lethe_wire.specs.Causes.{AppendsFront}
+use Rattle.lethe_base.specs.Configuration.{default_fields}
+use Rattle.lethe_base.specs.Counts.{Rose}
 use Rattle.lethe_base.specs.Keys.{Bytes}
-use Rattle.lethe_base.specs.History.{History}
+use Rattle.lethe_base.specs.Limits.{max_place}
+use Rattle.lethe_base.specs.History.{History, Change}
+use Rattle.lethe_base.specs.declared.config.Fields.{Fields}
+use Rattle.lethe_base.specs.declared.name.Name.{Name}
+use Rattle.lethe_disk.specs.Disk.{Seen}
+use Rattle.lethe_engine.specs.Opening.{IsUntold}
+use Rattle.lethe_manifest.specs.declared.manifest.Manifest.{Manifest}
+use Rattle.lethe_recover.specs.Goes.{Goes}
+use Rattle.lethe_recover.specs.Left.{IsLeft, IsKeptOr}
+use Rattle.lethe_recover.specs.Loaded.{IsGated, HasReason, HasOtherConfig}
+use Rattle.lethe_recover.specs.Opening.{MayNotOpen, IsExhausted}
+use Rattle.lethe_recover.specs.Quiet.{IsQuiet}
+use Rattle.lethe_recover.specs.declared.opening.OpenWhy.{OpenWhy}
+use Rattle.lethe_recover.specs.declared.opening.OpenWhy.TheVariants as open_why
+use Rattle.lethe_recover.specs.declared.refused.RecoverRefused.{RecoverRefused}
 use Rattle.lethe_script.specs.declared.order.Order.{Order}
 use Rattle.lethe_script.specs.declared.refused.BadLine.{BadLine}
 use Rattle.lethe_script.specs.Grammar.{script_of}
-use Rattle.lethe_run.specs.Printed.{bad_words, bad_line}
-use Rattle.lethe_run.specs.Transcript.{IsTranscript}
+use Rattle.lethe_run.specs.declared.reply.Line.{Line}
+use Rattle.lethe_run.specs.Carried.{IsCarriedOut}
+use Rattle.lethe_run.specs.Printed.{bad_words, bad_line, open_line}
+use Rattle.lethe_run.specs.Transcript.{text_of, has_refusal}
 
 -- the one word `run`
 abbrev pub IsRun : List Bytes → Type 0
 IsRun words = words ≡ codes "run" ∷ []
 
--- the bytes are a script that may print this text over an empty store
-pub record Prints (bytes text : Bytes) : Type 0 where
-  pub phases : List (List Order)
-  pub history : History
-  pub script : script_of bytes ≡ Ok phases
-  pub transcript : IsTranscript [] phases text history
+-- What a run was given, and what it left. Of the source and the sink: what the one had and the other has taken, where they tell it, and
+-- whether their counts of faults rose. Of the disk: what it was and is, where its kind tells it, and its counts of faults.
+pub record Run : Type 1 where
+  pub words : List Bytes
+  pub source : Option Bytes
+  pub taken_before : Option Bytes
+  pub taken : Option Bytes
+  pub SourceRose : Type 0
+  pub SinkRose : Type 0
+  pub Tells : Type 0
+  pub start : Seen
+  pub finish : Seen
+  pub faults_before : ℕ
+  pub faults : ℕ
+  -- the disk is handed back as it came
+  pub Unused : Type 0
 
--- the bytes are no script, and the text names the first bad line
-pub record Refuses (bytes text : Bytes) : Type 0 where
-  pub bad : BadLine
-  pub script : script_of bytes ≡ Err bad
-  pub named : text ≡ bad_line bad
+-- for each history and change that the disk was left for, where it tells what it holds
+abbrev pub OnLeft : Run → (History → Option Change → Type 0) → Type 0
+OnLeft run P = run.Tells → (left : History) (change : Option Change) → IsLeft run.start left change → P left change
 
--- Where the source tells its bytes, all that was written is such a text.
-pub record Wrote (Asks : Bytes → Bytes → Type 0) (source old new : Option Bytes) : Type 0 where
-  pub text : Bytes
-  pub asked : IfSome source (λ bytes. Asks bytes text)
-  pub written : Appends old new text
+-- the source's bytes are a script, of which this holds
+abbrev pub OnScript : Run → (List (List Order) → Type 0) → Type 0
+OnScript run P = IfSome run.source (λ bytes. (phases : List (List Order)) × (script_of bytes ≡ Ok phases) × P phases)
 
--- what the words and the source's bytes, where it tells them, ask to be written
-abbrev pub IsAsked : List Bytes → Option Bytes → Bytes → Type 0
-IsAsked words source text = ((IsRun words → ⊥) × (text ≡ bad_words)) ⊎ (IsRun words × IfSome source (λ bytes. Prints bytes text ⊎ Refuses bytes text))
+-- the lines answer these phases, and the disk is left so
+abbrev pub Carries : Run → List (List Order) → List (List Line) → Type 0
+Carries run phases lines = OnLeft run (λ left change. IsCarriedOut (record { before = run.faults_before; now = run.faults }) run.start run.finish left change phases lines)
 
--- a front of what was asked was written
-pub record WroteFront (words : List Bytes) (source old new : Option Bytes) : Type 0 where
-  pub text : Bytes
-  pub asked : IsAsked words source text
-  pub written : AppendsFront old new text
+-- every line of the script was answered, and whether one tells of a change that failed or wasn't made
+pub record Answered (run : Run) (refused : Bool) : Type 0 where
+  pub lines : List (List Line)
+  pub script : OnScript run (λ phases. Carries run phases lines)
+  pub written : Appends run.taken_before run.taken (text_of lines)
+  pub is : has_refusal lines ≡ refused
+  -- the directory shows nothing against it
+  pub sound : run.Tells → (why : RecoverRefused) → HasReason default_fields run.start.directory why → ⊥
 
--- How a run ends: its words, what its source has at the start and its sink has taken before and after, where they tell it, whether their
--- counts of faults rose, and the status.
-pub record Ends (words : List Bytes) (source old new : Option Bytes) (SourceRose SinkRose : Type 0) (status : ℕ) : Type 0 where
-  -- each line of the script was answered
-  pub answered : status ≡ 0 → IsRun words × Wrote Prints source old new
+-- the script was carried out up to a phase, in which the sink failed
+pub record StoppedBehind (run : Run) (text : Bytes) : Type 0 where
+  pub lines : List (List Line)
+  pub script : OnScript run (λ phases. (count : ℕ) × Carries run (take count phases) lines)
+  pub is : text ≡ text_of lines
+
+-- whole phases, and of the next one the first orders
+pub record IsFront (phases front : List (List Order)) : Type 0 where
+  pub count : ℕ
+  pub part : List Order
+  pub rest : List Order
+  pub there : slice_get phases count ≡ Some (part ++ rest)
+  pub is : front ≡ take count phases ++ part ∷ []
+
+-- the script was carried out up to an order for which there was no memory
+pub record StoppedInside (run : Run) : Type 0 where
+  pub lines : List (List Line)
+  pub script : OnScript run (λ phases. OnLeft run (λ left change. (front : List (List Order)) × IsFront phases front
+      × IsCarriedOut (record { before = run.faults_before; now = run.faults }) run.start run.finish left change front lines))
+  pub written : AppendsFront run.taken_before run.taken (text_of lines)
+
+-- the bytes are no script, and this is their first bad line
+abbrev pub IsNoScript : Run → BadLine → Type 0
+IsNoScript run bad = IfSome run.source (λ bytes. script_of bytes ≡ Err bad) × run.Unused
+
+-- The store wasn't opened, and this is why. The directory shows damage and another configuration, and then nothing was touched; numbers
+-- run out where the manifest's next number and the device calls reach the last one; and whatever came, each crash leaves what the disk was left for.
+pub record IsNotOpened (run : Run) (why : OpenWhy) : Type 0 where
+  pub script : OnScript run (λ phases. Unit {0})
+  pub reason : MayNotOpen run.Tells default_fields run.start.directory run.faults_before run.faults why
+  pub untouched : run.Tells → IsUntold why ⊎ IsQuiet run.start run.finish
+  pub drawn : run.Tells → (last : ℕ) → why ≡ open_why.Exhausted last
+      → (manifest : Manifest) × IsGated run.start.directory manifest × (last ≤ manifest.next + (run.finish.moment - run.start.moment))
+  pub any_moment : OnLeft run (λ left change. Goes (IsKeptOr left change) run.start run.finish)
+
+-- it wasn't, and this was written
+abbrev pub Refuses : Run → OpenWhy → Type 0
+Refuses run why = IsNotOpened run why × Appends run.taken_before run.taken (open_line default_fields why)
+
+-- what was to be written where the sink failed
+abbrev pub IsAsked : Run → Bytes → Type 0
+IsAsked run text =
+    ((IsRun run.words → ⊥) × (text ≡ bad_words) × run.Unused)
+    ⊎ (IsRun run.words × (bad : BadLine) × IsNoScript run bad × (text ≡ bad_line bad))
+    ⊎ (IsRun run.words × (why : OpenWhy) × IsNotOpened run why × (text ≡ open_line default_fields why))
+    ⊎ (IsRun run.words × StoppedBehind run text)
+
+-- there was no memory before the first order
+abbrev pub IsUnbegun : Run → Type 0
+IsUnbegun run = Keeps run.taken_before run.taken × (run.Unused ⊎ IsNotOpened run open_why.NoMemory)
+
+-- opening met a fault or numbers that ran out
+abbrev pub IsOpenFault : Run → Type 0
+IsOpenFault run = ((before : ℕ) × (after : ℕ) × Refuses run (open_why.Fault before after)) ⊎ ((last : ℕ) × Refuses run (open_why.Exhausted last))
+
+-- the statuses of a script's end
+abbrev pub script_ends : List ℕ
+script_ends = 0 ∷ 4 ∷ 5 ∷ 6 ∷ 7 ∷ 8 ∷ 9 ∷ []
+
+pub record Ends (run : Run) (status : ℕ) : Type 0 where
+  -- each line was answered, and each change is done
+  pub answered : status ≡ 0 → IsRun run.words × Answered run false
   -- `bad words`
-  pub bad_words : status ≡ 2 → (IsRun words → ⊥) × Appends old new bad_words
+  pub bad_words : status ≡ 2 → (IsRun run.words → ⊥) × Appends run.taken_before run.taken bad_words × run.Unused
   -- `line N bad WHY`
-  pub bad_script : status ≡ 3 → IsRun words × Wrote Refuses source old new
-  pub read_fault : status ≡ 4 → IsRun words × SourceRose × Keeps old new
-  pub write_fault : status ≡ 5 → SinkRose × WroteFront words source old new
-  pub no_memory : status ≡ 7 → IsRun words × Keeps old new
+  pub bad_script : status ≡ 3 → IsRun run.words × (bad : BadLine) × IsNoScript run bad × Appends run.taken_before run.taken (bad_line bad)
+  pub read_fault : status ≡ 4 → IsRun run.words × run.SourceRose × Keeps run.taken_before run.taken × run.Unused
+  pub write_fault : status ≡ 5 → run.SinkRose × (text : Bytes) × IsAsked run text × AppendsFront run.taken_before run.taken text
+  -- each line was answered, and a change failed or wasn't made, or opening met a fault or numbers that ran out
+  pub refused : status ≡ 6 → IsRun run.words × (Answered run true ⊎ IsOpenFault run)
+  pub no_memory : status ≡ 7 → IsRun run.words × (IsUnbegun run ⊎ StoppedInside run)
+  -- `damaged KIND NO`
+  pub damaged : status ≡ 8 → IsRun run.words × (name : Name) × Refuses run (open_why.Damaged name)
+  -- `other config kept .. asked ..`
+  pub other_config : status ≡ 9 → IsRun run.words × (kept : Fields) × Refuses run (open_why.OtherConfig kept)
   -- what ends it otherwise, where the words are no command, where the bytes are no script, and where they are one
-  pub other_words : (IsRun words → ⊥) → Contains (2 ∷ 5 ∷ []) status
-  pub no_script : IsRun words → IfSome source (λ bytes. IsErr (script_of bytes) → Contains (3 ∷ 4 ∷ 5 ∷ 7 ∷ []) status)
-  pub a_script : IsRun words → IfSome source (λ bytes. IsOk (script_of bytes) → Contains (0 ∷ 4 ∷ 5 ∷ 7 ∷ []) status)
-  -- without a fault a script is answered, or there is no memory for it
-  pub complete : IsRun words → (SourceRose → ⊥) → (SinkRose → ⊥) → IfSome source (λ bytes. IsOk (script_of bytes) → Contains (0 ∷ 7 ∷ []) status)
+  pub other_words : (IsRun run.words → ⊥) → Contains (2 ∷ 5 ∷ []) status
+  pub no_script : IsRun run.words → IfSome run.source (λ bytes. IsErr (script_of bytes) → Contains (3 ∷ 4 ∷ 5 ∷ 7 ∷ []) status)
+  pub a_script : IsRun run.words → IfSome run.source (λ bytes. IsOk (script_of bytes) → Contains script_ends status)
+  -- what the directory shows isn't carried out over
+  pub shown : IsRun run.words → run.Tells → (why : RecoverRefused) → HasReason default_fields run.start.directory why
+      → IfSome run.source (λ bytes. IsOk (script_of bytes) → (status ≡ 0 → ⊥) × (status ≡ 6 → IsOpenFault run))
+  -- Without a fault a script is answered and each change is done, or there is no memory for it, on a disk that was left for a history and is
+  -- of this configuration, where neither numbers nor places run out.
+  pub complete : IsRun run.words → (run.SourceRose → ⊥) → (run.SinkRose → ⊥) → (Rose run.faults_before run.faults → ⊥)
+      → IfSome run.source (λ bytes. (phases : List (List Order)) → script_of bytes ≡ Ok phases → OnLeft run (λ left change.
+      ((kept : Fields) → HasOtherConfig default_fields run.start.directory kept → ⊥) → (IsExhausted run.start.directory → ⊥)
+      → length left + 1 + sum_by (λ orders. length orders) phases ≤ max_place → Contains (0 ∷ 7 ∷ []) status))
   -- there is no other status
-  pub known : Contains (0 ∷ 2 ∷ 3 ∷ 4 ∷ 5 ∷ 7 ∷ []) status
+  pub known : Contains (0 ∷ 2 ∷ 3 ∷ 4 ∷ 5 ∷ 6 ∷ 7 ∷ 8 ∷ 9 ∷ []) status

@@ -1,6 +1,9 @@
 pub mod Printed
 pub mod Transcript
-pub mod Kept
+pub mod Carried
 pub mod Ends
 pub mod Status
 pub mod Scans
+pub mod Replies
+pub mod Serving
+pub mod Scripts

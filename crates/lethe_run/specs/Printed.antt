@@ -4,12 +4,19 @@ use Rattle.std.specs.List.{flat_map, list_all}
 use Rattle.std.specs.Fmt.{decimal}
 use Rattle.hex.specs.Hex.{encode_lower}
 use Rattle.lethe_base.specs.Keys.{Bytes}
+use Rattle.lethe_base.specs.declared.config.Fields.{Fields}
+use Rattle.lethe_base.specs.declared.config.Pick.{Pick}
+use Rattle.lethe_base.specs.declared.config.Pick.TheVariants.{So, Sd}
+use Rattle.lethe_base.specs.declared.name.Kind.{Kind}
+use Rattle.lethe_base.specs.declared.name.Kind.TheVariants.{Gate, Manifest, Segment, File, Page}
+use Rattle.lethe_recover.specs.declared.opening.OpenWhy.{OpenWhy}
+use Rattle.lethe_recover.specs.declared.opening.OpenWhy.TheVariants as open_why
 use Rattle.lethe_script.specs.declared.refused.BadLine.{BadLine}
 use Rattle.lethe_script.specs.Words.{why_text}
 use Rattle.lethe_run.specs.declared.reply.Line.{Line}
 use Rattle.lethe_run.specs.declared.reply.Line.TheVariants.{Answer}
 use Rattle.lethe_run.specs.declared.reply.Reply.{Reply}
-use Rattle.lethe_run.specs.declared.reply.Reply.TheVariants.{Done, Got, Scanned}
+use Rattle.lethe_run.specs.declared.reply.Reply.TheVariants.{Done, Got, Scanned, Fault, Stopped, Exhausted}
 
 -- with its end
 abbrev pub ended : Bytes → Bytes
@@ -37,6 +44,9 @@ reply_text (Done place) = codes "ok " ++ decimal place
 reply_text (Got point None) = codes "at " ++ decimal point ++ codes " none"
 reply_text (Got point (Some pair)) = codes "at " ++ decimal point ++ codes " val " ++ decimal pair.0 ++ codes " " ++ field_text pair.1
 reply_text (Scanned point pairs) = codes "at " ++ decimal point ++ codes " scan " ++ decimal (length pairs) ++ flat_map pair_text pairs
+reply_text (Fault place before after) = codes "fault " ++ decimal place ++ codes " before " ++ decimal before ++ codes " after " ++ decimal after
+reply_text (Stopped at) = codes "stopped " ++ decimal at
+reply_text (Exhausted last) = codes "exhausted " ++ decimal last
 
 abbrev pub line_text : Line → Bytes
 line_text (Answer caller reply) = ended (decimal caller ++ codes " " ++ reply_text reply)
@@ -52,3 +62,39 @@ bad_line bad = ended (codes "line " ++ decimal bad.line ++ codes " bad " ++ why_
 -- the line for words that are no command
 abbrev pub bad_words : Bytes
 bad_words = ended (codes "bad words")
+
+-- what an object is called
+abbrev pub kind_text : Kind → Bytes
+kind_text Gate = codes "gate"
+kind_text Manifest = codes "manifest"
+kind_text Segment = codes "segment"
+kind_text File = codes "file"
+kind_text Page = codes "page"
+
+abbrev pub pick_text : Pick → Bytes
+pick_text So = codes "so"
+pick_text Sd = codes "sd"
+
+-- a configuration, field by field
+abbrev pub levels_text : Fields → Bytes
+levels_text c = codes "threshold=" ++ decimal c.threshold ++ codes " ratio=" ++ decimal c.ratio ++ codes " levels=" ++ decimal c.levels
+
+abbrev pub files_text : Fields → Bytes
+files_text c = codes " page=" ++ decimal c.page ++ codes " tile=" ++ decimal c.tile ++ codes " file=" ++ decimal c.file
+
+abbrev pub buffer_text : Fields → Bytes
+buffer_text c = codes " buffer=" ++ decimal c.buffer ++ codes " pick=" ++ pick_text c.pick
+
+abbrev pub config_text : Fields → Bytes
+config_text c = levels_text c ++ files_text c ++ buffer_text c
+
+abbrev pub open_fault_line : ℕ → ℕ → Bytes
+open_fault_line before after = codes "open fault before " ++ (decimal before ++ (codes " after " ++ (decimal after ++ 10 ∷ [])))
+
+-- the line of a store that wasn't opened with the configuration that was asked for; want of memory has none
+abbrev pub open_line : Fields → OpenWhy → Bytes
+open_line asked (open_why.Damaged name) = ended (codes "damaged " ++ kind_text name.kind ++ codes " " ++ decimal name.no)
+open_line asked (open_why.OtherConfig kept) = ended (codes "other config kept " ++ config_text kept ++ codes " asked " ++ config_text asked)
+open_line asked (open_why.Fault before after) = open_fault_line before after
+open_line asked (open_why.Exhausted last) = ended (codes "open exhausted " ++ decimal last)
+open_line asked open_why.NoMemory = []

@@ -1,12 +1,18 @@
 -- The ends of a run by cases, and their statuses.
-use Rattle.std.specs.Prelude.{◌≡◌, ◌⊎◌, ℕ, List, Option}
+use Rattle.std.specs.Prelude.{◌≡◌, ◌⊎◌, ℕ, true, false, Option}
 use Rattle.std.specs.Io.KnownBytes.{Appends, Keeps}
 use Rattle.lethe_wire.specs.Causes.{AppendsFront}
 use Rattle.lethe_base.specs.Keys.{Bytes}
+use Rattle.lethe_base.specs.declared.config.Fields.{Fields}
+use Rattle.lethe_base.specs.declared.name.Name.{Name}
+use Rattle.lethe_recover.specs.declared.opening.OpenWhy.{OpenWhy}
+use Rattle.lethe_recover.specs.declared.opening.OpenWhy.TheVariants as open_why
+use Rattle.lethe_script.specs.declared.refused.BadLine.{BadLine}
 use Rattle.lethe_run.specs.declared.status.Status.{Status}
-use Rattle.lethe_run.specs.declared.status.Status.TheVariants.{Answered, BadWords, BadScript, ReadFault, WriteFault, NoMemory}
-use Rattle.lethe_run.specs.Printed.{bad_words}
-use Rattle.lethe_run.specs.Ends.{IsRun, Prints, Refuses, Wrote, WroteFront}
+use Rattle.lethe_run.specs.declared.status.Status.TheVariants.{Answered, BadWords, BadScript, ReadFault, WriteFault, Refused, NoMemory, Damaged, OtherConfig}
+use Rattle.lethe_run.specs.Printed.{bad_words, bad_line}
+use Rattle.lethe_run.specs.Ends as ends
+use Rattle.lethe_run.specs.Ends.{Run, IsRun, IsNoScript, IsAsked, IsUnbegun, IsOpenFault, Refuses, StoppedInside}
 
 abbrev pub code_of : Status → ℕ
 code_of Answered = 0
@@ -14,17 +20,35 @@ code_of BadWords = 2
 code_of BadScript = 3
 code_of ReadFault = 4
 code_of WriteFault = 5
+code_of Refused = 6
 code_of NoMemory = 7
+code_of Damaged = 8
+code_of OtherConfig = 9
 
 -- what each end says
-abbrev pub EndsWith : List Bytes → Option Bytes → Option Bytes → Option Bytes → Type 0 → Type 0 → Status → Type 0
-EndsWith words source old new SourceRose SinkRose Answered = IsRun words × Wrote Prints source old new
-EndsWith words source old new SourceRose SinkRose BadWords = (IsRun words → ⊥) × Appends old new bad_words
-EndsWith words source old new SourceRose SinkRose BadScript = IsRun words × Wrote Refuses source old new
-EndsWith words source old new SourceRose SinkRose ReadFault = IsRun words × SourceRose × Keeps old new
-EndsWith words source old new SourceRose SinkRose WriteFault = SinkRose × WroteFront words source old new
-EndsWith words source old new SourceRose SinkRose NoMemory = IsRun words × Keeps old new
+abbrev pub EndsWith : Run → Status → Type 0
+EndsWith run Answered = IsRun run.words × ends.Answered run false
+EndsWith run BadWords = (IsRun run.words → ⊥) × Appends run.taken_before run.taken bad_words × run.Unused
+EndsWith run BadScript = IsRun run.words × (bad : BadLine) × IsNoScript run bad × Appends run.taken_before run.taken (bad_line bad)
+EndsWith run ReadFault = IsRun run.words × run.SourceRose × Keeps run.taken_before run.taken × run.Unused
+EndsWith run WriteFault = run.SinkRose × (text : Bytes) × IsAsked run text × AppendsFront run.taken_before run.taken text
+EndsWith run Refused = IsRun run.words × (ends.Answered run true ⊎ IsOpenFault run)
+EndsWith run NoMemory = IsRun run.words × (IsUnbegun run ⊎ StoppedInside run)
+EndsWith run Damaged = IsRun run.words × (name : Name) × Refuses run (open_why.Damaged name)
+EndsWith run OtherConfig = IsRun run.words × (kept : Fields) × Refuses run (open_why.OtherConfig kept)
+
+-- the end of a store that wasn't opened
+abbrev pub status_for : OpenWhy → Status
+status_for (open_why.Damaged name) = Damaged
+status_for (open_why.OtherConfig kept) = OtherConfig
+status_for (open_why.Fault before after) = Refused
+status_for (open_why.Exhausted last) = Refused
+status_for open_why.NoMemory = NoMemory
 
 -- the text was written and the end is this one, or the sink failed behind a front of it
 abbrev pub Says : Status → Bytes → Option Bytes → Option Bytes → Type 0 → Status → Type 0
 Says status text old new SinkRose end = ((end ≡ status) × Appends old new text) ⊎ ((end ≡ WriteFault) × SinkRose × AppendsFront old new text)
+
+-- so it is, or there was no memory for the text
+abbrev pub IsToldOf : Status → Bytes → Option Bytes → Option Bytes → Type 0 → Status → Type 0
+IsToldOf status text old new SinkRose end = Says status text old new SinkRose end ⊎ ((end ≡ NoMemory) × Keeps old new)

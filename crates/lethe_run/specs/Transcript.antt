@@ -1,11 +1,13 @@
 -- Which lines may answer a script, and which text they print. The history is read off the lines: no other change is in it.
-use Rattle.std.specs.Prelude.{◌≡◌, ℕ, zero, suc, ◌-◌, ◌<◌, ◌≤◌, Bool, max, List, [], ◌∷◌, ◌++◌, length, take, map, filter, filter_map, Option, Some, None, IsSomeAnd, IsPermutation, ◌==◌}
-use Rattle.std.specs.List.{flat_map}
+use Rattle.std.specs.Prelude.{◌≡◌, ℕ, zero, suc, ◌-◌, ◌<◌, ◌≤◌, Bool, true, false, max, List, [], ◌∷◌, ◌++◌, length, take, filter, filter_map, Option, Some, None, IsSome, IsSomeAnd, IsPermutation, ◌==◌}
+use Rattle.std.specs.List.{flat_map, list_any}
 use Rattle.lethe_base.specs.declared.call.Call.{Call}
 use Rattle.lethe_base.specs.declared.call.Call.TheVariants as call
 use Rattle.lethe_base.specs.declared.call.Did.TheVariants as did
 use Rattle.lethe_base.specs.Keys.{Bytes}
-use Rattle.lethe_base.specs.History.{Pair, History, change_at, after, IsLegal}
+use Rattle.lethe_base.specs.Counts.{Rose}
+use Rattle.lethe_base.specs.Limits.{max_place}
+use Rattle.lethe_base.specs.History.{History, Change, change_at, after, IsLegal}
 use Rattle.lethe_base.specs.Read.{Read, Answer, answer}
 use Rattle.lethe_base.specs.Read as answers
 use Rattle.lethe_script.specs.declared.order.Order.{Order}
@@ -14,13 +16,17 @@ use Rattle.lethe_script.specs.declared.order.Act.TheVariants.{Put, Get, Scan, De
 use Rattle.lethe_run.specs.declared.reply.Line.{Line}
 use Rattle.lethe_run.specs.declared.reply.Line.TheVariants as line
 use Rattle.lethe_run.specs.declared.reply.Reply.{Reply}
-use Rattle.lethe_run.specs.declared.reply.Reply.TheVariants.{Done, Got, Scanned}
+use Rattle.lethe_run.specs.declared.reply.Reply.TheVariants.{Done, Got, Scanned, Fault, Stopped, Exhausted}
+use Rattle.lethe_engine.specs.Scans.{listed}
 use Rattle.lethe_run.specs.Printed.{lines_text}
 
 -- what the meaning of a line depends on
 pub record Told : Type 0 where
   -- the whole history
   pub history : History
+  -- the disk's counts of faults, at the start and now
+  pub before : ℕ
+  pub now : ℕ
 
 -- the change that an act asks for
 abbrev pub call_of : Act → Option Call
@@ -45,19 +51,39 @@ pub record IsAnswerAt (h : History) (point : ℕ) (read : Read) (given : Answer)
   pub within : point ≤ length h
   pub is : given ≡ answer (after (take point h)) read
 
--- printed pairs, as those of a map
-abbrev pub by_keys : List (Bytes × ℕ × Bytes) → List (Bytes × Pair)
-by_keys pairs = map (λ p. (p.0, (p.1, p.2))) pairs
+-- The disk failed in the change at a place, and these are its counts of faults before and after.
+pub record IsFailedAt (told : Told) (place before after : ℕ) : Type 0 where
+  pub change : Change
+  pub is : change_at told.history place ≡ Some change
+  pub failed : change.did ≡ did.Failed before after
+  pub rose : Rose before after
+  pub from : told.before ≤ before
+  pub upto : after ≤ told.now
 
--- what a scan's reply answers
-abbrev pub listed : List (Bytes × ℕ × Bytes) → Answer
-listed pairs = answers.Listed (by_keys pairs)
+-- it was this change of the caller
+pub record IsFaultOf (told : Told) (caller place before after : ℕ) (call : Call) : Type 0 where
+  pub fails : IsFailedAt told place before after
+  pub who : fails.change.caller ≡ caller
+  pub what : fails.change.call ≡ call
 
--- what a reply means: a change stands at its place, and a read is a map's at its printed point
+-- the disk failed in the change at a place
+pub record WasStopped (told : Told) (at : ℕ) : Type 0 where
+  pub before : ℕ
+  pub after : ℕ
+  pub fails : IsFailedAt told at before after
+
+-- all places are used up
+abbrev pub IsUsedUp : Told → ℕ → Type 0
+IsUsedUp told last = (last ≡ max_place) × (length told.history ≡ max_place)
+
+-- what a reply means: a change stands at its place, done or failed, or isn't made, and a read is a map's at its printed point
 abbrev pub Answers : Told → ℕ → Act → Reply → Type 0
 Answers told caller act (Done place) = IsSomeAnd (call_of act) (IsDoneAt told.history caller place)
 Answers told caller act (Got point held) = IsSomeAnd (read_of act) (λ read. IsAnswerAt told.history point read (answers.Found held))
 Answers told caller act (Scanned point pairs) = IsSomeAnd (read_of act) (λ read. IsAnswerAt told.history point read (listed pairs))
+Answers told caller act (Fault place before after) = IsSomeAnd (call_of act) (IsFaultOf told caller place before after)
+Answers told caller act (Stopped at) = IsSome (call_of act) × WasStopped told at
+Answers told caller act (Exhausted last) = IsSome (call_of act) × IsUsedUp told last
 
 -- the lines of a phase
 abbrev pub Lines : Type 0
@@ -70,11 +96,14 @@ Answered told (order ∷ orders) (line.Answer caller reply ∷ lines) = (caller 
 Answered told [] (line ∷ lines) = ⊥
 Answered told (order ∷ orders) [] = ⊥
 
--- the place of the change that a line answers
+-- the place of the change that a line answers, done or failed
 abbrev pub place_of : Line → Option ℕ
 place_of (line.Answer caller (Done place)) = Some place
 place_of (line.Answer caller (Got point held)) = None
 place_of (line.Answer caller (Scanned point pairs)) = None
+place_of (line.Answer caller (Fault place before after)) = Some place
+place_of (line.Answer caller (Stopped at)) = None
+place_of (line.Answer caller (Exhausted last)) = None
 
 -- so many places, the first of them behind n
 abbrev pub places_behind : ℕ → ℕ → List ℕ
@@ -85,39 +114,54 @@ places_behind n (suc more) = suc n ∷ places_behind (suc n) more
 abbrev pub is_of : ℕ → Line → Bool
 is_of caller (line.Answer other reply) = other == caller
 
--- all places up to this one stood when the reply was made
+-- all places up to this one stood when the reply was made; a change that isn't made shows none
 abbrev pub shown_by : Reply → ℕ
 shown_by (Done place) = place
 shown_by (Got point held) = point
 shown_by (Scanned point pairs) = point
+shown_by (Fault place before after) = place
+shown_by (Stopped at) = 0
+shown_by (Exhausted last) = 0
 
 -- a change stands above what its caller had seen, and a read isn't below it
 abbrev pub IsBehind : ℕ → Reply → Type 0
 IsBehind seen (Done place) = seen < place
 IsBehind seen (Got point held) = seen ≤ point
 IsBehind seen (Scanned point pairs) = seen ≤ point
+IsBehind seen (Fault place before after) = seen < place
+IsBehind seen (Stopped at) = Unit {0}
+IsBehind seen (Exhausted last) = Unit {0}
 
 -- The lines of one caller, who has seen so many places before them, in a phase at whose end so many stand.
 abbrev pub Sees : ℕ → ℕ → List Line → Type 0
 Sees seen end [] = Unit {0}
 Sees seen end (line.Answer caller reply ∷ lines) = IsBehind seen reply × (shown_by reply ≤ end) × Sees (max seen (shown_by reply)) end lines
 
--- With n places before it, a change takes the next place, and a read is made at n. Then there are m.
+-- With n places before it, a change takes the next place, done or failed, and a read is made at n. What isn't made says which place is the last.
+-- Then there are m.
 abbrev pub Follows : ℕ → Reply → ℕ → Type 0
 Follows n (Done place) m = (place ≡ suc n) × (m ≡ suc n)
 Follows n (Got point held) m = (point ≡ n) × (m ≡ n)
 Follows n (Scanned point pairs) m = (point ≡ n) × (m ≡ n)
+Follows n (Fault place before after) m = (place ≡ suc n) × (m ≡ suc n)
+Follows n (Stopped at) m = (at ≡ n) × (m ≡ n)
+Follows n (Exhausted last) m = (n ≡ last) × (m ≡ n)
 
 -- the lines follow one another so
 abbrev pub InTurn : ℕ → List Line → ℕ → Type 0
 InTurn n [] m = m ≡ n
 InTurn n (line.Answer caller reply ∷ lines) m = (next : ℕ) × Follows n reply next × InTurn next lines m
 
+-- the disk's counts of faults, at the start of a run and now
+pub record Faults : Type 0 where
+  pub before : ℕ
+  pub now : ℕ
+
 -- From the history `start` on, the orders of one phase may be answered by these lines, and then the history is h.
-pub record IsServed (start : History) (orders : List Order) (lines : List Line) (h : History) : Type 0 where
+pub record IsServed (faults : Faults) (start : History) (orders : List Order) (lines : List Line) (h : History) : Type 0 where
   pub begins : (added : History) × (h ≡ start ++ added)
   pub legal : IsLegal h
-  pub answered : Answered (record { history = h }) orders lines
+  pub answered : Answered (record { history = h; before = faults.before; now = faults.now }) orders lines
   -- the changes that were added are those that the lines answer, each once
   pub once : IsPermutation (places_behind (length start) (length h - length start)) (filter_map place_of lines)
   pub seen : (caller : ℕ) → Sees (length start) (length h) (filter (is_of caller) lines)
@@ -125,14 +169,24 @@ pub record IsServed (start : History) (orders : List Order) (lines : List Line) 
   pub alone : InTurn (length start) lines (length h)
 
 -- phase after phase
-abbrev pub AreServed : History → List (List Order) → List (List Line) → History → Type 0
-AreServed start [] [] h = h ≡ start
-AreServed start (orders ∷ phases) (lines ∷ more) h = (middle : History) × IsServed start orders lines middle × AreServed middle phases more h
-AreServed start [] (lines ∷ more) h = ⊥
-AreServed start (orders ∷ phases) [] h = ⊥
+abbrev pub AreServed : Faults → History → List (List Order) → List (List Line) → History → Type 0
+AreServed faults start [] [] h = h ≡ start
+AreServed faults start (orders ∷ phases) (lines ∷ more) h = (middle : History) × IsServed faults start orders lines middle × AreServed faults middle phases more h
+AreServed faults start [] (lines ∷ more) h = ⊥
+AreServed faults start (orders ∷ phases) [] h = ⊥
 
--- From the history `start` on, a script of these phases may print this text, and then the history is h.
-pub record IsTranscript (start : History) (phases : List (List Order)) (text : Bytes) (h : History) : Type 0 where
-  pub lines : List (List Line)
-  pub served : AreServed start phases lines h
-  pub spelled : text ≡ flat_map lines_text lines
+-- the text of all phases
+abbrev pub text_of : List (List Line) → Bytes
+text_of lines = flat_map lines_text lines
+
+-- a change that wasn't made or failed
+abbrev pub is_refusal : Line → Bool
+is_refusal (line.Answer caller (Done place)) = false
+is_refusal (line.Answer caller (Got point held)) = false
+is_refusal (line.Answer caller (Scanned point pairs)) = false
+is_refusal (line.Answer caller (Fault place before after)) = true
+is_refusal (line.Answer caller (Stopped at)) = true
+is_refusal (line.Answer caller (Exhausted last)) = true
+
+abbrev pub has_refusal : List (List Line) → Bool
+has_refusal lines = list_any (list_any is_refusal) lines

@@ -1,14 +1,14 @@
-//! The top call: it reads a script, carries it out, and prints a line for each line of it that asks for something.
+//! The top call: it reads a script, carries it out over a store, and prints a line for each line of it that asks for something.
 #![tactic(auto)]
 
-mod keeper;
+mod answer;
 mod laws;
 mod print;
 mod reply;
-mod scan;
+mod script;
 mod serve;
 mod status;
 mod top;
 
 pub use laws::one_scan;
-pub use top::run;
+pub use top::{Ended, run};

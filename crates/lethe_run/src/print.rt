@@ -1,16 +1,50 @@
 //! Printing.
-ghost use Rattle.std.specs.Prelude.{◌≡◌, ◌++◌, OnOk, IfOk};
+ghost use Rattle.std.specs.Prelude.{◌≡◌, ◌++◌, OnOk, IfOk, IsTrue, is_ok, if◌then◌else◌};
+ghost use Rattle.lethe_base.specs.Keys.{Bytes};
 ghost use Rattle.std.specs.List.{flat_map, list_all};
 ghost use Rattle.std.specs.String.{string_bytes};
-ghost use Rattle.lethe_run.specs.Printed.{line_text, reply_text, field_text, pair_text, is_plain, is_visible, bad_line};
+ghost use Rattle.lethe_run.specs.Printed.{line_text, lines_text, reply_text, field_text, pair_text, is_plain, is_visible, bad_line, open_line, open_fault_line, kind_text, pick_text, config_text};
 
 use crate::reply::{Line, Reply};
-use lethe_base::{Key, NoMemory, Value};
+use lethe_base::{Fields, Key, Kind, NoMemory, Pick, Value};
+use lethe_recover::OpenWhy;
 use lethe_script::BadLine;
 use std::alloc::Global;
 
+/// The text of some lines, up to one for which there was no memory.
+#[derive(Debug, Drop)]
+pub(crate) struct Spelled {
+    pub text: Vec<u8>,
+    /// There was memory for all of them.
+    pub whole: bool,
+}
+
+/// The text of the lines, up to one for which there is no memory.
+pub(crate) fn spell(alloc: Global, lines: &[Line]) -> Spelled
+    ensures front { (rest : Bytes) × (lines_text lines.now ≡ result.text.items ++ rest) }
+    ensures whole { IsTrue result.whole → result.text.items ≡ lines_text lines.now }
+{
+    let mut text = Vec::new(alloc);
+    for line in lines {
+        if add_line(&mut text, alloc, line).is_err() {
+            return Spelled { text, whole: false };
+        }
+    }
+    Spelled { text, whole: true }
+}
+
+/// Adds a line, or leaves the text as it was.
+fn add_line(text: &mut Vec<u8>, alloc: Global, line: &Line) -> Result<(), NoMemory>
+    ensures { text.new.items ≡ (if is_ok result then text.old.items ++ line_text line.now else text.old.items) }
+{
+    let mut spelled = Vec::new(alloc);
+    push_line(&mut spelled, alloc, line)?;
+    text.extend_from_slice(&spelled)?;
+    Ok(())
+}
+
 /// Adds a line.
-pub(crate) fn push_line(text: &mut Vec<u8>, alloc: Global, line: &Line) -> Result<(), NoMemory>
+fn push_line(text: &mut Vec<u8>, alloc: Global, line: &Line) -> Result<(), NoMemory>
     ensures { OnOk result (text.new.items ≡ text.old.items ++ line_text line.now) }
 {
     let Line::Answer { caller, reply } = line;
@@ -35,6 +69,21 @@ fn push_reply(text: &mut Vec<u8>, alloc: Global, reply: &Reply) -> Result<(), No
             held: Some((dkey, value)),
         } => push_found(text, alloc, *point, *dkey, value)?,
         Reply::Scanned { point, pairs } => push_scanned(text, alloc, *point, pairs.items())?,
+        Reply::Fault {
+            place,
+            before,
+            after,
+        } => {
+            text.extend_from_slice(format!(in alloc;
+                "fault {place} before {before} after {after}"
+            )?.as_bytes())?;
+        }
+        Reply::Stopped { at } => {
+            text.extend_from_slice(format!(in alloc; "stopped {at}")?.as_bytes())?;
+        }
+        Reply::Exhausted { last } => {
+            text.extend_from_slice(format!(in alloc; "exhausted {last}")?.as_bytes())?;
+        }
     }
     Ok(())
 }
@@ -127,4 +176,72 @@ pub(crate) fn refusal(alloc: Global, bad: BadLine) -> Result<String, NoMemory>
     let line = bad.line;
     let why = bad.why.word();
     Ok(format!(in alloc; "line {line} bad {why}\n")?)
+}
+
+/// The line of a store that wasn't opened with the configuration that was asked for.
+pub(crate) fn open_refusal(alloc: Global, asked: &Fields, why: &OpenWhy) -> Result<String, NoMemory>
+    ensures { IfOk result (λ text. string_bytes text ≡ open_line asked.now why.now) }
+{
+    match why {
+        OpenWhy::Damaged { name } => {
+            let kind = kind_word(name.kind);
+            let no = name.no;
+            Ok(format!(in alloc; "damaged {kind} {no}\n")?)
+        }
+        OpenWhy::OtherConfig { kept } => {
+            let kept = config_text(alloc, kept.fields())?;
+            let asked = config_text(alloc, asked)?;
+            Ok(format!(in alloc; "other config kept {kept} asked {asked}\n")?)
+        }
+        OpenWhy::Fault { before, after } => open_fault(alloc, *before, *after),
+        OpenWhy::Exhausted { last } => Ok(format!(in alloc; "open exhausted {last}\n")?),
+        OpenWhy::NoMemory => Ok(String::new(alloc)),
+    }
+}
+
+fn open_fault(alloc: Global, before: u64, after: u64) -> Result<String, NoMemory>
+    ensures { IfOk result (λ text. string_bytes text ≡ open_fault_line before after) }
+{
+    Ok(format!(in alloc; "open fault before {before} after {after}\n")?)
+}
+
+fn kind_word(kind: Kind) -> &'static str
+    ensures { result.now ≡ kind_text kind }
+{
+    match kind {
+        Kind::Gate => "gate",
+        Kind::Manifest => "manifest",
+        Kind::Segment => "segment",
+        Kind::File => "file",
+        Kind::Page => "page",
+    }
+}
+
+fn pick_word(pick: Pick) -> &'static str
+    ensures { result.now ≡ pick_text pick }
+{
+    match pick {
+        Pick::So => "so",
+        Pick::Sd => "sd",
+    }
+}
+
+fn config_text(alloc: Global, config: &Fields) -> Result<String, NoMemory>
+    ensures { IfOk result (λ text. string_bytes text ≡ config_text config.now) }
+{
+    let Fields {
+        threshold,
+        ratio,
+        levels,
+        page,
+        tile,
+        file,
+        buffer,
+        pick,
+    } = config;
+    let pick = pick_word(*pick);
+    let levels = format!(in alloc; "threshold={threshold} ratio={ratio} levels={levels}")?;
+    let files = format!(in alloc; " page={page} tile={tile} file={file}")?;
+    let rest = format!(in alloc; " buffer={buffer} pick={pick}")?;
+    Ok(format!(in alloc; "{levels}{files}{rest}")?)
 }

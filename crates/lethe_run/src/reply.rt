@@ -19,6 +19,20 @@ pub(crate) enum Reply {
         point: u64,
         pairs: List<(Key, u64, Value)>,
     },
+    /// The disk failed in a change, which has this place; its count of faults went from `before` to `after`.
+    Fault {
+        place: u64,
+        before: u64,
+        after: u64,
+    },
+    /// A change isn't made, since the one at this place failed.
+    Stopped {
+        at: u64,
+    },
+    /// A change isn't made, since the places up to the last one are used up.
+    Exhausted {
+        last: u64,
+    },
 }
 
 /// A line that is printed.

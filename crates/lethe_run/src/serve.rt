@@ -1,50 +1,59 @@
-//! Carrying out a script.
-ghost use Rattle.std.specs.Prelude.{◌≡◌, ◌+◌, ◌≤◌, ◌++◌, [], length, sum_by, IfOk, OnOk};
-ghost use Rattle.lethe_base.specs.Limits.{max_place};
+//! Carrying out the orders of a phase.
+ghost use Rattle.std.specs.Prelude.{◌≡◌, ◌≤◌, ℕ, List, [], ◌++◌, IsTrue};
 ghost use Rattle.lethe_base.specs.History.{History};
-ghost use Rattle.lethe_run.specs.Kept.{StandsFor};
-ghost use Rattle.lethe_run.specs.Printed.{lines_text};
-ghost use Rattle.lethe_run.specs.Transcript.{Lines, IsServed, IsTranscript};
+ghost use Rattle.lethe_engine.specs.Sound.{IsSound};
+ghost use Rattle.lethe_script.specs.declared.order.Order.{Order};
+ghost use Rattle.lethe_run.specs.Serving.{IsOn, IsPhase};
 
-use crate::keeper::Keeper;
-use crate::print::push_line;
+use crate::answer::answer;
 use crate::reply::Line;
-use lethe_base::{List, NoMemory};
+use lethe_base::NoMemory;
+use lethe_disk::Disk;
+use lethe_engine::Engine;
 use lethe_script::Order;
 use std::alloc::Global;
 
-/// Carries out the phases of a script over an empty store, and answers the text that they print.
-pub(crate) fn serve_script(alloc: Global, phases: &[List<Order>]) -> Result<Vec<u8>, NoMemory>
-    requires { sum_by (λ orders. length orders) phases.now ≤ max_place }
-    ensures { IfOk result (λ text. (h : History) × IsTranscript [] phases.now text.items h) }
-{
-    let mut keeper = Keeper::new(alloc);
-    let mut text = Vec::new(alloc);
-    for orders in phases {
-        serve_phase(&mut keeper, alloc, orders.items(), &mut text)?;
-    }
-    Ok(text)
+/// What became of a phase.
+#[derive(Debug, Drop)]
+pub(crate) struct Served {
+    /// The lines of the orders that were answered, from the first on.
+    pub lines: Vec<Line>,
+    /// There was memory for all of them.
+    pub whole: bool,
 }
 
-/// Carries out one phase, and adds a line for each of its orders to the text.
-fn serve_phase(
-    keeper: &mut Keeper,
+/// Carries out the orders of a phase one after another, up to one for which there is no memory. The room for all lines is taken first, so
+/// that each change that is made has its line.
+pub(crate) fn serve_phase<D: Disk>(
+    engine: &mut Engine<D>,
     alloc: Global,
-    orders: &[Order],
-    text: &mut Vec<u8>,
-) -> Result<(), NoMemory>
-    requires { keeper.old.count + length orders.now ≤ max_place }
-    ensures served { OnOk result ((start : History) → StandsFor keeper.old start → (h : History) × (lines : Lines)
-        × IsServed start orders.now lines h × StandsFor keeper.new h × (text.new.items ≡ text.old.items ++ lines_text lines)) }
-    ensures count { OnOk result (keeper.new.count ≤ keeper.old.count + length orders.now) }
+    orders: Vec<Order>,
+) -> Served
+    requires { IsSound D.tells (D.seen engine.old.disk) engine.old.journal }
+    ensures sound { IsSound D.tells (D.seen engine.new.disk) engine.new.journal }
+    ensures served { D.tells → (before : ℕ) (opened start : History)
+        → IsOn (record { before = before; now = D.faults engine.old.disk }) opened start (D.seen engine.old.disk) engine.old.journal → before ≤ D.faults engine.old.disk
+        → (h : History) × (part : List Order) × (rest : List Order) × (orders.items ≡ part ++ rest) × (IsTrue result.whole → rest ≡ [])
+        × IsPhase (record { before = before; now = D.faults engine.new.disk }) opened start h part result.lines.items (D.seen engine.old.disk) (D.seen engine.new.disk) engine.new.journal }
+    ensures faults { D.faults engine.old.disk ≤ D.faults engine.new.disk }
 {
-    for order in orders {
-        let reply = keeper.serve(alloc, &order.act)?;
-        let line = Line::Answer {
-            caller: order.caller,
-            reply,
+    let Ok(mut lines) = Vec::with_capacity(alloc, orders.len()) else {
+        return Served {
+            lines: Vec::new(alloc),
+            whole: false,
         };
-        push_line(text, alloc, &line)?;
+    };
+    for order in orders {
+        let Order { caller, act, .. } = order;
+        match answer(engine, alloc, act) {
+            Ok(reply) => lines.push(Line::Answer { caller, reply }).unwrap(),
+            Err(NoMemory) => {
+                return Served {
+                    lines,
+                    whole: false,
+                };
+            }
+        }
     }
-    Ok(())
+    Served { lines, whole: true }
 }

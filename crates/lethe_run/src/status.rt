@@ -1,11 +1,13 @@
 //! How a run ended.
 ghost use Rattle.std.specs.Prelude.{◌≡◌};
-ghost use Rattle.lethe_run.specs.Status.{code_of};
+ghost use Rattle.lethe_run.specs.Status.{code_of, status_for};
+
+use lethe_recover::OpenWhy;
 
 /// How a run ended.
 #[derive(Clone, Copy, Debug, PartialEq, Eq)]
 pub(crate) enum Status {
-    /// Each line of the script was answered.
+    /// Each line of the script was answered, and each change is done.
     Answered,
     /// The words are no command.
     BadWords,
@@ -15,8 +17,14 @@ pub(crate) enum Status {
     ReadFault,
     /// The sink failed.
     WriteFault,
+    /// Each line was answered, and a change failed or wasn't made; or the disk failed, or numbers ran out, when the store was opened.
+    Refused,
     /// There was no memory.
     NoMemory,
+    /// The disk is damaged.
+    Damaged,
+    /// The disk's store has another configuration.
+    OtherConfig,
 }
 
 impl Status {
@@ -30,7 +38,22 @@ impl Status {
             Status::BadScript => 3,
             Status::ReadFault => 4,
             Status::WriteFault => 5,
+            Status::Refused => 6,
             Status::NoMemory => 7,
+            Status::Damaged => 8,
+            Status::OtherConfig => 9,
+        }
+    }
+
+    /// The end of a run whose store wasn't opened.
+    pub(crate) fn of_opening(why: &OpenWhy) -> Status
+        ensures { result ≡ status_for why.now }
+    {
+        match why {
+            OpenWhy::Damaged { .. } => Status::Damaged,
+            OpenWhy::OtherConfig { .. } => Status::OtherConfig,
+            OpenWhy::Fault { .. } | OpenWhy::Exhausted { .. } => Status::Refused,
+            OpenWhy::NoMemory => Status::NoMemory,
         }
     }
 }

@@ -1,55 +1,114 @@
 //! The top call.
-ghost use Rattle.std.specs.Prelude.{◌≡◌, ◌↔◌, map, IsTrue, IfOk, IfSome, IsErrOf};
+ghost use Rattle.std.specs.Prelude.{◌≡◌, ◌≤◌, ◌<◌, ◌⊎◌, ◌↔◌, ℕ, Option, None, map, IsTrue, IfErr, IfOk, IfSome, MatchResult, IsErrOf};
 ghost use Rattle.std.specs.String.{string_bytes};
+ghost use Rattle.lethe_base.specs.Configuration.{default_fields};
 ghost use Rattle.lethe_base.specs.Counts.{Rose};
+ghost use Rattle.lethe_base.specs.History.{History, Change};
+ghost use Rattle.lethe_engine.specs.Opening.{IsResumed, IsUntold};
+ghost use Rattle.lethe_engine.specs.Sound.{IsSound};
+ghost use Rattle.lethe_recover.specs.Goes.{Goes};
+ghost use Rattle.lethe_recover.specs.Left.{IsLeft, IsKeptOr};
+ghost use Rattle.lethe_recover.specs.Loaded.{HasReason};
+ghost use Rattle.lethe_recover.specs.Opening.{MayNotOpen};
+ghost use Rattle.lethe_recover.specs.Quiet.{IsQuiet};
+ghost use Rattle.lethe_recover.specs.declared.refused.RecoverRefused.{RecoverRefused};
 ghost use Rattle.lethe_script.specs.Grammar.{script_of};
 ghost use Rattle.lethe_run.specs.Ends.{Ends, IsRun};
-ghost use Rattle.lethe_run.specs.Status.{EndsWith, Says};
+ghost use Rattle.lethe_run.specs.Printed.{bad_line, open_line};
+ghost use Rattle.lethe_run.specs.Status.{EndsWith, Says, IsToldOf, status_for};
 
-use crate::print::refusal;
-use crate::serve::serve_script;
+use crate::print::{open_refusal, refusal};
+use crate::script::serve_script;
 use crate::status::Status;
-use lethe_script::{MAX_SCRIPT, ScriptRefused, read_script};
+use lethe_base::{Config, Fields, NoMemory};
+use lethe_disk::Disk;
+use lethe_engine::{Engine, OpenRefused};
+use lethe_recover::OpenWhy;
+use lethe_script::{BadLine, MAX_SCRIPT, ScriptRefused, read_script};
 use lethe_wire::{ReadRefused, Sink, Source, read_up_to, write_all};
 use std::alloc::Global;
 
-/// Reads the words, and where they are the one word `run`, the whole source; carries out its script over an empty store,
-/// prints a line for each line that asks for something, and answers the status: 0 where all was answered, 2 for other words,
-/// 3 for bytes that are no script, 4 and 5 where the source and the sink failed, 7 for want of memory.
-pub fn run<S: Source, K: Sink>(alloc: Global, words: &[String], source: &mut S, sink: &mut K) -> u8
-    ensures ends { Ends (map string_bytes words.now) (S.left source.old) (K.taken sink.old) (K.taken sink.new)
-        (Rose (S.faults source.old) (S.faults source.new)) (Rose (K.faults sink.old) (K.faults sink.new)) result }
-{
-    ended(alloc, words, source, sink).code()
+/// How a run ended, and the disk that it was given.
+#[derive(Drop)]
+pub struct Ended<D: Disk> {
+    /// From 0 to 9; there is no 1.
+    pub status: u8,
+    pub disk: D,
 }
 
-fn ended<S: Source, K: Sink>(
+/// Reads the words, and where they are the one word `run`, the whole source; opens the store of the disk, carries out the script over it,
+/// prints a line for each line that asks for something, and gives the disk back.
+///
+/// The status is 0 where all was answered and done, 2 for other words, 3 for bytes that are no script, 4 and 5 where the source and the sink
+/// failed, 6 where a change failed or wasn't made, or the store couldn't be opened for a fault of the disk or want of numbers, 7 for want of memory,
+/// 8 for a damaged disk, and 9 for one of another configuration.
+pub fn run<S: Source, K: Sink, D: Disk>(
     alloc: Global,
     words: &[String],
     source: &mut S,
     sink: &mut K,
-) -> Status
-    ensures { EndsWith (map string_bytes words.now) (S.left source.old) (K.taken sink.old) (K.taken sink.new)
-        (Rose (S.faults source.old) (S.faults source.new)) (Rose (K.faults sink.old) (K.faults sink.new)) result }
+    disk: D,
+) -> Ended<D>
+    ensures ends { Ends (record {
+      words = map string_bytes words.now;
+      source = S.left source.old;
+      taken_before = K.taken sink.old;
+      taken = K.taken sink.new;
+      SourceRose = Rose (S.faults source.old) (S.faults source.new);
+      SinkRose = Rose (K.faults sink.old) (K.faults sink.new);
+      Tells = D.tells;
+      start = D.seen disk;
+      finish = D.seen result.disk;
+      faults_before = D.faults disk;
+      faults = D.faults result.disk;
+      Unused = result.disk ≡ disk;
+    }) result.status }
+{
+    let (status, disk) = carry_out(alloc, words, source, sink, disk);
+    Ended {
+        status: status.code(),
+        disk,
+    }
+}
+
+fn carry_out<S: Source, K: Sink, D: Disk>(
+    alloc: Global,
+    words: &[String],
+    source: &mut S,
+    sink: &mut K,
+    disk: D,
+) -> (Status, D)
+    ensures { EndsWith (record {
+      words = map string_bytes words.now;
+      source = S.left source.old;
+      taken_before = K.taken sink.old;
+      taken = K.taken sink.new;
+      SourceRose = Rose (S.faults source.old) (S.faults source.new);
+      SinkRose = Rose (K.faults sink.old) (K.faults sink.new);
+      Tells = D.tells;
+      start = D.seen disk;
+      finish = D.seen result.1;
+      faults_before = D.faults disk;
+      faults = D.faults result.1;
+      Unused = result.1 ≡ disk;
+    }) result.0 }
 {
     if !is_run(words) {
-        return say(sink, b"bad words\n", Status::BadWords);
+        return (say(sink, b"bad words\n", Status::BadWords), disk);
     }
     let bytes = match read_all(alloc, source) {
         Ok(bytes) => bytes,
-        Err(ReadRefused::Failed) => return Status::ReadFault,
-        Err(ReadRefused::NoMemory) => return Status::NoMemory,
+        Err(ReadRefused::Failed) => return (Status::ReadFault, disk),
+        Err(ReadRefused::NoMemory) => return (Status::NoMemory, disk),
     };
-    match read_script(alloc, &bytes) {
-        Ok(script) => match serve_script(alloc, script.phases.items()) {
-            Ok(text) => say(sink, &text, Status::Answered),
-            Err(_) => Status::NoMemory,
-        },
-        Err(ScriptRefused::Bad(bad)) => match refusal(alloc, bad) {
-            Ok(text) => say(sink, text.as_bytes(), Status::BadScript),
-            Err(_) => Status::NoMemory,
-        },
-        Err(ScriptRefused::NoMemory) => Status::NoMemory,
+    let script = match read_script(alloc, &bytes) {
+        Ok(script) => script,
+        Err(ScriptRefused::Bad(bad)) => return (refuse(alloc, sink, bad), disk),
+        Err(ScriptRefused::NoMemory) => return (Status::NoMemory, disk),
+    };
+    match open_store(alloc, disk) {
+        Ok(engine) => serve_script(alloc, sink, script.phases, engine),
+        Err(OpenRefused { disk, why }) => (tell(alloc, sink, &why), disk),
     }
 }
 
@@ -71,6 +130,33 @@ fn read_all<S: Source>(alloc: Global, source: &mut S) -> Result<Vec<u8>, ReadRef
     read_up_to(alloc, source, MAX_SCRIPT)
 }
 
+/// Opens the store of the default configuration.
+fn open_store<D: Disk>(alloc: Global, disk: D) -> Result<Engine<D>, OpenRefused<D>>
+    ensures sound { IfOk result (λ engine. IsSound D.tells (D.seen engine.disk) engine.journal) }
+    ensures resumed { D.tells → (h : History) (change : Option Change) → IsLeft (D.seen disk) h change
+        → IfOk result (λ engine. IsResumed default_fields h change (D.seen engine.disk) engine.journal) }
+    ensures any_moment { D.tells → (h : History) (change : Option Change) → IsLeft (D.seen disk) h change
+        → MatchResult result (λ engine. Goes (IsKeptOr h change) (D.seen disk) (D.seen engine.disk)) (λ refused. Goes (IsKeptOr h change) (D.seen disk) (D.seen refused.disk)) }
+    ensures refused { IfErr result (λ refused. MayNotOpen D.tells default_fields (D.seen disk).directory (D.faults disk) (D.faults refused.disk) refused.why) }
+    ensures exact { D.tells → (why : RecoverRefused) → HasReason default_fields (D.seen disk).directory why → IfOk result (λ engine. ⊥) }
+    ensures untouched { D.tells → IfErr result (λ refused. IsUntold refused.why ⊎ IsQuiet (D.seen disk) (D.seen refused.disk)) }
+    ensures drawn { D.tells → IfErr result (λ refused. (last : ℕ) → refused.why ≡ OpenWhy.Exhausted last → (D.seen disk).moment < (D.seen refused.disk).moment) }
+    ensures faults { IfOk result (λ engine. D.faults disk ≤ D.faults engine.disk) }
+{
+    let config = default_config();
+    Engine::open(alloc, disk, &config)
+}
+
+/// The default configuration.
+fn default_config() -> Config
+    ensures { result ≡ default_fields }
+{
+    match Config::new(Fields::default()) {
+        Ok(config) => config,
+        Err(_) => unreachable!(),
+    }
+}
+
 /// Writes a text, and answers this status, or that the sink failed.
 fn say<K: Sink>(sink: &mut K, text: &[u8], status: Status) -> Status
     ensures { Says status text.now (K.taken sink.old) (K.taken sink.new) (Rose (K.faults sink.old) (K.faults sink.new)) result }
@@ -78,5 +164,28 @@ fn say<K: Sink>(sink: &mut K, text: &[u8], status: Status) -> Status
     match write_all(sink, text) {
         Ok(()) => status,
         Err(_) => Status::WriteFault,
+    }
+}
+
+/// Says that the bytes are no script.
+fn refuse<K: Sink>(alloc: Global, sink: &mut K, bad: BadLine) -> Status
+    ensures { IsToldOf Status.BadScript (bad_line bad) (K.taken sink.old) (K.taken sink.new) (Rose (K.faults sink.old) (K.faults sink.new)) result }
+{
+    match refusal(alloc, bad) {
+        Ok(text) => say(sink, text.as_bytes(), Status::BadScript),
+        Err(NoMemory) => Status::NoMemory,
+    }
+}
+
+/// Says why the store wasn't opened.
+fn tell<K: Sink>(alloc: Global, sink: &mut K, why: &OpenWhy) -> Status
+    ensures { IsToldOf (status_for why.now) (open_line default_fields why.now) (K.taken sink.old) (K.taken sink.new) (Rose (K.faults sink.old) (K.faults sink.new)) result }
+{
+    if let OpenWhy::NoMemory = why {
+        return Status::NoMemory;
+    }
+    match open_refusal(alloc, &Fields::default(), why) {
+        Ok(text) => say(sink, text.as_bytes(), Status::of_opening(why)),
+        Err(NoMemory) => Status::NoMemory,
     }
 }

@@ -1,4 +1,3 @@
-use Rattle.std.proofs.Common.{IfOk}
 use Rattle.lethe_recover.proofs.Resumed.{ok_weaker}
 use Rattle.lethe_engine.specs.Replayed.{AreNewestOf}
 use Rattle.lethe_engine.specs.Timely.{AreTimely}

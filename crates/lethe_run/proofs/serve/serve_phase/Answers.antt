@@ -1,31 +1,105 @@
-use Rattle.std.proofs.Common.{◌++◌, ◌∷◌, [], ◌<◌, take, ap, ◌∙◌, arith}
-use Rattle.std.proofs.lemmas.List.{take_more, take_all, flat_map_more}
-use Rattle.lethe_base.specs.Limits.{max_place}
-use Rattle.lethe_run.specs.Printed.{line_text}
+use Rattle.std.proofs.Common.{rules, ◌≡◌, ◌+◌, true, cond, ◌∷◌, ◌++◌, refl, sym, [], ap, subst, ◌∙◌, arith, append-nil}
 use Rattle.lethe_run.specs.declared.reply.Line.TheVariants.{Answer}
-use Rattle.lethe_run.proofs.Serving.{served_more, served_all, step_count}
+use mathlib.Core.Bool.{false≢true}
+use Rattle.lethe_run.specs.Serving.{IsPhase}
+use Rattle.std.specs.Prelude.{is_ok, vec_len}
+use Rattle.std.proofs.lemmas.List.{length_push, map-id}
+use Rattle.std.proofs.lemmas.Iterator.Consumers.{YieldsList-end}
+use Rattle.std.proofs.lemmas.Iterator.Adapters.{YieldsList-from_vec}
+use Rattle.lethe_run.proofs.Runs.{taken_front}
+use Rattle.lethe_run.proofs.Serving.{IsBuilt, built_start, built_more, built_still, phase_of}
 use Rattle.lethe_run.proofs.serve.serve_phase.Goals as goal
 
-pub loop-order-preserved : goal.loop-order-preserved
-loop-order-preserved c =
-    let index = c.loop-order.order-index in
-    let order = c.order-item.result in
-    let reply = c.in_ok-reply.reply in
-    let room : c.loop-order.keeper.count < max_place = omega arith in
+pub returns-in_default-clause-served : goal.returns-in_default-clause-served
+returns-in_default-clause-served g c = λ told before opened start on from.
+    let e = c.args.engine.now in
+    let disk = g.D.Disk.seen e.disk in (
+      start,
+      [],
+      c.args.orders.items,
+      refl,
+      (λ is. absurd (false≢true is)),
+      subst (λ l. IsPhase (record { before = before; now = g.D.Disk.faults e.disk }) opened start start [] l disk disk e.journal) (sym c.new.ensures.items)
+          (phase_of (record { before = before; now = g.D.Disk.faults e.disk }) opened start start [] [] disk disk e.journal (built_start (record { before = before; now = g.D.Disk.faults e.disk }) opened start disk e.journal on)),
+    )
+
+pub loop-order-init : goal.loop-order-init
+loop-order-init g c =
+    let e = c.args.engine.now in
+    let disk = g.D.Disk.seen e.disk in
     record {
-      served = λ start stands.
-          let (h, lines, built, now, text) = c.loop-order.invariant.served start stands in
-          let (g, more, then) = served_more start h (take index c.args.orders.now) lines order c.loop-order.keeper c.serve.new.self built now room reply c.in_ok-reply.ensures.step in (
-            g,
-            lines ++ Answer order.caller reply ∷ [],
-            rw (take_more c.args.orders.now index order c.loop-order-test.true, ← c.order-item.is) more,
-            then,
-            c.in_ok-push_line.ensures ∙ ap (λ t. t ++ line_text (Answer order.caller reply)) text ∙ flat_map_more line_text c.args.text.now.items lines (Answer order.caller reply),
-          );
-      few = omega (arith, step_count c.loop-order.keeper c.serve.new.self order.act reply c.in_ok-reply.ensures.step);
+      sound = c.requires;
+      served = λ told before opened start on from. (
+        start,
+        subst (λ l. IsBuilt (record { before = before; now = g.D.Disk.faults e.disk }) opened start [] l start disk disk e.journal) (sym c.in-Ok.ensures.items)
+            (built_start (record { before = before; now = g.D.Disk.faults e.disk }) opened start disk e.journal on),
+      );
+      faults = omega arith;
+      room = search rules;
+      len = search rules;
     }
 
+pub loop-order-preserved : goal.loop-order-preserved
+loop-order-preserved g c =
+    let old = c.args.engine.now in
+    let mid = c.loop-order.engine in
+    let new = c.answer.new.engine in
+    let order = c.in-Some.order in
+    let reply = c.in-Ok-answer.reply in
+    let pushed : c.push.new.self.items ≡ c.loop-order.lines.items ++ Answer order.caller reply ∷ [] = search rules in
+    record {
+      sound = c.answer.ensures.sound;
+      served = λ told before opened start on from.
+          let f0 = g.D.Disk.faults mid.disk in
+          let f1 = g.D.Disk.faults new.disk in
+          let so_far = c.loop-order.invariant.served told before opened start on from in
+          let later = c.loop-order.invariant.faults in
+          let answered = c.in-Ok-answer.ensures.served told before opened so_far.0 order.caller so_far.1.stands (omega (arith, from, later)) in (
+            answered.0,
+            subst (λ l. IsBuilt (record { before = before; now = f1 }) opened start (c.loop-order.yielded ++ order ∷ []) l answered.0 (g.D.Disk.seen old.disk) (g.D.Disk.seen new.disk) new.journal) (sym pushed)
+                (built_more before f0 f1 opened start so_far.0 answered.0 c.loop-order.yielded c.loop-order.lines.items order reply (g.D.Disk.seen old.disk) (g.D.Disk.seen mid.disk) (g.D.Disk.seen new.disk) mid.journal new.journal
+                c.answer.ensures.faults so_far.1 answered.1),
+          );
+      faults = let a = c.loop-order.invariant.faults in let b = c.answer.ensures.faults in omega (arith, a, b);
+      room = let room = c.loop-order.invariant.room in let more = c.push.ensures.capacity in omega (arith, room, more);
+      len =
+          let ok : is_ok c.push.result ≡ true = search rules in
+          c.push.ensures.len ∙ ap (λ b. cond b (vec_len c.loop-order.lines + 1) (vec_len c.loop-order.lines)) ok ∙ ap (λ n. n + 1) c.loop-order.invariant.len ∙ sym (length_push c.loop-order.yielded order);
+    }
+
+pub returns-in-Err-clause-served : goal.returns-in-Err-clause-served
+returns-in-Err-clause-served g c = λ told before opened start on from.
+    let old = c.args.engine.now in
+    let mid = c.loop-order.engine in
+    let new = c.answer.new.engine in
+    let order = c.in-Some.order in
+    let so_far = c.loop-order.invariant.served told before opened start on from in
+    let later = c.loop-order.invariant.faults in
+    let still = c.in-Err.ensures.served told before opened so_far.0 order.caller so_far.1.stands (omega (arith, from, later)) in
+    let whole : c.args.orders.items ≡ c.loop-order.yielded ++ order ∷ c.next.new.self.rest.items =
+    sym c.into_iter-order-iterator.ensures.into_iter_gives.0 ∙ taken_front c.into_iter-order-iterator.result c.loop-order.yielded c.loop-order.order-iterator c.loop-order.yielded_by ∙ ap (λ r. c.loop-order.yielded ++ r) c.in-Some.ensures.steps.0 in (
+      so_far.0,
+      c.loop-order.yielded,
+      order ∷ c.next.new.self.rest.items,
+      whole,
+      (λ is. absurd (false≢true is)),
+      phase_of (record { before = before; now = g.D.Disk.faults new.disk }) opened start so_far.0 c.loop-order.yielded c.loop-order.lines.items (g.D.Disk.seen old.disk) (g.D.Disk.seen new.disk) new.journal
+          (built_still before (g.D.Disk.faults mid.disk) (g.D.Disk.faults new.disk) opened start so_far.0 c.loop-order.yielded c.loop-order.lines.items (g.D.Disk.seen old.disk) (g.D.Disk.seen mid.disk) (g.D.Disk.seen new.disk) mid.journal new.journal
+          c.answer.ensures.faults so_far.1 still.0 still.1),
+    )
+
 pub returns-clause-served : goal.returns-clause-served
-returns-clause-served c = λ start stands.
-    let (h, lines, built, now, text) = c.loop-order.invariant.served start stands in
-    (h, lines, served_all start h c.args.orders.now lines c.loop-order.keeper (rw (← take_all c.loop-order.order-index c.args.orders.now (omega arith)) built) now, now, text)
+returns-clause-served g c = λ told before opened start on from.
+    let old = c.args.engine.now in
+    let mid = c.loop-order.engine in
+    let so_far = c.loop-order.invariant.served told before opened start on from in
+    let gives = c.into_iter-order-iterator.ensures.into_iter_gives in
+    let ended = YieldsList-end (YieldsList-from_vec c.args.orders.items gives.0 (gives.1 ∙ search rules)) c.loop-order.yielded c.loop-order.order-iterator c.loop-order.yielded_by c.next.result c.next.new.self c.in-None.is c.next.ensures.steps in
+    let whole : c.args.orders.items ≡ c.loop-order.yielded ++ [] = sym ended.0 ∙ map-id c.loop-order.yielded ∙ sym (append-nil c.loop-order.yielded) in (
+      so_far.0,
+      c.loop-order.yielded,
+      [],
+      whole,
+      (λ is. refl),
+      phase_of (record { before = before; now = g.D.Disk.faults mid.disk }) opened start so_far.0 c.loop-order.yielded c.loop-order.lines.items (g.D.Disk.seen old.disk) (g.D.Disk.seen mid.disk) mid.journal so_far.1,
+    )

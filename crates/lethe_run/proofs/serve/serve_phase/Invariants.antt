@@ -1,15 +1,21 @@
-use Rattle.std.proofs.Common.{◌≡◌, ◌+◌, ◌≤◌, ◌++◌, List, take}
+use Rattle.std.proofs.Common.{◌≡◌, ◌≤◌, ℕ, length}
+use Rattle.std.specs.Prelude.{vec_len, vec_capacity}
 use Rattle.lethe_base.specs.History.{History}
-use Rattle.lethe_run.specs.declared.reply.Line.{Line}
-use Rattle.lethe_run.specs.Kept.{StandsFor}
-use Rattle.lethe_run.specs.Printed.{lines_text}
+use Rattle.lethe_engine.specs.Sound.{IsSound}
+use Rattle.lethe_run.specs.Serving.{IsOn}
 use Rattle.lethe_run.proofs.Serving.{IsBuilt}
 use Rattle.lethe_run.proofs.serve.serve_phase.Given as goal
 
--- the orders so far are answered, and what is kept stands for a history that has their changes
+-- the orders so far are answered, and there is room for the lines of the others
 abbrev pub invariant-loop-order : goal.invariant-loop-order
-invariant-loop-order l = record {
-  served : (start : History) → StandsFor l.fn.keeper start → (h : History) × (lines : List Line)
-      × IsBuilt start (take l.order-index l.orders) lines h × StandsFor l.keeper h × (l.text.items ≡ l.fn.text.items ++ lines_text lines);
-  few : l.keeper.count ≤ l.fn.keeper.count + l.order-index;
-}
+invariant-loop-order g l =
+    let old = l.fn.engine in
+    let now = l.engine in
+    record {
+      sound : IsSound g.D.Disk.tells (g.D.Disk.seen now.disk) now.journal;
+      served : g.D.Disk.tells → (before : ℕ) (opened start : History) → IsOn (record { before = before; now = g.D.Disk.faults old.disk }) opened start (g.D.Disk.seen old.disk) old.journal → before ≤ g.D.Disk.faults old.disk
+          → (h : History) × IsBuilt (record { before = before; now = g.D.Disk.faults now.disk }) opened start l.yielded l.lines.items h (g.D.Disk.seen old.disk) (g.D.Disk.seen now.disk) now.journal;
+      faults : g.D.Disk.faults old.disk ≤ g.D.Disk.faults now.disk;
+      room : length l.fn.orders.items ≤ vec_capacity l.lines;
+      len : vec_len l.lines ≡ length l.yielded;
+    }

@@ -1,9 +1,7 @@
-use Rattle.std.proofs.Common.{rules, ◌≡◌, sym, ap, ◌∙◌, subst, Some}
+use Rattle.std.proofs.Common.{rules, ◌≡◌, sym, subst}
 use Rattle.std.specs.Prelude.{OnOk}
 use Rattle.lethe_base.specs.declared.call.Call.TheVariants as call
-use Rattle.lethe_engine.specs.Changes.{answered_to, IsRecordOf, with_record}
-use Rattle.lethe_engine.specs.Journals.{delete_record}
-use Rattle.lethe_engine.specs.StandsFor.{StandsFor}
+use Rattle.lethe_engine.specs.Changes.{IsRecordOf, with_record}
 use Rattle.lethe_engine.proofs.Followed.{delete_follows}
 use Rattle.lethe_engine.proofs.Recording.{open_moments}
 use Rattle.lethe_engine.proofs.Standings.{held_open, untried}

@@ -1,0 +1,354 @@
+-- The named parts of a run's end, by its cases.
+use Rattle.std.proofs.Common.{◌≡◌, ◌⊎◌, ◌≤◌, ◌<◌, ℕ, ◌+◌, Bool, true, false, ◌||◌, List, [], ◌∷◌, length, Option, Some, None, IfSome, Result, Ok, Err, IsSomeAnd, inl, inr, refl, sym, ap, ◌∙◌, subst, arith, lit<}
+use Rattle.std.specs.Prelude.{IsOk, IsErr, Contains, sum_by}
+use Rattle.std.specs.List.{list_any}
+use Rattle.lethe_base.specs.Configuration.{default_fields}
+use Rattle.lethe_base.specs.Counts.{Rose}
+use Rattle.lethe_base.specs.Limits.{max_place}
+use Rattle.lethe_base.specs.History.{History, Change}
+use Rattle.lethe_base.specs.declared.call.Call.{Call}
+use Rattle.lethe_base.specs.declared.config.Fields.{Fields}
+use Rattle.lethe_recover.specs.Left.{IsLeft, IsHistoryOr, as_done}
+use Rattle.lethe_recover.specs.Loaded.{HasOtherConfig}
+use Rattle.lethe_recover.specs.Opening.{MayNotOpen, IsExhausted}
+use Rattle.lethe_recover.specs.declared.opening.OpenWhy.{OpenWhy}
+use Rattle.lethe_recover.specs.declared.opening.OpenWhy.TheVariants as open_why
+use Rattle.lethe_script.specs.declared.order.Order.{Order}
+use Rattle.lethe_script.specs.declared.order.Act.{Act}
+use Rattle.lethe_script.specs.Grammar.{script_of}
+use Rattle.lethe_run.specs.declared.reply.Line.{Line}
+use Rattle.lethe_run.specs.declared.reply.Line.TheVariants as line
+use Rattle.lethe_run.specs.declared.reply.Reply.{Reply}
+use Rattle.lethe_run.specs.declared.reply.Reply.TheVariants as reply
+use Rattle.lethe_run.specs.declared.status.Status.{Status}
+use Rattle.lethe_run.specs.declared.status.Status.TheVariants as status
+use Rattle.lethe_run.specs.Carried.{IsCarriedOut}
+use Rattle.lethe_run.specs.Ends as ends
+use Rattle.lethe_run.specs.Ends.{Run, Ends, IsRun, OnLeft, IsNotOpened, IsOpenFault, script_ends}
+use Rattle.lethe_run.specs.Status.{EndsWith, code_of}
+use Rattle.lethe_run.specs.Transcript.{Faults, Told, call_of, Answers, Answered, IsFailedAt, IsFaultOf, Follows, InTurn, AreServed, is_refusal, has_refusal}
+use Rattle.std.proofs.lemmas.List.{length_push}
+use Rattle.std.proofs.lemmas.List.Sums.{sum_by-cons}
+use Rattle.lethe_base.specs.declared.name.Name.{Name}
+use Rattle.lethe_recover.proofs.Exact.{kept_undamaged}
+use Rattle.lethe_run.specs.Ends.{OnScript, Carries, Refuses, IsUnbegun}
+use Rattle.lethe_run.proofs.Ending.{some_then, some_now}
+
+ok_no_err : {T E : Type 0} (r : Result T E) (x : T) → r ≡ Ok x → IsErr r → ⊥
+ok_no_err (Ok y) x e is = cc
+ok_no_err (Err y) x e is = cc
+
+err_no_ok : {T E : Type 0} (r : Result T E) (x : E) → r ≡ Err x → IsOk r → ⊥
+err_no_ok (Ok y) x e is = cc
+err_no_ok (Err y) x e is = cc
+
+ok_err : {T E : Type 0} (r : Result T E) (x : T) (y : E) → r ≡ Ok x → r ≡ Err y → ⊥
+ok_err r x y a b = let clash : Ok x ≡ Err y = sym a ∙ b in cc
+
+-- Where no count rose and there are places, each change is done
+
+module _ (told : Told) (calm : Rose told.before told.now → ⊥) where
+  no_fault : (place before after : ℕ) → IsFailedAt told place before after → ⊥
+  no_fault place before after f = calm (let rose = f.rose in let from = f.from in let upto = f.upto in omega (arith, rose, from, upto))
+
+  fault_of : (caller place before after : ℕ) (asked : Option Call) → IsSomeAnd asked (IsFaultOf told caller place before after) → ⊥
+  fault_of caller place before after None f = f
+  fault_of caller place before after (Some call) f = no_fault place before after f.fails
+
+  done_line : (n next : ℕ) (caller by : ℕ) (act : Act) (r : Reply) → n < max_place → Answers told by act r → Follows n r next → (is_refusal (line.Answer caller r) ≡ false) × (next ≤ n + 1)
+  done_line n next caller by act (reply.Done place) room a f = (refl, omega arith)
+  done_line n next caller by act (reply.Got point held) room a f = (refl, omega arith)
+  done_line n next caller by act (reply.Scanned point pairs) room a f = (refl, omega arith)
+  done_line n next caller by act (reply.Fault place before after) room a f = absurd (fault_of by place before after (call_of act) a)
+  done_line n next caller by act (reply.Stopped at) room a f = absurd (no_fault at a.1.before a.1.after a.1.fails)
+  done_line n next caller by act (reply.Exhausted last) room a f = absurd (let here = f.0 in let all = a.1.0 in omega (arith, here, all, room))
+
+  done_lines : (n m : ℕ) (orders : List Order) (lines : List Line) → n + length orders ≤ max_place → Answered told orders lines → InTurn n lines m → (list_any is_refusal lines ≡ false) × (m ≤ n + length orders)
+  done_lines n m [] [] room a t = (refl, omega (arith, t))
+  done_lines n m [] (l ∷ lines) room a t = absurd a
+  done_lines n m (order ∷ orders) [] room a t = absurd a
+  done_lines n m (order ∷ orders) (line.Answer caller r ∷ lines) room a t =
+      let first = done_line n t.0 caller order.caller order.act r (omega (arith, room)) a.1 t.1 in
+      let step = first.1 in
+      let rest = done_lines t.0 m orders lines (omega (arith, room, step)) a.2 t.2 in
+      let upto = rest.1 in
+      (ap (λ b. b || list_any is_refusal lines) first.0 ∙ rest.0, omega (arith, step, upto))
+
+phases_done : (faults : Faults) → (Rose faults.before faults.now → ⊥) → (start h : History) (phases : List (List Order)) (lines : List (List Line)) → length start + sum_by (λ orders. length orders) phases ≤ max_place
+    → AreServed faults start phases lines h → has_refusal lines ≡ false
+phases_done faults calm start h [] [] room served = refl
+phases_done faults calm start h [] (l ∷ lines) room served = absurd served
+phases_done faults calm start h (p ∷ phases) [] room served = absurd served
+phases_done faults calm start h (p ∷ phases) (l ∷ lines) room served =
+    let size = sum_by-cons (λ (orders : List Order). length orders) p phases in
+    let first = done_lines (record { history = served.0; before = faults.before; now = faults.now }) calm (length start) (length served.0) p l (omega (arith, room, size)) served.1.answered served.1.alone in
+    let upto = first.1 in
+    ap (λ b. b || has_refusal lines) first.0 ∙ phases_done faults calm served.0 h phases lines (omega (arith, room, size, upto)) served.2
+
+opened_short : (left : History) (change : Option Change) (opened : History) → IsHistoryOr left change opened → length opened ≤ length left + 1
+opened_short left None opened is = let same = ap length is in omega (arith, same)
+opened_short left (Some change) opened (inl is) = let same = ap length is in omega (arith, same)
+opened_short left (Some change) opened (inr is) = let same = ap length is ∙ length_push left (as_done change) in omega (arith, same)
+
+true_false : (b : Bool) → b ≡ true → b ≡ false → ⊥
+true_false true a b = cc
+true_false false a b = cc
+
+pub no_refusal : (run : Run) (phases : List (List Order)) (lines : List (List Line)) (left : History) (change : Option Change) → (Rose run.faults_before run.faults → ⊥) → length left + 1 + sum_by (λ orders. length orders) phases ≤ max_place
+    → has_refusal lines ≡ true → IsCarriedOut (record { before = run.faults_before; now = run.faults }) run.start run.finish left change phases lines → ⊥
+no_refusal run phases lines left change calm room refused c =
+    let short = opened_short left change c.opened c.either in
+    true_false (has_refusal lines) refused (phases_done (record { before = run.faults_before; now = run.faults }) calm c.opened c.history phases lines (omega (arith, room, short)) c.served)
+
+-- Why a store that was left for a history wasn't opened
+
+module _ (run : Run) (left : History) (change : Option Change) (told : run.Tells) (is : IsLeft run.start left change) (calm : Rose run.faults_before run.faults → ⊥)
+    (same : (kept : Fields) → HasOtherConfig default_fields run.start.directory kept → ⊥) (numbers : IsExhausted run.start.directory → ⊥) where
+  pub must_open : (why : OpenWhy) → MayNotOpen run.Tells default_fields run.start.directory run.faults_before run.faults why → (why ≡ open_why.NoMemory → ⊥) → ⊥
+  must_open (open_why.Damaged name) may memory = kept_undamaged is.now.0 run.start.directory is.now.2 default_fields name (may told)
+  must_open (open_why.OtherConfig kept) may memory = same kept (may told)
+  must_open (open_why.Fault before after) may memory = calm may.2
+  must_open (open_why.Exhausted last) may memory = numbers (may.1 told)
+  must_open open_why.NoMemory may memory = memory refl
+
+damaged_memory : (name : Name) → open_why.Damaged name ≡ open_why.NoMemory → ⊥
+damaged_memory name e = cc
+
+config_memory : (kept : Fields) → open_why.OtherConfig kept ≡ open_why.NoMemory → ⊥
+config_memory kept e = cc
+
+fault_memory : (before after : ℕ) → open_why.Fault before after ≡ open_why.NoMemory → ⊥
+fault_memory before after e = cc
+
+exhausted_memory : (last : ℕ) → open_why.Exhausted last ≡ open_why.NoMemory → ⊥
+exhausted_memory last e = cc
+
+same_phases : {T E : Type 0} (r : Result T E) (x y : T) → r ≡ Ok x → r ≡ Ok y → x ≡ y
+same_phases r x y a b = let both : Ok x ≡ Ok y = sym a ∙ b in cc
+
+-- ---- the named parts
+
+module _ (run : Run) where
+  abbrev Complete : ℕ → Type 0
+  Complete n = IsRun run.words → (run.SourceRose → ⊥) → (run.SinkRose → ⊥) → (Rose run.faults_before run.faults → ⊥)
+      → IfSome run.source (λ bytes. (phases : List (List Order)) → script_of bytes ≡ Ok phases → OnLeft run (λ left change.
+      ((kept : Fields) → HasOtherConfig default_fields run.start.directory kept → ⊥) → (IsExhausted run.start.directory → ⊥)
+      → length left + 1 + sum_by (λ orders. length orders) phases ≤ max_place → Contains (0 ∷ 7 ∷ []) n))
+
+  -- a script's own end with this status
+  ok_script : (P : List (List Order) → Type 0) → IfSome run.source (λ bytes. (phases : List (List Order)) × (script_of bytes ≡ Ok phases) × P phases) → (n : ℕ) → Contains script_ends n
+      → (IsRun run.words → IfSome run.source (λ bytes. IsErr (script_of bytes) → Contains (3 ∷ 4 ∷ 5 ∷ 7 ∷ []) n)) × (IsRun run.words → IfSome run.source (λ bytes. IsOk (script_of bytes) → Contains script_ends n))
+  ok_script P s n among = ((λ words. some_then run.source s (λ bytes p is. absurd (ok_no_err (script_of bytes) p.0 p.1 is))), (λ words. some_now run.source (λ bytes is. among)))
+
+  not_opened : (why : OpenWhy) (n : ℕ) → IsNotOpened run why → (why ≡ open_why.NoMemory → ⊥) → Complete n
+  not_opened why n not memory words source sink calm = some_now run.source (λ bytes phases is told left change l same numbers room. absurd (must_open run left change told l calm same numbers why not.reason memory))
+
+  answered_end : EndsWith run status.Answered → Ends run 0
+  answered_end e = record {
+    answered = λ is. e;
+    bad_words = λ is. absurd (omega (arith, is));
+    bad_script = λ is. absurd (omega (arith, is));
+    read_fault = λ is. absurd (omega (arith, is));
+    write_fault = λ is. absurd (omega (arith, is));
+    refused = λ is. absurd (omega (arith, is));
+    no_memory = λ is. absurd (omega (arith, is));
+    damaged = λ is. absurd (omega (arith, is));
+    other_config = λ is. absurd (omega (arith, is));
+    other_words = λ other. absurd (other e.0);
+    no_script = (ok_script _ e.1.script 0 (0, lit< tt, refl)).0;
+    a_script = (ok_script _ e.1.script 0 (0, lit< tt, refl)).1;
+    shown = λ words told why reason. absurd (e.1.sound told why reason);
+    complete = λ words source sink calm. some_now run.source (λ bytes phases is told left change l same numbers room. (0, lit< tt, refl));
+    known = (0, lit< tt, refl);
+  }
+
+  bad_words_end : EndsWith run status.BadWords → Ends run 2
+  bad_words_end e = record {
+    answered = λ is. absurd (omega (arith, is));
+    bad_words = λ is. e;
+    bad_script = λ is. absurd (omega (arith, is));
+    read_fault = λ is. absurd (omega (arith, is));
+    write_fault = λ is. absurd (omega (arith, is));
+    refused = λ is. absurd (omega (arith, is));
+    no_memory = λ is. absurd (omega (arith, is));
+    damaged = λ is. absurd (omega (arith, is));
+    other_config = λ is. absurd (omega (arith, is));
+    other_words = λ other. (0, lit< tt, refl);
+    no_script = λ words. absurd (e.0 words);
+    a_script = λ words. absurd (e.0 words);
+    shown = λ words. absurd (e.0 words);
+    complete = λ words. absurd (e.0 words);
+    known = (1, lit< tt, refl);
+  }
+
+  bad_script_end : EndsWith run status.BadScript → Ends run 3
+  bad_script_end e = record {
+    answered = λ is. absurd (omega (arith, is));
+    bad_words = λ is. absurd (omega (arith, is));
+    bad_script = λ is. e;
+    read_fault = λ is. absurd (omega (arith, is));
+    write_fault = λ is. absurd (omega (arith, is));
+    refused = λ is. absurd (omega (arith, is));
+    no_memory = λ is. absurd (omega (arith, is));
+    damaged = λ is. absurd (omega (arith, is));
+    other_config = λ is. absurd (omega (arith, is));
+    other_words = λ other. absurd (other e.0);
+    no_script = λ words. some_now run.source (λ bytes is. (0, lit< tt, refl));
+    a_script = λ words. some_then run.source e.2.0 (λ bytes r is. absurd (err_no_ok (script_of bytes) e.1 r is));
+    shown = λ words told why reason. some_now run.source (λ bytes is. ((λ z. absurd (omega (arith, z))), (λ z. absurd (omega (arith, z)))));
+    complete = λ words source sink calm. some_then run.source e.2.0 (λ bytes r phases is. absurd (ok_err (script_of bytes) phases e.1 is r));
+    known = (2, lit< tt, refl);
+  }
+
+  read_fault_end : EndsWith run status.ReadFault → Ends run 4
+  read_fault_end e = record {
+    answered = λ is. absurd (omega (arith, is));
+    bad_words = λ is. absurd (omega (arith, is));
+    bad_script = λ is. absurd (omega (arith, is));
+    read_fault = λ is. e;
+    write_fault = λ is. absurd (omega (arith, is));
+    refused = λ is. absurd (omega (arith, is));
+    no_memory = λ is. absurd (omega (arith, is));
+    damaged = λ is. absurd (omega (arith, is));
+    other_config = λ is. absurd (omega (arith, is));
+    other_words = λ other. absurd (other e.0);
+    no_script = λ words. some_now run.source (λ bytes is. (1, lit< tt, refl));
+    a_script = λ words. some_now run.source (λ bytes is. (1, lit< tt, refl));
+    shown = λ words told why reason. some_now run.source (λ bytes is. ((λ z. absurd (omega (arith, z))), (λ z. absurd (omega (arith, z)))));
+    complete = λ words source. absurd (source e.1);
+    known = (3, lit< tt, refl);
+  }
+
+  write_fault_end : EndsWith run status.WriteFault → Ends run 5
+  write_fault_end e = record {
+    answered = λ is. absurd (omega (arith, is));
+    bad_words = λ is. absurd (omega (arith, is));
+    bad_script = λ is. absurd (omega (arith, is));
+    read_fault = λ is. absurd (omega (arith, is));
+    write_fault = λ is. e;
+    refused = λ is. absurd (omega (arith, is));
+    no_memory = λ is. absurd (omega (arith, is));
+    damaged = λ is. absurd (omega (arith, is));
+    other_config = λ is. absurd (omega (arith, is));
+    other_words = λ other. (1, lit< tt, refl);
+    no_script = λ words. some_now run.source (λ bytes is. (2, lit< tt, refl));
+    a_script = λ words. some_now run.source (λ bytes is. (2, lit< tt, refl));
+    shown = λ words told why reason. some_now run.source (λ bytes is. ((λ z. absurd (omega (arith, z))), (λ z. absurd (omega (arith, z)))));
+    complete = λ words source sink. absurd (sink e.0);
+    known = (4, lit< tt, refl);
+  }
+
+  refused_lines_end : IsRun run.words → ends.Answered run true → Ends run 6
+  refused_lines_end words a =
+      let e : IsRun run.words × (ends.Answered run true ⊎ IsOpenFault run) = (words, inl a) in record {
+        answered = λ is. absurd (omega (arith, is));
+        bad_words = λ is. absurd (omega (arith, is));
+        bad_script = λ is. absurd (omega (arith, is));
+        read_fault = λ is. absurd (omega (arith, is));
+        write_fault = λ is. absurd (omega (arith, is));
+        refused = λ is. e;
+        no_memory = λ is. absurd (omega (arith, is));
+        damaged = λ is. absurd (omega (arith, is));
+        other_config = λ is. absurd (omega (arith, is));
+        other_words = λ other. absurd (other words);
+        no_script = (ok_script _ a.script 6 (3, lit< tt, refl)).0;
+        a_script = (ok_script _ a.script 6 (3, lit< tt, refl)).1;
+        shown = λ words told why reason. absurd (a.sound told why reason);
+        complete = λ words source sink calm. some_then run.source a.script (λ bytes s phases is told left change l same numbers room. absurd (no_refusal run phases a.lines left change calm room a.is (subst (λ p. Carries run p a.lines) (same_phases (script_of bytes) s.0 phases s.1 is) s.2 told left change l)));
+        known = (5, lit< tt, refl);
+      }
+
+  refused_opening_end : (why : OpenWhy) → IsRun run.words → IsOpenFault run → IsNotOpened run why → (why ≡ open_why.NoMemory → ⊥) → Ends run 6
+  refused_opening_end why words f not memory =
+      let e : IsRun run.words × (ends.Answered run true ⊎ IsOpenFault run) = (words, inr f) in record {
+        answered = λ is. absurd (omega (arith, is));
+        bad_words = λ is. absurd (omega (arith, is));
+        bad_script = λ is. absurd (omega (arith, is));
+        read_fault = λ is. absurd (omega (arith, is));
+        write_fault = λ is. absurd (omega (arith, is));
+        refused = λ is. e;
+        no_memory = λ is. absurd (omega (arith, is));
+        damaged = λ is. absurd (omega (arith, is));
+        other_config = λ is. absurd (omega (arith, is));
+        other_words = λ other. absurd (other words);
+        no_script = (ok_script _ not.script 6 (3, lit< tt, refl)).0;
+        a_script = (ok_script _ not.script 6 (3, lit< tt, refl)).1;
+        shown = λ words told w reason. some_now run.source (λ bytes is. ((λ z. absurd (omega (arith, z))), (λ z. f)));
+        complete = not_opened why 6 not memory;
+        known = (5, lit< tt, refl);
+      }
+
+  no_memory_end : EndsWith run status.NoMemory → Ends run 7
+  no_memory_end e = record {
+    answered = λ is. absurd (omega (arith, is));
+    bad_words = λ is. absurd (omega (arith, is));
+    bad_script = λ is. absurd (omega (arith, is));
+    read_fault = λ is. absurd (omega (arith, is));
+    write_fault = λ is. absurd (omega (arith, is));
+    refused = λ is. absurd (omega (arith, is));
+    no_memory = λ is. e;
+    damaged = λ is. absurd (omega (arith, is));
+    other_config = λ is. absurd (omega (arith, is));
+    other_words = λ other. absurd (other e.0);
+    no_script = λ words. some_now run.source (λ bytes is. (3, lit< tt, refl));
+    a_script = λ words. some_now run.source (λ bytes is. (4, lit< tt, refl));
+    shown = λ words told why reason. some_now run.source (λ bytes is. ((λ z. absurd (omega (arith, z))), (λ z. absurd (omega (arith, z)))));
+    complete = λ words source sink calm. some_now run.source (λ bytes phases is told left change l same numbers room. (1, lit< tt, refl));
+    known = (6, lit< tt, refl);
+  }
+
+  damaged_end : EndsWith run status.Damaged → Ends run 8
+  damaged_end e = record {
+    answered = λ is. absurd (omega (arith, is));
+    bad_words = λ is. absurd (omega (arith, is));
+    bad_script = λ is. absurd (omega (arith, is));
+    read_fault = λ is. absurd (omega (arith, is));
+    write_fault = λ is. absurd (omega (arith, is));
+    refused = λ is. absurd (omega (arith, is));
+    no_memory = λ is. absurd (omega (arith, is));
+    damaged = λ is. e;
+    other_config = λ is. absurd (omega (arith, is));
+    other_words = λ other. absurd (other e.0);
+    no_script = (ok_script _ e.2.0.script 8 (5, lit< tt, refl)).0;
+    a_script = (ok_script _ e.2.0.script 8 (5, lit< tt, refl)).1;
+    shown = λ words told why reason. some_now run.source (λ bytes is. ((λ z. absurd (omega (arith, z))), (λ z. absurd (omega (arith, z)))));
+    complete = not_opened (open_why.Damaged e.1) 8 e.2.0 (damaged_memory e.1);
+    known = (7, lit< tt, refl);
+  }
+
+  other_config_end : EndsWith run status.OtherConfig → Ends run 9
+  other_config_end e = record {
+    answered = λ is. absurd (omega (arith, is));
+    bad_words = λ is. absurd (omega (arith, is));
+    bad_script = λ is. absurd (omega (arith, is));
+    read_fault = λ is. absurd (omega (arith, is));
+    write_fault = λ is. absurd (omega (arith, is));
+    refused = λ is. absurd (omega (arith, is));
+    no_memory = λ is. absurd (omega (arith, is));
+    damaged = λ is. absurd (omega (arith, is));
+    other_config = λ is. e;
+    other_words = λ other. absurd (other e.0);
+    no_script = (ok_script _ e.2.0.script 9 (6, lit< tt, refl)).0;
+    a_script = (ok_script _ e.2.0.script 9 (6, lit< tt, refl)).1;
+    shown = λ words told why reason. some_now run.source (λ bytes is. ((λ z. absurd (omega (arith, z))), (λ z. absurd (omega (arith, z)))));
+    complete = not_opened (open_why.OtherConfig e.1) 9 e.2.0 (config_memory e.1);
+    known = (8, lit< tt, refl);
+  }
+
+  -- each case has the named parts
+  pub ends_by_cases : (end : Status) → EndsWith run end → Ends run (code_of end)
+  ends_by_cases status.Answered e = answered_end e
+  ends_by_cases status.BadWords e = bad_words_end e
+  ends_by_cases status.BadScript e = bad_script_end e
+  ends_by_cases status.ReadFault e = read_fault_end e
+  ends_by_cases status.WriteFault e = write_fault_end e
+  ends_by_cases status.Refused e = elim e.1 [
+    | inl a ↦ refused_lines_end e.0 a
+    | inr f ↦ elim f [
+      | inl fault ↦ refused_opening_end (open_why.Fault fault.0 fault.1) e.0 (inl fault) fault.2.0 (fault_memory fault.0 fault.1)
+      | inr full ↦ refused_opening_end (open_why.Exhausted full.0) e.0 (inr full) full.1.0 (exhausted_memory full.0)
+    ]
+  ]
+  ends_by_cases status.NoMemory e = no_memory_end e
+  ends_by_cases status.Damaged e = damaged_end e
+  ends_by_cases status.OtherConfig e = other_config_end e

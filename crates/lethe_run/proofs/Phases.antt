@@ -1,0 +1,97 @@
+-- One phase after another.
+use Rattle.std.proofs.Common.{◌≡◌, ◌≤◌, ℕ, Bool, true, false, ◌||◌, List, [], ◌∷◌, ◌++◌, Option, Some, None, refl, sym, ap, ◌∙◌, subst, append_assoc, append-nil}
+use Rattle.std.specs.List.{list_any}
+use Rattle.std.specs.Io.KnownBytes.{Appends}
+use Rattle.std.proofs.lemmas.List.Folds.{list_any-append}
+use Rattle.std.proofs.lemmas.Grind.{flat_map-append}
+use Rattle.lethe_base.specs.History.{History}
+use Rattle.lethe_base.specs.Keys.{Bytes}
+use Rattle.lethe_disk.specs.Disk.{Seen, Image}
+use Rattle.lethe_engine.specs.declared.journal.Journal.{Journal}
+use Rattle.lethe_recover.proofs.Going.{goes_then, goes_weaker}
+use Rattle.lethe_script.specs.declared.order.Order.{Order}
+use Rattle.lethe_wire.specs.Causes.{AppendsFront}
+use Rattle.lethe_run.specs.declared.reply.Line.{Line}
+use Rattle.lethe_run.specs.Printed.{lines_text}
+use Rattle.lethe_run.specs.Serving.{IsKeptFor, IsOn, GoesOn, IsPhase, IsCarried}
+use Rattle.lethe_run.specs.Transcript.{Faults, IsServed, AreServed, text_of, is_refusal, has_refusal}
+use Rattle.lethe_run.proofs.Images.{goes_still, leaves}
+use Rattle.lethe_run.proofs.Serving.{served_later}
+
+-- what was written
+
+pub appends_then : (old mid new : Option Bytes) (first then : Bytes) → Appends old mid first → Appends mid new then → Appends old new (first ++ then)
+appends_then None mid new first then a b = tt
+appends_then (Some xs) None new first then a b = absurd a
+appends_then (Some xs) (Some ys) None first then a b = absurd b
+appends_then (Some xs) (Some ys) (Some zs) first then a b = b ∙ ap (λ l. l ++ then) a ∙ append_assoc xs first then
+
+pub appends_none : (old : Option Bytes) → Appends old old []
+appends_none None = tt
+appends_none (Some xs) = sym (append-nil xs)
+
+pub front_then : (old mid new : Option Bytes) (first then : Bytes) → Appends old mid first → AppendsFront mid new then → AppendsFront old new (first ++ then)
+front_then old mid new first then a b = (first ++ b.0, b.1, ap (λ l. first ++ l) b.2 ∙ sym (append_assoc first b.0 b.1), appends_then old mid new first b.0 a b.3)
+
+-- a whole text, or a front of it, is a front
+pub front_whole : (old new : Option Bytes) (text : Bytes) → Appends old new text → AppendsFront old new text
+front_whole old new text a = (text, [], sym (append-nil text), a)
+
+pub front_front : (old new : Option Bytes) (text whole rest : Bytes) → whole ≡ text ++ rest → AppendsFront old new text → AppendsFront old new whole
+front_front old new text whole rest is b = (b.0, b.1 ++ rest, is ∙ ap (λ l. l ++ rest) b.2 ∙ append_assoc b.0 b.1 rest, b.3)
+
+text_more : (lines : List (List Line)) (more : List Line) → text_of (lines ++ more ∷ []) ≡ text_of lines ++ lines_text more
+text_more lines more = flat_map-append lines_text lines (more ∷ []) ∙ ap (λ l. text_of lines ++ l) (append-nil (lines_text more))
+
+pub whole_text : (old mid new : Option Bytes) (lines : List (List Line)) (more : List Line) → Appends old mid (text_of lines) → Appends mid new (lines_text more) → Appends old new (text_of (lines ++ more ∷ []))
+whole_text old mid new lines more a b = subst (Appends old new) (sym (text_more lines more)) (appends_then old mid new (text_of lines) (lines_text more) a b)
+
+pub front_text : (old mid new : Option Bytes) (lines : List (List Line)) (more : List Line) → Appends old mid (text_of lines) → AppendsFront mid new (lines_text more) → AppendsFront old new (text_of (lines ++ more ∷ []))
+front_text old mid new lines more a b = subst (AppendsFront old new) (sym (text_more lines more)) (front_then old mid new (text_of lines) (lines_text more) a b)
+
+or_false : (b : Bool) → (b || false) ≡ b
+or_false true = refl
+or_false false = refl
+
+pub refusal_more : (lines : List (List Line)) (more : List Line) → has_refusal (lines ++ more ∷ []) ≡ (has_refusal lines || list_any is_refusal more)
+refusal_more lines more = list_any-append (list_any is_refusal) lines (more ∷ []) ∙ ap (λ b. has_refusal lines || b) (or_false (list_any is_refusal more))
+
+-- the phases so far
+pub record SoFar (faults : Faults) (opened : History) (phases : List (List Order)) (lines : List (List Line)) (start now : Seen) (journal : Journal) : Type 0 where
+  pub history : History
+  pub served : AreServed faults opened phases lines history
+  pub goes : GoesOn opened opened history start now
+  pub stands : IsOn faults opened history now journal
+
+pub so_far_start : (before from : ℕ) (opened : History) (disk : Seen) (journal : Journal) → IsOn (record { before = from; now = before }) opened opened disk journal → SoFar (record { before = from; now = before }) opened [] [] disk disk journal
+so_far_start before from opened disk journal on = record { history = opened; served = refl; goes = goes_still (record { before = from; now = before }) opened opened disk journal on; stands = on }
+
+phases_more : (faults : Faults) (start middle h : History) (phases : List (List Order)) (lines : List (List Line)) (orders : List Order) (more : List Line)
+    → AreServed faults start phases lines middle → IsServed faults middle orders more h → AreServed faults start (phases ++ orders ∷ []) (lines ++ more ∷ []) h
+phases_more faults start middle h [] [] orders more served last = (h, subst (λ s. IsServed faults s orders more h) served last, refl)
+phases_more faults start middle h [] (l ∷ lines) orders more served last = absurd served
+phases_more faults start middle h (p ∷ phases) [] orders more served last = absurd served
+phases_more faults start middle h (p ∷ phases) (l ∷ lines) orders more served last = (served.0, served.1, phases_more faults served.0 middle h phases lines orders more served.2 last)
+
+pub so_far_more : (from f0 f1 : ℕ) (opened h : History) (phases : List (List Order)) (lines : List (List Line)) (part : List Order) (more : List Line) (start now then : Seen) (journal journal' : Journal) → f0 ≤ f1
+    → (so_far : SoFar (record { before = from; now = f0 }) opened phases lines start now journal) → IsPhase (record { before = from; now = f1 }) opened so_far.history h part more now then journal'
+    → SoFar (record { before = from; now = f1 }) opened (phases ++ part ∷ []) (lines ++ more ∷ []) start then journal'
+so_far_more from f0 f1 opened h phases lines part more start now then journal journal' le so_far phase = record {
+  history = h;
+  served = phases_more (record { before = from; now = f1 }) opened so_far.history h phases lines part more (served_later from f0 f1 le opened so_far.history phases lines so_far.served) phase.served;
+  goes = record {
+    kept = λ k cut. phase.goes.kept k (so_far.goes.kept k cut);
+    any_moment = goes_then (IsKeptFor opened h) start now then
+        (goes_weaker (IsKeptFor opened so_far.history) (IsKeptFor opened h) start now (λ d kept. (kept.0, phase.goes.kept kept.0 kept.1, kept.2)) so_far.goes.any_moment) phase.goes.any_moment;
+  };
+  stands = phase.stands;
+}
+
+pub carried : (faults : Faults) (opened : History) (phases : List (List Order)) (lines : List (List Line)) (start now : Seen) (journal : Journal) → Image now now.directory → SoFar faults opened phases lines start now journal
+    → IsCarried faults opened phases lines start now
+carried faults opened phases lines start now journal itself so_far = record {
+  history = so_far.history;
+  served = so_far.served;
+  any_moment = so_far.goes.any_moment;
+  leaves = leaves faults opened so_far.history now journal so_far.stands itself;
+}

@@ -1,0 +1,37 @@
+-- What a script that was carried out leaves on the disk.
+use Rattle.std.specs.Prelude.{◌≡◌, ◌⊎◌, not, List, ◌++◌, filter, slice_get, Option}
+use Rattle.lethe_base.specs.History.{History, Change}
+use Rattle.lethe_disk.specs.Directory.{Directory}
+use Rattle.lethe_disk.specs.Disk.{Seen}
+use Rattle.lethe_recover.specs.Goes.{Goes}
+use Rattle.lethe_recover.specs.Kept.{IsKept}
+use Rattle.lethe_recover.specs.Left.{IsLeft, IsHistoryOr, IsOutcome, is_done, without_failed}
+use Rattle.lethe_script.specs.declared.order.Order.{Order}
+use Rattle.lethe_run.specs.declared.reply.Line.{Line}
+use Rattle.lethe_run.specs.Transcript.{Faults, AreServed}
+
+-- the change that failed, if one did
+abbrev pub failed_in : History → Option Change
+failed_in h = slice_get (filter (λ change. not (is_done change.did)) h) 0
+
+-- the history goes on from the opened one, and is a front of what a crash may make of h
+pub record IsCut (opened h g : History) : Type 0 where
+  pub begins : (added : History) × (g ≡ opened ++ added)
+  pub outcome : History
+  pub is : IsOutcome h outcome
+  pub front : (rest : History) × (outcome ≡ g ++ rest)
+
+-- kept for what the disk was left for, or for such a front
+abbrev pub IsKeptMeanwhile : History → Option Change → History → History → Directory → Type 0
+IsKeptMeanwhile left change opened h d = (g : History) × (IsHistoryOr left change g ⊎ IsCut opened h g) × IsKept d g
+
+-- On a disk that was left for a history and a change, the lines answer the phases. The history that was opened is the first, or that with
+-- the change carried out; a crash at any moment leaves a disk that is kept for a history between that and the last; and at the end the
+-- disk is left for the last one.
+pub record IsCarriedOut (faults : Faults) (start finish : Seen) (left : History) (change : Option Change) (phases : List (List Order)) (lines : List (List Line)) : Type 0 where
+  pub opened : History
+  pub either : IsHistoryOr left change opened
+  pub history : History
+  pub served : AreServed faults opened phases lines history
+  pub any_moment : Goes (IsKeptMeanwhile left change opened history) start finish
+  pub leaves : IsLeft finish (without_failed history) (failed_in history)

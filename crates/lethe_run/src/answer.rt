@@ -1,0 +1,73 @@
+//! Answering one order.
+ghost use Rattle.std.specs.Prelude.{◌≡◌, ◌≤◌, ℕ, IfErr, MatchResult};
+ghost use Rattle.lethe_base.specs.History.{History};
+ghost use Rattle.lethe_engine.specs.Sound.{IsSound};
+ghost use Rattle.lethe_run.specs.Replies.{IsOfChange, reply_of};
+ghost use Rattle.lethe_run.specs.Serving.{IsOn, IsAnswered, GoesOn};
+
+use crate::reply::Reply;
+use lethe_base::{List, NoMemory, Refused};
+use lethe_disk::Disk;
+use lethe_engine::Engine;
+use lethe_script::Act;
+use std::alloc::Global;
+
+/// Carries out one act. For want of memory nothing is done.
+pub(crate) fn answer<D: Disk>(
+    engine: &mut Engine<D>,
+    alloc: Global,
+    act: Act,
+) -> Result<Reply, NoMemory>
+    requires { IsSound D.tells (D.seen engine.old.disk) engine.old.journal }
+    ensures sound { IsSound D.tells (D.seen engine.new.disk) engine.new.journal }
+    ensures served { D.tells → (before : ℕ) (opened h : History) (caller : ℕ)
+        → IsOn (record { before = before; now = D.faults engine.old.disk }) opened h (D.seen engine.old.disk) engine.old.journal → before ≤ D.faults engine.old.disk
+        → MatchResult result
+        (λ reply. (g : History) × IsAnswered (record { before = before; now = D.faults engine.new.disk }) opened h g caller act reply (D.seen engine.old.disk) (D.seen engine.new.disk) engine.new.journal)
+        (λ why. GoesOn opened h h (D.seen engine.old.disk) (D.seen engine.new.disk) × IsOn (record { before = before; now = D.faults engine.new.disk }) opened h (D.seen engine.new.disk) engine.new.journal) }
+    ensures faults { D.faults engine.old.disk ≤ D.faults engine.new.disk }
+{
+    match act {
+        Act::Put { key, dkey, value } => changed(engine.put(alloc, key, dkey, value)),
+        Act::Delete { key } => changed(engine.delete(alloc, key)),
+        Act::Get { key } => match engine.get(&key) {
+            Ok(held) => Ok(Reply::Got {
+                point: engine.count(),
+                held,
+            }),
+            Err(why) => Err(why),
+        },
+        Act::Scan { lo, hi } => match engine.scan(alloc, &lo, &hi) {
+            Ok(pairs) => Ok(Reply::Scanned {
+                point: engine.count(),
+                pairs: List::of(pairs),
+            }),
+            Err(why) => Err(why),
+        },
+    }
+}
+
+/// The reply to a change.
+fn changed(answer: Result<u64, Refused>) -> Result<Reply, NoMemory>
+    requires { IfErr answer IsOfChange }
+    ensures { result ≡ reply_of answer }
+{
+    match answer {
+        Ok(place) => Ok(Reply::Done { place }),
+        Err(
+            Refused::Fault {
+                place,
+                before,
+                after,
+            },
+        ) => Ok(Reply::Fault {
+            place,
+            before,
+            after,
+        }),
+        Err(Refused::Stopped { at }) => Ok(Reply::Stopped { at }),
+        Err(Refused::Exhausted { last }) => Ok(Reply::Exhausted { last }),
+        Err(Refused::NoMemory) => Err(NoMemory),
+        Err(_) => unreachable!(),
+    }
+}

@@ -1,0 +1,100 @@
+//! Carrying out a script over a store.
+ghost use Rattle.std.specs.Prelude.{◌≡◌, ◌≤◌, ◌||◌, IsTrue, IfErr, OnOk, if◌then◌else◌};
+ghost use Rattle.std.specs.Io.KnownBytes.{Appends};
+ghost use Rattle.lethe_wire.specs.Causes.{AppendsFront};
+ghost use Rattle.std.specs.List.{list_any};
+ghost use Rattle.lethe_base.specs.Counts.{Rose};
+ghost use Rattle.lethe_engine.specs.Sound.{IsSound};
+ghost use Rattle.lethe_run.specs.Scripts.{ScriptEnds, IsCutBy};
+ghost use Rattle.lethe_run.specs.Printed.{lines_text};
+ghost use Rattle.lethe_run.specs.Transcript.{is_refusal};
+
+use crate::print::{Spelled, spell};
+use crate::reply::{Line, Reply};
+use crate::serve::{Served, serve_phase};
+use crate::status::Status;
+use lethe_base::List;
+use lethe_disk::Disk;
+use lethe_engine::Engine;
+use lethe_script::Order;
+use lethe_wire::{Sink, write_all};
+use std::alloc::Global;
+
+/// Carries out the phases over a store, and prints the lines of each when it has ended. It gives the disk back.
+pub(crate) fn serve_script<K: Sink, D: Disk>(
+    alloc: Global,
+    sink: &mut K,
+    phases: List<List<Order>>,
+    mut engine: Engine<D>,
+) -> (Status, D)
+    requires { IsSound D.tells (D.seen engine.disk) engine.journal }
+    ensures ends { ScriptEnds D.tells (D.seen engine.disk) (D.seen result.1) engine.journal (D.faults engine.disk) (D.faults result.1) (K.taken sink.old) (K.taken sink.new)
+        (Rose (K.faults sink.old) (K.faults sink.new)) phases result.0 }
+    ensures faults { D.faults engine.disk ≤ D.faults result.1 }
+{
+    let mut refused = false;
+    for orders in phases.into_vec() {
+        let served = serve_phase(&mut engine, alloc, orders.into_vec());
+        refused = has_refusal(refused, &served.lines);
+        if let Err(status) = print_phase(alloc, sink, &served) {
+            return (status, engine.into_disk());
+        }
+    }
+    (status_of(refused), engine.into_disk())
+}
+
+/// Prints the lines of a phase. What was written is a front of them, whatever it answers.
+fn print_phase<K: Sink>(alloc: Global, sink: &mut K, served: &Served) -> Result<(), Status>
+    ensures front { AppendsFront (K.taken sink.old) (K.taken sink.new) (lines_text served.now.lines.items) }
+    ensures ok { OnOk result (IsTrue served.now.whole × Appends (K.taken sink.old) (K.taken sink.new) (lines_text served.now.lines.items)) }
+    ensures err { IfErr result (IsCutBy (IsTrue served.now.whole) (Rose (K.faults sink.old) (K.faults sink.new))) }
+    ensures faults { K.faults sink.old ≤ K.faults sink.new }
+{
+    let Spelled { text, whole } = spell(alloc, &served.lines);
+    let written = write_all(sink, &text);
+    if !served.whole {
+        return Err(Status::NoMemory);
+    }
+    if !whole {
+        return Err(Status::NoMemory);
+    }
+    match written {
+        Ok(()) => Ok(()),
+        Err(_) => Err(Status::WriteFault),
+    }
+}
+
+/// How a script ends all of whose lines were answered.
+fn status_of(refused: bool) -> Status
+    ensures { result ≡ (if refused then Status.Refused else Status.Answered) }
+{
+    if refused {
+        Status::Refused
+    } else {
+        Status::Answered
+    }
+}
+
+/// Whether one of the lines, or one before, tells of a change that failed or wasn't made.
+fn has_refusal(before: bool, lines: &[Line]) -> bool
+    ensures { result ≡ (before || list_any is_refusal lines.now) }
+{
+    before || any_refusal(lines)
+}
+
+fn any_refusal(lines: &[Line]) -> bool
+    ensures { result ≡ list_any is_refusal lines.now }
+{
+    lines.iter().any(|line| is_refusal(line))
+}
+
+/// Whether it does.
+fn is_refusal(line: &Line) -> bool
+    ensures { result ≡ is_refusal line.now }
+{
+    let Line::Answer { reply, .. } = line;
+    match reply {
+        Reply::Done { .. } | Reply::Got { .. } | Reply::Scanned { .. } => false,
+        Reply::Fault { .. } | Reply::Stopped { .. } | Reply::Exhausted { .. } => true,
+    }
+}
