@@ -8,7 +8,8 @@ use Rattle.lethe_disk.specs.Reads.{IsNext}
 use Rattle.lethe_merge.specs.declared.source.Head.{Head}
 use Rattle.lethe_merge.specs.declared.source.Head.TheVariants.{Unasked, Here, Ended}
 use Rattle.lethe_merge.specs.declared.source.Source.{Source}
-use Rattle.lethe_merge.specs.Sources.{IsKnown, IsSound, entries_at, left_in, head_from}
+use Rattle.lethe_merge.proofs.Heads.{IsKnown}
+use Rattle.lethe_merge.specs.Sources.{IsSound, entries_at, left_in, head_from}
 
 known_from : (h : Head) → (h ≡ Unasked → ⊥) → IsKnown h
 known_from Unasked not = not refl

@@ -23,6 +23,12 @@ use Rattle.lethe_merge.specs.Sources.{entry_at, comes_before, entry_of_key, head
 use Rattle.lethe_merge.proofs.Joins.{joined, left_of-append}
 use Rattle.lethe_merge.proofs.Merges.{newer-key}
 
+-- the cursor was asked
+abbrev pub IsKnown : Head → Type 0
+IsKnown Unasked = ⊥
+IsKnown (Here entry) = Unit {0}
+IsKnown Ended = Unit {0}
+
 -- what is read at a place is what is read there with itself for a default
 pub read_again : {X : Type 0} (xs : List X) (i : ℕ) (d : X) → i < length xs → get_or xs i d ≡ get_or xs i (get_or xs i d)
 read_again xs i d within = get_or_default xs i d (get_or xs i d) within

@@ -23,7 +23,8 @@ use Rattle.lethe_merge.specs.declared.source.Head.{Head}
 use Rattle.lethe_merge.specs.declared.source.Head.TheVariants.{Unasked, Here, Ended}
 use Rattle.lethe_merge.specs.declared.source.Source.{Source}
 use Rattle.lethe_merge.specs.Merge.{left_of_each}
-use Rattle.lethe_merge.specs.Sources.{IsKnown, IsSound, entries_at, left_in, entry_at, entry_of_key, head_behind, behind, IsFrom, heads_of, IsTaken, HasNone}
+use Rattle.lethe_merge.proofs.Heads.{IsKnown}
+use Rattle.lethe_merge.specs.Sources.{IsSound, entries_at, left_in, entry_at, entry_of_key, head_behind, behind, IsFrom, heads_of, IsTaken, HasNone}
 use Rattle.lethe_merge.proofs.Joins.{joined, left_of-append}
 use Rattle.lethe_merge.proofs.Merges.{left_ascends, entry_of-left, left-nil}
 

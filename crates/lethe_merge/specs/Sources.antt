@@ -13,12 +13,6 @@ use Rattle.lethe_merge.specs.declared.source.Head.{Head}
 use Rattle.lethe_merge.specs.declared.source.Head.TheVariants.{Unasked, Here, Ended}
 use Rattle.lethe_merge.specs.declared.source.Source.{Source}
 
--- the cursor was asked
-abbrev pub IsKnown : Head → Type 0
-IsKnown Unasked = ⊥
-IsKnown (Here entry) = ⊤
-IsKnown Ended = ⊤
-
 -- the entry at hand
 abbrev pub entries_at : Head → List Entry
 entries_at Unasked = []

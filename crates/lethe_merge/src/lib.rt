@@ -9,3 +9,6 @@ mod source;
 
 pub use laws::one_merged;
 pub use merger::Merger;
+
+#[cfg(test)]
+mod tests;
