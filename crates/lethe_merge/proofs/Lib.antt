@@ -1,0 +1,9 @@
+pub mod Times
+pub mod Joins
+pub mod Merges
+pub mod Causes
+pub mod Heads
+pub mod Fills
+pub mod Steps
+pub mod Skips
+pub mod Begins

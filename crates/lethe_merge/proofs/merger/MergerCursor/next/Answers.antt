@@ -1,0 +1,138 @@
+use Rattle.std.proofs.Common.{ℕ, ◌≡◌, ◌<◌, ◌≤◌, Bool, List, ◌∷◌, ◌++◌, length, set, take, drop, All, IfNone, IfSome, Option, Some, None, Err, refl, sym, ap, subst, ◌∙◌, arith}
+use Rattle.std.specs.Global.{Vec}
+use Rattle.std.proofs.lemmas.List.{take_at}
+use Rattle.lethe_base.specs.declared.entry.Entry.{Entry}
+use Rattle.lethe_base.specs.declared.pending.Pending.{Pending}
+use Rattle.lethe_cover.specs.Merged.{bared}
+use Rattle.lethe_disk.specs.Reads.{HasReadCause}
+use Rattle.lethe_disk.specs.declared.cursor.ReadRefused.{ReadRefused}
+use Rattle.lethe_merge.specs.Refusals.{refused_since}
+use Rattle.lethe_merge.specs.Sources.{AreSound, HasNone, IsTaken, left_merged}
+use Rattle.lethe_merge.specs.declared.source.Source.{Source}
+use Rattle.lethe_merge.proofs.Causes.{cause_since}
+use Rattle.lethe_merge.proofs.Fills.{filling-asked, filling-same}
+use Rattle.lethe_merge.proofs.Skips.{IsTurn, IsSkipping, turn, given-none, given-some, sound-again, skipping-more, merged_as, sound_as}
+use Rattle.lethe_merge.proofs.merger.MergerCursor.next.Goals as goal
+use Rattle.lethe_merge.proofs.merger.MergerCursor.next.Goals.{in-Unasked+in-Ok, in_default, After-take_least}
+
+pub returns-in-Err-clause-cause : goal.returns-in-Err-clause-cause
+returns-in-Err-clause-cause g c =
+    let from : g.D.Disk.port_faults c.args.port.now ≤ g.D.Disk.port_faults c.loop-place.port = omega (arith, c.loop-turn.invariant.skipping.risen, c.loop-place.invariant.filling.risen) in
+    let cause = cause_since {T = Option Entry} {U = Option Entry} (g.D.Disk.port_faults c.args.port.now) (g.D.Disk.port_faults c.loop-place.port) (g.D.Disk.port_faults c.next.new.port) c.in-Err.why from c.in-Err.ensures.cause in
+    subst (λ (why : ReadRefused). HasReadCause {T = Option Entry} (g.D.Disk.port_faults c.args.port.now) (g.D.Disk.port_faults c.next.new.port) (Err why))
+    (ap (λ (n : ℕ). refused_since n c.in-Err.why) (sym c.port_faults-before.ensures) ∙ sym c.since.ensures) cause
+
+pub loop-place-preserved : goal.loop-place-preserved
+loop-place-preserved g c =
+    let tells = g.D.Disk.tells in
+    let now = c.loop-place.self.sources.items in
+    let place = c.loop-place.place in
+    let filling = c.loop-place.invariant.filling in
+    let within : place < length now = omega (arith, filling.whole, c.loop-turn.self.sources.ok.0) in
+    elim c.match-source.branch [
+      | in-Unasked+in-Ok w ↦ rw (w.self-is, w.port-is) (record {
+        filling = filling-asked tells g.C.Cursor.may_ask g.C.Cursor.sound g.C.Cursor.left c.loop-turn.self.sources.items (g.D.Disk.port_faults c.loop-turn.port) (g.D.Disk.fetches c.loop-turn.port)
+            now _ place c.index_mut-source.result.now w.next.new.self w.in-Ok.next
+            (g.D.Disk.port_faults c.loop-place.port) (g.D.Disk.port_faults w.next.new.port) (g.D.Disk.fetches c.loop-place.port) (g.D.Disk.fetches w.next.new.port)
+            filling within c.index_mut-source.ensures.value w.in-Unasked.is (ap (set now place) w.keep.ensures) w.in-Ok.ensures.again w.in-Ok.ensures.still_sound w.in-Ok.ensures.given w.in-Ok.ensures.cause.later w.in-Ok.ensures.fetches;
+        erases = c.loop-place.invariant.erases;
+        alone = c.loop-place.invariant.alone;
+      })
+      | in_default w ↦ rw (w.self-is, w.port-is) (record {
+        filling = filling-same tells g.C.Cursor.may_ask g.C.Cursor.sound g.C.Cursor.left c.loop-turn.self.sources.items (g.D.Disk.port_faults c.loop-turn.port) (g.D.Disk.fetches c.loop-turn.port)
+            now _ place c.index_mut-source.result.now (g.D.Disk.port_faults c.loop-place.port) (g.D.Disk.fetches c.loop-place.port)
+            filling within c.index_mut-source.ensures.value refl w.in_default.not-Unasked;
+        erases = c.loop-place.invariant.erases;
+        alone = c.loop-place.invariant.alone;
+      })
+    ]
+
+-- the slice that was lent is all of the sources
+whole : (g : _) (c : After-take_least g)
+    → take c.loop-place.self.sources.len (c.take_least.new.sources ++ drop (length c.take_least.new.sources) c.loop-place.self.sources.items) ≡ c.take_least.new.sources
+whole g c = take_at c.take_least.new.sources _ c.loop-place.self.sources.len (c.take_least.auto.sources ∙ c.deref_mut.ensures.len)
+
+erases_as : (g : _) (c : After-take_least g) → c.loop-place.self.erases.items ≡ c.args.self.now.erases.items
+erases_as g c = ap (λ (v : Vec Pending). v.items) (c.loop-place.invariant.erases ∙ c.loop-turn.invariant.erases)
+
+alone_as : (g : _) (c : After-take_least g) → c.loop-place.self.alone ≡ c.args.self.now.alone
+alone_as g c = c.loop-place.invariant.alone ∙ c.loop-turn.invariant.alone
+
+turned : (g : _) (c : After-take_least g) (next : Option Entry) → c.take_least.result ≡ next
+    → IsTurn g.D.Disk.tells g.C.Cursor.may_ask g.C.Cursor.sound g.C.Cursor.left c.args.self.now.erases.items c.args.self.now.sources.items c.loop-turn.self.sources.items c.take_least.new.sources next
+turned g c next is =
+    let old = c.args.self.now in
+    let filling = c.loop-place.invariant.filling in
+    let over : length c.loop-place.self.sources.items ≤ c.loop-place.place = omega (arith, filling.whole, c.loop-turn.self.sources.ok.0) in
+    turn g.D.Disk.tells g.C.Cursor.may_ask g.C.Cursor.sound g.C.Cursor.left old.erases.items old.alone old.sources.items (g.D.Disk.port_faults c.args.port.now) (g.D.Disk.fetches c.args.port.now)
+    c.loop-turn.self.sources.items (g.D.Disk.port_faults c.loop-turn.port) (g.D.Disk.fetches c.loop-turn.port) c.loop-turn.invariant.skipping
+    c.loop-place.self.sources.items c.take_least.new.sources c.deref_mut.result.now c.deref.result.now c.loop-place.place (g.D.Disk.port_faults c.loop-place.port) (g.D.Disk.fetches c.loop-place.port) next
+    filling over c.deref_mut.ensures.value (c.deref.ensures.value ∙ erases_as g c)
+    (subst (λ (o : Option Entry). IfNone o (HasNone c.deref_mut.result.now c.take_least.new.sources)) is c.take_least.ensures.none)
+    (subst (λ (o : Option Entry). IfSome o (IsTaken c.deref.result.now c.deref_mut.result.now c.take_least.new.sources)) is c.take_least.ensures.some)
+
+same : (g : _) (c : After-take_least g)
+    → left_merged g.C.Cursor.left c.take_least.new.sources c.args.self.now.erases.items c.args.self.now.alone
+    ≡ left_merged g.C.Cursor.left (take c.loop-place.self.sources.len (c.take_least.new.sources ++ drop (length c.take_least.new.sources) c.loop-place.self.sources.items)) c.loop-place.self.erases.items c.loop-place.self.alone
+same g c = merged_as g.C.Cursor.left _ c.take_least.new.sources c.loop-place.self.erases.items c.args.self.now.erases.items c.loop-place.self.alone c.args.self.now.alone (whole g c) (erases_as g c) (alone_as g c)
+
+still_sound : (g : _) (c : After-take_least g) (next : Option Entry) → c.take_least.result ≡ next
+    → AreSound g.D.Disk.tells g.C.Cursor.sound g.C.Cursor.left c.args.self.now.sources.items c.args.self.now.erases.items c.args.self.now.alone
+    → AreSound g.D.Disk.tells g.C.Cursor.sound g.C.Cursor.left (take c.loop-place.self.sources.len (c.take_least.new.sources ++ drop (length c.take_least.new.sources) c.loop-place.self.sources.items))
+    c.loop-place.self.erases.items c.loop-place.self.alone
+still_sound g c next is all =
+    let old = c.args.self.now in
+    sound_as g.C.Cursor.left _ c.take_least.new.sources c.loop-place.self.erases.items old.erases.items c.loop-place.self.alone old.alone (whole g c) (erases_as g c) (alone_as g c) g.D.Disk.tells g.C.Cursor.sound
+    (sound-again g.D.Disk.tells g.C.Cursor.may_ask g.C.Cursor.sound g.C.Cursor.left old.erases.items old.alone old.sources.items (g.D.Disk.port_faults c.args.port.now) (g.D.Disk.fetches c.args.port.now)
+    c.loop-turn.self.sources.items (g.D.Disk.port_faults c.loop-turn.port) (g.D.Disk.fetches c.loop-turn.port) c.loop-turn.invariant.skipping c.take_least.new.sources next (turned g c next is) all)
+
+again : (g : _) (c : After-take_least g) (next : Option Entry) → c.take_least.result ≡ next
+    → All (λ (source : Source g.row.C.Denot). g.C.Cursor.may_ask source.cursor) (take c.loop-place.self.sources.len (c.take_least.new.sources ++ drop (length c.take_least.new.sources) c.loop-place.self.sources.items))
+again g c next is = subst (All (λ (source : Source g.row.C.Denot). g.C.Cursor.may_ask source.cursor)) (sym (whole g c)) (turned g c next is).again
+
+pub returns-in_default-take_least-clause-given : goal.returns-in_default-take_least-clause-given
+returns-in_default-take_least-clause-given g c = λ told all.
+    let at = (goal.at.returns-in_default-take_least-clause-given g c).After-take_least in
+    let old = c.args.self.now in
+    let ends = given-none g.D.Disk.tells g.C.Cursor.may_ask g.C.Cursor.sound g.C.Cursor.left old.erases.items old.alone old.sources.items (g.D.Disk.port_faults c.args.port.now) (g.D.Disk.fetches c.args.port.now)
+    c.loop-turn.self.sources.items (g.D.Disk.port_faults c.loop-turn.port) (g.D.Disk.fetches c.loop-turn.port) c.loop-turn.invariant.skipping c.take_least.new.sources (turned g at None c.in_default-take_least.is) told all in
+    (ends.0, sym (same g at) ∙ ends.1)
+
+pub returns-in_default-take_least-clause-again : goal.returns-in_default-take_least-clause-again
+returns-in_default-take_least-clause-again g c = again g (goal.at.returns-in_default-take_least-clause-again g c).After-take_least None c.in_default-take_least.is
+
+pub returns-in_default-take_least-clause-still_sound : goal.returns-in_default-take_least-clause-still_sound
+returns-in_default-take_least-clause-still_sound g c = still_sound g (goal.at.returns-in_default-take_least-clause-still_sound g c).After-take_least None c.in_default-take_least.is
+
+pub returns-in-Some-bare-clause-given : goal.returns-in-Some-bare-clause-given
+returns-in-Some-bare-clause-given g c = λ told all.
+    let at = (goal.at.returns-in-Some-bare-clause-given g c).After-take_least in
+    let old = c.args.self.now in
+    let entry = c.in-Some.entry in
+    let output = c.in-Some-bare.entry in
+    let kept = sym c.in-Some-bare.is ∙ c.bare.ensures ∙ ap (λ (alone : Bool). bared alone entry entry.body) (alone_as g at) in
+    given-some g.D.Disk.tells g.C.Cursor.may_ask g.C.Cursor.sound g.C.Cursor.left old.erases.items old.alone old.sources.items (g.D.Disk.port_faults c.args.port.now) (g.D.Disk.fetches c.args.port.now)
+    c.loop-turn.self.sources.items (g.D.Disk.port_faults c.loop-turn.port) (g.D.Disk.fetches c.loop-turn.port) c.loop-turn.invariant.skipping c.take_least.new.sources entry output kept (turned g at (Some entry) c.in-Some.is) told all
+    ∙ ap (λ (rest : List Entry). output ∷ rest) (same g at)
+
+pub returns-in-Some-bare-clause-again : goal.returns-in-Some-bare-clause-again
+returns-in-Some-bare-clause-again g c = again g (goal.at.returns-in-Some-bare-clause-again g c).After-take_least (Some c.in-Some.entry) c.in-Some.is
+
+pub returns-in-Some-bare-clause-still_sound : goal.returns-in-Some-bare-clause-still_sound
+returns-in-Some-bare-clause-still_sound g c = still_sound g (goal.at.returns-in-Some-bare-clause-still_sound g c).After-take_least (Some c.in-Some.entry) c.in-Some.is
+
+pub loop-turn-preserved : goal.loop-turn-preserved
+loop-turn-preserved g c =
+    let at = (goal.at.loop-turn-preserved g c).After-take_least in
+    let old = c.args.self.now in
+    let entry = c.in-Some.entry in
+    let dropped = sym c.in_default-bare.is ∙ c.bare.ensures ∙ ap (λ (alone : Bool). bared alone entry entry.body) (alone_as g at) in
+    record {
+      skipping = subst (λ (sources : List (Source g.row.C.Denot)). IsSkipping g.D.Disk.tells g.C.Cursor.may_ask g.C.Cursor.sound g.C.Cursor.left old.erases.items old.alone old.sources.items sources
+          (g.D.Disk.port_faults c.args.port.now) (g.D.Disk.port_faults c.loop-place.port) (g.D.Disk.fetches c.args.port.now) (g.D.Disk.fetches c.loop-place.port)) (sym (whole g at))
+          (skipping-more g.D.Disk.tells g.C.Cursor.may_ask g.C.Cursor.sound g.C.Cursor.left old.erases.items old.alone old.sources.items (g.D.Disk.port_faults c.args.port.now) (g.D.Disk.fetches c.args.port.now)
+          c.loop-turn.self.sources.items (g.D.Disk.port_faults c.loop-turn.port) (g.D.Disk.fetches c.loop-turn.port) c.loop-turn.invariant.skipping c.take_least.new.sources entry
+          (g.D.Disk.port_faults c.loop-place.port) (g.D.Disk.fetches c.loop-place.port) dropped (turned g at (Some entry) c.in-Some.is) c.loop-place.invariant.filling.risen c.loop-place.invariant.filling.fetched);
+      erases = c.loop-place.invariant.erases ∙ c.loop-turn.invariant.erases;
+      alone = c.loop-place.invariant.alone ∙ c.loop-turn.invariant.alone;
+    }
