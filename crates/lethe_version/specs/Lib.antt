@@ -1,0 +1,4 @@
+pub mod Newest
+pub mod Order
+pub mod Probing
+pub mod Search
