@@ -1,0 +1,5 @@
+pub mod Newer
+pub mod Probed
+pub mod Places
+pub mod Searched
+pub mod Rising

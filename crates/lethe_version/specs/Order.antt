@@ -1,5 +1,6 @@
--- The order of a level's files.
-use Rattle.std.specs.Prelude.{◌==◌, ℕ, Bool, IsTrue, List, AllPairs, if◌then◌else◌}
+-- Which files a level has, and their order.
+use Rattle.std.specs.Prelude.{◌==◌, ℕ, Bool, not, IsTrue, List, AllPairs, if◌then◌else◌}
+use Rattle.std.specs.List.{list_any}
 use Rattle.std.specs.List.Sorted.{IsPermutation, IsSortedBy, IsStableBy}
 use Rattle.std.specs.Ordering.{is_lt, nat_cmp}
 use Rattle.lethe_base.specs.Keys.{key_cmp}
@@ -14,11 +15,15 @@ greatest_place header = max_seq_in (lines_of header.tiles)
 abbrev pub comes_before : ℕ → Header → Header → Bool
 comes_before level a b = if level == 0 then is_lt (nat_cmp (greatest_place b) (greatest_place a)) else is_lt (key_cmp (least_key a.tiles) (least_key b.tiles))
 
--- these files in the order of their level; files that tie stand in the order in which they were given
-pub record IsInOrder {F : Type 0} (header : F → Header) (level : ℕ) (given files : List F) : Type 0 where
+-- these files in this order; files that tie stand as they were given
+pub record IsOrderedBy {F : Type 0} (lt : F → F → Bool) (given files : List F) : Type 0 where
   pub same : IsPermutation given files
-  pub sorted : IsSortedBy (λ a b. comes_before level (header a) (header b)) files
-  pub stable : IsStableBy (λ a b. comes_before level (header a) (header b)) given files
+  pub sorted : IsSortedBy lt files
+  pub stable : IsStableBy lt given files
+
+-- the number of the file isn't among those that are gone
+abbrev pub is_kept : List ℕ → Header → Bool
+is_kept gone header = not (list_any (λ no. no == header.no) gone)
 
 -- the files ascend by key and are disjoint
 abbrev pub Rise : List Header → Type 0

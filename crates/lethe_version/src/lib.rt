@@ -1,6 +1,10 @@
-//! The files of a store by level.
+//! The files of a store by level: a version, which never changes, and what finds the newest entry of a key in it.
 #![tactic(auto)]
 
+mod level;
+mod probing;
+mod searching;
 mod shared;
+mod sorting;
 
 pub use shared::Shared;
