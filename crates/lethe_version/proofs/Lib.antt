@@ -3,3 +3,4 @@ pub mod Probed
 pub mod Places
 pub mod Searched
 pub mod Rising
+pub mod Levels

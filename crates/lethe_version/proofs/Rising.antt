@@ -94,7 +94,7 @@ module _ {S : Type 0} (header : S → Header) (spelled : (s : S) → HasSpelling
         → some ≡ take (min (length (drop place files)) 1) (drop place files) → IsNarrowed header key files some
     narrowed_at key place some point is = (
       take place files,
-      drop n (drop place files),
+      drop (min (length (drop place files)) 1) (drop place files),
       whole,
       λ k d lt.
           let in_front : k < place = omega (arith, lt, length-take place files) in
@@ -102,21 +102,33 @@ module _ {S : Type 0} (header : S → Header) (spelled : (s : S) → HasSpelling
           subst (λ (s : S). bound key (header s) ≡ 0) (sym (get_or-take place files k d in_front))
           (zero_behind (header (get_or files k d)) (spelled (get_or files k d)) key (less_is (key_cmp (hi_at k d) key) (point.0 k d (omega arith) in_front))),
       λ k d lt.
-          let left : k + n < length (drop place files) = omega (arith, lt, length-drop n (drop place files)) in
-          let total : place + (n + k) < length files = omega (arith, left, length-drop place files) in
-          let one : n ≡ 1 = omega (arith, left) in
-          let there : get_or (drop n (drop place files)) k d ≡ get_or files (place + (n + k)) d = get_or-drop n (drop place files) k d ∙ get_or-drop place files (n + k) d in
+          let left : k + min (length (drop place files)) 1 < length (drop place files) = omega (arith, lt, length-drop (min (length (drop place files)) 1) (drop place files)) in
+          let total : place + (min (length (drop place files)) 1 + k) < length files = omega (arith, left, length-drop place files) in
+          let one : min (length (drop place files)) 1 ≡ 1 = omega (arith, left) in
+          let there : get_or (drop (min (length (drop place files)) 1) (drop place files)) k d ≡ get_or files (place + (min (length (drop place files)) 1 + k)) d = get_or-drop (min (length (drop place files)) 1) (drop place files) k d ∙ get_or-drop place files (min (length (drop place files)) 1 + k) d in
           let here : place < length files = omega (arith, total) in
           let key_le : is_le (key_cmp key (hi_at place d)) ≡ true = not_less (hi_at place d) key (point.1 place d (omega arith) here) in
-          let less = le_less key (hi_at place d) (lo_at (place + (n + k)) d) key_le (below place (place + (n + k)) d (omega (arith, one)) total) in
-          subst (λ (s : S). bound key (header s) ≡ 0) (sym there) (zero_before (header (get_or files (place + (n + k)) d)) (spelled (get_or files (place + (n + k)) d)) key less),
+          let less = le_less key (hi_at place d) (lo_at (place + (min (length (drop place files)) 1 + k)) d) key_le (below place (place + (min (length (drop place files)) 1 + k)) d (omega (arith, one)) total) in
+          subst (λ (s : S). bound key (header s) ≡ 0) (sym there) (zero_before (header (get_or files (place + (min (length (drop place files)) 1 + k)) d)) (spelled (get_or files (place + (min (length (drop place files)) 1 + k)) d)) key less),
     )
       where
-        abbrev n : ℕ
-        n = min (length (drop place files)) 1
-
-        whole : files ≡ take place files ++ (some ++ drop n (drop place files))
-        whole = sym (take-append-drop place files) ∙ ap (λ (l : List S). take place files ++ l) (sym (take-append-drop n (drop place files)) ∙ ap (λ (l : List S). l ++ drop n (drop place files)) (sym is))
+        whole : files ≡ take place files ++ (some ++ drop (min (length (drop place files)) 1) (drop place files))
+        whole = sym (take-append-drop place files) ∙ ap (λ (l : List S). take place files ++ l) (sym (take-append-drop (min (length (drop place files)) 1) (drop place files)) ∙ ap (λ (l : List S). l ++ drop (min (length (drop place files)) 1) (drop place files)) (sym is))
 
 pub narrowed_all : {S : Type 0} (header : S → Header) (key : Bytes) (files some : List S) → some ≡ files → IsNarrowed header key files some
 narrowed_all header key files some is = ([], [], sym is ∙ sym (append-nil some), λ k d lt. absurd (omega arith), λ k d lt. absurd (omega arith))
+
+pub candidates_are : {S : Type 0} (files seen from some : List S) (place n : ℕ) → seen ≡ files → from ≡ drop place seen → n ≡ min (length from) 1 → some ≡ take n from → some ≡ take (min (length (drop place files)) 1) (drop place files)
+candidates_are {S = S} files seen from some place n seen_is from_is n_is some_is =
+    let same : from ≡ drop place files = from_is ∙ ap (drop place) seen_is in
+    some_is ∙ ap (λ (k : ℕ). take k from) n_is ∙ ap (λ (l : List S). take (min (length l) 1) l) same
+
+-- what a search by halves gives, of a list that was read as the files
+pub narrowed_there : {S : Type 0} (header : S → Header) (spelled : (s : S) → HasSpelling (header s)) (files : List S) → Rise (map header files) → (key : Bytes) (place : ℕ) (some searched seen from : List S) (n : ℕ) → searched ≡ files
+    → (IsPartitionedBy (λ s. is_lt (key_cmp (greatest_key (header s).tiles) key)) searched → IsPartitionPoint (λ s. is_lt (key_cmp (greatest_key (header s).tiles) key) ≡ true) (λ s. is_lt (key_cmp (greatest_key (header s).tiles) key) ≡ false) searched place)
+    → seen ≡ files → from ≡ drop place seen → n ≡ min (length from) 1 → some ≡ take n from → IsNarrowed header key files some
+narrowed_there {S = S} header spelled files rises key place some searched seen from n searched_is point seen_is from_is n_is some_is =
+    let parted = subst (λ (l : List S). IsPartitionedBy (λ s. is_lt (key_cmp (greatest_key (header s).tiles) key)) l) (sym searched_is) (are_parted header spelled files rises key) in
+    narrowed_at header spelled files rises key place some
+    (subst (λ (l : List S). IsPartitionPoint (λ s. is_lt (key_cmp (greatest_key (header s).tiles) key) ≡ true) (λ s. is_lt (key_cmp (greatest_key (header s).tiles) key) ≡ false) l place) searched_is (point parted))
+    (candidates_are files seen from some place n seen_is from_is n_is some_is)

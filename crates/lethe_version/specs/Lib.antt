@@ -2,3 +2,4 @@ pub mod Newest
 pub mod Order
 pub mod Probing
 pub mod Search
+pub mod Versions

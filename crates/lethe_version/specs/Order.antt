@@ -1,7 +1,7 @@
 -- Which files a level has, and their order.
-use Rattle.std.specs.Prelude.{◌==◌, ℕ, Bool, not, IsTrue, List, AllPairs, if◌then◌else◌}
+use Rattle.std.specs.Prelude.{◌≡◌, ◌==◌, ℕ, Bool, not, IsTrue, List, filter, All, AllPairs, if◌then◌else◌}
 use Rattle.std.specs.List.{list_any}
-use Rattle.std.specs.List.Sorted.{IsPermutation, IsSortedBy, IsStableBy}
+use Rattle.std.specs.List.Sorted.{IsPermutation, IsSortedBy, ties}
 use Rattle.std.specs.Ordering.{is_lt, nat_cmp}
 use Rattle.lethe_base.specs.Keys.{key_cmp}
 use Rattle.lethe_header.specs.Facts.{lines_of, max_seq_in, least_key, greatest_key}
@@ -19,7 +19,7 @@ comes_before level a b = if level == 0 then is_lt (nat_cmp (greatest_place b) (g
 pub record IsOrderedBy {F : Type 0} (lt : F → F → Bool) (given files : List F) : Type 0 where
   pub same : IsPermutation given files
   pub sorted : IsSortedBy lt files
-  pub stable : IsStableBy lt given files
+  pub stable : All (λ file. filter (ties lt file) files ≡ filter (ties lt file) given) given
 
 -- the number of the file isn't among those that are gone
 abbrev pub is_kept : List ℕ → Header → Bool

@@ -1,14 +1,18 @@
 //! The files of one level.
-ghost use Rattle.std.specs.Prelude.{◌≡◌, map, IsTrue};
+ghost use Rattle.std.specs.Prelude.{◌≡◌, ◌≢◌, ◌==◌, ◌++◌, map, filter, find, IsTrue, IfOk};
+ghost use Rattle.std.specs.Option.{option_copied};
 ghost use Rattle.std.specs.Ordering.{is_lt};
 ghost use Rattle.lethe_base.specs.Keys.{key_cmp};
 ghost use Rattle.lethe_header.specs.Facts.{least_key, greatest_key};
-ghost use Rattle.lethe_version.specs.Order.{Rise};
+ghost use Rattle.lethe_version.specs.Order.{IsOrderedBy, Rise, comes_before, is_kept};
 ghost use Rattle.lethe_version.specs.Probing.{IsNarrowed};
 
 use crate::Shared;
-use lethe_base::Key;
+use crate::sorting::{add_others, ordered, shared};
+use lethe_base::{Key, NoMemory};
 use lethe_disk::Disk;
+use lethe_file::FileView;
+use std::alloc::Global;
 use std::cmp::Ordering;
 
 /// The files of a level in its order, and whether they may be searched by halves.
@@ -61,4 +65,51 @@ impl<D: Disk> Level<D> {
         let (candidates, _) = from.split_at(from.len().min(1));
         candidates
     }
+
+    /// The first of its files that has that number.
+    pub(crate) fn file(&self, no: u64) -> Option<&FileView<D>>
+        ensures { option_copied result ≡ find (λ file. file.header.no == no) (map (λ shared. shared.file.value) self.now.files.items) }
+    {
+        for file in &self.files {
+            if file.no() == no {
+                return Some(file.file());
+            }
+        }
+        None
+    }
+}
+
+/// The level of that number with these files.
+pub fn level_of<D: Disk>(
+    alloc: Global,
+    files: Vec<FileView<D>>,
+    number: usize,
+) -> Result<Level<D>, NoMemory>
+    ensures { IfOk result (λ level. IsOrderedBy (λ a b. comes_before number a.header b.header) files.items (map (λ one. one.file.value) level.files.items)) }
+{
+    let files = ordered(shared(alloc, files)?, number)?;
+    Ok(Level::of(files))
+}
+
+/// What the level of a number becomes where files are gone, and others are added in a level.
+pub fn level_with<D: Disk>(
+    alloc: Global,
+    old: &Level<D>,
+    gone: &[u64],
+    added: &[Shared<D>],
+    number: usize,
+    level: u64,
+) -> Result<Level<D>, NoMemory>
+    ensures others { number ≢ level → IfOk result (λ new. map (λ one. one.file.value) new.files.items ≡ filter (λ one. is_kept gone.now one.header) (map (λ one. one.file.value) old.now.files.items)) }
+    ensures there { number ≡ level → IfOk result (λ new. IsOrderedBy (λ a b. comes_before number a.header b.header)
+        (filter (λ one. is_kept gone.now one.header) (map (λ one. one.file.value) old.now.files.items) ++ map (λ one. one.file.value) added.now)
+        (map (λ one. one.file.value) new.files.items)) }
+{
+    let mut files = Vec::new(alloc);
+    add_others(&mut files, &old.files, gone)?;
+    if number as u64 == level {
+        add_others(&mut files, added, &[])?;
+        files = ordered(files, number)?;
+    }
+    Ok(Level::of(files))
 }

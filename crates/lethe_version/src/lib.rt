@@ -6,5 +6,7 @@ mod probing;
 mod searching;
 mod shared;
 mod sorting;
+mod version;
 
 pub use shared::Shared;
+pub use version::Version;

@@ -1,0 +1,100 @@
+-- Lists of files, and lists of levels.
+use Rattle.std.proofs.Common.{◌≡◌, ℕ, ◌+◌, ◌<◌, ◌≤◌, Bool, true, false, cond, List, [], ◌∷◌, ◌++◌, length, get_or, take, drop, map, Option, Some, None, inl, inr, refl, sym, ap, subst, ◌∙◌, arith}
+use Rattle.std.specs.Prelude.{filter, find}
+use Rattle.std.specs.Option.{option_or}
+use Rattle.std.proofs.lemmas.Bool.{cases_lt, cond-true}
+use Rattle.std.proofs.lemmas.List.{map-append, take-append-drop, drop_more, get_or-map, get_or_default, get_or_push, get_or_append_left, length-map, length_push}
+use Rattle.std.proofs.lemmas.List.Folds.{find-append}
+use Rattle.std.specs.List.Sorted.{ties}
+use Rattle.std.proofs.lemmas.List.Sorted.{IsPermutation-map}
+use Rattle.lethe_version.specs.Order.{IsOrderedBy}
+
+some_of : {X : Type 0} (xs : List X) → 0 < length xs → X
+some_of [] lt = absurd (omega arith)
+some_of (x ∷ xs) lt = x
+
+filter-map : {S F : Type 0} (f : S → F) (p : F → Bool) (xs : List S) → filter p (map f xs) ≡ map f (filter (λ s. p (f s)) xs)
+filter-map f p [] = refl
+filter-map {S = S} {F = F} f p (x ∷ xs) = by (filter-map f p xs) (p (f x))
+  where
+    by : filter p (map f xs) ≡ map f (filter (λ s. p (f s)) xs) → (b : Bool) → cond b (f x ∷ filter p (map f xs)) (filter p (map f xs)) ≡ map f (cond b (x ∷ filter (λ s. p (f s)) xs) (filter (λ s. p (f s)) xs))
+    by rest true = ap (λ (l : List F). f x ∷ l) rest
+    by rest false = rest
+
+-- items in an order, as what they stand for
+pub ordered_map : {S F : Type 0} (f : S → F) (lt : F → F → Bool) (xs ys : List S) → IsOrderedBy (λ a b. lt (f a) (f b)) xs ys → IsOrderedBy lt (map f xs) (map f ys)
+ordered_map {S = S} {F = F} f lt xs ys order = record {
+  same = IsPermutation-map f xs ys order.same;
+  sorted = λ k d low inside.
+      let len : length (map f ys) ≡ length ys = length-map ys f in
+      let s = some_of ys (omega (arith, inside, len)) in
+      let next : get_or (map f ys) (k + 1) d ≡ f (get_or ys (k + 1) s) = get_or-map f ys (k + 1) s d (omega (arith, inside, len)) in
+      let here : get_or (map f ys) k d ≡ f (get_or ys k s) = get_or-map f ys k s d (omega (arith, inside, len)) in
+      ap (λ (x : F). lt x (get_or (map f ys) k d)) next ∙ ap (λ (x : F). lt (f (get_or ys (k + 1) s)) x) here ∙ order.sorted k s low (omega (arith, inside, len));
+  stable = λ k d inside.
+      let len : length (map f xs) ≡ length xs = length-map xs f in
+      let s = some_of xs (omega (arith, inside, len)) in
+      let here : get_or (map f xs) k d ≡ f (get_or xs k s) = get_or-map f xs k s d (omega (arith, inside, len)) in
+      subst (λ (x : F). filter (ties lt x) (map f ys) ≡ filter (ties lt x) (map f xs)) (sym here)
+      (filter-map f (ties lt (f (get_or xs k s))) ys ∙ ap (map f) (order.stable k s (omega (arith, inside, len))) ∙ sym (filter-map f (ties lt (f (get_or xs k s))) xs));
+}
+
+-- ---- a loop that makes an item for each
+
+pub record Each {A B : Type 0} (P : ℕ → A → B → Type 0) (n : ℕ) (xs : List A) (ys : List B) : Type 0 where
+  pub len : length ys ≡ n
+  pub at : (k : ℕ) (a : A) (b : B) → k < n → P k (get_or xs k a) (get_or ys k b)
+
+pub each_more : {A B : Type 0} (P : ℕ → A → B → Type 0) (n : ℕ) (xs : List A) (ys : List B) (x : A) (y : B) → Each P n xs ys → n < length xs → x ≡ get_or xs n x → P n x y → Each P (n + 1) xs (ys ++ y ∷ [])
+each_more {A = A} {B = B} P n xs ys x y each inside x_is holds = record {
+  len = omega (arith, length_push ys y, each.len);
+  at = λ k a b lt. elim (cases_lt k n) [
+    | inl before ↦ subst (P k (get_or xs k a)) (sym (get_or_append_left ys (y ∷ []) b k (omega (arith, before, each.len)))) (each.at k a b before)
+    | inr behind ↦
+        let same : k ≡ n = omega (arith, lt, behind) in
+        let here : P n (get_or xs n a) (get_or (ys ++ y ∷ []) n b) =
+        subst (λ (v : B). P n (get_or xs n a) v) (sym (get_or_push ys y b n each.len))
+        (subst (λ (u : A). P n u y) (x_is ∙ get_or_default xs n x a inside) holds) in
+        subst (λ (i : ℕ). P i (get_or xs i a) (get_or (ys ++ y ∷ []) i b)) (sym same) here
+  ];
+}
+
+pub each_push : {A B : Type 0} (P : ℕ → A → B → Type 0) (n : ℕ) (xs : List A) (ys : List B) (x : A) (y : B) → Each P n xs ys → length xs ≡ n → P n x y → Each P (n + 1) (xs ++ x ∷ []) (ys ++ y ∷ [])
+each_push {A = A} {B = B} P n xs ys x y each len holds = record {
+  len = omega (arith, length_push ys y, each.len);
+  at = λ k a b lt. elim (cases_lt k n) [
+    | inl before ↦
+        subst (P k (get_or (xs ++ x ∷ []) k a)) (sym (get_or_append_left ys (y ∷ []) b k (omega (arith, before, each.len))))
+        (subst (λ (u : A). P k u (get_or ys k b)) (sym (get_or_append_left xs (x ∷ []) a k (omega (arith, before, len)))) (each.at k a b before))
+    | inr behind ↦
+        let same : k ≡ n = omega (arith, lt, behind) in
+        let here : P n (get_or (xs ++ x ∷ []) n a) (get_or (ys ++ y ∷ []) n b) =
+        subst (λ (v : B). P n (get_or (xs ++ x ∷ []) n a) v) (sym (get_or_push ys y b n each.len))
+        (subst (λ (u : A). P n u y) (sym (get_or_push xs x a n len)) holds) in
+        subst (λ (i : ℕ). P i (get_or (xs ++ x ∷ []) i a) (get_or (ys ++ y ∷ []) i b)) (sym same) here
+  ];
+}
+
+pub each_viewed : {A B C : Type 0} (R : ℕ → A → C → Type 0) (v : B → C) (n : ℕ) (xs : List A) (ys : List B) → Each (λ k a b. R k a (v b)) n xs ys → (k : ℕ) (a : A) (c : C) → k < n → R k (get_or xs k a) (get_or (map v ys) k c)
+each_viewed R v n xs ys each k a c lt =
+    let inside : k < length ys = omega (arith, lt, each.len) in
+    let b = some_of ys (omega (arith, inside)) in
+    subst (R k (get_or xs k a)) (sym (get_or-map v ys k b c inside)) (each.at k a b lt)
+
+pub both_viewed : {A B C D : Type 0} (R : ℕ → D → C → Type 0) (u : A → D) (v : B → C) (n : ℕ) (xs : List A) (ys : List B) → n ≤ length xs → Each (λ k a b. R k (u a) (v b)) n xs ys → (k : ℕ) (d : D) (c : C) → k < n → R k (get_or (map u xs) k d) (get_or (map v ys) k c)
+both_viewed {D = D} R u v n xs ys le each k d c lt =
+    let inside : k < length xs = omega (arith, lt, le) in
+    let a = some_of xs (omega (arith, inside)) in
+    subst (λ (x : D). R k x (get_or (map v ys) k c)) (sym (get_or-map u xs k a d inside)) (each_viewed (λ k a c. R k (u a) c) v n xs ys each k a c lt)
+
+-- ---- the first of a number
+
+pub found_there : {S F : Type 0} (view : S → F) (p : F → Bool) (items : List S) (i : ℕ) (item : S) → i < length items → item ≡ get_or items i item → find p (map view (take i items)) ≡ None → p (view item) ≡ true → find p (map view items) ≡ Some (view item)
+found_there {S = S} {F = F} view p items i item inside is none passes =
+    let parts : items ≡ take i items ++ (item ∷ drop (i + 1) items) =
+    sym (take-append-drop i items) ∙ ap (λ (l : List S). take i items ++ l) (drop_more items i item inside ∙ ap (λ (s : S). s ∷ drop (i + 1) items) (sym is)) in
+    ap (λ (l : List S). find p (map view l)) parts
+    ∙ ap (find p) (map-append view (take i items) (item ∷ drop (i + 1) items))
+    ∙ find-append p (map view (take i items)) (map view (item ∷ drop (i + 1) items))
+    ∙ ap (λ (o : Option F). option_or o (find p (map view (item ∷ drop (i + 1) items)))) none
+    ∙ cond-true (p (view item)) (Some (view item)) (find p (map view (drop (i + 1) items))) passes
