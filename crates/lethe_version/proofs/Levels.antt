@@ -2,8 +2,8 @@
 use Rattle.std.proofs.Common.{◌≡◌, ℕ, ◌+◌, ◌<◌, ◌≤◌, Bool, true, false, cond, List, [], ◌∷◌, ◌++◌, length, get_or, take, drop, map, Option, Some, None, inl, inr, refl, sym, ap, subst, ◌∙◌, arith}
 use Rattle.std.specs.Prelude.{filter, find}
 use Rattle.std.specs.Option.{option_or}
-use Rattle.std.proofs.lemmas.Bool.{cases_lt, cond-true}
-use Rattle.std.proofs.lemmas.List.{map-append, take-append-drop, drop_more, get_or-map, get_or_default, get_or_push, get_or_append_left, length-map, length_push}
+use Rattle.std.proofs.lemmas.Bool.{cases_lt, cond-false, cond-true}
+use Rattle.std.proofs.lemmas.List.{map-append, map_more, take-append-drop, drop_more, get_or-map, get_or_default, get_or_push, get_or_append_left, length-map, length_push}
 use Rattle.std.proofs.lemmas.List.Folds.{find-append}
 use Rattle.std.specs.List.Sorted.{ties}
 use Rattle.std.proofs.lemmas.List.Sorted.{IsPermutation-map}
@@ -98,3 +98,21 @@ found_there {S = S} {F = F} view p items i item inside is none passes =
     ∙ find-append p (map view (take i items)) (map view (item ∷ drop (i + 1) items))
     ∙ ap (λ (o : Option F). option_or o (find p (map view (item ∷ drop (i + 1) items)))) none
     ∙ cond-true (p (view item)) (Some (view item)) (find p (map view (drop (i + 1) items))) passes
+
+pub found_at : {S F : Type 0} (view : S → F) (p : F → Bool) (items seen : List S) → seen ≡ items → (i : ℕ) (item : S) → i < length seen → item ≡ get_or seen i item → find p (map view (take i items)) ≡ None → p (view item) ≡ true → find p (map view items) ≡ Some (view item)
+found_at {S = S} view p items seen same i item inside is none passes =
+    found_there view p items i item (omega (arith, inside, ap length same)) (is ∙ ap (λ (l : List S). get_or l i item) same) none passes
+
+pub not_found : {S F : Type 0} (view : S → F) (p : F → Bool) (items seen : List S) → seen ≡ items → (i : ℕ) (item : S) → i < length seen → item ≡ get_or seen i item → find p (map view (take i items)) ≡ None → p (view item) ≡ false → find p (map view (take (i + 1) items)) ≡ None
+not_found {S = S} {F = F} view p items seen same i item inside is none fails =
+    let there = is ∙ ap (λ (l : List S). get_or l i item) same in
+    ap (find p) (map_more view items i item (omega (arith, inside, ap length same)) ∙ ap (λ (s : S). map view (take i items) ++ view s ∷ []) (sym there))
+    ∙ find-append p (map view (take i items)) (view item ∷ [])
+    ∙ ap (λ (o : Option F). option_or o (find p (view item ∷ []))) none
+    ∙ cond-false (p (view item)) (Some (view item)) None fails
+
+-- files that were shared, and then put in their order
+pub ordered_from : {S F : Type 0} (view : S → F) (lt : F → F → Bool) (given : List F) (shared sorted made : List S) → map view shared ≡ given → made ≡ sorted → IsOrderedBy (λ a b. lt (view a) (view b)) shared sorted → IsOrderedBy lt given (map view made)
+ordered_from {S = S} {F = F} view lt given shared sorted made given_is made_is order =
+    subst (λ (l : List F). IsOrderedBy lt l (map view made)) given_is
+    (subst (λ (l : List S). IsOrderedBy lt (map view shared) (map view l)) (sym made_is) (ordered_map view lt shared sorted order))

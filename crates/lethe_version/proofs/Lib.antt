@@ -4,3 +4,4 @@ pub mod Places
 pub mod Searched
 pub mod Rising
 pub mod Levels
+pub mod Whole

@@ -107,9 +107,9 @@ pub fn level_with<D: Disk>(
 {
     let mut files = Vec::new(alloc);
     add_others(&mut files, &old.files, gone)?;
-    if number as u64 == level {
-        add_others(&mut files, added, &[])?;
-        files = ordered(files, number)?;
+    if number as u64 != level {
+        return Ok(Level::of(files));
     }
-    Ok(Level::of(files))
+    add_others(&mut files, added, &[])?;
+    Ok(Level::of(ordered(files, number)?))
 }

@@ -1,12 +1,9 @@
-use Rattle.std.proofs.Common.{rules, ◌≡◌, ◌≢◌, ◌==◌, ◌++◌, map, filter, find, IsTrue, IfOk, ℕ, ◌+◌, ◌-◌, ◌*◌, ◌<◌, ◌≤◌, length, ◌/◌, ◌%◌, Bool, true, false, nat_eq, nat_lt, List, [], ◌∷◌, slice_index_or, slice_set, bit_and, bit_or, Fits, w8, w32, w64, Bor, MutBor}
-use Rattle.std.specs.Option.{option_copied}
-use Rattle.std.specs.Ordering.{is_lt}
-use Rattle.lethe_base.specs.Keys.{key_cmp}
-use Rattle.lethe_header.specs.Facts.{least_key, greatest_key}
-use Rattle.lethe_version.specs.Order.{IsOrderedBy, Rise, comes_before, is_kept}
-use Rattle.lethe_version.specs.Probing.{IsNarrowed}
+use Rattle.std.proofs.Common.{◌≡◌, List, map, subst, sym, ap}
+use Rattle.lethe_version.specs.Order.{IsOrderedBy, comes_before}
+use Rattle.lethe_version.proofs.Levels.{ordered_from}
 use Rattle.lethe_version.proofs.level.level_of.Goals as goal
 
--- src/level.rt:83:1
 pub returns : goal.returns
-returns g c = ?
+returns g c =
+    ordered_from (λ one. one.file.value) (λ a b. comes_before c.args.number a.header b.header) c.args.files.items c.in_ok-shared.field-0.items c.in_ok-files.files.items c.of.result.files.items
+    c.in_ok-shared.ensures (ap (λ v. v.items) c.of.ensures) c.in_ok-files.ensures

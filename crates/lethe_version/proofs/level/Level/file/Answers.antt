@@ -1,16 +1,15 @@
-use Rattle.std.proofs.Common.{rules, ◌≡◌, ◌≢◌, ◌==◌, ◌++◌, map, filter, find, IsTrue, IfOk, ℕ, ◌+◌, ◌-◌, ◌*◌, ◌<◌, ◌≤◌, length, ◌/◌, ◌%◌, Bool, true, false, nat_eq, nat_lt, List, [], ◌∷◌, slice_index_or, slice_set, bit_and, bit_or, Fits, w8, w32, w64, Bor, MutBor}
-use Rattle.std.specs.Option.{option_copied}
-use Rattle.std.specs.Ordering.{is_lt}
-use Rattle.lethe_base.specs.Keys.{key_cmp}
-use Rattle.lethe_header.specs.Facts.{least_key, greatest_key}
-use Rattle.lethe_version.specs.Order.{IsOrderedBy, Rise, comes_before, is_kept}
-use Rattle.lethe_version.specs.Probing.{IsNarrowed}
+use Rattle.std.proofs.Common.{◌≡◌, ℕ, Some, eqb, ap, sym, ◌∙◌}
+use Rattle.std.proofs.lemmas.Bool.{eq-eqb, ne_eqb}
+use Rattle.lethe_version.proofs.Levels.{found_at, not_found}
 use Rattle.lethe_version.proofs.level.Level.file.Goals as goal
 
--- src/level.rt:75:17
 pub returns-then-no : goal.returns-then-no
-returns-then-no g c = ?
+returns-then-no g c =
+    ap Some c.file.ensures
+    ∙ sym (found_at (λ shared. shared.file.value) (λ file. eqb file.header.no c.args.no) c.args.self.now.files.items c.deref-file-items.result.now c.deref-file-items.ensures.value c.loop-file.file-index c.file-item.result c.loop-file-test.true c.file-item.is c.loop-file.invariant
+    (eq-eqb _ _ (sym c.no.ensures ∙ c.if-no.true)))
 
--- src/level.rt:73:9
 pub loop-file-preserved : goal.loop-file-preserved
-loop-file-preserved g c = ?
+loop-file-preserved g c =
+    not_found (λ shared. shared.file.value) (λ file. eqb file.header.no c.args.no) c.args.self.now.files.items c.deref-file-items.result.now c.deref-file-items.ensures.value c.loop-file.file-index c.file-item.result c.loop-file-test.true c.file-item.is c.loop-file.invariant
+    (ne_eqb _ _ (λ same. c.if-no.false (c.no.ensures ∙ same)))

@@ -1,22 +1,20 @@
-use Rattle.std.proofs.Common.{rules, ◌≡◌, ◌≢◌, ◌↔◌, ◌+◌, ◌<◌, ◌≤◌, ◌++◌, ◌==◌, ℕ, IsTrue, map, find, length, slice_index_or, sum_by, All, Any, IfOk, IsErrOf, ◌-◌, ◌*◌, ◌/◌, ◌%◌, Bool, true, false, nat_eq, nat_lt, List, [], ◌∷◌, slice_set, bit_and, bit_or, Fits, w8, w32, w64, Bor, MutBor}
+use Rattle.std.proofs.Common.{◌≡◌, ℕ, List, Some, None, eqb, map, ap, sym, ◌∙◌}
+use Rattle.std.specs.Prelude.{find}
 use Rattle.std.specs.Option.{option_copied}
-use Rattle.lethe_base.specs.declared.name.Name.{Name}
-use Rattle.lethe_disk.specs.Reads.{HasReadCause, IsFault}
-use Rattle.lethe_disk.specs.declared.cursor.ReadRefused.TheVariants.{Damaged}
-use Rattle.lethe_version.specs.Newest.{IsNewestIn}
-use Rattle.lethe_version.specs.Probing.{bound}
-use Rattle.lethe_version.specs.Search.{NamesPage}
-use Rattle.lethe_version.specs.Versions.{AreInOrder, HasKey, IsSound, entries_of, files_of, levels_of, without}
+use Rattle.lethe_version.proofs.Whole.{end_whole, none_found, some_found}
 use Rattle.lethe_version.proofs.version.Version.file.Goals as goal
 
--- src/version.rt:108:17
 pub returns-in-Some : goal.returns-in-Some
-returns-in-Some g c = ?
+returns-in-Some g c =
+    sym (some_found (λ level. map (λ shared. shared.file.value) level.files.items) c.args.self.now.levels.items c.deref-level-items.result.now c.deref-level-items.ensures.value c.loop-level.level-index c.level-item.result c.loop-level-test.true c.level-item.is
+    (λ file. eqb file.header.no c.args.no) c.in-Some.file.now c.loop-level.invariant (sym c.in-Some.ensures))
 
--- src/version.rt:106:9
 pub loop-level-preserved : goal.loop-level-preserved
-loop-level-preserved g c = ?
+loop-level-preserved g c =
+    none_found (λ level. map (λ shared. shared.file.value) level.files.items) c.args.self.now.levels.items c.deref-level-items.result.now c.deref-level-items.ensures.value c.loop-level.level-index c.level-item.result c.loop-level-test.true c.level-item.is
+    (λ file. eqb file.header.no c.args.no) c.loop-level.invariant (sym c.file.ensures ∙ ap option_copied c.in_default.is)
 
--- src/version.rt:103:5
 pub returns : goal.returns
-returns g c = ?
+returns g c =
+    sym c.loop-level.invariant
+    ∙ ap (find (λ file. eqb file.header.no c.args.no)) (end_whole (λ level. map (λ shared. shared.file.value) level.files.items) c.args.self.now.levels.items c.deref-level-items.result.now c.deref-level-items.ensures.value c.loop-level.level-index c.loop-level-test.false)

@@ -1,18 +1,13 @@
-use Rattle.std.proofs.Common.{rules, ◌≡◌, ◌≢◌, ◌↔◌, ◌+◌, ◌<◌, ◌≤◌, ◌++◌, ◌==◌, ℕ, IsTrue, map, find, length, slice_index_or, sum_by, All, Any, IfOk, IsErrOf, ◌-◌, ◌*◌, ◌/◌, ◌%◌, Bool, true, false, nat_eq, nat_lt, List, [], ◌∷◌, slice_set, bit_and, bit_or, Fits, w8, w32, w64, Bor, MutBor}
-use Rattle.std.specs.Option.{option_copied}
-use Rattle.lethe_base.specs.declared.name.Name.{Name}
-use Rattle.lethe_disk.specs.Reads.{HasReadCause, IsFault}
-use Rattle.lethe_disk.specs.declared.cursor.ReadRefused.TheVariants.{Damaged}
-use Rattle.lethe_version.specs.Newest.{IsNewestIn}
-use Rattle.lethe_version.specs.Probing.{bound}
-use Rattle.lethe_version.specs.Search.{NamesPage}
-use Rattle.lethe_version.specs.Versions.{AreInOrder, HasKey, IsSound, entries_of, files_of, levels_of, without}
+use Rattle.std.proofs.Common.{◌≡◌, ◌<◌, ◌++◌, ◌∷◌, [], ℕ, List, length, map, ap, sym, subst, ◌∙◌, rules, arith}
+use Rattle.std.proofs.lemmas.List.{length_push}
+use Rattle.lethe_version.specs.Order.{IsOrderedBy, comes_before}
+use Rattle.lethe_version.proofs.Levels.{each_viewed, of_more}
 use Rattle.lethe_version.proofs.version.Version.of.Goals as goal
 
--- src/version.rt:37:9
 pub loop-files-preserved : goal.loop-files-preserved
 loop-files-preserved g c = ?
 
--- src/version.rt:31:5
 pub returns-clause-files : goal.returns-clause-files
-returns-clause-files g c = ?
+returns-clause-files g c = λ level given files lt.
+    let all : c.loop-files.yielded ≡ c.args.levels.items = search rules in
+    ?
