@@ -1,13 +1,14 @@
 -- Lists of files, and lists of levels.
 use Rattle.std.proofs.Common.{◌≡◌, ℕ, ◌+◌, ◌<◌, ◌≤◌, Bool, true, false, cond, List, [], ◌∷◌, ◌++◌, length, get_or, take, drop, map, Option, Some, None, inl, inr, refl, sym, ap, subst, ◌∙◌, arith}
-use Rattle.std.specs.Prelude.{filter, find}
+use Rattle.std.specs.Prelude.{◌≢◌, filter, find}
 use Rattle.std.specs.Option.{option_or}
 use Rattle.std.proofs.lemmas.Bool.{cases_lt, cond-false, cond-true}
 use Rattle.std.proofs.lemmas.List.{map-append, map_more, take-append-drop, drop_more, get_or-map, get_or_default, get_or_push, get_or_append_left, length-map, length_push}
 use Rattle.std.proofs.lemmas.List.Folds.{find-append}
 use Rattle.std.specs.List.Sorted.{ties}
 use Rattle.std.proofs.lemmas.List.Sorted.{IsPermutation-map}
-use Rattle.lethe_version.specs.Order.{IsOrderedBy}
+use Rattle.lethe_header.specs.declared.header.Header.{Header}
+use Rattle.lethe_version.specs.Order.{IsOrderedBy, comes_before, is_kept}
 
 some_of : {X : Type 0} (xs : List X) → 0 < length xs → X
 some_of [] lt = absurd (omega arith)
@@ -116,3 +117,52 @@ pub ordered_from : {S F : Type 0} (view : S → F) (lt : F → F → Bool) (give
 ordered_from {S = S} {F = F} view lt given shared sorted made given_is made_is order =
     subst (λ (l : List F). IsOrderedBy lt l (map view made)) given_is
     (subst (λ (l : List S). IsOrderedBy lt (map view shared) (map view l)) (sym made_is) (ordered_map view lt shared sorted order))
+
+-- ---- what a level becomes
+
+abbrev pub IsNext : {F : Type 0} → (F → Header) → List ℕ → List F → ℕ → ℕ → List F → List F → Type 0
+IsNext header gone added level k old new =
+    (k ≢ level → new ≡ filter (λ one. is_kept gone (header one)) old)
+    × (k ≡ level → IsOrderedBy (λ a b. comes_before k (header a) (header b)) (filter (λ one. is_kept gone (header one)) old ++ added) new)
+
+none_gone : {F : Type 0} (header : F → Header) (files : List F) → filter (λ one. is_kept [] (header one)) files ≡ files
+none_gone header [] = refl
+none_gone {F = F} header (file ∷ files) = ap (λ (l : List F). file ∷ l) (none_gone header files)
+
+-- the files that weren't gone and the added ones, put in their order
+pub placed : {S F : Type 0} (view : S → F) (header : F → Header) (level : ℕ) (gone : List ℕ) (start old seen added kept both sorted made : List S) → start ≡ [] → seen ≡ old → map view kept ≡ map view start ++ filter (λ one. is_kept gone (header one)) (map view seen)
+    → map view both ≡ map view kept ++ filter (λ one. is_kept [] (header one)) (map view added) → made ≡ sorted → IsOrderedBy (λ a b. comes_before level (header (view a)) (header (view b))) both sorted
+    → IsOrderedBy (λ a b. comes_before level (header a) (header b)) (filter (λ one. is_kept gone (header one)) (map view old) ++ map view added) (map view made)
+placed {S = S} {F = F} view header level gone start old seen added kept both sorted made start_is seen_is kept_is both_is made_is order =
+    let first : map view kept ≡ filter (λ one. is_kept gone (header one)) (map view old) =
+    kept_is ∙ ap (λ (l : List S). map view l ++ filter (λ one. is_kept gone (header one)) (map view seen)) start_is ∙ ap (λ (l : List S). filter (λ one. is_kept gone (header one)) (map view l)) seen_is in
+    let given : map view both ≡ filter (λ one. is_kept gone (header one)) (map view old) ++ map view added =
+    both_is
+    ∙ ap (λ (l : List F). l ++ filter (λ one. is_kept [] (header one)) (map view added)) first
+    ∙ ap (λ (l : List F). filter (λ one. is_kept gone (header one)) (map view old) ++ l) (none_gone header (map view added)) in
+    ordered_from view (λ a b. comes_before level (header a) (header b)) (filter (λ one. is_kept gone (header one)) (map view old) ++ map view added) both sorted made given made_is order
+
+-- a step of a loop over a list that was read
+pub each_more_at : {A B : Type 0} (P : ℕ → A → B → Type 0) (items seen : List A) → seen ≡ items → (i : ℕ) (item : A) → i < length seen → item ≡ get_or seen i item → (ys ys' : List B) (y : B) → ys' ≡ ys ++ y ∷ [] → (number : ℕ) → number ≡ length ys
+    → Each P i items ys → P number item y → Each P (i + 1) items ys'
+each_more_at {A = A} {B = B} P items seen same i item inside is ys ys' y ys'_is number number_is each holds =
+    let count : number ≡ i = number_is ∙ each.len in
+    subst (λ (l : List B). Each P (i + 1) items l) (sym ys'_is)
+    (each_more P i items ys item y each (omega (arith, inside, ap length same)) (is ∙ ap (λ (l : List A). get_or l i item) same) (subst (λ (n : ℕ). P n item y) count holds))
+
+pub each_push_at : {A B : Type 0} (P : ℕ → A → B → Type 0) (xs : List A) (x : A) (ys ys' : List B) (y : B) → ys' ≡ ys ++ y ∷ [] → (number : ℕ) → number ≡ length ys → Each P (length xs) xs ys → P number x y → Each P (length (xs ++ x ∷ [])) (xs ++ x ∷ []) ys'
+each_push_at {A = A} {B = B} P xs x ys ys' y ys'_is number number_is each holds =
+    let count : number ≡ length xs = number_is ∙ each.len in
+    let next = each_push P (length xs) xs ys x y each refl (subst (λ (n : ℕ). P n x y) count holds) in
+    subst (λ (n : ℕ). Each P n (xs ++ x ∷ []) ys') (sym (length_push xs x)) (subst (λ (l : List B). Each P (length xs + 1) (xs ++ x ∷ []) l) (sym ys'_is) next)
+
+pub all_viewed : {A B C : Type 0} (R : ℕ → A → C → Type 0) (v : B → C) (xs items : List A) (ys : List B) → xs ≡ items → Each (λ k a b. R k a (v b)) (length xs) xs ys → (k : ℕ) (a : A) (c : C) → k < length items → R k (get_or items k a) (get_or (map v ys) k c)
+all_viewed {A = A} R v xs items ys same each k a c lt =
+    subst (λ (l : List A). R k (get_or l k a) (get_or (map v ys) k c)) same (each_viewed R v (length xs) xs ys each k a c (omega (arith, lt, ap length same)))
+
+pub with_added : {S F : Type 0} (view : S → F) (header : F → Header) (gone : List ℕ) (seen added : List S) → seen ≡ added → (level k : ℕ) (old new : List F) → IsNext header gone (map view seen) level k old new → IsNext header gone (map view added) level k old new
+with_added {S = S} view header gone seen added same level k old new next = subst (λ (l : List S). IsNext header gone (map view l) level k old new) same next
+
+pub there_with : {F : Type 0} (header : F → Header) (gone : List ℕ) (added given : List F) → added ≡ given → (level : ℕ) (old new : List F) → IsNext header gone added level level old new
+    → IsOrderedBy (λ a b. comes_before level (header a) (header b)) (filter (λ one. is_kept gone (header one)) old ++ given) new
+there_with {F = F} header gone added given same level old new next = subst (λ (l : List F). IsOrderedBy (λ a b. comes_before level (header a) (header b)) (filter (λ one. is_kept gone (header one)) old ++ l) new) same (next.1 refl)

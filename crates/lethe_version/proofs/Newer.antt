@@ -1,5 +1,5 @@
 -- The newest entry among files, one file after another.
-use Rattle.std.proofs.Common.{◌≡◌, ℕ, ◌<◌, ◌≤◌, ltb, true, false, List, [], ◌∷◌, ◌++◌, length, get_or, All, Option, Some, None, refl, sym, ap, subst, ◌∙◌, arith, append_assoc}
+use Rattle.std.proofs.Common.{◌≡◌, ℕ, ◌<◌, ltb, List, [], ◌∷◌, ◌++◌, length, get_or, All, Option, Some, None, refl, sym, ap, subst, ◌∙◌, arith, append_assoc}
 use Rattle.std.proofs.lemmas.Bool.{cond_both, ltb-true, ltb-false}
 use Rattle.std.proofs.lemmas.List.Elements.{All-append, All-cons, All-nil, All-push, All-weaker}
 use Rattle.lethe_base.specs.Keys.{Bytes}
@@ -63,7 +63,7 @@ newest_taken key files file old entry (before, has, behind, is, newest) here up 
   record {
     here = here;
     first = All-weaker (AreUpTo key old.seq) (AreBelow key entry.seq) (λ f below other found. let le = below other found in omega (arith, le, lt)) files
-    (subst (λ (l : List File). All (AreUpTo key old.seq) l) (sym is) (all_up_to key before has behind old newest));
+        (subst (λ (l : List File). All (AreUpTo key old.seq) l) (sym is) (all_up_to key before has behind old newest));
     itself = up;
     rest = All-nil (AreUpTo key entry.seq);
   },

@@ -1,13 +1,12 @@
 -- No entry of a file has a greater place than its header says.
-use Rattle.std.proofs.Common.{◌≡◌, ℕ, ◌<◌, ◌≤◌, max, List, [], ◌∷◌, length, get_or, map, fold, All, Some, refl, sym, ap, subst, ◌∙◌, arith}
+use Rattle.std.proofs.Common.{◌≡◌, ℕ, ◌<◌, ◌≤◌, max, List, [], ◌∷◌, length, get_or, map, fold, All, ap, ◌∙◌, arith}
 use Rattle.std.specs.List.{AllZip}
-use Rattle.std.proofs.lemmas.List.Elements.{All-append, All-cons, All-nil, All-head, All-tail, All-weaker}
+use Rattle.std.proofs.lemmas.List.Elements.{All-cons, All-nil, All-head, All-tail, All-weaker}
 use Rattle.lethe_base.specs.Keys.{Bytes}
 use Rattle.lethe_base.specs.declared.entry.Entry.{Entry}
-use Rattle.lethe_header.specs.Facts.{lines_of, max_seq_in}
+use Rattle.lethe_header.specs.Facts.{max_seq_in}
 use Rattle.lethe_header.specs.declared.header.PageLine.{PageLine}
 use Rattle.lethe_file.specs.Agreement.{Agrees, entries_in}
-use Rattle.lethe_file.specs.Finding.{IsEntryOf}
 use Rattle.lethe_version.specs.Newest.{AreUpTo}
 
 abbrev most_from : {X : Type 0} → (X → ℕ) → ℕ → List X → ℕ

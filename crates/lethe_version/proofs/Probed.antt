@@ -1,5 +1,5 @@
 -- Files that can't have a key.
-use Rattle.std.proofs.Common.{◌≡◌, ℕ, zero, suc, ◌+◌, ◌-◌, ◌<◌, ◌≤◌, Bool, true, false, cond, List, [], ◌∷◌, ◌++◌, length, get_or, take, drop, map, All, ltb, inl, inr, refl, sym, ap, subst, ◌∙◌, arith}
+use Rattle.std.proofs.Common.{◌≡◌, ℕ, zero, suc, ◌+◌, ◌-◌, ◌<◌, ◌≤◌, Bool, true, false, cond, List, [], ◌∷◌, ◌++◌, length, get_or, take, drop, map, All, inl, inr, refl, sym, ap, subst, ◌∙◌, arith}
 use Rattle.std.specs.List.{AllZip}
 use Rattle.std.specs.Ordering.{is_le, ordering_reverse}
 use Rattle.std.specs.declared.cmp.Ordering.TheVariants.{Less, Greater}
@@ -11,12 +11,12 @@ use Rattle.std.proofs.lemmas.List.Sums.{fold-append, sum_by-cons}
 use Rattle.lethe_base.specs.Keys.{Bytes, key_cmp}
 use Rattle.lethe_base.specs.declared.entry.Entry.{Entry}
 use Rattle.lethe_header.specs.Facts.{lines_of, least_key, greatest_key}
-use Rattle.lethe_header.specs.Headers.{EachFollows, TileFollows, HasSpelling}
+use Rattle.lethe_header.specs.Headers.{TileFollows, HasSpelling}
 use Rattle.lethe_header.specs.declared.header.Header.{Header}
 use Rattle.lethe_header.specs.declared.header.PageLine.{PageLine}
 use Rattle.lethe_header.specs.declared.header.TileLine.{TileLine}
 use Rattle.lethe_header.proofs.Follows.{follows_at}
-use Rattle.lethe_file.specs.Agreement.{Agrees, FileAgrees, TileHolds, TilesHold, entries_in}
+use Rattle.lethe_file.specs.Agreement.{Agrees, TileHolds, TilesHold, entries_in}
 use Rattle.lethe_file.specs.Finding.{Lacks, IsTileOf, has_key, allows, allowed_in, allowed_pages}
 use Rattle.lethe_file.proofs.Orders.{le_less, less_le, tiles_rise}
 use Rattle.lethe_file.proofs.Pages.{not_allowed}

@@ -11,7 +11,7 @@ use Rattle.lethe_base.specs.declared.entry.Entry.{Entry}
 use Rattle.lethe_base.specs.declared.name.Name.{Name}
 use Rattle.lethe_disk.specs.Reads.{HasReadCause, IsFault}
 use Rattle.lethe_disk.specs.declared.cursor.ReadRefused.{ReadRefused}
-use Rattle.lethe_disk.specs.declared.cursor.ReadRefused.TheVariants.{Damaged, ReadFault}
+use Rattle.lethe_disk.specs.declared.cursor.ReadRefused.TheVariants.{Damaged}
 use Rattle.lethe_header.specs.Facts.{lines_of, max_seq_in}
 use Rattle.lethe_header.specs.Headers.{HasSpelling}
 use Rattle.lethe_header.specs.declared.header.Header.{Header}
@@ -19,7 +19,7 @@ use Rattle.lethe_file.specs.Agreement.{FileAgrees, entries_in}
 use Rattle.lethe_file.specs.Finding.{IsEntryOf, refused_since}
 use Rattle.lethe_file.proofs.Pages.{cause_since, damage_since, fault_since}
 use Rattle.lethe_file.proofs.Unique.{one_found}
-use Rattle.lethe_version.specs.Newest.{AreUpTo, IsNewestIn, newer_of}
+use Rattle.lethe_version.specs.Newest.{IsNewestIn, newer_of}
 use Rattle.lethe_version.specs.Probing.{bound, IsNarrowed}
 use Rattle.lethe_version.specs.Search.{IsSearch, NamesPage}
 use Rattle.lethe_version.proofs.Newer.{newest_kept, newest_lack, newest_next}
@@ -251,6 +251,10 @@ module _ {F : Type 0} (header : F → Header) (bytes : F → List (List ℕ)) (t
       → IsSearch header bytes tells can_fail key (map view some) newest f0 f1 p0 p1 result → IsSearch header bytes tells can_fail key (map view items ++ []) newest f0 f1 p0 p1 result
   level_searched view items some newest f0 f1 p0 p1 result (before, behind, is, none_before, none_behind) s =
       subst (λ (l : List F). IsSearch header bytes tells can_fail key l newest f0 f1 p0 p1 result) (sym (append-nil (map view items)))
-      (widened (map view items) (map view some) newest f0 f1 p0 p1 result
-      (map view before, map view behind, ap (map view) is ∙ map-append view before (some ++ behind) ∙ ap (λ (l : List F). map view before ++ l) (map-append view some behind),
-      All-map (λ file. pages_for file ≡ 0) view before none_before, All-map (λ file. pages_for file ≡ 0) view behind none_behind) s)
+      (widened (map view items) (map view some) newest f0 f1 p0 p1 result (
+        map view before,
+        map view behind,
+        ap (map view) is ∙ map-append view before (some ++ behind) ∙ ap (λ (l : List F). map view before ++ l) (map-append view some behind),
+        All-map (λ file. pages_for file ≡ 0) view before none_before,
+        All-map (λ file. pages_for file ≡ 0) view behind none_behind,
+      ) s)

@@ -1,5 +1,5 @@
 -- A version to its readers: its files by level, and what a file stands for.
-use Rattle.std.specs.Prelude.{◌≡◌, ◌≢◌, ◌<◌, ◌++◌, ℕ, List, map, filter, flat_map, length, slice_index_or, Some}
+use Rattle.std.specs.Prelude.{ℕ, List, map, filter, flat_map, Some}
 use Rattle.lethe_base.specs.Keys.{Bytes}
 use Rattle.lethe_base.specs.declared.entry.Entry.{Entry}
 use Rattle.lethe_disk.specs.declared.disk.Disk.{Ghosts}

@@ -1,5 +1,5 @@
-use Rattle.std.proofs.Common.{◌≡◌, List, map, subst, sym, ap}
-use Rattle.lethe_version.specs.Order.{IsOrderedBy, comes_before}
+use Rattle.std.proofs.Common.{ap}
+use Rattle.lethe_version.specs.Order.{comes_before}
 use Rattle.lethe_version.proofs.Levels.{ordered_from}
 use Rattle.lethe_version.proofs.level.level_of.Goals as goal
 

@@ -1,10 +1,10 @@
-use Rattle.std.proofs.Common.{◌≡◌, ◌<◌, ℕ, ◌∙◌, true, false, arith, rules, length, sym, ap, subst}
+use Rattle.std.proofs.Common.{◌≡◌, ◌<◌, ◌∙◌, true, false, arith, rules, length, sym, ap, subst}
 use Rattle.std.specs.Ordering.{is_lt, is_le}
 use Rattle.std.proofs.lemmas.Fn.{always_returns_same}
 use Rattle.std.proofs.lemmas.List.{get_or_default}
 use Rattle.lethe_base.specs.Keys.{key_cmp}
 use Rattle.lethe_header.specs.declared.header.TileLine.{TileLine}
-use Rattle.lethe_file.specs.Finding.{IsTileOf, allowed_in}
+use Rattle.lethe_file.specs.Finding.{allowed_in}
 use Rattle.lethe_file.proofs.Orders.{are_parted, there, nowhere}
 use Rattle.lethe_version.proofs.Probed.{none_there, only_there}
 use Rattle.lethe_version.proofs.probing.tile_of.Goals as goal

@@ -1,4 +1,4 @@
-use Rattle.std.proofs.Common.{List, map, Ok}
+use Rattle.std.proofs.Common.{map, Ok}
 use Rattle.std.proofs.lemmas.List.{map-append}
 use Rattle.lethe_version.proofs.Searched.{loop_all, loop_more, loop_refused}
 use Rattle.lethe_version.proofs.searching.find_among.Goals as goal

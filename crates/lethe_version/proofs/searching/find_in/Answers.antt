@@ -1,4 +1,4 @@
-use Rattle.std.proofs.Common.{◌≡◌, ◌++◌, [], List, map, Ok, Err, None, subst}
+use Rattle.std.proofs.Common.{map, Ok, Err, None}
 use Rattle.std.specs.List.{flat_map}
 use Rattle.std.proofs.lemmas.Grind.{flat_map-append}
 use Rattle.lethe_version.proofs.Searched.{level_searched, loop_all, loop_more, loop_refused}

@@ -1,4 +1,4 @@
-use Rattle.std.proofs.Common.{◌≡◌, ℕ, Bool, cond, eqb, true, false, sym, subst, arith}
+use Rattle.std.proofs.Common.{Bool, cond, sym, subst}
 use Rattle.std.specs.Prelude.{IfOk}
 use Rattle.std.specs.Ordering.{is_lt, nat_cmp}
 use Rattle.std.proofs.lemmas.Bool.{eq-eqb, ne_eqb}

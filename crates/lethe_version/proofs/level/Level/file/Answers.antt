@@ -1,4 +1,4 @@
-use Rattle.std.proofs.Common.{◌≡◌, ℕ, Some, eqb, ap, sym, ◌∙◌}
+use Rattle.std.proofs.Common.{Some, eqb, ap, sym, ◌∙◌}
 use Rattle.std.proofs.lemmas.Bool.{eq-eqb, ne_eqb}
 use Rattle.lethe_version.proofs.Levels.{found_at, not_found}
 use Rattle.lethe_version.proofs.level.Level.file.Goals as goal

@@ -1,4 +1,4 @@
-use Rattle.std.proofs.Common.{◌≡◌, ℕ, List, Some, None, eqb, map, ap, sym, ◌∙◌}
+use Rattle.std.proofs.Common.{eqb, map, ap, sym, ◌∙◌}
 use Rattle.std.specs.Prelude.{find}
 use Rattle.std.specs.Option.{option_copied}
 use Rattle.lethe_version.proofs.Whole.{end_whole, none_found, some_found}

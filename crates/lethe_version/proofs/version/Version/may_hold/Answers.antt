@@ -1,4 +1,4 @@
-use Rattle.std.proofs.Common.{◌≡◌, ℕ, List, true, false, ltb, map, refl, ap, sym, ◌∙◌}
+use Rattle.std.proofs.Common.{ltb, map, refl, ap, sym, ◌∙◌}
 use Rattle.std.specs.List.{list_any}
 use Rattle.lethe_version.specs.Probing.{bound}
 use Rattle.lethe_version.proofs.Whole.{end_whole, key_may, narrowed_any, none_any, not_any, some_any, some_may}
