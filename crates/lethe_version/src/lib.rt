@@ -10,3 +10,6 @@ mod version;
 
 pub use shared::Shared;
 pub use version::Version;
+
+#[cfg(test)]
+mod tests;

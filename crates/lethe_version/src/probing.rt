@@ -36,7 +36,7 @@ fn begins_by(tile: &TileLine, key: &Key) -> bool
 }
 
 /// The tile whose fence has the key, by a binary search.
-fn tile_of<'a>(tiles: &'a [TileLine], key: &Key) -> Option<&'a TileLine>
+pub fn tile_of<'a>(tiles: &'a [TileLine], key: &Key) -> Option<&'a TileLine>
     requires { EachFollows TileFollows tiles.now }
     ensures some { IfSome result (λ tile. allowed_pages key.now tiles.now ≡ allowed_in key.now tile.now.pages) }
     ensures none { IfNone result (allowed_pages key.now tiles.now ≡ 0) }
@@ -54,7 +54,7 @@ fn tile_of<'a>(tiles: &'a [TileLine], key: &Key) -> Option<&'a TileLine>
 }
 
 /// Whether the filter of one of these lines allows the key.
-fn is_allowed_in(lines: &[PageLine], key: &Key) -> bool
+pub fn is_allowed_in(lines: &[PageLine], key: &Key) -> bool
     ensures { result ≡ nat_lt 0 (allowed_in key.now lines.now) }
 {
     for line in lines {

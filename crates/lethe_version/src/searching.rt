@@ -24,7 +24,7 @@ fn can_be_newer<D: Disk>(file: &Shared<D>, newest: &Option<Entry>) -> bool
 }
 
 /// Of two entries the one of greater place, of equal places the first.
-fn newer(newest: Option<Entry>, found: Option<Entry>) -> Option<Entry>
+pub fn newer(newest: Option<Entry>, found: Option<Entry>) -> Option<Entry>
     ensures { result ≡ newer_of newest found }
 {
     match (newest, found) {
@@ -108,7 +108,7 @@ pub fn find_in<D: Disk>(
     let mut newest = None;
     for level in levels {
         match find_among::<D>(alloc, port, key, level.candidates(key), newest) {
-            Ok(newer) => newest = newer,
+            Ok(found) => newest = found,
             Err(why) => return Err(since(why, before)),
         }
     }

@@ -40,7 +40,8 @@ impl<D: Disk> Version<D> {
         Ok(Version { levels: made })
     }
 
-    /// The version without the files whose numbers are gone, and with those added in a level. The other files are shared.
+    /// The version without the files whose numbers are gone, and with those added in a level, which are put in its order. The other
+    /// files are shared, not copied.
     pub fn with(
         &self,
         alloc: Global,
@@ -99,7 +100,8 @@ impl<D: Disk> Version<D> {
         false
     }
 
-    /// The file of that number, and None where no file has it.
+    /// The file of that number, and None where no file has it. The files of a store have distinct numbers; of two of one number it
+    /// is the first.
     pub fn file(&self, no: u64) -> Option<&FileView<D>>
         ensures { option_copied result ≡ find (λ file. file.header.no == no) (files_of self.now) }
     {

@@ -18,9 +18,9 @@ loop-level-preserved g c =
     loop_more (λ file. file.header) (λ file. map (λ page. g.D.Disk.page_bytes page.value) file.pages.items) g.D.Disk.tells g.D.Disk.ports_fail c.args.key.now
     (flat_map (λ level. map (λ shared. shared.file.value) level.files.items)) (λ xs ys. flat_map-append (λ level. map (λ shared. shared.file.value) level.files.items) xs ys) c.args.levels.now c.loop-level.level-index c.level-item.result c.loop-level-test.true c.level-item.is
     None c.loop-level.newest (g.D.Disk.fetches c.args.port.now) (g.D.Disk.fetches c.loop-level.port) (g.D.Disk.fetches c.find_among.new.port) (g.D.Disk.port_faults c.args.port.now) (g.D.Disk.port_faults c.loop-level.port) (g.D.Disk.port_faults c.find_among.new.port)
-    c.loop-level.invariant c.in-Ok.newer
+    c.loop-level.invariant c.in-Ok.found
     (level_searched (λ file. file.header) (λ file. map (λ page. g.D.Disk.page_bytes page.value) file.pages.items) g.D.Disk.tells g.D.Disk.ports_fail c.args.key.now (λ shared. shared.file.value) c.level-item.result.files.items c.candidates.result.now c.loop-level.newest
-    (g.D.Disk.fetches c.loop-level.port) (g.D.Disk.fetches c.find_among.new.port) (g.D.Disk.port_faults c.loop-level.port) (g.D.Disk.port_faults c.find_among.new.port) (Ok c.in-Ok.newer) c.candidates.ensures c.in-Ok.ensures)
+    (g.D.Disk.fetches c.loop-level.port) (g.D.Disk.fetches c.find_among.new.port) (g.D.Disk.port_faults c.loop-level.port) (g.D.Disk.port_faults c.find_among.new.port) (Ok c.in-Ok.found) c.candidates.ensures c.in-Ok.ensures)
 
 pub returns : goal.returns
 returns g c =
