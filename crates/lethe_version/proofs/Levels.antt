@@ -1,14 +1,20 @@
 -- Lists of files, and lists of levels.
-use Rattle.std.proofs.Common.{◌≡◌, ℕ, ◌+◌, ◌<◌, ◌≤◌, Bool, true, false, cond, List, [], ◌∷◌, ◌++◌, length, get_or, take, drop, map, Option, Some, None, inl, inr, refl, sym, ap, subst, ◌∙◌, arith}
+use Rattle.std.proofs.Common.{◌≡◌, ℕ, ◌+◌, ◌<◌, ◌≤◌, Bool, true, false, cond, eqb, List, [], ◌∷◌, ◌++◌, length, get_or, take, drop, map, Option, Some, None, inl, inr, refl, sym, ap, subst, ◌∙◌, arith}
 use Rattle.std.specs.Prelude.{◌≢◌, filter, find}
 use Rattle.std.specs.Option.{option_or}
-use Rattle.std.proofs.lemmas.Bool.{cases_lt, cond-false, cond-true}
+use Rattle.std.proofs.lemmas.Bool.{cases_eq, cases_lt, cond-false, cond-true}
 use Rattle.std.proofs.lemmas.List.{map-append, map_more, take-append-drop, drop_more, get_or-map, get_or_default, get_or_push, get_or_append_left, length-map, length_push}
 use Rattle.std.proofs.lemmas.List.Folds.{find-append}
-use Rattle.std.specs.List.Sorted.{ties}
-use Rattle.std.proofs.lemmas.List.Sorted.{IsPermutation-map}
+use Rattle.std.specs.List.Sorted.{IsSortedBy, ties}
+use Rattle.std.proofs.lemmas.List.Kept.{IsSortedBy-filter}
+use Rattle.std.proofs.lemmas.List.Sorted.{IsPermutation-map, IsStrictWeakOrder-flip, ranks_by}
+use Rattle.std.specs.Cmp.{IsStrictWeakOrder, nat_cmp_total}
+use Rattle.std.specs.Cmp.Lexicographic.{nat_list_cmp_total}
+use Rattle.std.specs.Ordering.{is_lt, nat_cmp}
+use Rattle.lethe_base.specs.Keys.{key_cmp}
+use Rattle.lethe_header.specs.Facts.{least_key}
 use Rattle.lethe_header.specs.declared.header.Header.{Header}
-use Rattle.lethe_version.specs.Order.{IsOrderedBy, comes_before, is_kept}
+use Rattle.lethe_version.specs.Order.{IsOrderedBy, comes_before, greatest_place, is_kept}
 
 some_of : {X : Type 0} (xs : List X) → 0 < length xs → X
 some_of [] lt = absurd (omega arith)
@@ -166,3 +172,26 @@ with_added {S = S} view header gone seen added same level k old new next = subst
 pub there_with : {F : Type 0} (header : F → Header) (gone : List ℕ) (added given : List F) → added ≡ given → (level : ℕ) (old new : List F) → IsNext header gone added level level old new
     → IsOrderedBy (λ a b. comes_before level (header a) (header b)) (filter (λ one. is_kept gone (header one)) old ++ given) new
 there_with {F = F} header gone added given same level old new next = subst (λ (l : List F). IsOrderedBy (λ a b. comes_before level (header a) (header b)) (filter (λ one. is_kept gone (header one)) old ++ l) new) same (next.1 refl)
+
+-- ---- levels stay in order
+
+module _ {F : Type 0} (header : F → Header) where
+  weak : (b : Bool) → IsStrictWeakOrder (λ x y. cond b (is_lt (nat_cmp (greatest_place (header y)) (greatest_place (header x)))) (is_lt (key_cmp (least_key (header x).tiles) (least_key (header y).tiles))))
+  weak true = IsStrictWeakOrder-flip (λ x y. is_lt (nat_cmp (greatest_place (header x)) (greatest_place (header y)))) (ranks_by nat_cmp_total (λ (f : F). greatest_place (header f)))
+  weak false = ranks_by nat_list_cmp_total (λ (f : F). least_key (header f).tiles)
+
+  kept_order : (level : ℕ) (gone : List ℕ) (files : List F) → IsSortedBy (λ a b. comes_before level (header a) (header b)) files → IsSortedBy (λ a b. comes_before level (header a) (header b)) (filter (λ one. is_kept gone (header one)) files)
+  kept_order level gone files sorted = IsSortedBy-filter (λ a b. comes_before level (header a) (header b)) (weak (eqb level 0)) (λ one. is_kept gone (header one)) files sorted
+
+  pub next_order : (gone : List ℕ) (added : List F) (level k : ℕ) (old new : List F) → IsNext header gone added level k old new → IsSortedBy (λ a b. comes_before k (header a) (header b)) old → IsSortedBy (λ a b. comes_before k (header a) (header b)) new
+  next_order gone added level k old new next sorted = elim (cases_eq k level) [
+    | inl same ↦ (next.1 same).sorted
+    | inr differs ↦ subst (λ (l : List F). IsSortedBy (λ a b. comes_before k (header a) (header b)) l) (sym (next.0 differs)) (kept_order k gone old sorted)
+  ]
+
+-- what follows for each item that was made
+pub each_then : {A B C : Type 0} (R : ℕ → A → C → Type 0) (Q : ℕ → C → Type 0) (v : B → C) (xs : List A) (ys : List B) → ((k : ℕ) (a : A) (c : C) → R k a c → Q k c) → Each (λ k a b. R k a (v b)) (length xs) xs ys → (k : ℕ) (c : C) → k < length (map v ys) → Q k (get_or (map v ys) k c)
+each_then R Q v xs ys follows each k c lt =
+    let inside : k < length xs = omega (arith, lt, length-map ys v, each.len) in
+    let a = some_of xs (omega (arith, inside)) in
+    follows k (get_or xs k a) (get_or (map v ys) k c) (each_viewed R v (length xs) xs ys each k a c inside)

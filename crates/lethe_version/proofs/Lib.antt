@@ -5,3 +5,4 @@ pub mod Searched
 pub mod Rising
 pub mod Levels
 pub mod Whole
+pub mod OneNewest

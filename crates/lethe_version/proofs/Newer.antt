@@ -7,7 +7,7 @@ use Rattle.lethe_base.specs.declared.entry.Entry.{Entry}
 use Rattle.lethe_file.specs.Finding.{IsEntryOf}
 use Rattle.lethe_version.specs.Newest.{AreBelow, AreUpTo, IsNewestAt, IsNewestIn, newer_of}
 
-abbrev File : Type 0
+abbrev pub File : Type 0
 File = List (List Entry)
 
 abbrev LacksKey : Bytes → File → Type 0
@@ -48,7 +48,7 @@ newest_kept key files file entry (before, has, behind, is, newest) up = (
   record { here = newest.here; first = newest.first; itself = newest.itself; rest = All-push (AreUpTo key entry.seq) behind file newest.rest up },
 )
 
-all_up_to : (key : Bytes) (before : List File) (file : File) (behind : List File) (entry : Entry) → IsNewestAt key before file behind entry → All (AreUpTo key entry.seq) (before ++ file ∷ behind)
+pub all_up_to : (key : Bytes) (before : List File) (file : File) (behind : List File) (entry : Entry) → IsNewestAt key before file behind entry → All (AreUpTo key entry.seq) (before ++ file ∷ behind)
 all_up_to key before file behind entry newest =
     All-append (AreUpTo key entry.seq) before (file ∷ behind)
     (All-weaker (AreBelow key entry.seq) (AreUpTo key entry.seq) (λ f below other has. let lt = below other has in omega (arith, lt)) before newest.first)

@@ -29,3 +29,7 @@ abbrev pub newer_of : Option Entry → Option Entry → Option Entry
 newer_of None found = found
 newer_of (Some newest) None = Some newest
 newer_of (Some newest) (Some found) = if nat_lt newest.seq found.seq then Some found else Some newest
+
+-- the file has at most one entry of the key
+abbrev pub HasAtMostOne : Bytes → List (List Entry) → Type 0
+HasAtMostOne key file = (a b : Entry) → IsEntryOf key file (Some a) → IsEntryOf key file (Some b) → a ≡ b

@@ -1,5 +1,6 @@
 -- A version to its readers: its files by level, and what a file stands for.
-use Rattle.std.specs.Prelude.{ℕ, List, map, filter, flat_map, Some}
+use Rattle.std.specs.Prelude.{◌<◌, ℕ, List, length, slice_index_or, map, filter, flat_map, Some}
+use Rattle.std.specs.List.Sorted.{IsSortedBy}
 use Rattle.lethe_base.specs.Keys.{Bytes}
 use Rattle.lethe_base.specs.declared.entry.Entry.{Entry}
 use Rattle.lethe_disk.specs.declared.disk.Disk.{Ghosts}
@@ -40,3 +41,7 @@ without gone files = filter (λ file. is_kept gone file.header) files
 -- exactly these files, in the order of the level
 abbrev pub AreInOrder : {D Page Port : Type 0} {disk : Ghosts D Page Port} → ℕ → List (FileView D Page Port disk) → List (FileView D Page Port disk) → Type 0
 AreInOrder level given files = IsOrderedBy (λ a b. comes_before level a.header b.header) given files
+
+-- each level of the version stands in its order
+abbrev pub IsInOrder : {D Page Port : Type 0} {disk : Ghosts D Page Port} → Version D Page Port disk → Type 0
+IsInOrder {D = D} {Page = Page} {Port = Port} {disk = disk} version = (level : ℕ) (files : List (FileView D Page Port disk)) → level < length (levels_of version) → IsSortedBy (λ a b. comes_before level a.header b.header) (slice_index_or (levels_of version) level files)

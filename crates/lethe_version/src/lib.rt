@@ -1,6 +1,7 @@
 //! The files of a store by level: a version, which never changes, and what finds the newest entry of a key in it.
 #![tactic(auto)]
 
+mod laws;
 mod level;
 mod probing;
 mod searching;
@@ -8,6 +9,7 @@ mod shared;
 mod sorting;
 mod version;
 
+pub use laws::one_newest;
 pub use shared::Shared;
 pub use version::Version;
 

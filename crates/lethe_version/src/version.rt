@@ -7,7 +7,7 @@ ghost use Rattle.lethe_disk.specs.declared.cursor.ReadRefused.TheVariants.{Damag
 ghost use Rattle.lethe_version.specs.Newest.{IsNewestIn};
 ghost use Rattle.lethe_version.specs.Probing.{bound};
 ghost use Rattle.lethe_version.specs.Search.{NamesPage};
-ghost use Rattle.lethe_version.specs.Versions.{AreInOrder, HasKey, IsSound, entries_of, files_of, levels_of, without};
+ghost use Rattle.lethe_version.specs.Versions.{AreInOrder, HasKey, IsInOrder, IsSound, entries_of, files_of, levels_of, without};
 
 use crate::Shared;
 use crate::level::{Level, level_of, level_with};
@@ -32,6 +32,7 @@ impl<D: Disk> Version<D> {
         ensures count { IfOk result (λ version. length (levels_of version) ≡ length levels.items) }
         ensures files { IfOk result (λ version. (level : ℕ) (given : _) (files : _) → level < length levels.items
             → AreInOrder level (slice_index_or levels.items level given).items (slice_index_or (levels_of version) level files)) }
+        ensures order { IfOk result IsInOrder }
     {
         let mut made = Vec::new(alloc);
         for files in levels {
@@ -55,6 +56,7 @@ impl<D: Disk> Version<D> {
             → slice_index_or (levels_of version) other files ≡ without gone.now (slice_index_or (levels_of self.now) other files)) }
         ensures files { IfOk result (λ version. (files : _)
             → AreInOrder level (without gone.now (slice_index_or (levels_of self.now) level files) ++ added.items) (slice_index_or (levels_of version) level files)) }
+        ensures order { IsInOrder self.now → IfOk result IsInOrder }
     {
         let added = shared(alloc, added)?;
         let mut made = Vec::new(alloc);
