@@ -1,0 +1,5 @@
+pub mod Newest
+pub mod Order
+pub mod Probing
+pub mod Search
+pub mod Versions

@@ -1,0 +1,17 @@
+//! The files of a store by level: a version, which never changes, and what finds the newest entry of a key in it.
+#![tactic(auto)]
+
+mod laws;
+mod level;
+mod probing;
+mod searching;
+mod shared;
+mod sorting;
+mod version;
+
+pub use laws::one_newest;
+pub use shared::Shared;
+pub use version::Version;
+
+#[cfg(test)]
+mod tests;
