@@ -9,6 +9,7 @@ use Rattle.lethe_header.specs.declared.header.TileLine.{TileLine}
 use Rattle.lethe_page.specs.Pages.{page_bytes}
 use Rattle.lethe_file.specs.Agreement.{IsChecked, check_of, entries_in}
 use Rattle.lethe_file.specs.Between.{is_in, meets}
+use Rattle.lethe_file.specs.declared.unread.Unread.{Unread}
 use Rattle.lethe_file.specs.declared.holding.HeldPage.{HeldPage}
 use Rattle.lethe_file.specs.declared.page.PageCheck.{PageCheck}
 
@@ -57,6 +58,16 @@ pub record IsSound (tells : Type 0) (lo : Bytes) (hi : Option Bytes) (tiles : Li
   pub told : tells
   pub pages : All (All IsWritten) tiles
   pub ascending : IsAscending (left_of lo hi tiles entries)
+
+-- the same of a whole cursor, over a kind of disk whose pages have these bytes
+abbrev pub left_in : {P : Type 0} → (P → List ℕ) → Unread P → List Entry
+left_in bytes_of unread = left_of unread.range.lo unread.range.hi (waiting bytes_of unread.tiles.items) unread.entries.items
+
+abbrev pub awaited_in : {P : Type 0} → (P → List ℕ) → Unread P → List ℕ
+awaited_in bytes_of unread = awaited (waiting bytes_of unread.tiles.items)
+
+abbrev pub IsSoundIn : {P : Type 0} → Type 0 → (P → List ℕ) → Unread P → Type 0
+IsSoundIn tells bytes_of unread = IsSound tells unread.range.lo unread.range.hi (waiting bytes_of unread.tiles.items) unread.entries.items
 
 -- the pages of these lines
 abbrev pub waits_for : List PageLine → List (List ℕ) → List Waiting

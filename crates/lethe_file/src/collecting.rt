@@ -14,8 +14,9 @@ use crate::fetching::fetch_checked;
 use crate::finding::since;
 use crate::holding::HeldPage;
 use crate::range::KeyRange;
+use crate::source::PageSource;
 use lethe_base::Entry;
-use lethe_disk::{Disk, ReadRefused};
+use lethe_disk::ReadRefused;
 use std::alloc::Global;
 
 /// Puts the entries into the order of their keys.
@@ -34,26 +35,26 @@ fn keep_in(entries: &mut Vec<Entry>, range: &KeyRange)
 }
 
 /// The entries in the range of these pages, page by page.
-fn collect<D: Disk>(
+fn collect<S: PageSource>(
     alloc: Global,
-    port: &mut D::Port,
-    pages: &[HeldPage<D::Page>],
+    port: &mut S::Port,
+    pages: &[HeldPage<S::Page>],
     range: &KeyRange,
 ) -> Result<Vec<Entry>, ReadRefused>
-    ensures given { D.tells → IfOk result (λ entries. entries.items ≡ filter (λ entry. is_in range.now.lo range.now.hi entry.key)
-        (flat_map (λ page. entries_in page.bytes) (waits_in D.page_bytes pages.now))) }
-    ensures fetches { OnOk result (D.fetches port.new ≡ D.fetches port.old + length pages.now) }
-    ensures later { D.fetches port.old ≤ D.fetches port.new }
-    ensures at_most { D.fetches port.new ≤ D.fetches port.old + length pages.now }
+    ensures given { S.tells → IfOk result (λ entries. entries.items ≡ filter (λ entry. is_in range.now.lo range.now.hi entry.key)
+        (flat_map (λ page. entries_in page.bytes) (waits_in S.page_bytes pages.now))) }
+    ensures fetches { OnOk result (S.fetches port.new ≡ S.fetches port.old + length pages.now) }
+    ensures later { S.fetches port.old ≤ S.fetches port.new }
+    ensures at_most { S.fetches port.new ≤ S.fetches port.old + length pages.now }
     ensures damaged { (name : Name) → IsErrOf result (Damaged name) → Any (λ held. name ≡ page_name held.check.no) pages.now }
-    ensures undamaged { D.tells → All IsWritten (waits_in D.page_bytes pages.now) → (name : Name) → IsErrOf result (Damaged name) → ⊥ }
-    ensures cause { HasReadCause (D.port_faults port.old) (D.port_faults port.new) result }
-    ensures can_fail { IsFault result → D.ports_fail }
+    ensures undamaged { S.tells → All IsWritten (waits_in S.page_bytes pages.now) → (name : Name) → IsErrOf result (Damaged name) → ⊥ }
+    ensures cause { HasReadCause (S.port_faults port.old) (S.port_faults port.new) result }
+    ensures can_fail { IsFault result → S.ports_fail }
 {
-    let before = D::port_faults(port);
+    let before = S::count_faults(port);
     let mut all = Vec::new(alloc);
     for held in pages {
-        match fetch_checked::<D>(alloc, port, &held.check, &held.page) {
+        match fetch_checked::<S>(alloc, port, &held.check, &held.page) {
             Ok(mut entries) => {
                 keep_in(&mut entries, range);
                 all.append(&mut entries)?;
@@ -65,23 +66,23 @@ fn collect<D: Disk>(
 }
 
 /// The entries in the range of a tile's pages, the greatest key first.
-pub fn fetch_tile<D: Disk>(
+pub fn fetch_tile<S: PageSource>(
     alloc: Global,
-    port: &mut D::Port,
-    pages: &[HeldPage<D::Page>],
+    port: &mut S::Port,
+    pages: &[HeldPage<S::Page>],
     range: &KeyRange,
 ) -> Result<Vec<Entry>, ReadRefused>
-    ensures given { D.tells → IsAscending (of_waiting range.now.lo range.now.hi (waits_in D.page_bytes pages.now))
-        → IfOk result (λ entries. reverse entries.items ≡ of_waiting range.now.lo range.now.hi (waits_in D.page_bytes pages.now)) }
-    ensures fetches { OnOk result (D.fetches port.new ≡ D.fetches port.old + length pages.now) }
-    ensures later { D.fetches port.old ≤ D.fetches port.new }
-    ensures at_most { D.fetches port.new ≤ D.fetches port.old + length pages.now }
+    ensures given { S.tells → IsAscending (of_waiting range.now.lo range.now.hi (waits_in S.page_bytes pages.now))
+        → IfOk result (λ entries. reverse entries.items ≡ of_waiting range.now.lo range.now.hi (waits_in S.page_bytes pages.now)) }
+    ensures fetches { OnOk result (S.fetches port.new ≡ S.fetches port.old + length pages.now) }
+    ensures later { S.fetches port.old ≤ S.fetches port.new }
+    ensures at_most { S.fetches port.new ≤ S.fetches port.old + length pages.now }
     ensures damaged { (name : Name) → IsErrOf result (Damaged name) → Any (λ held. name ≡ page_name held.check.no) pages.now }
-    ensures undamaged { D.tells → All IsWritten (waits_in D.page_bytes pages.now) → (name : Name) → IsErrOf result (Damaged name) → ⊥ }
-    ensures cause { HasReadCause (D.port_faults port.old) (D.port_faults port.new) result }
-    ensures can_fail { IsFault result → D.ports_fail }
+    ensures undamaged { S.tells → All IsWritten (waits_in S.page_bytes pages.now) → (name : Name) → IsErrOf result (Damaged name) → ⊥ }
+    ensures cause { HasReadCause (S.port_faults port.old) (S.port_faults port.new) result }
+    ensures can_fail { IsFault result → S.ports_fail }
 {
-    let mut entries = collect::<D>(alloc, port, pages, range)?;
+    let mut entries = collect::<S>(alloc, port, pages, range)?;
     sort_by_key(&mut entries);
     entries.reverse();
     Ok(entries)

@@ -8,6 +8,7 @@ ghost use Rattle.lethe_page.specs.Pages.{page_bytes};
 ghost use Rattle.lethe_file.specs.Agreement.{IsChecked, IsPage, page_name};
 
 use crate::page::{PageCheck, PageFault, check_of, page_of};
+use crate::source::PageSource;
 use lethe_base::{Entry, Kind, Name};
 use lethe_disk::{Disk, DiskRefused, ReadRefused};
 use lethe_header::PageLine;
@@ -33,28 +34,28 @@ pub fn fetch_line<D: Disk>(
 }
 
 /// The entries of the page that is told of, with one fetch.
-pub fn fetch_checked<D: Disk>(
+pub fn fetch_checked<S: PageSource>(
     alloc: Global,
-    port: &mut D::Port,
+    port: &mut S::Port,
     check: &PageCheck,
-    page: &D::Page,
+    page: &S::Page,
 ) -> Result<Vec<Entry>, ReadRefused>
     ensures page { IfOk result (λ entries. IsChecked check.now entries.items) }
-    ensures told { D.tells → IfOk result (λ entries. D.page_bytes page.now ≡ page_bytes check.now.class entries.items) }
+    ensures told { S.tells → IfOk result (λ entries. S.page_bytes page.now ≡ page_bytes check.now.class entries.items) }
     ensures damaged { (name : Name) → IsErrOf result (Damaged name) → name ≡ page_name check.now.no }
-    ensures undamaged { D.tells → (entries : List Entry) → IsChecked check.now entries → D.page_bytes page.now ≡ page_bytes check.now.class entries
+    ensures undamaged { S.tells → (entries : List Entry) → IsChecked check.now entries → S.page_bytes page.now ≡ page_bytes check.now.class entries
         → (name : Name) → IsErrOf result (Damaged name) → ⊥ }
-    ensures fetches { D.fetches port.new ≡ D.fetches port.old + 1 }
-    ensures cause { HasReadCause (D.port_faults port.old) (D.port_faults port.new) result }
-    ensures can_fail { IsFault result → D.ports_fail }
+    ensures fetches { S.fetches port.new ≡ S.fetches port.old + 1 }
+    ensures cause { HasReadCause (S.port_faults port.old) (S.port_faults port.new) result }
+    ensures can_fail { IsFault result → S.ports_fail }
 {
-    let before = D::port_faults(port);
-    let bytes = match D::fetch(alloc, port, page) {
+    let before = S::count_faults(port);
+    let bytes = match S::fetch_bytes(alloc, port, page) {
         Ok(bytes) => bytes,
         Err(DiskRefused::Failed) => {
             return Err(ReadRefused::ReadFault {
                 before,
-                after: D::port_faults(port),
+                after: S::count_faults(port),
             });
         }
         Err(DiskRefused::NoMemory) => return Err(ReadRefused::NoMemory),

@@ -9,6 +9,8 @@ mod holding;
 mod laws;
 mod page;
 mod range;
+mod source;
+mod unread;
 mod view;
 
 pub use cursor::FileCursor;

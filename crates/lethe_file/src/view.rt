@@ -8,7 +8,7 @@ ghost use Rattle.lethe_header.specs.declared.header.PageLine.{PageLine};
 ghost use Rattle.lethe_file.specs.Agreement.{FileAgrees, IsPage, entries_in, page_name};
 ghost use Rattle.lethe_file.specs.Between.{AreBetween, numbers_between};
 ghost use Rattle.lethe_file.specs.Finding.{IsEntryOf, allowed_pages};
-ghost use Rattle.lethe_file.specs.Waiting.{awaited, waiting};
+ghost use Rattle.lethe_file.specs.Waiting.{awaited_in};
 ghost use Rattle.lethe_header.proofs.Props.{HasSpelling-prop};
 ghost use Rattle.lethe_header.specs.Headers.{HasSpelling};
 ghost use Rattle.lethe_header.specs.Facts.{lines_of, facts_of};
@@ -18,6 +18,7 @@ use crate::fetching::fetch_line;
 use crate::finding::{find_in, line_at, part_of_tile, tile_of};
 use crate::holding::hold_tiles;
 use crate::range::KeyRange;
+use crate::unread::Unread;
 use lethe_base::{Entry, FileFacts, Key, NoMemory};
 use lethe_disk::{Cursor, Disk, ReadRefused};
 use lethe_header::Header;
@@ -131,14 +132,16 @@ impl<D: Disk> FileView<D> {
             → IfOk result (λ cursor. AreBetween lo.now (option_copied hi.entry) (map entries_in (map (λ page. D.page_bytes page.value) self.now.pages.items)) (⟦<FileCursor<D> as Cursor<D>>⟧.left cursor)) }
 
         // Each page of a tile that meets the range is fetched once, and no other page.
-        ensures pages { IfOk result (λ cursor. awaited (waiting D.page_bytes cursor.tiles.items) ≡ numbers_between lo.now (option_copied hi.entry) self.now.header.tiles) }
+        ensures pages { IfOk result (λ cursor. awaited_in D.page_bytes cursor.unread ≡ numbers_between lo.now (option_copied hi.entry) self.now.header.tiles) }
     {
         let range = KeyRange::of(lo, hi)?;
         let tiles = hold_tiles::<D>(alloc, self.header.tiles.items(), &self.pages, &range)?;
         Ok(FileCursor {
-            range,
-            tiles,
-            entries: Vec::new(alloc),
+            unread: Unread {
+                range,
+                tiles,
+                entries: Vec::new(alloc),
+            },
         })
     }
 }

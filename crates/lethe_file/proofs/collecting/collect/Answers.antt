@@ -15,31 +15,31 @@ refused why = Err why
 pub loop-held-preserved : goal.loop-held-preserved
 loop-held-preserved g c =
     let all : c.append.new.self.items ≡ c.loop-held.all.items ++ c.keep_in.new.entries.items = c.in_ok-append-in-Ok.ensures.items in
-    subst (λ (es : List Entry). IsCollected g.D.Disk.page_bytes g.D.Disk.tells c.args.range.now.lo c.args.range.now.hi c.args.pages.now (c.loop-held.held-index + 1) es
-    (g.D.Disk.fetches c.args.port.now) (g.D.Disk.fetches c.fetch_checked.new.port) (g.D.Disk.port_faults c.args.port.now) (g.D.Disk.port_faults c.fetch_checked.new.port)) (sym all)
-    (collected_more g.D.Disk.page_bytes g.D.Disk.tells c.args.range.now.lo c.args.range.now.hi c.args.pages.now c.loop-held.held-index c.loop-held.all.items c.keep_in.new.entries.items c.in-Ok.entries.items
-    (g.D.Disk.fetches c.args.port.now) (g.D.Disk.fetches c.loop-held.port) (g.D.Disk.fetches c.fetch_checked.new.port)
-    (g.D.Disk.port_faults c.args.port.now) (g.D.Disk.port_faults c.loop-held.port) (g.D.Disk.port_faults c.fetch_checked.new.port) c.held-item.result
+    subst (λ (es : List Entry). IsCollected g.S.PageSource.page_bytes g.S.PageSource.tells c.args.range.now.lo c.args.range.now.hi c.args.pages.now (c.loop-held.held-index + 1) es
+    (g.S.PageSource.fetches c.args.port.now) (g.S.PageSource.fetches c.fetch_checked.new.port) (g.S.PageSource.port_faults c.args.port.now) (g.S.PageSource.port_faults c.fetch_checked.new.port)) (sym all)
+    (collected_more g.S.PageSource.page_bytes g.S.PageSource.tells c.args.range.now.lo c.args.range.now.hi c.args.pages.now c.loop-held.held-index c.loop-held.all.items c.keep_in.new.entries.items c.in-Ok.entries.items
+    (g.S.PageSource.fetches c.args.port.now) (g.S.PageSource.fetches c.loop-held.port) (g.S.PageSource.fetches c.fetch_checked.new.port)
+    (g.S.PageSource.port_faults c.args.port.now) (g.S.PageSource.port_faults c.loop-held.port) (g.S.PageSource.port_faults c.fetch_checked.new.port) c.held-item.result
     c.loop-held.invariant c.loop-held-test.true c.held-item.is c.fetch_checked.ensures.fetches c.fetch_checked.ensures.cause.later c.in-Ok.ensures.page
-    (λ told. sym (ap g.D.Disk.page_bytes c.deref.ensures) ∙ c.in-Ok.ensures.told told) c.keep_in.ensures)
+    (λ told. sym (ap g.S.PageSource.page_bytes c.deref.ensures) ∙ c.in-Ok.ensures.told told) c.keep_in.ensures)
 
 pub returns-in-Err-clause-damaged : goal.returns-in-Err-clause-damaged
 returns-in-Err-clause-damaged g c = λ name e.
-    let named = c.in-Err.ensures.damaged name (damage_since {T = Vec Entry Global} {U = Vec Entry Global} c.port_faults-before.result c.in-Err.why name (ap refused (sym c.since.ensures) ∙ e)) in
+    let named = c.in-Err.ensures.damaged name (damage_since {T = Vec Entry Global} {U = Vec Entry Global} c.count_faults-before.result c.in-Err.why name (ap refused (sym c.since.ensures) ∙ e)) in
     (c.loop-held.held-index, c.held-item.result, c.loop-held-test.true, sym c.held-item.is, named)
 
 pub returns-in-Err-clause-undamaged : goal.returns-in-Err-clause-undamaged
 returns-in-Err-clause-undamaged g c = λ told each name e.
-    let page = written_at g.D.Disk.page_bytes c.args.pages.now c.loop-held.held-index c.held-item.result (g.D.Disk.page_bytes c.deref.result.now) each c.loop-held-test.true c.held-item.is (ap g.D.Disk.page_bytes c.deref.ensures) in
-    c.in-Err.ensures.undamaged told (entries_in (g.D.Disk.page_bytes c.deref.result.now)) page.checked page.spelled name
-    (damage_since {T = Vec Entry Global} {U = Vec Entry Global} c.port_faults-before.result c.in-Err.why name (ap refused (sym c.since.ensures) ∙ e))
+    let page = written_at g.S.PageSource.page_bytes c.args.pages.now c.loop-held.held-index c.held-item.result (g.S.PageSource.page_bytes c.deref.result.now) each c.loop-held-test.true c.held-item.is (ap g.S.PageSource.page_bytes c.deref.ensures) in
+    c.in-Err.ensures.undamaged told (entries_in (g.S.PageSource.page_bytes c.deref.result.now)) page.checked page.spelled name
+    (damage_since {T = Vec Entry Global} {U = Vec Entry Global} c.count_faults-before.result c.in-Err.why name (ap refused (sym c.since.ensures) ∙ e))
 
 pub returns-in-Err-clause-cause : goal.returns-in-Err-clause-cause
 returns-in-Err-clause-cause g c =
-    let cause = cause_since {T = Vec Entry Global} {U = Vec Entry Global} (g.D.Disk.port_faults c.args.port.now) (g.D.Disk.port_faults c.loop-held.port) (g.D.Disk.port_faults c.fetch_checked.new.port) c.in-Err.why c.loop-held.invariant.risen c.in-Err.ensures.cause in
-    subst (λ (why : ReadRefused). HasReadCause {T = Vec Entry Global} (g.D.Disk.port_faults c.args.port.now) (g.D.Disk.port_faults c.fetch_checked.new.port) (Err why))
-    (ap (λ n. refused_since n c.in-Err.why) (sym c.port_faults-before.ensures) ∙ sym c.since.ensures) cause
+    let cause = cause_since {T = Vec Entry Global} {U = Vec Entry Global} (g.S.PageSource.port_faults c.args.port.now) (g.S.PageSource.port_faults c.loop-held.port) (g.S.PageSource.port_faults c.fetch_checked.new.port) c.in-Err.why c.loop-held.invariant.risen c.in-Err.ensures.cause in
+    subst (λ (why : ReadRefused). HasReadCause {T = Vec Entry Global} (g.S.PageSource.port_faults c.args.port.now) (g.S.PageSource.port_faults c.fetch_checked.new.port) (Err why))
+    (ap (λ n. refused_since n c.in-Err.why) (sym c.count_faults-before.ensures) ∙ sym c.since.ensures) cause
 
 pub returns-in-Err-clause-can_fail : goal.returns-in-Err-clause-can_fail
 returns-in-Err-clause-can_fail g c = λ fault.
-    c.in-Err.ensures.can_fail (fault_since {T = Vec Entry Global} {U = Vec Entry Global} c.port_faults-before.result c.in-Err.why (subst (λ (why : ReadRefused). IsFault {T = Vec Entry Global} (Err why)) c.since.ensures fault))
+    c.in-Err.ensures.can_fail (fault_since {T = Vec Entry Global} {U = Vec Entry Global} c.count_faults-before.result c.in-Err.why (subst (λ (why : ReadRefused). IsFault {T = Vec Entry Global} (Err why)) c.since.ensures fault))
