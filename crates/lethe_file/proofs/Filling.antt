@@ -1,7 +1,7 @@
 -- A cursor that fetches its next tile, and one that is made.
-use Rattle.std.proofs.Common.{◌≡◌, ℕ, ◌+◌, ◌-◌, ◌<◌, ◌≤◌, List, [], ◌∷◌, ◌++◌, length, get_or, take, map, All, IsPermutation, Option, Some, None, reverse, refl, sym, ap, subst, ◌∙◌, arith, append_assoc, length-append}
+use Rattle.std.proofs.Common.{◌≡◌, ℕ, ◌+◌, ◌-◌, ◌<◌, ◌≤◌, List, [], ◌∷◌, ◌++◌, length, get_or, take, map, All, Option, Some, reverse, refl, sym, ap, subst, ◌∙◌, arith, append_assoc, length-append}
 use Rattle.std.specs.Prelude.{Any, flat_map, slice_get}
-use Rattle.std.proofs.lemmas.List.{append-nil, get_or-append-add, get_or-map, get_or_append_left, length-map, map-append, reverse-append, reverse-reverse, take_all, take_more}
+use Rattle.std.proofs.lemmas.List.{get_or-append-add, get_or-map, get_or_append_left, length-map, map-append, reverse-append, reverse-reverse, take_all, take_more}
 use Rattle.std.proofs.lemmas.Option.{get_or_from_slice_get, slice_get_within}
 use Rattle.std.proofs.lemmas.List.Elements.{All-head}
 use Rattle.std.proofs.lemmas.List.Sorted.{All-permutation, IsPermutation-reverse}
@@ -31,7 +31,7 @@ module _ (lo : Bytes) (hi : Option Bytes) (tiles : List TileLine) (pages : List 
   made_sound tells told each len agree = record {
     told = told;
     pages = let written : All (All IsWritten) (reverse waits) = subst (All (All IsWritten)) (sym waits_are) (between_written lo hi tiles pages agree.pages) in
-    subst (All (All IsWritten)) (reverse-reverse waits) (All-permutation (All IsWritten) (reverse waits) (reverse (reverse waits)) (IsPermutation-reverse (reverse waits)) written);
+        subst (All (All IsWritten)) (reverse-reverse waits) (All-permutation (All IsWritten) (reverse waits) (reverse (reverse waits)) (IsPermutation-reverse (reverse waits)) written);
     ascending = (made_between each len agree).ascending;
   }
 

@@ -14,7 +14,6 @@ use Rattle.lethe_file.specs.Agreement.{IsChecked, check_of, entries_in}
 use Rattle.lethe_file.specs.Between.{is_in, meets}
 use Rattle.lethe_file.specs.Waiting.{IsWritten, Waiting, tiles_between, waiting, waits_for, waits_in}
 use Rattle.lethe_file.specs.declared.holding.HeldPage.{HeldPage}
-use Rattle.lethe_file.specs.declared.page.PageCheck.{PageCheck}
 use Rattle.lethe_file.proofs.Pages.{same_entries}
 
 -- ---- making a cursor
@@ -81,9 +80,9 @@ module _ {A : Type 0} (bytes_of : A → List ℕ) (lo : Bytes) (hi : Option Byte
   more b met behind behind_is held' held_is = record {
     len = omega (arith, ap length behind_is, length-drop (length tile.pages) rest, before.len, lines_left tiles place tile lt tile_is);
     is =
-    ap (λ (ws : List (List Waiting)). ws ++ tiles_between lo hi (drop (place + 1) tiles) (map bytes_of behind)) (held_is ∙ ap (λ (v : Bool). held ++ cond v (waits_for tile.pages (take (length tile.pages) (map bytes_of rest)) ∷ []) []) (sym met))
-    ∙ ap (λ (ps : List (List ℕ)). (held ++ cond (meets lo hi tile) (waits_for tile.pages (take (length tile.pages) (map bytes_of rest)) ∷ []) []) ++ tiles_between lo hi (drop (place + 1) tiles) ps) (ap (map bytes_of) behind_is ∙ sym (drop-map bytes_of (length tile.pages) rest))
-    ∙ tile_more lo hi tiles place tile (map bytes_of rest) held (tiles_between lo hi tiles (map bytes_of pages)) lt tile_is before.is;
+        ap (λ (ws : List (List Waiting)). ws ++ tiles_between lo hi (drop (place + 1) tiles) (map bytes_of behind)) (held_is ∙ ap (λ (v : Bool). held ++ cond v (waits_for tile.pages (take (length tile.pages) (map bytes_of rest)) ∷ []) []) (sym met))
+        ∙ ap (λ (ps : List (List ℕ)). (held ++ cond (meets lo hi tile) (waits_for tile.pages (take (length tile.pages) (map bytes_of rest)) ∷ []) []) ++ tiles_between lo hi (drop (place + 1) tiles) ps) (ap (map bytes_of) behind_is ∙ sym (drop-map bytes_of (length tile.pages) rest))
+        ∙ tile_more lo hi tiles place tile (map bytes_of rest) held (tiles_between lo hi tiles (map bytes_of pages)) lt tile_is before.is;
   }
 
   pub holding_met : meets lo hi tile ≡ true → (own behind : List A) → own ≡ take (length tile.pages) rest → behind ≡ drop (length tile.pages) rest → (held' : List (List Waiting)) → held' ≡ held ++ waits_for tile.pages (map bytes_of own) ∷ []
@@ -128,21 +127,21 @@ collected_more {P} bytes_of tells lo hi pages place all kept entries f0 f1 f2 p0
   risen = omega (arith, before.risen, risen);
   counted = omega (arith, before.counted, fetched);
   given = λ told.
-  let in_range : Entry → Bool = λ entry. is_in lo hi entry.key in
-  let each : Waiting → List Entry = λ page. entries_in page.bytes in
-  let w : Waiting = record { check = held.check; bytes = bytes_of held.page.value } in
-  let front = waits_in bytes_of (take place pages) in
-  let pages_are : take (place + 1) pages ≡ take place pages ++ held ∷ [] = take_more pages place held inside ∙ ap (λ (h : HeldPage P). take place pages ++ h ∷ []) (sym held_is) in
-  let waits : waits_in bytes_of (take (place + 1) pages) ≡ front ++ w ∷ [] =
-  ap (waits_in bytes_of) pages_are ∙ map-append (λ (h : HeldPage P). let v : Waiting = record { check = h.check; bytes = bytes_of h.page.value } in v) (take place pages) (held ∷ []) in
-  let read : entries_in (bytes_of held.page.value) ≡ entries = ap entries_in (spelled told) ∙ same_entries held.check.class entries checked.spelled in
-  let last : flat_map each (w ∷ []) ≡ entries = append-nil (entries_in (bytes_of held.page.value)) ∙ read in
-  sym (ap (λ (ws : List Waiting). filter in_range (flat_map each ws)) waits
-  ∙ ap (filter in_range) (flat_map-append each front (w ∷ []))
-  ∙ filter-append in_range (flat_map each front) (flat_map each (w ∷ []))
-  ∙ ap (λ (es : List Entry). filter in_range (flat_map each front) ++ filter in_range es) last
-  ∙ ap (λ (es : List Entry). es ++ filter in_range entries) (sym (before.given told))
-  ∙ ap (λ (es : List Entry). all ++ es) (sym kept_is));
+      let in_range : Entry → Bool = λ entry. is_in lo hi entry.key in
+      let each : Waiting → List Entry = λ page. entries_in page.bytes in
+      let w : Waiting = record { check = held.check; bytes = bytes_of held.page.value } in
+      let front = waits_in bytes_of (take place pages) in
+      let pages_are : take (place + 1) pages ≡ take place pages ++ held ∷ [] = take_more pages place held inside ∙ ap (λ (h : HeldPage P). take place pages ++ h ∷ []) (sym held_is) in
+      let waits : waits_in bytes_of (take (place + 1) pages) ≡ front ++ w ∷ [] =
+      ap (waits_in bytes_of) pages_are ∙ map-append (λ (h : HeldPage P). let v : Waiting = record { check = h.check; bytes = bytes_of h.page.value } in v) (take place pages) (held ∷ []) in
+      let read : entries_in (bytes_of held.page.value) ≡ entries = ap entries_in (spelled told) ∙ same_entries held.check.class entries checked.spelled in
+      let last : flat_map each (w ∷ []) ≡ entries = append-nil (entries_in (bytes_of held.page.value)) ∙ read in
+      sym (ap (λ (ws : List Waiting). filter in_range (flat_map each ws)) waits
+      ∙ ap (filter in_range) (flat_map-append each front (w ∷ []))
+      ∙ filter-append in_range (flat_map each front) (flat_map each (w ∷ []))
+      ∙ ap (λ (es : List Entry). filter in_range (flat_map each front) ++ filter in_range es) last
+      ∙ ap (λ (es : List Entry). es ++ filter in_range entries) (sym (before.given told))
+      ∙ ap (λ (es : List Entry). all ++ es) (sym kept_is));
 }
 
 -- the page at a place is the one that its line tells of

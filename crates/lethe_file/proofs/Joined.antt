@@ -1,5 +1,5 @@
 -- Lists end to end, and what a filter leaves of them.
-use Rattle.std.proofs.Common.{◌≡◌, ℕ, zero, suc, ◌<◌, Bool, true, false, cond, List, [], ◌∷◌, ◌++◌, length, get_or, All, AllPairs, Contains, IsTrue, refl, sym, ap, subst, ◌∙◌, inl, inr, arith}
+use Rattle.std.proofs.Common.{◌≡◌, ℕ, zero, suc, ◌<◌, Bool, true, false, cond, List, [], ◌∷◌, ◌++◌, length, get_or, All, Contains, IsTrue, refl, sym, ap, subst, ◌∙◌, inl, inr, arith}
 use Rattle.std.specs.Prelude.{Any, filter, not}
 use Rattle.std.proofs.lemmas.Bool.{true≢false}
 use Rattle.std.proofs.lemmas.List.{get_or_default}
@@ -31,7 +31,7 @@ pub from_joined : {X : Type 0} (parts : List (List X)) (x : X) → Contains (joi
 from_joined {X} parts x has =
     let P : X → Type 0 = λ y. Any (λ part. Contains part y) parts in
     let each : All (All P) parts = λ k d lt j e inside.
-      (k, get_or parts k d, lt, get_or_default parts k (get_or parts k d) d lt, Contains-get_or (get_or parts k d) j e inside) in
+    (k, get_or parts k d, lt, get_or_default parts k (get_or parts k d) d lt, Contains-get_or (get_or parts k d) j e inside) in
     All-contains P (joined parts) x (all_joined P parts each) has
 
 pub from_filter : {X : Type 0} (p : X → Bool) (xs : List X) (x : X) → Contains (filter p xs) x → Contains xs x × IsTrue (p x)

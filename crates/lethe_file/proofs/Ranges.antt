@@ -1,12 +1,12 @@
 -- The entries of a file in a range, tile by tile.
-use Rattle.std.proofs.Common.{◌≡◌, ℕ, suc, ◌+◌, ◌<◌, ◌-◌, Bool, true, false, cond, List, [], ◌∷◌, ◌++◌, length, get_or, take, drop, map, All, AllPairs, Contains, IsPermutation, Option, Some, None, IsTrue, ◌↔◌, refl, sym, ap, subst, ◌∙◌, arith, length-append}
-use Rattle.std.specs.Prelude.{Any, filter, flat_map}
+use Rattle.std.proofs.Common.{◌≡◌, ℕ, Bool, true, false, cond, List, [], ◌∷◌, ◌++◌, length, get_or, take, drop, map, All, AllPairs, IsPermutation, Option, Some, None, refl, sym, ap, subst, ◌∙◌, arith, length-append}
+use Rattle.std.specs.Prelude.{filter, flat_map}
 use Rattle.std.specs.List.{AllZip}
 use Rattle.std.specs.Ordering.{is_le, is_lt}
 use Rattle.std.specs.declared.cmp.Ordering.{Ordering}
 use Rattle.std.specs.declared.cmp.Ordering.TheVariants.{Less, Equal, Greater}
 use Rattle.std.proofs.lemmas.Bool.{and_from, and_parts, true≢false}
-use Rattle.std.proofs.lemmas.List.{append-nil, drop-map, length-drop, length-map, length-take, map-append, take-append-drop, take-map}
+use Rattle.std.proofs.lemmas.List.{drop-map, length-drop, length-take, map-append, take-append-drop, take-map}
 use Rattle.std.proofs.lemmas.List.Concat.{flat_map-append}
 use Rattle.std.proofs.lemmas.List.Elements.{All-cons, All-filter, All-head, All-nil, All-tail, filter-append}
 use Rattle.std.proofs.lemmas.List.Kept.{AllPairs-filter}
@@ -27,7 +27,7 @@ use Rattle.lethe_file.proofs.Joined.{across_joined, all_joined, filter_none, fro
 use Rattle.lethe_file.proofs.Orders.{is_key, le_less, less_le, tied, tiles_rise}
 use Rattle.lethe_file.proofs.Sorting.{in_order_pairs, in_order_same}
 use Rattle.lethe_file.proofs.Tiles.{zip_parts}
-use Rattle.lethe_file.proofs.Unique.{IsAbove, IsBelow, pairs_join, rest_above}
+use Rattle.lethe_file.proofs.Unique.{IsBelow, pairs_join, rest_above}
 
 -- ---- keys
 
@@ -144,7 +144,7 @@ module _ (lo : Bytes) (hi : Option Bytes) where
       by : (b : Bool) → meets lo hi tile ≡ b
           → IsPermutation (filter in_range (joined (map entries_in (drop (length tile.pages) pages)))) (flat_map (of_waiting lo hi) (tiles_between lo hi tiles (drop (length tile.pages) pages)))
           → IsPermutation (filter in_range (joined (map entries_in (take (length tile.pages) pages))) ++ filter in_range (joined (map entries_in (drop (length tile.pages) pages))))
-            (flat_map (of_waiting lo hi) (cond b (waits_for tile.pages (take (length tile.pages) pages) ∷ tiles_between lo hi tiles (drop (length tile.pages) pages)) (tiles_between lo hi tiles (drop (length tile.pages) pages))))
+          (flat_map (of_waiting lo hi) (cond b (waits_for tile.pages (take (length tile.pages) pages) ∷ tiles_between lo hi tiles (drop (length tile.pages) pages)) (tiles_between lo hi tiles (drop (length tile.pages) pages))))
       by true e rest =
           let own = take (length tile.pages) pages in
           let here = subst (IsPermutation (filter in_range (joined (map entries_in own)))) (sym (tile_is tile own (own_len tile tiles pages len))) (in_order_same (filter in_range (joined (map entries_in own)))) in
@@ -217,7 +217,7 @@ module _ (lo : Bytes) (hi : Option Bytes) where
       by : (b : Bool) → map (λ (page : Waiting). page.check.no) (waits_for tile.pages (take (length tile.pages) pages)) ≡ map (λ line. line.no) tile.pages
           → flat_map (λ (tile : List Waiting). map (λ (page : Waiting). page.check.no) tile) (tiles_between lo hi tiles (drop (length tile.pages) pages)) ≡ numbers_between lo hi tiles
           → flat_map (λ (tile : List Waiting). map (λ (page : Waiting). page.check.no) tile) (cond b (waits_for tile.pages (take (length tile.pages) pages) ∷ tiles_between lo hi tiles (drop (length tile.pages) pages)) (tiles_between lo hi tiles (drop (length tile.pages) pages)))
-            ≡ map (λ line. line.no) (lines_of (cond b (tile ∷ filter (meets lo hi) tiles) (filter (meets lo hi) tiles)))
+          ≡ map (λ line. line.no) (lines_of (cond b (tile ∷ filter (meets lo hi) tiles) (filter (meets lo hi) tiles)))
       by true here rest = ap (λ (ns : List ℕ). ns ++ flat_map (λ (tile : List Waiting). map (λ (page : Waiting). page.check.no) tile) (tiles_between lo hi tiles (drop (length tile.pages) pages))) here
           ∙ ap (λ (ns : List ℕ). map (λ line. line.no) tile.pages ++ ns) rest ∙ sym (map-append (λ (line : PageLine). line.no) tile.pages (lines_of (filter (meets lo hi) tiles)))
       by false here rest = rest

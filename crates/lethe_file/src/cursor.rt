@@ -25,11 +25,7 @@ impl<D: Disk> Cursor<D> for FileCursor<D> {
 
     ghost left = { λ c. left_in D.page_bytes c.unread };
 
-    fn next(
-        &mut self,
-        alloc: Global,
-        port: &mut D::Port,
-    ) -> Result<Option<Entry>, ReadRefused>
+    fn next(&mut self, alloc: Global, port: &mut D::Port) -> Result<Option<Entry>, ReadRefused>
         ensures given { D.tells → IsSoundIn D.tells D.page_bytes self.old.unread → IfOk result (λ next. IsNext next (left_in D.page_bytes self.old.unread) (left_in D.page_bytes self.new.unread)) }
 
         // A call that is refused may be made again.

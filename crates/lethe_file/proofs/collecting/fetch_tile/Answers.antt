@@ -1,4 +1,4 @@
-use Rattle.std.proofs.Common.{◌≡◌, List, reverse, ap, subst, sym, ◌∙◌}
+use Rattle.std.proofs.Common.{List, reverse, ap, subst, sym, ◌∙◌}
 use Rattle.std.proofs.lemmas.List.{reverse-reverse}
 use Rattle.lethe_base.specs.Entries.{IsAscending}
 use Rattle.lethe_base.specs.declared.entry.Entry.{Entry}

@@ -1,6 +1,5 @@
-use Rattle.std.proofs.Common.{◌≡◌, ◌<◌, List, ℕ, length, map, ap, sym, ◌∙◌, arith}
+use Rattle.std.proofs.Common.{◌≡◌, ◌<◌, length, map, ap, sym, ◌∙◌, arith}
 use Rattle.std.proofs.lemmas.List.{get_or-map, length-map}
-use Rattle.lethe_file.proofs.Ranges.{are_between}
 use Rattle.lethe_file.proofs.Held.{page_pushed}
 use Rattle.lethe_file.proofs.holding.hold_pages.Goals as goal
 

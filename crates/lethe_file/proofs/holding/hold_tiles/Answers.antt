@@ -1,9 +1,9 @@
-use Rattle.std.proofs.Common.{◌≡◌, ◌+◌, ◌≤◌, ◌++◌, ◌∷◌, [], List, length, take, drop, map, ap, sym, subst, ◌∙◌, arith}
+use Rattle.std.proofs.Common.{◌≡◌, ◌++◌, ◌∷◌, [], List, length, take, drop, map, ap, sym, subst, ◌∙◌, arith}
 use Rattle.std.proofs.lemmas.List.{map-append}
 use Rattle.std.specs.declared.alloc.Global.{Global}
 use Rattle.std.specs.declared.sync.Arc.{Arc}
 use Rattle.lethe_file.specs.Waiting.{Waiting, waiting, waits_for, waits_in}
-use Rattle.lethe_file.proofs.Held.{IsHolding, enough, holding_all, holding_met, holding_missed, holding_none, own_are}
+use Rattle.lethe_file.proofs.Held.{IsHolding, enough, holding_all, holding_met, holding_missed, holding_none}
 use Rattle.lethe_file.proofs.holding.hold_tiles.Goals as goal
 use Rattle.lethe_file.proofs.holding.hold_tiles.Goals.{then-meets+in_ok-hold_pages+in_ok-push, else-meets}
 

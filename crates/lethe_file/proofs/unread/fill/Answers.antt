@@ -1,4 +1,4 @@
-use Rattle.std.proofs.Common.{◌≡◌, ◌-◌, ℕ, List, [], Vec, Result, Err, Option, Some, length, take, reverse, ap, refl, sym, subst, ◌∙◌}
+use Rattle.std.proofs.Common.{◌≡◌, ◌-◌, ℕ, [], Vec, Result, Err, Some, length, take, reverse, ap, refl, sym, subst, ◌∙◌}
 use Rattle.std.specs.Prelude.{slice_get}
 use Rattle.std.proofs.lemmas.Bool.{eqb-true}
 use Rattle.std.specs.declared.alloc.Global.{Global}
@@ -31,12 +31,11 @@ loop-alloc-preserved-in-Ok g c =
     let at = ap Some c.items.ensures ∙ c.in-Some.ensures.value ∙ ap (λ l. slice_get l (length l - 1)) c.deref.ensures.value in
     let none : entries.items ≡ [] = empty_is entries.items (sym entries.ok.0 ∙ eqb-true entries.len 0 (sym c.loop-alloc-test.ensures)) in
     let popped = c.pop.ensures.rest ∙ ap (λ n. take (n - 1) tiles) c.loop-alloc.unread.tiles.ok.0 in
-    let given = subst (λ (r : KeyRange). g.S.PageSource.tells → IsAscending (of_waiting r.lo r.hi (waits_in g.S.PageSource.page_bytes tile)) → reverse c.in-Ok.entries.items ≡ of_waiting r.lo r.hi (waits_in g.S.PageSource.page_bytes tile)) c.loop-alloc.invariant.0 c.in-Ok.ensures.given in
-    (
+    let given = subst (λ (r : KeyRange). g.S.PageSource.tells → IsAscending (of_waiting r.lo r.hi (waits_in g.S.PageSource.page_bytes tile)) → reverse c.in-Ok.entries.items ≡ of_waiting r.lo r.hi (waits_in g.S.PageSource.page_bytes tile)) c.loop-alloc.invariant.0 c.in-Ok.ensures.given in (
       c.loop-alloc.invariant.0,
       turn g.S.PageSource.page_bytes g.S.PageSource.tells lo hi (waiting g.S.PageSource.page_bytes c.args.unread.now.tiles.items) c.args.unread.now.entries.items tiles entries.items
-      (g.S.PageSource.fetches c.args.port.now) (g.S.PageSource.fetches c.loop-alloc.port) (g.S.PageSource.port_faults c.args.port.now) (g.S.PageSource.port_faults c.loop-alloc.port) c.loop-alloc.invariant.1 tile at
-      c.pop.new.self.items c.in-Ok.entries.items (g.S.PageSource.fetches c.fetch_tile.new.port) (g.S.PageSource.port_faults c.fetch_tile.new.port) popped none c.in-Ok.ensures.fetches c.in-Ok.ensures.cause.later given,
+          (g.S.PageSource.fetches c.args.port.now) (g.S.PageSource.fetches c.loop-alloc.port) (g.S.PageSource.port_faults c.args.port.now) (g.S.PageSource.port_faults c.loop-alloc.port) c.loop-alloc.invariant.1 tile at
+          c.pop.new.self.items c.in-Ok.entries.items (g.S.PageSource.fetches c.fetch_tile.new.port) (g.S.PageSource.port_faults c.fetch_tile.new.port) popped none c.in-Ok.ensures.fetches c.in-Ok.ensures.cause.later given,
     )
 
 pub loop-alloc-preserved : goal.loop-alloc-preserved
@@ -49,12 +48,11 @@ loop-alloc-preserved g c =
     let at = ap Some c.items.ensures ∙ c.in-Some.ensures.value ∙ ap (λ l. slice_get l (length l - 1)) c.deref.ensures.value in
     let none : entries.items ≡ [] = empty_is entries.items (sym entries.ok.0 ∙ eqb-true entries.len 0 (sym c.loop-alloc-test.ensures)) in
     let popped = c.pop.ensures.rest ∙ ap (λ n. take (n - 1) tiles) c.loop-alloc.unread.tiles.ok.0 in
-    let given = subst (λ (r : KeyRange). g.S.PageSource.tells → IsAscending (of_waiting r.lo r.hi (waits_in g.S.PageSource.page_bytes tile)) → reverse c.in-Ok.entries.items ≡ of_waiting r.lo r.hi (waits_in g.S.PageSource.page_bytes tile)) c.loop-alloc.invariant.0 c.in-Ok.ensures.given in
-    (
+    let given = subst (λ (r : KeyRange). g.S.PageSource.tells → IsAscending (of_waiting r.lo r.hi (waits_in g.S.PageSource.page_bytes tile)) → reverse c.in-Ok.entries.items ≡ of_waiting r.lo r.hi (waits_in g.S.PageSource.page_bytes tile)) c.loop-alloc.invariant.0 c.in-Ok.ensures.given in (
       c.loop-alloc.invariant.0,
       turn g.S.PageSource.page_bytes g.S.PageSource.tells lo hi (waiting g.S.PageSource.page_bytes c.args.unread.now.tiles.items) c.args.unread.now.entries.items tiles entries.items
-      (g.S.PageSource.fetches c.args.port.now) (g.S.PageSource.fetches c.loop-alloc.port) (g.S.PageSource.port_faults c.args.port.now) (g.S.PageSource.port_faults c.loop-alloc.port) c.loop-alloc.invariant.1 tile at
-      c.pop.new.self.items c.in-Ok.entries.items (g.S.PageSource.fetches c.fetch_tile.new.port) (g.S.PageSource.port_faults c.fetch_tile.new.port) popped none c.in-Ok.ensures.fetches c.in-Ok.ensures.cause.later given,
+          (g.S.PageSource.fetches c.args.port.now) (g.S.PageSource.fetches c.loop-alloc.port) (g.S.PageSource.port_faults c.args.port.now) (g.S.PageSource.port_faults c.loop-alloc.port) c.loop-alloc.invariant.1 tile at
+          c.pop.new.self.items c.in-Ok.entries.items (g.S.PageSource.fetches c.fetch_tile.new.port) (g.S.PageSource.port_faults c.fetch_tile.new.port) popped none c.in-Ok.ensures.fetches c.in-Ok.ensures.cause.later given,
     )
 
 pub returns-in-Err-clause-at_most : goal.returns-in-Err-clause-at_most

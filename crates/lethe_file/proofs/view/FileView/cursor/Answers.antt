@@ -1,4 +1,4 @@
-use Rattle.std.proofs.Common.{◌≡◌, ℕ, List, Option, length, map, reverse, ap, sym, subst, ◌∙◌}
+use Rattle.std.proofs.Common.{◌≡◌, List, Option, length, map, reverse, ap, subst, ◌∙◌}
 use Rattle.std.specs.Option.{option_copied}
 use Rattle.std.proofs.lemmas.List.{length-map}
 use Rattle.std.specs.declared.alloc.Global.{Global}
@@ -8,7 +8,7 @@ use Rattle.lethe_header.specs.Facts.{lines_of}
 use Rattle.lethe_header.specs.declared.header.TileLine.{TileLine}
 use Rattle.lethe_file.specs.Agreement.{entries_in}
 use Rattle.lethe_file.specs.Between.{AreBetween, numbers_between}
-use Rattle.lethe_file.specs.Waiting.{awaited, left_of, tiles_between, waiting}
+use Rattle.lethe_file.specs.Waiting.{left_of, tiles_between, waiting}
 use Rattle.lethe_file.proofs.Filling.{made_between, made_numbers, made_sound}
 use Rattle.lethe_file.proofs.view.FileView.cursor.Goals as goal
 
