@@ -1,6 +1,7 @@
 //! A file of two tiles on a disk in memory: written, found through, read in order, and its damaged pages told.
 ghost use Rattle.std.specs.Prelude.{◌≡◌, length, IfOk, IsTrue};
 ghost use Rattle.lethe_header.specs.Facts.{lines_of};
+ghost use Rattle.lethe_header.specs.Headers.{HasSpelling};
 
 use lethe_base::{Body, Config, Entry, Fields, Key, Kind, Name, Pick};
 use lethe_disk::{Cursor, Disk, ReadRefused};
@@ -95,12 +96,22 @@ fn has_five_lines(header: &Header) -> bool
     }
 }
 
-// The file, some pages of which are torn.
-fn open_file(alloc: Global, torn: &[u64]) -> Result<(FileView<MemDisk>, MemPort), Fail> {
-    let header = read_header(alloc, &FILE).ok().ok_or("a header")?;
+fn file_header(alloc: Global) -> Result<Header, Fail>
+    ensures spelled { IfOk result HasSpelling }
+    ensures lines { IfOk result (λ header. length (lines_of header.tiles) ≡ 5) }
+{
+    let Ok(header) = read_header(alloc, &FILE) else {
+        return Err(Fail::new("a header"));
+    };
     if !has_five_lines(&header) {
         return Err(Fail::new("five lines"));
     }
+    Ok(header)
+}
+
+// The file, some pages of which are torn.
+fn open_file(alloc: Global, torn: &[u64]) -> Result<(FileView<MemDisk>, MemPort), Fail> {
+    let header = file_header(alloc)?;
     let mut disk = MemDisk::new(alloc, 100, Vec::new(alloc))?;
     let pages = vec![in alloc;
         page_on(alloc, &mut disk, 1, &PAGE_AC, torn)?,
