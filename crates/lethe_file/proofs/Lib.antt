@@ -3,3 +3,8 @@ pub mod Allowed
 pub mod Pages
 pub mod Tiles
 pub mod Unique
+pub mod Sorting
+pub mod Joined
+pub mod Ranges
+pub mod Held
+pub mod Filling

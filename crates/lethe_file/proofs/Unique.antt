@@ -26,19 +26,19 @@ apart x y lt same =
 
 -- ---- pages
 
-pairs_join : {X : Type 0} (R : X → X → Type 0) (xs ys : List X) → AllPairs R xs → AllPairs R ys → Across R xs ys → AllPairs R (xs ++ ys)
+pub pairs_join : {X : Type 0} (R : X → X → Type 0) (xs ys : List X) → AllPairs R xs → AllPairs R ys → Across R xs ys → AllPairs R (xs ++ ys)
 pairs_join R [] ys p q across = q
 pairs_join R (x ∷ xs) ys p q across =
     AllPairs-cons R x (xs ++ ys) (All-append (R x) xs ys (pairs_head R x xs p) (All-head (λ x. All (R x) ys) x xs across))
     (pairs_join R xs ys (pairs_tail R x xs p) q (All-tail (λ x. All (R x) ys) x xs across))
 
-abbrev IsAbove : Bytes → List Entry → Type 0
+abbrev pub IsAbove : Bytes → List Entry → Type 0
 IsAbove key page = All (λ entry. key_cmp key entry.key ≡ Less) page
 
-abbrev IsBelow : TileLine → TileLine → Type 0
+abbrev pub IsBelow : TileLine → TileLine → Type 0
 IsBelow tile later = key_cmp tile.hi later.lo ≡ Less
 
-rest_above : (hi : Bytes) (tiles : List TileLine) (pages : List (List Entry)) → TilesHold tiles pages → All (λ tile. key_cmp hi tile.lo ≡ Less) tiles → All (IsAbove hi) pages
+pub rest_above : (hi : Bytes) (tiles : List TileLine) (pages : List (List Entry)) → TilesHold tiles pages → All (λ tile. key_cmp hi tile.lo ≡ Less) tiles → All (IsAbove hi) pages
 rest_above hi [] pages holds above = λ k d lt. absurd (omega (arith, ap length holds, lt))
 rest_above hi (tile ∷ tiles) pages holds above =
     let n = length tile.pages in

@@ -19,6 +19,7 @@ use Rattle.lethe_base.specs.declared.name.Name.{Name}
 use Rattle.lethe_header.specs.Facts.{lines_of}
 use Rattle.lethe_header.specs.declared.header.PageLine.{PageLine}
 use Rattle.lethe_header.specs.declared.header.TileLine.{TileLine}
+use Rattle.lethe_file.specs.declared.page.PageCheck.{PageCheck}
 
 abbrev pub entries_read : Result (Class × List Entry) PageRefused → List Entry
 entries_read (Ok page) = page.1
@@ -28,11 +29,19 @@ entries_read (Err why) = []
 abbrev pub entries_in : List ℕ → List Entry
 entries_in bytes = entries_read (page_at bytes)
 
--- the page whose entries these are, and which is spelled by bytes of its line's digest
-pub record IsPage (line : PageLine) (entries : List Entry) : Type 0 where
-  pub spelled : pages.HasSpelling line.class entries
-  pub len : length entries ≡ line.entries
-  pub digest : sha256 (page_bytes line.class entries) ≡ line.digest
+-- what a line tells of its page that a fetch compares
+abbrev pub check_of : PageLine → PageCheck
+check_of line = record { no = line.no; class = line.class; entries = line.entries; digest = line.digest }
+
+-- the page whose entries these are, and which is spelled by bytes of that digest
+pub record IsChecked (check : PageCheck) (entries : List Entry) : Type 0 where
+  pub spelled : pages.HasSpelling check.class entries
+  pub len : length entries ≡ check.entries
+  pub digest : sha256 (page_bytes check.class entries) ≡ check.digest
+
+-- the page that the line tells of has these entries
+abbrev pub IsPage : PageLine → List Entry → Type 0
+IsPage line entries = IsChecked (check_of line) entries
 
 -- a fence with one delete key more
 abbrev pub fence_with : Option (ℕ × ℕ) → Body → Option (ℕ × ℕ)

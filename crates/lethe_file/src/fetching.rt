@@ -5,9 +5,10 @@ ghost use Rattle.lethe_base.specs.declared.name.Name.{Name};
 ghost use Rattle.lethe_disk.specs.Reads.{HasReadCause, IsFault};
 ghost use Rattle.lethe_disk.specs.declared.cursor.ReadRefused.TheVariants.{Damaged};
 ghost use Rattle.lethe_page.specs.Pages.{page_bytes};
-ghost use Rattle.lethe_file.specs.Agreement.{IsPage, page_name};
+ghost use Rattle.lethe_file.specs.Agreement.{IsChecked, IsPage, page_name};
 
-use crate::page::{PageFault, page_of};
+use crate::page::{PageCheck, PageFault, check_of, page_of};
+use crate::source::PageSource;
 use lethe_base::{Entry, Kind, Name};
 use lethe_disk::{Disk, DiskRefused, ReadRefused};
 use lethe_header::PageLine;
@@ -29,23 +30,42 @@ pub fn fetch_line<D: Disk>(
     ensures cause { HasReadCause (D.port_faults port.old) (D.port_faults port.new) result }
     ensures can_fail { IsFault result → D.ports_fail }
 {
-    let before = D::port_faults(port);
-    let bytes = match D::fetch(alloc, port, page) {
+    fetch_checked::<D>(alloc, port, &check_of(line), page)
+}
+
+/// The entries of the page that is told of, with one fetch.
+pub fn fetch_checked<S: PageSource>(
+    alloc: Global,
+    port: &mut S::Port,
+    check: &PageCheck,
+    page: &S::Page,
+) -> Result<Vec<Entry>, ReadRefused>
+    ensures page { IfOk result (λ entries. IsChecked check.now entries.items) }
+    ensures told { S.tells → IfOk result (λ entries. S.page_bytes page.now ≡ page_bytes check.now.class entries.items) }
+    ensures damaged { (name : Name) → IsErrOf result (Damaged name) → name ≡ page_name check.now.no }
+    ensures undamaged { S.tells → (entries : List Entry) → IsChecked check.now entries → S.page_bytes page.now ≡ page_bytes check.now.class entries
+        → (name : Name) → IsErrOf result (Damaged name) → ⊥ }
+    ensures fetches { S.fetches port.new ≡ S.fetches port.old + 1 }
+    ensures cause { HasReadCause (S.port_faults port.old) (S.port_faults port.new) result }
+    ensures can_fail { IsFault result → S.ports_fail }
+{
+    let before = S::count_faults(port);
+    let bytes = match S::fetch_bytes(alloc, port, page) {
         Ok(bytes) => bytes,
         Err(DiskRefused::Failed) => {
             return Err(ReadRefused::ReadFault {
                 before,
-                after: D::port_faults(port),
+                after: S::count_faults(port),
             });
         }
         Err(DiskRefused::NoMemory) => return Err(ReadRefused::NoMemory),
     };
-    match page_of(alloc, line, &bytes) {
+    match page_of(alloc, check, &bytes) {
         Ok(entries) => Ok(entries),
         Err(PageFault::Other) => Err(ReadRefused::Damaged {
             name: Name {
                 kind: Kind::Page,
-                no: line.no,
+                no: check.no,
             },
         }),
         Err(PageFault::NoMemory) => Err(ReadRefused::NoMemory),

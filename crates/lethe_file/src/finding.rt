@@ -52,7 +52,7 @@ fn entry_of(mut entries: Vec<Entry>, key: &Key) -> Option<Entry>
 }
 
 /// A refusal with the count of faults before an earlier fetch.
-fn since(why: ReadRefused, before: u64) -> ReadRefused
+pub fn since(why: ReadRefused, before: u64) -> ReadRefused
     ensures { result ≡ refused_since before why }
 {
     match why {

@@ -1,7 +1,7 @@
 ghost use Rattle.lethe_header.specs.Headers.{HasSpelling};
 
 use crate::finding::tile_of;
-use crate::page::{PageFault, page_of};
+use crate::page::{PageFault, check_of, page_of};
 use lethe_base::Key;
 use lethe_header::{Header, read_header};
 use std::alloc::Global;
@@ -28,14 +28,14 @@ fn a_page_is_read_where_it_is_the_one_of_its_line(rt: HostRuntime) -> Result<(),
         return Err(Fail::new("two lines"));
     };
     for (line, bytes, seq) in [(first, &PAGE_AC, 1), (second, &PAGE_BD, 2)] {
-        let entries = page_of(alloc, line, bytes).ok().ok_or("a page")?;
+        let entries = page_of(alloc, &check_of(line), bytes).ok().ok_or("a page")?;
         assert_eq!(rt; entries.first().map(|entry| entry.seq), Some(seq));
         assert_eq!(rt; entries.len(), 2);
     }
     let mut torn = PAGE_AC;
     torn[53] = b'y';
     for bytes in [&PAGE_BD, &torn] {
-        let why = page_of(alloc, first, bytes).err();
+        let why = page_of(alloc, &check_of(first), bytes).err();
         assert_eq!(rt; why, Some(PageFault::Other));
     }
     Ok(())

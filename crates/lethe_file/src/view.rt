@@ -6,15 +6,21 @@ ghost use Rattle.lethe_disk.specs.Reads.{HasReadCause, IsFault};
 ghost use Rattle.lethe_disk.specs.declared.cursor.ReadRefused.TheVariants.{Damaged};
 ghost use Rattle.lethe_header.specs.declared.header.PageLine.{PageLine};
 ghost use Rattle.lethe_file.specs.Agreement.{FileAgrees, IsPage, entries_in, page_name};
+ghost use Rattle.lethe_file.specs.Between.{AreBetween, numbers_between};
 ghost use Rattle.lethe_file.specs.Finding.{IsEntryOf, allowed_pages};
+ghost use Rattle.lethe_file.specs.Waiting.{awaited_in};
 ghost use Rattle.lethe_header.proofs.Props.{HasSpelling-prop};
 ghost use Rattle.lethe_header.specs.Headers.{HasSpelling};
 ghost use Rattle.lethe_header.specs.Facts.{lines_of, facts_of};
 
+use crate::cursor::FileCursor;
 use crate::fetching::fetch_line;
 use crate::finding::{find_in, line_at, part_of_tile, tile_of};
+use crate::holding::hold_tiles;
+use crate::range::KeyRange;
+use crate::unread::Unread;
 use lethe_base::{Entry, FileFacts, Key, NoMemory};
-use lethe_disk::{Disk, ReadRefused};
+use lethe_disk::{Cursor, Disk, ReadRefused};
 use lethe_header::Header;
 use std::alloc::Global;
 use std::sync::Arc;
@@ -110,5 +116,32 @@ impl<D: Disk> FileView<D> {
         }
         let pages = part_of_tile(tiles, tile, &self.pages);
         find_in::<D>(alloc, port, key, tiles[tile].pages.items(), pages)
+    }
+
+    /// A cursor over the entries from `lo` up to `hi`, which is excluded; to the end where there is no `hi`. It fetches nothing
+    /// yet, and a tile whose keys are all outside of the range never.
+    pub fn cursor(
+        &self,
+        alloc: Global,
+        lo: &Key,
+        hi: Option<&Key>,
+    ) -> Result<FileCursor<D>, NoMemory>
+        ensures sound { D.tells → FileAgrees self.now.header.tiles (map (λ page. D.page_bytes page.value) self.now.pages.items)
+            → IfOk result (λ cursor. ⟦<FileCursor<D> as Cursor<D>>⟧.sound cursor) }
+        ensures left { FileAgrees self.now.header.tiles (map (λ page. D.page_bytes page.value) self.now.pages.items)
+            → IfOk result (λ cursor. AreBetween lo.now (option_copied hi.entry) (map entries_in (map (λ page. D.page_bytes page.value) self.now.pages.items)) (⟦<FileCursor<D> as Cursor<D>>⟧.left cursor)) }
+
+        // Each page of a tile that meets the range is fetched once, and no other page.
+        ensures pages { IfOk result (λ cursor. awaited_in D.page_bytes cursor.unread ≡ numbers_between lo.now (option_copied hi.entry) self.now.header.tiles) }
+    {
+        let range = KeyRange::of(lo, hi)?;
+        let tiles = hold_tiles::<D>(alloc, self.header.tiles.items(), &self.pages, &range)?;
+        Ok(FileCursor {
+            unread: Unread {
+                range,
+                tiles,
+                entries: Vec::new(alloc),
+            },
+        })
     }
 }

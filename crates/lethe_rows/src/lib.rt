@@ -8,6 +8,8 @@ mod copies;
 #[cfg(test)]
 mod faults;
 #[cfg(test)]
+mod files;
+#[cfg(test)]
 mod loads;
 #[cfg(test)]
 mod refusals;
