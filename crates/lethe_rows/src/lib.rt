@@ -8,6 +8,8 @@ mod copies;
 #[cfg(test)]
 mod faults;
 #[cfg(test)]
+mod journal;
+#[cfg(test)]
 mod loads;
 #[cfg(test)]
 mod refusals;
@@ -17,3 +19,5 @@ mod run;
 mod scripts;
 #[cfg(test)]
 mod switches;
+#[cfg(test)]
+mod unopened;
