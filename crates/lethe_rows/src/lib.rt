@@ -9,6 +9,7 @@ mod copies;
 mod faults;
 #[cfg(test)]
 mod files;
+mod journal;
 #[cfg(test)]
 mod loads;
 #[cfg(test)]
@@ -19,3 +20,5 @@ mod run;
 mod scripts;
 #[cfg(test)]
 mod switches;
+#[cfg(test)]
+mod unopened;

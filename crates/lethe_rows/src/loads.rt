@@ -15,7 +15,8 @@ const MANIFEST: [u8; 71] =
 const SEGMENT: [u8; 36] =
     *b"LS\x01\0\0\0\0\0\0\0\x01\x01\x01\0\0\0\0\0\0\0\x01\0\x01a\0\0\0\0\0\0\0\x05\0\x01x\0";
 
-fn small() -> Fields {
+/// A small configuration.
+pub(crate) fn small() -> Fields {
     Fields {
         threshold: 100,
         ratio: 2,
@@ -28,8 +29,14 @@ fn small() -> Fields {
     }
 }
 
-// Adds an object of a new name.
-fn add(alloc: Global, disk: &mut MemDisk, kind: Kind, no: u64, bytes: &[u8]) -> Result<(), Fail> {
+/// Adds an object of a new name.
+pub(crate) fn add(
+    alloc: Global,
+    disk: &mut MemDisk,
+    kind: Kind,
+    no: u64,
+    bytes: &[u8],
+) -> Result<(), Fail> {
     let name = Name { kind, no };
     let Ok(names) = disk.names(alloc) else {
         return Err(Fail::new("names"));
