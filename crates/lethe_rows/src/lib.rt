@@ -9,6 +9,7 @@ mod copies;
 mod faults;
 #[cfg(test)]
 mod files;
+#[cfg(test)]
 mod journal;
 #[cfg(test)]
 mod loads;
