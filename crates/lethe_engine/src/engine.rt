@@ -94,7 +94,7 @@ impl<D: Disk> Engine<D> {
     ///
     /// # Errors
     ///
-    /// `Stopped`, `Exhausted`, `Fault`, `NoMemory`, tried in this order. Want of memory comes before the first device call that
+    /// `Stopped`, `Exhausted`, `NoMemory`, `Fault`, tried in this order. Want of memory comes before the first device call that
     /// changes the disk, and `Fault` stops the store.
     pub fn put(&mut self, alloc: Global, key: Key, dkey: u64, value: Value) -> Result<u64, Refused>
         // Opening gives this, and each call leaves it so.
