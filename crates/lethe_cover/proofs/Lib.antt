@@ -4,7 +4,6 @@ pub mod Entered
 pub mod Unentered
 pub mod Quiet
 pub mod Frozen
-pub mod EachRun
 pub mod Bridge
 pub mod Flushed
 pub mod Merging

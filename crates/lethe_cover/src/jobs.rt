@@ -1,5 +1,5 @@
 //! A layout that stands for its history stands for it after each flush, merge and sweep.
-ghost use Rattle.std.specs.Prelude.{[], ◌↔◌, ◌∷◌, ◌≡◌, ◌≢◌, ℕ, Bool, Contains, IsTrue, List, Option};
+ghost use Rattle.std.specs.Prelude.{[], ◌↔◌, ◌∷◌, ◌≡◌, ◌≢◌, ℕ, Bool, Contains, IsTrue, List};
 ghost use Rattle.lethe_base.specs.Covers.{Covers};
 ghost use Rattle.lethe_base.specs.Fresh.{IsFresh};
 ghost use Rattle.lethe_base.specs.Held.{InBuffer, InFiles};
@@ -17,10 +17,10 @@ ghost use Rattle.lethe_cover.specs.Outcomes.{IsOutcome};
 ghost use Rattle.lethe_cover.specs.Steps.{IsCounted};
 ghost use Rattle.lethe_cover.specs.Sweeps.{IsSwept};
 
-/// A flush makes the newest file of level 0 of what is left of the frozen buffer, or none where nothing is left.
+/// A flush makes the newest files of level 0 of what is left of the frozen buffer.
 pub fn flush_covers()
     ensures { (threshold : ℕ) (h : History) (l : Layout) → Covers threshold h l → IsCounted h l
-        → (alone : Bool) (made : Option File) → IsFlush h l alone made
+        → (alone : Bool) (made : List File) → IsFlush h l alone made
         → Covers threshold h (flushed l made) × IsCounted h (flushed l made) }
 {}
 

@@ -3,7 +3,6 @@
 
 mod changes;
 mod jobs;
-mod runs;
 
 pub use changes::{
     blind_covers, change_covers, delete_covers, erase_covers, failed_covers, freeze_covers,
@@ -13,4 +12,3 @@ pub use jobs::{
     first_merge_moves, flush_covers, merged_buffer_is_outcome, merged_is_outcome, move_covers,
     numbers_are_free, spent_erases_may_return, sweep_is_outcome,
 };
-pub use runs::{each_run_follows, reads_answer};

@@ -1,0 +1,9 @@
+pub mod Files
+pub mod Ordered
+pub mod Made
+pub mod Flushes
+pub mod Merges
+pub mod Sweeps
+pub mod Due
+pub mod Scans
+pub mod Reaches
