@@ -1,7 +1,7 @@
 -- The files of levels and of runs, and runs each of which is over the ones behind it.
-use Rattle.std.proofs.Common.{◌≡◌, inl, inr, List, [], ◌∷◌, map, flat_map, Contains, Option, Some, None, refl, ap, sym, subst, ◌⊎◌, suc, ◌<◌, ◌++◌, length, get_or, AllPairs, arith}
+use Rattle.std.proofs.Common.{◌≡◌, inl, inr, List, [], ◌∷◌, map, flat_map, Contains, refl, ap, sym, ◌∙◌, subst, ◌⊎◌, suc, ◌<◌, ◌++◌, append_assoc, length, get_or, AllPairs, arith}
 use Rattle.std.proofs.lemmas.List.Elements.{Contains-append_left, Contains-append_right, Contains-append_cases, Contains-get_or}
-use Rattle.std.specs.List.{cons_option}
+use Rattle.std.proofs.lemmas.List.{map-append}
 use Rattle.lethe_base.specs.Layout.{File, runs_of}
 use Rattle.lethe_base.proofs.LayoutLaws.{none_in}
 use Rattle.lethe_base.proofs.Newest.{first_or_rest, first_is}
@@ -27,34 +27,6 @@ flat_in (ys ∷ xss) xs x there is = elim (first_or_rest ys xss xs there) [
   | inr rest ↦ Contains-append_right ys (flat_map (λ ys. ys) xss) x (flat_in xss xs x rest is)
 ]
 
--- a file of a run is one of the levels
-pub run_file : (levels : List (List File)) (run : List File) (file : File) → Contains (runs_of levels) run → Contains run file → Contains (flat_map (λ files. files) levels) file
-run_file [] run file there is = absurd (none_in run there)
-run_file (newest ∷ deeper) run file there is = elim (Contains-append_cases (map (λ file. file ∷ []) newest) deeper run there) [
-  | inl first ↦
-      let found = map_from (λ file. file ∷ []) newest run first in
-      Contains-append_left newest (flat_map (λ files. files) deeper) file (elim (first_or_rest found.0 [] file (subst (λ run. Contains run file) (sym found.2) is)) [
-        | inl same ↦ subst (Contains newest) same found.1
-        | inr rest ↦ absurd (none_in file rest)
-      ])
-  | inr other ↦ Contains-append_right newest (flat_map (λ files. files) deeper) file (flat_in deeper run file other is)
-]
-
--- a newer file is a run above the others
-pub runs_newest : (file : File) (levels : List (List File)) → runs_of (with_newest (Some file) levels) ≡ (file ∷ []) ∷ runs_of levels
-runs_newest file [] = refl
-runs_newest file (newest ∷ deeper) = refl
-
-pub runs_none : (levels : List (List File)) → runs_of (with_newest None levels) ≡ runs_of levels
-runs_none [] = refl
-runs_none (newest ∷ deeper) = refl
-
-pub files_newest : (made : Option File) (levels : List (List File)) → flat_map (λ files. files) (with_newest made levels) ≡ cons_option made (flat_map (λ files. files) levels)
-files_newest None [] = refl
-files_newest None (newest ∷ deeper) = refl
-files_newest (Some file) [] = refl
-files_newest (Some file) (newest ∷ deeper) = refl
-
 pub flat_from : {X : Type 0} (xss : List (List X)) (x : X) → Contains (flat_map (λ ys. ys) xss) x → (xs : List X) × Contains xss xs × Contains xs x
 flat_from [] x there = absurd (none_in x there)
 flat_from (ys ∷ xss) x there = elim (Contains-append_cases ys (flat_map (λ ys. ys) xss) x there) [
@@ -62,26 +34,33 @@ flat_from (ys ∷ xss) x there = elim (Contains-append_cases ys (flat_map (λ ys
   | inr rest ↦ let found = flat_from xss x rest in (found.0, Contains-append_right (ys ∷ []) xss found.0 found.1, found.2)
 ]
 
+-- files as runs of their own
+abbrev pub singles : List File → List (List File)
+singles files = map (λ file. file ∷ []) files
+
+pub files_singles : (files : List File) → files_in (singles files) ≡ files
+files_singles [] = refl
+files_singles (file ∷ files) = ap (λ files. file ∷ files) (files_singles files)
+
 -- the runs have the files of the levels
-pub runs_file : (levels : List (List File)) (file : File) → Contains (flat_map (λ files. files) (runs_of levels)) file → Contains (flat_map (λ files. files) levels) file
-runs_file levels file there = let found = flat_from (runs_of levels) file there in run_file levels found.0 file found.1 found.2
+pub files_runs : (levels : List (List File)) → files_in (runs_of levels) ≡ files_in levels
+files_runs [] = refl
+files_runs (newest ∷ deeper) = flat_map-append (λ files. files) (singles newest) deeper ∙ ap (λ files. files ++ files_in deeper) (files_singles newest)
 
-single_in : (newest : List File) (file : File) → Contains newest file → Contains (map (λ file. file ∷ []) newest) (file ∷ [])
-single_in [] file there = absurd (none_in file there)
-single_in (first ∷ newest) file there = elim (first_or_rest first newest file there) [
-  | inl same ↦ first_is (first ∷ []) (map (λ file. file ∷ []) newest) (file ∷ []) (ap (λ f. f ∷ []) same)
-  | inr rest ↦ Contains-append_right ((first ∷ []) ∷ []) (map (λ file. file ∷ []) newest) (file ∷ []) (single_in newest file rest)
-]
+pub runs_file : (levels : List (List File)) (file : File) → Contains (files_in (runs_of levels)) file → Contains (files_in levels) file
+runs_file levels file there = subst (λ files. Contains files file) (files_runs levels) there
 
-pub file_runs : (levels : List (List File)) (file : File) → Contains (flat_map (λ files. files) levels) file → Contains (flat_map (λ files. files) (runs_of levels)) file
-file_runs [] file there = absurd (none_in file there)
-file_runs (newest ∷ deeper) file there = elim (Contains-append_cases newest (flat_map (λ files. files) deeper) file there) [
-  | inl first ↦ flat_in (runs_of (newest ∷ deeper)) (file ∷ []) file
-      (Contains-append_left (map (λ file. file ∷ []) newest) deeper (file ∷ []) (single_in newest file first)) (first_is file [] file refl)
-  | inr rest ↦
-      let found = flat_from deeper file rest in
-      flat_in (runs_of (newest ∷ deeper)) found.0 file (Contains-append_right (map (λ file. file ∷ []) newest) deeper found.0 found.1) found.2
-]
+pub file_runs : (levels : List (List File)) (file : File) → Contains (files_in levels) file → Contains (files_in (runs_of levels)) file
+file_runs levels file there = subst (λ files. Contains files file) (sym (files_runs levels)) there
+
+-- newer files are runs above the others
+pub runs_newest : (made : List File) (levels : List (List File)) → runs_of (with_newest made levels) ≡ singles made ++ runs_of levels
+runs_newest made [] = refl
+runs_newest made (newest ∷ deeper) = ap (λ runs. runs ++ deeper) (map-append (λ file. file ∷ []) made newest) ∙ append_assoc (singles made) (singles newest) deeper
+
+pub files_newest : (made : List File) (levels : List (List File)) → files_in (with_newest made levels) ≡ made ++ files_in levels
+files_newest made [] = refl
+files_newest made (newest ∷ deeper) = append_assoc made newest (files_in deeper)
 
 -- an entry of some files is one of more files
 abbrev pub in_more : {entry : Entry} {files more : List File} → (is : InFiles files entry) → ((file : File) → Contains files file → Contains more file) → InFiles more entry

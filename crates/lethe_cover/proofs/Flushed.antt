@@ -1,28 +1,25 @@
 -- A flush keeps what a layout stands for.
-use Rattle.std.proofs.Common.{◌≡◌, ◌⊎◌, inl, inr, ℕ, ◌<◌, Bool, IsTrue, List, [], ◌∷◌, length, AllPairs, Contains, get_or, Option, Some, None, refl, sym, ap, ◌∙◌, subst, arith}
-use Rattle.std.specs.Prelude.{IfSome}
-use Rattle.std.specs.List.{cons_option}
-use Rattle.std.proofs.lemmas.List.Elements.{Contains-append_right, Contains-get_or}
-use Rattle.std.proofs.lemmas.List.Kept.{AllPairs-cons}
+use Rattle.std.proofs.Common.{◌≡◌, ◌⊎◌, inl, inr, ℕ, ◌<◌, Bool, IsTrue, List, [], ◌++◌, length, AllPairs, Contains, None, sym, ◌∙◌, subst, arith}
+use Rattle.std.proofs.lemmas.List.Elements.{All-contains, Contains-append_cases, Contains-append_left, Contains-append_right}
 use Rattle.lethe_base.specs.History.{History}
-use Rattle.lethe_base.specs.Layout.{Layout, File, Record, Written, place_of, buffer_of, frozen_records, runs_of, entries_of, files_of}
-use Rattle.lethe_base.specs.Held.{IsRecorded, IsFiled, InBuffer, Holds, Shows}
+use Rattle.lethe_base.specs.Layout.{Layout, File, Record, Written, place_of, buffer_of, frozen_records, runs_of, files_of}
+use Rattle.lethe_base.specs.Held.{InFiles, IsRecorded, IsFiled, InBuffer, Holds, Shows}
 use Rattle.lethe_base.specs.NewerAbove.{IsOver, IsNewerAbove}
 use Rattle.lethe_base.specs.Covers.{Covers}
 use Rattle.lethe_base.specs.declared.call.Call.TheVariants.{Erase}
 use Rattle.lethe_base.specs.declared.entry.Entry.{Entry}
 use Rattle.lethe_base.proofs.HeldLaws.{buffer_recorded, shown_held}
 use Rattle.lethe_base.proofs.LayoutLaws.{none_in}
-use Rattle.lethe_base.proofs.Newest.{first_or_rest, first_is}
-use Rattle.lethe_cover.specs.Flushes.{IsFlush, entries_in, with_newest, flushed}
+use Rattle.lethe_cover.specs.Flushes.{IsFlush, with_newest, flushed}
+use Rattle.lethe_cover.specs.Moves.{files_in}
 use Rattle.lethe_cover.specs.Outcomes.{IsReplaced}
 use Rattle.lethe_cover.specs.Steps.{IsCounted}
 use Rattle.lethe_cover.proofs.Bridge.{entries_cover, all_applied, parts_cover}
-use Rattle.lethe_cover.proofs.FilesInRuns.{run_file, runs_newest, runs_none, files_newest}
+use Rattle.lethe_cover.proofs.FilesInRuns.{in_more, singles, files_singles, runs_file, runs_newest, files_newest, falls_from, falls_to, falls_append}
 use Rattle.lethe_cover.proofs.Grown.{done_within}
 use Rattle.lethe_cover.proofs.Replaced.{replaced_cover}
 
-module _ (threshold : ℕ) (h : History) (l : Layout) (covers : Covers threshold h l) (counted : IsCounted h l) (alone : Bool) (made : Option File) (flush : IsFlush h l alone made) where
+module _ (threshold : ℕ) (h : History) (l : Layout) (covers : Covers threshold h l) (counted : IsCounted h l) (alone : Bool) (made : List File) (flush : IsFlush h l alone made) where
   -- what stays: all but the frozen segment
   abbrev rest : Layout
   rest = record l { frozen = None }
@@ -34,49 +31,23 @@ module _ (threshold : ℕ) (h : History) (l : Layout) (covers : Covers threshold
   Inputs = InBuffer (buffer_of (frozen_records l))
 
   abbrev Outputs : Entry → Type 0
-  Outputs = Contains (entries_in made)
+  Outputs = InFiles made
 
-  -- the made file is one of the levels, and the others stay
-  file_cases : (file : File) → Contains (files_of then) file → Contains (files_of l) file ⊎ (made ≡ Some file)
-  file_cases file there = by made (subst (λ files. Contains files file) (files_newest made l.levels) there)
-    where
-      by : (o : Option File) → Contains (cons_option o (files_of l)) file → Contains (files_of l) file ⊎ (o ≡ Some file)
-      by None there = inl there
-      by (Some new) there = elim (first_or_rest new (files_of l) file there) [
-        | inl same ↦ inr (ap Some same)
-        | inr old ↦ inl old
-      ]
+  -- the made files are among the levels', and the others stay
+  file_cases : (file : File) → Contains (files_of then) file → Contains made file ⊎ Contains (files_of l) file
+  file_cases file there = Contains-append_cases made (files_of l) file (subst (λ files. Contains files file) (files_newest made l.levels) there)
 
   file_stays : (file : File) → Contains (files_of l) file → Contains (files_of then) file
-  file_stays file there = subst (λ files. Contains files file) (sym (files_newest made l.levels)) (by made)
-    where
-      by : (o : Option File) → Contains (cons_option o (files_of l)) file
-      by None = there
-      by (Some new) = Contains-append_right (new ∷ []) (files_of l) file there
+  file_stays file there = subst (λ files. Contains files file) (sym (files_newest made l.levels)) (Contains-append_right made (files_of l) file there)
 
-  file_made : (file : File) → made ≡ Some file → Contains (files_of then) file
-  file_made file is = subst (λ files. Contains files file) (sym (files_newest made l.levels))
-      (subst (λ o. Contains (cons_option o (files_of l)) file) (sym is) (first_is file (files_of l) file refl))
+  file_made : (file : File) → Contains made file → Contains (files_of then) file
+  file_made file there = subst (λ files. Contains files file) (sym (files_newest made l.levels)) (Contains-append_left made (files_of l) file there)
 
-  -- the entries of the made file are the outputs
-  output_of : (file : File) → made ≡ Some file → (entry : Entry) → Contains (entries_of file) entry → Outputs entry
-  output_of file is entry there = subst (λ o. Contains (entries_in o) entry) (sym is) there
-
-  output_in : (entry : Entry) → Outputs entry → (file : File) × (made ≡ Some file) × Contains (entries_of file) entry
-  output_in entry there = by made refl there
-    where
-      by : (o : Option File) → made ≡ o → Contains (entries_in o) entry → (file : File) × (made ≡ Some file) × Contains (entries_of file) entry
-      by None is there = absurd (none_in entry there)
-      by (Some file) is there = (file, is, there)
-
-  filed_cases : (entry : Entry) (filed : IsFiled then entry) → Contains (files_of l) filed.file ⊎ (Outputs entry × (filed.file.swept ≡ length h))
+  filed_cases : (entry : Entry) (filed : IsFiled then entry) → Contains (files_of l) filed.file ⊎ (InFiles made entry × (filed.file.swept ≡ length h))
   filed_cases entry filed = elim (file_cases filed.file filed.there) [
-    | inl old ↦ inl old
-    | inr new ↦ inr (output_of filed.file new entry filed.spelled, swept_of filed.file new)
+    | inl new ↦ inr (record { file = filed.file; there = new; spelled = filed.spelled }, All-contains (λ file. file.swept ≡ length h) made filed.file flush.swept new)
+    | inr old ↦ inl old
   ]
-    where
-      swept_of : (file : File) → made ≡ Some file → file.swept ≡ length h
-      swept_of file is = subst (λ o. IfSome o (λ file. file.swept ≡ length h)) is flush.swept
 
   rest_recorded : (r : Record) → IsRecorded rest r → Contains l.active r
   rest_recorded r is = elim is [
@@ -114,9 +85,9 @@ module _ (threshold : ℕ) (h : History) (l : Layout) (covers : Covers threshold
     ];
     stays = λ entry is. elim is [
       | inl buffered ↦ inl buffered
-      | inr filed ↦ inr (record { file = filed.file; there = file_stays filed.file filed.there; spelled = filed.spelled })
+      | inr filed ↦ inr (in_more filed file_stays)
     ];
-    comes = λ entry out. let found = output_in entry out in inr (record { file = found.0; there = file_made found.0 found.1; spelled = found.2 });
+    comes = λ entry out. inr (in_more out file_made);
     only = λ entry is. elim is [
       | inl buffered ↦ inl (inl buffered)
       | inr filed ↦ elim (filed_cases entry filed) [
@@ -144,24 +115,16 @@ module _ (threshold : ℕ) (h : History) (l : Layout) (covers : Covers threshold
       let from = flush.outcome.source entry out in
       (from.input, buffer_recorded (frozen_records l) from.input from.newest.shown, from.same, from.place)
 
-  runs_then : AllPairs IsOver (runs_of then.levels)
-  runs_then = by made refl
-    where
-      over : (file : File) → made ≡ Some file → (run : List File) → Contains (runs_of l.levels) run → IsOver (file ∷ []) run
-      over file is run there entry older above below same =
-          let out : Outputs entry = elim (first_or_rest file [] above.file above.there) [
-            | inl one ↦ output_of above.file (is ∙ ap Some one) entry above.spelled
-            | inr none ↦ absurd (none_in above.file none)
-          ] in
-          let from = source entry out in
-          let lower : older.seq < from.0.seq = covers.newer_above.frozen_files (Written from.0) older from.1
-          (record { file = below.file; there = run_file l.levels run below.file there below.there; spelled = below.spelled }) in
-          let place : from.0.seq ≡ entry.seq = from.3 in omega arith
+  made_over : IsOver (files_in (singles made)) (files_in (runs_of l.levels))
+  made_over entry older above below same =
+      let from = source entry (record { file = above.file; there = subst (λ files. Contains files above.file) (files_singles made) above.there; spelled = above.spelled }) in
+      let lower : older.seq < from.0.seq = covers.newer_above.frozen_files (Written from.0) older from.1 (in_more below (runs_file l.levels)) in
+      let place : from.0.seq ≡ entry.seq = from.3 in omega arith
 
-      by : (o : Option File) → made ≡ o → AllPairs IsOver (runs_of (with_newest o l.levels))
-      by None is = subst (AllPairs IsOver) (sym (runs_none l.levels)) covers.newer_above.runs
-      by (Some file) is = subst (AllPairs IsOver) (sym (runs_newest file l.levels))
-          (AllPairs-cons IsOver (file ∷ []) (runs_of l.levels) (λ k d within. over file is (get_or (runs_of l.levels) k d) (Contains-get_or (runs_of l.levels) k d within)) covers.newer_above.runs)
+  runs_then : AllPairs IsOver (runs_of then.levels)
+  runs_then = subst (AllPairs IsOver) (sym (runs_newest made l.levels))
+      (falls_to (singles made ++ runs_of l.levels)
+      (falls_append (singles made) (runs_of l.levels) (falls_from (singles made) flush.order) (falls_from (runs_of l.levels) covers.newer_above.runs) made_over))
 
   newer_then : IsNewerAbove then
   newer_then = record {
@@ -187,14 +150,14 @@ module _ (threshold : ℕ) (h : History) (l : Layout) (covers : Covers threshold
         (entries_cover threshold h l covers) flush.outcome (all_applied threshold h l Inputs (length h) covers) flush_replaces)
         newer_then
         (λ file there. elim (file_cases file there) [
-          | inl old ↦ covers.erases_covered.swept file old
-          | inr new ↦ let upto : file.swept ≡ length h = subst (λ o. IfSome o (λ file. file.swept ≡ length h)) new flush.swept in omega arith
+          | inl new ↦ let upto : file.swept ≡ length h = All-contains (λ file. file.swept ≡ length h) made file flush.swept new in omega arith
+          | inr old ↦ covers.erases_covered.swept file old
         ])
         (λ file erase entry there among unswept spelled. elim (file_cases file there) [
-          | inl old ↦ covers.erases_covered.unswept file erase entry old among unswept spelled
-          | inr new ↦
-              let upto : file.swept ≡ length h = subst (λ o. IfSome o (λ file. file.swept ≡ length h)) new flush.swept in
+          | inl new ↦
+              let upto : file.swept ≡ length h = All-contains (λ file. file.swept ≡ length h) made file flush.swept new in
               let within = done_within h erase.seq (Erase erase.range) (covers.places.erases erase (inl among)).done in absurd (omega arith)
+          | inr old ↦ covers.erases_covered.unswept file erase entry old among unswept spelled
         ]),
     record { count = counted.count; places = λ r is. counted.places r (inl (rest_recorded r is)) },
   )
