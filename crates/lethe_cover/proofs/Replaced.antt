@@ -17,7 +17,9 @@ use Rattle.lethe_base.specs.declared.pending.Pending.{Pending}
 use Rattle.lethe_base.proofs.CauseLaws.{cause_by, cause_is_first, erased_by}
 use Rattle.lethe_base.proofs.Overdue.{erased_is, no_erase}
 use Rattle.lethe_cover.specs.Outcomes.{EntriesCover, IsFrom, IsDropped, IsOutcome, IsApplied, IsReplaced}
-use Rattle.lethe_cover.proofs.Erasures.{match_parts, match_made, any_found, any_made, under_some, under_none, put_is, tomb_is, answer_applied}
+use Rattle.lethe_cover.proofs.Erasures.{any_match, match_parts, match_made, any_found, any_made, under_some, answer_applied}
+use Rattle.std.proofs.lemmas.Bool.{cases_lt}
+use Rattle.std.proofs.lemmas.Bool.Decides.{nat_tests}
 use Rattle.std.specs.List.{list_any}
 use Rattle.lethe_base.specs.Entries.{pair_of}
 use Rattle.lethe_base.specs.SameMap.{IsNewest}
@@ -53,23 +55,29 @@ hidden threshold h clock holds shows pending covers entry swept dkey value erase
     ]
 
 -- an erase that is the cause of a put matches it
-pub match_of : (h : History) (entry : Entry) (cause dkey : ℕ) (value : Bytes) (erase : Pending) → IsPlaced h entry.seq entry.key entry.body → entry.body ≡ body.Put dkey value
-    → cause_of h entry.seq ≡ Some cause → IsAccepted h erase → erase.seq ≡ cause → matches erase entry.seq dkey ≡ true
-match_of h entry cause dkey value erase placed is caused accepted at =
-    let first = cause_is_first h entry.seq cause caused in
-    let put : done_at h entry.seq ≡ Some (Put entry.key dkey value) = subst (IsPlaced h entry.seq entry.key) is placed in
-    let same : Some (Put first.key first.dkey first.value) ≡ Some (Put entry.key dkey value) = sym first.put ∙ put in
+match_of : (h : History) (seq : ℕ) (key : Bytes) (dkey : ℕ) (value : Bytes) (erase : Pending) → done_at h seq ≡ Some (Put key dkey value)
+    → cause_of h seq ≡ Some erase.seq → IsAccepted h erase → matches erase seq dkey ≡ true
+match_of h seq key dkey value erase put caused accepted =
+    let first = cause_is_first h seq erase.seq caused in
+    let same : Some (Put first.key first.dkey first.value) ≡ Some (Put key dkey value) = sym first.put ∙ put in
     let d : first.dkey ≡ dkey = cc in
-    match_made erase entry.seq dkey (omega arith) (subst (λ d. in_range erase.range d ≡ true) d
-    (by (change_at h erase.seq) accepted.done first.key first.dkey (subst (IsErasedAt h first.key first.dkey) (sym at) first.erases)))
-  where
-    of_did : (did : Did) (call : Call) (key : Bytes) (d : ℕ) → done_call did call ≡ Some (Erase erase.range) → IsTrue (erases_if key d did call) → in_range erase.range d ≡ true
-    of_did Done call key d is hit = let made : call ≡ Erase erase.range = cc in subst (λ c. erases key d c ≡ true) made hit
-    of_did (Failed before behind) call key d is hit = absurd (let clash : None ≡ Some (Erase erase.range) = is in cc)
+    grind (arith, nat_tests)
 
-    by : (o : Option Change) → option_and_then (λ change. done_call change.did change.call) o ≡ Some (Erase erase.range) → (key : Bytes) (d : ℕ) → IsSomeAnd o (λ change. IsTrue (is_eraser key d change)) → in_range erase.range d ≡ true
-    by None is key d hit = absurd hit
-    by (Some change) is key d hit = of_did change.did change.call key d is hit
+-- where the erases are applied, what was put or deleted stands, or is a tombstone where one matched it
+placed_under : (h : History) (applied : List Pending) (seq : ℕ) (key : Bytes) (b made : Body) → ((erase : Pending) → Contains applied erase → IsAccepted h erase)
+    → IsPlaced h seq key b → pair_of made ≡ pair_under applied seq b → IsPlaced h seq key made
+placed_under h applied seq key body.Tomb body.Tomb accepted placed is = placed
+placed_under h applied seq key body.Tomb (body.Put dkey value) accepted placed is = absurd (grind arith)
+placed_under h applied seq key (body.Put dkey value) (body.Put d v) accepted placed is =
+    let some = under_some applied seq (body.Put dkey value) (d, v) (sym is) in grind arith
+placed_under h applied seq key (body.Put dkey value) body.Tomb accepted placed is =
+    let found = any_found applied seq dkey (grind arith) in
+    let parts = match_parts found.0 seq dkey found.2 in
+    inr (record { dkey = dkey; value = value; put = placed; place = found.0.seq; range = found.0.range; erase = (accepted found.0 found.1).done; later = parts.0; matched = parts.1 })
+
+put_of : (b : Body) → IsPut b → (pair : Pair) × (b ≡ body.Put pair.0 pair.1)
+put_of (body.Put dkey value) put = ((dkey, value), refl)
+put_of body.Tomb put = absurd put
 
 module _ (threshold : ℕ) (h : History) (clock : ℕ) (pending applied : List Pending) (Alone : Type 0) (inputs outputs : Entry → Type 0) (swept : ℕ)
     (holds : Entry → ℕ → Type 0) (shows : Entry → Type 0) (holds_rest : Entry → ℕ → Type 0) (shows_rest : Entry → Type 0) (holds_then : Entry → ℕ → Type 0) (shows_then : Entry → Type 0)
@@ -78,36 +86,25 @@ module _ (threshold : ℕ) (h : History) (clock : ℕ) (pending applied : List P
     (replaced : IsReplaced Alone inputs outputs swept holds shows holds_rest shows_rest holds_then shows_then)
   where
     -- what the erases match of a newest input, a pending one matches
-    pends : (input : Entry) → IsNewest shows input → inputs input → (pair : Pair) → input.body ≡ body.Put pair.0 pair.1
-        → list_any (λ erase. matches erase input.seq pair.0) applied ≡ true → list_any (λ erase. matches erase input.seq pair.0) pending ≡ true
-    pends input newest taken pair is any =
-        let found = any_found (λ erase. matches erase input.seq pair.0) applied any in
-        elim (applies.sound found.0 input pair.0 pair.1 found.1 taken is found.2) [
-          | inl there ↦ any_made (λ erase. matches erase input.seq pair.0) pending found.0 there found.2
+    pends : (input : Entry) → IsNewest shows input → inputs input → (dkey : ℕ) (value : Bytes) → input.body ≡ body.Put dkey value → any_match applied input.seq dkey ≡ true → any_match pending input.seq dkey ≡ true
+    pends input newest taken dkey value is any =
+        let found = any_found applied input.seq dkey any in
+        elim (applies.sound found.0 input dkey value found.1 taken is found.2) [
+          | inl there ↦ any_made pending input.seq dkey found.0 there found.2
           | inr swept_of ↦
-              let above = hidden threshold h clock holds shows pending covers input swept_of.0 pair.0 pair.1 found.0 swept_of.1 is (applies.accepted found.0 found.1) found.2 swept_of.2 in
+              let above = hidden threshold h clock holds shows pending covers input swept_of.0 dkey value found.0 swept_of.1 is (applies.accepted found.0 found.1) found.2 swept_of.2 in
               let last : above.above.seq ≤ input.seq = newest.last above.above above.shown above.same in
               let newer : input.seq < above.above.seq = above.newer in absurd (omega arith)
         ]
-
-    -- an output answers what its source answers
-    same_answer : (output : Entry) (from : IsFrom applied inputs output) → IsNewest shows from.input → answer_under pending output ≡ answer_under pending from.input
-    same_answer output from newest =
-        ap (λ seq. pair_under pending seq output.body) (sym from.place)
-        ∙ answer_applied pending applied from.input.seq output.body from.input.body (pends from.input newest from.newest.shown) from.answer
 
     -- what is newest then is newer than all that was seen of its key
     last_then : (entry : Entry) → IsNewest shows_then entry → (before : Entry) → shows before → before.key ≡ entry.key → before.seq ≤ entry.seq
     last_then entry newest before shown same = elim (replaced.split before shown) [
       | inl rest ↦ newest.last before (replaced.stays before rest) same
       | inr taken ↦ elim (outcome.kept before taken) [
-        | inl kept ↦
-            let last : kept.output.seq ≤ entry.seq = newest.last kept.output (replaced.comes kept.output kept.made) (kept.same ∙ same) in
-            let newer : before.seq ≤ kept.output.seq = kept.newer in omega arith
+        | inl kept ↦ omega (arith, newest.last kept.output (replaced.comes kept.output kept.made) (kept.same ∙ same), kept.newer)
         | inr dropped ↦ elim (replaced.only entry newest.shown) [
-          | inl rest ↦
-              let held = replaced.rest_is_held entry rest in
-              let clear : before.seq < entry.seq = replaced.clear dropped.alone entry before held.0 held.1 taken (sym same) in omega arith
+          | inl rest ↦ let held = replaced.rest_is_held entry rest in omega (arith, replaced.clear dropped.alone entry before held.0 held.1 taken (sym same))
           | inr made ↦ absurd (dropped.none entry made (sym same))
         ]
       ]
@@ -120,114 +117,80 @@ module _ (threshold : ℕ) (h : History) (clock : ℕ) (pending applied : List P
           let from = outcome.source entry made in
           let was : IsNewest shows from.input = record {
             shown = replaced.inputs_shown from.input from.newest.shown;
-            last = λ before shown same. subst (λ seq. before.seq ≤ seq) (sym from.place) (last_then entry newest before shown (same ∙ from.same));
+            last = λ before shown same. omega (arith, last_then entry newest before shown (same ∙ from.same), from.place);
           } in
-          same_answer entry from was ∙ covers.same_map.newest from.input was ∙ ap (finmap.get (after h).map) from.same
+          ap (λ seq. pair_under pending seq entry.body) (sym from.place)
+          ∙ answer_applied pending applied from.input.seq entry.body from.input.body (pends from.input was from.newest.shown) from.answer
+          ∙ covers.same_map.newest from.input was ∙ ap (finmap.get (after h).map) from.same
     ]
 
-    absent_then : (key : Bytes) → ((entry : Entry) → shows_then entry → entry.key ≡ key → ⊥) → finmap.get (after h).map key ≡ None
-    absent_then key none = by (finmap.get (after h).map key) refl
-      where
-        -- what is dropped answered nothing
-        nothing : (pair : Pair) → finmap.get (after h).map key ≡ Some pair → (entry : Entry) → entry.key ≡ key → IsDropped applied Alone inputs outputs entry → ⊥
-        nothing pair got entry named dropped =
-            let was : IsNewest shows dropped.newest = record {
-              shown = replaced.inputs_shown dropped.newest dropped.is.shown;
-              last = λ before shown same. elim (replaced.split before shown) [
-                | inl rest ↦ absurd (none before (replaced.stays before rest) (same ∙ dropped.same ∙ named))
-                | inr taken ↦ dropped.is.last before taken same
-              ];
-            } in
-            let answer : answer_under pending dropped.newest ≡ Some pair = covers.same_map.newest dropped.newest was ∙ ap (finmap.get (after h).map) (dropped.same ∙ named) ∙ got in
-            let some = under_some pending dropped.newest.seq dropped.newest.body pair answer in
-            elim (under_none applied dropped.newest.seq dropped.newest.body dropped.nothing) [
-              | inl tomb ↦ let clash : body.Put pair.0 pair.1 ≡ body.Tomb = sym some.0 ∙ tomb in cc
-              | inr struck ↦
-                  let hit = pends dropped.newest was dropped.is.shown struck.0 struck.1 struck.2 in
-                  let same : body.Put pair.0 pair.1 ≡ body.Put (struck.0).0 (struck.0).1 = sym some.0 ∙ struck.1 in
-                  let d : pair.0 ≡ (struck.0).0 = cc in
-                  let clash : true ≡ false = sym hit ∙ subst (λ d. list_any (λ erase. matches erase dropped.newest.seq d) pending ≡ false) d some.1 in cc
-            ]
+    module _ (key : Bytes) (none : (entry : Entry) → shows_then entry → entry.key ≡ key → ⊥) where
+      -- what is dropped answered nothing
+      nothing : (pair : Pair) → finmap.get (after h).map key ≡ Some pair → (entry : Entry) → entry.key ≡ key → IsDropped applied Alone inputs outputs entry → ⊥
+      nothing pair got entry named dropped =
+          let newest = dropped.newest in
+          let was : IsNewest shows newest = record {
+            shown = replaced.inputs_shown newest dropped.is.shown;
+            last = λ before shown same. elim (replaced.split before shown) [
+              | inl rest ↦ absurd (none before (replaced.stays before rest) (same ∙ dropped.same ∙ named))
+              | inr taken ↦ dropped.is.last before taken same
+            ];
+          } in
+          let some = under_some pending newest.seq newest.body pair (covers.same_map.newest newest was ∙ ap (finmap.get (after h).map) (dropped.same ∙ named) ∙ got) in
+          let struck : any_match applied newest.seq pair.0 ≡ true = grind (arith, dropped.nothing, some) in
+          let hit = pends newest was dropped.is.shown pair.0 pair.1 some.0 struck in
+          let clash : true ≡ false = sym hit ∙ some.1 in cc
 
-        gone : (pair : Pair) → finmap.get (after h).map key ≡ Some pair → (entry : Entry) → shows entry → entry.key ≡ key → ⊥
-        gone pair got entry shown named = elim (replaced.split entry shown) [
-          | inl rest ↦ none entry (replaced.stays entry rest) named
-          | inr taken ↦ elim (outcome.kept entry taken) [
-            | inl kept ↦ none kept.output (replaced.comes kept.output kept.made) (kept.same ∙ named)
-            | inr dropped ↦ nothing pair got entry named dropped
-          ]
+      gone : (pair : Pair) → finmap.get (after h).map key ≡ Some pair → (entry : Entry) → shows entry → entry.key ≡ key → ⊥
+      gone pair got entry shown named = elim (replaced.split entry shown) [
+        | inl rest ↦ none entry (replaced.stays entry rest) named
+        | inr taken ↦ elim (outcome.kept entry taken) [
+          | inl kept ↦ none kept.output (replaced.comes kept.output kept.made) (kept.same ∙ named)
+          | inr dropped ↦ nothing pair got entry named dropped
         ]
+      ]
 
-        by : (o : Option Pair) → finmap.get (after h).map key ≡ o → finmap.get (after h).map key ≡ None
-        by None got = got
-        by (Some pair) got = absurd (let clash : None ≡ Some pair = sym (covers.same_map.absent key (gone pair got)) ∙ got in cc)
+      absent_then : finmap.get (after h).map key ≡ None
+      absent_then = by (finmap.get (after h).map key) refl
+        where
+          by : (o : Option Pair) → finmap.get (after h).map key ≡ o → finmap.get (after h).map key ≡ None
+          by None got = got
+          by (Some pair) got = covers.same_map.absent key (gone pair got)
 
     -- an output says what its source says, or is a tombstone where an erase matched that
     placed_output : (output : Entry) → outputs output → IsPlaced h output.seq output.key output.body
     placed_output output made =
         let from = outcome.source output made in
         let held = covers.held from.input (replaced.inputs_shown from.input from.newest.shown) in
-        subst (λ seq. IsPlaced h seq output.key output.body) from.place (subst (λ key. IsPlaced h from.input.seq key output.body) from.same
-        (by from.input from.newest.shown from.input.body refl (covers.places from.input held.0 held.1) from.answer))
-      where
-        struck : (input : Entry) (dkey : ℕ) (value : Bytes) → IsPlaced h input.seq input.key (body.Put dkey value) → list_any (λ erase. matches erase input.seq dkey) applied ≡ true → IsPlaced h input.seq input.key body.Tomb
-        struck input dkey value placed any =
-            let found = any_found (λ erase. matches erase input.seq dkey) applied any in
-            let parts = match_parts found.0 input.seq dkey found.2 in inr (record {
-              dkey = dkey;
-              value = value;
-              put = placed;
-              place = found.0.seq;
-              range = found.0.range;
-              erase = (applies.accepted found.0 found.1).done;
-              later = parts.0;
-              matched = parts.1;
-            })
-
-        test : (input : Entry) (dkey : ℕ) (value : Bytes) (t : Bool) → list_any (λ erase. matches erase input.seq dkey) applied ≡ t → IsPlaced h input.seq input.key (body.Put dkey value)
-            → pair_of output.body ≡ cond t None (Some (let pair : Pair = (dkey, value) in pair)) → IsPlaced h input.seq input.key output.body
-        test input dkey value true at placed is = subst (IsPlaced h input.seq input.key) (sym (tomb_is output.body is)) (struck input dkey value placed at)
-        test input dkey value false at placed is = subst (IsPlaced h input.seq input.key) (sym (put_is output.body (dkey, value) is)) placed
-
-        by : (input : Entry) → inputs input → (b : Body) → input.body ≡ b → IsPlaced h input.seq input.key b → pair_of output.body ≡ pair_under applied input.seq b → IsPlaced h input.seq input.key output.body
-        by input taken body.Tomb at placed is = subst (IsPlaced h input.seq input.key) (sym (tomb_is output.body is)) placed
-        by input taken (body.Put dkey value) at placed is = test input dkey value (list_any (λ erase. matches erase input.seq dkey) applied) refl placed is
+        let placed = placed_under h applied from.input.seq from.input.key from.input.body output.body applies.accepted (covers.places from.input held.0 held.1) from.answer in
+        subst (λ key. IsPlaced h output.seq key output.body) from.same (subst (λ seq. IsPlaced h seq from.input.key output.body) from.place placed)
 
     -- an output that is a put has a source that is that put, which no erase matches
     record IsSame (output : Entry) : Type 0 where
       from : IsFrom applied inputs output
-      dkey : ℕ
-      value : Bytes
-      body_is : from.input.body ≡ body.Put dkey value
-      free : list_any (λ erase. matches erase from.input.seq dkey) applied ≡ false
+      pair : Pair
+      is : from.input.body ≡ body.Put pair.0 pair.1
+      put : IsPut from.input.body
+      free : any_match applied from.input.seq pair.0 ≡ false
       upto : ℕ
       held : holds from.input upto
 
     source_put : (output : Entry) → outputs output → IsPut output.body → IsSame output
-    source_put output made put = by output.body refl put
-      where
-        from : IsFrom applied inputs output
-        from = outcome.source output made
-
-        by : (b : Body) → output.body ≡ b → IsPut b → IsSame output
-        by (body.Put dkey value) is put =
-            let pair : Pair = (dkey, value) in
-            let answer : pair_under applied from.input.seq from.input.body ≡ Some pair = sym from.answer ∙ ap pair_of is in
-            let some = under_some applied from.input.seq from.input.body (dkey, value) answer in
-            let held = covers.held from.input (replaced.inputs_shown from.input from.newest.shown) in
-            record { from = from; dkey = dkey; value = value; body_is = some.0; free = some.1; upto = held.0; held = held.1 }
-        by body.Tomb is put = absurd put
+    source_put output made put =
+        let from = outcome.source output made in
+        let own = put_of output.body put in
+        let some = under_some applied from.input.seq from.input.body own.0 (sym from.answer ∙ ap pair_of own.1) in
+        let held = covers.held from.input (replaced.inputs_shown from.input from.newest.shown) in
+        record { from = from; pair = own.0; is = some.0; put = subst IsPut (sym some.0) tt; free = some.1; upto = held.0; held = held.1 }
 
     -- what covers an entry that stays, or the source of an output, or what is left of that, covers it then
-    covered_then : (entry : Entry) (time : ℕ) → ((above : Entry) → above.key ≡ entry.key → entry.seq < above.seq → inputs above → Alone → ⊥)
-        → ((above : Entry) → above.key ≡ entry.key → entry.seq < above.seq → inputs above → IsDropped applied Alone inputs outputs above → ⊥)
-        → IsCovered shows entry time → IsCovered shows_then entry time
-    covered_then entry time not_alone not_dropped is = elim (replaced.split is.above is.shown) [
+    covered_then : (entry : Entry) (time : ℕ) → ((above : Entry) → above.key ≡ entry.key → entry.seq < above.seq → inputs above → Alone → ⊥) → IsCovered shows entry time → IsCovered shows_then entry time
+    covered_then entry time clear is = elim (replaced.split is.above is.shown) [
       | inl rest ↦ record { above = is.above; shown = replaced.stays is.above rest; same = is.same; newer = is.newer; since = is.since; has = is.has; old = is.old }
       | inr taken ↦ elim (outcome.kept is.above taken) [
-        | inr dropped ↦ absurd (not_dropped is.above is.same is.newer taken dropped)
+        | inr dropped ↦ absurd (clear is.above is.same is.newer taken dropped.alone)
         | inl kept ↦ elim (kept.since is.since is.has) [
-          | inl alone ↦ absurd (not_alone is.above is.same is.newer taken alone)
+          | inl alone ↦ absurd (clear is.above is.same is.newer taken alone)
           | inr least ↦
               record { above = kept.output; shown = replaced.comes kept.output kept.made; same = kept.same ∙ is.same; newer = omega arith; since = least.0; has = least.1; old = omega arith }
         ]
@@ -236,67 +199,55 @@ module _ (threshold : ℕ) (h : History) (clock : ℕ) (pending applied : List P
 
     deletes_then : (entry : Entry) (upto cause : ℕ) → holds_then entry upto → IsPut entry.body → cause_of h entry.seq ≡ Some cause → IsNoErase h cause → IsCovered shows_then entry (clock_before h cause)
     deletes_then entry upto cause held put is no_erase = elim (replaced.only_held entry upto held) [
-      | inl rest ↦
-          let clear = λ (above : Entry) (same : above.key ≡ entry.key) (newer : entry.seq < above.seq) (taken : inputs above) (alone : Alone).
-          (let over : above.seq < entry.seq = replaced.clear alone entry above upto rest taken (sym same) in absurd {A = ⊥} (omega arith)) in
-          covered_then entry (clock_before h cause) clear (λ above same newer taken dropped. clear above same newer taken dropped.alone)
+      | inl rest ↦ covered_then entry (clock_before h cause)
+          (λ above same newer taken alone. let over = replaced.clear alone entry above upto rest taken (sym same) in omega arith)
           (covers.deletes_covered entry upto cause (replaced.rest_held entry upto rest) put is no_erase)
       | inr made ↦
           let source = source_put entry made.0 put in
           let from = source.from in
-          let none = λ (above : Entry) (same : above.key ≡ entry.key) (newer : entry.seq < above.seq) (taken : inputs above).
-          (let last : above.seq ≤ from.input.seq = from.newest.last above taken (same ∙ sym from.same) in
-          let place : from.input.seq ≡ entry.seq = from.place in absurd {A = ⊥} (omega arith)) in
-          let old = covers.deletes_covered from.input source.upto cause source.held (subst IsPut (sym source.body_is) tt) (ap (cause_of h) from.place ∙ is) no_erase in
-          covered_then entry (clock_before h cause) (λ above same newer taken alone. none above same newer taken) (λ above same newer taken dropped. none above same newer taken)
-          (record { above = old.above; shown = old.shown; same = old.same ∙ from.same; newer = omega arith; since = old.since; has = old.has; old = old.old })
+          let old = covers.deletes_covered from.input source.upto cause source.held source.put (ap (cause_of h) from.place ∙ is) no_erase in
+          covered_then entry (clock_before h cause)
+              (λ above same newer taken alone. omega (arith, from.newest.last above taken (same ∙ sym from.same), from.place, newer))
+              (record { above = old.above; shown = old.shown; same = old.same ∙ from.same; newer = omega arith; since = old.since; has = old.has; old = old.old })
     ]
+
+    -- a pending erase up to that place is applied, so that a put of which it is the cause becomes a tombstone, or the input was swept of it
+    unmatched : (output : Entry) (source : IsSame output) (range : Ends) (erase : Pending) → cause_of h source.from.input.seq ≡ Some erase.seq → done_at h erase.seq ≡ Some (Erase range) → Contains pending erase → erase.seq ≤ swept → ⊥
+    unmatched output source range erase is erased there upper =
+        let input = source.from.input in
+        elim (applies.complete erase input there upper source.from.newest.shown) [
+          | inl among ↦
+              let put = subst (IsPlaced h input.seq input.key) source.is (covers.places input source.upto source.held) in
+              let hit = match_of h input.seq input.key source.pair.0 source.pair.1 erase put is (applies.accepted erase among) in
+              let clash : true ≡ false = sym (any_made applied input.seq source.pair.0 erase among hit) ∙ source.free in cc
+          | inr before ↦ omega (arith, before.2, (covers.erases_covered input before.0 erase.seq range before.1 source.put is erased).1)
+        ]
 
     erases_then : (entry : Entry) (upto cause : ℕ) (range : Ends) → holds_then entry upto → IsPut entry.body → cause_of h entry.seq ≡ Some cause → done_at h cause ≡ Some (Erase range) → HasErase pending cause × (upto < cause)
     erases_then entry upto cause range held put is erased = elim (replaced.only_held entry upto held) [
       | inl rest ↦ covers.erases_covered entry upto cause range (replaced.rest_held entry upto rest) put is erased
       | inr made ↦
           let source = source_put entry made.0 put in
-          let from = source.from in
-          let there : cause_of h from.input.seq ≡ Some cause = ap (cause_of h) from.place ∙ is in
-          let old = covers.erases_covered from.input source.upto cause range source.held (subst IsPut (sym source.body_is) tt) there erased in (
-            old.0,
-            subst (λ n. n < cause) (sym made.1) (elim (cases swept cause) [
-              | inl lower ↦ lower
-              | inr upper ↦ absurd (unmatched entry source cause there erased (old.0).0 (old.0).1 (old.0).2 upper)
-            ]),
-          )
+          let there : cause_of h source.from.input.seq ≡ Some cause = ap (cause_of h) source.from.place ∙ is in
+          let old = covers.erases_covered source.from.input source.upto cause range source.held source.put there erased in
+          let erase = old.0.0 in
+          let at : erase.seq ≡ cause = old.0.2 in
+          let lower : swept < cause = elim (cases_lt swept cause) [
+            | inl lower ↦ lower
+            | inr upper ↦ absurd (unmatched entry source range erase (there ∙ ap Some (sym at)) (ap (done_at h) at ∙ erased) old.0.1 (omega arith))
+          ] in
+          (old.0, omega (arith, made.1))
     ]
-      where
-        cases : (a b : ℕ) → (a < b) ⊎ (b ≤ a)
-        cases a b = grind arith
-
-        -- a pending erase up to that place is applied, so that a put of which it is the cause becomes a tombstone, or the input was swept of it
-        unmatched : (output : Entry) (source : IsSame output) (cause : ℕ) → cause_of h source.from.input.seq ≡ Some cause → done_at h cause ≡ Some (Erase range)
-            → (erase : Pending) → Contains pending erase → erase.seq ≡ cause → cause ≤ swept → ⊥
-        unmatched output source cause is erased erase there at upper = elim (applies.complete erase source.from.input there (omega arith) source.from.newest.shown) [
-          | inl among ↦
-              let hit = match_of h source.from.input cause source.dkey source.value erase (covers.places source.from.input source.upto source.held) source.body_is is (applies.accepted erase among) at in
-              let any = any_made (λ erase. matches erase source.from.input.seq source.dkey) applied erase among hit in
-              let clash : true ≡ false = sym any ∙ source.free in cc
-          | inr before ↦
-              let unswept : before.0 < cause = (covers.erases_covered source.from.input before.0 cause range before.1 (subst IsPut (sym source.body_is) tt) is erased).1 in
-              let upto : erase.seq ≤ before.0 = before.2 in omega arith
-        ]
 
     fresh_then : (entry : Entry) (upto since : ℕ) → holds_then entry upto → entry.since ≡ Some since → IsFresh threshold h clock since
     fresh_then entry upto since held has = elim (replaced.only_held entry upto held) [
       | inl rest ↦ covers.times_fresh entry upto since (replaced.rest_held entry upto rest) has
       | inr made ↦ elim (outcome.since entry since made.0 has) [
-        | inl from ↦
-            let held = covers.held from.0 (replaced.inputs_shown from.0 from.1) in
-            covers.times_fresh from.0 held.0 since held.1 from.2
+        | inl from ↦ let held = covers.held from.0 (replaced.inputs_shown from.0 from.1) in covers.times_fresh from.0 held.0 since held.1 from.2
         | inr struck ↦
             let erase = struck.0 in
             let accepted = applies.accepted erase struck.1 in
-            let same : erase.time ≡ since = struck.2 in
-            let fresh = applies.fresh erase struck.1 in
-            record { place = erase.seq; call = Erase erase.range; done = accepted.done; erasure = tt; timed = sym same ∙ accepted.timed; fresh = omega arith }
+            record { place = erase.seq; call = Erase erase.range; done = accepted.done; erasure = tt; timed = sym struck.2 ∙ accepted.timed; fresh = omega (arith, applies.fresh erase struck.1, struck.2) }
       ]
     ]
 

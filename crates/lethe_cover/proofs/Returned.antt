@@ -1,7 +1,7 @@
 -- Erases that are spent may come back to the pending ones.
-use Rattle.std.proofs.Common.{◌≡◌, inl, inr, ℕ, ◌<◌, ◌≤◌, true, if◌then◌else◌, List, Contains, Some, None, refl, sym, ap, ◌∙◌, subst, arith}
+use Rattle.std.proofs.Common.{◌≡◌, inl, inr, ℕ, ◌<◌, ◌≤◌, true, List, Contains, Some, refl, sym, ap, ◌∙◌, subst, arith}
 use Rattle.std.specs.Cmp.{both_ways}
-use Rattle.std.specs.List.{list_any}
+use Rattle.std.proofs.Math.Logic.{⊎_elim}
 use Rattle.lethe_base.specs.Keys.{Bytes}
 use Rattle.lethe_base.specs.History.{Pair, History}
 use Rattle.lethe_base.specs.Matching.{IsPut, matches, pair_under, answer_under}
@@ -18,7 +18,7 @@ use Rattle.lethe_base.specs.declared.entry.Entry.{Entry}
 use Rattle.lethe_base.specs.declared.pending.Pending.{Pending}
 use Rattle.lethe_base.proofs.HeldLaws.{shown_held}
 use Rattle.lethe_cover.proofs.Bridge.{entries_cover, same_order}
-use Rattle.lethe_cover.proofs.Erasures.{any_found, any_made, match_parts}
+use Rattle.lethe_cover.proofs.Erasures.{any_match, any_found, any_made, match_parts}
 use Rattle.lethe_cover.proofs.Replaced.{hidden}
 
 module _ (threshold : ℕ) (h : History) (l : Layout) (pending : List Pending) (covers : Covers threshold h (record l { pending = pending })) (shorter : IsShorter l pending)
@@ -29,42 +29,30 @@ module _ (threshold : ℕ) (h : History) (l : Layout) (pending : List Pending) (
         → matches erase entry.seq dkey ≡ true → ⊥
     missed entry dkey value erase newest is done spent hit =
         let held = shown_held l entry newest.shown in
-        let lower : entry.seq < erase.seq = (match_parts erase entry.seq dkey hit).0 in
-        elim (held.1) [
-          | inl recorded ↦ let above : erase.seq ≤ entry.seq = spent.segments entry recorded.0 (subst IsPut (sym is) tt) in absurd (omega arith)
+        elim held.1 [
+          | inl recorded ↦ omega (arith, spent.segments entry recorded.0 (subst IsPut (sym is) tt), (match_parts erase entry.seq dkey hit).0)
           | inr filed ↦
-              let upto : erase.seq ≤ filed.0.file.swept = spent.files filed.0.file filed.0.there in
               let above = hidden threshold h l.clock (Holds l) (Shows l) pending (entries_cover threshold h (record l { pending = pending }) covers)
-              entry filed.0.file.swept dkey value erase (inr (filed.0, refl)) is done hit upto in
-              let last : above.above.seq ≤ entry.seq = newest.last above.above above.shown above.same in
-              let newer : entry.seq < above.above.seq = above.newer in absurd (omega arith)
+                  entry filed.0.file.swept dkey value erase (inr (filed.0, refl)) is done hit (spent.files filed.0.file filed.0.there) in
+              omega (arith, newest.last above.above above.shown above.same, above.newer)
         ]
 
-    same_answer : (entry : Entry) → IsNewest (Shows l) entry → answer_under l.pending entry ≡ answer_under pending entry
-    same_answer entry newest = by entry.body refl
-      where
-        same_any : (dkey : ℕ) (value : Bytes) → entry.body ≡ body.Put dkey value
-            → list_any (λ erase. matches erase entry.seq dkey) l.pending ≡ list_any (λ erase. matches erase entry.seq dkey) pending
-        same_any dkey value is = both_ways _ _
-            (λ some. let found = any_found (λ erase. matches erase entry.seq dkey) l.pending some in elim (shorter.spent found.0 found.1) [
-              | inl there ↦ any_made (λ erase. matches erase entry.seq dkey) pending found.0 there found.2
-              | inr spent ↦ absurd (missed entry dkey value found.0 newest is (accepted found.0 found.1).0 spent found.2)
-            ])
-            (λ some. let found = any_found (λ erase. matches erase entry.seq dkey) pending some in
-            any_made (λ erase. matches erase entry.seq dkey) l.pending found.0 (shorter.known found.0 found.1) found.2)
+    same_any : (entry : Entry) → IsNewest (Shows l) entry → (dkey : ℕ) (value : Bytes) → entry.body ≡ body.Put dkey value → any_match l.pending entry.seq dkey ≡ any_match pending entry.seq dkey
+    same_any entry newest dkey value is = both_ways _ _
+        (λ some. let found = any_found l.pending entry.seq dkey some in elim (shorter.spent found.0 found.1) [
+          | inl there ↦ any_made pending entry.seq dkey found.0 there found.2
+          | inr spent ↦ absurd (missed entry dkey value found.0 newest is (accepted found.0 found.1).0 spent found.2)
+        ])
+        (λ some. let found = any_found pending entry.seq dkey some in any_made l.pending entry.seq dkey found.0 (shorter.known found.0 found.1) found.2)
 
-        by : (b : Body) → entry.body ≡ b → pair_under l.pending entry.seq b ≡ pair_under pending entry.seq b
-        by (body.Put dkey value) is = ap (λ any. if any then None else Some (let pair : Pair = (dkey, value) in pair)) (same_any dkey value is)
-        by body.Tomb is = refl
+    same_answer : (entry : Entry) → IsNewest (Shows l) entry → answer_under l.pending entry ≡ answer_under pending entry
+    same_answer entry newest = grind (arith, same_any entry newest)
 
     pub returned_covers : Covers threshold h l
     returned_covers = record {
       places = record {
         entries = covers.places.entries;
-        erases = λ erase is. elim is [
-          | inl there ↦ (accepted erase there).0
-          | inr recorded ↦ covers.places.erases erase (inr recorded)
-        ];
+        erases = λ erase. ⊎_elim (λ there. (accepted erase there).0) (λ recorded. covers.places.erases erase (inr recorded));
       };
       newer_above = same_order (record l { pending = pending }) l.clock l.count l.next l.certificate l.pending covers.newer_above;
       same_map = record {
@@ -85,9 +73,6 @@ module _ (threshold : ℕ) (h : History) (l : Layout) (pending : List Pending) (
       };
       times_fresh = record {
         entries = covers.times_fresh.entries;
-        erases = λ erase is. elim is [
-          | inl there ↦ (accepted erase there).1
-          | inr recorded ↦ covers.times_fresh.erases erase (inr recorded)
-        ];
+        erases = λ erase. ⊎_elim (λ there. (accepted erase there).1) (λ recorded. covers.times_fresh.erases erase (inr recorded));
       };
     }
