@@ -20,18 +20,18 @@ map_from f (x ∷ xs) y there = elim (first_or_rest (f x) (map f xs) y there) [
   | inr rest ↦ let found = map_from f xs y rest in (found.0, Contains-append_right (x ∷ []) xs found.0 found.1, found.2)
 ]
 
-pub flat_in : {X : Type 0} (xss : List (List X)) (xs : List X) (x : X) → Contains xss xs → Contains xs x → Contains (flat_map (λ ys. ys) xss) x
-flat_in [] xs x there is = absurd (none_in xs there)
-flat_in (ys ∷ xss) xs x there is = elim (first_or_rest ys xss xs there) [
-  | inl same ↦ Contains-append_left ys (flat_map (λ ys. ys) xss) x (subst (λ ys. Contains ys x) (sym same) is)
-  | inr rest ↦ Contains-append_right ys (flat_map (λ ys. ys) xss) x (flat_in xss xs x rest is)
+pub flat_in : {X Y : Type 0} (f : X → List Y) (xs : List X) (x : X) (y : Y) → Contains xs x → Contains (f x) y → Contains (flat_map f xs) y
+flat_in f [] x y there is = absurd (none_in x there)
+flat_in f (first ∷ xs) x y there is = elim (first_or_rest first xs x there) [
+  | inl same ↦ Contains-append_left (f first) (flat_map f xs) y (subst (λ x. Contains (f x) y) (sym same) is)
+  | inr rest ↦ Contains-append_right (f first) (flat_map f xs) y (flat_in f xs x y rest is)
 ]
 
-pub flat_from : {X : Type 0} (xss : List (List X)) (x : X) → Contains (flat_map (λ ys. ys) xss) x → (xs : List X) × Contains xss xs × Contains xs x
-flat_from [] x there = absurd (none_in x there)
-flat_from (ys ∷ xss) x there = elim (Contains-append_cases ys (flat_map (λ ys. ys) xss) x there) [
-  | inl first ↦ (ys, first_is ys xss ys refl, first)
-  | inr rest ↦ let found = flat_from xss x rest in (found.0, Contains-append_right (ys ∷ []) xss found.0 found.1, found.2)
+pub flat_from : {X Y : Type 0} (f : X → List Y) (xs : List X) (y : Y) → Contains (flat_map f xs) y → (x : X) × Contains xs x × Contains (f x) y
+flat_from f [] y there = absurd (none_in y there)
+flat_from f (first ∷ xs) y there = elim (Contains-append_cases (f first) (flat_map f xs) y there) [
+  | inl here ↦ (first, first_is first xs first refl, here)
+  | inr rest ↦ let found = flat_from f xs y rest in (found.0, Contains-append_right (first ∷ []) xs found.0 found.1, found.2)
 ]
 
 -- files as runs of their own
@@ -83,7 +83,7 @@ pub falls_from : (runs : List (List File)) → AllPairs IsOver runs → Falls ru
 falls_from [] order = tt
 falls_from (run ∷ runs) order = (
   (λ entry older above below same.
-      let found = flat_from runs below.file below.there in
+      let found = flat_from (λ files. files) runs below.file below.there in
       let k = found.1.0 in
       let within : k < length runs = found.1.1 in
       let at : get_or runs k found.0 ≡ found.0 = found.1.2 in
@@ -96,7 +96,7 @@ pub falls_to : (runs : List (List File)) → Falls runs → AllPairs IsOver runs
 falls_to [] falls = λ i j d before within. absurd (omega arith)
 falls_to (run ∷ runs) falls = AllPairs-cons IsOver run runs
     (λ k d within entry older above below same. falls.0 entry older above
-    (in_more below (λ file there. flat_in runs (get_or runs k d) file (Contains-get_or runs k d within) there)) same)
+    (in_more below (λ file there. flat_in (λ files. files) runs (get_or runs k d) file (Contains-get_or runs k d within) there)) same)
     (falls_to runs falls.1)
 
 pub over_append : (a b : List (List File)) → Falls (a ++ b) → IsOver (files_in a) (files_in b)

@@ -21,7 +21,7 @@ use Rattle.std.proofs.Math.ListN.{get_or-map}
 use Rattle.std.proofs.lemmas.List.{length-map}
 use Rattle.lethe_cover.proofs.FilesInRuns.{map_from}
 
-in_map : {X Y : Type 0} (f : X → Y) (xs : List X) (x : X) → Contains xs x → Contains (map f xs) (f x)
+pub in_map : {X Y : Type 0} (f : X → Y) (xs : List X) (x : X) → Contains xs x → Contains (map f xs) (f x)
 in_map f xs x there = (there.0, omega (arith, length-map xs f, there.1), get_or-map f xs there.0 x ∙ ap f there.2)
 
 -- the body answers what the entry answers under the erases

@@ -1,0 +1,4 @@
+pub mod KeyOrder
+pub mod Pairs
+pub mod Tiled
+pub mod Apart

@@ -27,8 +27,8 @@ frozen_entries l = finmap.values (buffer_of (frozen_records l))
 
 -- The files have what is left of the frozen buffer, where the pending erases are applied. Whether they are alone is
 -- decided by all of the buffer's keys, before any entry is dropped.
-pub record Flushes (h : History) (l : Layout) (made : List File) : Type 0 where
+pub record Flushes (h : History) (l : Layout) (files : List File) : Type 0 where
   pub alone : Bool
   pub clear : IsTrue alone → All (IsClearOf (span_of (frozen_entries l))) (files_of l)
-  pub made : AreMade (merged (frozen_entries l) l.pending alone) (length h) made
-  pub new : AreNew (files_of l) made
+  pub made : AreMade (merged (frozen_entries l) l.pending alone) (length h) files
+  pub new : AreNew (files_of l) files

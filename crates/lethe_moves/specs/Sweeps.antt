@@ -34,11 +34,13 @@ abbrev pub below_of : List (List File) → List File → List (List File) → Li
 below_of [] behind deeper = behind ++ flat_map (λ files. files) deeper
 below_of (level ∷ above) behind deeper = flat_map (λ files. files) deeper
 
--- The erase is pending, and the file isn't swept of it yet. Alone, where no file below overlaps the file, what it matches is dropped.
+-- The erase is pending, and it is the oldest pending one that the file isn't swept of. Alone, where no file below overlaps the
+-- file, what it matches is dropped.
 pub record SweepsFile (h : History) (l : Layout) (erase : Pending) (s : Sweep) : Type 0 where
   pub levels : l.levels ≡ levels_before s
   pub pending : Contains l.pending erase
   pub due : s.file.swept < erase.seq
+  pub oldest : (other : Pending) → Contains l.pending other → s.file.swept < other.seq → erase.seq ≤ other.seq
   pub alone : Bool
   pub clear : IsTrue alone → All (IsClearOf (keys_of s.file)) (below_of s.above s.behind s.deeper)
   pub bottom : s.deeper ≡ [] → IsTrue alone

@@ -1,0 +1,75 @@
+-- Lists each two items of which are related, by recursion.
+use Rattle.std.proofs.Common.{◌≡◌, inl, inr, ℕ, suc, ◌<◌, List, [], ◌∷◌, ◌++◌, map, length, get_or, All, AllPairs, Contains, refl, subst, arith}
+use Rattle.std.proofs.lemmas.List.Elements.{Contains-append_left, Contains-append_right, Contains-append_cases, Contains-get_or}
+use Rattle.std.proofs.lemmas.List.Kept.{AllPairs-cons}
+use Rattle.lethe_base.proofs.LayoutLaws.{none_in}
+use Rattle.lethe_base.proofs.Newest.{first_or_rest, first_is}
+use Rattle.lethe_cover.proofs.FilesInRuns.{map_from}
+use Rattle.lethe_cover.proofs.Merging.{in_map}
+
+pub in_rest : {X : Type 0} (x : X) (xs : List X) (y : X) → Contains xs y → Contains (x ∷ xs) y
+in_rest x xs y there = Contains-append_right (x ∷ []) xs y there
+
+pub all_from : {X : Type 0} (P : X → Type 0) (xs : List X) → ((x : X) → Contains xs x → P x) → All P xs
+all_from P xs each = λ k d within. each (get_or xs k d) (Contains-get_or xs k d within)
+
+abbrev pub Pairs : {X : Type 0} → (X → X → Type 0) → List X → Type 0
+Pairs R [] = Unit {0}
+Pairs R (x ∷ xs) = ((y : _) → Contains xs y → R x y) × Pairs R xs
+
+module _ {X : Type 0} (R : X → X → Type 0) where
+  pub pairs_from : (xs : List X) → AllPairs R xs → Pairs R xs
+  pairs_from [] pairs = tt
+  pairs_from (x ∷ xs) pairs = (
+    (λ y there.
+        let k = there.0 in
+        let within : k < length xs = there.1 in
+        subst (R x) there.2 (pairs 0 (suc k) y (omega arith) (omega arith))),
+    pairs_from xs (λ i j d before within. pairs (suc i) (suc j) d (omega arith) (omega arith)),
+  )
+
+  pub pairs_to : (xs : List X) → Pairs R xs → AllPairs R xs
+  pairs_to [] pairs = λ i j d before within. absurd (omega arith)
+  pairs_to (x ∷ xs) pairs = AllPairs-cons R x xs (all_from (R x) xs pairs.0) (pairs_to xs pairs.1)
+
+  pub pairs_append : (xs ys : List X) → Pairs R xs → Pairs R ys → ((x y : X) → Contains xs x → Contains ys y → R x y) → Pairs R (xs ++ ys)
+  pairs_append [] ys first second across = second
+  pairs_append (x ∷ xs) ys first second across = (
+    (λ y there. elim (Contains-append_cases xs ys y there) [
+      | inl left ↦ first.0 y left
+      | inr right ↦ across x y (first_is x xs x refl) right
+    ]),
+    pairs_append xs ys first.1 second (λ a b left right. across a b (in_rest x xs a left) right),
+  )
+
+  pub pairs_parts : (xs ys : List X) → Pairs R (xs ++ ys) → Pairs R xs × Pairs R ys × ((x y : X) → Contains xs x → Contains ys y → R x y)
+  pairs_parts [] ys pairs = (tt, pairs, λ x y left right. absurd (none_in x left))
+  pairs_parts (x ∷ xs) ys pairs =
+      let more = pairs_parts xs ys pairs.1 in (
+        ((λ y left. pairs.0 y (Contains-append_left xs ys y left)), more.0),
+        more.1,
+        λ a b left right. elim (first_or_rest x xs a left) [
+          | inl same ↦ subst (λ x. R x b) same (pairs.0 b (Contains-append_right xs ys b right))
+          | inr rest ↦ more.2 a b rest right
+        ],
+      )
+
+  -- other items in the place of some
+  pub spliced : (before gone come behind : List X) → Pairs R (before ++ (gone ++ behind)) → Pairs R come → ((x y : X) → Contains before x → Contains come y → R x y)
+      → ((x y : X) → Contains come x → Contains behind y → R x y) → Pairs R (before ++ (come ++ behind))
+  spliced before gone come behind pairs new left right =
+      let outer = pairs_parts before (gone ++ behind) pairs in
+      let inner = pairs_parts gone behind outer.1 in
+      pairs_append before (come ++ behind) outer.0 (pairs_append come behind new inner.1 right)
+      (λ x y one two. elim (Contains-append_cases come behind y two) [
+        | inl made ↦ left x y one made
+        | inr old ↦ outer.2 x y one (Contains-append_right gone behind y old)
+      ])
+
+  pub pairs_map : {Y : Type 0} (f : Y → X) (ys : List Y) → Pairs (λ a b. R (f a) (f b)) ys → Pairs R (map f ys)
+  pairs_map f [] pairs = tt
+  pairs_map f (y ∷ ys) pairs = ((λ x there. let from = map_from f ys x there in subst (R (f y)) from.2 (pairs.0 from.0 from.1)), pairs_map f ys pairs.1)
+
+  pub pairs_unmap : {Y : Type 0} (f : Y → X) (ys : List Y) → Pairs R (map f ys) → Pairs (λ a b. R (f a) (f b)) ys
+  pairs_unmap f [] pairs = tt
+  pairs_unmap f (y ∷ ys) pairs = ((λ z there. pairs.0 (f z) (in_map f ys z there)), pairs_unmap f ys pairs.1)
