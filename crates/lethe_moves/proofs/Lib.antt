@@ -1,4 +1,10 @@
 pub mod KeyOrder
 pub mod Pairs
+pub mod Rising
 pub mod Tiled
 pub mod Apart
+pub mod Orders
+pub mod Frozen
+pub mod Bare
+pub mod Outputs
+pub mod Flushing
