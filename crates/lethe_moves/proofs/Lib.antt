@@ -8,3 +8,5 @@ pub mod Frozen
 pub mod Bare
 pub mod Outputs
 pub mod Flushing
+pub mod Levels
+pub mod MergeMoves
