@@ -10,3 +10,4 @@ pub mod Outputs
 pub mod Flushing
 pub mod Levels
 pub mod MergeMoves
+pub mod SweepMoves
