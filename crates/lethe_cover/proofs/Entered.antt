@@ -2,6 +2,7 @@
 use Rattle.std.proofs.Common.{◌≡◌, ◌⊎◌, inl, inr, ℕ, ◌<◌, ◌≤◌, min, true, false, cond, Contains, Option, Some, None, unwrap_or, option_and_then, refl, sym, ap, ◌∙◌, subst, arith}
 use Rattle.std.specs.Cmp.Lexicographic.{nat_list_cmp_total}
 use Rattle.std.specs.FinMap as finmap
+use Rattle.std.proofs.Math.Logic.{⊎_elim, ⊎_map}
 use Rattle.lethe_base.specs.Keys.{Bytes, same_key}
 use Rattle.lethe_base.specs.History.{Pair, History, after}
 use Rattle.lethe_base.specs.Entries.{pair_of}
@@ -22,7 +23,7 @@ use Rattle.lethe_base.proofs.Newest.{same_key-self, same_key-true}
 use Rattle.lethe_cover.specs.Changes.{IsChange, followed}
 use Rattle.lethe_cover.specs.Steps.{IsCounted, next_place, with_done, recorded, time_of, put_entry, tomb_entry}
 use Rattle.lethe_cover.proofs.Records.{buffer_keyed, same_key-false, shows_cases, shows_still, shows_new, held_within, shown_within}
-use Rattle.lethe_cover.proofs.Changed.{done_next, change_covers}
+use Rattle.lethe_cover.proofs.Changed.{done_next, map_next, change_covers}
 use Rattle.lethe_cover.proofs.Grown.{done_within, fresh_more, clock_next}
 use Rattle.lethe_cover.proofs.Erasures.{answer_late}
 
@@ -30,20 +31,16 @@ use Rattle.lethe_cover.proofs.Erasures.{answer_late}
 time_at : (key : Bytes) (l : Layout) (old : Entry) → InBuffer (buffer_of l.active) old → old.key ≡ key → time_of key l ≡ old.since
 time_at key l old is same = ap (option_and_then (λ entry. entry.since)) (ap (finmap.get (buffer_of l.active)) (sym same) ∙ is)
 
-time_from : (key : Bytes) (l : Layout) (time : ℕ) → time_of key l ≡ Some time → (old : Entry) × InBuffer (buffer_of l.active) old × (old.since ≡ Some time)
-time_from key l time is = by (finmap.get (buffer_of l.active) key) refl is
-  where
-    by : (o : Option Entry) → finmap.get (buffer_of l.active) key ≡ o → option_and_then (λ entry. entry.since) o ≡ Some time
-        → (old : Entry) × InBuffer (buffer_of l.active) old × (old.since ≡ Some time)
-    by None at is = absurd (let clash : None ≡ Some time = is in cc)
-    by (Some old) at is = (old, ap (finmap.get (buffer_of l.active)) (buffer_keyed l.active key old at) ∙ at, is)
+time_from : (key : Bytes) (l : Layout) (time : ℕ) → time_of key l ≡ Some time → (old : Entry) × (finmap.get (buffer_of l.active) key ≡ Some old) × (old.since ≡ Some time)
+time_from key l time is = grind arith
 
 module _ (threshold caller : ℕ) (h : History) (l : Layout) (covers : Covers threshold h l) (call : Call) where
   -- a buffer's time stays fresh
   time_fresh : (key : Bytes) (time : ℕ) → time_of key l ≡ Some time → IsFresh threshold (with_done h caller call) l.clock time
   time_fresh key time is =
       let old = time_from key l time is in
-      let held = shown_held l old.0 (inl (inl old.1)) in
+      let there : InBuffer (buffer_of l.active) old.0 = ap (finmap.get (buffer_of l.active)) (buffer_keyed l.active key old.0 old.1) ∙ old.1 in
+      let held = shown_held l old.0 (inl (inl there)) in
       fresh_more h (record { caller = caller; call = call; did = Done }) threshold l.clock time (covers.times_fresh.entries old.0 held.0 time held.1 old.2)
 
   -- the map has what the new entry says of its key, and of the others what it had
@@ -56,50 +53,37 @@ module _ (threshold caller : ℕ) (h : History) (l : Layout) (covers : Covers th
       shown_now : Shows now new
       shown_now = shows_new l (Written new) l.pending new refl
 
+      got_other : (key : Bytes) → (key ≡ new.key → ⊥) → finmap.get (after (with_done h caller call)).map key ≡ finmap.get (after h).map key
+      got_other key apart = grind (arith, got key, same_key-false key new.key apart)
+
+      got_own : finmap.get (after (with_done h caller call)).map new.key ≡ pair_of new.body
+      got_own = grind (arith, got new.key, same_key-self new.key)
+
+      shown_still : (f : Entry) → Shows l f → Shows now f ⊎ (f.key ≡ new.key)
+      shown_still f shown = ⊎_map (λ still. still) (λ replaced. let key = replaced.0 in let made = key.is in let one : new ≡ key.entry = cc in key.same ∙ ap (λ e. e.key) (sym one)) (shows_still l (Written new) l.pending f shown)
+
       -- what is newest and was shown is of another key
       unlike : (entry : Entry) → IsNewest (Shows now) entry → Shows l entry → entry.key ≡ new.key → ⊥
-      unlike entry newest shown same =
-          let last : new.seq ≤ entry.seq = newest.last new shown_now (sym same) in
-          let within = shown_within threshold h l covers entry shown in absurd (omega arith)
+      unlike entry newest shown same = omega (arith, newest.last new shown_now (sym same), shown_within threshold h l covers entry shown, next)
+
+      late : (erase : Pending) → Contains l.pending erase → erase.seq ≤ new.seq
+      late erase there = omega (arith, next, done_within h erase.seq (Erase erase.range) (covers.places.erases erase (inl there)).done)
 
       entered_newest : (entry : Entry) → IsNewest (Shows now) entry → answer_under l.pending entry ≡ finmap.get (after (with_done h caller call)).map entry.key
       entered_newest entry newest = elim (shows_cases l (Written new) l.pending entry newest.shown) [
-        | inl old ↦
-            let other : same_key entry.key new.key ≡ false = same_key-false entry.key new.key (unlike entry newest old) in
-            covers.same_map.newest entry (record {
-              shown = old;
-              last = λ f shown same. elim (shows_still l (Written new) l.pending f shown) [
-                | inl still ↦ newest.last f still same
-                | inr replaced ↦
-                    let key = replaced.0 in
-                    let made = key.is in
-                    let one : new ≡ key.entry = cc in
-                    absurd (unlike entry newest old (sym same ∙ key.same ∙ ap (λ e. e.key) (sym one)))
-              ];
-            }) ∙ sym (got entry.key ∙ ap (λ b. cond b (pair_of new.body) (finmap.get (after h).map entry.key)) other)
+        | inl old ↦ covers.same_map.newest entry (record {
+          shown = old;
+          last = λ f shown same. ⊎_elim (λ still. newest.last f still same) (λ replaced. absurd (unlike entry newest old (sym same ∙ replaced))) (shown_still f shown);
+        }) ∙ sym (got_other entry.key (unlike entry newest old))
         | inr made ↦
             let one : new ≡ entry = cc in
-            subst (λ e. answer_under l.pending e ≡ finmap.get (after (with_done h caller call)).map e.key) one
-            (answer_late l.pending new.seq new.body (λ erase there. late erase there)
-            ∙ sym (got new.key ∙ ap (λ b. cond b (pair_of new.body) (finmap.get (after h).map new.key)) (same_key-self new.key)))
+            subst (λ e. answer_under l.pending e ≡ finmap.get (after (with_done h caller call)).map e.key) one (answer_late l.pending new.seq new.body late ∙ sym got_own)
       ]
-        where
-          late : (erase : Pending) → Contains l.pending erase → erase.seq ≤ new.seq
-          late erase there =
-              let within = done_within h erase.seq (Erase erase.range) (covers.places.erases erase (inl there)).done in omega arith
 
       entered_absent : (key : Bytes) → ((entry : Entry) → Shows now entry → entry.key ≡ key → ⊥) → finmap.get (after (with_done h caller call)).map key ≡ None
       entered_absent key none =
-          let other : same_key key new.key ≡ false = same_key-false key new.key (λ same. none new shown_now (sym same)) in
-          got key ∙ ap (λ b. cond b (pair_of new.body) (finmap.get (after h).map key)) other
-          ∙ covers.same_map.absent key (λ entry shown same. elim (shows_still l (Written new) l.pending entry shown) [
-            | inl still ↦ none entry still same
-            | inr replaced ↦
-                let key = replaced.0 in
-                let made = key.is in
-                let one : new ≡ key.entry = cc in
-                none new shown_now (ap (λ e. e.key) one ∙ sym key.same ∙ same)
-          ])
+          let other : key ≡ new.key → ⊥ = λ same. none new shown_now (sym same) in
+          got_other key other ∙ covers.same_map.absent key (λ entry shown same. ⊎_elim (λ still. none entry still same) (λ replaced. other (sym same ∙ replaced)) (shown_still entry shown))
 
       entered_map : IsMap (Shows now) l.pending (after (with_done h caller call)).map
       entered_map = record { newest = entered_newest; absent = entered_absent }
@@ -120,7 +104,7 @@ module _ (threshold caller : ℕ) (h : History) (l : Layout) (covers : Covers th
       stays = λ erase there. there;
       comes = λ erase there. inl there;
       ends = λ entry swept d v held is erases. absurd (let clash : false ≡ true = erases in cc);
-      map = entered_map threshold caller h l covers (Put key dkey value) the_put refl (λ q. ap (λ s. finmap.get s.map q) (after-push h (record { caller = caller; call = Put key dkey value; did = Done }))
+      map = entered_map threshold caller h l covers (Put key dkey value) the_put refl (λ q. map_next h caller (Put key dkey value) q
           ∙ finmap.get-insert nat_list_cmp_total (after h).map key (let pair : Pair = (dkey, value) in pair) q);
     }
 
@@ -136,18 +120,10 @@ module _ (threshold caller : ℕ) (h : History) (l : Layout) (covers : Covers th
 
     -- the tombstone's time is the clock, or the buffer's smaller one
     time_is : (o : Option ℕ) → (min l.clock (unwrap_or o l.clock) ≡ l.clock) ⊎ (o ≡ Some (min l.clock (unwrap_or o l.clock)))
-    time_is None = inl (omega arith)
-    time_is (Some time) = elim (cases l.clock time) [
-      | inl upto ↦ inl (omega arith)
-      | inr below ↦ inr (ap Some (let smaller : time ≡ min l.clock time = omega arith in smaller))
-    ]
-      where
-        cases : (a b : ℕ) → (a ≤ b) ⊎ (b < a)
-        cases a b = grind arith
+    time_is o = grind arith
 
     time_least : (o : Option ℕ) (since : ℕ) → o ≡ Some since → min l.clock (unwrap_or o l.clock) ≤ since
-    time_least None since is = absurd (let clash : None ≡ Some since = is in cc)
-    time_least (Some time) since is = let same : time ≡ since = cc in omega arith
+    time_least o since is = grind arith
 
     tomb_fresh : (time : ℕ) → Some the_time ≡ Some time → IsFresh threshold (with_done h caller (Delete key)) l.clock time
     tomb_fresh time is = let same : the_time ≡ time = cc in subst (IsFresh threshold (with_done h caller (Delete key)) l.clock) same (elim (time_is (time_of key l)) [
@@ -176,13 +152,12 @@ module _ (threshold caller : ℕ) (h : History) (l : Layout) (covers : Covers th
         above = the_tomb;
         shown = shows_new l (Written the_tomb) l.pending the_tomb refl;
         same = sym (same_key-true entry.key key erases);
-        newer = let within = held_within threshold h l covers entry swept held in omega arith;
+        newer = omega (arith, held_within threshold h l covers entry swept held);
         since = the_time;
         has = refl;
         old = omega arith;
       };
-      map = entered_map threshold caller h l covers (Delete key) the_tomb refl (λ q. ap (λ s. finmap.get s.map q) (after-push h (record { caller = caller; call = Delete key; did = Done }))
-          ∙ finmap.get-remove nat_list_cmp_total (after h).map key q);
+      map = entered_map threshold caller h l covers (Delete key) the_tomb refl (λ q. map_next h caller (Delete key) q ∙ finmap.get-remove nat_list_cmp_total (after h).map key q);
     }
 
     pub delete_covers : Covers threshold (with_done h caller (Delete key)) (recorded l (Written the_tomb)) × IsCounted (with_done h caller (Delete key)) (recorded l (Written the_tomb))

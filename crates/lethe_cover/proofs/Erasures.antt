@@ -12,7 +12,7 @@ use Rattle.std.proofs.lemmas.List.Elements.{Contains-append_right}
 use Rattle.std.proofs.lemmas.List.Folds.{list_any-append, Any-from_list_any, list_any-from_Any}
 use Rattle.std.specs.List.{list_any}
 use Rattle.lethe_base.specs.Entries.{pair_of}
-use Rattle.lethe_base.specs.Matching.{matches, pair_under}
+use Rattle.lethe_base.specs.Matching.{IsPut, matches, pair_under}
 use Rattle.lethe_base.specs.declared.entry.Body.{Body}
 use Rattle.lethe_base.specs.declared.pending.Pending.{Pending}
 
@@ -77,6 +77,10 @@ answer_late erases seq b before = grind (arith, λ (dkey : ℕ). none_match eras
 -- one more erase takes what is in its range, of what stands before it
 pub answer_push : (erases : List Pending) (erase : Pending) (seq : ℕ) (b : Body) → seq < erase.seq → pair_under (erases ++ erase ∷ []) seq b ≡ left_by erase.range (pair_under erases seq b)
 answer_push erases erase seq b lower = grind (arith, nat_tests, list_any-append {X = Pending})
+
+pub put_of : (b : Body) → IsPut b → (pair : Pair) × (b ≡ body.Put pair.0 pair.1)
+put_of (body.Put dkey value) put = ((dkey, value), refl)
+put_of body.Tomb put = absurd put
 
 -- what answers a pair is its put, which no erase matches
 pub under_some : (erases : List Pending) (seq : ℕ) (b : Body) (pair : Pair) → pair_under erases seq b ≡ Some pair → (b ≡ body.Put pair.0 pair.1) × (any_match erases seq pair.0 ≡ false)

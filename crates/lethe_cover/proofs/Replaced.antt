@@ -17,7 +17,7 @@ use Rattle.lethe_base.specs.declared.pending.Pending.{Pending}
 use Rattle.lethe_base.proofs.CauseLaws.{cause_by, cause_is_first, erased_by}
 use Rattle.lethe_base.proofs.Overdue.{erased_is, no_erase}
 use Rattle.lethe_cover.specs.Outcomes.{EntriesCover, IsFrom, IsDropped, IsOutcome, IsApplied, IsReplaced}
-use Rattle.lethe_cover.proofs.Erasures.{any_match, match_parts, match_made, any_found, any_made, under_some, answer_applied}
+use Rattle.lethe_cover.proofs.Erasures.{any_match, put_of, match_parts, match_made, any_found, any_made, under_some, answer_applied}
 use Rattle.std.proofs.lemmas.Bool.{cases_lt}
 use Rattle.std.proofs.lemmas.Bool.Decides.{nat_tests}
 use Rattle.std.specs.List.{list_any}
@@ -74,10 +74,6 @@ placed_under h applied seq key (body.Put dkey value) body.Tomb accepted placed i
     let found = any_found applied seq dkey (grind arith) in
     let parts = match_parts found.0 seq dkey found.2 in
     inr (record { dkey = dkey; value = value; put = placed; place = found.0.seq; range = found.0.range; erase = (accepted found.0 found.1).done; later = parts.0; matched = parts.1 })
-
-put_of : (b : Body) → IsPut b → (pair : Pair) × (b ≡ body.Put pair.0 pair.1)
-put_of (body.Put dkey value) put = ((dkey, value), refl)
-put_of body.Tomb put = absurd put
 
 module _ (threshold : ℕ) (h : History) (clock : ℕ) (pending applied : List Pending) (Alone : Type 0) (inputs outputs : Entry → Type 0) (swept : ℕ)
     (holds : Entry → ℕ → Type 0) (shows : Entry → Type 0) (holds_rest : Entry → ℕ → Type 0) (shows_rest : Entry → Type 0) (holds_then : Entry → ℕ → Type 0) (shows_then : Entry → Type 0)
