@@ -1,6 +1,8 @@
 -- A layout stands for a history where its entries cover that, its parts are in order and its files are swept.
 use Rattle.std.proofs.Common.{inl, inr, ℕ, ◌<◌, ◌≤◌, List, length, Contains, Option}
-use Rattle.lethe_base.specs.History.{History}
+use Rattle.std.proofs.Math.Logic.{⊎_map}
+use Rattle.lethe_base.specs.SameMap.{IsMap}
+use Rattle.lethe_base.specs.History.{History, Map}
 use Rattle.lethe_base.specs.Layout.{Layout, File, Record, Erasing, entries_of, files_of}
 use Rattle.lethe_base.specs.Held.{IsRecorded, Holds, Shows, Tells}
 use Rattle.lethe_base.specs.NewerAbove.{IsNewerAbove}
@@ -29,6 +31,13 @@ all_applied threshold h l inputs swept covers = record {
   sound = λ erase input dkey value there taken is hit. inl there;
 }
 
+-- where the same entries are seen, the map is the same
+pub map_told : (P Q : Entry → Type 0) (pending : List Pending) (m : Map) → ((entry : Entry) → P entry → Q entry) → ((entry : Entry) → Q entry → P entry) → IsMap P pending m → IsMap Q pending m
+map_told P Q pending m to back is = record {
+  newest = λ entry newest. is.newest entry (record { shown = back entry newest.shown; last = λ other shown same. newest.last other (to other shown) same });
+  absent = λ key absent. is.absent key (λ entry shown same. absent entry (to entry shown) same);
+}
+
 -- other parts with records of the old ones
 module _ (threshold : ℕ) (h : History) (l : Layout) (covers : Covers threshold h l) (active : List Record) (frozen : Option (List Record)) (levels : List (List File)) where
   abbrev then : Layout
@@ -48,22 +57,13 @@ module _ (threshold : ℕ) (h : History) (l : Layout) (covers : Covers threshold
   }
     where
       told : (erase : Pending) → Tells then erase → Tells l erase
-      told erase is = elim is [
-        | inl there ↦ inl there
-        | inr recorded ↦ inr (known (Erasing erase) recorded)
-      ]
+      told erase = ⊎_map (λ there. there) (known (Erasing erase))
 
 -- the order of the parts is that of the segments and the levels alone
 pub same_order : (l : Layout) (clock count next certificate : ℕ) (pending : List Pending) → IsNewerAbove l
     → IsNewerAbove (record l { clock = clock; count = count; next = next; certificate = certificate; pending = pending })
-same_order l clock count next certificate pending order = record {
-  runs = order.runs;
-  active_frozen = order.active_frozen;
-  active_files = order.active_files;
-  frozen_files = order.frozen_files;
-  active_buffer = order.active_buffer;
-  frozen_buffer = order.frozen_buffer;
-}
+same_order l clock count next certificate pending order =
+    record { runs = order.runs; active_frozen = order.active_frozen; active_files = order.active_files; frozen_files = order.frozen_files; active_buffer = order.active_buffer; frozen_buffer = order.frozen_buffer }
 
 -- the numbers of objects and certificates say nothing of the history
 pub numbered_covers : (threshold : ℕ) (h : History) (l : Layout) → Covers threshold h l → (next certificate : ℕ) → Covers threshold h (record l { next = next; certificate = certificate })

@@ -1,6 +1,7 @@
 -- Changes that end no put and leave the map and the parts.
 use Rattle.std.proofs.Common.{◌≡◌, inl, inr, ℕ, ◌≤◌, false, true, IsTrue, [], ◌∷◌, ◌++◌, length, Some, sym, ap, ◌∙◌, subst, arith}
 use Rattle.std.proofs.lemmas.List.{length_push}
+use Rattle.std.proofs.Math.Logic.{⊎_elim}
 use Rattle.lethe_base.specs.Keys.{Bytes}
 use Rattle.lethe_base.specs.History.{History, Change, after}
 use Rattle.lethe_base.specs.Causes.{is_eraser, cause_of}
@@ -28,12 +29,10 @@ module _ (threshold : ℕ) (h : History) (l : Layout) (covers : Covers threshold
     -- the cause of what is held is the one that it had
     cause_same : (entry : Entry) (swept cause : ℕ) → Holds l entry swept → cause_of (h ++ change ∷ []) entry.seq ≡ Some cause
         → (cause_of h entry.seq ≡ Some cause) × (cause ≤ length h)
-    cause_same entry swept cause held is = elim (cause_more h change entry.seq cause (held_within threshold h l covers entry swept held) is) [
-      | inl before ↦ before
-      | inr now ↦ absurd (quiet now.key now.dkey now.erases)
-    ]
+    cause_same entry swept cause held is =
+        ⊎_elim (λ before. before) (λ now. absurd (quiet now.key now.dkey now.erases)) (cause_more h change entry.seq cause (held_within threshold h l covers entry swept held) is)
 
-    pub quiet_covers : Covers threshold (h ++ change ∷ []) (record l { clock = clock; count = count })
+    quiet_covers : Covers threshold (h ++ change ∷ []) (record l { clock = clock; count = count })
     quiet_covers = record {
       places = record {
         entries = λ entry swept held. placed_more h change entry.seq entry.key entry.body (covers.places.entries entry swept held);
@@ -43,14 +42,13 @@ module _ (threshold : ℕ) (h : History) (l : Layout) (covers : Covers threshold
       same_map = subst (IsMap (Shows l) l.pending) (sym same) covers.same_map;
       deletes_covered = λ entry swept cause held put is no_erase.
           let before = cause_same entry swept cause held is in
-          let within : cause ≤ length h = before.1 in
-          subst (IsCovered (Shows l) entry) (sym (clock_old h change cause (omega arith)))
-          (covers.deletes_covered entry swept cause held put before.0 (λ range erased. no_erase range (done_old h change cause within ∙ erased)));
+          subst (IsCovered (Shows l) entry) (sym (clock_old h change cause (omega (arith, before.1))))
+              (covers.deletes_covered entry swept cause held put before.0 (λ range erased. no_erase range (done_old h change cause before.1 ∙ erased)));
       erases_covered = record {
         pending = λ entry swept cause range held put is erased.
             let before = cause_same entry swept cause held is in
             covers.erases_covered.pending entry swept cause range held put before.0 (sym (done_old h change cause before.1) ∙ erased);
-        swept = λ file there. let within = covers.erases_covered.swept file there in omega (arith, length_push h change);
+        swept = λ file there. omega (arith, length_push h change, covers.erases_covered.swept file there);
         unswept = covers.erases_covered.unswept;
       };
       times_fresh = record {
@@ -62,20 +60,12 @@ module _ (threshold : ℕ) (h : History) (l : Layout) (covers : Covers threshold
 pub failed_covers : (threshold caller : ℕ) (h : History) (l : Layout) → Covers threshold h l → (call : Call) (before after : ℕ)
     → Covers threshold (with_failed h caller call before after) l
 failed_covers threshold caller h l covers call before behind =
-    quiet_covers threshold h l covers (record { caller = caller; call = call; did = Failed before behind })
-    (λ key dkey erases. let clash : false ≡ true = erases in cc)
-    (ap (λ s. s.map) (after-push h (record { caller = caller; call = call; did = Failed before behind })))
-    l.clock l.count covers.times_fresh
+    let change : Change = record { caller = caller; call = call; did = Failed before behind } in
+    quiet_covers threshold h l covers change (λ key dkey erases. let clash : false ≡ true = erases in cc) (ap (λ s. s.map) (after-push h change)) l.clock l.count covers.times_fresh
 
 pub tick_covers : (threshold caller : ℕ) (h : History) (l : Layout) → Covers threshold h l → IsCounted h l → (to : ℕ) → AreFresh threshold h to (Holds l) (Tells l)
     → Covers threshold (with_done h caller (Tick to)) (ticked h l to) × IsCounted (with_done h caller (Tick to)) (ticked h l to)
-tick_covers threshold caller h l covers counted to fresh = (
-  quiet_covers threshold h l covers (record { caller = caller; call = Tick to; did = Done })
-      (λ key dkey erases. let clash : false ≡ true = erases in cc)
-      (ap (λ s. s.map) (after-push h (record { caller = caller; call = Tick to; did = Done })))
-      to (next_place h) fresh,
-  record {
-    count = omega (arith, length_push h (record { caller = caller; call = Tick to; did = Done }));
-    places = λ r is. let within = counted.places r is in omega (arith, length_push h (record { caller = caller; call = Tick to; did = Done }));
-  },
+tick_covers threshold caller h l covers counted to fresh = let change : Change = record { caller = caller; call = Tick to; did = Done } in (
+  quiet_covers threshold h l covers change (λ key dkey erases. let clash : false ≡ true = erases in cc) (ap (λ s. s.map) (after-push h change)) to (next_place h) fresh,
+  record { count = omega (arith, length_push h change); places = λ r is. omega (arith, length_push h change, counted.places r is) },
 )

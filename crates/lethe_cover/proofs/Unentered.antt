@@ -21,6 +21,7 @@ use Rattle.lethe_base.proofs.Histories.{after-push}
 use Rattle.lethe_base.proofs.Newest.{same_key-true}
 use Rattle.lethe_cover.specs.Changes.{IsChange, followed}
 use Rattle.lethe_cover.specs.Steps.{IsCounted, next_place, with_done, recorded, accepted, erasing}
+use Rattle.lethe_cover.proofs.Bridge.{map_told}
 use Rattle.lethe_cover.proofs.Changed.{done_next, map_next, change_covers}
 use Rattle.lethe_cover.proofs.Grown.{clock_next}
 use Rattle.lethe_cover.proofs.Erasures.{answer_push, left_by, get_left}
@@ -34,11 +35,8 @@ module _ (l : Layout) (r : Record) (pending : List Pending) (none : (entry : Ent
   shows_behind : (entry : Entry) → Shows l entry → Shows (followed l r pending) entry
   shows_behind entry is = ⊎_elim (λ still. still) (λ replaced. let key = replaced.0 in absurd (none key.entry key.is)) (shows_still l r pending entry is)
 
-  pub map_behind : (m : Map) → IsMap (Shows l) pending m → IsMap (Shows (followed l r pending)) pending m
-  map_behind m is = record {
-    newest = λ entry newest. is.newest entry (record { shown = shows_before entry newest.shown; last = λ other shown same. newest.last other (shows_behind other shown) same });
-    absent = λ key absent. is.absent key (λ entry shown same. absent entry (shows_behind entry shown) same);
-  }
+  map_behind : (m : Map) → IsMap (Shows l) pending m → IsMap (Shows (followed l r pending)) pending m
+  map_behind m = map_told (Shows l) (Shows (followed l r pending)) pending m shows_behind shows_before
 
 module _ (threshold caller : ℕ) (h : History) (l : Layout) (covers : Covers threshold h l) (counted : IsCounted h l)
     (key : Bytes) (none : (entry : Entry) → Shows l entry → entry.key ≡ key → ⊥)
