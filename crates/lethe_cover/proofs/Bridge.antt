@@ -1,5 +1,5 @@
 -- A layout stands for a history where its entries cover that, its parts are in order and its files are swept.
-use Rattle.std.proofs.Common.{inl, inr, ℕ, ◌<◌, ◌≤◌, List, length, Contains, Option}
+use Rattle.std.proofs.Common.{inl, ℕ, ◌<◌, ◌≤◌, List, length, Contains, Option}
 use Rattle.std.proofs.Math.Logic.{⊎_map}
 use Rattle.lethe_base.specs.SameMap.{IsMap}
 use Rattle.lethe_base.specs.History.{History, Map}

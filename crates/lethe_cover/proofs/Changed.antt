@@ -7,7 +7,7 @@ use Rattle.lethe_base.specs.Ranges.{Ends}
 use Rattle.lethe_base.specs.History.{History, Change, after, clock_before, done}
 use Rattle.lethe_base.specs.Causes.{done_call, done_at, erases, cause_of}
 use Rattle.lethe_base.specs.Matching.{IsPut}
-use Rattle.lethe_base.specs.Layout.{Layout, Record, Written, Erasing, place_of}
+use Rattle.lethe_base.specs.Layout.{Layout, Record, Erasing, place_of}
 use Rattle.lethe_base.specs.Held.{Holds, Shows, Tells}
 use Rattle.lethe_base.specs.Placed.{IsPlaced}
 use Rattle.lethe_base.specs.Covered.{IsCovered, IsNoErase, HasErase}
@@ -15,8 +15,6 @@ use Rattle.lethe_base.specs.Covers.{Covers}
 use Rattle.lethe_base.specs.declared.call.Call.{Call}
 use Rattle.lethe_base.specs.declared.call.Call.TheVariants.{Put, Delete, Erase, Tick, Work}
 use Rattle.lethe_base.specs.declared.call.Did.TheVariants.{Done}
-use Rattle.lethe_base.specs.declared.entry.Body.{Body}
-use Rattle.lethe_base.specs.declared.entry.Body.TheVariants as body
 use Rattle.lethe_base.specs.declared.entry.Entry.{Entry}
 use Rattle.lethe_base.specs.declared.pending.Pending.{Pending}
 use Rattle.lethe_base.proofs.Histories.{change_at-push, after-push}

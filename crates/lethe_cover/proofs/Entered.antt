@@ -18,7 +18,6 @@ use Rattle.lethe_base.specs.declared.call.Did.TheVariants.{Done}
 use Rattle.lethe_base.specs.declared.entry.Entry.{Entry}
 use Rattle.lethe_base.specs.declared.pending.Pending.{Pending}
 use Rattle.lethe_base.proofs.HeldLaws.{shown_held}
-use Rattle.lethe_base.proofs.Histories.{after-push}
 use Rattle.lethe_base.proofs.Newest.{same_key-self, same_key-true}
 use Rattle.lethe_cover.specs.Changes.{IsChange, followed}
 use Rattle.lethe_cover.specs.Steps.{IsCounted, next_place, with_done, recorded, time_of, put_entry, tomb_entry}

@@ -3,7 +3,7 @@ use Rattle.std.proofs.Common.{◌≡◌, List, [], ◌∷◌, Option, Some, None
 use Rattle.std.specs.FinMap as finmap
 use Rattle.lethe_base.specs.declared.entry.Body.TheVariants as body
 use Rattle.std.specs.FinMap.Entries.{find, below_all, is_sorted}
-use Rattle.lethe_base.specs.Keys.{Bytes, key_cmp, same_key}
+use Rattle.lethe_base.specs.Keys.{Bytes, key_cmp}
 use Rattle.lethe_base.specs.Ranges.{Ends, in_range}
 use Rattle.lethe_base.specs.History.{Pair, Map, without_range}
 use Rattle.lethe_base.proofs.Newest.{same_key-true, first_is}

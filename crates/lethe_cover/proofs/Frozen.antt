@@ -4,12 +4,10 @@ use Rattle.std.proofs.Math.Logic.{⊎_map}
 use Rattle.lethe_cover.specs.Outcomes.{EntriesCover}
 use Rattle.lethe_cover.proofs.Bridge.{map_told, parts_cover}
 use Rattle.lethe_base.specs.History.{History, after}
-use Rattle.lethe_base.specs.Covered.{IsCovered}
 use Rattle.lethe_base.specs.Layout.{Layout, Record, Written, frozen_records}
-use Rattle.lethe_base.specs.Held.{IsRecorded, Holds, Shows, Tells}
+use Rattle.lethe_base.specs.Held.{IsRecorded, Holds, Shows}
 use Rattle.lethe_base.specs.Covers.{Covers}
 use Rattle.lethe_base.specs.declared.entry.Entry.{Entry}
-use Rattle.lethe_base.specs.declared.pending.Pending.{Pending}
 use Rattle.lethe_base.proofs.HeldLaws.{buffer_recorded, shown_held}
 use Rattle.lethe_base.proofs.LayoutLaws.{none_in}
 use Rattle.lethe_cover.specs.Steps.{IsCounted, frozen}

@@ -1,9 +1,7 @@
 -- A merged list is an outcome of its inputs.
-use Rattle.std.proofs.Common.{◌≡◌, ◌⊎◌, inl, inr, ℕ, ◌≤◌, Bool, true, false, cond, IsTrue, List, [], ◌∷◌, map, Contains, Option, Some, None, option_and_then, refl, sym, ap, ◌∙◌, arith}
-use Rattle.std.specs.List.{list_any}
+use Rattle.std.proofs.Common.{◌≡◌, ◌⊎◌, inl, inr, ℕ, Bool, true, false, cond, IsTrue, List, [], ◌∷◌, map, Contains, Option, Some, None, option_and_then, refl, sym, ap, ◌∙◌, arith}
 use Rattle.std.proofs.lemmas.List.Elements.{Contains-append_right}
 use Rattle.lethe_base.specs.Keys.{Bytes}
-use Rattle.lethe_base.specs.History.{Pair}
 use Rattle.lethe_base.specs.Entries.{entry_of, pair_of}
 use Rattle.lethe_base.specs.Matching.{matches, pair_under, answer_under}
 use Rattle.lethe_base.specs.SameMap.{IsNewest}
@@ -11,12 +9,11 @@ use Rattle.lethe_base.specs.declared.entry.Body.{Body}
 use Rattle.lethe_base.specs.declared.entry.Body.TheVariants.{Put, Tomb}
 use Rattle.lethe_base.specs.declared.entry.Entry.{Entry}
 use Rattle.lethe_base.specs.declared.pending.Pending.{Pending}
-use Rattle.lethe_base.proofs.LayoutLaws.{none_in}
-use Rattle.lethe_base.proofs.Newest.{first_or_rest, first_is}
+use Rattle.lethe_base.proofs.Newest.{first_is}
 use Rattle.lethe_cover.specs.Merged.{body_under, time_under, since_under, struck, left_of, bared, IsMerged}
 use Rattle.lethe_cover.specs.Outcomes.{IsFrom, IsKept, IsDropped, IsOutcome}
 use Rattle.lethe_cover.proofs.ByKey.{entry_in, own_entry, IsBy, earlier_from, IsJoined, IsLeft, OfKey, left_is}
-use Rattle.std.proofs.Math.Logic.{⊎_elim, ⊎_map}
+use Rattle.std.proofs.Math.Logic.{⊎_map}
 use Rattle.std.proofs.Math.ListN.{get_or-map}
 use Rattle.std.proofs.lemmas.List.{length-map}
 use Rattle.lethe_cover.proofs.FilesInRuns.{map_from}

@@ -1,14 +1,14 @@
 -- A move of files keeps what a layout stands for.
-use Rattle.std.proofs.Common.{◌≡◌, ◌⊎◌, inl, inr, ℕ, ◌<◌, ◌≤◌, Bool, IsTrue, List, ◌++◌, flat_map, length, AllPairs, Contains, refl, sym, ◌∙◌, subst, arith, ap, append_assoc}
+use Rattle.std.proofs.Common.{◌≡◌, ◌⊎◌, inl, inr, ℕ, ◌<◌, Bool, IsTrue, List, ◌++◌, flat_map, AllPairs, Contains, refl, sym, ◌∙◌, subst, arith, ap, append_assoc}
 use Rattle.lethe_base.specs.History.{History}
-use Rattle.lethe_base.specs.Layout.{Layout, File, Written, place_of, buffer_of, frozen_records, runs_of, entries_of, files_of}
+use Rattle.lethe_base.specs.Layout.{Layout, File, Written, buffer_of, frozen_records, runs_of, files_of}
 use Rattle.lethe_base.specs.Held.{IsRecorded, InFiles, IsFiled, InBuffer, Holds, Shows}
 use Rattle.lethe_base.specs.NewerAbove.{IsOver, IsNewerAbove}
 use Rattle.lethe_base.specs.Covers.{Covers}
 use Rattle.lethe_base.specs.declared.entry.Entry.{Entry}
 use Rattle.lethe_base.specs.declared.pending.Pending.{Pending}
 use Rattle.lethe_base.proofs.HeldLaws.{shown_held, buffer_recorded}
-use Rattle.lethe_cover.specs.Moves.{files_in, Move, runs_before, runs_then, IsMove, Moves}
+use Rattle.lethe_cover.specs.Moves.{files_in, Move, runs_before, IsMove, Moves}
 use Rattle.lethe_cover.specs.Outcomes.{IsReplaced}
 use Rattle.lethe_cover.specs.Steps.{IsCounted}
 use Rattle.lethe_cover.proofs.Bridge.{entries_cover, parts_cover}

@@ -1,26 +1,22 @@
 -- Where inputs go and what is left of them comes, the entries say of the history what they said.
-use Rattle.std.proofs.Common.{◌≡◌, inl, inr, ℕ, ◌+◌, ◌-◌, ◌<◌, ◌≤◌, true, IsTrue, List, Option, Some, None, IsSomeAnd, option_and_then, sym, ◌∙◌, subst, arith, ◌⊎◌, Bool, false, cond, Contains, refl, ap}
+use Rattle.std.proofs.Common.{◌≡◌, inl, inr, ℕ, ◌+◌, ◌-◌, ◌<◌, ◌≤◌, true, List, Option, Some, None, sym, ◌∙◌, subst, arith, false, Contains, refl, ap}
 use Rattle.lethe_base.specs.declared.entry.Body.TheVariants as body
 use Rattle.std.specs.FinMap as finmap
 use Rattle.lethe_base.specs.Keys.{Bytes}
-use Rattle.lethe_base.specs.History.{History, Change, change_at, Pair, after, clock_before}
-use Rattle.lethe_base.specs.Causes.{done_call, done_at, erases, erases_if, is_eraser, cause_of, IsErasedAt}
-use Rattle.lethe_base.specs.Ranges.{in_range, Ends}
+use Rattle.lethe_base.specs.History.{History, Pair, after, clock_before}
+use Rattle.lethe_base.specs.Causes.{done_at, cause_of, IsErasedAt}
+use Rattle.lethe_base.specs.Ranges.{Ends}
 use Rattle.lethe_base.specs.Matching.{IsPut, matches, pair_under, answer_under}
 use Rattle.lethe_base.specs.Placed.{IsPlaced, IsAccepted}
-use Rattle.lethe_base.specs.declared.call.Call.{Call}
 use Rattle.lethe_base.specs.declared.call.Call.TheVariants.{Put, Erase}
-use Rattle.lethe_base.specs.declared.call.Did.{Did}
-use Rattle.lethe_base.specs.declared.call.Did.TheVariants.{Done, Failed}
 use Rattle.lethe_base.specs.declared.entry.Entry.{Entry}
 use Rattle.lethe_base.specs.declared.pending.Pending.{Pending}
 use Rattle.lethe_base.proofs.CauseLaws.{cause_by, cause_is_first, erased_by}
 use Rattle.lethe_base.proofs.Overdue.{erased_is, no_erase}
 use Rattle.lethe_cover.specs.Outcomes.{EntriesCover, IsFrom, IsDropped, IsOutcome, IsApplied, IsReplaced}
-use Rattle.lethe_cover.proofs.Erasures.{any_match, put_of, match_parts, match_made, any_found, any_made, under_some, answer_applied}
+use Rattle.lethe_cover.proofs.Erasures.{any_match, put_of, match_parts, any_found, any_made, under_some, answer_applied}
 use Rattle.std.proofs.lemmas.Bool.{cases_lt}
 use Rattle.std.proofs.lemmas.Bool.Decides.{nat_tests}
-use Rattle.std.specs.List.{list_any}
 use Rattle.lethe_base.specs.Entries.{pair_of}
 use Rattle.lethe_base.specs.SameMap.{IsNewest}
 use Rattle.lethe_base.specs.Covered.{IsCovered, IsNoErase, HasErase}

@@ -1,10 +1,10 @@
 -- Erases that are spent may come back to the pending ones.
-use Rattle.std.proofs.Common.{◌≡◌, inl, inr, ℕ, ◌<◌, ◌≤◌, true, List, Contains, Some, refl, sym, ap, ◌∙◌, subst, arith}
+use Rattle.std.proofs.Common.{◌≡◌, inl, inr, ℕ, ◌≤◌, true, List, Contains, refl, sym, ◌∙◌, subst, arith}
 use Rattle.std.specs.Cmp.{both_ways}
 use Rattle.std.proofs.Math.Logic.{⊎_elim}
 use Rattle.lethe_base.specs.Keys.{Bytes}
-use Rattle.lethe_base.specs.History.{Pair, History}
-use Rattle.lethe_base.specs.Matching.{IsPut, matches, pair_under, answer_under}
+use Rattle.lethe_base.specs.History.{History}
+use Rattle.lethe_base.specs.Matching.{IsPut, matches, answer_under}
 use Rattle.lethe_base.specs.Layout.{Layout}
 use Rattle.lethe_base.specs.Held.{Holds, Shows}
 use Rattle.lethe_base.specs.Spent.{IsSpent, IsShorter}
@@ -12,7 +12,6 @@ use Rattle.lethe_base.specs.Placed.{IsAccepted}
 use Rattle.lethe_base.specs.SameMap.{IsNewest}
 use Rattle.lethe_base.specs.Fresh.{IsFresh}
 use Rattle.lethe_base.specs.Covers.{Covers}
-use Rattle.lethe_base.specs.declared.entry.Body.{Body}
 use Rattle.lethe_base.specs.declared.entry.Body.TheVariants as body
 use Rattle.lethe_base.specs.declared.entry.Entry.{Entry}
 use Rattle.lethe_base.specs.declared.pending.Pending.{Pending}

@@ -1,12 +1,12 @@
 -- Changes whose record is no entry: deletes of what isn't there, and erases.
-use Rattle.std.proofs.Common.{◌≡◌, ◌⊎◌, inl, inr, ℕ, ◌<◌, Bool, true, false, cond, List, [], ◌∷◌, ◌++◌, Contains, Option, Some, None, refl, sym, ap, ◌∙◌, arith}
+use Rattle.std.proofs.Common.{◌≡◌, inl, ℕ, ◌<◌, cond, List, [], ◌∷◌, ◌++◌, Some, None, refl, sym, ap, ◌∙◌, arith}
 use Rattle.std.proofs.lemmas.List.Elements.{Contains-append_left, Contains-push, Contains-push_cases}
 use Rattle.std.specs.Cmp.Lexicographic.{nat_list_cmp_total}
 use Rattle.std.specs.FinMap as finmap
 use Rattle.std.proofs.Math.Logic.{⊎_elim, ⊎_map}
 use Rattle.lethe_base.specs.Keys.{Bytes, same_key}
 use Rattle.lethe_base.specs.Ranges.{Ends}
-use Rattle.lethe_base.specs.History.{Pair, Map, History, after, clock_before}
+use Rattle.lethe_base.specs.History.{Map, History, after, clock_before}
 use Rattle.lethe_base.specs.Layout.{Layout, Record, Written, Blind, Erasing}
 use Rattle.lethe_base.specs.Held.{Shows}
 use Rattle.lethe_base.specs.SameMap.{IsNewest, IsMap}
@@ -17,7 +17,6 @@ use Rattle.lethe_base.specs.declared.call.Call.TheVariants.{Delete, Erase}
 use Rattle.lethe_base.specs.declared.call.Did.TheVariants.{Done}
 use Rattle.lethe_base.specs.declared.entry.Entry.{Entry}
 use Rattle.lethe_base.specs.declared.pending.Pending.{Pending}
-use Rattle.lethe_base.proofs.Histories.{after-push}
 use Rattle.lethe_base.proofs.Newest.{same_key-true}
 use Rattle.lethe_cover.specs.Changes.{IsChange, followed}
 use Rattle.lethe_cover.specs.Steps.{IsCounted, next_place, with_done, recorded, accepted, erasing}
