@@ -1,16 +1,6 @@
 -- A layout stands for a history where its entries cover that, its parts are in order and its files are swept.
 use Rattle.std.proofs.Common.{inl, ℕ, ◌<◌, ◌≤◌, List, length, Contains, Option}
-use Rattle.std.proofs.Math.Logic.{⊎_map}
-use Rattle.lethe_base.specs.SameMap.{IsMap}
-use Rattle.lethe_base.specs.History.{History, Map}
-use Rattle.lethe_base.specs.Layout.{Layout, File, Record, Erasing, entries_of, files_of}
-use Rattle.lethe_base.specs.Held.{IsRecorded, Holds, Shows, Tells}
-use Rattle.lethe_base.specs.NewerAbove.{IsNewerAbove}
-use Rattle.lethe_base.specs.Covers.{Covers}
-use Rattle.lethe_base.specs.declared.entry.Entry.{Entry}
-use Rattle.lethe_base.specs.declared.pending.Pending.{Pending}
-use Rattle.lethe_base.proofs.HeldLaws.{shown_held}
-use Rattle.lethe_cover.specs.Outcomes.{EntriesCover, IsApplied}
+use Rattle.lethe_cover.proofs.Common.{⊎_map, IsMap, History, Map, Layout, File, Record, Erasing, entries_of, files_of, IsRecorded, Holds, Shows, Tells, IsNewerAbove, Covers, Entry, Pending, shown_held, EntriesCover, IsApplied}
 
 pub entries_cover : (threshold : ℕ) (h : History) (l : Layout) → Covers threshold h l → EntriesCover threshold h l.clock (Holds l) (Shows l) l.pending
 entries_cover threshold h l covers = record {

@@ -1,17 +1,7 @@
 -- The entry of a key in a list, and what is left of a key.
 use Rattle.std.proofs.Common.{◌≡◌, inl, inr, Bool, true, false, cond, is_lt, List, [], ◌∷◌, Contains, Some, None, refl, sym, ap, ◌∙◌, subst, ◌⊎◌, ℕ, ◌≤◌, nat_lt, Option, arith}
-use Rattle.std.specs.FinMap.Entries.{below_all, is_sorted}
-use Rattle.std.proofs.Math.Logic.{⊎_elim, ⊎_map}
-use Rattle.std.proofs.lemmas.List.Elements.{Contains-append_right}
-use Rattle.std.proofs.lemmas.Bool.{and_parts}
-use Rattle.lethe_base.specs.Keys.{Bytes, key_cmp, same_key}
-use Rattle.lethe_base.specs.Entries.{by_key, IsAscending, entry_of}
-use Rattle.lethe_base.specs.declared.entry.Entry.{Entry}
-use Rattle.lethe_base.proofs.LayoutLaws.{none_in}
-use Rattle.lethe_base.proofs.Newest.{first_or_rest, first_is, same_key-self, same_key-true}
-use Rattle.std.proofs.lemmas.Bool.Decides.{nat_tests}
+use Rattle.lethe_cover.proofs.Common.{below_all, is_sorted, ⊎_elim, ⊎_map, Contains-append_right, and_parts, Bytes, key_cmp, same_key, by_key, IsAscending, entry_of, Entry, none_in, first_or_rest, first_is, same_key-self, same_key-true, nat_tests, newer_of, left_of}
 use Rattle.lethe_base.specs.Shapes.{earlier}
-use Rattle.lethe_cover.specs.Merged.{newer_of, left_of}
 
 entry_of_cases : (key : Bytes) (x : Entry) (entries : List Entry) (entry : Entry) → entry_of key (x ∷ entries) ≡ Some entry → ((same_key key x.key ≡ true) × (x ≡ entry)) ⊎ (entry_of key entries ≡ Some entry)
 entry_of_cases key x entries entry is = grind arith

@@ -1,27 +1,8 @@
 -- A change with a record keeps what a layout stands for.
 use Rattle.std.proofs.Common.{◌≡◌, ◌⊎◌, inl, inr, ℕ, suc, ◌<◌, ◌≤◌, IsTrue, List, length, Some, option_and_then, refl, sym, ap, ◌∙◌, subst, arith}
-use Rattle.std.proofs.lemmas.List.{length_push}
-use Rattle.std.proofs.Math.Logic.{⊎_elim, ⊎_map}
+use Rattle.lethe_cover.proofs.Common.{length_push, ⊎_elim, ⊎_map, Ends, History, Change, after, clock_before, done, done_call, done_at, erases, cause_of, IsPut, Layout, Record, Erasing, place_of, Holds, Shows, Tells, IsPlaced, IsCovered, IsNoErase, HasErase, Covers, Call, Put, Delete, Erase, Tick, Work, Done, Entry, Pending, change_at-push, after-push, Bytes, IsSaid, HasTime, IsRemembered, IsChange, followed, IsCounted, next_place, with_done}
 use Rattle.lethe_cover.proofs.Erasures.{put_of}
-use Rattle.lethe_base.specs.Ranges.{Ends}
-use Rattle.lethe_base.specs.History.{History, Change, after, clock_before, done}
-use Rattle.lethe_base.specs.Causes.{done_call, done_at, erases, cause_of}
-use Rattle.lethe_base.specs.Matching.{IsPut}
-use Rattle.lethe_base.specs.Layout.{Layout, Record, Erasing, place_of}
-use Rattle.lethe_base.specs.Held.{Holds, Shows, Tells}
-use Rattle.lethe_base.specs.Placed.{IsPlaced}
-use Rattle.lethe_base.specs.Covered.{IsCovered, IsNoErase, HasErase}
-use Rattle.lethe_base.specs.Covers.{Covers}
-use Rattle.lethe_base.specs.declared.call.Call.{Call}
-use Rattle.lethe_base.specs.declared.call.Call.TheVariants.{Put, Delete, Erase, Tick, Work}
-use Rattle.lethe_base.specs.declared.call.Did.TheVariants.{Done}
-use Rattle.lethe_base.specs.declared.entry.Entry.{Entry}
-use Rattle.lethe_base.specs.declared.pending.Pending.{Pending}
-use Rattle.lethe_base.proofs.Histories.{change_at-push, after-push}
-use Rattle.lethe_base.specs.Keys.{Bytes}
 use Rattle.std.specs.FinMap as finmap
-use Rattle.lethe_cover.specs.Changes.{IsSaid, HasTime, IsRemembered, IsChange, followed}
-use Rattle.lethe_cover.specs.Steps.{IsCounted, next_place, with_done}
 use Rattle.lethe_cover.proofs.Grown.{done_old, placed_more, accepted_more, fresh_more, clock_old, clock_next, EndsNow, cause_more, none_behind}
 use Rattle.lethe_cover.proofs.Records.{recorded_cases, holds_cases, shows_still, shows_new, held_within, swept_within, newer_above_more}
 

@@ -1,26 +1,7 @@
 -- Puts, and deletes with a tombstone: changes whose record is an entry.
 use Rattle.std.proofs.Common.{◌≡◌, ◌⊎◌, inl, inr, ℕ, ◌<◌, ◌≤◌, min, true, false, cond, Contains, Option, Some, None, unwrap_or, option_and_then, refl, sym, ap, ◌∙◌, subst, arith}
-use Rattle.std.specs.Cmp.Lexicographic.{nat_list_cmp_total}
+use Rattle.lethe_cover.proofs.Common.{nat_list_cmp_total, ⊎_elim, ⊎_map, Bytes, same_key, Pair, History, after, pair_of, answer_under, Layout, Written, buffer_of, InBuffer, Shows, IsNewest, IsMap, IsFresh, Covers, Call, Put, Delete, Erase, Done, Entry, Pending, shown_held, same_key-self, same_key-true, IsChange, followed, IsCounted, next_place, with_done, recorded, time_of, put_entry, tomb_entry}
 use Rattle.std.specs.FinMap as finmap
-use Rattle.std.proofs.Math.Logic.{⊎_elim, ⊎_map}
-use Rattle.lethe_base.specs.Keys.{Bytes, same_key}
-use Rattle.lethe_base.specs.History.{Pair, History, after}
-use Rattle.lethe_base.specs.Entries.{pair_of}
-use Rattle.lethe_base.specs.Matching.{answer_under}
-use Rattle.lethe_base.specs.Layout.{Layout, Written, buffer_of}
-use Rattle.lethe_base.specs.Held.{InBuffer, Shows}
-use Rattle.lethe_base.specs.SameMap.{IsNewest, IsMap}
-use Rattle.lethe_base.specs.Fresh.{IsFresh}
-use Rattle.lethe_base.specs.Covers.{Covers}
-use Rattle.lethe_base.specs.declared.call.Call.{Call}
-use Rattle.lethe_base.specs.declared.call.Call.TheVariants.{Put, Delete, Erase}
-use Rattle.lethe_base.specs.declared.call.Did.TheVariants.{Done}
-use Rattle.lethe_base.specs.declared.entry.Entry.{Entry}
-use Rattle.lethe_base.specs.declared.pending.Pending.{Pending}
-use Rattle.lethe_base.proofs.HeldLaws.{shown_held}
-use Rattle.lethe_base.proofs.Newest.{same_key-self, same_key-true}
-use Rattle.lethe_cover.specs.Changes.{IsChange, followed}
-use Rattle.lethe_cover.specs.Steps.{IsCounted, next_place, with_done, recorded, time_of, put_entry, tomb_entry}
 use Rattle.lethe_cover.proofs.Records.{buffer_keyed, same_key-false, shows_cases, shows_still, shows_new, held_within, shown_within}
 use Rattle.lethe_cover.proofs.Changed.{done_next, map_next, change_covers}
 use Rattle.lethe_cover.proofs.Grown.{done_within, fresh_more, clock_next}

@@ -2,19 +2,9 @@
 use Rattle.std.proofs.Common.{◌≡◌, List, [], ◌∷◌, Option, Some, None, Bool, true, false, not, T, cond, filter, sym, ap, ◌∙◌, ◌⊎◌, inl, inr, ℕ, ◌<◌, ◌≤◌, ◌++◌, Contains, refl, arith}
 use Rattle.std.specs.FinMap as finmap
 use Rattle.lethe_base.specs.declared.entry.Body.TheVariants as body
-use Rattle.std.specs.FinMap.Entries.{find, below_all, is_sorted}
-use Rattle.lethe_base.specs.Keys.{Bytes, key_cmp}
-use Rattle.lethe_base.specs.Ranges.{Ends, in_range}
-use Rattle.lethe_base.specs.History.{Pair, Map, without_range}
-use Rattle.lethe_base.proofs.Newest.{same_key-true, first_is}
-use Rattle.std.proofs.lemmas.Bool.Decides.{nat_tests}
-use Rattle.std.proofs.lemmas.List.Elements.{Contains-append_right}
+use Rattle.lethe_cover.proofs.Common.{find, below_all, is_sorted, Bytes, key_cmp, Ends, in_range, Pair, Map, without_range, same_key-true, first_is, nat_tests, Contains-append_right, pair_of, IsPut, matches, pair_under, Body, Pending}
 use Rattle.std.proofs.lemmas.List.Folds.{list_any-append, Any-from_list_any, list_any-from_Any}
 use Rattle.std.specs.List.{list_any}
-use Rattle.lethe_base.specs.Entries.{pair_of}
-use Rattle.lethe_base.specs.Matching.{IsPut, matches, pair_under}
-use Rattle.lethe_base.specs.declared.entry.Body.{Body}
-use Rattle.lethe_base.specs.declared.pending.Pending.{Pending}
 
 -- a pair, unless the range takes it
 abbrev pub left_by : Ends → Option Pair → Option Pair

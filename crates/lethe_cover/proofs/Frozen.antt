@@ -1,16 +1,7 @@
 -- A freeze leaves what a layout holds and shows.
 use Rattle.std.proofs.Common.{◌≡◌, inl, inr, ℕ, [], Contains, Some, None, unwrap_or, subst}
-use Rattle.std.proofs.Math.Logic.{⊎_map}
-use Rattle.lethe_cover.specs.Outcomes.{EntriesCover}
+use Rattle.lethe_cover.proofs.Common.{⊎_map, EntriesCover, History, after, Layout, Record, Written, frozen_records, IsRecorded, Holds, Shows, Covers, Entry, buffer_recorded, shown_held, none_in, IsCounted, frozen}
 use Rattle.lethe_cover.proofs.Bridge.{map_told, parts_cover}
-use Rattle.lethe_base.specs.History.{History, after}
-use Rattle.lethe_base.specs.Layout.{Layout, Record, Written, frozen_records}
-use Rattle.lethe_base.specs.Held.{IsRecorded, Holds, Shows}
-use Rattle.lethe_base.specs.Covers.{Covers}
-use Rattle.lethe_base.specs.declared.entry.Entry.{Entry}
-use Rattle.lethe_base.proofs.HeldLaws.{buffer_recorded, shown_held}
-use Rattle.lethe_base.proofs.LayoutLaws.{none_in}
-use Rattle.lethe_cover.specs.Steps.{IsCounted, frozen}
 
 module _ (threshold : ℕ) (h : History) (l : Layout) (covers : Covers threshold h l) (counted : IsCounted h l) (free : l.frozen ≡ None) where
   recorded_before : (r : Record) → IsRecorded (frozen l) r → IsRecorded l r

@@ -1,20 +1,8 @@
 -- What holds of a history, with one change more.
 use Rattle.std.proofs.Common.{◌≡◌, ◌⊎◌, inl, inr, ℕ, zero, suc, ◌<◌, ◌≤◌, IsTrue, [], ◌∷◌, ◌++◌, length, Option, Some, IsSomeAnd, option_and_then, slice_get, refl, sym, ap, ◌∙◌, subst, arith}
-use Rattle.std.proofs.lemmas.List.{length_push}
+use Rattle.lethe_cover.proofs.Common.{length_push, cases_lt, Bytes, History, Change, change_at, after, clock_before, done_call, done_at, is_eraser, cause_of, IsErasedAt, IsCause, IsPlaced, IsAccepted, IsFresh, Call, Put, Delete, Erase, Body, Pending, cause_is_first, first_is_cause, change_at-push, clock_before-append, clock_before-end}
 use Rattle.std.proofs.lemmas.Option.{slice_get_within}
-use Rattle.std.proofs.lemmas.Bool.{cases_lt}
-use Rattle.lethe_base.specs.Keys.{Bytes}
-use Rattle.lethe_base.specs.History.{History, Change, change_at, after, clock_before}
-use Rattle.lethe_base.specs.Causes.{done_call, done_at, is_eraser, cause_of, IsErasedAt, IsCause}
-use Rattle.lethe_base.specs.Placed.{IsPlaced, IsAccepted}
-use Rattle.lethe_base.specs.Fresh.{IsFresh}
-use Rattle.lethe_base.specs.declared.call.Call.{Call}
-use Rattle.lethe_base.specs.declared.call.Call.TheVariants.{Put, Delete, Erase}
-use Rattle.lethe_base.specs.declared.entry.Body.{Body}
 use Rattle.lethe_base.specs.declared.entry.Body.TheVariants as body
-use Rattle.lethe_base.specs.declared.pending.Pending.{Pending}
-use Rattle.lethe_base.proofs.CauseLaws.{cause_is_first, first_is_cause}
-use Rattle.lethe_base.proofs.Histories.{change_at-push, clock_before-append, clock_before-end}
 
 change_within : (h : History) (place : ℕ) (change : Change) → change_at h place ≡ Some change → place ≤ length h
 change_within h zero change is = omega arith

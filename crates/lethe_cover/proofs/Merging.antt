@@ -1,21 +1,9 @@
 -- A merged list is an outcome of its inputs.
 use Rattle.std.proofs.Common.{◌≡◌, ◌⊎◌, inl, inr, ℕ, Bool, true, false, cond, IsTrue, List, [], ◌∷◌, map, Contains, Option, Some, None, option_and_then, refl, sym, ap, ◌∙◌, arith}
-use Rattle.std.proofs.lemmas.List.Elements.{Contains-append_right}
-use Rattle.lethe_base.specs.Keys.{Bytes}
-use Rattle.lethe_base.specs.Entries.{entry_of, pair_of}
-use Rattle.lethe_base.specs.Matching.{matches, pair_under, answer_under}
-use Rattle.lethe_base.specs.SameMap.{IsNewest}
-use Rattle.lethe_base.specs.declared.entry.Body.{Body}
+use Rattle.lethe_cover.proofs.Common.{Contains-append_right, Bytes, entry_of, pair_of, matches, pair_under, answer_under, IsNewest, Body, Entry, Pending, first_is, body_under, time_under, since_under, struck, left_of, bared, IsMerged, IsFrom, IsKept, IsDropped, IsOutcome, ⊎_map, length-map}
 use Rattle.lethe_base.specs.declared.entry.Body.TheVariants.{Put, Tomb}
-use Rattle.lethe_base.specs.declared.entry.Entry.{Entry}
-use Rattle.lethe_base.specs.declared.pending.Pending.{Pending}
-use Rattle.lethe_base.proofs.Newest.{first_is}
-use Rattle.lethe_cover.specs.Merged.{body_under, time_under, since_under, struck, left_of, bared, IsMerged}
-use Rattle.lethe_cover.specs.Outcomes.{IsFrom, IsKept, IsDropped, IsOutcome}
 use Rattle.lethe_cover.proofs.ByKey.{entry_in, own_entry, IsBy, earlier_from, IsJoined, IsLeft, OfKey, left_is}
-use Rattle.std.proofs.Math.Logic.{⊎_map}
 use Rattle.std.proofs.Math.ListN.{get_or-map}
-use Rattle.std.proofs.lemmas.List.{length-map}
 use Rattle.lethe_cover.proofs.FilesInRuns.{map_from}
 
 in_map : {X Y : Type 0} (f : X → Y) (xs : List X) (x : X) → Contains xs x → Contains (map f xs) (f x)

@@ -1,18 +1,7 @@
 -- A move of files keeps what a layout stands for.
 use Rattle.std.proofs.Common.{◌≡◌, ◌⊎◌, inl, inr, ℕ, ◌<◌, Bool, IsTrue, List, ◌++◌, flat_map, AllPairs, Contains, refl, sym, ◌∙◌, subst, arith, ap, append_assoc}
-use Rattle.lethe_base.specs.History.{History}
-use Rattle.lethe_base.specs.Layout.{Layout, File, Written, buffer_of, frozen_records, runs_of, files_of}
-use Rattle.lethe_base.specs.Held.{IsRecorded, InFiles, IsFiled, InBuffer, Holds, Shows}
-use Rattle.lethe_base.specs.NewerAbove.{IsOver, IsNewerAbove}
-use Rattle.lethe_base.specs.Covers.{Covers}
-use Rattle.lethe_base.specs.declared.entry.Entry.{Entry}
-use Rattle.lethe_base.specs.declared.pending.Pending.{Pending}
-use Rattle.lethe_base.proofs.HeldLaws.{shown_held, buffer_recorded}
-use Rattle.lethe_cover.specs.Moves.{files_in, Move, runs_before, IsMove, Moves}
-use Rattle.lethe_cover.specs.Outcomes.{IsReplaced}
-use Rattle.lethe_cover.specs.Steps.{IsCounted}
+use Rattle.lethe_cover.proofs.Common.{History, Layout, File, Written, buffer_of, frozen_records, runs_of, files_of, IsRecorded, InFiles, IsFiled, InBuffer, Holds, Shows, IsOver, IsNewerAbove, Covers, Entry, Pending, shown_held, buffer_recorded, files_in, Move, runs_before, IsMove, Moves, IsReplaced, IsCounted, ⊎_elim, ⊎_map}
 use Rattle.lethe_cover.proofs.Bridge.{entries_cover, parts_cover}
-use Rattle.std.proofs.Math.Logic.{⊎_elim, ⊎_map}
 use Rattle.lethe_cover.proofs.FilesInRuns.{in_more, files_left, files_right, files_cases, Falls, falls_from, falls_to, over_append, falls_left, falls_right, falls_append, runs_file, file_runs}
 use Rattle.lethe_cover.proofs.Replaced.{replaced_cover}
 

@@ -1,22 +1,6 @@
 -- Changes that end no put and leave the map and the parts.
 use Rattle.std.proofs.Common.{◌≡◌, ℕ, ◌≤◌, false, true, IsTrue, [], ◌∷◌, ◌++◌, length, Some, sym, ap, ◌∙◌, subst, arith}
-use Rattle.std.proofs.lemmas.List.{length_push}
-use Rattle.std.proofs.Math.Logic.{⊎_elim}
-use Rattle.lethe_base.specs.Keys.{Bytes}
-use Rattle.lethe_base.specs.History.{History, Change, after}
-use Rattle.lethe_base.specs.Causes.{is_eraser, cause_of}
-use Rattle.lethe_base.specs.Layout.{Layout}
-use Rattle.lethe_base.specs.Held.{Holds, Shows, Tells}
-use Rattle.lethe_base.specs.SameMap.{IsMap}
-use Rattle.lethe_base.specs.Covered.{IsCovered}
-use Rattle.lethe_base.specs.Fresh.{AreFresh}
-use Rattle.lethe_base.specs.Covers.{Covers}
-use Rattle.lethe_base.specs.declared.call.Call.{Call}
-use Rattle.lethe_base.specs.declared.call.Call.TheVariants.{Tick}
-use Rattle.lethe_base.specs.declared.call.Did.TheVariants.{Done, Failed}
-use Rattle.lethe_base.specs.declared.entry.Entry.{Entry}
-use Rattle.lethe_base.proofs.Histories.{after-push}
-use Rattle.lethe_cover.specs.Steps.{IsCounted, next_place, with_done, with_failed, ticked}
+use Rattle.lethe_cover.proofs.Common.{length_push, ⊎_elim, Bytes, History, Change, after, is_eraser, cause_of, Layout, Holds, Shows, Tells, IsMap, IsCovered, AreFresh, Covers, Call, Tick, Done, Failed, Entry, after-push, IsCounted, next_place, with_done, with_failed, ticked}
 use Rattle.lethe_cover.proofs.Bridge.{same_order}
 use Rattle.lethe_cover.proofs.Grown.{done_old, placed_more, accepted_more, fresh_more, clock_old, cause_more}
 use Rattle.lethe_cover.proofs.Records.{held_within}

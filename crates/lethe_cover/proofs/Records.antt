@@ -1,22 +1,8 @@
 -- What a layout with one more record holds and shows.
 use Rattle.std.proofs.Common.{◌≡◌, false, List, [], ◌∷◌, ◌++◌, fold, filter_map, Option, Some, None, refl, sym, ap, ◌∙◌, ◌⊎◌, inl, inr, ℕ, ◌+◌, ◌≤◌, length, Contains, subst, arith}
 use Rattle.std.specs.FinMap as finmap
-use Rattle.std.proofs.lemmas.List.Elements.{filter_map-append, Contains-push_cases}
+use Rattle.lethe_cover.proofs.Common.{filter_map-append, Contains-push_cases, nat_list_cmp_total, ⊎_elim, ⊎_map, Entry, Bytes, key_cmp, same_key, Record, Written, Blind, Erasing, Buffer, written, buffer_of, Layout, place_of, same_key-true, same_key-self, History, IsRecorded, Holds, InBuffer, Shows, IsNewestOf, IsNewerAbove, Covers, Pending, shown_held, followed, IsCounted}
 use Rattle.std.proofs.lemmas.List.Sums.{fold-append}
-use Rattle.std.specs.Cmp.Lexicographic.{nat_list_cmp_total}
-use Rattle.std.proofs.Math.Logic.{⊎_elim, ⊎_map}
-use Rattle.lethe_base.specs.declared.entry.Entry.{Entry}
-use Rattle.lethe_base.specs.Keys.{Bytes, key_cmp, same_key}
-use Rattle.lethe_base.specs.Layout.{Record, Written, Blind, Erasing, Buffer, written, buffer_of, Layout, place_of}
-use Rattle.lethe_base.proofs.Newest.{same_key-true, same_key-self}
-use Rattle.lethe_base.specs.History.{History}
-use Rattle.lethe_base.specs.Held.{IsRecorded, Holds, InBuffer, Shows}
-use Rattle.lethe_base.specs.NewerAbove.{IsNewestOf, IsNewerAbove}
-use Rattle.lethe_base.specs.Covers.{Covers}
-use Rattle.lethe_base.specs.declared.pending.Pending.{Pending}
-use Rattle.lethe_base.proofs.HeldLaws.{shown_held}
-use Rattle.lethe_cover.specs.Changes.{followed}
-use Rattle.lethe_cover.specs.Steps.{IsCounted}
 use Rattle.lethe_cover.proofs.Grown.{placed_within}
 
 abbrev insert : Buffer → Entry → Buffer

@@ -2,26 +2,9 @@
 use Rattle.std.proofs.Common.{◌≡◌, inl, inr, ℕ, ◌+◌, ◌-◌, ◌<◌, ◌≤◌, true, List, Option, Some, None, sym, ◌∙◌, subst, arith, false, Contains, refl, ap}
 use Rattle.lethe_base.specs.declared.entry.Body.TheVariants as body
 use Rattle.std.specs.FinMap as finmap
-use Rattle.lethe_base.specs.Keys.{Bytes}
-use Rattle.lethe_base.specs.History.{History, Pair, after, clock_before}
-use Rattle.lethe_base.specs.Causes.{done_at, cause_of, IsErasedAt}
-use Rattle.lethe_base.specs.Ranges.{Ends}
-use Rattle.lethe_base.specs.Matching.{IsPut, matches, pair_under, answer_under}
-use Rattle.lethe_base.specs.Placed.{IsPlaced, IsAccepted}
-use Rattle.lethe_base.specs.declared.call.Call.TheVariants.{Put, Erase}
-use Rattle.lethe_base.specs.declared.entry.Entry.{Entry}
-use Rattle.lethe_base.specs.declared.pending.Pending.{Pending}
-use Rattle.lethe_base.proofs.CauseLaws.{cause_by, cause_is_first, erased_by}
+use Rattle.lethe_cover.proofs.Common.{Bytes, History, Pair, after, clock_before, done_at, cause_of, IsErasedAt, Ends, IsPut, matches, pair_under, answer_under, IsPlaced, IsAccepted, Put, Erase, Entry, Pending, cause_by, cause_is_first, erased_by, EntriesCover, IsFrom, IsDropped, IsOutcome, IsApplied, IsReplaced, cases_lt, nat_tests, pair_of, IsNewest, IsCovered, IsNoErase, HasErase, IsFresh, Body}
 use Rattle.lethe_base.proofs.Overdue.{erased_is, no_erase}
-use Rattle.lethe_cover.specs.Outcomes.{EntriesCover, IsFrom, IsDropped, IsOutcome, IsApplied, IsReplaced}
 use Rattle.lethe_cover.proofs.Erasures.{any_match, put_of, match_parts, any_found, any_made, under_some, answer_applied}
-use Rattle.std.proofs.lemmas.Bool.{cases_lt}
-use Rattle.std.proofs.lemmas.Bool.Decides.{nat_tests}
-use Rattle.lethe_base.specs.Entries.{pair_of}
-use Rattle.lethe_base.specs.SameMap.{IsNewest}
-use Rattle.lethe_base.specs.Covered.{IsCovered, IsNoErase, HasErase}
-use Rattle.lethe_base.specs.Fresh.{IsFresh}
-use Rattle.lethe_base.specs.declared.entry.Body.{Body}
 
 -- an entry of the key is seen that is newer
 pub record IsHidden (shows : Entry → Type 0) (entry : Entry) : Type 0 where

@@ -1,21 +1,9 @@
 -- Erases that are spent may come back to the pending ones.
 use Rattle.std.proofs.Common.{◌≡◌, inl, inr, ℕ, ◌≤◌, true, List, Contains, refl, sym, ◌∙◌, subst, arith}
 use Rattle.std.specs.Cmp.{both_ways}
-use Rattle.std.proofs.Math.Logic.{⊎_elim}
-use Rattle.lethe_base.specs.Keys.{Bytes}
-use Rattle.lethe_base.specs.History.{History}
-use Rattle.lethe_base.specs.Matching.{IsPut, matches, answer_under}
-use Rattle.lethe_base.specs.Layout.{Layout}
-use Rattle.lethe_base.specs.Held.{Holds, Shows}
+use Rattle.lethe_cover.proofs.Common.{⊎_elim, Bytes, History, IsPut, matches, answer_under, Layout, Holds, Shows, IsAccepted, IsNewest, IsFresh, Covers, Entry, Pending, shown_held}
 use Rattle.lethe_base.specs.Spent.{IsSpent, IsShorter}
-use Rattle.lethe_base.specs.Placed.{IsAccepted}
-use Rattle.lethe_base.specs.SameMap.{IsNewest}
-use Rattle.lethe_base.specs.Fresh.{IsFresh}
-use Rattle.lethe_base.specs.Covers.{Covers}
 use Rattle.lethe_base.specs.declared.entry.Body.TheVariants as body
-use Rattle.lethe_base.specs.declared.entry.Entry.{Entry}
-use Rattle.lethe_base.specs.declared.pending.Pending.{Pending}
-use Rattle.lethe_base.proofs.HeldLaws.{shown_held}
 use Rattle.lethe_cover.proofs.Bridge.{entries_cover, same_order}
 use Rattle.lethe_cover.proofs.Erasures.{any_match, any_found, any_made, match_parts}
 use Rattle.lethe_cover.proofs.Replaced.{hidden}

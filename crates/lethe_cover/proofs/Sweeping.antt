@@ -1,18 +1,9 @@
 -- A sweep is an outcome of what it takes.
 use Rattle.std.proofs.Common.{◌≡◌, ◌⊎◌, inl, inr, ℕ, Bool, IsTrue, List, [], ◌∷◌, Some, None, refl, sym, ap, ◌∙◌, subst, arith}
-use Rattle.lethe_base.specs.Entries.{pair_of}
-use Rattle.lethe_base.specs.Matching.{answer_under}
-use Rattle.lethe_base.specs.Layout.{File}
-use Rattle.lethe_base.specs.Held.{InFiles}
-use Rattle.lethe_base.specs.SameMap.{IsNewest}
-use Rattle.lethe_base.specs.declared.entry.Entry.{Entry}
-use Rattle.lethe_base.specs.declared.pending.Pending.{Pending}
-use Rattle.lethe_cover.specs.Merged.{struck}
-use Rattle.lethe_cover.specs.Outcomes.{IsKept, IsDropped, IsOutcome}
+use Rattle.lethe_cover.proofs.Common.{pair_of, answer_under, File, InFiles, IsNewest, Entry, Pending, struck, IsKept, IsDropped, IsOutcome, ⊎_elim, ⊎_map}
 use Rattle.lethe_cover.specs.Sweeps.{swept_of, IsSwept}
 use Rattle.lethe_cover.proofs.ByKey.{IsBy}
 use Rattle.lethe_cover.proofs.Merging.{IsErasesTime, struck_by, struck_from}
-use Rattle.std.proofs.Math.Logic.{⊎_elim, ⊎_map}
 use Rattle.std.proofs.Common.{Option}
 
 -- what an output has of the entry that it comes of

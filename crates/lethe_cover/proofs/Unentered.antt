@@ -1,25 +1,7 @@
 -- Changes whose record is no entry: deletes of what isn't there, and erases.
 use Rattle.std.proofs.Common.{◌≡◌, inl, ℕ, ◌<◌, cond, List, [], ◌∷◌, ◌++◌, Some, None, refl, sym, ap, ◌∙◌, arith}
-use Rattle.std.proofs.lemmas.List.Elements.{Contains-append_left, Contains-push, Contains-push_cases}
-use Rattle.std.specs.Cmp.Lexicographic.{nat_list_cmp_total}
+use Rattle.lethe_cover.proofs.Common.{Contains-append_left, Contains-push, Contains-push_cases, nat_list_cmp_total, ⊎_elim, ⊎_map, Bytes, same_key, Ends, Map, History, after, clock_before, Layout, Record, Written, Blind, Erasing, Shows, IsNewest, IsMap, answer_under, done_at, Covers, Delete, Erase, Done, Entry, Pending, same_key-true, IsChange, followed, IsCounted, next_place, with_done, recorded, accepted, erasing}
 use Rattle.std.specs.FinMap as finmap
-use Rattle.std.proofs.Math.Logic.{⊎_elim, ⊎_map}
-use Rattle.lethe_base.specs.Keys.{Bytes, same_key}
-use Rattle.lethe_base.specs.Ranges.{Ends}
-use Rattle.lethe_base.specs.History.{Map, History, after, clock_before}
-use Rattle.lethe_base.specs.Layout.{Layout, Record, Written, Blind, Erasing}
-use Rattle.lethe_base.specs.Held.{Shows}
-use Rattle.lethe_base.specs.SameMap.{IsNewest, IsMap}
-use Rattle.lethe_base.specs.Matching.{answer_under}
-use Rattle.lethe_base.specs.Causes.{done_at}
-use Rattle.lethe_base.specs.Covers.{Covers}
-use Rattle.lethe_base.specs.declared.call.Call.TheVariants.{Delete, Erase}
-use Rattle.lethe_base.specs.declared.call.Did.TheVariants.{Done}
-use Rattle.lethe_base.specs.declared.entry.Entry.{Entry}
-use Rattle.lethe_base.specs.declared.pending.Pending.{Pending}
-use Rattle.lethe_base.proofs.Newest.{same_key-true}
-use Rattle.lethe_cover.specs.Changes.{IsChange, followed}
-use Rattle.lethe_cover.specs.Steps.{IsCounted, next_place, with_done, recorded, accepted, erasing}
 use Rattle.lethe_cover.proofs.Bridge.{map_told}
 use Rattle.lethe_cover.proofs.Changed.{done_next, map_next, change_covers}
 use Rattle.lethe_cover.proofs.Grown.{clock_next}
