@@ -61,12 +61,11 @@ module _ (threshold caller : ℕ) (h : History) (l : Layout) (covers : Covers th
         → IsRemembered (followed l r pending) (next_place h) (after h).clock entry call
     ended entry swept cause held put now =
         let own = put_of entry.body put in
-        let pair = own.0 in
-        let placed : done_at h entry.seq ≡ Some (Put entry.key pair.0 pair.1) = subst (IsPlaced h entry.seq entry.key) own.1 (covers.places.entries entry swept held) in
-        let same : Some (Put now.key now.dkey now.value) ≡ Some (Put entry.key pair.0 pair.1) = sym now.put ∙ placed in
+        let placed : done_at h entry.seq ≡ Some (Put entry.key own.0 own.1) = subst (IsPlaced h entry.seq entry.key) own.2 (covers.places.entries entry swept held) in
+        let same : Some (Put now.key now.dkey now.value) ≡ Some (Put entry.key own.0 own.1) = sym now.put ∙ placed in
         let key : now.key ≡ entry.key = cc in
-        let d : now.dkey ≡ pair.0 = cc in
-        change.ends entry swept pair.0 pair.1 held own.1 (subst (λ k. IsTrue (erases k pair.0 call)) key (subst (λ d. IsTrue (erases now.key d call)) d now.erases))
+        let d : now.dkey ≡ own.0 = cc in
+        change.ends entry swept own.0 own.1 held own.2 (subst (λ k. IsTrue (erases k own.0 call)) key (subst (λ d. IsTrue (erases now.key d call)) d now.erases))
 
     deletes : (entry : Entry) (swept cause : ℕ) → Holds (followed l r pending) entry swept → IsPut entry.body → cause_of (with_done h caller call) entry.seq ≡ Some cause
         → IsNoErase (with_done h caller call) cause → IsCovered (Shows (followed l r pending)) entry (clock_before (with_done h caller call) cause)

@@ -68,18 +68,16 @@ answer_late erases seq b before = grind (arith, λ (dkey : ℕ). none_match eras
 pub answer_push : (erases : List Pending) (erase : Pending) (seq : ℕ) (b : Body) → seq < erase.seq → pair_under (erases ++ erase ∷ []) seq b ≡ left_by erase.range (pair_under erases seq b)
 answer_push erases erase seq b lower = grind (arith, nat_tests, list_any-append {X = Pending})
 
-pub put_of : (b : Body) → IsPut b → (pair : Pair) × (b ≡ body.Put pair.0 pair.1)
-put_of (body.Put dkey value) put = ((dkey, value), refl)
-put_of body.Tomb put = absurd put
+pub put_of : (b : Body) → IsPut b → (dkey : ℕ) × (value : Bytes) × (b ≡ body.Put dkey value)
+put_of b put = grind arith
 
 -- what answers a pair is its put, which no erase matches
 pub under_some : (erases : List Pending) (seq : ℕ) (b : Body) (pair : Pair) → pair_under erases seq b ≡ Some pair → (b ≡ body.Put pair.0 pair.1) × (any_match erases seq pair.0 ≡ false)
 under_some erases seq b pair is = grind arith
 
--- what answers nothing is a tombstone, or a put that an erase matches
-pub under_none : (erases : List Pending) (seq : ℕ) (b : Body) → pair_under erases seq b ≡ None → (b ≡ body.Tomb) ⊎ ((pair : Pair) × (b ≡ body.Put pair.0 pair.1) × (any_match erases seq pair.0 ≡ true))
-under_none erases seq (body.Put dkey value) is = inr ((dkey, value), refl, grind arith)
-under_none erases seq body.Tomb is = inl refl
+-- what is a put where the erases are applied is one that none of them matches
+pub unstruck : (erases : List Pending) (seq : ℕ) (b made : Body) → pair_of made ≡ pair_under erases seq b → IsPut made → (dkey : ℕ) × (value : Bytes) × (b ≡ body.Put dkey value) × (any_match erases seq dkey ≡ false)
+unstruck erases seq b made is put = grind arith
 
 -- erases that match nothing more than the others change no answer where they are applied first
 pub answer_applied : (pending applied : List Pending) (seq : ℕ) (made b : Body)

@@ -6,7 +6,7 @@ use Rattle.lethe_base.specs.Spent.{IsSpent, IsShorter}
 use Rattle.lethe_base.specs.declared.entry.Body.TheVariants as body
 use Rattle.lethe_cover.proofs.Bridge.{entries_cover, same_order}
 use Rattle.lethe_cover.proofs.Erasures.{any_match, any_found, any_made, match_parts}
-use Rattle.lethe_cover.proofs.Replaced.{hidden}
+use Rattle.lethe_cover.proofs.Replaced.{unswept}
 
 module _ (threshold : ℕ) (h : History) (l : Layout) (pending : List Pending) (covers : Covers threshold h (record l { pending = pending })) (shorter : IsShorter l pending)
     (accepted : (erase : Pending) → Contains l.pending erase → IsAccepted h erase × IsFresh threshold h l.clock erase.time)
@@ -19,9 +19,8 @@ module _ (threshold : ℕ) (h : History) (l : Layout) (pending : List Pending) (
         elim held.1 [
           | inl recorded ↦ omega (arith, spent.segments entry recorded.0 (subst IsPut (sym is) tt), (match_parts erase entry.seq dkey hit).0)
           | inr filed ↦
-              let above = hidden threshold h l.clock (Holds l) (Shows l) pending (entries_cover threshold h (record l { pending = pending }) covers)
-                  entry filed.0.file.swept dkey value erase (inr (filed.0, refl)) is done hit (spent.files filed.0.file filed.0.there) in
-              omega (arith, newest.last above.above above.shown above.same, above.newer)
+              unswept threshold h l.clock (Holds l) (Shows l) pending (entries_cover threshold h (record l { pending = pending }) covers)
+                  entry filed.0.file.swept dkey value erase newest (inr (filed.0, refl)) is done hit (spent.files filed.0.file filed.0.there)
         ]
 
     same_any : (entry : Entry) → IsNewest (Shows l) entry → (dkey : ℕ) (value : Bytes) → entry.body ≡ body.Put dkey value → any_match l.pending entry.seq dkey ≡ any_match pending entry.seq dkey
