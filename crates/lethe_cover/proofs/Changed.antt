@@ -1,10 +1,11 @@
 -- A change with a record keeps what a layout stands for.
 use Rattle.std.proofs.Common.{◌≡◌, ◌⊎◌, inl, inr, ℕ, suc, ◌<◌, ◌≤◌, IsTrue, List, length, Some, option_and_then, refl, sym, ap, ◌∙◌, subst, arith}
-use Rattle.lethe_cover.proofs.Common.{length_push, ⊎_elim, ⊎_map, Ends, History, Change, after, clock_before, done, done_call, done_at, erases, cause_of, IsPut, Layout, Record, Erasing, place_of, Holds, Shows, Tells, IsPlaced, IsCovered, IsNoErase, HasErase, Covers, Call, Put, Delete, Erase, Tick, Work, Done, Entry, Pending, change_at-push, after-push, Bytes, IsSaid, HasTime, IsRemembered, IsChange, followed, IsCounted, next_place, with_done}
+use Rattle.lethe_cover.proofs.Common.{EntriesCover, shown_held, length_push, ⊎_elim, ⊎_map, Ends, History, Change, after, clock_before, done, done_call, done_at, erases, cause_of, IsPut, Layout, Record, Erasing, place_of, Holds, Shows, Tells, IsPlaced, IsCovered, IsNoErase, HasErase, Covers, Call, Put, Delete, Erase, Tick, Work, Done, Entry, Pending, change_at-push, after-push, Bytes, IsSaid, HasTime, IsRemembered, IsChange, followed, IsCounted, next_place, with_done}
 use Rattle.lethe_cover.proofs.Erasures.{put_of}
 use Rattle.std.specs.FinMap as finmap
+use Rattle.lethe_cover.proofs.Bridge.{layout_covers}
 use Rattle.lethe_cover.proofs.Grown.{done_old, placed_more, accepted_more, fresh_more, clock_old, clock_next, EndsNow, cause_more, none_behind}
-use Rattle.lethe_cover.proofs.Records.{recorded_cases, holds_cases, shows_still, shows_new, held_within, swept_within, newer_above_more}
+use Rattle.lethe_cover.proofs.Records.{recorded_cases, tells_cases, holds_cases, shows_still, shows_new, held_within, swept_within, newer_above_more}
 
 -- a done call stands at the place that it took
 pub done_next : (h : History) (caller : ℕ) (call : Call) (place : ℕ) → place ≡ next_place h → done_at (with_done h caller call) place ≡ Some call
@@ -37,15 +38,8 @@ module _ (threshold caller : ℕ) (h : History) (l : Layout) (covers : Covers th
       | inr replaced ↦
           let key = replaced.0 in
           let time = change.older key.entry is.above is.since key.is replaced.1 key.same is.has in
-          record {
-            above = key.entry;
-            shown = shows_new l r pending key.entry key.is;
-            same = sym key.same ∙ is.same;
-            newer = omega (arith, change.next, ap place_of key.is, held_within threshold h l covers entry swept held);
-            since = time.0;
-            has = time.1;
-            old = omega (arith, time.2, is.old);
-          }
+          let newer : entry.seq < key.entry.seq = omega (arith, change.next, ap place_of key.is, held_within threshold h l covers entry swept held) in
+          record { above = key.entry; shown = shows_new l r pending key.entry key.is; same = sym key.same ∙ is.same; newer = newer; since = time.0; has = time.1; old = omega (arith, time.2, is.old) }
     ]
 
     -- what is held and has a cause was held; it had the cause, or the change ends it
@@ -95,38 +89,27 @@ module _ (threshold caller : ℕ) (h : History) (l : Layout) (covers : Covers th
           (subst (HasErase pending) (sym next) has, omega (arith, next, swept_within threshold h l covers entry swept cases.0))
     ]
 
-    tells_cases : (erase : Pending) → Tells (followed l r pending) erase → Tells l erase ⊎ (r ≡ Erasing erase)
-    tells_cases erase (inl there) = ⊎_map (λ old. inl old) (λ new_one. new_one) (change.comes erase there)
-    tells_cases erase (inr recorded) = ⊎_map (λ old. inr old) (λ new_one. new_one) (recorded_cases l r pending (Erasing erase) recorded)
-
-    pub changed : Covers threshold (with_done h caller call) (followed l r pending)
-    changed = record {
-      places = record {
-        entries = λ entry swept held. ⊎_elim (λ old. placed_more h new entry.seq entry.key entry.body (covers.places.entries entry swept old))
-            (λ new_one. subst (IsSaid (with_done h caller call)) new_one.0 change.said) (holds_cases l r pending entry swept held);
-        erases = λ erase is. ⊎_elim (λ old. accepted_more h new erase (covers.places.erases erase old)) (λ new_one. subst (IsSaid (with_done h caller call)) new_one change.said) (tells_cases erase is);
-      };
-      newer_above = newer_above_more threshold h l covers counted r pending change.next;
+    changed_entries : EntriesCover threshold (with_done h caller call) l.clock (Holds (followed l r pending)) (Shows (followed l r pending)) pending
+    changed_entries = record {
+      held = shown_held (followed l r pending);
+      places = λ entry swept held. ⊎_elim (λ old. placed_more h new entry.seq entry.key entry.body (covers.places.entries entry swept old))
+          (λ new_one. subst (IsSaid (with_done h caller call)) new_one.0 change.said) (holds_cases l r pending entry swept held);
       same_map = change.map;
       deletes_covered = deletes;
-      erases_covered = record {
-        pending = erasures;
-        swept = λ file there. omega (arith, length_push h new, covers.erases_covered.swept file there);
-        unswept = λ file erase entry there among unswept spelled. ⊎_elim (λ old. covers.erases_covered.unswept file erase entry there old unswept spelled)
-            (λ new_one. omega (arith, change.next, ap place_of new_one, held_within threshold h l covers entry file.swept (inr (record { file = file; there = there; spelled = spelled }, refl))))
-            (change.comes erase among);
-      };
-      times_fresh = record {
-        entries = λ entry swept since held has. ⊎_elim (λ old. fresh_more h new threshold l.clock since (covers.times_fresh.entries entry swept since old has))
-            (λ new_one. change.fresh since (subst (λ x. HasTime x since) (sym new_one.0) has)) (holds_cases l r pending entry swept held);
-        erases = λ erase is. ⊎_elim (λ old. fresh_more h new threshold l.clock erase.time (covers.times_fresh.erases erase old))
-            (λ new_one. change.fresh erase.time (subst (λ x. HasTime x erase.time) (sym new_one) refl)) (tells_cases erase is);
-      };
+      erases_covered = erasures;
+      times_fresh = λ entry swept since held has. ⊎_elim (λ old. fresh_more h new threshold l.clock since (covers.times_fresh.entries entry swept since old has))
+          (λ new_one. change.fresh since (subst (λ x. HasTime x since) (sym new_one.0) has)) (holds_cases l r pending entry swept held);
     }
 
     pub change_covers : Covers threshold (with_done h caller call) (followed l r pending) × IsCounted (with_done h caller call) (followed l r pending)
     change_covers = (
-      changed,
+      layout_covers threshold (with_done h caller call) (followed l r pending) changed_entries (newer_above_more threshold h l covers counted r pending change.next)
+          (λ erase is. ⊎_elim (λ old. (accepted_more h new erase (covers.places.erases erase old), fresh_more h new threshold l.clock erase.time (covers.times_fresh.erases erase old)))
+          (λ new_one. (subst (IsSaid (with_done h caller call)) new_one change.said, change.fresh erase.time (subst (λ x. HasTime x erase.time) (sym new_one) refl))) (tells_cases l r pending change.comes erase is))
+          (λ file there. omega (arith, length_push h new, covers.erases_covered.swept file there))
+          (λ file erase entry there among unswept spelled. ⊎_elim (λ old. covers.erases_covered.unswept file erase entry there old unswept spelled)
+          (λ new_one. omega (arith, change.next, ap place_of new_one, held_within threshold h l covers entry file.swept (inr (record { file = file; there = there; spelled = spelled }, refl))))
+          (change.comes erase among)),
       record {
         count = omega (arith, length_push h new, change.next);
         places = λ x is. ⊎_elim (λ old. omega (arith, length_push h new, counted.places x old)) (λ same. omega (arith, length_push h new, change.next, ap place_of same)) (recorded_cases l r pending x is);

@@ -1,7 +1,8 @@
 -- What holds of a history, with one change more.
 use Rattle.std.proofs.Common.{◌≡◌, ◌⊎◌, inl, inr, ℕ, zero, suc, ◌<◌, ◌≤◌, IsTrue, [], ◌∷◌, ◌++◌, length, Option, Some, IsSomeAnd, option_and_then, slice_get, refl, sym, ap, ◌∙◌, subst, arith}
 use Rattle.lethe_cover.proofs.Common.{length_push, cases_lt, Bytes, History, Change, change_at, after, clock_before, done_call, done_at, is_eraser, cause_of, IsErasedAt, IsCause, IsPlaced, IsAccepted, IsFresh, Call, Put, Delete, Erase, Body, Pending, cause_is_first, first_is_cause, change_at-push, clock_before-append, clock_before-end}
-use Rattle.std.proofs.lemmas.Option.{slice_get_within}
+use Rattle.std.proofs.lemmas.Option.{slice_get-get_or, slice_get_within}
+use Rattle.std.proofs.lemmas.List.{get_or_append_left}
 use Rattle.lethe_base.specs.declared.entry.Body.TheVariants as body
 
 change_within : (h : History) (place : ℕ) (change : Change) → change_at h place ≡ Some change → place ≤ length h
@@ -17,15 +18,12 @@ placed_within h seq key (body.Put dkey value) is = done_within h seq (Put key dk
 placed_within h seq key body.Tomb (inl deleted) = done_within h seq (Delete key) deleted
 placed_within h seq key body.Tomb (inr put) = done_within h seq (Put key put.dkey put.value) put.put
 
-get_old : (h : History) (change : Change) (i : ℕ) → i < length h → slice_get (h ++ change ∷ []) i ≡ slice_get h i
-get_old [] change i within = absurd (omega arith)
-get_old (x ∷ h) change zero within = refl
-get_old (x ∷ h) change (suc i) within = get_old h change i (omega arith)
-
 module _ (h : History) (change : Change) where
   change_old : (place : ℕ) → place ≤ length h → change_at (h ++ change ∷ []) place ≡ change_at h place
   change_old zero within = refl
-  change_old (suc before) within = get_old h change before (omega arith)
+  change_old (suc before) within =
+      slice_get-get_or (h ++ change ∷ []) before change (omega (arith, length_push h change)) ∙ ap Some (get_or_append_left h (change ∷ []) change before (omega arith))
+      ∙ sym (slice_get-get_or h before change (omega arith))
 
   pub done_old : (place : ℕ) → place ≤ length h → done_at (h ++ change ∷ []) place ≡ done_at h place
   done_old place within = ap (option_and_then (λ change. done_call change.did change.call)) (change_old place within)

@@ -1,7 +1,7 @@
 -- What a layout with one more record holds and shows.
 use Rattle.std.proofs.Common.{◌≡◌, false, List, [], ◌∷◌, ◌++◌, fold, filter_map, Option, Some, None, refl, sym, ap, ◌∙◌, ◌⊎◌, inl, inr, ℕ, ◌+◌, ◌≤◌, length, Contains, subst, arith}
 use Rattle.std.specs.FinMap as finmap
-use Rattle.lethe_cover.proofs.Common.{filter_map-append, Contains-push_cases, nat_list_cmp_total, ⊎_elim, ⊎_map, Entry, Bytes, key_cmp, same_key, Record, Written, Blind, Erasing, Buffer, written, buffer_of, Layout, place_of, same_key-true, same_key-self, History, IsRecorded, Holds, InBuffer, Shows, IsNewestOf, IsNewerAbove, Covers, Pending, shown_held, followed, IsCounted}
+use Rattle.lethe_cover.proofs.Common.{Tells, filter_map-append, Contains-push_cases, nat_list_cmp_total, ⊎_elim, ⊎_map, Entry, Bytes, key_cmp, same_key, Record, Written, Blind, Erasing, Buffer, written, buffer_of, Layout, place_of, same_key-true, same_key-self, History, IsRecorded, Holds, InBuffer, Shows, IsNewestOf, IsNewerAbove, Covers, Pending, shown_held, followed, IsCounted}
 use Rattle.std.proofs.lemmas.List.Sums.{fold-append}
 use Rattle.lethe_cover.proofs.Grown.{placed_within}
 
@@ -51,39 +51,28 @@ pub record IsOfKey (r : Record) (old : Entry) : Type 0 where
   pub is : r ≡ Written entry
   pub same : old.key ≡ entry.key
 
-insert_still : (buffer : Buffer) (new old : Entry) → InBuffer buffer old → InBuffer (insert buffer new) old ⊎ (old.key ≡ new.key)
-insert_still buffer new old is = grind (arith, finmap.get-insert nat_list_cmp_total buffer new.key new old.key, same_key-true old.key new.key)
-
 pub pushed_still : (buffer : Buffer) (r : Record) (old : Entry) → InBuffer buffer old → InBuffer (pushed buffer (written r)) old ⊎ IsOfKey r old
-pushed_still buffer (Written new) old is = ⊎_map (λ still. still) (λ same. record { entry = new; is = refl; same = same }) (insert_still buffer new old is)
-pushed_still buffer (Blind place) old is = inl is
-pushed_still buffer (Erasing erase) old is = inl is
+pushed_still buffer r old is = grind (arith, finmap.get-insert nat_list_cmp_total buffer, same_key-true old.key)
 
 module _ (l : Layout) (r : Record) (pending : List Pending) where
   pub recorded_cases : (x : Record) → IsRecorded (followed l r pending) x → IsRecorded l x ⊎ (r ≡ x)
-  recorded_cases x (inl active) = ⊎_map (λ old. inl old) (λ same. same) (Contains-push_cases l.active r x active)
-  recorded_cases x (inr frozen) = inl (inr frozen)
+  recorded_cases x is = grind (arith, λ (there : Contains (l.active ++ r ∷ []) x). Contains-push_cases l.active r x there)
 
   pub holds_cases : (entry : Entry) (swept : ℕ) → Holds (followed l r pending) entry swept → Holds l entry swept ⊎ ((r ≡ Written entry) × (swept ≡ 0))
-  holds_cases entry swept (inl recorded) = ⊎_map (λ old. inl (old, recorded.1)) (λ new. (new, recorded.1)) (recorded_cases (Written entry) recorded.0)
-  holds_cases entry swept (inr filed) = inl (inr filed)
+  holds_cases entry swept is = grind (arith, recorded_cases (Written entry))
 
   pub shows_cases : (entry : Entry) → Shows (followed l r pending) entry → Shows l entry ⊎ (r ≡ Written entry)
-  shows_cases entry (inl (inl active)) = ⊎_map (λ old. inl (inl old)) (λ new. new) (pushed_cases (buffer_of l.active) r entry (subst (λ buffer. InBuffer buffer entry) (buffer_push l.active r) active))
-  shows_cases entry (inl (inr frozen)) = inl (inl (inr frozen))
-  shows_cases entry (inr filed) = inl (inr filed)
+  shows_cases entry is = grind (arith, buffer_push l.active r, pushed_cases (buffer_of l.active) r entry)
 
-  in_pushed : (entry : Entry) → InBuffer (pushed (buffer_of l.active) (written r)) entry → Shows (followed l r pending) entry
-  in_pushed entry there = inl (inl (subst (λ buffer. InBuffer buffer entry) (sym (buffer_push l.active r)) there))
+  pub tells_cases : ((erase : Pending) → Contains pending erase → Contains l.pending erase ⊎ (r ≡ Erasing erase)) → (erase : Pending) → Tells (followed l r pending) erase → Tells l erase ⊎ (r ≡ Erasing erase)
+  tells_cases comes erase is = grind (arith, comes erase, recorded_cases (Erasing erase))
 
   -- an entry is shown still, or the record is one of its key and it stood in the active buffer
   pub shows_still : (old : Entry) → Shows l old → Shows (followed l r pending) old ⊎ (IsOfKey r old × InBuffer (buffer_of l.active) old)
-  shows_still old (inl (inl active)) = ⊎_map (in_pushed old) (λ replaced. (replaced, active)) (pushed_still (buffer_of l.active) r old active)
-  shows_still old (inl (inr frozen)) = inl (inl (inr frozen))
-  shows_still old (inr filed) = inl (inr filed)
+  shows_still old is = grind (arith, buffer_push l.active r, pushed_still (buffer_of l.active) r old)
 
   pub shows_new : (entry : Entry) → r ≡ Written entry → Shows (followed l r pending) entry
-  shows_new entry is = in_pushed entry (pushed_new (buffer_of l.active) r entry is)
+  shows_new entry is = inl (inl (subst (λ buffer. InBuffer buffer entry) (sym (buffer_push l.active r)) (pushed_new (buffer_of l.active) r entry is)))
 
 module _ (threshold : ℕ) (h : History) (l : Layout) (covers : Covers threshold h l) where
   pub held_within : (entry : Entry) (swept : ℕ) → Holds l entry swept → entry.seq ≤ length h
