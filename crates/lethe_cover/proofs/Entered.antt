@@ -73,8 +73,8 @@ module _ (threshold caller : ℕ) (h : History) (l : Layout) (covers : Covers th
     abbrev the_put : Entry
     the_put = put_entry h l key dkey value
 
-    put_is : IsChange threshold h caller (Put key dkey value) l (Written the_put) l.pending
-    put_is = record {
+    pub put_covers : Covers threshold (with_done h caller (Put key dkey value)) (recorded l (Written the_put)) × IsCounted (with_done h caller (Put key dkey value)) (recorded l (Written the_put))
+    put_covers = change_covers threshold caller h l covers counted (Put key dkey value) (Written the_put) l.pending (record {
       next = refl;
       said = done_next h caller (Put key dkey value) (next_place h) refl;
       fresh = time_fresh threshold caller h l covers (Put key dkey value) key;
@@ -86,10 +86,7 @@ module _ (threshold caller : ℕ) (h : History) (l : Layout) (covers : Covers th
       ends = λ entry swept d v held is erases. absurd (let clash : false ≡ true = erases in cc);
       map = entered_map threshold caller h l covers (Put key dkey value) the_put refl (λ q. map_next h caller (Put key dkey value) q
           ∙ finmap.get-insert nat_list_cmp_total (after h).map key (let pair : Pair = (dkey, value) in pair) q);
-    }
-
-    pub put_covers : Covers threshold (with_done h caller (Put key dkey value)) (recorded l (Written the_put)) × IsCounted (with_done h caller (Put key dkey value)) (recorded l (Written the_put))
-    put_covers = change_covers threshold caller h l covers counted (Put key dkey value) (Written the_put) l.pending put_is
+    })
 
   module _ (some : 0 < threshold) (clock : l.clock ≡ (after h).clock) where
     abbrev the_tomb : Entry
@@ -118,8 +115,8 @@ module _ (threshold caller : ℕ) (h : History) (l : Layout) (covers : Covers th
       | inr before ↦ time_fresh threshold caller h l covers (Delete key) key the_time before
     ])
 
-    tomb_is : IsChange threshold h caller (Delete key) l (Written the_tomb) l.pending
-    tomb_is = record {
+    pub delete_covers : Covers threshold (with_done h caller (Delete key)) (recorded l (Written the_tomb)) × IsCounted (with_done h caller (Delete key)) (recorded l (Written the_tomb))
+    delete_covers = change_covers threshold caller h l covers counted (Delete key) (Written the_tomb) l.pending (record {
       next = refl;
       said = inl (done_next h caller (Delete key) (next_place h) refl);
       fresh = tomb_fresh;
@@ -138,7 +135,4 @@ module _ (threshold caller : ℕ) (h : History) (l : Layout) (covers : Covers th
         old = omega arith;
       };
       map = entered_map threshold caller h l covers (Delete key) the_tomb refl (λ q. map_next h caller (Delete key) q ∙ finmap.get-remove nat_list_cmp_total (after h).map key q);
-    }
-
-    pub delete_covers : Covers threshold (with_done h caller (Delete key)) (recorded l (Written the_tomb)) × IsCounted (with_done h caller (Delete key)) (recorded l (Written the_tomb))
-    delete_covers = change_covers threshold caller h l covers counted (Delete key) (Written the_tomb) l.pending tomb_is
+    })

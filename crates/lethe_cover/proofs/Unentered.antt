@@ -31,8 +31,8 @@ module _ (threshold caller : ℕ) (h : History) (l : Layout) (covers : Covers th
     blind_absent : (k : Bytes) → ((entry : Entry) → Shows l entry → entry.key ≡ k → ⊥) → finmap.get (after (with_done h caller (Delete key))).map k ≡ None
     blind_absent k absent = grind (arith, covers.same_map.absent k absent, got k)
 
-    blind_is : IsChange threshold h caller (Delete key) l (Blind (next_place h)) l.pending
-    blind_is = record {
+    pub blind_covers : Covers threshold (with_done h caller (Delete key)) (recorded l (Blind (next_place h))) × IsCounted (with_done h caller (Delete key)) (recorded l (Blind (next_place h)))
+    blind_covers = change_covers threshold caller h l covers counted (Delete key) (Blind (next_place h)) l.pending (record {
       next = refl;
       said = tt;
       fresh = λ time is. absurd is;
@@ -44,10 +44,7 @@ module _ (threshold caller : ℕ) (h : History) (l : Layout) (covers : Covers th
           absurd (none newest.0 newest.1 (newest.2 ∙ same_key-true entry.key key erases));
       map = map_behind l (Blind (next_place h)) l.pending (λ entry is. let clash : Blind (next_place h) ≡ Written entry = is in cc)
           (after (with_done h caller (Delete key))).map (record { newest = blind_newest; absent = blind_absent });
-    }
-
-    pub blind_covers : Covers threshold (with_done h caller (Delete key)) (recorded l (Blind (next_place h))) × IsCounted (with_done h caller (Delete key)) (recorded l (Blind (next_place h)))
-    blind_covers = change_covers threshold caller h l covers counted (Delete key) (Blind (next_place h)) l.pending blind_is
+    })
 
 -- an erase becomes pending
 module _ (threshold caller : ℕ) (h : History) (l : Layout) (covers : Covers threshold h l) (counted : IsCounted h l)
@@ -75,8 +72,8 @@ module _ (threshold caller : ℕ) (h : History) (l : Layout) (covers : Covers th
     timed : l.clock ≡ clock_before (with_done h caller (Erase range)) (next_place h)
     timed = clock ∙ sym (clock_next h (record { caller = caller; call = Erase range; did = Done }) (next_place h) (omega arith))
 
-    erase_is : IsChange threshold h caller (Erase range) l (Erasing the_erase) the_pending
-    erase_is = record {
+    pub erase_covers : Covers threshold (with_done h caller (Erase range)) (erasing l the_erase) × IsCounted (with_done h caller (Erase range)) (erasing l the_erase)
+    erase_covers = change_covers threshold caller h l covers counted (Erase range) (Erasing the_erase) the_pending (record {
       next = refl;
       said = record { done = done; timed = timed };
       fresh = λ time is. record { place = next_place h; call = Erase range; done = done; erasure = tt; timed = sym is ∙ timed; fresh = omega arith };
@@ -86,7 +83,4 @@ module _ (threshold caller : ℕ) (h : History) (l : Layout) (covers : Covers th
       ends = λ entry swept dkey value held is erases. (the_erase, Contains-push l.pending the_erase, refl);
       map = map_behind l (Erasing the_erase) the_pending (λ entry is. let clash : Erasing the_erase ≡ Written entry = is in cc)
           (after (with_done h caller (Erase range))).map erase_map;
-    }
-
-    pub erase_covers : Covers threshold (with_done h caller (Erase range)) (erasing l the_erase) × IsCounted (with_done h caller (Erase range)) (erasing l the_erase)
-    erase_covers = change_covers threshold caller h l covers counted (Erase range) (Erasing the_erase) the_pending erase_is
+    })
