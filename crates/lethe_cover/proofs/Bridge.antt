@@ -64,4 +64,4 @@ same_order l clock count next certificate pending order =
 pub numbered_covers : (threshold : ℕ) (h : History) (l : Layout) → Covers threshold h l → (next certificate : ℕ) → Covers threshold h (record l { next = next; certificate = certificate })
 numbered_covers threshold h l covers next certificate =
     layout_covers threshold h (record l { next = next; certificate = certificate }) (entries_cover threshold h l covers) (same_order l l.clock l.count next certificate l.pending covers.newer_above)
-        (λ erase is. (covers.places.erases erase is, covers.times_fresh.erases erase is)) covers.erases_covered.swept covers.erases_covered.unswept
+    (λ erase is. (covers.places.erases erase is, covers.times_fresh.erases erase is)) covers.erases_covered.swept covers.erases_covered.unswept

@@ -1,6 +1,6 @@
 -- A change with a record keeps what a layout stands for.
 use Rattle.std.proofs.Common.{◌≡◌, ◌⊎◌, inl, inr, ℕ, suc, ◌<◌, ◌≤◌, IsTrue, List, length, Some, option_and_then, refl, sym, ap, ◌∙◌, subst, arith}
-use Rattle.lethe_cover.proofs.Common.{EntriesCover, shown_held, length_push, ⊎_elim, ⊎_map, Ends, History, Change, after, clock_before, done, done_call, done_at, erases, cause_of, IsPut, Layout, Record, Erasing, place_of, Holds, Shows, Tells, IsPlaced, IsCovered, IsNoErase, HasErase, Covers, Call, Put, Delete, Erase, Tick, Work, Done, Entry, Pending, change_at-push, after-push, Bytes, IsSaid, HasTime, IsRemembered, IsChange, followed, IsCounted, next_place, with_done}
+use Rattle.lethe_cover.proofs.Common.{EntriesCover, shown_held, length_push, ⊎_elim, Ends, History, Change, after, clock_before, done, done_call, done_at, erases, cause_of, IsPut, Layout, Record, place_of, Holds, Shows, IsPlaced, IsCovered, IsNoErase, HasErase, Covers, Call, Put, Delete, Erase, Tick, Work, Done, Entry, Pending, change_at-push, after-push, Bytes, IsSaid, HasTime, IsRemembered, IsChange, followed, IsCounted, next_place, with_done}
 use Rattle.lethe_cover.proofs.Erasures.{put_of}
 use Rattle.std.specs.FinMap as finmap
 use Rattle.lethe_cover.proofs.Bridge.{layout_covers}
@@ -71,7 +71,7 @@ module _ (threshold caller : ℕ) (h : History) (l : Layout) (covers : Covers th
       | inr now ↦
           let taken = done_next h caller call cause (omega (arith, now.at)) in
           subst (IsCovered (Shows (followed l r pending)) entry) (sym (clock_next h new cause now.at))
-              (remembered_covers (followed l r pending) (next_place h) (after h).clock entry call (λ range is. no_erase range (taken ∙ ap Some is)) (ended entry swept cause cases.0 put now))
+          (remembered_covers (followed l r pending) (next_place h) (after h).clock entry call (λ range is. no_erase range (taken ∙ ap Some is)) (ended entry swept cause cases.0 put now))
     ]
 
     erasures : (entry : Entry) (swept cause : ℕ) (range : Ends) → Holds (followed l r pending) entry swept → IsPut entry.body → cause_of (with_done h caller call) entry.seq ≡ Some cause

@@ -1,6 +1,6 @@
 -- Puts, and deletes with a tombstone: changes whose record is an entry.
 use Rattle.std.proofs.Common.{◌≡◌, ◌⊎◌, inl, inr, ℕ, ◌<◌, ◌≤◌, min, true, false, cond, Contains, Option, Some, None, unwrap_or, option_and_then, refl, sym, ap, ◌∙◌, subst, arith}
-use Rattle.lethe_cover.proofs.Common.{nat_list_cmp_total, ⊎_elim, ⊎_map, Bytes, same_key, Pair, History, after, pair_of, answer_under, Layout, Written, buffer_of, InBuffer, Shows, IsNewest, IsMap, IsFresh, Covers, Call, Put, Delete, Erase, Done, Entry, Pending, shown_held, same_key-self, same_key-true, IsChange, followed, IsCounted, next_place, with_done, recorded, time_of, put_entry, tomb_entry}
+use Rattle.lethe_cover.proofs.Common.{nat_list_cmp_total, ⊎_elim, ⊎_map, Bytes, same_key, Pair, History, after, pair_of, answer_under, Layout, Written, buffer_of, InBuffer, Shows, IsNewest, IsMap, IsFresh, Covers, Call, Put, Delete, Erase, Done, Entry, Pending, shown_held, same_key-self, same_key-true, followed, IsCounted, next_place, with_done, recorded, time_of, put_entry, tomb_entry}
 use Rattle.std.specs.FinMap as finmap
 use Rattle.lethe_cover.proofs.Records.{buffer_keyed, same_key-false, shows_cases, shows_still, shows_new, held_within, shown_within}
 use Rattle.lethe_cover.proofs.Changed.{done_next, map_next, change_covers}

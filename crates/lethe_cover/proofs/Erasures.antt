@@ -1,5 +1,5 @@
 -- What a range takes from a map, and what entries answer under erases.
-use Rattle.std.proofs.Common.{◌≡◌, List, [], ◌∷◌, Option, Some, None, Bool, true, false, not, T, cond, filter, sym, ap, ◌∙◌, ◌⊎◌, inl, inr, ℕ, ◌<◌, ◌≤◌, ◌++◌, Contains, refl, arith}
+use Rattle.std.proofs.Common.{◌≡◌, List, [], ◌∷◌, Option, Some, None, Bool, true, false, not, T, cond, filter, sym, ap, ◌∙◌, ℕ, ◌<◌, ◌≤◌, ◌++◌, Contains, refl, arith}
 use Rattle.std.specs.FinMap as finmap
 use Rattle.lethe_base.specs.declared.entry.Body.TheVariants as body
 use Rattle.lethe_cover.proofs.Common.{find, below_all, is_sorted, Bytes, key_cmp, Ends, in_range, Pair, Map, without_range, same_key-true, first_is, nat_tests, Contains-append_right, pair_of, IsPut, matches, pair_under, Body, Pending}

@@ -1,5 +1,5 @@
 -- What holds of a history, with one change more.
-use Rattle.std.proofs.Common.{◌≡◌, ◌⊎◌, inl, inr, ℕ, zero, suc, ◌<◌, ◌≤◌, IsTrue, [], ◌∷◌, ◌++◌, length, Option, Some, IsSomeAnd, option_and_then, slice_get, refl, sym, ap, ◌∙◌, subst, arith}
+use Rattle.std.proofs.Common.{◌≡◌, ◌⊎◌, inl, inr, ℕ, zero, suc, ◌<◌, ◌≤◌, IsTrue, [], ◌∷◌, ◌++◌, length, Option, Some, IsSomeAnd, option_and_then, refl, sym, ap, ◌∙◌, subst, arith}
 use Rattle.lethe_cover.proofs.Common.{length_push, cases_lt, Bytes, History, Change, change_at, after, clock_before, done_call, done_at, is_eraser, cause_of, IsErasedAt, IsCause, IsPlaced, IsAccepted, IsFresh, Call, Put, Delete, Erase, Body, Pending, cause_is_first, first_is_cause, change_at-push, clock_before-append, clock_before-end}
 use Rattle.std.proofs.lemmas.Option.{slice_get-get_or, slice_get_within}
 use Rattle.std.proofs.lemmas.List.{get_or_append_left}

@@ -24,7 +24,7 @@ module _ (threshold : ℕ) (h : History) (l : Layout) (covers : Covers threshold
       deletes_covered = λ entry swept cause held put is no_erase.
           let before = cause_same entry swept cause held is in
           subst (IsCovered (Shows l) entry) (sym (clock_old h change cause (omega (arith, before.1))))
-              (covers.deletes_covered entry swept cause held put before.0 (λ range erased. no_erase range (done_old h change cause before.1 ∙ erased)));
+          (covers.deletes_covered entry swept cause held put before.0 (λ range erased. no_erase range (done_old h change cause before.1 ∙ erased)));
       erases_covered = λ entry swept cause range held put is erased.
           let before = cause_same entry swept cause held is in
           covers.erases_covered.pending entry swept cause range held put before.0 (sym (done_old h change cause before.1) ∙ erased);

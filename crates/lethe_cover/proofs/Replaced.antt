@@ -129,7 +129,7 @@ module _ (threshold : ℕ) (h : History) (clock : ℕ) (pending applied : List P
           let held = covers.held from.input (replaced.inputs_shown from.input from.newest.shown) in
           let old = covers.deletes_covered from.input held.0 cause held.1 (source_put entry from put) (ap (cause_of h) from.place ∙ is) no_erase in
           still (λ above same newer taken alone. omega (arith, from.newest.last above taken (same ∙ sym from.same), from.place, newer))
-              (record { above = old.above; shown = old.shown; same = old.same ∙ from.same; newer = omega arith; since = old.since; has = old.has; old = old.old })
+          (record { above = old.above; shown = old.shown; same = old.same ∙ from.same; newer = omega arith; since = old.since; has = old.has; old = old.old })
     ]
       where
         still : ((above : Entry) → above.key ≡ entry.key → entry.seq < above.seq → inputs above → Alone → ⊥) → IsCovered shows entry (clock_before h cause) → IsCovered shows_then entry (clock_before h cause)

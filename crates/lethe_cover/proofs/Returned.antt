@@ -1,5 +1,5 @@
 -- Erases that are spent may come back to the pending ones.
-use Rattle.std.proofs.Common.{◌≡◌, inl, inr, ℕ, ◌≤◌, true, List, Contains, refl, sym, ◌∙◌, subst, arith}
+use Rattle.std.proofs.Common.{◌≡◌, inl, inr, ℕ, true, List, Contains, refl, sym, ◌∙◌, subst, arith}
 use Rattle.std.specs.Cmp.{both_ways}
 use Rattle.lethe_cover.proofs.Common.{EntriesCover, ⊎_elim, Bytes, History, IsPut, matches, answer_under, Layout, Holds, Shows, IsAccepted, IsNewest, IsFresh, Covers, Entry, Pending, shown_held}
 use Rattle.lethe_base.specs.Spent.{IsSpent, IsShorter}
@@ -20,7 +20,7 @@ module _ (threshold : ℕ) (h : History) (l : Layout) (pending : List Pending) (
           | inl recorded ↦ omega (arith, spent.segments entry recorded.0 (subst IsPut (sym is) tt), (match_parts erase entry.seq dkey hit).0)
           | inr filed ↦
               unswept threshold h l.clock (Holds l) (Shows l) pending (entries_cover threshold h (record l { pending = pending }) covers)
-                  entry filed.0.file.swept dkey value erase newest (inr (filed.0, refl)) is done hit (spent.files filed.0.file filed.0.there)
+              entry filed.0.file.swept dkey value erase newest (inr (filed.0, refl)) is done hit (spent.files filed.0.file filed.0.there)
         ]
 
     same_any : (entry : Entry) → IsNewest (Shows l) entry → (dkey : ℕ) (value : Bytes) → entry.body ≡ body.Put dkey value → any_match l.pending entry.seq dkey ≡ any_match pending entry.seq dkey

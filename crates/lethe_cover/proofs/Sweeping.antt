@@ -2,8 +2,7 @@
 use Rattle.std.proofs.Common.{◌≡◌, ◌⊎◌, inl, inr, ℕ, Bool, IsTrue, List, [], ◌∷◌, Some, None, refl, sym, ap, ◌∙◌, subst, arith}
 use Rattle.lethe_cover.proofs.Common.{pair_of, answer_under, File, InFiles, IsNewest, Entry, Pending, struck, IsKept, IsDropped, IsOutcome, ⊎_elim, ⊎_map}
 use Rattle.lethe_cover.specs.Sweeps.{swept_of, IsSwept}
-use Rattle.lethe_cover.proofs.ByKey.{IsBy}
-use Rattle.lethe_cover.proofs.Merging.{IsErasesTime, struck_by, struck_from}
+use Rattle.lethe_cover.proofs.Merging.{IsBy, IsErasesTime, struck_by, struck_from}
 use Rattle.std.proofs.Common.{Option}
 
 -- what an output has of the entry that it comes of

@@ -1,6 +1,6 @@
 -- Changes whose record is no entry: deletes of what isn't there, and erases.
 use Rattle.std.proofs.Common.{◌≡◌, inl, ℕ, ◌<◌, cond, List, [], ◌∷◌, ◌++◌, Some, None, refl, sym, ap, ◌∙◌, arith}
-use Rattle.lethe_cover.proofs.Common.{Contains-append_left, Contains-push, Contains-push_cases, nat_list_cmp_total, ⊎_elim, ⊎_map, Bytes, same_key, Ends, Map, History, after, clock_before, Layout, Record, Written, Blind, Erasing, Shows, IsNewest, IsMap, answer_under, done_at, Covers, Delete, Erase, Done, Entry, Pending, same_key-true, IsChange, followed, IsCounted, next_place, with_done, recorded, accepted, erasing}
+use Rattle.lethe_cover.proofs.Common.{Contains-append_left, Contains-push, Contains-push_cases, nat_list_cmp_total, ⊎_elim, ⊎_map, Bytes, same_key, Ends, Map, History, after, clock_before, Layout, Record, Written, Blind, Erasing, Shows, IsNewest, IsMap, answer_under, done_at, Covers, Delete, Erase, Done, Entry, Pending, same_key-true, followed, IsCounted, next_place, with_done, recorded, accepted, erasing}
 use Rattle.std.specs.FinMap as finmap
 use Rattle.lethe_cover.proofs.Bridge.{map_told}
 use Rattle.lethe_cover.proofs.Changed.{done_next, map_next, change_covers}
