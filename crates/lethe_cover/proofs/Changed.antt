@@ -1,6 +1,6 @@
 -- A change with a record keeps what a layout stands for.
-use Rattle.std.proofs.Common.{◌≡◌, ◌⊎◌, inl, inr, ℕ, suc, ◌<◌, ◌≤◌, IsTrue, List, length, Some, option_and_then, refl, sym, ap, ◌∙◌, subst, arith}
-use Rattle.lethe_cover.proofs.Common.{EntriesCover, shown_held, length_push, ⊎_elim, Ends, History, Change, after, clock_before, done, done_call, done_at, erases, cause_of, IsPut, Layout, Record, place_of, Holds, Shows, IsPlaced, IsCovered, IsNoErase, HasErase, Covers, Call, Put, Delete, Erase, Tick, Work, Done, Entry, Pending, change_at-push, after-push, Bytes, IsSaid, HasTime, IsRemembered, IsChange, followed, IsCounted, next_place, with_done}
+use Rattle.std.proofs.Common.{◌≡◌, ◌⊎◌, inl, inr, ℕ, suc, ◌<◌, ◌≤◌, List, length, Some, option_and_then, refl, sym, ap, ◌∙◌, subst, arith}
+use Rattle.lethe_cover.proofs.Common.{EntriesCover, shown_held, length_push, ⊎_elim, Ends, History, Change, after, clock_before, done, done_call, done_at, cause_of, IsPut, Layout, Record, place_of, Holds, Shows, IsPlaced, IsCovered, IsNoErase, HasErase, Covers, Call, Put, Delete, Erase, Tick, Work, Done, Entry, Pending, change_at-push, after-push, Bytes, IsSaid, HasTime, IsRemembered, IsChange, followed, IsCounted, next_place, with_done}
 use Rattle.lethe_cover.proofs.Erasures.{put_of}
 use Rattle.std.specs.FinMap as finmap
 use Rattle.lethe_cover.proofs.Bridge.{layout_covers}
@@ -56,10 +56,7 @@ module _ (threshold caller : ℕ) (h : History) (l : Layout) (covers : Covers th
     ended entry swept cause held put now =
         let own = put_of entry.body put in
         let placed : done_at h entry.seq ≡ Some (Put entry.key own.0 own.1) = subst (IsPlaced h entry.seq entry.key) own.2 (covers.places.entries entry swept held) in
-        let same : Some (Put now.key now.dkey now.value) ≡ Some (Put entry.key own.0 own.1) = sym now.put ∙ placed in
-        let key : now.key ≡ entry.key = cc in
-        let d : now.dkey ≡ own.0 = cc in
-        change.ends entry swept own.0 own.1 held own.2 (subst (λ k. IsTrue (erases k own.0 call)) key (subst (λ d. IsTrue (erases now.key d call)) d now.erases))
+        change.ends entry swept own.0 own.1 held own.2 (grind (arith, now.put, placed, now.erases))
 
     deletes : (entry : Entry) (swept cause : ℕ) → Holds (followed l r pending) entry swept → IsPut entry.body → cause_of (with_done h caller call) entry.seq ≡ Some cause
         → IsNoErase (with_done h caller call) cause → IsCovered (Shows (followed l r pending)) entry (clock_before (with_done h caller call) cause)

@@ -1,6 +1,6 @@
 -- Puts, and deletes with a tombstone: changes whose record is an entry.
 use Rattle.std.proofs.Common.{◌≡◌, ◌⊎◌, inl, inr, ℕ, ◌<◌, ◌≤◌, min, true, false, cond, Contains, Option, Some, None, unwrap_or, option_and_then, refl, sym, ap, ◌∙◌, subst, arith}
-use Rattle.lethe_cover.proofs.Common.{nat_list_cmp_total, ⊎_elim, ⊎_map, Bytes, same_key, Pair, History, after, pair_of, answer_under, Layout, Written, buffer_of, InBuffer, Shows, IsNewest, IsMap, IsFresh, Covers, Call, Put, Delete, Erase, Done, Entry, Pending, shown_held, same_key-self, same_key-true, followed, IsCounted, next_place, with_done, recorded, time_of, put_entry, tomb_entry}
+use Rattle.lethe_cover.proofs.Common.{nat_list_cmp_total, ⊎_elim, Bytes, same_key, Pair, History, after, pair_of, answer_under, Layout, Written, buffer_of, InBuffer, Shows, IsNewest, IsMap, IsFresh, Covers, Call, Put, Delete, Erase, Done, Entry, Pending, shown_held, same_key-self, same_key-true, followed, IsCounted, next_place, with_done, recorded, time_of, put_entry, tomb_entry}
 use Rattle.std.specs.FinMap as finmap
 use Rattle.lethe_cover.proofs.Records.{buffer_keyed, same_key-false, shows_cases, shows_still, shows_new, held_within, shown_within}
 use Rattle.lethe_cover.proofs.Changed.{done_next, map_next, change_covers}
@@ -40,7 +40,7 @@ module _ (threshold caller : ℕ) (h : History) (l : Layout) (covers : Covers th
       got_own = grind (arith, got new.key, same_key-self new.key)
 
       shown_still : (f : Entry) → Shows l f → Shows now f ⊎ (f.key ≡ new.key)
-      shown_still f shown = ⊎_map (λ still. still) (λ replaced. let key = replaced.0 in let made = key.is in let one : new ≡ key.entry = cc in key.same ∙ ap (λ e. e.key) (sym one)) (shows_still l (Written new) l.pending f shown)
+      shown_still f shown = grind (arith, shows_still l (Written new) l.pending f shown)
 
       -- what is newest and was shown is of another key
       unlike : (entry : Entry) → IsNewest (Shows now) entry → Shows l entry → entry.key ≡ new.key → ⊥
@@ -49,12 +49,15 @@ module _ (threshold caller : ℕ) (h : History) (l : Layout) (covers : Covers th
       late : (erase : Pending) → Contains l.pending erase → erase.seq ≤ new.seq
       late erase there = omega (arith, next, done_within h erase.seq (Erase erase.range) (covers.places.erases erase (inl there)).done)
 
+      was_newest : (entry : Entry) → IsNewest (Shows now) entry → Shows l entry → IsNewest (Shows l) entry
+      was_newest entry newest old = record {
+        shown = old;
+        last = λ f shown same. ⊎_elim (λ still. newest.last f still same) (λ replaced. absurd (unlike entry newest old (sym same ∙ replaced))) (shown_still f shown);
+      }
+
       entered_newest : (entry : Entry) → IsNewest (Shows now) entry → answer_under l.pending entry ≡ finmap.get (after (with_done h caller call)).map entry.key
       entered_newest entry newest = elim (shows_cases l (Written new) l.pending entry newest.shown) [
-        | inl old ↦ covers.same_map.newest entry (record {
-          shown = old;
-          last = λ f shown same. ⊎_elim (λ still. newest.last f still same) (λ replaced. absurd (unlike entry newest old (sym same ∙ replaced))) (shown_still f shown);
-        }) ∙ sym (got_other entry.key (unlike entry newest old))
+        | inl old ↦ covers.same_map.newest entry (was_newest entry newest old) ∙ sym (got_other entry.key (unlike entry newest old))
         | inr made ↦
             let one : new ≡ entry = cc in
             subst (λ e. answer_under l.pending e ≡ finmap.get (after (with_done h caller call)).map e.key) one (answer_late l.pending new.seq new.body late ∙ sym got_own)

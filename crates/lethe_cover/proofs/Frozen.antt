@@ -1,5 +1,5 @@
 -- A freeze leaves what a layout holds and shows.
-use Rattle.std.proofs.Common.{◌≡◌, inl, inr, ℕ, [], Contains, Some, None, unwrap_or, subst}
+use Rattle.std.proofs.Common.{◌≡◌, inl, inr, ℕ, [], Some, None, arith}
 use Rattle.lethe_cover.proofs.Common.{⊎_map, EntriesCover, History, after, Layout, Record, Written, frozen_records, IsRecorded, Holds, Shows, Covers, Entry, buffer_recorded, shown_held, none_in, IsCounted, frozen}
 use Rattle.lethe_cover.proofs.Bridge.{map_told, parts_cover}
 
@@ -12,14 +12,10 @@ module _ (threshold : ℕ) (h : History) (l : Layout) (covers : Covers threshold
   holds_before entry swept = ⊎_map (λ recorded. (recorded_before (Written entry) recorded.0, recorded.1)) (λ filed. filed)
 
   shows_before : (entry : Entry) → Shows (frozen l) entry → Shows l entry
-  shows_before entry (inl (inl active)) = absurd (none_in (Written entry) (buffer_recorded [] entry active))
-  shows_before entry (inl (inr old)) = inl (inl old)
-  shows_before entry (inr filed) = inr filed
+  shows_before entry is = grind (arith, buffer_recorded [] entry, none_in (Written entry))
 
   shows_behind : (entry : Entry) → Shows l entry → Shows (frozen l) entry
-  shows_behind entry (inl (inl active)) = inl (inr active)
-  shows_behind entry (inl (inr there)) = absurd (none_in (Written entry) (subst (λ o. Contains (unwrap_or o []) (Written entry)) free (buffer_recorded (frozen_records l) entry there)))
-  shows_behind entry (inr filed) = inr filed
+  shows_behind entry is = grind (arith, buffer_recorded (frozen_records l) entry, none_in (Written entry), free)
 
   frozen_entries : EntriesCover threshold h l.clock (Holds (frozen l)) (Shows (frozen l)) l.pending
   frozen_entries = record {

@@ -40,16 +40,10 @@ module _ (h : History) (change : Change) where
   pub placed_more : (seq : ℕ) (key : Bytes) (b : Body) → IsPlaced h seq key b → IsPlaced (h ++ change ∷ []) seq key b
   placed_more seq key (body.Put dkey value) is = done_more seq (Put key dkey value) is
   placed_more seq key body.Tomb (inl deleted) = inl (done_more seq (Delete key) deleted)
-  placed_more seq key body.Tomb (inr is) = inr (record {
-    dkey = is.dkey;
-    value = is.value;
-    put = done_more seq (Put key is.dkey is.value) is.put;
-    place = is.place;
-    range = is.range;
-    erase = done_more is.place (Erase is.range) is.erase;
-    later = is.later;
-    matched = is.matched;
-  })
+  placed_more seq key body.Tomb (inr is) =
+      let put = done_more seq (Put key is.dkey is.value) is.put in
+      let erase = done_more is.place (Erase is.range) is.erase in
+      inr (record { dkey = is.dkey; value = is.value; put = put; place = is.place; range = is.range; erase = erase; later = is.later; matched = is.matched })
 
   pub accepted_more : (erase : Pending) → IsAccepted h erase → IsAccepted (h ++ change ∷ []) erase
   accepted_more erase is =

@@ -16,10 +16,7 @@ IsDrawn these those = (entry : Entry) → these entry → (from : Entry) × thos
 -- a file of two stretches of runs is in what becomes of these, or is one of the others
 joined : (a b c d : List (List File)) (others : List File) → ((file : File) → Contains (files_in a) file → Contains (files_in c) file ⊎ Contains others file)
     → ((file : File) → Contains (files_in b) file → Contains (files_in d) file ⊎ Contains others file) → (file : File) → Contains (files_in (a ++ b)) file → Contains (files_in (c ++ d)) file ⊎ Contains others file
-joined a b c d others first second file there = elim (files_cases a b file there) [
-  | inl left ↦ ⊎_map (files_left c d file) (λ is. is) (first file left)
-  | inr right ↦ ⊎_map (files_right c d file) (λ is. is) (second file right)
-]
+joined a b c d others first second file there = grind (arith, λ (t : Contains (files_in (a ++ b)) file). files_cases a b file t, first file, second file, files_left c d file, files_right c d file)
 
 -- the move alone, on runs that are in order
 module _ (alone : Bool) (m : Move) (moves : IsMove alone m) where
