@@ -107,14 +107,10 @@ module _ (threshold caller : ℕ) (h : History) (l : Layout) (covers : Covers th
 
     tomb_fresh : (time : ℕ) → Some the_time ≡ Some time → IsFresh threshold (with_done h caller (Delete key)) l.clock time
     tomb_fresh time is = let same : the_time ≡ time = cc in subst (IsFresh threshold (with_done h caller (Delete key)) l.clock) same (elim (time_is (time_of key l)) [
-      | inl now ↦ record {
-        place = next_place h;
-        call = Delete key;
-        done = done_next h caller (Delete key) (next_place h) refl;
-        erasure = tt;
-        timed = now ∙ clock ∙ sym (clock_next h (record { caller = caller; call = Delete key; did = Done }) (next_place h) (omega arith));
-        fresh = omega arith;
-      }
+      | inl now ↦
+          let done = done_next h caller (Delete key) (next_place h) refl in
+          let timed = now ∙ clock ∙ sym (clock_next h (record { caller = caller; call = Delete key; did = Done }) (next_place h) (omega arith)) in
+          record { place = next_place h; call = Delete key; done = done; erasure = tt; timed = timed; fresh = omega arith }
       | inr before ↦ time_fresh threshold caller h l covers (Delete key) key the_time before
     ])
 
@@ -128,14 +124,9 @@ module _ (threshold caller : ℕ) (h : History) (l : Layout) (covers : Covers th
           (the_time, ap (λ e. e.since) (sym one), time_least (time_of key l) since (time_at key l old there (same ∙ ap (λ e. e.key) (sym one)) ∙ has));
       stays = λ erase there. there;
       comes = λ erase there. inl there;
-      ends = λ entry swept dkey value held is erases. record {
-        above = the_tomb;
-        shown = shows_new l (Written the_tomb) l.pending the_tomb refl;
-        same = sym (same_key-true entry.key key erases);
-        newer = omega (arith, held_within threshold h l covers entry swept held);
-        since = the_time;
-        has = refl;
-        old = omega arith;
-      };
+      ends = λ entry swept dkey value held is erases.
+          let shown = shows_new l (Written the_tomb) l.pending the_tomb refl in
+          let newer = held_within threshold h l covers entry swept held in
+          record { above = the_tomb; shown = shown; same = sym (same_key-true entry.key key erases); newer = omega arith; since = the_time; has = refl; old = omega arith };
       map = entered_map threshold caller h l covers (Delete key) the_tomb refl (λ q. map_next h caller (Delete key) q ∙ finmap.get-remove nat_list_cmp_total (after h).map key q);
     })

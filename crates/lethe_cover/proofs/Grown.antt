@@ -74,18 +74,12 @@ module _ (h : History) (change : Change) where
   pub cause_more : (place cause : ℕ) → place ≤ length h → cause_of (h ++ change ∷ []) place ≡ Some cause
       → ((cause_of h place ≡ Some cause) × (cause ≤ length h)) ⊎ EndsNow place cause
   cause_more place cause within is = elim (cases_lt (length h) cause) [
-    | inr old ↦ inl (
-      first_is_cause h place cause (record {
-        key = first.key;
-        dkey = first.dkey;
-        value = first.value;
-        put = sym (done_old place within) ∙ first.put;
-        later = first.later;
-        erases = subst (IsEraser first.key first.dkey) (change_old cause old) first.erases;
-        first = λ between behind before erases. first.first between behind before (subst (IsEraser first.key first.dkey) (sym (change_old between (omega arith))) erases);
-      }),
-      old,
-    )
+    | inr old ↦
+        let put = sym (done_old place within) ∙ first.put in
+        let erases = subst (IsEraser first.key first.dkey) (change_old cause old) first.erases in
+        let none = λ (between : ℕ) (behind : place < between) (before : between < cause) (is : IsErasedAt h first.key first.dkey between).
+        first.first between behind before (subst (IsEraser first.key first.dkey) (sym (change_old between (omega arith))) is) in
+        inl (first_is_cause h place cause (record { key = first.key; dkey = first.dkey; value = first.value; put = put; later = first.later; erases = erases; first = none }), old)
     | inl new ↦
         let last = erased_within first.key first.dkey cause first.erases in
         let at : cause ≡ suc (length h) = omega arith in

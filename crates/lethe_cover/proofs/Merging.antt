@@ -124,14 +124,12 @@ left_is erases key (x ∷ inputs) = by (left_of key (map (struck erases) inputs)
     by o is true at = same_left erases (λ e. (x ≡ e) ⊎ OfKey key inputs e) (OfKey key (x ∷ inputs)) (Some (newer_of (struck erases x) o))
         (λ e. ⊎_elim (λ same. (first_is x inputs e same, ap (λ e. e.key) (sym same) ∙ sym (same_key-true key x.key at))) (later e)) cases (more_left erases (OfKey key inputs) x o is)
 
--- what an output has of what is left of its key
-record IsBared (left output : Entry) : Type 0 where
-  seq : left.seq ≡ output.seq
-  body : left.body ≡ output.body
-  since : (time : ℕ) → output.since ≡ Some time → left.since ≡ Some time
+-- an output says what is left of its key, and has its time if it has one
+abbrev IsBared : Entry → Entry → Type 0
+IsBared left output = (left.seq ≡ output.seq) × (left.body ≡ output.body) × ((time : ℕ) → output.since ≡ Some time → left.since ≡ Some time)
 
 bared_is : (alone : Bool) (left output : Entry) → bared alone left left.body ≡ Some output → IsBared left output
-bared_is alone left output is = record { seq = grind arith; body = grind arith; since = λ time has. grind arith }
+bared_is alone left output is = grind arith
 
 -- the inputs are those of a list
 module _ (Inputs : Entry → Type 0) (inputs : List Entry) (to : (entry : Entry) → Contains inputs entry → Inputs entry) (back : (entry : Entry) → Inputs entry → Contains inputs entry)
@@ -153,12 +151,12 @@ module _ (Inputs : Entry → Type 0) (inputs : List Entry) (to : (entry : Entry)
         let left = output_left output there in
         let joined = left.1 in
         let bare = left.2 in
-        record { input = joined.source; newest = newest_of output.key left.0 joined; same = joined.there.1; place = joined.place ∙ bare.seq; answer = ap pair_of (sym bare.body) ∙ joined.answer }
+        record { input = joined.source; newest = newest_of output.key left.0 joined; same = joined.there.1; place = joined.place ∙ bare.0; answer = ap pair_of (sym bare.1) ∙ joined.answer }
 
     since : (output : Entry) (time : ℕ) → Contains merged output → output.since ≡ Some time → ((input : Entry) × Inputs input × (input.since ≡ Some time)) ⊎ IsErasesTime erases time
     since output time there has =
         let left = output_left output there in
-        ⊎_map (λ found. (found.0, to found.0 found.1.0, found.2)) (λ erased. erased) (left.1.from time (left.2.since time has))
+        ⊎_map (λ found. (found.0, to found.0 found.1.0, found.2)) (λ erased. erased) (left.1.from time (left.2.2 time has))
 
     abbrev IsKeptOrDropped : Entry → Type 0
     IsKeptOrDropped input = IsKept (IsTrue alone) (Contains merged) input ⊎ IsDropped erases (IsTrue alone) Inputs (Contains merged) input
