@@ -1,13 +1,12 @@
-pub mod KeyOrder
+pub mod Common
 pub mod Pairs
-pub mod Rising
+pub mod KeyOrder
 pub mod Tiled
 pub mod Apart
 pub mod Orders
-pub mod Frozen
 pub mod Bare
 pub mod Outputs
 pub mod Flushing
-pub mod Levels
+pub mod Shifts
 pub mod MergeMoves
 pub mod SweepMoves

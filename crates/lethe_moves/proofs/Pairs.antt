@@ -1,33 +1,31 @@
 -- Lists each two items of which are related, by recursion.
-use Rattle.std.proofs.Common.{◌≡◌, ◌⊎◌, inl, inr, ℕ, suc, ◌<◌, List, [], ◌∷◌, ◌++◌, map, length, get_or, All, AllPairs, Contains, refl, subst, arith}
-use Rattle.std.proofs.lemmas.List.Elements.{Contains-append_left, Contains-append_right, Contains-append_cases, Contains-get_or}
+use Rattle.std.proofs.Common.{◌≡◌, ◌⊎◌, ℕ, suc, ◌<◌, List, [], ◌∷◌, ◌++◌, map, length, get_or, All, AllPairs, Contains, refl, subst, arith}
+use Rattle.std.proofs.lemmas.List.Elements.{Contains-get_or}
 use Rattle.std.proofs.lemmas.List.Kept.{AllPairs-cons}
-use Rattle.lethe_base.proofs.LayoutLaws.{none_in}
-use Rattle.lethe_base.proofs.Newest.{first_or_rest, first_is}
-use Rattle.lethe_cover.proofs.FilesInRuns.{map_from}
-use Rattle.lethe_cover.proofs.FilesInRuns.{in_map}
+use Rattle.lethe_moves.proofs.Common.{⊎_elim, Contains-append_cases, Contains-append_left, Contains-append_right, none_in, first_is, first_or_rest, in_map, map_from}
 
 pub in_rest : {X : Type 0} (x : X) (xs : List X) (y : X) → Contains xs y → Contains (x ∷ xs) y
 in_rest x xs y there = Contains-append_right (x ∷ []) xs y there
 
+pub in_middle : {X : Type 0} (before xs behind : List X) (x : X) → Contains xs x → Contains (before ++ (xs ++ behind)) x
+in_middle before xs behind x there = Contains-append_right before (xs ++ behind) x (Contains-append_left xs behind x there)
+
 pub only_in : {X : Type 0} (x y : X) → Contains (x ∷ []) y → x ≡ y
-only_in x y there = elim (first_or_rest x [] y there) [
-  | inl same ↦ same
-  | inr none ↦ absurd (none_in y none)
-]
+only_in x y there = ⊎_elim (λ same. same) (λ none. absurd (none_in y none)) (first_or_rest x [] y there)
 
 pub all_from : {X : Type 0} (P : X → Type 0) (xs : List X) → ((x : X) → Contains xs x → P x) → All P xs
 all_from P xs each = λ k d within. each (get_or xs k d) (Contains-get_or xs k d within)
 
 -- what is in a list stays where others take the place of some, or is one of these
 pub swapped : {X : Type 0} (before gone come behind : List X) (x : X) → Contains (before ++ (gone ++ behind)) x → Contains (before ++ (come ++ behind)) x ⊎ Contains gone x
-swapped before gone come behind x there = elim (Contains-append_cases before (gone ++ behind) x there) [
-  | inl first ↦ inl (Contains-append_left before (come ++ behind) x first)
-  | inr rest ↦ elim (Contains-append_cases gone behind x rest) [
-    | inl here ↦ inr here
-    | inr last ↦ inl (Contains-append_right before (come ++ behind) x (Contains-append_right come behind x last))
-  ]
-]
+swapped before gone come behind x there = grind (
+  arith,
+  Contains-append_cases before (gone ++ behind) x there,
+  Contains-append_cases gone behind x,
+  Contains-append_left before (come ++ behind) x,
+  Contains-append_right before (come ++ behind) x,
+  Contains-append_right come behind x,
+)
 
 abbrev pub Pairs : {X : Type 0} → (X → X → Type 0) → List X → Type 0
 Pairs R [] = Unit {0}
@@ -37,10 +35,7 @@ module _ {X : Type 0} (R : X → X → Type 0) where
   pub pairs_from : (xs : List X) → AllPairs R xs → Pairs R xs
   pairs_from [] pairs = tt
   pairs_from (x ∷ xs) pairs = (
-    (λ y there.
-        let k = there.0 in
-        let within : k < length xs = there.1 in
-        subst (R x) there.2 (pairs 0 (suc k) y (omega arith) (omega arith))),
+    (λ y there. let within : there.0 < length xs = there.1 in subst (R x) there.2 (pairs 0 (suc there.0) y (omega arith) (omega arith))),
     pairs_from xs (λ i j d before within. pairs (suc i) (suc j) d (omega arith) (omega arith)),
   )
 
@@ -51,36 +46,25 @@ module _ {X : Type 0} (R : X → X → Type 0) where
   pub pairs_append : (xs ys : List X) → Pairs R xs → Pairs R ys → ((x y : X) → Contains xs x → Contains ys y → R x y) → Pairs R (xs ++ ys)
   pairs_append [] ys first second across = second
   pairs_append (x ∷ xs) ys first second across = (
-    (λ y there. elim (Contains-append_cases xs ys y there) [
-      | inl left ↦ first.0 y left
-      | inr right ↦ across x y (first_is x xs x refl) right
-    ]),
-    pairs_append xs ys first.1 second (λ a b left right. across a b (in_rest x xs a left) right),
+    (λ y there. ⊎_elim (first.0 y) (across x y (first_is x xs x refl)) (Contains-append_cases xs ys y there)),
+    pairs_append xs ys first.1 second (λ a b left. across a b (in_rest x xs a left)),
   )
 
   pub pairs_parts : (xs ys : List X) → Pairs R (xs ++ ys) → Pairs R xs × Pairs R ys × ((x y : X) → Contains xs x → Contains ys y → R x y)
-  pairs_parts [] ys pairs = (tt, pairs, λ x y left right. absurd (none_in x left))
-  pairs_parts (x ∷ xs) ys pairs =
-      let more = pairs_parts xs ys pairs.1 in (
-        ((λ y left. pairs.0 y (Contains-append_left xs ys y left)), more.0),
-        more.1,
-        λ a b left right. elim (first_or_rest x xs a left) [
-          | inl same ↦ subst (λ x. R x b) same (pairs.0 b (Contains-append_right xs ys b right))
-          | inr rest ↦ more.2 a b rest right
-        ],
-      )
+  pairs_parts [] ys pairs = (tt, pairs, λ x y left. absurd (none_in x left))
+  pairs_parts (x ∷ xs) ys pairs = let more = pairs_parts xs ys pairs.1 in (
+    ((λ y left. pairs.0 y (Contains-append_left xs ys y left)), more.0),
+    more.1,
+    λ a b left right. ⊎_elim (λ same. subst (λ x. R x b) same (pairs.0 b (Contains-append_right xs ys b right))) (λ rest. more.2 a b rest right) (first_or_rest x xs a left),
+  )
 
   -- other items in the place of some
   pub spliced : (before gone come behind : List X) → Pairs R (before ++ (gone ++ behind)) → Pairs R come → ((x y : X) → Contains before x → Contains come y → R x y)
       → ((x y : X) → Contains come x → Contains behind y → R x y) → Pairs R (before ++ (come ++ behind))
   spliced before gone come behind pairs new left right =
       let outer = pairs_parts before (gone ++ behind) pairs in
-      let inner = pairs_parts gone behind outer.1 in
-      pairs_append before (come ++ behind) outer.0 (pairs_append come behind new inner.1 right)
-      (λ x y one two. elim (Contains-append_cases come behind y two) [
-        | inl made ↦ left x y one made
-        | inr old ↦ outer.2 x y one (Contains-append_right gone behind y old)
-      ])
+      pairs_append before (come ++ behind) outer.0 (pairs_append come behind new (pairs_parts gone behind outer.1).1 right)
+      (λ x y one two. ⊎_elim (left x y one) (λ old. outer.2 x y one (Contains-append_right gone behind y old)) (Contains-append_cases come behind y two))
 
   pub pairs_map : {Y : Type 0} (f : Y → X) (ys : List Y) → Pairs (λ a b. R (f a) (f b)) ys → Pairs R (map f ys)
   pairs_map f [] pairs = tt
