@@ -18,6 +18,11 @@ joined : (a b c d : List (List File)) (others : List File) → ((file : File) �
     → ((file : File) → Contains (files_in b) file → Contains (files_in d) file ⊎ Contains others file) → (file : File) → Contains (files_in (a ++ b)) file → Contains (files_in (c ++ d)) file ⊎ Contains others file
 joined a b c d others first second file there = grind (arith, λ (t : Contains (files_in (a ++ b)) file). files_cases a b file t, first file, second file, files_left c d file, files_right c d file)
 
+-- files that come of these or of what is made of some of them have such entries
+drawn_by : (now before made taken : List File) → ((file : File) → Contains now file → Contains before file ⊎ Contains made file) → ((file : File) → Contains taken file → Contains before file)
+    → IsDrawn (InFiles made) (InFiles taken) → IsDrawn (InFiles now) (InFiles before)
+drawn_by now before made taken comes among source entry is = grind (arith, comes is.file is.there, source entry, among)
+
 -- the move alone, on runs that are in order
 module _ (alone : Bool) (m : Move) (moves : IsMove alone m) where
   abbrev middle : List (List File)
@@ -83,16 +88,11 @@ module _ (alone : Bool) (m : Move) (moves : IsMove alone m) where
 
     module _ (source : IsDrawn (InFiles m.made) (InFiles m.taken)) where
       middle_drawn : IsDrawn (InFiles (files_in middle_then)) (InFiles (files_in middle))
-      middle_drawn entry is = elim (middle_comes is.file is.there) [
-        | inl old ↦ (entry, refiled is old, refl, refl)
-        | inr made ↦ let from = source entry (refiled is made) in (from.0, in_more from.1 taken_in, from.2, from.3)
-      ]
+      middle_drawn = drawn_by (files_in middle_then) (files_in middle) m.made m.taken middle_comes taken_in source
 
       here_over_then : IsOver (files_in m.here_then) (files_in m.next_then)
-      here_over_then entry older above below same = elim (moves.next_from below.file below.there) [
-        | inl old ↦ here_over entry older (in_more above moves.here_from) (refiled below old) same
-        | inr made ↦ let from = source older (refiled below made) in omega (arith, here_newer entry from.0 above from.1 (same ∙ sym from.2), from.3)
-      ]
+      here_over_then entry older above below same =
+          grind (arith, moves.next_from below.file below.there, here_over entry older (in_more above moves.here_from), source older, λ (input : Entry). here_newer entry input above)
 
       middle_over_then : IsOver (files_in middle_then) (files_in m.below)
       middle_over_then entry older above below same =
@@ -135,8 +135,11 @@ module _ (threshold : ℕ) (h : History) (l : Layout) (covers : Covers threshold
     falls : Falls (m.above ++ ((m.here ++ m.next) ++ m.below))
     falls = subst Falls before (falls_from (runs_of l.levels) covers.newer_above.runs)
 
+    taken_there : (file : File) → Contains m.taken file → Contains (files_of l) file
+    taken_there file there = from_runs l.levels before file (in_around alone m moves.is (m.here ++ m.next) file (taken_in alone m moves.is file there))
+
     taken_filed : (entry : Entry) → InFiles m.taken entry → IsFiled l entry
-    taken_filed entry is = in_more is (λ file there. from_runs l.levels before file (in_around alone m moves.is (m.here ++ m.next) file (taken_in alone m moves.is file there)))
+    taken_filed entry is = in_more is taken_there
 
     comes : (file : File) → Contains (files_of then) file → Contains (files_of l) file ⊎ Contains m.made file
     comes file there = ⊎_map (from_runs l.levels before file) (λ is. is) (file_comes alone m moves.is file (to_runs levels afterwards file there))
@@ -186,10 +189,7 @@ module _ (threshold : ℕ) (h : History) (l : Layout) (covers : Covers threshold
 
     -- an entry of the files then has the place of one that was filed
     older : IsDrawn (IsFiled then) (IsFiled l)
-    older entry filed = elim (comes filed.file filed.there) [
-      | inl old ↦ (entry, refiled filed old, refl, refl)
-      | inr made ↦ let from = source entry (refiled filed made) in (from.0, taken_filed from.0 from.1, from.2, from.3)
-    ]
+    older = drawn_by (files_of then) (files_of l) m.made m.taken comes taken_there source
 
     newer_then : IsNewerAbove then
     newer_then = record {
