@@ -57,48 +57,36 @@ abbrev IsLeft : List Pending → (Entry → Type 0) → Option Entry → Type 0
 IsLeft erases own None = (input : Entry) → own input → ⊥
 IsLeft erases own (Some joined) = IsJoined erases own joined
 
--- the same inputs, told otherwise
-same_left : (erases : List Pending) (P Q : Entry → Type 0) (o : Option Entry) → ((e : Entry) → P e → Q e) → ((e : Entry) → Q e → P e) → IsLeft erases P o → IsLeft erases Q o
-same_left erases P Q None to back none = λ e own. none e (back e own)
-same_left erases P Q (Some joined) to back is = record {
-  source = is.source;
-  there = to is.source is.there;
-  place = is.place;
-  answer = is.answer;
-  last = λ input own. is.last input (back input own);
-  least = λ input time own. is.least input time (back input own);
-  from = λ time has. ⊎_map (λ found. (found.0, to found.0 found.1, found.2)) (λ erased. erased) (is.from time has);
-}
-
 -- one input more
-more_left : (erases : List Pending) (P : Entry → Type 0) (x : Entry) (o : Option Entry) → IsLeft erases P o → IsJoined erases (λ e. (x ≡ e) ⊎ P e) (newer_of (struck erases x) o)
-more_left erases P x None none = record {
+more_left : (erases : List Pending) (P own : Entry → Type 0) (x : Entry) (o : Option Entry) → ((e : Entry) → (x ≡ e) ⊎ P e → own e) → ((e : Entry) → own e → (x ≡ e) ⊎ P e) → IsLeft erases P o
+    → IsJoined erases own (newer_of (struck erases x) o)
+more_left erases P own x None to cases none = record {
   source = x;
-  there = inl refl;
+  there = to x (inl refl);
   place = refl;
   answer = struck_answer erases x.seq x.body;
-  last = λ input. ⊎_elim (λ same. omega (arith, ap (λ e. e.seq) same)) (λ rest. absurd (none input rest));
-  least = λ input time own has. ⊎_elim (λ same. struck_by erases x time (ap (λ e. e.since) same ∙ has)) (λ rest. absurd (none input rest)) own;
-  from = λ time has. ⊎_map (λ own. (x, inl refl, own)) (λ erased. erased) (struck_from erases x.seq x.body x.since time has);
+  last = λ input is. ⊎_elim (λ same. omega (arith, ap (λ e. e.seq) same)) (λ rest. absurd (none input rest)) (cases input is);
+  least = λ input time is has. ⊎_elim (λ same. struck_by erases x time (ap (λ e. e.since) same ∙ has)) (λ rest. absurd (none input rest)) (cases input is);
+  from = λ time has. ⊎_map (λ mine. (x, to x (inl refl), mine)) (λ erased. erased) (struck_from erases x.seq x.body x.since time has);
 }
-more_left erases P x (Some f) is = by (nat_lt x.seq f.seq) refl
+more_left erases P own x (Some f) to cases is = by (nat_lt x.seq f.seq) refl
   where
     joined : (source s : Entry) → (x ≡ source) ⊎ P source → source.seq ≡ s.seq → pair_of s.body ≡ answer_under erases source → x.seq ≤ s.seq → f.seq ≤ s.seq
-        → IsJoined erases (λ e. (x ≡ e) ⊎ P e) (record s { since = earlier (struck erases x).since f.since })
+        → IsJoined erases own (record s { since = earlier (struck erases x).since f.since })
     joined source s there place answer upto below = record {
       source = source;
-      there = there;
+      there = to source there;
       place = place;
       answer = answer;
-      last = λ input. ⊎_elim (λ same. omega (arith, ap (λ e. e.seq) same)) (λ rest. omega (arith, is.last input rest));
-      least = λ input time own has. ⊎_elim (λ same. by_left (struck erases x).since f.since time (struck_by erases x time (ap (λ e. e.since) same ∙ has)))
-          (λ rest. by_right (struck erases x).since f.since time (is.least input time rest has)) own;
-      from = λ time has. ⊎_elim (λ own. ⊎_map (λ mine. (x, inl refl, mine)) (λ erased. erased) (struck_from erases x.seq x.body x.since time own))
-          (λ old. ⊎_map (λ found. (found.0, inr found.1, found.2)) (λ erased. erased) (is.from time old)) (earlier_from (struck erases x).since f.since time has);
+      last = λ input is_own. ⊎_elim (λ same. omega (arith, ap (λ e. e.seq) same)) (λ rest. omega (arith, is.last input rest)) (cases input is_own);
+      least = λ input time is_own has. ⊎_elim (λ same. by_left (struck erases x).since f.since time (struck_by erases x time (ap (λ e. e.since) same ∙ has)))
+          (λ rest. by_right (struck erases x).since f.since time (is.least input time rest has)) (cases input is_own);
+      from = λ time has. ⊎_elim (λ mine. ⊎_map (λ at. (x, to x (inl refl), at)) (λ erased. erased) (struck_from erases x.seq x.body x.since time mine))
+          (λ old. ⊎_map (λ found. (found.0, to found.0 (inr found.1), found.2)) (λ erased. erased) (is.from time old)) (earlier_from (struck erases x).since f.since time has);
     }
 
     by : (t : Bool) → nat_lt x.seq f.seq ≡ t
-        → IsJoined erases (λ e. (x ≡ e) ⊎ P e) (cond t (record f { since = earlier (struck erases x).since f.since }) (record (struck erases x) { since = earlier (struck erases x).since f.since }))
+        → IsJoined erases own (cond t (record f { since = earlier (struck erases x).since f.since }) (record (struck erases x) { since = earlier (struck erases x).since f.since }))
     by true at = joined is.source f (inr is.there) is.place is.answer (grind (arith, nat_tests)) (omega arith)
     by false at = joined x (struck erases x) (inl refl) refl (struck_answer erases x.seq x.body) (omega arith) (grind (arith, nat_tests))
 
@@ -106,23 +94,26 @@ more_left erases P x (Some f) is = by (nat_lt x.seq f.seq) refl
 abbrev OfKey : Bytes → List Entry → Entry → Type 0
 OfKey key entries entry = Contains entries entry × (entry.key ≡ key)
 
-left_is : (erases : List Pending) (key : Bytes) (inputs : List Entry) → IsLeft erases (OfKey key inputs) (left_of key (map (struck erases) inputs))
-left_is erases key [] = λ e own. none_in e own.0
-left_is erases key (x ∷ inputs) = by (left_of key (map (struck erases) inputs)) (left_is erases key inputs) (same_key key x.key) refl
+left_is : (erases : List Pending) (key : Bytes) (inputs : List Entry) (own : Entry → Type 0) → ((e : Entry) → own e → OfKey key inputs e) → ((e : Entry) → OfKey key inputs e → own e)
+    → IsLeft erases own (left_of key (map (struck erases) inputs))
+left_is erases key [] own from to = λ e is. none_in e (from e is).0
+left_is erases key (x ∷ inputs) own from to = by (left_is erases key inputs) (same_key key x.key) refl
   where
-    later : (e : Entry) → OfKey key inputs e → OfKey key (x ∷ inputs) e
-    later e own = (Contains-append_right (x ∷ []) inputs e own.0, own.1)
+    later : (e : Entry) → OfKey key inputs e → own e
+    later e is = to e (Contains-append_right (x ∷ []) inputs e is.0, is.1)
 
-    cases : (e : Entry) → OfKey key (x ∷ inputs) e → (x ≡ e) ⊎ OfKey key inputs e
-    cases e own = ⊎_map (λ is. is) (λ rest. (rest, own.1)) (first_or_rest x inputs e own.0)
+    cases : (e : Entry) → own e → (x ≡ e) ⊎ OfKey key inputs e
+    cases e is = let there = from e is in ⊎_map (λ same. same) (λ rest. (rest, there.1)) (first_or_rest x inputs e there.0)
 
     unlike : same_key key x.key ≡ false → (e : Entry) → e.key ≡ key → x ≡ e → ⊥
     unlike other e named is = grind (arith, same_key-self key)
 
-    by : (o : Option Entry) → IsLeft erases (OfKey key inputs) o → (t : Bool) → same_key key x.key ≡ t → IsLeft erases (OfKey key (x ∷ inputs)) (cond t (Some (newer_of (struck erases x) o)) o)
-    by o is false at = same_left erases (OfKey key inputs) (OfKey key (x ∷ inputs)) o later (λ e own. ⊎_elim (λ same. absurd (unlike at e own.1 same)) (λ rest. rest) (cases e own)) is
-    by o is true at = same_left erases (λ e. (x ≡ e) ⊎ OfKey key inputs e) (OfKey key (x ∷ inputs)) (Some (newer_of (struck erases x) o))
-        (λ e. ⊎_elim (λ same. (first_is x inputs e same, ap (λ e. e.key) (sym same) ∙ sym (same_key-true key x.key at))) (later e)) cases (more_left erases (OfKey key inputs) x o is)
+    by : ((P : Entry → Type 0) → ((e : Entry) → P e → OfKey key inputs e) → ((e : Entry) → OfKey key inputs e → P e) → IsLeft erases P (left_of key (map (struck erases) inputs)))
+        → (t : Bool) → same_key key x.key ≡ t → IsLeft erases own (cond t (Some (newer_of (struck erases x) (left_of key (map (struck erases) inputs)))) (left_of key (map (struck erases) inputs)))
+    by more false at = more own (λ e is. ⊎_elim (λ same. absurd (unlike at e (from e is).1 same)) (λ rest. rest) (cases e is)) later
+    by more true at = more_left erases (OfKey key inputs) own x (left_of key (map (struck erases) inputs))
+        (λ e. ⊎_elim (λ same. to e (first_is x inputs e same, ap (λ e. e.key) (sym same) ∙ sym (same_key-true key x.key at))) (later e)) cases
+        (more (OfKey key inputs) (λ e is. is) (λ e is. is))
 
 -- an output says what is left of its key, and has its time if it has one
 abbrev IsBared : Entry → Entry → Type 0
@@ -135,8 +126,11 @@ bared_is alone left output is = grind arith
 module _ (Inputs : Entry → Type 0) (inputs : List Entry) (to : (entry : Entry) → Contains inputs entry → Inputs entry) (back : (entry : Entry) → Inputs entry → Contains inputs entry)
     (erases : List Pending) (alone : Bool) (merged : List Entry) (is : IsMerged inputs erases alone merged)
   where
+    own_left : (key : Bytes) → IsLeft erases (OfKey key inputs) (left_of key (map (struck erases) inputs))
+    own_left key = left_is erases key inputs (OfKey key inputs) (λ e is. is) (λ e is. is)
+
     output_left : (output : Entry) → Contains merged output → (left : Entry) × IsJoined erases (OfKey output.key inputs) left × IsBared left output
-    output_left output there = by (left_of output.key (map (struck erases) inputs)) (left_is erases output.key inputs) (sym (is.entries output.key) ∙ own_entry merged output is.ascending there)
+    output_left output there = by (left_of output.key (map (struck erases) inputs)) (own_left output.key) (sym (is.entries output.key) ∙ own_entry merged output is.ascending there)
       where
         by : (o : Option Entry) → IsLeft erases (OfKey output.key inputs) o → option_and_then (λ entry. bared alone entry entry.body) o ≡ Some output
             → (left : Entry) × IsJoined erases (OfKey output.key inputs) left × IsBared left output
@@ -162,7 +156,7 @@ module _ (Inputs : Entry → Type 0) (inputs : List Entry) (to : (entry : Entry)
     IsKeptOrDropped input = IsKept (IsTrue alone) (Contains merged) input ⊎ IsDropped erases (IsTrue alone) Inputs (Contains merged) input
 
     kept : (input : Entry) → Inputs input → IsKeptOrDropped input
-    kept input taken = by (left_of input.key (map (struck erases) inputs)) (left_is erases input.key inputs) (is.entries input.key)
+    kept input taken = by (left_of input.key (map (struck erases) inputs)) (own_left input.key) (is.entries input.key)
       where
         own : OfKey input.key inputs input
         own = (back input taken, refl)

@@ -18,6 +18,11 @@ joined : (a b c d : List (List File)) (others : List File) → ((file : File) �
     → ((file : File) → Contains (files_in b) file → Contains (files_in d) file ⊎ Contains others file) → (file : File) → Contains (files_in (a ++ b)) file → Contains (files_in (c ++ d)) file ⊎ Contains others file
 joined a b c d others first second file there = grind (arith, λ (t : Contains (files_in (a ++ b)) file). files_cases a b file t, first file, second file, files_left c d file, files_right c d file)
 
+-- files that come of these or of what is made of some of them have such entries
+drawn_by : (now before made taken : List File) → ((file : File) → Contains now file → Contains before file ⊎ Contains made file) → ((file : File) → Contains taken file → Contains before file)
+    → IsDrawn (InFiles made) (InFiles taken) → IsDrawn (InFiles now) (InFiles before)
+drawn_by now before made taken comes among source entry is = grind (arith, comes is.file is.there, source entry, among)
+
 -- the move alone, on runs that are in order
 module _ (alone : Bool) (m : Move) (moves : IsMove alone m) where
   abbrev middle : List (List File)
@@ -33,8 +38,14 @@ module _ (alone : Bool) (m : Move) (moves : IsMove alone m) where
   taken_in : (file : File) → Contains m.taken file → Contains (files_in middle) file
   taken_in file there = ⊎_elim (files_left m.here m.next file) (files_right m.here m.next file) (moves.taken_from file there)
 
+  taken_rest : (file : File) → Contains m.taken file → Contains (files_in (middle ++ m.below)) file
+  taken_rest file there = files_left middle m.below file (taken_in file there)
+
   middle_comes : (file : File) → Contains (files_in middle_then) file → Contains (files_in middle) file ⊎ Contains m.made file
   middle_comes = joined m.here_then m.next_then m.here m.next m.made (λ file is. inl (moves.here_from file is)) moves.next_from
+
+  rest_comes : (file : File) → Contains (files_in (middle_then ++ m.below)) file → Contains (files_in (middle ++ m.below)) file ⊎ Contains m.made file
+  rest_comes = joined middle_then m.below middle m.below m.made middle_comes (λ file is. inl is)
 
   -- a file from before stays, or was taken
   file_stays : (file : File) → Contains (files_in (around middle)) file → Contains (files_in (around middle_then)) file ⊎ Contains m.taken file
@@ -43,8 +54,7 @@ module _ (alone : Bool) (m : Move) (moves : IsMove alone m) where
 
   -- a file that is there then was there, or is made
   file_comes : (file : File) → Contains (files_in (around middle_then)) file → Contains (files_in (around middle)) file ⊎ Contains m.made file
-  file_comes = joined m.above (middle_then ++ m.below) m.above (middle ++ m.below) m.made (λ file is. inl is)
-      (joined middle_then m.below middle m.below m.made middle_comes (λ file is. inl is))
+  file_comes = joined m.above (middle_then ++ m.below) m.above (middle ++ m.below) m.made (λ file is. inl is) rest_comes
 
   in_around : (runs : List (List File)) (file : File) → Contains (files_in runs) file → Contains (files_in (around runs)) file
   in_around runs file there = files_right m.above (runs ++ m.below) file (files_left runs m.below file there)
@@ -68,7 +78,7 @@ module _ (alone : Bool) (m : Move) (moves : IsMove alone m) where
     -- where the output is alone, what stays of a key of a taken file is newer
     stays_newer : IsTrue alone → (entry input : Entry) (now : InFiles (files_in (around middle_then)) entry) → Contains (files_in (runs_before m)) now.file → InFiles m.taken input → entry.key ≡ input.key → input.seq < entry.seq
     stays_newer lone entry input now was taken same = elim (files_cases m.above (middle_then ++ m.below) now.file now.there) [
-      | inl above ↦ above_over entry input (refiled now above) (in_more taken (λ file there. files_left middle m.below file (taken_in file there))) same
+      | inl above ↦ above_over entry input (refiled now above) (in_more taken taken_rest) same
       | inr rest ↦ elim (files_cases middle_then m.below now.file rest) [
         | inr below ↦ absurd (moves.alone_apart lone now.file taken.file below taken.there entry input now.spelled taken.spelled same)
         | inl inside ↦ elim (files_cases m.here_then m.next_then now.file inside) [
@@ -82,29 +92,19 @@ module _ (alone : Bool) (m : Move) (moves : IsMove alone m) where
     ]
 
     module _ (source : IsDrawn (InFiles m.made) (InFiles m.taken)) where
-      middle_drawn : IsDrawn (InFiles (files_in middle_then)) (InFiles (files_in middle))
-      middle_drawn entry is = elim (middle_comes is.file is.there) [
-        | inl old ↦ (entry, refiled is old, refl, refl)
-        | inr made ↦ let from = source entry (refiled is made) in (from.0, in_more from.1 taken_in, from.2, from.3)
-      ]
-
       here_over_then : IsOver (files_in m.here_then) (files_in m.next_then)
-      here_over_then entry older above below same = elim (moves.next_from below.file below.there) [
-        | inl old ↦ here_over entry older (in_more above moves.here_from) (refiled below old) same
-        | inr made ↦ let from = source older (refiled below made) in omega (arith, here_newer entry from.0 above from.1 (same ∙ sym from.2), from.3)
-      ]
+      here_over_then entry older above below same =
+          grind (arith, moves.next_from below.file below.there, here_over entry older (in_more above moves.here_from), source older, λ (input : Entry). here_newer entry input above)
 
       middle_over_then : IsOver (files_in middle_then) (files_in m.below)
       middle_over_then entry older above below same =
-          let from = middle_drawn entry above in omega (arith, over_append middle m.below below_falls from.0 older from.1 below (from.2 ∙ same), from.3)
+          let from = drawn_by (files_in middle_then) (files_in middle) m.made m.taken middle_comes taken_in source entry above in
+          omega (arith, over_append middle m.below below_falls from.0 older from.1 below (from.2 ∙ same), from.3)
 
       above_over_then : IsOver (files_in m.above) (files_in (middle_then ++ m.below))
-      above_over_then entry older above below same = elim (files_cases middle_then m.below below.file below.there) [
-        | inl inside ↦
-            let from = middle_drawn older (refiled below inside) in
-            omega (arith, above_over entry from.0 above (in_more from.1 (files_left middle m.below)) (same ∙ sym from.2), from.3)
-        | inr lower ↦ above_over entry older above (refiled below (files_right middle m.below below.file lower)) same
-      ]
+      above_over_then entry older above below same =
+          let from = drawn_by (files_in (middle_then ++ m.below)) (files_in (middle ++ m.below)) m.made m.taken rest_comes taken_rest source older below in
+          omega (arith, above_over entry from.0 above from.1 (same ∙ sym from.2), from.3)
 
       falls_then : Falls (around middle_then)
       falls_then = falls_append m.above (middle_then ++ m.below) (falls_left m.above (middle ++ m.below) falls)
@@ -135,8 +135,11 @@ module _ (threshold : ℕ) (h : History) (l : Layout) (covers : Covers threshold
     falls : Falls (m.above ++ ((m.here ++ m.next) ++ m.below))
     falls = subst Falls before (falls_from (runs_of l.levels) covers.newer_above.runs)
 
+    taken_there : (file : File) → Contains m.taken file → Contains (files_of l) file
+    taken_there file there = from_runs l.levels before file (in_around alone m moves.is (m.here ++ m.next) file (taken_in alone m moves.is file there))
+
     taken_filed : (entry : Entry) → InFiles m.taken entry → IsFiled l entry
-    taken_filed entry is = in_more is (λ file there. from_runs l.levels before file (in_around alone m moves.is (m.here ++ m.next) file (taken_in alone m moves.is file there)))
+    taken_filed entry is = in_more is taken_there
 
     comes : (file : File) → Contains (files_of then) file → Contains (files_of l) file ⊎ Contains m.made file
     comes file there = ⊎_map (from_runs l.levels before file) (λ is. is) (file_comes alone m moves.is file (to_runs levels afterwards file there))
@@ -186,10 +189,7 @@ module _ (threshold : ℕ) (h : History) (l : Layout) (covers : Covers threshold
 
     -- an entry of the files then has the place of one that was filed
     older : IsDrawn (IsFiled then) (IsFiled l)
-    older entry filed = elim (comes filed.file filed.there) [
-      | inl old ↦ (entry, refiled filed old, refl, refl)
-      | inr made ↦ let from = source entry (refiled filed made) in (from.0, taken_filed from.0 from.1, from.2, from.3)
-    ]
+    older = drawn_by (files_of then) (files_of l) m.made m.taken comes taken_there source
 
     newer_then : IsNewerAbove then
     newer_then = record {
