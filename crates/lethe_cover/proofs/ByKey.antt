@@ -36,7 +36,7 @@ own_entry [] entry ascending there = absurd (none_in entry there)
 own_entry (x ∷ entries) entry ascending there =
     let parts = and_parts (below_all key_cmp x.key (by_key entries)) (is_sorted key_cmp (by_key entries)) ascending in
     ⊎_elim (λ (same : x ≡ entry). grind (arith, same_key-self entry.key))
-        (λ rest. let lower = below_in x.key entries entry parts.0 rest in grind (arith, own_entry entries entry parts.1 rest, same_key-true entry.key x.key, same_key-self x.key)) (first_or_rest x entries entry there)
+    (λ rest. let lower = below_in x.key entries entry parts.0 rest in grind (arith, own_entry entries entry parts.1 rest, same_key-true entry.key x.key, same_key-self x.key)) (first_or_rest x entries entry there)
 
 pub no_entry : (key : Bytes) (entries : List Entry) → entry_of key entries ≡ None → (entry : Entry) → Contains entries entry → entry.key ≡ key → ⊥
 no_entry key [] is entry there named = none_in entry there
@@ -48,10 +48,10 @@ pub record IsBy (own : Option ℕ) (time : ℕ) : Type 0 where
   pub is : own ≡ Some least
   pub upto : least ≤ time
 
-by_left : (a b : Option ℕ) (time : ℕ) → a ≡ Some time → IsBy (earlier a b) time
+pub by_left : (a b : Option ℕ) (time : ℕ) → a ≡ Some time → IsBy (earlier a b) time
 by_left a b time is = grind arith
 
-by_right : (a b : Option ℕ) (time : ℕ) → IsBy b time → IsBy (earlier a b) time
+pub by_right : (a b : Option ℕ) (time : ℕ) → IsBy b time → IsBy (earlier a b) time
 by_right a b time by = grind arith
 
 pub earlier_from : (a b : Option ℕ) (time : ℕ) → earlier a b ≡ Some time → (a ≡ Some time) ⊎ (b ≡ Some time)

@@ -2,3 +2,8 @@ pub mod KeyOrder
 pub mod Pairs
 pub mod Tiled
 pub mod Apart
+pub mod Once
+pub mod Scanning
+pub mod Fresh
+pub mod EachRun
+pub mod Stubs

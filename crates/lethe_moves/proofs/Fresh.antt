@@ -1,0 +1,119 @@
+-- Where nothing is due, nothing that is remembered is a threshold old, and no put that is held is overdue.
+use Rattle.std.proofs.Common.{◌≡◌, inl, inr, ℕ, suc, ◌+◌, ◌-◌, ◌<◌, ◌≤◌, List, [], ◌∷◌, map, flat_map, length, get_or, Contains, Option, Some, None, IsSomeAnd, refl, sym, ap, ◌∙◌, subst, arith}
+use Rattle.std.proofs.lemmas.Bool.{cases_lt}
+use Rattle.std.proofs.lemmas.List.Elements.{All-contains, Contains-append_left, Contains-append_right, Contains-append_cases}
+use Rattle.lethe_base.specs.Causes.{IsOverdue}
+use Rattle.lethe_base.specs.Configuration.{IsConfig}
+use Rattle.lethe_base.specs.Covers.{Covers}
+use Rattle.lethe_base.specs.Fresh.{IsFresh, AreFresh}
+use Rattle.lethe_base.specs.Held.{Holds, Tells}
+use Rattle.lethe_base.specs.History.{History}
+use Rattle.lethe_base.specs.Layout.{File, Layout, Written, Erasing, entries_of}
+use Rattle.lethe_base.specs.Matching.{IsPut}
+use Rattle.lethe_base.specs.Shapes.{IsBare, all_files, deepest_files, facts_from, facts_of, oldest_of, shape_of}
+use Rattle.lethe_base.specs.declared.config.Fields.{Fields}
+use Rattle.lethe_base.specs.declared.entry.Entry.{Entry}
+use Rattle.lethe_base.specs.declared.shape.FileFacts.{FileFacts}
+use Rattle.lethe_base.proofs.LayoutLaws.{none_in}
+use Rattle.lethe_base.proofs.Newest.{first_or_rest}
+use Rattle.lethe_base.proofs.Overdue.{none_overdue}
+use Rattle.lethe_cover.proofs.Bridge.{same_order}
+use Rattle.lethe_cover.proofs.ByKey.{IsBy, by_left, by_right}
+use Rattle.lethe_cover.proofs.Merging.{in_map}
+use Rattle.lethe_fade.specs.LevelTimes.{level_deadline}
+use Rattle.lethe_fade.proofs.Powers.{deadlines_rise}
+use Rattle.lethe_moves.specs.Due.{HasNothingDue, IsExpired}
+use Rattle.lethe_moves.specs.Reaches.{Follows}
+
+-- the least time of some entries is at most that of each
+oldest_by : (entries : List Entry) (entry : Entry) (time : ℕ) → Contains entries entry → entry.since ≡ Some time → IsBy (oldest_of entries) time
+oldest_by [] entry time there has = absurd (none_in entry there)
+oldest_by (first ∷ entries) entry time there has = elim (first_or_rest first entries entry there) [
+  | inl same ↦ by_left first.since (oldest_of entries) time (ap (λ e. e.since) same ∙ has)
+  | inr rest ↦ by_right first.since (oldest_of entries) time (oldest_by entries entry time rest has)
+]
+
+-- a file of levels, the first of which has that number, has facts among theirs
+record HasFacts (first : ℕ) (levels : List (List File)) (file : File) : Type 0 where
+  index : ℕ
+  within : index < length levels
+  level : ℕ
+  is : level ≡ first + index
+  facts : Contains (flat_map (λ files. files) (facts_from first levels)) (facts_of level file)
+  there : Contains (get_or (facts_from first levels) index []) (facts_of level file)
+
+file_facts : (first : ℕ) (levels : List (List File)) (file : File) → Contains (flat_map (λ files. files) levels) file → HasFacts first levels file
+file_facts first [] file there = absurd (none_in file there)
+file_facts first (files ∷ deeper) file there = elim (Contains-append_cases files (flat_map (λ files. files) deeper) file there) [
+  | inl here ↦
+      let fact = in_map (facts_of first) files file here in
+      record { index = 0; within = omega arith; level = first; is = omega arith; facts = Contains-append_left (map (facts_of first) files) (flat_map (λ files. files) (facts_from (first + 1) deeper)) (facts_of first file) fact; there = fact }
+  | inr below ↦
+      let rest = file_facts (first + 1) deeper file below in
+      record { index = suc rest.index; within = omega (arith, rest.within); level = rest.level; is = omega (arith, rest.is); facts = Contains-append_right (map (facts_of first) files) (flat_map (λ files. files) (facts_from (first + 1) deeper)) (facts_of rest.level file) rest.facts; there = rest.there }
+]
+
+length-facts_from : (first : ℕ) (levels : List (List File)) → length (facts_from first levels) ≡ length levels
+length-facts_from first [] = refl
+length-facts_from first (files ∷ deeper) = ap suc (length-facts_from (first + 1) deeper)
+
+module _ (fields : Fields) (config : IsConfig fields) (h : History) (l : Layout) (follows : Follows fields.threshold h l) (levels : length l.levels ≡ fields.levels + 1)
+    (clock : ℕ) (due : HasNothingDue fields clock l)
+  where
+    -- what a file remembers above the last level isn't expired, and the last level remembers nothing
+    file_fresh : (file : File) (entry : Entry) (since : ℕ) → Contains (flat_map (λ files. files) l.levels) file → Contains (entries_of file) entry → entry.since ≡ Some since
+        → clock < since + fields.threshold
+    file_fresh file entry since there spelled has = elim (cases_lt at.level fields.levels) [
+      | inl above ↦ elim (cases_lt clock (since + fields.threshold)) [
+        | inl fresh ↦ fresh
+        | inr late ↦ absurd (All-contains (λ (file : FileFacts). file.level < fields.levels → IsExpired fields clock file → ⊥) (all_files (shape_of l)) (facts_of at.level file) due.files at.facts above (expired above late))
+      ]
+      | inr last ↦
+          let deepest : at.index ≡ length (facts_from 0 l.levels) - 1 = omega (arith, length-facts_from 0 l.levels, at.within, at.is) in
+          let bare = All-contains IsBare (deepest_files (shape_of l)) (facts_of at.level file) follows.ordered.shape.deepest
+          (subst (λ index. Contains (get_or (facts_from 0 l.levels) index []) (facts_of at.level file)) deepest at.there) in
+          absurd (let clash : None ≡ Some oldest.least = sym bare.1 ∙ oldest.is in cc)
+    ]
+      where
+        at : HasFacts 0 l.levels file
+        at = file_facts 0 l.levels file there
+
+        oldest : IsBy (oldest_of (entries_of file)) since
+        oldest = oldest_by (entries_of file) entry since spelled has
+
+        expired : at.level < fields.levels → since + fields.threshold ≤ clock → IsExpired fields clock (facts_of at.level file)
+        expired above late =
+            let rises = deadlines_rise fields config in
+            let upto : level_deadline fields at.level ≤ level_deadline fields (fields.levels - 1) = rises.rise at.level (fields.levels - 1) (omega arith) in
+            let whole : level_deadline fields (fields.levels - 1) ≡ fields.threshold = rises.whole in
+            let least : oldest.least ≤ since = oldest.upto in
+            subst (λ o. IsSomeAnd o (λ oldest. oldest + level_deadline fields at.level ≤ clock)) (sym oldest.is) (omega arith)
+
+    pub due_fresh : AreFresh fields.threshold h clock (Holds l) (Tells l)
+    due_fresh = record {
+      entries = λ entry swept since held has. later since (follows.covers.times_fresh.entries entry swept since held has) (elim held [
+        | inl recorded ↦ due.records (Written entry) since recorded.0 has
+        | inr filed ↦ file_fresh filed.0.file entry since filed.0.there filed.0.spelled has
+      ]);
+      erases = λ erase is. later erase.time (follows.covers.times_fresh.erases erase is) (elim is [
+        | inl pending ↦ due.erases erase pending
+        | inr recorded ↦ due.records (Erasing erase) erase.time recorded refl
+      ]);
+    }
+      where
+        later : (time : ℕ) → IsFresh fields.threshold h l.clock time → clock < time + fields.threshold → IsFresh fields.threshold h clock time
+        later time is fresh = record { place = is.place; call = is.call; done = is.done; erasure = is.erasure; timed = is.timed; fresh = fresh }
+
+    -- at that time the layout still stands for the history
+    covers_then : Covers fields.threshold h (record l { clock = clock })
+    covers_then = let covers = follows.covers in record {
+      places = record { entries = covers.places.entries; erases = covers.places.erases };
+      newer_above = same_order l clock l.count l.next l.certificate l.pending covers.newer_above;
+      same_map = record { newest = covers.same_map.newest; absent = covers.same_map.absent };
+      deletes_covered = covers.deletes_covered;
+      erases_covered = record { pending = covers.erases_covered.pending; swept = covers.erases_covered.swept; unswept = covers.erases_covered.unswept };
+      times_fresh = record { entries = due_fresh.entries; erases = due_fresh.erases };
+    }
+
+    pub due_overdue : (entry : Entry) (swept : ℕ) → Holds l entry swept → IsPut entry.body → IsOverdue fields.threshold h clock entry.seq → ⊥
+    due_overdue = none_overdue fields.threshold h (record l { clock = clock }) covers_then
