@@ -33,7 +33,7 @@ module _ (threshold : ℕ) (h : History) (l : Layout) (pending : List Pending) (
           | inl recorded ↦ omega (arith, spent.segments entry recorded.0 (subst IsPut (sym is) tt), (match_parts erase entry.seq dkey hit).0)
           | inr filed ↦
               let above = hidden threshold h l.clock (Holds l) (Shows l) pending (entries_cover threshold h (record l { pending = pending }) covers)
-              entry filed.0.file.swept dkey value erase (inr (filed.0, refl)) is done hit (spent.files filed.0.file filed.0.there) in
+                  entry filed.0.file.swept dkey value erase (inr (filed.0, refl)) is done hit (spent.files filed.0.file filed.0.there) in
               omega (arith, newest.last above.above above.shown above.same, above.newer)
         ]
 

@@ -1,5 +1,6 @@
 -- Where nothing is due, nothing that is remembered is a threshold old, and no put that is held is overdue.
 use Rattle.std.proofs.Common.{◌≡◌, inl, inr, ℕ, suc, ◌+◌, ◌-◌, ◌<◌, ◌≤◌, List, [], ◌∷◌, map, flat_map, length, get_or, Contains, Option, Some, None, IsSomeAnd, refl, sym, ap, ◌∙◌, subst, arith}
+use Rattle.std.proofs.Math.Logic.{⊎_elim}
 use Rattle.std.proofs.lemmas.Bool.{cases_lt}
 use Rattle.std.proofs.lemmas.List.Elements.{All-contains, Contains-append_left, Contains-append_right, Contains-append_cases}
 use Rattle.lethe_base.specs.Causes.{IsOverdue}
@@ -28,10 +29,8 @@ use Rattle.lethe_moves.specs.Reaches.{Follows}
 -- the least time of some entries is at most that of each
 oldest_by : (entries : List Entry) (entry : Entry) (time : ℕ) → Contains entries entry → entry.since ≡ Some time → IsBy (oldest_of entries) time
 oldest_by [] entry time there has = absurd (none_in entry there)
-oldest_by (first ∷ entries) entry time there has = elim (first_or_rest first entries entry there) [
-  | inl same ↦ by_left first.since (oldest_of entries) time (ap (λ e. e.since) same ∙ has)
-  | inr rest ↦ by_right first.since (oldest_of entries) time (oldest_by entries entry time rest has)
-]
+oldest_by (first ∷ entries) entry time there has = ⊎_elim (λ (same : first ≡ entry). by_left first.since (oldest_of entries) time (ap (λ e. e.since) same ∙ has))
+    (λ rest. by_right first.since (oldest_of entries) time (oldest_by entries entry time rest has)) (first_or_rest first entries entry there)
 
 -- a file of levels, the first of which has that number, has facts among theirs
 record HasFacts (first : ℕ) (levels : List (List File)) (file : File) : Type 0 where
@@ -91,14 +90,9 @@ module _ (fields : Fields) (config : IsConfig fields) (h : History) (l : Layout)
 
     pub due_fresh : AreFresh fields.threshold h clock (Holds l) (Tells l)
     due_fresh = record {
-      entries = λ entry swept since held has. later since (follows.covers.times_fresh.entries entry swept since held has) (elim held [
-        | inl recorded ↦ due.records (Written entry) since recorded.0 has
-        | inr filed ↦ file_fresh filed.0.file entry since filed.0.there filed.0.spelled has
-      ]);
-      erases = λ erase is. later erase.time (follows.covers.times_fresh.erases erase is) (elim is [
-        | inl pending ↦ due.erases erase pending
-        | inr recorded ↦ due.records (Erasing erase) erase.time recorded refl
-      ]);
+      entries = λ entry swept since held has. later since (follows.covers.times_fresh.entries entry swept since held has)
+          (⊎_elim (λ recorded. due.records (Written entry) since recorded.0 has) (λ filed. file_fresh filed.0.file entry since filed.0.there filed.0.spelled has) held);
+      erases = λ erase is. later erase.time (follows.covers.times_fresh.erases erase is) (⊎_elim (due.erases erase) (λ recorded. due.records (Erasing erase) erase.time recorded refl) is);
     }
       where
         later : (time : ℕ) → IsFresh fields.threshold h l.clock time → clock < time + fields.threshold → IsFresh fields.threshold h clock time

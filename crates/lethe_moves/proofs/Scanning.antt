@@ -3,6 +3,7 @@ use Rattle.std.proofs.Common.{◌≡◌, inl, inr, ℕ, Bool, true, false, cond,
 use Rattle.std.specs.Cmp.Lexicographic.{nat_list_cmp_total}
 use Rattle.std.specs.FinMap as finmap
 use Rattle.std.specs.FinMap.Entries.{is_sorted-where_key, find-where_key, same_entries}
+use Rattle.std.proofs.lemmas.Bool.{cond_both}
 use Rattle.lethe_base.specs.Entries.{entry_of, pair_of, shown}
 use Rattle.lethe_base.specs.History.{Pair, History, Map, after}
 use Rattle.lethe_base.specs.Keys.{Bytes, key_cmp}
@@ -12,6 +13,7 @@ use Rattle.lethe_base.specs.Read.{is_between}
 use Rattle.lethe_base.specs.SameMap.{IsNewest}
 use Rattle.lethe_base.specs.Covers.{Covers}
 use Rattle.lethe_base.specs.declared.entry.Entry.{Entry}
+use Rattle.lethe_base.proofs.Newest.{newest_shown}
 use Rattle.lethe_cover.specs.Outcomes.{IsOutcome}
 use Rattle.lethe_cover.proofs.ByKey.{entry_in, no_entry}
 use Rattle.lethe_cover.proofs.Merging.{merged_outcome}
@@ -51,24 +53,17 @@ module _ (threshold : ℕ) (h : History) (l : Layout) (covers : Covers threshold
   left_answers : (key : Bytes) → shown key left ≡ cond (is_between lo hi key) (finmap.get map key) None
   left_answers key = by (entry_of key left) refl
     where
-      nothing : entry_of key left ≡ None → IsTrue (is_between lo hi key) → (o : Option Pair) → finmap.get map key ≡ o → None ≡ o
-      nothing at within None has = refl
-      nothing at within (Some pair) has = absurd (let clash : None ≡ Some pair = sym (covers.same_map.absent key none) ∙ has in cc)
-        where
-          none : (entry : Entry) → Shows l entry → entry.key ≡ key → ⊥
-          none entry there same = elim (outcome.kept entry (there, moved key entry.key (sym same) within)) [
-            | inl kept ↦ no_entry key left at kept.output kept.made (kept.same ∙ same)
-            | inr dropped ↦
-                let answer = covers.same_map.newest dropped.newest (newest dropped.newest dropped.is) in
-                let clash : None ≡ Some pair = sym dropped.nothing ∙ answer ∙ ap (finmap.get map) (dropped.same ∙ same) ∙ has in cc
-          ]
-
-      by_between : entry_of key left ≡ None → (t : Bool) → is_between lo hi key ≡ t → None ≡ cond t (finmap.get map key) None
-      by_between at true within = nothing at within (finmap.get map key) refl
-      by_between at false within = refl
+      none_left : entry_of key left ≡ None → IsTrue (is_between lo hi key) → finmap.get map key ≡ None
+      none_left at within = elim (newest_shown l key) [
+        | inl best ↦ elim (outcome.kept best.0 (best.1.shown, moved key best.0.key (sym best.2) within)) [
+          | inl kept ↦ absurd (no_entry key left at kept.output kept.made (kept.same ∙ best.2))
+          | inr dropped ↦ ap (finmap.get map) (sym (dropped.same ∙ best.2)) ∙ sym (covers.same_map.newest dropped.newest (newest dropped.newest dropped.is)) ∙ dropped.nothing
+        ]
+        | inr none ↦ covers.same_map.absent key none
+      ]
 
       by : (o : Option Entry) → entry_of key left ≡ o → option_and_then (λ e. pair_of e.body) o ≡ cond (is_between lo hi key) (finmap.get map key) None
-      by None at = by_between at (is_between lo hi key) refl
+      by None at = sym (cond_both (is_between lo hi key) (finmap.get map key) None (λ found. found ≡ None) (none_left at) (λ _. refl))
       by (Some entry) at =
           let is = entry_in key left entry at in
           let from = outcome.source entry is.0 in
