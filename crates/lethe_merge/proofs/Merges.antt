@@ -8,7 +8,7 @@ use Rattle.std.specs.declared.cmp.Ordering.{Ordering}
 use Rattle.std.specs.declared.cmp.Ordering.TheVariants.{Less, Equal, Greater}
 use Rattle.std.specs.Ordering.{is_lt}
 use Rattle.std.specs.Cmp.Lexicographic.{nat_list_cmp_total}
-use Rattle.std.specs.FinMap.{get, insert, entries, entries_sorted, get-entries, get-empty, get-insert, entries-insert, len-entries, len-empty}
+use Rattle.std.specs.FinMap.{FinMap, values, get, insert, entries, entries_sorted, get-entries, get-empty, get-insert, entries-insert, len-entries, len-empty}
 use Rattle.std.specs.FinMap.Entries.{by_order, put, find, below_all, is_sorted}
 use Rattle.lethe_base.specs.Shapes.{earlier}
 use Rattle.lethe_base.specs.Keys.{Bytes, key_cmp, same_key}
@@ -29,11 +29,11 @@ IsOfKey key None = Unit {0}
 IsOfKey key (Some entry) = entry.key ≡ key
 
 -- each entry stands under its own key
-AreKeyed : List (Bytes × Entry) → Type 0
+pub AreKeyed : List (Bytes × Entry) → Type 0
 AreKeyed [] = Unit {0}
 AreKeyed (e ∷ es) = ((e.1).key ≡ e.0) × AreKeyed es
 
-keyed-put : (key : Bytes) (entry : Entry) (es : List (Bytes × Entry)) → entry.key ≡ key → AreKeyed es → AreKeyed (put key_cmp key entry es)
+pub keyed-put : (key : Bytes) (entry : Entry) (es : List (Bytes × Entry)) → entry.key ≡ key → AreKeyed es → AreKeyed (put key_cmp key entry es)
 unfolding AreKeyed
 keyed-put key entry [] own h = (own, tt)
 keyed-put key entry (e ∷ es) own h = by (key_cmp key e.0) refl (keyed-put key entry es own h.1)
@@ -63,7 +63,7 @@ newer-key entry (Some other) own = by (nat_lt entry.seq other.seq)
 no_entries : entries (left_by_key []) ≡ []
 no_entries = nil_from_length (entries (left_by_key [])) (sym (len-entries (left_by_key [])) ∙ len-empty key_cmp Entry)
 
-keyed-left : (es : List Entry) → AreKeyed (entries (left_by_key es))
+pub keyed-left : (es : List Entry) → AreKeyed (entries (left_by_key es))
 unfolding AreKeyed
 keyed-left [] = subst AreKeyed (sym no_entries) tt
 keyed-left (e ∷ es) = by (keyed-left es)
@@ -90,15 +90,21 @@ unfolding AreKeyed
 pairs_again [] h = refl
 pairs_again (e ∷ es) h = ap (λ (k : Bytes). (k, e.1) ∷ by_key (map (λ e. e.1) es)) h.0 ∙ ap (λ rest. e ∷ rest) (pairs_again es h.1)
 
-by_key-left : (es : List Entry) → by_key (left_of_each es) ≡ entries (left_by_key es)
-unfolding left_of_each
-by_key-left es = pairs_again (entries (left_by_key es)) (keyed-left es)
+-- the values of a map that has each entry under its own key
+module _ (table : FinMap key_cmp Entry) (keyed : AreKeyed (entries table)) where
+  pub values_ascend : IsAscending (values table)
+  values_ascend = subst (λ pairs. IsTrue (is_sorted key_cmp pairs)) (sym (pairs_again (entries table) keyed)) (from_T _ (entries_sorted table))
+
+  pub entry_of-values : (key : Bytes) → entry_of key (values table) ≡ get table key
+  entry_of-values key = ap (find key_cmp key) (pairs_again (entries table) keyed) ∙ sym (get-entries table key)
 
 pub left_ascends : (es : List Entry) → IsAscending (left_of_each es)
-left_ascends es = subst (λ pairs. IsTrue (is_sorted key_cmp pairs)) (sym (by_key-left es)) (from_T _ (entries_sorted (left_by_key es)))
+unfolding left_of_each
+left_ascends es = values_ascend (left_by_key es) (keyed-left es)
 
 pub entry_of-left : (key : Bytes) (es : List Entry) → entry_of key (left_of_each es) ≡ left_of key es
-entry_of-left key es = ap (find key_cmp key) (by_key-left es) ∙ sym (get-entries (left_by_key es) key) ∙ get-left es key
+unfolding left_of_each
+entry_of-left key es = entry_of-values (left_by_key es) (keyed-left es) key ∙ get-left es key
 
 -- the first of keys in order stands once
 lacks : (e : Entry) (es : List Entry) → IsTrue (below_all key_cmp e.key (by_key es)) → entry_of e.key es ≡ None

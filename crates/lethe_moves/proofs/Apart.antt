@@ -2,6 +2,8 @@
 use Rattle.std.proofs.Common.{◌≡◌, inl, inr, true, false, List, [], ◌∷◌, map, Contains, sym, ◌∙◌, subst}
 use Rattle.lethe_base.specs.Keys.{Bytes}
 use Rattle.lethe_base.specs.Layout.{File, entries_of}
+use Rattle.lethe_base.specs.Held.{InFiles}
+use Rattle.lethe_base.specs.NewerAbove.{IsOver}
 use Rattle.lethe_base.specs.Shapes.{facts_of}
 use Rattle.lethe_base.specs.declared.entry.Entry.{Entry}
 use Rattle.lethe_base.specs.declared.shape.FileFacts.{FileFacts}
@@ -55,3 +57,12 @@ files_spanned (first ∷ files) file there =
       | inl same ↦ subst (λ file. Spans (hull_of_files (first ∷ files)) (keys_of file)) same spans.0
       | inr rest ↦ spans.1 (facts_of 0 file) (in_map (facts_of 0) files file rest)
     ]
+
+pub only_file : (file : File) (entry : Entry) → InFiles (file ∷ []) entry → Contains (entries_of file) entry
+only_file file entry is = elim (first_or_rest file [] is.file is.there) [
+  | inl same ↦ subst (λ file. Contains (entries_of file) entry) (sym same) is.spelled
+  | inr rest ↦ absurd (none_in is.file rest)
+]
+
+pub clear_over : (file other : File) → IsTiled file → IsTiled other → IsClearOf (keys_of file) other → IsOver (file ∷ []) (other ∷ [])
+clear_over file other tiled other_tiled clear entry older above below same = absurd (clear_apart file other tiled other_tiled clear entry older (only_file file entry above) (only_file other older below) same)

@@ -14,36 +14,10 @@ use Rattle.lethe_fade.proofs.MeetingLaws.{key_upto, key_itself}
 use Rattle.lethe_moves.specs.Files.{IsBounded, IsLower, IsTiled, IsTight, IsWithin, entries_in, keys_of}
 use Rattle.lethe_moves.proofs.KeyOrder.{IsUpto, Spans, within_spans, not_less}
 use Rattle.lethe_moves.proofs.Pairs.{Pairs, in_rest, pairs_from, pairs_append}
+use Rattle.lethe_moves.proofs.Rising.{lowest, highest}
 
 abbrev AreBounded : List Tile → Type 0
 AreBounded tiles = (tile : Tile) → Contains tiles tile → IsBounded tile
-
--- the upper key of the last tile, or that key where there is none
-abbrev upper_from : Bytes → List Tile → Bytes
-upper_from hi tiles = fold (λ before tile. tile.hi) hi tiles
-
-rises : (hi : Bytes) (tiles : List Tile) → AreBounded tiles → Pairs IsLower tiles → ((tile : Tile) → Contains tiles tile → key_cmp hi tile.lo ≡ Less) → IsUpto hi (upper_from hi tiles)
-rises hi [] bounded pairs above = key_itself hi
-rises hi (tile ∷ tiles) bounded pairs above =
-    let first = first_is tile tiles tile refl in
-    key_upto hi tile.hi (upper_from tile.hi tiles) (key_upto hi tile.lo tile.hi (ap is_le (above tile first)) (bounded tile first).range)
-    (rises tile.hi tiles (λ other there. bounded other (in_rest tile tiles other there)) pairs.1 pairs.0)
-
-uppers : (hi : Bytes) (tiles : List Tile) → AreBounded tiles → Pairs IsLower tiles → (tile : Tile) → Contains tiles tile → IsUpto tile.hi (upper_from hi tiles)
-uppers hi [] bounded pairs tile there = absurd (none_in tile there)
-uppers hi (first ∷ tiles) bounded pairs tile there =
-    let rest_bounded = λ (other : Tile) (there : Contains tiles other). bounded other (in_rest first tiles other there) in
-    elim (first_or_rest first tiles tile there) [
-      | inl same ↦ subst (λ tile. IsUpto tile.hi (upper_from first.hi tiles)) same (rises first.hi tiles rest_bounded pairs.1 pairs.0)
-      | inr rest ↦ uppers first.hi tiles rest_bounded pairs.1 tile rest
-    ]
-
-lowers : (tiles : List Tile) → AreBounded tiles → Pairs IsLower tiles → (tile : Tile) → Contains tiles tile → IsUpto (lower_key tiles) tile.lo
-lowers [] bounded pairs tile there = absurd (none_in tile there)
-lowers (first ∷ tiles) bounded pairs tile there = elim (first_or_rest first tiles tile there) [
-  | inl same ↦ subst (λ tile. IsUpto first.lo tile.lo) same (key_itself first.lo)
-  | inr rest ↦ key_upto first.lo first.hi tile.lo (bounded first (first_is first tiles first refl)).range (ap is_le (pairs.0 tile rest))
-]
 
 abbrev pub HasOtherKey : Entry → Entry → Type 0
 HasOtherKey entry other = entry.key ≢ other.key
@@ -90,7 +64,13 @@ module _ (file : File) (tiled : IsTiled file) where
   ascending = pairs_from IsLower file.tiles tiled.ascending
 
   tile_keys : (tile : Tile) → Contains file.tiles tile → Spans (keys_of file) (record { lo = tile.lo; hi = tile.hi })
-  tile_keys tile there = (lowers file.tiles bounded ascending tile there, uppers [] file.tiles bounded ascending tile there)
+  tile_keys tile there = by file.tiles bounded ascending there
+    where
+      by : (tiles : List Tile) → AreBounded tiles → Pairs IsLower tiles → Contains tiles tile → IsUpto (lower_key tiles) tile.lo × IsUpto tile.hi (upper_key tiles)
+      by [] each pairs there = absurd (none_in tile there)
+      by (first ∷ tiles) each pairs there =
+          let ranged = λ (tile : Tile) (there : Contains (first ∷ tiles) tile). (each tile there).range in
+          (lowest (λ tile. tile.lo) (λ tile. tile.hi) first tiles ranged pairs tile there, highest (λ tile. tile.lo) (λ tile. tile.hi) [] (first ∷ tiles) ranged pairs tile there)
 
   pub keys_ordered : IsUpto (keys_of file).lo (keys_of file).hi
   keys_ordered =
