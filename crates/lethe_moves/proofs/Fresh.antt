@@ -1,6 +1,6 @@
 -- Where nothing is due, nothing that is remembered is a threshold old, and no put that is held is overdue.
-use Rattle.std.proofs.Common.{◌≡◌, inl, inr, ℕ, suc, ◌+◌, ◌-◌, ◌<◌, ◌≤◌, List, [], ◌∷◌, map, flat_map, length, get_or, Contains, Option, Some, None, IsSomeAnd, refl, sym, ap, ◌∙◌, subst, arith}
-use Rattle.std.proofs.Math.Logic.{⊎_elim}
+use Rattle.std.proofs.Common.{◌≡◌, ◌⊎◌, inl, inr, ℕ, ◌+◌, ◌-◌, ◌<◌, ◌≤◌, List, [], ◌∷◌, map, flat_map, length, Contains, Some, None, IsSomeAnd, refl, sym, ap, ◌∙◌, subst, arith}
+use Rattle.std.proofs.Math.Logic.{⊎_elim, ⊎_map}
 use Rattle.std.proofs.lemmas.Bool.{cases_lt}
 use Rattle.std.proofs.lemmas.List.Elements.{All-contains, Contains-append_left, Contains-append_right, Contains-append_cases}
 use Rattle.lethe_base.specs.Causes.{IsOverdue}
@@ -11,7 +11,7 @@ use Rattle.lethe_base.specs.Held.{Holds, Tells}
 use Rattle.lethe_base.specs.History.{History}
 use Rattle.lethe_base.specs.Layout.{File, Layout, Written, Erasing, entries_of}
 use Rattle.lethe_base.specs.Matching.{IsPut}
-use Rattle.lethe_base.specs.Shapes.{IsBare, all_files, deepest_files, facts_from, facts_of, oldest_of, shape_of}
+use Rattle.lethe_base.specs.Shapes.{all_files, facts_from, facts_of, oldest_of, shape_of}
 use Rattle.lethe_base.specs.declared.config.Fields.{Fields}
 use Rattle.lethe_base.specs.declared.entry.Entry.{Entry}
 use Rattle.lethe_base.specs.declared.shape.FileFacts.{FileFacts}
@@ -25,6 +25,8 @@ use Rattle.lethe_fade.specs.LevelTimes.{level_deadline}
 use Rattle.lethe_fade.proofs.Powers.{deadlines_rise}
 use Rattle.lethe_moves.specs.Due.{HasNothingDue, IsExpired}
 use Rattle.lethe_moves.specs.Reaches.{Follows}
+use Rattle.lethe_moves.proofs.Bare.{bare_each}
+use Rattle.lethe_moves.proofs.Orders.{last_of, order_from}
 
 -- the least time of some entries is at most that of each
 oldest_by : (entries : List Entry) (entry : Entry) (time : ℕ) → Contains entries entry → entry.since ≡ Some time → IsBy (oldest_of entries) time
@@ -32,29 +34,18 @@ oldest_by [] entry time there has = absurd (none_in entry there)
 oldest_by (first ∷ entries) entry time there has = ⊎_elim (λ (same : first ≡ entry). by_left first.since (oldest_of entries) time (ap (λ e. e.since) same ∙ has))
     (λ rest. by_right first.since (oldest_of entries) time (oldest_by entries entry time rest has)) (first_or_rest first entries entry there)
 
--- a file of levels, the first of which has that number, has facts among theirs
-record HasFacts (first : ℕ) (levels : List (List File)) (file : File) : Type 0 where
-  index : ℕ
-  within : index < length levels
-  level : ℕ
-  is : level ≡ first + index
-  facts : Contains (flat_map (λ files. files) (facts_from first levels)) (facts_of level file)
-  there : Contains (get_or (facts_from first levels) index []) (facts_of level file)
-
-file_facts : (first : ℕ) (levels : List (List File)) (file : File) → Contains (flat_map (λ files. files) levels) file → HasFacts first levels file
-file_facts first [] file there = absurd (none_in file there)
-file_facts first (files ∷ deeper) file there = elim (Contains-append_cases files (flat_map (λ files. files) deeper) file there) [
-  | inl here ↦
-      let fact = in_map (facts_of first) files file here in
-      record { index = 0; within = omega arith; level = first; is = omega arith; facts = Contains-append_left (map (facts_of first) files) (flat_map (λ files. files) (facts_from (first + 1) deeper)) (facts_of first file) fact; there = fact }
-  | inr below ↦
-      let rest = file_facts (first + 1) deeper file below in
-      record { index = suc rest.index; within = omega (arith, rest.within); level = rest.level; is = omega (arith, rest.is); facts = Contains-append_right (map (facts_of first) files) (flat_map (λ files. files) (facts_from (first + 1) deeper)) (facts_of rest.level file) rest.facts; there = rest.there }
-]
-
-length-facts_from : (first : ℕ) (levels : List (List File)) → length (facts_from first levels) ≡ length levels
-length-facts_from first [] = refl
-length-facts_from first (files ∷ deeper) = ap suc (length-facts_from (first + 1) deeper)
+-- a file of levels, the first of which has that number, has facts among those above the last, or is in the last
+file_level : (first : ℕ) (levels : List (List File)) (file : File) → Contains (flat_map (λ files. files) levels) file
+    → ((level : ℕ) × (level + 1 < first + length levels) × Contains (flat_map (λ files. files) (facts_from first levels)) (facts_of level file)) ⊎ Contains (last_of levels) file
+file_level first [] file there = absurd (none_in file there)
+file_level first (files ∷ []) file there = inr (⊎_elim (λ here. here) (λ none. absurd (none_in file none)) (Contains-append_cases files [] file there))
+file_level first (files ∷ (next ∷ deeper)) file there =
+    let behind : List FileFacts = flat_map (λ files. files) (facts_from (first + 1) (next ∷ deeper)) in
+    elim (Contains-append_cases files (flat_map (λ files. files) (next ∷ deeper)) file there) [
+      | inl here ↦ inl (first, omega arith, Contains-append_left (map (facts_of first) files) behind (facts_of first file) (in_map (facts_of first) files file here))
+      | inr below ↦ ⊎_map (λ found. (found.0, omega (arith, found.1), Contains-append_right (map (facts_of first) files) behind (facts_of found.0 file) found.2)) (λ last. last)
+          (file_level (first + 1) (next ∷ deeper) file below)
+    ]
 
 module _ (fields : Fields) (config : IsConfig fields) (h : History) (l : Layout) (follows : Follows fields.threshold h l) (levels : length l.levels ≡ fields.levels + 1)
     (clock : ℕ) (due : HasNothingDue fields clock l)
@@ -62,31 +53,22 @@ module _ (fields : Fields) (config : IsConfig fields) (h : History) (l : Layout)
     -- what a file remembers above the last level isn't expired, and the last level remembers nothing
     file_fresh : (file : File) (entry : Entry) (since : ℕ) → Contains (flat_map (λ files. files) l.levels) file → Contains (entries_of file) entry → entry.since ≡ Some since
         → clock < since + fields.threshold
-    file_fresh file entry since there spelled has = elim (cases_lt at.level fields.levels) [
-      | inl above ↦ elim (cases_lt clock (since + fields.threshold)) [
-        | inl fresh ↦ fresh
-        | inr late ↦ absurd (All-contains (λ (file : FileFacts). file.level < fields.levels → IsExpired fields clock file → ⊥) (all_files (shape_of l)) (facts_of at.level file) due.files at.facts above (expired above late))
-      ]
+    file_fresh file entry since there spelled has = elim (file_level 0 l.levels file there) [
+      | inl above ↦ ⊎_elim (λ fresh. fresh) (λ late. absurd (kept above.0 (omega (arith, above.1)) above.2 late)) (cases_lt clock (since + fields.threshold))
       | inr last ↦
-          let deepest : at.index ≡ length (facts_from 0 l.levels) - 1 = omega (arith, length-facts_from 0 l.levels, at.within, at.is) in
-          let bare = All-contains IsBare (deepest_files (shape_of l)) (facts_of at.level file) follows.ordered.shape.deepest
-          (subst (λ index. Contains (get_or (facts_from 0 l.levels) index []) (facts_of at.level file)) deepest at.there) in
-          absurd (let clash : None ≡ Some oldest.least = sym bare.1 ∙ oldest.is in cc)
+          let plain = bare_each (entries_of file) ((order_from l follows.ordered).bare file last) entry spelled in
+          absurd (let clash : None ≡ Some since = sym plain.none ∙ has in cc)
     ]
       where
-        at : HasFacts 0 l.levels file
-        at = file_facts 0 l.levels file there
-
-        oldest : IsBy (oldest_of (entries_of file)) since
-        oldest = oldest_by (entries_of file) entry since spelled has
-
-        expired : at.level < fields.levels → since + fields.threshold ≤ clock → IsExpired fields clock (facts_of at.level file)
-        expired above late =
+        kept : (level : ℕ) → level < fields.levels → Contains (all_files (shape_of l)) (facts_of level file) → since + fields.threshold ≤ clock → ⊥
+        kept level above there late =
             let rises = deadlines_rise fields config in
-            let upto : level_deadline fields at.level ≤ level_deadline fields (fields.levels - 1) = rises.rise at.level (fields.levels - 1) (omega arith) in
+            let upto : level_deadline fields level ≤ level_deadline fields (fields.levels - 1) = rises.rise level (fields.levels - 1) (omega arith) in
             let whole : level_deadline fields (fields.levels - 1) ≡ fields.threshold = rises.whole in
+            let oldest = oldest_by (entries_of file) entry since spelled has in
             let least : oldest.least ≤ since = oldest.upto in
-            subst (λ o. IsSomeAnd o (λ oldest. oldest + level_deadline fields at.level ≤ clock)) (sym oldest.is) (omega arith)
+            All-contains (λ (file : FileFacts). file.level < fields.levels → IsExpired fields clock file → ⊥) (all_files (shape_of l)) (facts_of level file) due.files there above
+            (subst (λ o. IsSomeAnd o (λ oldest. oldest + level_deadline fields level ≤ clock)) (sym oldest.is) (omega arith))
 
     pub due_fresh : AreFresh fields.threshold h clock (Holds l) (Tells l)
     due_fresh = record {

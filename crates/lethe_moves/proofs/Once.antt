@@ -1,10 +1,8 @@
 -- No run has a key twice.
-use Rattle.std.proofs.Common.{◌≡◌, ◌⊎◌, inl, inr, ◌+◌, List, [], ◌∷◌, map, drop, Contains, All, AllPairs, sym, ◌∙◌, subst}
-use Rattle.std.proofs.Math.Logic.{⊎_elim, ⊎_map}
-use Rattle.std.proofs.lemmas.List.Elements.{All-contains, All-head, All-tail, Contains-append_cases}
-use Rattle.lethe_base.specs.Layout.{File, Layout, runs_of, files_of, entries_of}
-use Rattle.lethe_base.specs.Shapes as shapes
-use Rattle.lethe_base.specs.Shapes.{facts_of, facts_from}
+use Rattle.std.proofs.Common.{◌≡◌, ◌⊎◌, inl, inr, List, [], ◌∷◌, map, Contains, sym, ◌∙◌, subst}
+use Rattle.std.proofs.Math.Logic.{⊎_elim}
+use Rattle.std.proofs.lemmas.List.Elements.{Contains-append_cases}
+use Rattle.lethe_base.specs.Layout.{File, Layout, runs_of, entries_of}
 use Rattle.lethe_base.specs.declared.entry.Entry.{Entry}
 use Rattle.lethe_base.proofs.LayoutLaws.{none_in}
 use Rattle.lethe_base.proofs.Newest.{first_or_rest}
@@ -14,7 +12,8 @@ use Rattle.lethe_moves.specs.Files.{IsTiled}
 use Rattle.lethe_moves.specs.Merges.{IsBelow}
 use Rattle.lethe_moves.specs.Ordered.{IsOrdered}
 use Rattle.lethe_moves.proofs.Apart.{below_apart}
-use Rattle.lethe_moves.proofs.Pairs.{Pairs, pairs_from, pairs_unmap}
+use Rattle.lethe_moves.proofs.Orders.{AreOrdered, order_from}
+use Rattle.lethe_moves.proofs.Pairs.{Pairs}
 use Rattle.lethe_moves.proofs.Tiled.{file_once}
 
 -- two items are one, or they are related
@@ -31,29 +30,15 @@ one_or_two R (first ∷ xs) pairs x y left right = elim (first_or_rest first xs 
   ]
 ]
 
--- the files of a level ascend
-abbrev pub Ascends : List File → Type 0
-Ascends files = Pairs IsBelow files
-
-level_ascends : (level : _) (levels : List (List File)) → All (AllPairs shapes.IsBelow) (facts_from level levels) → (files : List File) → Contains levels files → Ascends files
-level_ascends level [] ascend files there = absurd (none_in files there)
-level_ascends level (first ∷ deeper) ascend files there = elim (first_or_rest first deeper files there) [
-  | inl same ↦ subst Ascends same (pairs_unmap shapes.IsBelow (facts_of level) first (pairs_from shapes.IsBelow (map (facts_of level) first)
-      (All-head (AllPairs shapes.IsBelow) (map (facts_of level) first) (facts_from (level + 1) deeper) ascend)))
-  | inr rest ↦ level_ascends (level + 1) deeper (All-tail (AllPairs shapes.IsBelow) (map (facts_of level) first) (facts_from (level + 1) deeper) ascend) files rest
-]
-
--- so do the files of a run, which is a file of level 0 or another level
-run_ascends : (levels : List (List File)) → All (AllPairs shapes.IsBelow) (drop 1 (facts_from 0 levels)) → (run : List File) → Contains (runs_of levels) run → Ascends run
-run_ascends [] ascend run there = absurd (none_in run there)
-run_ascends (newest ∷ deeper) ascend run there = elim (Contains-append_cases (map (λ file. file ∷ []) newest) deeper run there) [
-  | inl first ↦ subst Ascends (map_from (λ file. file ∷ []) newest run first).2 ((λ other is. absurd (none_in other is)), tt)
-  | inr behind ↦ level_ascends 1 deeper ascend run behind
-]
+-- the files of a run ascend: it is a file of level 0, or another level
+run_ascends : (levels : List (List File)) → AreOrdered levels → (run : List File) → Contains (runs_of levels) run → Pairs IsBelow run
+run_ascends [] order run there = absurd (none_in run there)
+run_ascends (newest ∷ deeper) order run there = ⊎_elim (λ first. subst (Pairs IsBelow) (map_from (λ file. file ∷ []) newest run first).2 ((λ other is. absurd (none_in other is)), tt))
+    (order.below run) (Contains-append_cases (map (λ file. file ∷ []) newest) deeper run there)
 
 pub once_in_runs : (l : Layout) → IsOrdered l → AreOnce (runs_of l.levels)
 once_in_runs l ordered run there entry other is it same =
-    elim (one_or_two IsBelow run (run_ascends l.levels ordered.shape.levels run there) is.file it.file is.there it.there) [
+    elim (one_or_two IsBelow run (run_ascends l.levels order run there) is.file it.file is.there it.there) [
       | inl one ↦ file_once is.file (tiled is.file is.there) entry other is.spelled (subst (λ file. Contains (entries_of file) other) (sym one) it.spelled) same
       | inr two ↦ elim two [
         | inl below ↦ absurd (below_apart is.file it.file (tiled is.file is.there) (tiled it.file it.there) below entry other is.spelled it.spelled same)
@@ -61,5 +46,8 @@ once_in_runs l ordered run there entry other is it same =
       ]
     ]
   where
+    order : AreOrdered l.levels
+    order = order_from l ordered
+
     tiled : (file : File) → Contains run file → IsTiled file
-    tiled file at = All-contains IsTiled (files_of l) file ordered.tiled (runs_file l.levels file (flat_in (λ files. files) (runs_of l.levels) run file there at))
+    tiled file at = order.tiled file (runs_file l.levels file (flat_in (λ files. files) (runs_of l.levels) run file there at))

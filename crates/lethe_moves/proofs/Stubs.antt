@@ -3,17 +3,11 @@ use Rattle.std.proofs.Common.{ℕ, List}
 use Rattle.lethe_base.specs.History.{History}
 use Rattle.lethe_base.specs.Layout.{File, Layout}
 use Rattle.lethe_base.specs.declared.pending.Pending.{Pending}
-use Rattle.lethe_cover.specs.Flushes.{flushed}
-use Rattle.lethe_moves.specs.Flushes.{Flushes}
 use Rattle.lethe_moves.specs.Merges as merges
 use Rattle.lethe_moves.specs.Merges.{Merges}
 use Rattle.lethe_moves.specs.Reaches.{Follows}
 use Rattle.lethe_moves.specs.Sweeps as sweeps
 use Rattle.lethe_moves.specs.Sweeps.{SweepsFile}
-
-pub flush_follows : (threshold : ℕ) (h : History) (l : Layout) → Follows threshold h l
-    → (made : List File) → Flushes h l made → Follows threshold h (flushed l made)
-flush_follows = ?
 
 pub merge_follows : (threshold : ℕ) (h : History) (l : Layout) → Follows threshold h l
     → (applied : List Pending) (swept : ℕ) (m : merges.Merge) → Merges threshold h l applied swept m
