@@ -207,8 +207,8 @@ module _ (threshold : ℕ) (h : History) (clock : ℕ) (pending applied : List P
           let from = source.from in
           let old = covers.deletes_covered from.input source.upto cause source.held source.put (ap (cause_of h) from.place ∙ is) no_erase in
           covered_then entry (clock_before h cause)
-          (λ above same newer taken alone. omega (arith, from.newest.last above taken (same ∙ sym from.same), from.place, newer))
-          (record { above = old.above; shown = old.shown; same = old.same ∙ from.same; newer = omega arith; since = old.since; has = old.has; old = old.old })
+              (λ above same newer taken alone. omega (arith, from.newest.last above taken (same ∙ sym from.same), from.place, newer))
+              (record { above = old.above; shown = old.shown; same = old.same ∙ from.same; newer = omega arith; since = old.since; has = old.has; old = old.old })
     ]
 
     -- a pending erase up to that place is applied, so that a put of which it is the cause becomes a tombstone, or the input was swept of it
