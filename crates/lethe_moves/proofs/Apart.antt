@@ -1,5 +1,6 @@
 -- Files that share no key.
-use Rattle.std.proofs.Common.{◌≡◌, inl, inr, true, false, List, [], ◌∷◌, map, Contains, sym, ◌∙◌, subst}
+use Rattle.std.proofs.Common.{◌≡◌, ◌⊎◌, inl, inr, true, false, List, [], ◌∷◌, ◌++◌, map, Contains, sym, ◌∙◌, subst}
+use Rattle.std.proofs.lemmas.List.Elements.{Contains-append_left, Contains-append_right}
 use Rattle.lethe_base.specs.Keys.{Bytes}
 use Rattle.lethe_base.specs.Layout.{File, entries_of}
 use Rattle.lethe_base.specs.Held.{InFiles}
@@ -16,6 +17,7 @@ use Rattle.lethe_fade.proofs.MeetingLaws.{key_upto}
 use Rattle.lethe_moves.specs.Files.{IsTiled, IsWithin, IsClearOf, keys_of, hull_of_files}
 use Rattle.lethe_moves.specs.Merges.{IsBelow}
 use Rattle.lethe_moves.proofs.KeyOrder.{IsUpto, Spans, spans_itself, spans_through, joined_spans, overlap_at, not_less}
+use Rattle.lethe_moves.proofs.Pairs.{Pairs, pairs_parts}
 use Rattle.lethe_moves.proofs.Tiled.{entry_keys}
 
 -- a file that is clear of a range has none of its keys
@@ -34,6 +36,18 @@ below_apart file other tiled other_tiled lower entry below here there same =
 
 pub apart_back : (file other : File) → IsApart file other → IsApart other file
 apart_back file other apart entry below here there same = apart below entry there here (sym same)
+
+-- of files that ascend, those around some share no key with these
+pub around_apart : (before gone behind : List File) → ((file : File) → Contains (before ++ (gone ++ behind)) file → IsTiled file) → Pairs IsBelow (before ++ (gone ++ behind))
+    → (file other : File) → Contains before file ⊎ Contains behind file → Contains gone other → IsApart file other
+around_apart before gone behind tiled pairs file other around there = elim around [
+  | inl left ↦ below_apart file other (tiled file (Contains-append_left before (gone ++ behind) file left)) (tiled other (in_gone there)) ((pairs_parts IsBelow before (gone ++ behind) pairs).2 file other left (Contains-append_left gone behind other there))
+  | inr right ↦ apart_back other file (below_apart other file (tiled other (in_gone there)) (tiled file (Contains-append_right before (gone ++ behind) file (Contains-append_right gone behind file right)))
+      ((pairs_parts IsBelow gone behind (pairs_parts IsBelow before (gone ++ behind) pairs).1).2 other file there right))
+]
+  where
+    in_gone : Contains gone other → Contains (before ++ (gone ++ behind)) other
+    in_gone there = Contains-append_right before (gone ++ behind) other (Contains-append_left gone behind other there)
 
 -- a hull spans what it is of
 hull_spans : (keys : KeyRange) (files : List FileFacts) → Spans (hull keys files) keys × ((file : FileFacts) → Contains files file → Spans (hull keys files) (range_of file))

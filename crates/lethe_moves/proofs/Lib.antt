@@ -13,3 +13,5 @@ pub mod Frozen
 pub mod Bare
 pub mod Outputs
 pub mod Flushing
+pub mod Levels
+pub mod MergeMoves

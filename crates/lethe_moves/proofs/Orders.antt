@@ -15,7 +15,7 @@ use Rattle.lethe_cover.proofs.Merging.{in_map}
 use Rattle.lethe_moves.specs.Files.{IsTiled}
 use Rattle.lethe_moves.specs.Merges.{IsBelow}
 use Rattle.lethe_moves.specs.Ordered.{IsOrdered}
-use Rattle.lethe_moves.proofs.Pairs.{Pairs, in_rest, all_from, pairs_from, pairs_to, pairs_parts, pairs_map, pairs_unmap, spliced}
+use Rattle.lethe_moves.proofs.Pairs.{Pairs, in_rest, all_from, pairs_from, pairs_to, pairs_parts, pairs_map, pairs_unmap, spliced, swapped}
 use Rattle.lethe_moves.proofs.Tiled.{keys_ordered}
 
 abbrev pub IsOther : File → File → Type 0
@@ -168,18 +168,12 @@ module _ (above : List (List File)) (before gone behind : List File) (deeper : L
   flat : (middle : List File) → files_in (above ++ ((before ++ (middle ++ behind)) ∷ deeper)) ≡ (files_in above ++ before) ++ (middle ++ (behind ++ files_in deeper))
   flat middle = simp (flat_map-append, append_assoc)
 
-  -- a file then is made, or was there
-  pub then_cases : (file : File) → Contains (files_in levels_then) file → Contains made file ⊎ Contains (files_in levels_before) file
-  then_cases file there =
-      let first = files_in above ++ before in
-      let last = behind ++ files_in deeper in
-      elim (Contains-append_cases first (made ++ last) file (subst (λ files. Contains files file) (flat made) there)) [
-        | inl old ↦ inr (subst (λ files. Contains files file) (sym (flat gone)) (Contains-append_left first (gone ++ last) file old))
-        | inr rest ↦ elim (Contains-append_cases made last file rest) [
-          | inl new ↦ inl new
-          | inr old ↦ inr (subst (λ files. Contains files file) (sym (flat gone)) (Contains-append_right first (gone ++ last) file (Contains-append_right gone last file old)))
-        ]
-      ]
+  -- a file then was there, or is made
+  pub then_cases : (file : File) → Contains (files_in levels_then) file → Contains (files_in levels_before) file ⊎ Contains made file
+  then_cases file there = elim (swapped (files_in above ++ before) made gone (behind ++ files_in deeper) file (subst (λ files. Contains files file) (flat made) there)) [
+    | inl old ↦ inl (subst (λ files. Contains files file) (sym (flat gone)) old)
+    | inr new ↦ inr new
+  ]
 
   -- what has to hold of the made files
   pub record AreFit : Type 0 where
@@ -192,8 +186,8 @@ module _ (above : List (List File)) (before gone behind : List File) (deeper : L
   pub order_then : AreFit → AreOrdered levels_then
   order_then fit = record {
     tiled = λ file there. elim (then_cases file there) [
-      | inl new ↦ fit.tiled file new
-      | inr old ↦ order.tiled file old
+      | inl old ↦ order.tiled file old
+      | inr new ↦ fit.tiled file new
     ];
     numbers = subst (Pairs IsOther) (sym (flat made)) (spliced IsOther (files_in above ++ before) gone made (behind ++ files_in deeper) (subst (Pairs IsOther) (flat gone) order.numbers) fit.numbers
         (λ old new left right same.
@@ -218,14 +212,8 @@ module _ (above : List (List File)) (before gone behind : List File) (deeper : L
       last_then is = last_behind above (before ++ (gone ++ behind)) deeper ∙ ap (λ deeper. last_of ((before ++ (gone ++ behind)) ∷ deeper)) is
 
       by : (lower : List (List File)) → deeper ≡ lower → (file : File) → Contains (last_of (level_then ∷ lower)) file → IsBare (facts_of 0 file)
-      by [] is file there = elim (Contains-append_cases before (made ++ behind) file there) [
-        | inl left ↦ was (Contains-append_left before (gone ++ behind) file left)
-        | inr rest ↦ elim (Contains-append_cases made behind file rest) [
-          | inl new ↦ fit.bare is file new
-          | inr right ↦ was (Contains-append_right before (gone ++ behind) file (Contains-append_right gone behind file right))
-        ]
+      by [] is file there = elim (swapped before made gone behind file there) [
+        | inl old ↦ order.bare file (subst (λ files. Contains files file) (sym (last_then is)) old)
+        | inr new ↦ fit.bare is file new
       ]
-        where
-          was : Contains (before ++ (gone ++ behind)) file → IsBare (facts_of 0 file)
-          was old = order.bare file (subst (λ files. Contains files file) (sym (last_then is)) old)
       by (next ∷ lower) is file there = order.bare file (subst (λ files. Contains files file) (sym (last_then is)) there)

@@ -1,5 +1,5 @@
 -- Lists each two items of which are related, by recursion.
-use Rattle.std.proofs.Common.{◌≡◌, inl, inr, ℕ, suc, ◌<◌, List, [], ◌∷◌, ◌++◌, map, length, get_or, All, AllPairs, Contains, refl, subst, arith}
+use Rattle.std.proofs.Common.{◌≡◌, ◌⊎◌, inl, inr, ℕ, suc, ◌<◌, List, [], ◌∷◌, ◌++◌, map, length, get_or, All, AllPairs, Contains, refl, subst, arith}
 use Rattle.std.proofs.lemmas.List.Elements.{Contains-append_left, Contains-append_right, Contains-append_cases, Contains-get_or}
 use Rattle.std.proofs.lemmas.List.Kept.{AllPairs-cons}
 use Rattle.lethe_base.proofs.LayoutLaws.{none_in}
@@ -12,6 +12,16 @@ in_rest x xs y there = Contains-append_right (x ∷ []) xs y there
 
 pub all_from : {X : Type 0} (P : X → Type 0) (xs : List X) → ((x : X) → Contains xs x → P x) → All P xs
 all_from P xs each = λ k d within. each (get_or xs k d) (Contains-get_or xs k d within)
+
+-- what is in a list stays where others take the place of some, or is one of these
+pub swapped : {X : Type 0} (before gone come behind : List X) (x : X) → Contains (before ++ (gone ++ behind)) x → Contains (before ++ (come ++ behind)) x ⊎ Contains gone x
+swapped before gone come behind x there = elim (Contains-append_cases before (gone ++ behind) x there) [
+  | inl first ↦ inl (Contains-append_left before (come ++ behind) x first)
+  | inr rest ↦ elim (Contains-append_cases gone behind x rest) [
+    | inl here ↦ inr here
+    | inr last ↦ inl (Contains-append_right before (come ++ behind) x (Contains-append_right come behind x last))
+  ]
+]
 
 abbrev pub Pairs : {X : Type 0} → (X → X → Type 0) → List X → Type 0
 Pairs R [] = Unit {0}
