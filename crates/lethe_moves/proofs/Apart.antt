@@ -17,7 +17,7 @@ use Rattle.lethe_fade.proofs.MeetingLaws.{key_upto}
 use Rattle.lethe_moves.specs.Files.{IsTiled, IsWithin, IsClearOf, keys_of, hull_of_files}
 use Rattle.lethe_moves.specs.Merges.{IsBelow}
 use Rattle.lethe_moves.proofs.KeyOrder.{IsUpto, Spans, spans_itself, spans_through, joined_spans, overlap_at, not_less}
-use Rattle.lethe_moves.proofs.Pairs.{Pairs, pairs_parts}
+use Rattle.lethe_moves.proofs.Pairs.{Pairs, only_in, pairs_parts}
 use Rattle.lethe_moves.proofs.Tiled.{entry_keys}
 
 -- a file that is clear of a range has none of its keys
@@ -73,10 +73,7 @@ files_spanned (first ∷ files) file there =
     ]
 
 pub only_file : (file : File) (entry : Entry) → InFiles (file ∷ []) entry → Contains (entries_of file) entry
-only_file file entry is = elim (first_or_rest file [] is.file is.there) [
-  | inl same ↦ subst (λ file. Contains (entries_of file) entry) (sym same) is.spelled
-  | inr rest ↦ absurd (none_in is.file rest)
-]
+only_file file entry is = subst (λ file. Contains (entries_of file) entry) (sym (only_in file is.file is.there)) is.spelled
 
 pub clear_over : (file other : File) → IsTiled file → IsTiled other → IsClearOf (keys_of file) other → IsOver (file ∷ []) (other ∷ [])
 clear_over file other tiled other_tiled clear entry older above below same = absurd (clear_apart file other tiled other_tiled clear entry older (only_file file entry above) (only_file other older below) same)

@@ -15,3 +15,4 @@ pub mod Outputs
 pub mod Flushing
 pub mod Levels
 pub mod MergeMoves
+pub mod SweepMoves

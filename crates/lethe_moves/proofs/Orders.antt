@@ -149,7 +149,7 @@ pub behind_deeper : {X : Type 0} (above : List X) (x : X) (deeper : List X) (lev
 behind_deeper [] x deeper level there = there
 behind_deeper (first ∷ above) x deeper level there = Contains-append_right above (x ∷ deeper) level (in_rest x deeper level there)
 
-last_behind : {X : Type 0} (above : List (List X)) (level : List X) (deeper : List (List X)) → last_of (above ++ (level ∷ deeper)) ≡ last_of (level ∷ deeper)
+pub last_behind : {X : Type 0} (above : List (List X)) (level : List X) (deeper : List (List X)) → last_of (above ++ (level ∷ deeper)) ≡ last_of (level ∷ deeper)
 last_behind [] level deeper = refl
 last_behind (first ∷ []) level deeper = refl
 last_behind (first ∷ (next ∷ above)) level deeper = last_behind (next ∷ above) level deeper

@@ -10,6 +10,12 @@ use Rattle.lethe_cover.proofs.Merging.{in_map}
 pub in_rest : {X : Type 0} (x : X) (xs : List X) (y : X) → Contains xs y → Contains (x ∷ xs) y
 in_rest x xs y there = Contains-append_right (x ∷ []) xs y there
 
+pub only_in : {X : Type 0} (x y : X) → Contains (x ∷ []) y → x ≡ y
+only_in x y there = elim (first_or_rest x [] y there) [
+  | inl same ↦ same
+  | inr none ↦ absurd (none_in y none)
+]
+
 pub all_from : {X : Type 0} (P : X → Type 0) (xs : List X) → ((x : X) → Contains xs x → P x) → All P xs
 all_from P xs each = λ k d within. each (get_or xs k d) (Contains-get_or xs k d within)
 

@@ -1,0 +1,232 @@
+-- A sweep keeps the history that a layout stands for, and the order of its files.
+use Rattle.std.proofs.Common.{◌≡◌, ◌≢◌, ◌⊎◌, inl, inr, ℕ, ◌+◌, ◌<◌, ◌≤◌, true, IsTrue, List, [], ◌∷◌, ◌++◌, append_assoc, Contains, Option, Some, None, refl, sym, ap, ◌∙◌, subst, arith}
+use Rattle.std.proofs.lemmas.Grind.{flat_map-append}
+use Rattle.std.proofs.lemmas.List.{map-append}
+use Rattle.std.specs.Option.{IfSome}
+use Rattle.std.specs.List.{cons_option}
+use Rattle.std.proofs.lemmas.List.Elements.{All-contains, Contains-append_left, Contains-append_right, Contains-append_cases}
+use Rattle.lethe_base.specs.Causes.{done_at}
+use Rattle.lethe_base.specs.History.{History, clock_before}
+use Rattle.lethe_base.specs.Layout.{Layout, File, entries_of, files_of, runs_of}
+use Rattle.lethe_base.specs.Held.{InFiles, Holds}
+use Rattle.lethe_base.specs.NewerAbove.{IsOver}
+use Rattle.lethe_base.specs.Placed.{IsAccepted}
+use Rattle.lethe_base.specs.Covers.{Covers}
+use Rattle.lethe_base.specs.declared.entry.Entry.{Entry}
+use Rattle.lethe_base.specs.declared.pending.Pending.{Pending}
+use Rattle.lethe_base.specs.declared.call.Call.TheVariants.{Erase}
+use Rattle.lethe_base.proofs.LayoutLaws.{none_in}
+use Rattle.lethe_base.proofs.Newest.{first_is}
+use Rattle.lethe_cover.specs.Moves.{Move, IsMove, files_in, IsApart}
+use Rattle.lethe_cover.specs.Outcomes.{IsApplied, IsOutcome}
+use Rattle.lethe_cover.specs.Steps.{IsCounted}
+use Rattle.lethe_cover.specs.Sweeps.{swept_of}
+use Rattle.lethe_cover.proofs.FilesInRuns.{files_right, files_runs, files_singles, singles}
+use Rattle.lethe_cover.proofs.Grown.{done_within}
+use Rattle.lethe_cover.proofs.Moved.{move_covers}
+use Rattle.lethe_cover.proofs.Sweeping.{swept_outcome}
+use Rattle.lethe_moves.specs.Files.{IsTiled, IsWithin, IsClearOf, keys_of}
+use Rattle.lethe_moves.specs.Merges.{IsBelow}
+use Rattle.lethe_moves.specs.Reaches.{Follows}
+use Rattle.lethe_moves.specs.Sweeps.{Sweep, SweepsFile, below_of, levels_before, levels_then, made_files}
+use Rattle.lethe_moves.proofs.Apart.{apart_back, around_apart, clear_apart, only_file}
+use Rattle.lethe_moves.proofs.Bare.{IsPlain, bare_each, bare_from}
+use Rattle.lethe_moves.proofs.KeyOrder.{less_upto, upto_less}
+use Rattle.lethe_moves.proofs.Levels.{in_one, one_in, runs_above, single_over}
+use Rattle.lethe_moves.proofs.Orders.{AreOrdered, IsOther, behind_here, last_behind, last_of, order_from, order_then, ordered_with}
+use Rattle.lethe_moves.proofs.Outputs.{above_old}
+use Rattle.lethe_moves.proofs.Pairs.{Pairs, in_rest, only_in, pairs_map, pairs_parts, pairs_to, spliced, swapped}
+use Rattle.lethe_moves.proofs.Tiled.{file_once}
+
+module _ (threshold : ℕ) (h : History) (l : Layout) (follows : Follows threshold h l) (erase : Pending) (s : Sweep) (sweeps : SweepsFile h l erase s) where
+  abbrev made : List File
+  made = made_files s
+
+  abbrev level : List File
+  level = s.before ++ s.file ∷ s.behind
+
+  abbrev level_then : List File
+  level_then = s.before ++ (made ++ s.behind)
+
+  order : AreOrdered (levels_before s)
+  order = subst AreOrdered sweeps.levels (order_from l follows.ordered)
+
+  in_level : (file : File) → Contains level file → Contains (files_in (levels_before s)) file
+  in_level file there = files_right s.above (level ∷ s.deeper) file (Contains-append_left level (files_in s.deeper) file there)
+
+  file_there : Contains level s.file
+  file_there = Contains-append_right s.before (s.file ∷ s.behind) s.file (first_is s.file s.behind s.file refl)
+
+  filed : Contains (files_of l) s.file
+  filed = subst (λ levels. Contains (files_in levels) s.file) (sym sweeps.levels) (in_level s.file file_there)
+
+  file_tiled : IsTiled s.file
+  file_tiled = order.tiled s.file (in_level s.file file_there)
+
+  newer : (file other : File) → Contains made file → Contains (files_in (levels_before s)) other → other.no < file.no
+  newer file other there was = above_old (files_of l) made sweeps.new file other there (subst (λ levels. Contains (files_in levels) other) (sym sweeps.levels) was)
+
+  -- what is made is at most one file
+  few : (R : File → File → Type 0) (o : Option File) → Pairs R (cons_option o [])
+  few R None = tt
+  few R (Some file) = ((λ other none. absurd (none_in other none)), tt)
+
+  made_told : (P : File → Type 0) → IfSome s.made P → (file : File) → Contains made file → P file
+  made_told P told file there = by s.made told there
+    where
+      by : (o : Option File) → IfSome o P → Contains (cons_option o []) file → P file
+      by None told none = absurd (none_in file none)
+      by (Some one) told there = subst P (only_in one file there) told
+
+  outcome : IsOutcome (erase ∷ []) (IsTrue sweeps.alone) (InFiles (s.file ∷ [])) (InFiles made)
+  outcome = swept_outcome erase sweeps.alone (s.file ∷ []) made (record {
+    once = λ entry other left right same. file_once s.file file_tiled entry other (only_file s.file entry left) (only_file s.file other right) same;
+    from = λ output there. let from = sweeps.from output there in (from.0, record { file = s.file; there = first_is s.file [] s.file refl; spelled = from.1 }, from.2);
+    kept = λ entry output there. sweeps.kept entry output (only_file s.file entry there);
+  })
+
+  accepted : IsAccepted h erase
+  accepted = follows.covers.places.erases erase (inl sweeps.pending)
+
+  applies : IsApplied threshold h l.clock (Holds l) l.pending (erase ∷ []) (InFiles (s.file ∷ [])) erase.seq
+  applies = record {
+    complete = λ other input among upto is. elim (cases other.seq s.file.swept) [
+      | inl before ↦ inr (s.file.swept, inr (record { file = s.file; there = filed; spelled = only_file s.file input is }, refl), before)
+      | inr behind ↦
+          let least : erase.seq ≤ other.seq = sweeps.oldest other among behind in
+          inl (first_is erase [] other (one_place erase other accepted (follows.covers.places.erases other (inl among)) (omega arith)))
+    ];
+    accepted = λ other there. subst (IsAccepted h) (only_in erase other there) accepted;
+    fresh = λ other there. subst (λ erase. l.clock < erase.time + threshold) (only_in erase other there) (follows.covers.times_fresh.erases erase (inl sweeps.pending)).fresh;
+    sound = λ other input dkey value there is put hit. inl (subst (Contains l.pending) (only_in erase other there) sweeps.pending);
+  }
+    where
+      cases : (a b : ℕ) → (a ≤ b) ⊎ (b < a)
+      cases a b = grind arith
+
+      one_place : (a b : Pending) → IsAccepted h a → IsAccepted h b → a.seq ≡ b.seq → a ≡ b
+      one_place a b is it same =
+          let done : Some (Erase a.range) ≡ Some (Erase b.range) = sym is.done ∙ ap (done_at h) same ∙ it.done in
+          let range : a.range ≡ b.range = cc in
+          let time : a.time ≡ b.time = is.timed ∙ ap (clock_before h) same ∙ sym it.timed in
+          let left : Pending = record { seq = a.seq; time = a.time; range = a.range } in
+          let right : Pending = record { seq = b.seq; time = b.time; range = b.range } in
+          let one : left ≡ right = cc in one
+
+  below_apart : (file : File) → IsTrue sweeps.alone → Contains (below_of s.above s.behind s.deeper) file → Contains (files_in (levels_before s)) file → (other : File) → Contains (s.file ∷ []) other → IsApart file other
+  below_apart file lone below there other taken = subst (IsApart file) (only_in s.file other taken)
+      (apart_back s.file file (clear_apart s.file file file_tiled (order.tiled file there) (All-contains (IsClearOf (keys_of s.file)) (below_of s.above s.behind s.deeper) file (sweeps.clear lone) below)))
+
+  not_old : (runs : List (List File)) → runs_of (levels_before s) ≡ runs → (file : File) → Contains made file → Contains (files_in runs) file → ⊥
+  not_old runs is file there was =
+      let below : file.no < file.no = newer file file there (subst (λ files. Contains files file) (ap files_in (sym is) ∙ files_runs (levels_before s)) was) in omega arith
+
+  abbrev moved : List (List File) → List (List File) → List (List File) → List (List File) → List (List File) → Move
+  moved above here next next_then below = record { above = above; here = here; next = next; below = below; here_then = []; next_then = next_then; taken = s.file ∷ []; made = made }
+
+  covers_by : (above here next next_then below : List (List File)) → IsMove sweeps.alone (moved above here next next_then below) → runs_of (levels_before s) ≡ above ++ (here ++ (next ++ below)) → runs_of (levels_then s) ≡ above ++ (next_then ++ below)
+      → Covers threshold h (record l { levels = levels_then s }) × IsCounted h (record l { levels = levels_then s })
+  covers_by above here next next_then below is before afterwards =
+      move_covers threshold h l follows.covers follows.counted (levels_then s) sweeps.alone (erase ∷ []) erase.seq (moved above here next next_then below) (record {
+        is = is;
+        before = ap runs_of sweeps.levels ∙ before;
+        afterwards = afterwards;
+        outcome = outcome;
+        applies = applies;
+        made_swept = made_told (λ file. file.swept ≡ erase.seq) sweeps.swept;
+        upto = done_within h erase.seq (Erase erase.range) accepted.done;
+        low = λ entry is.
+            let lower : entry.seq < erase.seq = follows.covers.erases_covered.unswept s.file erase entry filed sweeps.pending sweeps.due (only_file s.file entry is) in omega arith;
+      })
+
+  covers_then : Covers threshold h (record l { levels = levels_then s }) × IsCounted h (record l { levels = levels_then s })
+  covers_then = by s.above refl
+    where
+      zero_runs : (files : List File) → runs_of ((s.before ++ (files ++ s.behind)) ∷ s.deeper) ≡ singles s.before ++ (singles files ++ (singles s.behind ++ s.deeper))
+      zero_runs files = simp (map-append, append_assoc)
+
+      in_below : (file : File) → Contains (s.behind ++ files_in s.deeper) file → Contains (files_in (levels_before s)) file
+      in_below file there = elim (Contains-append_cases s.behind (files_in s.deeper) file there) [
+        | inl behind ↦ in_level file (Contains-append_right s.before (s.file ∷ s.behind) file (in_rest s.file s.behind file behind))
+        | inr deeper ↦ files_right s.above (level ∷ s.deeper) file (Contains-append_right level (files_in s.deeper) file deeper)
+      ]
+
+      stays_apart : s.above ≢ [] → (file other : File) → Contains level_then file → Contains level file → Contains (s.file ∷ []) other → IsApart file other
+      stays_apart some file other there was taken = elim (Contains-append_cases s.before (made ++ s.behind) file there) [
+        | inl left ↦ around (inl left)
+        | inr rest ↦ elim (Contains-append_cases made s.behind file rest) [
+          | inl new ↦ absurd (let below : file.no < file.no = newer file file new (in_level file was) in omega arith)
+          | inr right ↦ around (inr right)
+        ]
+      ]
+        where
+          around : Contains s.before file ⊎ Contains s.behind file → IsApart file other
+          around is = around_apart s.before (s.file ∷ []) s.behind (λ file there. order.tiled file (in_level file there)) (order.below level (behind_here s.above level s.deeper some)) file other is taken
+
+      by : (above : List (List File)) → s.above ≡ above → Covers threshold h (record l { levels = levels_then s }) × IsCounted h (record l { levels = levels_then s })
+      by [] is =
+          let before = ap (λ above. runs_of (above ++ (level ∷ s.deeper))) is ∙ zero_runs (s.file ∷ []) in
+          covers_by (singles s.before) (singles (s.file ∷ [])) [] (singles made) (singles s.behind ++ s.deeper) (record {
+            taken_from = λ file there. inl there;
+            here_split = λ file there. inr there;
+            here_from = λ file there. absurd (none_in file there);
+            next_split = λ file there. absurd (none_in file there);
+            next_from = λ file there. inr (subst (λ files. Contains files file) (files_singles made) there);
+            made_there = λ file there. subst (λ files. Contains files file) (sym (files_singles made)) there;
+            made_new = not_old (singles s.before ++ (singles (s.file ∷ []) ++ (singles s.behind ++ s.deeper))) before;
+            here_apart = λ file other there. absurd (none_in file there);
+            next_apart = λ file other there was. absurd (none_in file was);
+            alone_apart = λ lone file other there taken.
+                let below = subst (λ files. Contains files file) (flat_map-append (λ files. files) (singles s.behind) s.deeper ∙ ap (λ files. files ++ files_in s.deeper) (files_singles s.behind)) there in
+                below_apart file lone (subst (λ above. Contains (below_of above s.behind s.deeper) file) (sym is) below) (in_below file below) other taken;
+            here_order = λ i j d before within. absurd (omega arith);
+            next_order = pairs_to IsOver (singles made) (pairs_map IsOver (λ file. file ∷ []) made (few (λ file other. IsOver (file ∷ []) (other ∷ [])) s.made));
+          }) before (ap (λ above. runs_of (above ++ (level_then ∷ s.deeper))) is ∙ zero_runs made)
+      by (first ∷ above) is =
+          let some : s.above ≢ [] = λ none. absurd (let clash : first ∷ above ≡ [] = sym is ∙ none in cc) in
+          let before = runs_above s.above (level ∷ s.deeper) some in
+          covers_by (runs_of s.above) [] (level ∷ []) (level_then ∷ []) s.deeper (record {
+            taken_from = λ file there. inr (in_one level file (subst (Contains level) (only_in s.file file there) file_there));
+            here_split = λ file there. absurd (none_in file there);
+            here_from = λ file there. absurd (none_in file there);
+            next_split = λ file there. elim (swapped s.before (s.file ∷ []) made s.behind file (one_in level file there)) [
+              | inl stays ↦ inl (in_one level_then file stays)
+              | inr taken ↦ inr taken
+            ];
+            next_from = λ file there. elim (swapped s.before made (s.file ∷ []) s.behind file (one_in level_then file there)) [
+              | inl old ↦ inl (in_one level file old)
+              | inr new ↦ inr new
+            ];
+            made_there = λ file there. in_one level_then file (Contains-append_right s.before (made ++ s.behind) file (Contains-append_left made s.behind file there));
+            made_new = not_old (runs_of s.above ++ (level ∷ s.deeper)) before;
+            here_apart = λ file other there. absurd (none_in file there);
+            next_apart = λ file other there was. stays_apart some file other (one_in level_then file there) (one_in level file was);
+            alone_apart = λ lone file other there taken. below_apart file lone (subst (λ above. Contains (below_of above s.behind s.deeper) file) (sym is) there)
+                (files_right s.above (level ∷ s.deeper) file (Contains-append_right level (files_in s.deeper) file there)) other taken;
+            here_order = λ i j d before within. absurd (omega arith);
+            next_order = single_over level_then;
+          }) before (runs_above s.above (level_then ∷ s.deeper) some)
+
+  order_swept : AreOrdered (levels_then s)
+  order_swept = order_then s.above s.before (s.file ∷ []) s.behind s.deeper order made (record {
+    tiled = λ file there. All-contains IsTiled made file sweeps.tiled there;
+    numbers = few IsOther s.made;
+    new = newer;
+    below = λ some.
+        let rises = order.below level (behind_here s.above level s.deeper some) in
+        let inside = made_told (λ file. IsWithin (keys_of s.file).lo (keys_of s.file).hi (keys_of file).lo × IsWithin (keys_of s.file).lo (keys_of s.file).hi (keys_of file).hi) sweeps.inside in
+        spliced IsBelow s.before (s.file ∷ []) made s.behind rises (few IsBelow s.made)
+        (λ file new left there. less_upto (keys_of file).hi (keys_of s.file).lo (keys_of new).lo ((pairs_parts IsBelow s.before (s.file ∷ s.behind) rises).2 file s.file left (first_is s.file s.behind s.file refl)) (inside new there).0.0)
+        (λ new file there right. upto_less (keys_of new).hi (keys_of s.file).hi (keys_of file).lo (inside new there).1.1 ((pairs_parts IsBelow s.before (s.file ∷ s.behind) rises).1.0 file right));
+    bare = λ is file there. bare_from (entries_of file) (λ entry spelled.
+        let from = sweeps.from entry (record { file = file; there = there; spelled = spelled }) in
+        let same = kept_alone from.0 entry (subst (λ alone. swept_of alone erase from.0 ≡ Some entry) (sweeps.bottom is) from.2) in
+        let last : last_of (levels_before s) ≡ level = last_behind s.above level s.deeper ∙ ap (λ deeper. last_of (level ∷ deeper)) is in
+        subst IsPlain same (bare_each (entries_of s.file) (order.bare s.file (subst (λ files. Contains files s.file) (sym last) file_there)) from.0 from.1));
+  })
+    where
+      kept_alone : (entry output : Entry) → swept_of true erase entry ≡ Some output → entry ≡ output
+      kept_alone entry output is = grind arith
+
+  pub sweep_follows : Follows threshold h (record l { levels = levels_then s })
+  sweep_follows = record { covers = covers_then.0; counted = covers_then.1; clock = follows.clock; ordered = ordered_with l (levels_then s) follows.ordered order_swept }
