@@ -38,7 +38,7 @@ use Rattle.lethe_moves.proofs.Fresh.{due_fresh}
 use Rattle.lethe_moves.proofs.Pairs.{in_rest}
 use Rattle.lethe_moves.proofs.Flushing.{flush_follows}
 use Rattle.lethe_moves.proofs.MergeMoves.{merge_follows}
-use Rattle.lethe_moves.proofs.Stubs.{sweep_follows}
+use Rattle.lethe_moves.proofs.SweepMoves.{sweep_follows}
 
 -- the clock after one more done call
 clock_more : (h : History) (caller : ℕ) (c : Call) → (after (with_done h caller c)).clock ≡ (done c (after h)).clock

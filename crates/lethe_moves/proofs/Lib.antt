@@ -2,7 +2,6 @@ pub mod Once
 pub mod Scanning
 pub mod Fresh
 pub mod EachRun
-pub mod Stubs
 pub mod KeyOrder
 pub mod Pairs
 pub mod Rising
