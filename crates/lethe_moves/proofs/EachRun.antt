@@ -1,14 +1,13 @@
 -- Each run of a store ends in a layout that follows its history.
-use Rattle.std.proofs.Common.{◌≡◌, inl, inr, ℕ, suc, ◌+◌, ◌<◌, ◌≤◌, Bool, true, false, List, [], ◌∷◌, ◌++◌, filter, length, AllPairs, get_or, Contains, Option, refl, ◌⊎◌, sym, ap, ◌∙◌, subst, arith}
+use Rattle.std.proofs.Common.{◌≡◌, inl, inr, ℕ, ◌+◌, ◌<◌, ◌≤◌, Bool, true, false, List, [], ◌∷◌, ◌++◌, filter, length, AllPairs, get_or, Contains, Option, refl, ◌⊎◌, sym, ap, ◌∙◌, arith}
 use Rattle.std.proofs.Math.Logic.{⊎_elim}
 use Rattle.std.proofs.lemmas.Bool.{cond_both}
 use Rattle.std.proofs.lemmas.List.{length-append, length-replicate}
-use Rattle.std.proofs.lemmas.List.Elements.{All-contains, All-contains_itself, All-filter, Contains-append_right, Contains-get_or, Contains-push_cases}
+use Rattle.std.proofs.lemmas.List.Elements.{All-contains, All-contains_itself, All-filter, Contains-get_or, Contains-push_cases}
 use Rattle.std.proofs.lemmas.List.Kept.{AllPairs-filter}
 use Rattle.std.proofs.lemmas.List.Quantifiers.{all_pairs_push}
 use Rattle.lethe_base.specs.Configuration.{IsConfig}
 use Rattle.lethe_base.specs.Covers.{Covers}
-use Rattle.lethe_base.specs.Held.{IsRecorded}
 use Rattle.lethe_base.specs.History.{History, after, done}
 use Rattle.lethe_base.specs.Layout.{File, Layout, Record, new_layout}
 use Rattle.lethe_base.specs.Ranges.{Ends}
@@ -23,17 +22,14 @@ use Rattle.lethe_base.proofs.LayoutLaws.{none_in, no_file, new_covers, new_is_va
 use Rattle.lethe_base.proofs.Newest.{first_or_rest, first_is}
 use Rattle.lethe_base.proofs.Shorter.{shorter_covers}
 use Rattle.lethe_cover.specs.Flushes.{with_newest}
-use Rattle.lethe_cover.specs.Steps.{IsCounted, with_done, accepted, erasing}
+use Rattle.lethe_cover.specs.Steps.{IsCounted, with_done, accepted}
 use Rattle.lethe_cover.proofs.Bridge.{numbered_covers}
 use Rattle.lethe_cover.proofs.Entered.{put_covers, delete_covers}
 use Rattle.lethe_cover.proofs.Frozen.{freeze_covers}
 use Rattle.lethe_cover.proofs.Grown.{done_within}
 use Rattle.lethe_cover.proofs.Quiet.{tick_covers}
 use Rattle.lethe_cover.proofs.Unentered.{blind_covers, erase_covers}
-use Rattle.lethe_moves.specs.Merges as merges
-use Rattle.lethe_moves.specs.Ordered.{IsOrdered}
 use Rattle.lethe_moves.specs.Reaches.{Follows, Reaches, New, Put, Delete, Blind, Erase, Tick, Freeze, Leave, Flush, Merge, Sweep, Number}
-use Rattle.lethe_moves.specs.Sweeps as sweeps
 use Rattle.lethe_moves.proofs.Fresh.{due_fresh}
 use Rattle.lethe_moves.proofs.Pairs.{in_rest}
 use Rattle.lethe_moves.proofs.Flushing.{flush_follows}

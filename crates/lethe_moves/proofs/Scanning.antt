@@ -1,11 +1,11 @@
 -- The merge of the entries that reads see between two keys has the map's pairs between them.
-use Rattle.std.proofs.Common.{◌≡◌, inl, inr, ℕ, Bool, true, false, cond, IsTrue, List, filter, Contains, Option, Some, None, option_and_then, refl, sym, ap, ◌∙◌, subst}
+use Rattle.std.proofs.Common.{◌≡◌, inl, inr, ℕ, true, cond, IsTrue, List, filter, Contains, Option, Some, None, option_and_then, refl, sym, ap, ◌∙◌, subst}
 use Rattle.std.specs.Cmp.Lexicographic.{nat_list_cmp_total}
 use Rattle.std.specs.FinMap as finmap
 use Rattle.std.specs.FinMap.Entries.{is_sorted-where_key, find-where_key, same_entries}
 use Rattle.std.proofs.lemmas.Bool.{cond_both}
 use Rattle.lethe_base.specs.Entries.{entry_of, pair_of, shown}
-use Rattle.lethe_base.specs.History.{Pair, History, Map, after}
+use Rattle.lethe_base.specs.History.{History, Map, after}
 use Rattle.lethe_base.specs.Keys.{Bytes, key_cmp}
 use Rattle.lethe_base.specs.Layout.{Layout}
 use Rattle.lethe_base.specs.Held.{Shows}
