@@ -1,20 +1,10 @@
 -- What a range takes from a map, and what entries answer under erases.
-use Rattle.std.proofs.Common.{◌≡◌, List, [], ◌∷◌, Option, Some, None, Bool, true, false, not, T, cond, filter, sym, ap, ◌∙◌, ◌⊎◌, inl, inr, ℕ, ◌<◌, ◌≤◌, ◌++◌, Contains, refl, arith}
+use Rattle.std.proofs.Common.{◌≡◌, List, [], ◌∷◌, Option, Some, None, Bool, true, false, not, T, cond, filter, sym, ap, ◌∙◌, ℕ, ◌<◌, ◌≤◌, ◌++◌, Contains, refl, arith}
 use Rattle.std.specs.FinMap as finmap
 use Rattle.lethe_base.specs.declared.entry.Body.TheVariants as body
-use Rattle.std.specs.FinMap.Entries.{find, below_all, is_sorted}
-use Rattle.lethe_base.specs.Keys.{Bytes, key_cmp, same_key}
-use Rattle.lethe_base.specs.Ranges.{Ends, in_range}
-use Rattle.lethe_base.specs.History.{Pair, Map, without_range}
-use Rattle.lethe_base.proofs.Newest.{same_key-true, first_is}
-use Rattle.std.proofs.lemmas.Bool.Decides.{nat_tests}
-use Rattle.std.proofs.lemmas.List.Elements.{Contains-append_right}
+use Rattle.lethe_cover.proofs.Common.{find, below_all, is_sorted, Bytes, key_cmp, Ends, in_range, Pair, Map, without_range, same_key-true, first_is, nat_tests, Contains-append_right, pair_of, IsPut, matches, pair_under, Body, Pending}
 use Rattle.std.proofs.lemmas.List.Folds.{list_any-append, Any-from_list_any, list_any-from_Any}
 use Rattle.std.specs.List.{list_any}
-use Rattle.lethe_base.specs.Entries.{pair_of}
-use Rattle.lethe_base.specs.Matching.{matches, pair_under}
-use Rattle.lethe_base.specs.declared.entry.Body.{Body}
-use Rattle.lethe_base.specs.declared.pending.Pending.{Pending}
 
 -- a pair, unless the range takes it
 abbrev pub left_by : Ends → Option Pair → Option Pair
@@ -78,14 +68,16 @@ answer_late erases seq b before = grind (arith, λ (dkey : ℕ). none_match eras
 pub answer_push : (erases : List Pending) (erase : Pending) (seq : ℕ) (b : Body) → seq < erase.seq → pair_under (erases ++ erase ∷ []) seq b ≡ left_by erase.range (pair_under erases seq b)
 answer_push erases erase seq b lower = grind (arith, nat_tests, list_any-append {X = Pending})
 
+pub put_of : (b : Body) → IsPut b → (dkey : ℕ) × (value : Bytes) × (b ≡ body.Put dkey value)
+put_of b put = grind arith
+
 -- what answers a pair is its put, which no erase matches
 pub under_some : (erases : List Pending) (seq : ℕ) (b : Body) (pair : Pair) → pair_under erases seq b ≡ Some pair → (b ≡ body.Put pair.0 pair.1) × (any_match erases seq pair.0 ≡ false)
 under_some erases seq b pair is = grind arith
 
--- what answers nothing is a tombstone, or a put that an erase matches
-pub under_none : (erases : List Pending) (seq : ℕ) (b : Body) → pair_under erases seq b ≡ None → (b ≡ body.Tomb) ⊎ ((pair : Pair) × (b ≡ body.Put pair.0 pair.1) × (any_match erases seq pair.0 ≡ true))
-under_none erases seq (body.Put dkey value) is = inr ((dkey, value), refl, grind arith)
-under_none erases seq body.Tomb is = inl refl
+-- what is a put where the erases are applied is one that none of them matches
+pub unstruck : (erases : List Pending) (seq : ℕ) (b made : Body) → pair_of made ≡ pair_under erases seq b → IsPut made → (dkey : ℕ) × (value : Bytes) × (b ≡ body.Put dkey value) × (any_match erases seq dkey ≡ false)
+unstruck erases seq b made is put = grind arith
 
 -- erases that match nothing more than the others change no answer where they are applied first
 pub answer_applied : (pending applied : List Pending) (seq : ℕ) (made b : Body)

@@ -1,7 +1,8 @@
 -- The files of levels and of runs, and runs each of which is over the ones behind it.
 use Rattle.std.proofs.Common.{◌≡◌, inl, inr, List, [], ◌∷◌, map, flat_map, Contains, refl, ap, sym, ◌∙◌, subst, ◌⊎◌, suc, ◌<◌, ◌++◌, append_assoc, length, get_or, AllPairs, arith}
 use Rattle.std.proofs.lemmas.List.Elements.{Contains-append_left, Contains-append_right, Contains-append_cases, Contains-get_or}
-use Rattle.std.proofs.lemmas.List.{map-append}
+use Rattle.std.proofs.Math.ListN.{get_or-map}
+use Rattle.std.proofs.lemmas.List.{length-map, map-append}
 use Rattle.lethe_base.specs.Layout.{File, runs_of}
 use Rattle.lethe_base.proofs.LayoutLaws.{none_in}
 use Rattle.lethe_base.proofs.Newest.{first_or_rest, first_is}
@@ -19,6 +20,9 @@ map_from f (x ∷ xs) y there = elim (first_or_rest (f x) (map f xs) y there) [
   | inl same ↦ (x, first_is x xs x refl, same)
   | inr rest ↦ let found = map_from f xs y rest in (found.0, Contains-append_right (x ∷ []) xs found.0 found.1, found.2)
 ]
+
+pub in_map : {X Y : Type 0} (f : X → Y) (xs : List X) (x : X) → Contains xs x → Contains (map f xs) (f x)
+in_map f xs x there = (there.0, omega (arith, length-map xs f, there.1), get_or-map f xs there.0 x ∙ ap f there.2)
 
 pub flat_in : {X Y : Type 0} (f : X → List Y) (xs : List X) (x : X) (y : Y) → Contains xs x → Contains (f x) y → Contains (flat_map f xs) y
 flat_in f [] x y there is = absurd (none_in x there)

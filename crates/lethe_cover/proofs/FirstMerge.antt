@@ -1,17 +1,11 @@
 -- The smallest merge is a move of files.
 use Rattle.std.proofs.Common.{◌≡◌, ◌≢◌, inl, inr, Bool, [], ◌∷◌, Contains, refl, sym, ◌∙◌, arith}
-use Rattle.lethe_base.specs.Layout.{File, runs_of}
-use Rattle.lethe_base.proofs.LayoutLaws.{none_in}
-use Rattle.lethe_base.proofs.Newest.{first_or_rest}
+use Rattle.lethe_cover.proofs.Common.{⊎_elim, File, runs_of, none_in, first_or_rest, IsMove, runs_before, runs_then}
 use Rattle.lethe_cover.specs.Examples.{first_merge}
-use Rattle.lethe_cover.specs.Moves.{IsMove, runs_before, runs_then}
 
 module _ (alone : Bool) (file made : File) (other : file ≢ made) where
   single : (one x : File) → Contains (one ∷ []) x → one ≡ x
-  single one x there = elim (first_or_rest one [] x there) [
-    | inl same ↦ same
-    | inr rest ↦ absurd (none_in x rest)
-  ]
+  single one x there = ⊎_elim (λ same. same) (λ rest. absurd (none_in x rest)) (first_or_rest one [] x there)
 
   pub first_move : IsMove alone (first_merge file made)
   first_move = record {

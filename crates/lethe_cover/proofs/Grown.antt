@@ -1,48 +1,29 @@
 -- What holds of a history, with one change more.
-use Rattle.std.proofs.Common.{◌≡◌, ◌⊎◌, inl, inr, ℕ, zero, suc, ◌<◌, ◌≤◌, IsTrue, [], ◌∷◌, ◌++◌, length, Option, Some, None, IsSomeAnd, option_and_then, slice_get, refl, sym, ap, ◌∙◌, subst, arith}
-use Rattle.std.proofs.lemmas.List.{length_push}
-use Rattle.std.proofs.lemmas.Option.{slice_get_within}
-use Rattle.lethe_base.specs.Keys.{Bytes}
-use Rattle.lethe_base.specs.History.{History, Change, change_at, after, clock_before}
-use Rattle.lethe_base.specs.Causes.{done_call, done_at, is_eraser, cause_of, IsErasedAt, IsCause}
-use Rattle.lethe_base.specs.Placed.{IsPlaced, IsAccepted}
-use Rattle.lethe_base.specs.Fresh.{IsFresh}
-use Rattle.lethe_base.specs.declared.call.Call.{Call}
-use Rattle.lethe_base.specs.declared.call.Call.TheVariants.{Put, Delete, Erase}
-use Rattle.lethe_base.specs.declared.entry.Body.{Body}
+use Rattle.std.proofs.Common.{◌≡◌, ◌⊎◌, inl, inr, ℕ, zero, suc, ◌<◌, ◌≤◌, IsTrue, [], ◌∷◌, ◌++◌, length, Option, Some, IsSomeAnd, option_and_then, refl, sym, ap, ◌∙◌, subst, arith}
+use Rattle.lethe_cover.proofs.Common.{length_push, cases_lt, Bytes, History, Change, change_at, after, clock_before, done_call, done_at, is_eraser, cause_of, IsErasedAt, IsCause, IsPlaced, IsAccepted, IsFresh, Call, Put, Delete, Erase, Body, Pending, cause_is_first, first_is_cause, change_at-push, clock_before-append, clock_before-end}
+use Rattle.std.proofs.lemmas.Option.{slice_get-get_or, slice_get_within}
+use Rattle.std.proofs.lemmas.List.{get_or_append_left}
 use Rattle.lethe_base.specs.declared.entry.Body.TheVariants as body
-use Rattle.lethe_base.specs.declared.pending.Pending.{Pending}
-use Rattle.lethe_base.proofs.CauseLaws.{cause_is_first, first_is_cause}
-use Rattle.lethe_base.proofs.Histories.{change_at-push, clock_before-append, clock_before-end}
 
 change_within : (h : History) (place : ℕ) (change : Change) → change_at h place ≡ Some change → place ≤ length h
 change_within h zero change is = omega arith
 change_within h (suc before) change is = let within = slice_get_within h before change is in omega arith
 
 pub done_within : (h : History) (place : ℕ) (call : Call) → done_at h place ≡ Some call → place ≤ length h
-done_within h place call is = by (change_at h place) refl is
-  where
-    by : (o : Option Change) → change_at h place ≡ o → option_and_then (λ change. done_call change.did change.call) o ≡ Some call → place ≤ length h
-    by None at is = absurd (let clash : None ≡ Some call = is in cc)
-    by (Some change) at is = change_within h place change at
+done_within h place call is = grind (arith, change_within h place)
 
 -- what is placed has a place of the history
 pub placed_within : (h : History) (seq : ℕ) (key : Bytes) (b : Body) → IsPlaced h seq key b → seq ≤ length h
 placed_within h seq key (body.Put dkey value) is = done_within h seq (Put key dkey value) is
-placed_within h seq key body.Tomb is = elim is [
-  | inl deleted ↦ done_within h seq (Delete key) deleted
-  | inr put ↦ done_within h seq (Put key put.dkey put.value) put.put
-]
-
-get_old : (h : History) (change : Change) (i : ℕ) → i < length h → slice_get (h ++ change ∷ []) i ≡ slice_get h i
-get_old [] change i within = absurd (omega arith)
-get_old (x ∷ h) change zero within = refl
-get_old (x ∷ h) change (suc i) within = get_old h change i (omega arith)
+placed_within h seq key body.Tomb (inl deleted) = done_within h seq (Delete key) deleted
+placed_within h seq key body.Tomb (inr put) = done_within h seq (Put key put.dkey put.value) put.put
 
 module _ (h : History) (change : Change) where
   change_old : (place : ℕ) → place ≤ length h → change_at (h ++ change ∷ []) place ≡ change_at h place
   change_old zero within = refl
-  change_old (suc before) within = get_old h change before (omega arith)
+  change_old (suc before) within =
+      slice_get-get_or (h ++ change ∷ []) before change (omega (arith, length_push h change)) ∙ ap Some (get_or_append_left h (change ∷ []) change before (omega arith))
+      ∙ sym (slice_get-get_or h before change (omega arith))
 
   pub done_old : (place : ℕ) → place ≤ length h → done_at (h ++ change ∷ []) place ≡ done_at h place
   done_old place within = ap (option_and_then (λ change. done_call change.did change.call)) (change_old place within)
@@ -58,19 +39,11 @@ module _ (h : History) (change : Change) where
 
   pub placed_more : (seq : ℕ) (key : Bytes) (b : Body) → IsPlaced h seq key b → IsPlaced (h ++ change ∷ []) seq key b
   placed_more seq key (body.Put dkey value) is = done_more seq (Put key dkey value) is
-  placed_more seq key body.Tomb is = elim is [
-    | inl deleted ↦ inl (done_more seq (Delete key) deleted)
-    | inr put ↦ inr (record {
-      dkey = put.dkey;
-      value = put.value;
-      put = done_more seq (Put key put.dkey put.value) put.put;
-      place = put.place;
-      range = put.range;
-      erase = done_more put.place (Erase put.range) put.erase;
-      later = put.later;
-      matched = put.matched;
-    })
-  ]
+  placed_more seq key body.Tomb (inl deleted) = inl (done_more seq (Delete key) deleted)
+  placed_more seq key body.Tomb (inr is) =
+      let put = done_more seq (Put key is.dkey is.value) is.put in
+      let erase = done_more is.place (Erase is.range) is.erase in
+      inr (record { dkey = is.dkey; value = is.value; put = put; place = is.place; range = is.range; erase = erase; later = is.later; matched = is.matched })
 
   pub accepted_more : (erase : Pending) → IsAccepted h erase → IsAccepted (h ++ change ∷ []) erase
   accepted_more erase is =
@@ -78,24 +51,15 @@ module _ (h : History) (change : Change) where
       record { done = done_more erase.seq (Erase erase.range) is.done; timed = is.timed ∙ sym (clock_old erase.seq (omega arith)) }
 
   pub fresh_more : (threshold clock time : ℕ) → IsFresh threshold h clock time → IsFresh threshold (h ++ change ∷ []) clock time
-  fresh_more threshold clock time is = let within = done_within h is.place is.call is.done in record {
-    place = is.place;
-    call = is.call;
-    done = done_more is.place is.call is.done;
-    erasure = is.erasure;
-    timed = is.timed ∙ sym (clock_old is.place (omega arith));
-    fresh = is.fresh;
-  }
+  fresh_more threshold clock time is =
+      let within = done_within h is.place is.call is.done in
+      record { place = is.place; call = is.call; done = done_more is.place is.call is.done; erasure = is.erasure; timed = is.timed ∙ sym (clock_old is.place (omega arith)); fresh = is.fresh }
 
-  cause_within : (place cause : ℕ) → cause_of (h ++ change ∷ []) place ≡ Some cause → cause ≤ suc (length h)
-  cause_within place cause is = by first.key first.dkey (change_at (h ++ change ∷ []) cause) refl first.erases
-    where
-      first : IsCause (h ++ change ∷ []) place cause
-      first = cause_is_first (h ++ change ∷ []) place cause is
+  erased_within : (key : Bytes) (dkey place : ℕ) → IsErasedAt (h ++ change ∷ []) key dkey place → place ≤ suc (length h)
+  erased_within key dkey place is = grind (arith, length_push h change, change_within (h ++ change ∷ []) place)
 
-      by : (key : Bytes) (dkey : ℕ) (o : Option Change) → change_at (h ++ change ∷ []) cause ≡ o → IsSomeAnd o (λ c. IsTrue (is_eraser key dkey c)) → cause ≤ suc (length h)
-      by key dkey None at is = absurd is
-      by key dkey (Some c) at is = let within = change_within (h ++ change ∷ []) cause c at in omega (arith, length_push h change)
+  abbrev IsEraser : Bytes → ℕ → Option Change → Type 0
+  IsEraser key dkey o = IsSomeAnd o (λ c. IsTrue (is_eraser key dkey c))
 
   -- the change is the first that erases what was put at the place
   pub record EndsNow (place cause : ℕ) : Type 0 where
@@ -109,42 +73,24 @@ module _ (h : History) (change : Change) where
   -- the cause of what was put before is the one that it had, or the change
   pub cause_more : (place cause : ℕ) → place ≤ length h → cause_of (h ++ change ∷ []) place ≡ Some cause
       → ((cause_of h place ≡ Some cause) × (cause ≤ length h)) ⊎ EndsNow place cause
-  cause_more place cause within is = elim (cases cause (length h)) [
-    | inl old ↦ inl (
-      first_is_cause h place cause (record {
-        key = first.key;
-        dkey = first.dkey;
-        value = first.value;
-        put = sym (done_old place within) ∙ first.put;
-        later = first.later;
-        erases = subst (λ o. IsSomeAnd o (λ c. IsTrue (is_eraser first.key first.dkey c))) (change_old cause old) first.erases;
-        first = λ between behind before erases. first.first between behind before
-            (subst (λ o. IsSomeAnd o (λ c. IsTrue (is_eraser first.key first.dkey c))) (sym (change_old between (omega arith))) erases);
-      }),
-      old,
-    )
-    | inr new ↦
-        let last = cause_within place cause is in
+  cause_more place cause within is = elim (cases_lt (length h) cause) [
+    | inr old ↦
+        let put = sym (done_old place within) ∙ first.put in
+        let erases = subst (IsEraser first.key first.dkey) (change_old cause old) first.erases in
+        let none = λ (between : ℕ) (behind : place < between) (before : between < cause) (is : IsErasedAt h first.key first.dkey between).
+        first.first between behind before (subst (IsEraser first.key first.dkey) (sym (change_old between (omega arith))) is) in
+        inl (first_is_cause h place cause (record { key = first.key; dkey = first.dkey; value = first.value; put = put; later = first.later; erases = erases; first = none }), old)
+    | inl new ↦
+        let last = erased_within first.key first.dkey cause first.erases in
         let at : cause ≡ suc (length h) = omega arith in
-        let here = change_at-push h change in
-        inr (record {
-          at = at;
-          key = first.key;
-          dkey = first.dkey;
-          value = first.value;
-          put = sym (done_old place within) ∙ first.put;
-          erases = subst (λ o. IsSomeAnd o (λ c. IsTrue (is_eraser first.key first.dkey c))) here (subst (IsErasedAt (h ++ change ∷ []) first.key first.dkey) at first.erases);
-        })
+        let erases = subst (IsEraser first.key first.dkey) (ap (change_at (h ++ change ∷ [])) at ∙ change_at-push h change) first.erases in
+        inr (record { at = at; key = first.key; dkey = first.dkey; value = first.value; put = sym (done_old place within) ∙ first.put; erases = erases })
   ]
     where
-      cases : (a b : ℕ) → (a ≤ b) ⊎ (b < a)
-      cases a b = grind arith
-
       first : IsCause (h ++ change ∷ []) place cause
       first = cause_is_first (h ++ change ∷ []) place cause is
 
   -- what the change put has no cause yet
   pub none_behind : (place cause : ℕ) → length h < place → cause_of (h ++ change ∷ []) place ≡ Some cause → ⊥
   none_behind place cause last is =
-      let first = cause_is_first (h ++ change ∷ []) place cause is in
-      let within = cause_within place cause is in absurd (omega arith)
+      let first = cause_is_first (h ++ change ∷ []) place cause is in omega (arith, erased_within first.key first.dkey cause first.erases, first.later)

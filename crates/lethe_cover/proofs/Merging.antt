@@ -1,31 +1,27 @@
 -- A merged list is an outcome of its inputs.
-use Rattle.std.proofs.Common.{◌≡◌, ◌⊎◌, inl, inr, ℕ, ◌≤◌, Bool, true, false, cond, IsTrue, List, [], ◌∷◌, map, Contains, Option, Some, None, option_and_then, refl, sym, ap, ◌∙◌, arith}
-use Rattle.std.specs.List.{list_any}
-use Rattle.std.proofs.lemmas.List.Elements.{Contains-append_right}
-use Rattle.lethe_base.specs.Keys.{Bytes}
-use Rattle.lethe_base.specs.History.{Pair}
-use Rattle.lethe_base.specs.Entries.{entry_of, pair_of}
-use Rattle.lethe_base.specs.Matching.{matches, pair_under, answer_under}
-use Rattle.lethe_base.specs.SameMap.{IsNewest}
-use Rattle.lethe_base.specs.declared.entry.Body.{Body}
+use Rattle.std.proofs.Common.{nat_lt, ◌≤◌, ⊎_elim, ◌≡◌, ◌⊎◌, inl, inr, ℕ, Bool, true, false, cond, IsTrue, List, [], ◌∷◌, map, Contains, Option, Some, None, option_and_then, refl, sym, ap, ◌∙◌, arith}
+use Rattle.lethe_cover.proofs.Common.{none_in, first_or_rest, same_key, same_key-self, same_key-true, newer_of, nat_tests, Contains-append_right, Bytes, entry_of, pair_of, matches, pair_under, answer_under, IsNewest, Body, Entry, Pending, first_is, body_under, time_under, since_under, struck, left_of, bared, IsMerged, IsFrom, IsKept, IsDropped, IsOutcome, ⊎_map}
 use Rattle.lethe_base.specs.declared.entry.Body.TheVariants.{Put, Tomb}
-use Rattle.lethe_base.specs.declared.entry.Entry.{Entry}
-use Rattle.lethe_base.specs.declared.pending.Pending.{Pending}
-use Rattle.lethe_base.proofs.LayoutLaws.{none_in}
-use Rattle.lethe_base.proofs.Newest.{first_or_rest, first_is}
-use Rattle.lethe_cover.specs.Merged.{body_under, time_under, since_under, struck, left_of, bared, IsMerged}
-use Rattle.lethe_cover.specs.Outcomes.{IsFrom, IsKept, IsDropped, IsOutcome}
-use Rattle.lethe_cover.proofs.ByKey.{entry_in, own_entry, IsBy, earlier_from, IsJoined, IsLeft, OfKey, left_is}
-use Rattle.std.proofs.Math.Logic.{⊎_elim, ⊎_map}
-use Rattle.std.proofs.Math.ListN.{get_or-map}
-use Rattle.std.proofs.lemmas.List.{length-map}
-use Rattle.lethe_cover.proofs.FilesInRuns.{map_from}
+use Rattle.lethe_cover.proofs.ByKey.{entry_in, own_entry}
+use Rattle.lethe_base.specs.Shapes.{earlier}
 
-pub in_map : {X Y : Type 0} (f : X → Y) (xs : List X) (x : X) → Contains xs x → Contains (map f xs) (f x)
-in_map f xs x there = (there.0, omega (arith, length-map xs f, there.1), get_or-map f xs there.0 x ∙ ap f there.2)
+-- there is a time at most that
+pub record IsBy (own : Option ℕ) (time : ℕ) : Type 0 where
+  pub least : ℕ
+  pub is : own ≡ Some least
+  pub upto : least ≤ time
+
+by_left : (a b : Option ℕ) (time : ℕ) → IsBy a time → IsBy (earlier a b) time
+by_left a b time by = grind arith
+
+by_right : (a b : Option ℕ) (time : ℕ) → IsBy b time → IsBy (earlier a b) time
+by_right a b time by = grind arith
+
+earlier_from : (a b : Option ℕ) (time : ℕ) → earlier a b ≡ Some time → (a ≡ Some time) ⊎ (b ≡ Some time)
+earlier_from a b time is = grind arith
 
 -- the body answers what the entry answers under the erases
-pub struck_answer : (erases : List Pending) (seq : ℕ) (body : Body) → pair_of (body_under erases seq body) ≡ pair_under erases seq body
+struck_answer : (erases : List Pending) (seq : ℕ) (body : Body) → pair_of (body_under erases seq body) ≡ pair_under erases seq body
 struck_answer erases seq body = grind arith
 
 pub struck_by : (erases : List Pending) (entry : Entry) (time : ℕ) → entry.since ≡ Some time → IsBy (struck erases entry).since time
@@ -46,105 +42,149 @@ pub struck_from : (erases : List Pending) (seq : ℕ) (body : Body) (since : Opt
 struck_from erases seq (Put dkey value) since time is = ⊎_map (λ own. own) (time_from erases seq dkey time) (earlier_from since (time_under erases seq dkey) time is)
 struck_from erases seq Tomb since time is = inl is
 
--- what an output has of what is left of its key
-record IsBared (left output : Entry) : Type 0 where
-  seq : left.seq ≡ output.seq
-  body : left.body ≡ output.body
-  since : (time : ℕ) → output.since ≡ Some time → left.since ≡ Some time
+-- of some inputs the newest, where the erases are applied, with the least time of them all
+record IsJoined (erases : List Pending) (own : Entry → Type 0) (joined : Entry) : Type 0 where
+  source : Entry
+  there : own source
+  place : source.seq ≡ joined.seq
+  answer : pair_of joined.body ≡ answer_under erases source
+  last : (input : Entry) → own input → input.seq ≤ joined.seq
+  least : (input : Entry) (time : ℕ) → own input → input.since ≡ Some time → IsBy joined.since time
+  from : (time : ℕ) → joined.since ≡ Some time → ((input : Entry) × own input × (input.since ≡ Some time)) ⊎ IsErasesTime erases time
+
+-- what is left of some inputs: there are none, or they are joined
+abbrev IsLeft : List Pending → (Entry → Type 0) → Option Entry → Type 0
+IsLeft erases own None = (input : Entry) → own input → ⊥
+IsLeft erases own (Some joined) = IsJoined erases own joined
+
+-- the same inputs, told otherwise
+same_left : (erases : List Pending) (P Q : Entry → Type 0) (o : Option Entry) → ((e : Entry) → P e → Q e) → ((e : Entry) → Q e → P e) → IsLeft erases P o → IsLeft erases Q o
+same_left erases P Q None to back none = λ e own. none e (back e own)
+same_left erases P Q (Some joined) to back is = record {
+  source = is.source;
+  there = to is.source is.there;
+  place = is.place;
+  answer = is.answer;
+  last = λ input own. is.last input (back input own);
+  least = λ input time own. is.least input time (back input own);
+  from = λ time has. ⊎_map (λ found. (found.0, to found.0 found.1, found.2)) (λ erased. erased) (is.from time has);
+}
+
+-- one input more
+more_left : (erases : List Pending) (P : Entry → Type 0) (x : Entry) (o : Option Entry) → IsLeft erases P o → IsJoined erases (λ e. (x ≡ e) ⊎ P e) (newer_of (struck erases x) o)
+more_left erases P x None none = record {
+  source = x;
+  there = inl refl;
+  place = refl;
+  answer = struck_answer erases x.seq x.body;
+  last = λ input. ⊎_elim (λ same. omega (arith, ap (λ e. e.seq) same)) (λ rest. absurd (none input rest));
+  least = λ input time own has. ⊎_elim (λ same. struck_by erases x time (ap (λ e. e.since) same ∙ has)) (λ rest. absurd (none input rest)) own;
+  from = λ time has. ⊎_map (λ own. (x, inl refl, own)) (λ erased. erased) (struck_from erases x.seq x.body x.since time has);
+}
+more_left erases P x (Some f) is = by (nat_lt x.seq f.seq) refl
+  where
+    joined : (source s : Entry) → (x ≡ source) ⊎ P source → source.seq ≡ s.seq → pair_of s.body ≡ answer_under erases source → x.seq ≤ s.seq → f.seq ≤ s.seq
+        → IsJoined erases (λ e. (x ≡ e) ⊎ P e) (record s { since = earlier (struck erases x).since f.since })
+    joined source s there place answer upto below = record {
+      source = source;
+      there = there;
+      place = place;
+      answer = answer;
+      last = λ input. ⊎_elim (λ same. omega (arith, ap (λ e. e.seq) same)) (λ rest. omega (arith, is.last input rest));
+      least = λ input time own has. ⊎_elim (λ same. by_left (struck erases x).since f.since time (struck_by erases x time (ap (λ e. e.since) same ∙ has)))
+          (λ rest. by_right (struck erases x).since f.since time (is.least input time rest has)) own;
+      from = λ time has. ⊎_elim (λ own. ⊎_map (λ mine. (x, inl refl, mine)) (λ erased. erased) (struck_from erases x.seq x.body x.since time own))
+          (λ old. ⊎_map (λ found. (found.0, inr found.1, found.2)) (λ erased. erased) (is.from time old)) (earlier_from (struck erases x).since f.since time has);
+    }
+
+    by : (t : Bool) → nat_lt x.seq f.seq ≡ t
+        → IsJoined erases (λ e. (x ≡ e) ⊎ P e) (cond t (record f { since = earlier (struck erases x).since f.since }) (record (struck erases x) { since = earlier (struck erases x).since f.since }))
+    by true at = joined is.source f (inr is.there) is.place is.answer (grind (arith, nat_tests)) (omega arith)
+    by false at = joined x (struck erases x) (inl refl) refl (struck_answer erases x.seq x.body) (omega arith) (grind (arith, nat_tests))
+
+-- the entries of a list that are of the key
+abbrev OfKey : Bytes → List Entry → Entry → Type 0
+OfKey key entries entry = Contains entries entry × (entry.key ≡ key)
+
+left_is : (erases : List Pending) (key : Bytes) (inputs : List Entry) → IsLeft erases (OfKey key inputs) (left_of key (map (struck erases) inputs))
+left_is erases key [] = λ e own. none_in e own.0
+left_is erases key (x ∷ inputs) = by (left_of key (map (struck erases) inputs)) (left_is erases key inputs) (same_key key x.key) refl
+  where
+    later : (e : Entry) → OfKey key inputs e → OfKey key (x ∷ inputs) e
+    later e own = (Contains-append_right (x ∷ []) inputs e own.0, own.1)
+
+    cases : (e : Entry) → OfKey key (x ∷ inputs) e → (x ≡ e) ⊎ OfKey key inputs e
+    cases e own = ⊎_map (λ is. is) (λ rest. (rest, own.1)) (first_or_rest x inputs e own.0)
+
+    unlike : same_key key x.key ≡ false → (e : Entry) → e.key ≡ key → x ≡ e → ⊥
+    unlike other e named is = grind (arith, same_key-self key)
+
+    by : (o : Option Entry) → IsLeft erases (OfKey key inputs) o → (t : Bool) → same_key key x.key ≡ t → IsLeft erases (OfKey key (x ∷ inputs)) (cond t (Some (newer_of (struck erases x) o)) o)
+    by o is false at = same_left erases (OfKey key inputs) (OfKey key (x ∷ inputs)) o later (λ e own. ⊎_elim (λ same. absurd (unlike at e own.1 same)) (λ rest. rest) (cases e own)) is
+    by o is true at = same_left erases (λ e. (x ≡ e) ⊎ OfKey key inputs e) (OfKey key (x ∷ inputs)) (Some (newer_of (struck erases x) o))
+        (λ e. ⊎_elim (λ same. (first_is x inputs e same, ap (λ e. e.key) (sym same) ∙ sym (same_key-true key x.key at))) (later e)) cases (more_left erases (OfKey key inputs) x o is)
+
+-- an output says what is left of its key, and has its time if it has one
+abbrev IsBared : Entry → Entry → Type 0
+IsBared left output = (left.seq ≡ output.seq) × (left.body ≡ output.body) × ((time : ℕ) → output.since ≡ Some time → left.since ≡ Some time)
 
 bared_is : (alone : Bool) (left output : Entry) → bared alone left left.body ≡ Some output → IsBared left output
-bared_is alone left output is = record { seq = grind arith; body = grind arith; since = λ time has. grind arith }
+bared_is alone left output is = grind arith
 
 -- the inputs are those of a list
 module _ (Inputs : Entry → Type 0) (inputs : List Entry) (to : (entry : Entry) → Contains inputs entry → Inputs entry) (back : (entry : Entry) → Inputs entry → Contains inputs entry)
     (erases : List Pending) (alone : Bool) (merged : List Entry) (is : IsMerged inputs erases alone merged)
   where
-    abbrev Own : Bytes → Entry → Type 0
-    Own key = OfKey key (map (struck erases) inputs)
-
-    -- what is left of an output's key
-    record HasLeft (output : Entry) : Type 0 where
-      left : Entry
-      joined : IsJoined (OfKey output.key (map (struck erases) inputs)) left
-      bare : IsBared left output
-
-    output_left : (output : Entry) → Contains merged output → HasLeft output
-    output_left output there = by (left_of output.key (map (struck erases) inputs)) (left_is output.key (map (struck erases) inputs)) (sym (is.entries output.key) ∙ own_entry merged output is.ascending there)
+    output_left : (output : Entry) → Contains merged output → (left : Entry) × IsJoined erases (OfKey output.key inputs) left × IsBared left output
+    output_left output there = by (left_of output.key (map (struck erases) inputs)) (left_is erases output.key inputs) (sym (is.entries output.key) ∙ own_entry merged output is.ascending there)
       where
-        by : (o : Option Entry) → IsLeft (Own output.key) o → option_and_then (λ entry. bared alone entry entry.body) o ≡ Some output → HasLeft output
+        by : (o : Option Entry) → IsLeft erases (OfKey output.key inputs) o → option_and_then (λ entry. bared alone entry entry.body) o ≡ Some output
+            → (left : Entry) × IsJoined erases (OfKey output.key inputs) left × IsBared left output
         by None none found = absurd (cc)
-        by (Some left) joined found = record { left = left; joined = joined; bare = bared_is alone left output found }
+        by (Some left) joined found = (left, joined, bared_is alone left output found)
 
-    -- the input that is left of a key
-    record HasSource (key : Bytes) (left : Entry) : Type 0 where
-      input : Entry
-      newest : IsNewest Inputs input
-      named : input.key ≡ key
-      place : input.seq ≡ left.seq
-      answer : pair_of left.body ≡ answer_under erases input
-
-    source_of : (key : Bytes) (left : Entry) → IsJoined (OfKey key (map (struck erases) inputs)) left → HasSource key left
-    source_of key left joined =
-        let found = map_from (struck erases) inputs joined.source joined.there.0 in
-        let input = found.0 in
-        let made : struck erases input ≡ joined.source = found.2 in
-        let named : input.key ≡ key = ap (λ e. e.key) made ∙ joined.there.1 in
-        let place : input.seq ≡ left.seq = ap (λ e. e.seq) made ∙ joined.place in record {
-          input = input;
-          newest = record {
-            shown = to input found.1;
-            last = λ other there same. omega (arith, joined.last (struck erases other) (in_map (struck erases) inputs other (back other there), same ∙ named), place);
-          };
-          named = named;
-          place = place;
-          answer = ap pair_of (sym joined.body) ∙ ap (λ e. pair_of e.body) (sym made) ∙ struck_answer erases input.seq input.body;
-        }
+    newest_of : (key : Bytes) (left : Entry) (joined : IsJoined erases (OfKey key inputs) left) → IsNewest Inputs joined.source
+    newest_of key left joined = record { shown = to joined.source joined.there.0; last = λ other there same. omega (arith, joined.last other (back other there, same ∙ joined.there.1), joined.place) }
 
     source : (output : Entry) → Contains merged output → IsFrom erases Inputs output
     source output there =
         let left = output_left output there in
-        let from = source_of output.key left.left left.joined in
-        record { input = from.input; newest = from.newest; same = from.named; place = from.place ∙ left.bare.seq; answer = ap pair_of (sym left.bare.body) ∙ from.answer }
+        let joined = left.1 in
+        let bare = left.2 in
+        record { input = joined.source; newest = newest_of output.key left.0 joined; same = joined.there.1; place = joined.place ∙ bare.0; answer = ap pair_of (sym bare.1) ∙ joined.answer }
 
     since : (output : Entry) (time : ℕ) → Contains merged output → output.since ≡ Some time → ((input : Entry) × Inputs input × (input.since ≡ Some time)) ⊎ IsErasesTime erases time
     since output time there has =
         let left = output_left output there in
-        let from = left.joined.from time (left.bare.since time has) in
-        let found = map_from (struck erases) inputs from.0 from.1.0 in
-        ⊎_map (λ own. (found.0, to found.0 found.1, own)) (λ erased. erased) (struck_from erases found.0.seq found.0.body found.0.since time (ap (λ e. e.since) found.2 ∙ from.2))
+        ⊎_map (λ found. (found.0, to found.0 found.1.0, found.2)) (λ erased. erased) (left.1.from time (left.2.2 time has))
 
-    kept : (input : Entry) → Inputs input → IsKept (IsTrue alone) (Contains merged) input ⊎ IsDropped erases (IsTrue alone) Inputs (Contains merged) input
-    kept input taken = by (left_of input.key (map (struck erases) inputs)) (left_is input.key (map (struck erases) inputs)) (is.entries input.key)
+    abbrev IsKeptOrDropped : Entry → Type 0
+    IsKeptOrDropped input = IsKept (IsTrue alone) (Contains merged) input ⊎ IsDropped erases (IsTrue alone) Inputs (Contains merged) input
+
+    kept : (input : Entry) → Inputs input → IsKeptOrDropped input
+    kept input taken = by (left_of input.key (map (struck erases) inputs)) (left_is erases input.key inputs) (is.entries input.key)
       where
-        own : OfKey input.key (map (struck erases) inputs) (struck erases input)
-        own = (in_map (struck erases) inputs input (back input taken), refl)
+        own : OfKey input.key inputs input
+        own = (back input taken, refl)
 
-        by_bare : (left : Entry) → IsJoined (OfKey input.key (map (struck erases) inputs)) left → (t : Bool) (b : Body) → alone ≡ t → left.body ≡ b
-            → entry_of input.key merged ≡ bared t left b → IsKept (IsTrue alone) (Contains merged) input ⊎ IsDropped erases (IsTrue alone) Inputs (Contains merged) input
-        by_bare left joined false b lone at found = let out = entry_in input.key merged left found in inl (record {
-          output = left;
-          made = out.0;
-          same = out.1;
-          newer = joined.last (struck erases input) own;
-          since = λ time has.
-              let mine = struck_by erases input time has in
-              let least = joined.least (struck erases input) mine.least own mine.is in
-              inr (least.least, least.is, omega arith);
-        })
-        by_bare left joined true (Put dkey value) lone at found = let out = entry_in input.key merged (record left { since = None }) found in
-            inl (record { output = record left { since = None }; made = out.0; same = out.1; newer = joined.last (struck erases input) own; since = λ time has. inl lone })
-        by_bare left joined true Tomb lone at found = let from = source_of input.key left joined in inr (record {
+        by_bare : (left : Entry) → IsJoined erases (OfKey input.key inputs) left → (t : Bool) (b : Body) → alone ≡ t → left.body ≡ b → entry_of input.key merged ≡ bared t left b → IsKeptOrDropped input
+        by_bare left joined false b lone at found =
+            let out = entry_in input.key merged left found in
+            inl (record { output = left; made = out.0; same = out.1; newer = joined.last input own; since = λ time has. let least = joined.least input time own has in inr (least.least, least.is, least.upto) })
+        by_bare left joined true (Put dkey value) lone at found =
+            let out = entry_in input.key merged (record left { since = None }) found in
+            inl (record { output = record left { since = None }; made = out.0; same = out.1; newer = joined.last input own; since = λ time has. inl lone })
+        by_bare left joined true Tomb lone at found = inr (record {
           alone = lone;
           none = λ output made same. let clash : Some output ≡ None = sym (own_entry merged output is.ascending made) ∙ ap (λ key. entry_of key merged) same ∙ found in cc;
-          newest = from.input;
-          is = from.newest;
-          same = from.named;
-          nothing = sym from.answer ∙ ap pair_of at;
+          newest = joined.source;
+          is = newest_of input.key left joined;
+          same = joined.there.1;
+          nothing = sym joined.answer ∙ ap pair_of at;
         })
 
-        by : (o : Option Entry) → IsLeft (Own input.key) o → entry_of input.key merged ≡ option_and_then (λ entry. bared alone entry entry.body) o
-            → IsKept (IsTrue alone) (Contains merged) input ⊎ IsDropped erases (IsTrue alone) Inputs (Contains merged) input
-        by None none found = absurd (none (struck erases input) own)
+        by : (o : Option Entry) → IsLeft erases (OfKey input.key inputs) o → entry_of input.key merged ≡ option_and_then (λ entry. bared alone entry entry.body) o → IsKeptOrDropped input
+        by None none found = absurd (none input own)
         by (Some left) joined found = by_bare left joined alone left.body refl refl found
 
     pub merged_outcome : IsOutcome erases (IsTrue alone) Inputs (Contains merged)

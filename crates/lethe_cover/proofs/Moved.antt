@@ -1,18 +1,7 @@
 -- A move of files keeps what a layout stands for.
-use Rattle.std.proofs.Common.{◌≡◌, ◌⊎◌, inl, inr, ℕ, ◌<◌, ◌≤◌, Bool, IsTrue, List, ◌++◌, flat_map, length, AllPairs, Contains, refl, sym, ◌∙◌, subst, arith, ap, append_assoc}
-use Rattle.lethe_base.specs.History.{History}
-use Rattle.lethe_base.specs.Layout.{Layout, File, Written, place_of, buffer_of, frozen_records, runs_of, entries_of, files_of}
-use Rattle.lethe_base.specs.Held.{IsRecorded, InFiles, IsFiled, InBuffer, Holds, Shows}
-use Rattle.lethe_base.specs.NewerAbove.{IsOver, IsNewerAbove}
-use Rattle.lethe_base.specs.Covers.{Covers}
-use Rattle.lethe_base.specs.declared.entry.Entry.{Entry}
-use Rattle.lethe_base.specs.declared.pending.Pending.{Pending}
-use Rattle.lethe_base.proofs.HeldLaws.{shown_held, buffer_recorded}
-use Rattle.lethe_cover.specs.Moves.{files_in, Move, runs_before, runs_then, IsMove, Moves}
-use Rattle.lethe_cover.specs.Outcomes.{IsReplaced}
-use Rattle.lethe_cover.specs.Steps.{IsCounted}
+use Rattle.std.proofs.Common.{◌≡◌, ◌⊎◌, inl, inr, ℕ, ◌<◌, Bool, IsTrue, List, ◌++◌, flat_map, AllPairs, Contains, refl, sym, ◌∙◌, subst, arith, ap, append_assoc}
+use Rattle.lethe_cover.proofs.Common.{History, Layout, File, Written, buffer_of, frozen_records, runs_of, files_of, IsRecorded, InFiles, IsFiled, InBuffer, Holds, Shows, IsOver, IsNewerAbove, Covers, Entry, Pending, shown_held, buffer_recorded, files_in, Move, runs_before, IsMove, Moves, IsReplaced, IsCounted, ⊎_elim, ⊎_map}
 use Rattle.lethe_cover.proofs.Bridge.{entries_cover, parts_cover}
-use Rattle.std.proofs.Math.Logic.{⊎_elim, ⊎_map}
 use Rattle.lethe_cover.proofs.FilesInRuns.{in_more, files_left, files_right, files_cases, Falls, falls_from, falls_to, over_append, falls_left, falls_right, falls_append, runs_file, file_runs}
 use Rattle.lethe_cover.proofs.Replaced.{replaced_cover}
 
@@ -27,10 +16,7 @@ IsDrawn these those = (entry : Entry) → these entry → (from : Entry) × thos
 -- a file of two stretches of runs is in what becomes of these, or is one of the others
 joined : (a b c d : List (List File)) (others : List File) → ((file : File) → Contains (files_in a) file → Contains (files_in c) file ⊎ Contains others file)
     → ((file : File) → Contains (files_in b) file → Contains (files_in d) file ⊎ Contains others file) → (file : File) → Contains (files_in (a ++ b)) file → Contains (files_in (c ++ d)) file ⊎ Contains others file
-joined a b c d others first second file there = elim (files_cases a b file there) [
-  | inl left ↦ ⊎_map (files_left c d file) (λ is. is) (first file left)
-  | inr right ↦ ⊎_map (files_right c d file) (λ is. is) (second file right)
-]
+joined a b c d others first second file there = grind (arith, λ (t : Contains (files_in (a ++ b)) file). files_cases a b file t, first file, second file, files_left c d file, files_right c d file)
 
 -- the move alone, on runs that are in order
 module _ (alone : Bool) (m : Move) (moves : IsMove alone m) where

@@ -1,44 +1,16 @@
 -- Where inputs go and what is left of them comes, the entries say of the history what they said.
-use Rattle.std.proofs.Common.{◌≡◌, inl, inr, ℕ, ◌+◌, ◌-◌, ◌<◌, ◌≤◌, true, IsTrue, List, Option, Some, None, IsSomeAnd, option_and_then, sym, ◌∙◌, subst, arith, ◌⊎◌, Bool, false, cond, Contains, refl, ap}
+use Rattle.std.proofs.Common.{◌⊎◌, ◌≡◌, inl, inr, ℕ, ◌+◌, ◌-◌, ◌<◌, ◌≤◌, true, List, Option, Some, None, sym, ◌∙◌, subst, arith, false, Contains, refl, ap}
 use Rattle.lethe_base.specs.declared.entry.Body.TheVariants as body
 use Rattle.std.specs.FinMap as finmap
-use Rattle.lethe_base.specs.Keys.{Bytes}
-use Rattle.lethe_base.specs.History.{History, Change, change_at, Pair, after, clock_before}
-use Rattle.lethe_base.specs.Causes.{done_call, done_at, erases, erases_if, is_eraser, cause_of, IsErasedAt}
-use Rattle.lethe_base.specs.Ranges.{in_range, Ends}
-use Rattle.lethe_base.specs.Matching.{IsPut, matches, pair_under, answer_under}
-use Rattle.lethe_base.specs.Placed.{IsPlaced, IsAccepted}
-use Rattle.lethe_base.specs.declared.call.Call.{Call}
-use Rattle.lethe_base.specs.declared.call.Call.TheVariants.{Put, Erase}
-use Rattle.lethe_base.specs.declared.call.Did.{Did}
-use Rattle.lethe_base.specs.declared.call.Did.TheVariants.{Done, Failed}
-use Rattle.lethe_base.specs.declared.entry.Entry.{Entry}
-use Rattle.lethe_base.specs.declared.pending.Pending.{Pending}
-use Rattle.lethe_base.proofs.CauseLaws.{cause_by, cause_is_first, erased_by}
+use Rattle.lethe_cover.proofs.Common.{⊎_elim, IsKept, Bytes, History, Pair, after, clock_before, done_at, cause_of, IsErasedAt, Ends, IsPut, matches, pair_under, answer_under, IsPlaced, IsAccepted, Put, Erase, Entry, Pending, cause_by, cause_is_first, erased_by, EntriesCover, IsFrom, IsDropped, IsOutcome, IsApplied, IsReplaced, cases_lt, nat_tests, pair_of, IsNewest, IsCovered, IsNoErase, HasErase, IsFresh, Body}
 use Rattle.lethe_base.proofs.Overdue.{erased_is, no_erase}
-use Rattle.lethe_cover.specs.Outcomes.{EntriesCover, IsFrom, IsDropped, IsOutcome, IsApplied, IsReplaced}
-use Rattle.lethe_cover.proofs.Erasures.{any_match, match_parts, match_made, any_found, any_made, under_some, answer_applied}
-use Rattle.std.proofs.lemmas.Bool.{cases_lt}
-use Rattle.std.proofs.lemmas.Bool.Decides.{nat_tests}
-use Rattle.std.specs.List.{list_any}
-use Rattle.lethe_base.specs.Entries.{pair_of}
-use Rattle.lethe_base.specs.SameMap.{IsNewest}
-use Rattle.lethe_base.specs.Covered.{IsCovered, IsNoErase, HasErase}
-use Rattle.lethe_base.specs.Fresh.{IsFresh}
-use Rattle.lethe_base.specs.declared.entry.Body.{Body}
+use Rattle.lethe_cover.proofs.Erasures.{any_match, unstruck, match_parts, any_found, any_made, under_some, answer_applied}
 
--- an entry of the key is seen that is newer
-pub record IsHidden (shows : Entry → Type 0) (entry : Entry) : Type 0 where
-  pub above : Entry
-  pub shown : shows above
-  pub same : above.key ≡ entry.key
-  pub newer : entry.seq < above.seq
-
--- its cause isn't the erase, nor an earlier one, since it was swept of these: so the cause is no erase
-pub hidden : (threshold : ℕ) (h : History) (clock : ℕ) (holds : Entry → ℕ → Type 0) (shows : Entry → Type 0) (pending : List Pending) → EntriesCover threshold h clock holds shows pending
-    → (entry : Entry) (swept dkey : ℕ) (value : Bytes) (erase : Pending) → holds entry swept → entry.body ≡ body.Put dkey value → IsAccepted h erase
-    → matches erase entry.seq dkey ≡ true → erase.seq ≤ swept → IsHidden shows entry
-hidden threshold h clock holds shows pending covers entry swept dkey value erase held is accepted hit upto =
+-- a newest put wasn't swept of an erase that matches it: it was swept of no erase that is its cause, and what a delete ends is not newest
+pub unswept : (threshold : ℕ) (h : History) (clock : ℕ) (holds : Entry → ℕ → Type 0) (shows : Entry → Type 0) (pending : List Pending) → EntriesCover threshold h clock holds shows pending
+    → (entry : Entry) (swept dkey : ℕ) (value : Bytes) (erase : Pending) → IsNewest shows entry → holds entry swept → entry.body ≡ body.Put dkey value → IsAccepted h erase
+    → matches erase entry.seq dkey ≡ true → erase.seq ≤ swept → ⊥
+unswept threshold h clock holds shows pending covers entry swept dkey value erase newest held is accepted hit upto =
     let parts = match_parts erase entry.seq dkey hit in
     let put : IsPut entry.body = subst IsPut (sym is) tt in
     let placed : done_at h entry.seq ≡ Some (Put entry.key dkey value) = subst (IsPlaced h entry.seq entry.key) is (covers.places entry swept held) in
@@ -49,9 +21,8 @@ hidden threshold h clock holds shows pending covers entry swept dkey value erase
     elim (erased_is h first.key first.dkey cause.0 first.erases) [
       | inl deleted ↦
           let covered = covers.deletes_covered entry swept cause.0 held put cause.1 (no_erase h deleted.0 cause.0 deleted.1) in
-          record { above = covered.above; shown = covered.shown; same = covered.same; newer = covered.newer }
-      | inr by_range ↦
-          let unswept : swept < cause.0 = (covers.erases_covered entry swept cause.0 by_range.0 held put cause.1 by_range.1).1 in absurd (omega arith)
+          omega (arith, newest.last covered.above covered.shown covered.same, covered.newer)
+      | inr by_range ↦ omega (arith, (covers.erases_covered entry swept cause.0 by_range.0 held put cause.1 by_range.1).1)
     ]
 
 -- an erase that is the cause of a put matches it
@@ -75,9 +46,12 @@ placed_under h applied seq key (body.Put dkey value) body.Tomb accepted placed i
     let parts = match_parts found.0 seq dkey found.2 in
     inr (record { dkey = dkey; value = value; put = placed; place = found.0.seq; range = found.0.range; erase = (accepted found.0 found.1).done; later = parts.0; matched = parts.1 })
 
-put_of : (b : Body) → IsPut b → (pair : Pair) × (b ≡ body.Put pair.0 pair.1)
-put_of (body.Put dkey value) put = ((dkey, value), refl)
-put_of body.Tomb put = absurd put
+-- what covers an entry covers it then, unless it goes where the outputs are alone
+covered_then : (applied : List Pending) (Alone : Type 0) (inputs outputs shows shows_rest shows_then : Entry → Type 0)
+    → ((entry : Entry) → shows entry → shows_rest entry ⊎ inputs entry) → ((entry : Entry) → shows_rest entry → shows_then entry) → ((entry : Entry) → outputs entry → shows_then entry)
+    → ((input : Entry) → inputs input → IsKept Alone outputs input ⊎ IsDropped applied Alone inputs outputs input)
+    → (entry : Entry) (time : ℕ) → ((above : Entry) → above.key ≡ entry.key → entry.seq < above.seq → inputs above → Alone → ⊥) → IsCovered shows entry time → IsCovered shows_then entry time
+covered_then applied Alone inputs outputs shows shows_rest shows_then split stays comes kept entry time clear is = grind (arith, split is.above is.shown, kept is.above)
 
 module _ (threshold : ℕ) (h : History) (clock : ℕ) (pending applied : List Pending) (Alone : Type 0) (inputs outputs : Entry → Type 0) (swept : ℕ)
     (holds : Entry → ℕ → Type 0) (shows : Entry → Type 0) (holds_rest : Entry → ℕ → Type 0) (shows_rest : Entry → Type 0) (holds_then : Entry → ℕ → Type 0) (shows_then : Entry → Type 0)
@@ -91,24 +65,12 @@ module _ (threshold : ℕ) (h : History) (clock : ℕ) (pending applied : List P
         let found = any_found applied input.seq dkey any in
         elim (applies.sound found.0 input dkey value found.1 taken is found.2) [
           | inl there ↦ any_made pending input.seq dkey found.0 there found.2
-          | inr swept_of ↦
-              let above = hidden threshold h clock holds shows pending covers input swept_of.0 dkey value found.0 swept_of.1 is (applies.accepted found.0 found.1) found.2 swept_of.2 in
-              let last : above.above.seq ≤ input.seq = newest.last above.above above.shown above.same in
-              let newer : input.seq < above.above.seq = above.newer in absurd (omega arith)
+          | inr before ↦ absurd (unswept threshold h clock holds shows pending covers input before.0 dkey value found.0 newest before.1 is (applies.accepted found.0 found.1) found.2 before.2)
         ]
 
     -- what is newest then is newer than all that was seen of its key
     last_then : (entry : Entry) → IsNewest shows_then entry → (before : Entry) → shows before → before.key ≡ entry.key → before.seq ≤ entry.seq
-    last_then entry newest before shown same = elim (replaced.split before shown) [
-      | inl rest ↦ newest.last before (replaced.stays before rest) same
-      | inr taken ↦ elim (outcome.kept before taken) [
-        | inl kept ↦ omega (arith, newest.last kept.output (replaced.comes kept.output kept.made) (kept.same ∙ same), kept.newer)
-        | inr dropped ↦ elim (replaced.only entry newest.shown) [
-          | inl rest ↦ let held = replaced.rest_is_held entry rest in omega (arith, replaced.clear dropped.alone entry before held.0 held.1 taken (sym same))
-          | inr made ↦ absurd (dropped.none entry made (sym same))
-        ]
-      ]
-    ]
+    last_then entry newest before shown same = grind arith
 
     newest_then : (entry : Entry) → IsNewest shows_then entry → answer_under pending entry ≡ finmap.get (after h).map entry.key
     newest_then entry newest = elim (replaced.only entry newest.shown) [
@@ -125,30 +87,19 @@ module _ (threshold : ℕ) (h : History) (clock : ℕ) (pending applied : List P
     ]
 
     module _ (key : Bytes) (none : (entry : Entry) → shows_then entry → entry.key ≡ key → ⊥) where
+      dropped_newest : (entry : Entry) → entry.key ≡ key → (dropped : IsDropped applied Alone inputs outputs entry) → IsNewest shows dropped.newest
+      dropped_newest entry named dropped = grind (arith, dropped.is, replaced.inputs_shown dropped.newest, replaced.split, replaced.stays, none)
+
       -- what is dropped answered nothing
       nothing : (pair : Pair) → finmap.get (after h).map key ≡ Some pair → (entry : Entry) → entry.key ≡ key → IsDropped applied Alone inputs outputs entry → ⊥
       nothing pair got entry named dropped =
           let newest = dropped.newest in
-          let was : IsNewest shows newest = record {
-            shown = replaced.inputs_shown newest dropped.is.shown;
-            last = λ before shown same. elim (replaced.split before shown) [
-              | inl rest ↦ absurd (none before (replaced.stays before rest) (same ∙ dropped.same ∙ named))
-              | inr taken ↦ dropped.is.last before taken same
-            ];
-          } in
+          let was = dropped_newest entry named dropped in
           let some = under_some pending newest.seq newest.body pair (covers.same_map.newest newest was ∙ ap (finmap.get (after h).map) (dropped.same ∙ named) ∙ got) in
-          let struck : any_match applied newest.seq pair.0 ≡ true = grind (arith, dropped.nothing, some) in
-          let hit = pends newest was dropped.is.shown pair.0 pair.1 some.0 struck in
-          let clash : true ≡ false = sym hit ∙ some.1 in cc
+          grind (arith, dropped.nothing, some, pends newest was dropped.is.shown pair.0 pair.1)
 
       gone : (pair : Pair) → finmap.get (after h).map key ≡ Some pair → (entry : Entry) → shows entry → entry.key ≡ key → ⊥
-      gone pair got entry shown named = elim (replaced.split entry shown) [
-        | inl rest ↦ none entry (replaced.stays entry rest) named
-        | inr taken ↦ elim (outcome.kept entry taken) [
-          | inl kept ↦ none kept.output (replaced.comes kept.output kept.made) (kept.same ∙ named)
-          | inr dropped ↦ nothing pair got entry named dropped
-        ]
-      ]
+      gone pair got entry shown named = grind (arith, nothing pair got entry named)
 
       absent_then : finmap.get (after h).map key ≡ None
       absent_then = by (finmap.get (after h).map key) refl
@@ -165,78 +116,50 @@ module _ (threshold : ℕ) (h : History) (clock : ℕ) (pending applied : List P
         let placed = placed_under h applied from.input.seq from.input.key from.input.body output.body applies.accepted (covers.places from.input held.0 held.1) from.answer in
         subst (λ key. IsPlaced h output.seq key output.body) from.same (subst (λ seq. IsPlaced h seq from.input.key output.body) from.place placed)
 
-    -- an output that is a put has a source that is that put, which no erase matches
-    record IsSame (output : Entry) : Type 0 where
-      from : IsFrom applied inputs output
-      pair : Pair
-      is : from.input.body ≡ body.Put pair.0 pair.1
-      put : IsPut from.input.body
-      free : any_match applied from.input.seq pair.0 ≡ false
-      upto : ℕ
-      held : holds from.input upto
-
-    source_put : (output : Entry) → outputs output → IsPut output.body → IsSame output
-    source_put output made put =
-        let from = outcome.source output made in
-        let own = put_of output.body put in
-        let some = under_some applied from.input.seq from.input.body own.0 (sym from.answer ∙ ap pair_of own.1) in
-        let held = covers.held from.input (replaced.inputs_shown from.input from.newest.shown) in
-        record { from = from; pair = own.0; is = some.0; put = subst IsPut (sym some.0) tt; free = some.1; upto = held.0; held = held.1 }
-
-    -- what covers an entry that stays, or the source of an output, or what is left of that, covers it then
-    covered_then : (entry : Entry) (time : ℕ) → ((above : Entry) → above.key ≡ entry.key → entry.seq < above.seq → inputs above → Alone → ⊥) → IsCovered shows entry time → IsCovered shows_then entry time
-    covered_then entry time clear is = elim (replaced.split is.above is.shown) [
-      | inl rest ↦ record { above = is.above; shown = replaced.stays is.above rest; same = is.same; newer = is.newer; since = is.since; has = is.has; old = is.old }
-      | inr taken ↦ elim (outcome.kept is.above taken) [
-        | inr dropped ↦ absurd (clear is.above is.same is.newer taken dropped.alone)
-        | inl kept ↦ elim (kept.since is.since is.has) [
-          | inl alone ↦ absurd (clear is.above is.same is.newer taken alone)
-          | inr least ↦
-              record { above = kept.output; shown = replaced.comes kept.output kept.made; same = kept.same ∙ is.same; newer = omega arith; since = least.0; has = least.1; old = omega arith }
-        ]
-      ]
-    ]
+    -- an output that is a put has a source that is a put, which no erase matches
+    source_put : (output : Entry) (from : IsFrom applied inputs output) → IsPut output.body → IsPut from.input.body
+    source_put output from put = subst IsPut (sym (unstruck applied from.input.seq from.input.body output.body from.answer put).2) tt
 
     deletes_then : (entry : Entry) (upto cause : ℕ) → holds_then entry upto → IsPut entry.body → cause_of h entry.seq ≡ Some cause → IsNoErase h cause → IsCovered shows_then entry (clock_before h cause)
     deletes_then entry upto cause held put is no_erase = elim (replaced.only_held entry upto held) [
-      | inl rest ↦ covered_then entry (clock_before h cause)
-          (λ above same newer taken alone. let over = replaced.clear alone entry above upto rest taken (sym same) in omega arith)
+      | inl rest ↦ still (λ above same newer taken alone. let over = replaced.clear alone entry above upto rest taken (sym same) in omega arith)
           (covers.deletes_covered entry upto cause (replaced.rest_held entry upto rest) put is no_erase)
       | inr made ↦
-          let source = source_put entry made.0 put in
-          let from = source.from in
-          let old = covers.deletes_covered from.input source.upto cause source.held source.put (ap (cause_of h) from.place ∙ is) no_erase in
-          covered_then entry (clock_before h cause)
-              (λ above same newer taken alone. omega (arith, from.newest.last above taken (same ∙ sym from.same), from.place, newer))
-              (record { above = old.above; shown = old.shown; same = old.same ∙ from.same; newer = omega arith; since = old.since; has = old.has; old = old.old })
+          let from = outcome.source entry made.0 in
+          let held = covers.held from.input (replaced.inputs_shown from.input from.newest.shown) in
+          let old = covers.deletes_covered from.input held.0 cause held.1 (source_put entry from put) (ap (cause_of h) from.place ∙ is) no_erase in
+          still (λ above same newer taken alone. omega (arith, from.newest.last above taken (same ∙ sym from.same), from.place, newer))
+          (record { above = old.above; shown = old.shown; same = old.same ∙ from.same; newer = omega arith; since = old.since; has = old.has; old = old.old })
     ]
+      where
+        still : ((above : Entry) → above.key ≡ entry.key → entry.seq < above.seq → inputs above → Alone → ⊥) → IsCovered shows entry (clock_before h cause) → IsCovered shows_then entry (clock_before h cause)
+        still = covered_then applied Alone inputs outputs shows shows_rest shows_then replaced.split replaced.stays replaced.comes outcome.kept entry (clock_before h cause)
 
     -- a pending erase up to that place is applied, so that a put of which it is the cause becomes a tombstone, or the input was swept of it
-    unmatched : (output : Entry) (source : IsSame output) (range : Ends) (erase : Pending) → cause_of h source.from.input.seq ≡ Some erase.seq → done_at h erase.seq ≡ Some (Erase range) → Contains pending erase → erase.seq ≤ swept → ⊥
-    unmatched output source range erase is erased there upper =
-        let input = source.from.input in
-        elim (applies.complete erase input there upper source.from.newest.shown) [
+    unmatched : (output : Entry) (from : IsFrom applied inputs output) → IsPut output.body → (range : Ends) (erase : Pending) → cause_of h from.input.seq ≡ Some erase.seq → done_at h erase.seq ≡ Some (Erase range)
+        → Contains pending erase → erase.seq ≤ swept → ⊥
+    unmatched output from put range erase is erased there upper =
+        let input = from.input in
+        elim (applies.complete erase input there upper from.newest.shown) [
           | inl among ↦
-              let put = subst (IsPlaced h input.seq input.key) source.is (covers.places input source.upto source.held) in
-              let hit = match_of h input.seq input.key source.pair.0 source.pair.1 erase put is (applies.accepted erase among) in
-              let clash : true ≡ false = sym (any_made applied input.seq source.pair.0 erase among hit) ∙ source.free in cc
-          | inr before ↦ omega (arith, before.2, (covers.erases_covered input before.0 erase.seq range before.1 source.put is erased).1)
+              let own = unstruck applied input.seq input.body output.body from.answer put in
+              let held = covers.held input (replaced.inputs_shown input from.newest.shown) in
+              let hit = match_of h input.seq input.key own.0 own.1 erase (subst (IsPlaced h input.seq input.key) own.2 (covers.places input held.0 held.1)) is (applies.accepted erase among) in
+              let clash : true ≡ false = sym (any_made applied input.seq own.0 erase among hit) ∙ own.3 in cc
+          | inr before ↦ omega (arith, before.2, (covers.erases_covered input before.0 erase.seq range before.1 (source_put output from put) is erased).1)
         ]
 
     erases_then : (entry : Entry) (upto cause : ℕ) (range : Ends) → holds_then entry upto → IsPut entry.body → cause_of h entry.seq ≡ Some cause → done_at h cause ≡ Some (Erase range) → HasErase pending cause × (upto < cause)
     erases_then entry upto cause range held put is erased = elim (replaced.only_held entry upto held) [
       | inl rest ↦ covers.erases_covered entry upto cause range (replaced.rest_held entry upto rest) put is erased
       | inr made ↦
-          let source = source_put entry made.0 put in
-          let there : cause_of h source.from.input.seq ≡ Some cause = ap (cause_of h) source.from.place ∙ is in
-          let old = covers.erases_covered source.from.input source.upto cause range source.held source.put there erased in
-          let erase = old.0.0 in
-          let at : erase.seq ≡ cause = old.0.2 in
-          let lower : swept < cause = elim (cases_lt swept cause) [
-            | inl lower ↦ lower
-            | inr upper ↦ absurd (unmatched entry source range erase (there ∙ ap Some (sym at)) (ap (done_at h) at ∙ erased) old.0.1 (omega arith))
-          ] in
-          (old.0, omega (arith, made.1))
+          let from = outcome.source entry made.0 in
+          let held = covers.held from.input (replaced.inputs_shown from.input from.newest.shown) in
+          let there : cause_of h from.input.seq ≡ Some cause = ap (cause_of h) from.place ∙ is in
+          let has = (covers.erases_covered from.input held.0 cause range held.1 (source_put entry from put) there erased).0 in
+          let at : has.0.seq ≡ cause = has.2 in
+          let low = unmatched entry from put range has.0 (there ∙ ap Some (sym at)) (ap (done_at h) at ∙ erased) has.1 in
+          (has, ⊎_elim (λ lower. omega (arith, made.1)) (λ upper. absurd (low (omega arith))) (cases_lt swept cause))
     ]
 
     fresh_then : (entry : Entry) (upto since : ℕ) → holds_then entry upto → entry.since ≡ Some since → IsFresh threshold h clock since
@@ -254,10 +177,7 @@ module _ (threshold : ℕ) (h : History) (clock : ℕ) (pending applied : List P
     pub replaced_cover : EntriesCover threshold h clock holds_then shows_then pending
     replaced_cover = record {
       held = replaced.is_held;
-      places = λ entry upto held. elim (replaced.only_held entry upto held) [
-        | inl rest ↦ covers.places entry upto (replaced.rest_held entry upto rest)
-        | inr made ↦ placed_output entry made.0
-      ];
+      places = λ entry upto held. ⊎_elim (λ rest. covers.places entry upto (replaced.rest_held entry upto rest)) (λ made. placed_output entry made.0) (replaced.only_held entry upto held);
       same_map = record { newest = newest_then; absent = absent_then };
       deletes_covered = deletes_then;
       erases_covered = erases_then;

@@ -1,25 +1,12 @@
 -- Erases that are spent may come back to the pending ones.
-use Rattle.std.proofs.Common.{◌≡◌, inl, inr, ℕ, ◌<◌, ◌≤◌, true, List, Contains, Some, refl, sym, ap, ◌∙◌, subst, arith}
+use Rattle.std.proofs.Common.{◌≡◌, inl, inr, ℕ, true, List, Contains, refl, sym, ◌∙◌, subst, arith}
 use Rattle.std.specs.Cmp.{both_ways}
-use Rattle.std.proofs.Math.Logic.{⊎_elim}
-use Rattle.lethe_base.specs.Keys.{Bytes}
-use Rattle.lethe_base.specs.History.{Pair, History}
-use Rattle.lethe_base.specs.Matching.{IsPut, matches, pair_under, answer_under}
-use Rattle.lethe_base.specs.Layout.{Layout}
-use Rattle.lethe_base.specs.Held.{Holds, Shows}
+use Rattle.lethe_cover.proofs.Common.{EntriesCover, ⊎_elim, Bytes, History, IsPut, matches, answer_under, Layout, Holds, Shows, IsAccepted, IsNewest, IsFresh, Covers, Entry, Pending, shown_held}
 use Rattle.lethe_base.specs.Spent.{IsSpent, IsShorter}
-use Rattle.lethe_base.specs.Placed.{IsAccepted}
-use Rattle.lethe_base.specs.SameMap.{IsNewest}
-use Rattle.lethe_base.specs.Fresh.{IsFresh}
-use Rattle.lethe_base.specs.Covers.{Covers}
-use Rattle.lethe_base.specs.declared.entry.Body.{Body}
 use Rattle.lethe_base.specs.declared.entry.Body.TheVariants as body
-use Rattle.lethe_base.specs.declared.entry.Entry.{Entry}
-use Rattle.lethe_base.specs.declared.pending.Pending.{Pending}
-use Rattle.lethe_base.proofs.HeldLaws.{shown_held}
-use Rattle.lethe_cover.proofs.Bridge.{entries_cover, same_order}
+use Rattle.lethe_cover.proofs.Bridge.{entries_cover, layout_covers, same_order}
 use Rattle.lethe_cover.proofs.Erasures.{any_match, any_found, any_made, match_parts}
-use Rattle.lethe_cover.proofs.Replaced.{hidden}
+use Rattle.lethe_cover.proofs.Replaced.{unswept}
 
 module _ (threshold : ℕ) (h : History) (l : Layout) (pending : List Pending) (covers : Covers threshold h (record l { pending = pending })) (shorter : IsShorter l pending)
     (accepted : (erase : Pending) → Contains l.pending erase → IsAccepted h erase × IsFresh threshold h l.clock erase.time)
@@ -32,9 +19,8 @@ module _ (threshold : ℕ) (h : History) (l : Layout) (pending : List Pending) (
         elim held.1 [
           | inl recorded ↦ omega (arith, spent.segments entry recorded.0 (subst IsPut (sym is) tt), (match_parts erase entry.seq dkey hit).0)
           | inr filed ↦
-              let above = hidden threshold h l.clock (Holds l) (Shows l) pending (entries_cover threshold h (record l { pending = pending }) covers)
-                  entry filed.0.file.swept dkey value erase (inr (filed.0, refl)) is done hit (spent.files filed.0.file filed.0.there) in
-              omega (arith, newest.last above.above above.shown above.same, above.newer)
+              unswept threshold h l.clock (Holds l) (Shows l) pending (entries_cover threshold h (record l { pending = pending }) covers)
+              entry filed.0.file.swept dkey value erase newest (inr (filed.0, refl)) is done hit (spent.files filed.0.file filed.0.there)
         ]
 
     same_any : (entry : Entry) → IsNewest (Shows l) entry → (dkey : ℕ) (value : Bytes) → entry.body ≡ body.Put dkey value → any_match l.pending entry.seq dkey ≡ any_match pending entry.seq dkey
@@ -48,31 +34,22 @@ module _ (threshold : ℕ) (h : History) (l : Layout) (pending : List Pending) (
     same_answer : (entry : Entry) → IsNewest (Shows l) entry → answer_under l.pending entry ≡ answer_under pending entry
     same_answer entry newest = grind (arith, same_any entry newest)
 
-    pub returned_covers : Covers threshold h l
-    returned_covers = record {
-      places = record {
-        entries = covers.places.entries;
-        erases = λ erase. ⊎_elim (λ there. (accepted erase there).0) (λ recorded. covers.places.erases erase (inr recorded));
-      };
-      newer_above = same_order (record l { pending = pending }) l.clock l.count l.next l.certificate l.pending covers.newer_above;
-      same_map = record {
-        newest = λ entry newest. same_answer entry newest ∙ covers.same_map.newest entry newest;
-        absent = covers.same_map.absent;
-      };
+    returned_entries : EntriesCover threshold h l.clock (Holds l) (Shows l) l.pending
+    returned_entries = record {
+      held = shown_held l;
+      places = covers.places.entries;
+      same_map = record { newest = λ entry newest. same_answer entry newest ∙ covers.same_map.newest entry newest; absent = covers.same_map.absent };
       deletes_covered = covers.deletes_covered;
-      erases_covered = record {
-        pending = λ entry swept cause range held put is at.
-            let old = covers.erases_covered.pending entry swept cause range held put is at in
-            let has = old.0 in
-            ((has.0, shorter.known has.0 has.1, has.2), old.1);
-        swept = covers.erases_covered.swept;
-        unswept = λ file erase entry there among unswept spelled. elim (shorter.spent erase among) [
-          | inl old ↦ covers.erases_covered.unswept file erase entry there old unswept spelled
-          | inr spent ↦ let upto : erase.seq ≤ file.swept = spent.files file there in absurd (omega arith)
-        ];
-      };
-      times_fresh = record {
-        entries = covers.times_fresh.entries;
-        erases = λ erase. ⊎_elim (λ there. (accepted erase there).1) (λ recorded. covers.times_fresh.erases erase (inr recorded));
-      };
+      erases_covered = λ entry swept cause range held put is at.
+          let old = covers.erases_covered.pending entry swept cause range held put is at in
+          let has = old.0 in
+          ((has.0, shorter.known has.0 has.1, has.2), old.1);
+      times_fresh = covers.times_fresh.entries;
     }
+
+    pub returned_covers : Covers threshold h l
+    returned_covers = layout_covers threshold h l returned_entries (same_order (record l { pending = pending }) l.clock l.count l.next l.certificate l.pending covers.newer_above)
+        (λ erase. ⊎_elim (accepted erase) (λ recorded. (covers.places.erases erase (inr recorded), covers.times_fresh.erases erase (inr recorded))))
+        covers.erases_covered.swept
+        (λ file erase entry there among unswept spelled. ⊎_elim (λ old. covers.erases_covered.unswept file erase entry there old unswept spelled)
+        (λ spent. omega (arith, spent.files file there)) (shorter.spent erase among))

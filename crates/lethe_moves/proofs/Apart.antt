@@ -11,7 +11,7 @@ use Rattle.lethe_base.specs.declared.shape.FileFacts.{FileFacts}
 use Rattle.lethe_base.proofs.LayoutLaws.{none_in}
 use Rattle.lethe_base.proofs.Newest.{first_or_rest}
 use Rattle.lethe_cover.specs.Moves.{IsApart}
-use Rattle.lethe_cover.proofs.Merging.{in_map}
+use Rattle.lethe_cover.proofs.FilesInRuns.{in_map}
 use Rattle.lethe_fade.specs.Spans.{KeyRange, range_of, overlaps, joined, hull}
 use Rattle.lethe_fade.proofs.MeetingLaws.{key_upto}
 use Rattle.lethe_moves.specs.Files.{IsTiled, IsWithin, IsClearOf, keys_of, hull_of_files}

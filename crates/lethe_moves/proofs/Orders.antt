@@ -11,7 +11,7 @@ use Rattle.lethe_base.proofs.LayoutLaws.{none_in}
 use Rattle.lethe_base.proofs.Newest.{first_or_rest, first_is}
 use Rattle.lethe_cover.specs.Moves.{files_in}
 use Rattle.lethe_cover.proofs.FilesInRuns.{map_from, flat_in, flat_from}
-use Rattle.lethe_cover.proofs.Merging.{in_map}
+use Rattle.lethe_cover.proofs.FilesInRuns.{in_map}
 use Rattle.lethe_moves.specs.Files.{IsTiled}
 use Rattle.lethe_moves.specs.Merges.{IsBelow}
 use Rattle.lethe_moves.specs.Ordered.{IsOrdered}
@@ -118,8 +118,8 @@ ordered_with l levels ordered order = let facts : List FileFacts = all_files (sh
     deepest =
         let last = last_facts 0 levels in
         subst (All IsBare) (sym (last_is (facts_from 0 levels) ∙ last.1)) (all_from IsBare (map (facts_of last.0) (last_of levels)) (λ fact there.
-            let file = map_from (facts_of last.0) (last_of levels) fact there in
-            subst IsBare file.2 (order.bare file.0 file.1)));
+        let file = map_from (facts_of last.0) (last_of levels) fact there in
+        subst IsBare file.2 (order.bare file.0 file.1)));
     places = ordered.shape.places;
     times = ordered.shape.times;
   };
@@ -191,10 +191,10 @@ module _ (above : List (List File)) (before gone behind : List File) (deeper : L
     ];
     numbers = subst (Pairs IsOther) (sym (flat made)) (spliced IsOther (files_in above ++ before) gone made (behind ++ files_in deeper) (subst (Pairs IsOther) (flat gone) order.numbers) fit.numbers
         (λ old new left right same.
-            let lower : old.no < new.no = fit.new new old right (subst (λ files. Contains files old) (sym (flat gone)) (Contains-append_left (files_in above ++ before) (gone ++ (behind ++ files_in deeper)) old left)) in omega arith)
+        let lower : old.no < new.no = fit.new new old right (subst (λ files. Contains files old) (sym (flat gone)) (Contains-append_left (files_in above ++ before) (gone ++ (behind ++ files_in deeper)) old left)) in omega arith)
         (λ new old left right same.
-            let lower : old.no < new.no = fit.new new old left (subst (λ files. Contains files old) (sym (flat gone))
-                (Contains-append_right (files_in above ++ before) (gone ++ (behind ++ files_in deeper)) old (Contains-append_right gone (behind ++ files_in deeper) old right))) in omega arith));
+        let lower : old.no < new.no = fit.new new old left (subst (λ files. Contains files old) (sym (flat gone))
+        (Contains-append_right (files_in above ++ before) (gone ++ (behind ++ files_in deeper)) old (Contains-append_right gone (behind ++ files_in deeper) old right))) in omega arith));
     below = λ level there. elim (behind_cases above level_then deeper level there) [
       | inl higher ↦ order.below level (behind_above above ((before ++ (gone ++ behind)) ∷ deeper) level higher)
       | inr rest ↦ elim rest [

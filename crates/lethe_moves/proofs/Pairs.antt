@@ -5,7 +5,7 @@ use Rattle.std.proofs.lemmas.List.Kept.{AllPairs-cons}
 use Rattle.lethe_base.proofs.LayoutLaws.{none_in}
 use Rattle.lethe_base.proofs.Newest.{first_or_rest, first_is}
 use Rattle.lethe_cover.proofs.FilesInRuns.{map_from}
-use Rattle.lethe_cover.proofs.Merging.{in_map}
+use Rattle.lethe_cover.proofs.FilesInRuns.{in_map}
 
 pub in_rest : {X : Type 0} (x : X) (xs : List X) (y : X) → Contains xs y → Contains (x ∷ xs) y
 in_rest x xs y there = Contains-append_right (x ∷ []) xs y there

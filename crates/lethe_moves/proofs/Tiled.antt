@@ -29,10 +29,10 @@ each_once (tile ∷ tiles) bounded pairs =
     pairs_append HasOtherKey (entries_in tile) (flat_map entries_in tiles) (pairs_from HasOtherKey (entries_in tile) own.once)
     (each_once tiles (λ other there. bounded other (in_rest tile tiles other there)) pairs.1)
     (λ entry other left right same.
-        let found = flat_from entries_in tiles other right in
-        let high = (All-contains (λ entry. IsWithin tile.lo tile.hi entry.key) (entries_in tile) entry own.within left).1 in
-        let low = (All-contains (λ entry. IsWithin found.0.lo found.0.hi entry.key) (entries_in found.0) other (bounded found.0 (in_rest tile tiles found.0 found.1)).within found.2).0 in
-        not_less tile.hi found.0.lo (pairs.0 found.0 found.1) (key_upto found.0.lo other.key tile.hi low (subst (λ key. IsUpto key tile.hi) same high)))
+    let found = flat_from entries_in tiles other right in
+    let high = (All-contains (λ entry. IsWithin tile.lo tile.hi entry.key) (entries_in tile) entry own.within left).1 in
+    let low = (All-contains (λ entry. IsWithin found.0.lo found.0.hi entry.key) (entries_in found.0) other (bounded found.0 (in_rest tile tiles found.0 found.1)).within found.2).0 in
+    not_less tile.hi found.0.lo (pairs.0 found.0 found.1) (key_upto found.0.lo other.key tile.hi low (subst (λ key. IsUpto key tile.hi) same high)))
 
 one_of_key : (entries : List Entry) → Pairs HasOtherKey entries → (entry other : Entry) → Contains entries entry → Contains entries other → entry.key ≡ other.key → entry ≡ other
 one_of_key [] pairs entry other left right same = absurd (none_in entry left)
