@@ -19,8 +19,8 @@ use Rattle.lethe_base.proofs.LayoutLaws.{none_in}
 use Rattle.lethe_base.proofs.Newest.{first_or_rest}
 use Rattle.lethe_base.proofs.Overdue.{none_overdue}
 use Rattle.lethe_cover.proofs.Bridge.{same_order}
-use Rattle.lethe_cover.proofs.ByKey.{IsBy, by_left, by_right}
-use Rattle.lethe_cover.proofs.Merging.{in_map}
+use Rattle.lethe_cover.proofs.FilesInRuns.{in_map}
+use Rattle.lethe_cover.proofs.Merging.{IsBy}
 use Rattle.lethe_fade.specs.LevelTimes.{level_deadline}
 use Rattle.lethe_fade.proofs.Powers.{deadlines_rise}
 use Rattle.lethe_moves.specs.Due.{HasNothingDue, IsExpired}
@@ -31,8 +31,7 @@ use Rattle.lethe_moves.proofs.Orders.{last_of, order_from}
 -- the least time of some entries is at most that of each
 oldest_by : (entries : List Entry) (entry : Entry) (time : ℕ) → Contains entries entry → entry.since ≡ Some time → IsBy (oldest_of entries) time
 oldest_by [] entry time there has = absurd (none_in entry there)
-oldest_by (first ∷ entries) entry time there has = ⊎_elim (λ (same : first ≡ entry). by_left first.since (oldest_of entries) time (ap (λ e. e.since) same ∙ has))
-    (λ rest. by_right first.since (oldest_of entries) time (oldest_by entries entry time rest has)) (first_or_rest first entries entry there)
+oldest_by (first ∷ entries) entry time there has = ⊎_elim (λ (same : first ≡ entry). grind arith) (λ rest. let more = oldest_by entries entry time rest has in grind arith) (first_or_rest first entries entry there)
 
 -- a file of levels, the first of which has that number, has facts among those above the last, or is in the last
 file_level : (first : ℕ) (levels : List (List File)) (file : File) → Contains (flat_map (λ files. files) levels) file
