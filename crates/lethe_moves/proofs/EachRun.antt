@@ -1,28 +1,19 @@
 -- Each run of a store ends in a layout that follows its history.
 use Rattle.std.proofs.Common.{◌≡◌, inl, inr, ℕ, ◌+◌, ◌<◌, ◌≤◌, Bool, true, false, List, [], ◌∷◌, ◌++◌, filter, length, AllPairs, get_or, Contains, Option, refl, ◌⊎◌, sym, ap, ◌∙◌, arith}
-use Rattle.std.proofs.Math.Logic.{⊎_elim}
+use Rattle.lethe_cover.proofs.Common.{⊎_elim, Contains-push_cases, Covers, History, after, done, File, Layout, Record, Ends, Call, Done, Pending, after-push, none_in, first_or_rest, first_is, IsCounted, with_done, accepted}
 use Rattle.std.proofs.lemmas.Bool.{cond_both}
 use Rattle.std.proofs.lemmas.List.{length-append, length-replicate}
-use Rattle.std.proofs.lemmas.List.Elements.{All-contains, All-contains_itself, All-filter, Contains-get_or, Contains-push_cases}
+use Rattle.std.proofs.lemmas.List.Elements.{All-contains, All-contains_itself, All-filter, Contains-get_or}
 use Rattle.std.proofs.lemmas.List.Kept.{AllPairs-filter}
 use Rattle.std.proofs.lemmas.List.Quantifiers.{all_pairs_push}
 use Rattle.lethe_base.specs.Configuration.{IsConfig}
-use Rattle.lethe_base.specs.Covers.{Covers}
-use Rattle.lethe_base.specs.History.{History, after, done}
-use Rattle.lethe_base.specs.Layout.{File, Layout, Record, new_layout}
-use Rattle.lethe_base.specs.Ranges.{Ends}
+use Rattle.lethe_base.specs.Layout.{new_layout}
 use Rattle.lethe_base.specs.Spent.{IsSpent, IsShorter}
-use Rattle.lethe_base.specs.declared.call.Call.{Call}
 use Rattle.lethe_base.specs.declared.call.Call.TheVariants as call
-use Rattle.lethe_base.specs.declared.call.Did.TheVariants.{Done}
 use Rattle.lethe_base.specs.declared.config.Fields.{Fields}
-use Rattle.lethe_base.specs.declared.pending.Pending.{Pending}
-use Rattle.lethe_base.proofs.Histories.{after-push}
-use Rattle.lethe_base.proofs.LayoutLaws.{none_in, no_file, new_covers, new_is_valid}
-use Rattle.lethe_base.proofs.Newest.{first_or_rest, first_is}
+use Rattle.lethe_base.proofs.LayoutLaws.{no_file, new_covers, new_is_valid}
 use Rattle.lethe_base.proofs.Shorter.{shorter_covers}
 use Rattle.lethe_cover.specs.Flushes.{with_newest}
-use Rattle.lethe_cover.specs.Steps.{IsCounted, with_done, accepted}
 use Rattle.lethe_cover.proofs.Bridge.{numbered_covers}
 use Rattle.lethe_cover.proofs.Entered.{put_covers, delete_covers}
 use Rattle.lethe_cover.proofs.Frozen.{freeze_covers}

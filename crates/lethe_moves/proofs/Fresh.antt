@@ -1,22 +1,12 @@
 -- Where nothing is due, nothing that is remembered is a threshold old, and no put that is held is overdue.
-use Rattle.std.proofs.Common.{◌≡◌, ◌⊎◌, inl, inr, ℕ, ◌+◌, ◌-◌, ◌<◌, ◌≤◌, List, [], ◌∷◌, map, flat_map, length, Contains, Some, None, IsSomeAnd, refl, sym, ap, ◌∙◌, subst, arith}
-use Rattle.std.proofs.Math.Logic.{⊎_elim, ⊎_map}
-use Rattle.std.proofs.lemmas.Bool.{cases_lt}
-use Rattle.std.proofs.lemmas.List.Elements.{All-contains, Contains-append_left, Contains-append_right, Contains-append_cases}
+use Rattle.std.proofs.Common.{◌≡◌, ◌⊎◌, inl, inr, ℕ, ◌+◌, ◌-◌, ◌<◌, ◌≤◌, List, [], ◌∷◌, map, flat_map, length, Contains, Some, None, IsSomeAnd, refl, sym, ◌∙◌, subst, arith}
+use Rattle.lethe_cover.proofs.Common.{⊎_elim, ⊎_map, cases_lt, Contains-append_left, Contains-append_right, Covers, IsFresh, AreFresh, Holds, Tells, History, File, Layout, Written, Erasing, entries_of, IsPut, Entry, none_in, first_or_rest}
+use Rattle.std.proofs.lemmas.List.Elements.{All-contains, Contains-append_cases}
 use Rattle.lethe_base.specs.Causes.{IsOverdue}
 use Rattle.lethe_base.specs.Configuration.{IsConfig}
-use Rattle.lethe_base.specs.Covers.{Covers}
-use Rattle.lethe_base.specs.Fresh.{IsFresh, AreFresh}
-use Rattle.lethe_base.specs.Held.{Holds, Tells}
-use Rattle.lethe_base.specs.History.{History}
-use Rattle.lethe_base.specs.Layout.{File, Layout, Written, Erasing, entries_of}
-use Rattle.lethe_base.specs.Matching.{IsPut}
 use Rattle.lethe_base.specs.Shapes.{all_files, facts_from, facts_of, oldest_of, shape_of}
 use Rattle.lethe_base.specs.declared.config.Fields.{Fields}
-use Rattle.lethe_base.specs.declared.entry.Entry.{Entry}
 use Rattle.lethe_base.specs.declared.shape.FileFacts.{FileFacts}
-use Rattle.lethe_base.proofs.LayoutLaws.{none_in}
-use Rattle.lethe_base.proofs.Newest.{first_or_rest}
 use Rattle.lethe_base.proofs.Overdue.{none_overdue}
 use Rattle.lethe_cover.proofs.Bridge.{same_order}
 use Rattle.lethe_cover.proofs.FilesInRuns.{in_map}

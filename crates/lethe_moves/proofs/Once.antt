@@ -1,10 +1,7 @@
 -- No run has a key twice.
 use Rattle.std.proofs.Common.{◌≡◌, ◌⊎◌, inl, inr, List, [], ◌∷◌, map, Contains, sym, ◌∙◌, subst}
-use Rattle.std.proofs.Math.Logic.{⊎_elim}
+use Rattle.lethe_cover.proofs.Common.{⊎_elim, File, Layout, runs_of, entries_of, none_in, first_or_rest}
 use Rattle.std.proofs.lemmas.List.Elements.{Contains-append_cases}
-use Rattle.lethe_base.specs.Layout.{File, Layout, runs_of, entries_of}
-use Rattle.lethe_base.proofs.LayoutLaws.{none_in}
-use Rattle.lethe_base.proofs.Newest.{first_or_rest}
 use Rattle.lethe_cover.specs.Reads.{AreOnce}
 use Rattle.lethe_cover.proofs.FilesInRuns.{map_from, flat_in, runs_file}
 use Rattle.lethe_moves.specs.Files.{IsTiled}

@@ -1,20 +1,12 @@
 -- The merge of the entries that reads see between two keys has the map's pairs between them.
 use Rattle.std.proofs.Common.{◌≡◌, inl, inr, ℕ, true, cond, IsTrue, List, filter, Contains, Option, Some, None, option_and_then, refl, sym, ap, ◌∙◌, subst}
-use Rattle.std.specs.Cmp.Lexicographic.{nat_list_cmp_total}
+use Rattle.lethe_cover.proofs.Common.{nat_list_cmp_total, entry_of, pair_of, History, Map, after, Bytes, key_cmp, Layout, Shows, IsNewest, Covers, Entry, IsOutcome}
 use Rattle.std.specs.FinMap as finmap
 use Rattle.std.specs.FinMap.Entries.{is_sorted-where_key, find-where_key, same_entries}
 use Rattle.std.proofs.lemmas.Bool.{cond_both}
-use Rattle.lethe_base.specs.Entries.{entry_of, pair_of, shown}
-use Rattle.lethe_base.specs.History.{History, Map, after}
-use Rattle.lethe_base.specs.Keys.{Bytes, key_cmp}
-use Rattle.lethe_base.specs.Layout.{Layout}
-use Rattle.lethe_base.specs.Held.{Shows}
+use Rattle.lethe_base.specs.Entries.{shown}
 use Rattle.lethe_base.specs.Read.{is_between}
-use Rattle.lethe_base.specs.SameMap.{IsNewest}
-use Rattle.lethe_base.specs.Covers.{Covers}
-use Rattle.lethe_base.specs.declared.entry.Entry.{Entry}
 use Rattle.lethe_base.proofs.Newest.{newest_shown}
-use Rattle.lethe_cover.specs.Outcomes.{IsOutcome}
 use Rattle.lethe_cover.proofs.ByKey.{entry_in, no_entry}
 use Rattle.lethe_cover.proofs.Merging.{merged_outcome}
 use Rattle.lethe_mem.specs.Pairs.{pairs_of}
