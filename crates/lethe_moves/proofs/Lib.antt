@@ -10,3 +10,7 @@ pub mod Flushing
 pub mod Shifts
 pub mod MergeMoves
 pub mod SweepMoves
+pub mod Once
+pub mod Scanning
+pub mod Fresh
+pub mod EachRun

@@ -1,5 +1,5 @@
 -- When nothing that a layout remembers is due.
-use Rattle.std.specs.Prelude.{◌≡◌, ℕ, ◌+◌, ◌<◌, ◌≤◌, All, Contains, IsSomeAnd}
+use Rattle.std.specs.Prelude.{ℕ, ◌+◌, ◌<◌, ◌≤◌, All, Contains, IsSomeAnd}
 use Rattle.lethe_base.specs.Layout.{Layout, Record}
 use Rattle.lethe_base.specs.Held.{IsRecorded}
 use Rattle.lethe_base.specs.Shapes.{all_files, shape_of}

@@ -7,9 +7,10 @@ ghost use Rattle.lethe_base.specs.Layout.{Layout};
 ghost use Rattle.lethe_base.specs.Read.{Listed, Scan, answer};
 ghost use Rattle.lethe_base.specs.declared.entry.Entry.{Entry};
 ghost use Rattle.lethe_cover.specs.Reads.{answered};
+ghost use Rattle.lethe_mem.specs.Pairs.{pairs_of};
 ghost use Rattle.lethe_merge.specs.Merge.{merged};
 ghost use Rattle.lethe_moves.specs.Reaches.{Follows};
-ghost use Rattle.lethe_moves.specs.Scans.{AreShownBetween, pairs_of};
+ghost use Rattle.lethe_moves.specs.Scans.{AreShownBetween};
 
 /// The first part that has a key, from newest to oldest, answers what the history's map has of it.
 pub fn read_answers()
