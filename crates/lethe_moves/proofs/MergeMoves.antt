@@ -1,9 +1,9 @@
 -- A merge keeps the history that a layout stands for, and the order of its files.
-use Rattle.std.proofs.Common.{◌≡◌, ◌⊎◌, inl, inr, ℕ, ◌<◌, IsTrue, List, [], ◌∷◌, ◌++◌, append_assoc, flat_map, AllPairs, Contains, refl, sym, ap, ◌∙◌, subst, arith}
+use Rattle.std.proofs.Common.{◌≡◌, ◌⊎◌, ℕ, ◌<◌, List, [], ◌∷◌, ◌++◌, append_assoc, flat_map, AllPairs, Contains, refl, sym, ap, ◌∙◌, subst, arith}
 use Rattle.std.proofs.lemmas.List.{append-nil}
 use Rattle.lethe_cover.proofs.Moved.{move_covers}
 use Rattle.lethe_moves.specs.Merges.{Merges, levels_before, levels_then}
-use Rattle.lethe_moves.proofs.Common.{⊎_elim, ⊎_map, flat_map-append, map-append, All-contains, Contains-append_cases, Contains-append_left, Contains-append_right, Less, Covers, InFiles, History, key_cmp, File, Layout, entries_of, files_of, runs_of, IsOver, Entry, Pending, none_in, IsApart, files_in, IsCounted, files_right, files_runs, files_singles, flat_from, flat_in, singles, IsClearOf, IsTiled, hull_of_files, keys_of, IsBelow, Merge, inputs_of, Follows}
+use Rattle.lethe_moves.proofs.Common.{⊎_elim, flat_map-append, map-append, All-contains, Contains-append_cases, Contains-append_left, Contains-append_right, Less, Covers, InFiles, History, key_cmp, File, Layout, entries_of, files_of, runs_of, IsOver, Entry, Pending, none_in, IsApart, files_in, IsCounted, files_right, files_runs, files_singles, flat_from, flat_in, singles, IsClearOf, IsTiled, hull_of_files, keys_of, IsBelow, Merge, inputs_of, Follows}
 use Rattle.lethe_moves.proofs.Apart.{apart_back, around_apart, below_apart, clear_of, files_spanned}
 use Rattle.lethe_moves.proofs.KeyOrder.{IsUpto, less_upto, upto_less, within_spans}
 use Rattle.lethe_moves.proofs.Orders.{AreOrdered, IsOther, order_from, order_then, ordered_with, rise_at, rise_next, then_cases}

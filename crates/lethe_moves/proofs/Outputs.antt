@@ -1,5 +1,5 @@
 -- What the files are that are made of a merged list.
-use Rattle.std.proofs.Common.{◌≡◌, Bool, true, IsTrue, ℕ, ◌<◌, List, All, Contains, ◌∙◌, subst}
+use Rattle.std.proofs.Common.{◌≡◌, Bool, IsTrue, ℕ, ◌<◌, List, All, Contains, ◌∙◌, subst}
 use Rattle.lethe_cover.proofs.Merging.{merged_outcome}
 use Rattle.lethe_merge.proofs.Merges.{merged_is}
 use Rattle.lethe_moves.proofs.Common.{⊎_map, All-contains, InFiles, Bytes, File, entries_of, IsBare, facts_of, Entry, Pending, IsOutcome, merged, IsTight, IsTiled, keys_of, AreMade, AreNew}

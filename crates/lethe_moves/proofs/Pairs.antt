@@ -1,5 +1,5 @@
 -- Lists each two items of which are related, by recursion.
-use Rattle.std.proofs.Common.{◌≡◌, ◌⊎◌, ℕ, suc, ◌<◌, List, [], ◌∷◌, ◌++◌, map, length, get_or, All, AllPairs, Contains, refl, subst, arith}
+use Rattle.std.proofs.Common.{◌≡◌, ◌⊎◌, suc, ◌<◌, List, [], ◌∷◌, ◌++◌, map, length, get_or, All, AllPairs, Contains, refl, subst, arith}
 use Rattle.std.proofs.lemmas.List.Elements.{Contains-get_or}
 use Rattle.std.proofs.lemmas.List.Kept.{AllPairs-cons}
 use Rattle.lethe_moves.proofs.Common.{⊎_elim, Contains-append_cases, Contains-append_left, Contains-append_right, none_in, first_is, first_or_rest, in_map, map_from}

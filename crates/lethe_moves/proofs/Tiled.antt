@@ -1,6 +1,6 @@
 -- What the tiles of a file say of its keys.
-use Rattle.std.proofs.Common.{◌≡◌, ◌≢◌, List, [], ◌∷◌, flat_map, Contains, refl, sym, ap, ◌∙◌, subst, arith}
-use Rattle.lethe_moves.proofs.Common.{All-contains, Less, key_cmp, Tile, File, entries_of, lower_key, upper_key, Entry, none_in, first_is, first_or_rest, flat_in, flat_from, key_upto, IsBounded, IsLower, IsTiled, IsTight, IsWithin, entries_in, keys_of}
+use Rattle.std.proofs.Common.{◌≡◌, ◌≢◌, List, [], ◌∷◌, flat_map, Contains, refl, ◌∙◌, subst, arith}
+use Rattle.lethe_moves.proofs.Common.{All-contains, Tile, File, entries_of, lower_key, upper_key, Entry, none_in, first_is, first_or_rest, flat_in, flat_from, key_upto, IsBounded, IsLower, IsTiled, IsTight, IsWithin, entries_in, keys_of}
 use Rattle.lethe_moves.proofs.KeyOrder.{IsUpto, Spans, within_spans, not_less, lowest, highest}
 use Rattle.lethe_moves.proofs.Pairs.{Pairs, in_rest, pairs_from, pairs_append}
 

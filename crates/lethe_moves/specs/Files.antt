@@ -1,5 +1,5 @@
 -- Files whose tiles bound their keys.
-use Rattle.std.specs.Prelude.{◌≡◌, ◌≢◌, Bool, false, IsTrue, List, [], map, flat_map, All, AllPairs, Contains}
+use Rattle.std.specs.Prelude.{◌≡◌, ◌≢◌, false, IsTrue, List, [], map, flat_map, All, AllPairs, Contains}
 use Rattle.std.specs.Ordering.{is_le}
 use Rattle.std.specs.declared.cmp.Ordering.TheVariants.{Less}
 use Rattle.lethe_base.specs.Keys.{Bytes, key_cmp}

@@ -1,5 +1,5 @@
 -- A flush: the frozen segment goes, and what is left of its buffer comes as files of level 0.
-use Rattle.std.specs.Prelude.{ℕ, Bool, IsTrue, List, [], ◌∷◌, fold, length, All}
+use Rattle.std.specs.Prelude.{Bool, IsTrue, List, [], ◌∷◌, fold, length, All}
 use Rattle.std.specs.FinMap as finmap
 use Rattle.lethe_base.specs.Keys.{Bytes}
 use Rattle.lethe_base.specs.History.{History}

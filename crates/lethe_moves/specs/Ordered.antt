@@ -1,5 +1,5 @@
 -- The order that a store keeps in its files.
-use Rattle.std.specs.Prelude.{ℕ, ◌≤◌, length, All}
+use Rattle.std.specs.Prelude.{◌≤◌, length, All}
 use Rattle.lethe_base.specs.Layout.{Layout, files_of}
 use Rattle.lethe_base.specs.Shapes.{IsValidShape, shape_of}
 use Rattle.lethe_moves.specs.Files.{IsTiled}

@@ -1,5 +1,5 @@
 -- A sweep: a file goes, and what an erase leaves of it comes in its place, in a new file or in none.
-use Rattle.std.specs.Prelude.{◌≡◌, ℕ, ◌≤◌, ◌<◌, Bool, IsTrue, List, [], ◌∷◌, ◌++◌, flat_map, All, Contains, Option, Some, None, IfSome}
+use Rattle.std.specs.Prelude.{◌≡◌, ◌≤◌, ◌<◌, Bool, IsTrue, List, [], ◌∷◌, ◌++◌, flat_map, All, Contains, Option, Some, IfSome}
 use Rattle.std.specs.List.{cons_option}
 use Rattle.lethe_base.specs.History.{History}
 use Rattle.lethe_base.specs.Layout.{Layout, File, entries_of, files_of}
