@@ -1,22 +1,12 @@
 -- A flush keeps what a layout stands for.
-use Rattle.std.proofs.Common.{◌≡◌, ◌⊎◌, inl, inr, ℕ, ◌<◌, Bool, IsTrue, List, [], ◌++◌, length, AllPairs, Contains, None, sym, ◌∙◌, subst, arith}
-use Rattle.std.proofs.lemmas.List.Elements.{All-contains, Contains-append_cases, Contains-append_left, Contains-append_right}
-use Rattle.lethe_base.specs.History.{History}
-use Rattle.lethe_base.specs.Layout.{Layout, File, Record, Written, place_of, buffer_of, frozen_records, runs_of, files_of}
-use Rattle.lethe_base.specs.Held.{InFiles, IsRecorded, IsFiled, InBuffer, Holds, Shows}
-use Rattle.lethe_base.specs.NewerAbove.{IsOver, IsNewerAbove}
-use Rattle.lethe_base.specs.Covers.{Covers}
-use Rattle.lethe_base.specs.declared.call.Call.TheVariants.{Erase}
-use Rattle.lethe_base.specs.declared.entry.Entry.{Entry}
-use Rattle.lethe_base.proofs.HeldLaws.{buffer_recorded, shown_held}
-use Rattle.lethe_base.proofs.LayoutLaws.{none_in}
+use Rattle.std.proofs.Common.{◌≡◌, ◌⊎◌, inl, inr, ℕ, Bool, IsTrue, List, [], length, Contains, None, sym, ◌∙◌, subst, arith}
+use Rattle.std.proofs.lemmas.List.Elements.{All-contains, Contains-append_cases}
 use Rattle.lethe_cover.specs.Flushes.{IsFlush, with_newest, flushed}
-use Rattle.lethe_cover.specs.Moves.{files_in}
-use Rattle.lethe_cover.specs.Outcomes.{IsReplaced}
-use Rattle.lethe_cover.specs.Steps.{IsCounted}
+use Rattle.lethe_cover.proofs.Common.{⊎_elim, ⊎_map, Contains-append_left, Contains-append_right, History, Layout, File, Record, Written, buffer_of, frozen_records, runs_of, files_of, InFiles, IsRecorded, InBuffer, Holds, Shows, IsOver, IsNewerAbove, Covers, Erase, Entry, buffer_recorded, shown_held, none_in, files_in, IsReplaced, IsCounted}
 use Rattle.lethe_cover.proofs.Bridge.{entries_cover, all_applied, parts_cover}
-use Rattle.lethe_cover.proofs.FilesInRuns.{in_more, singles, files_singles, runs_file, runs_newest, files_newest, falls_from, falls_to, falls_append}
+use Rattle.lethe_cover.proofs.FilesInRuns.{in_more, refiled, singles, files_singles, runs_file, runs_newest, files_newest, runs_append}
 use Rattle.lethe_cover.proofs.Grown.{done_within}
+use Rattle.lethe_cover.proofs.Lists.{Pairs, pairs_from, pairs_to}
 use Rattle.lethe_cover.proofs.Replaced.{replaced_cover}
 
 module _ (threshold : ℕ) (h : History) (l : Layout) (covers : Covers threshold h l) (counted : IsCounted h l) (alone : Bool) (made : List File) (flush : IsFlush h l alone made) where
@@ -30,113 +20,53 @@ module _ (threshold : ℕ) (h : History) (l : Layout) (covers : Covers threshold
   abbrev Inputs : Entry → Type 0
   Inputs = InBuffer (buffer_of (frozen_records l))
 
-  abbrev Outputs : Entry → Type 0
-  Outputs = InFiles made
-
   -- the made files are among the levels', and the others stay
   file_cases : (file : File) → Contains (files_of then) file → Contains made file ⊎ Contains (files_of l) file
   file_cases file there = Contains-append_cases made (files_of l) file (subst (λ files. Contains files file) (files_newest made l.levels) there)
 
-  file_stays : (file : File) → Contains (files_of l) file → Contains (files_of then) file
-  file_stays file there = subst (λ files. Contains files file) (sym (files_newest made l.levels)) (Contains-append_right made (files_of l) file there)
+  file_then : (file : File) → Contains made file ⊎ Contains (files_of l) file → Contains (files_of then) file
+  file_then file is = subst (λ files. Contains files file) (sym (files_newest made l.levels)) (⊎_elim (Contains-append_left made (files_of l) file) (Contains-append_right made (files_of l) file) is)
 
-  file_made : (file : File) → Contains made file → Contains (files_of then) file
-  file_made file there = subst (λ files. Contains files file) (sym (files_newest made l.levels)) (Contains-append_left made (files_of l) file there)
-
-  filed_cases : (entry : Entry) (filed : IsFiled then entry) → Contains (files_of l) filed.file ⊎ (InFiles made entry × (filed.file.swept ≡ length h))
-  filed_cases entry filed = elim (file_cases filed.file filed.there) [
-    | inl new ↦ inr (record { file = filed.file; there = new; spelled = filed.spelled }, All-contains (λ file. file.swept ≡ length h) made filed.file flush.swept new)
-    | inr old ↦ inl old
-  ]
+  swept : (file : File) → Contains made file → file.swept ≡ length h
+  swept file there = All-contains (λ file. file.swept ≡ length h) made file flush.swept there
 
   rest_recorded : (r : Record) → IsRecorded rest r → Contains l.active r
-  rest_recorded r is = elim is [
-    | inl active ↦ active
-    | inr none ↦ absurd (none_in r none)
-  ]
+  rest_recorded r = ⊎_elim (λ active. active) (λ none. absurd (none_in r none))
 
-  rest_held : (entry : Entry) (upto : ℕ) → Holds rest entry upto → Holds l entry upto
-  rest_held entry upto is = elim is [
-    | inl recorded ↦ inl (inl (rest_recorded (Written entry) recorded.0), recorded.1)
-    | inr filed ↦ inr filed
-  ]
-
-  rest_shown : (entry : Entry) → Shows rest entry → Shows l entry
-  rest_shown entry is = elim is [
-    | inl buffered ↦ elim buffered [
-      | inl active ↦ inl (inl active)
-      | inr none ↦ absurd (none_in (Written entry) (buffer_recorded [] entry none))
-    ]
-    | inr filed ↦ inr filed
-  ]
-
-  flush_replaces : IsReplaced (IsTrue alone) Inputs Outputs (length h) (Holds l) (Shows l) (Holds rest) (Shows rest) (Holds then) (Shows then)
+  flush_replaces : IsReplaced (IsTrue alone) Inputs (InFiles made) (length h) (Holds l) (Shows l) (Holds rest) (Shows rest) (Holds then) (Shows then)
   flush_replaces = record {
     inputs_shown = λ entry taken. inl (inr taken);
-    rest_held = rest_held;
-    rest_shown = rest_shown;
+    rest_held = λ entry upto. ⊎_map (λ recorded. (inl (rest_recorded (Written entry) recorded.0), recorded.1)) (λ filed. filed);
+    rest_shown = λ entry. ⊎_map (⊎_map (λ active. active) (λ none. absurd (none_in (Written entry) (buffer_recorded [] entry none)))) (λ filed. filed);
     rest_is_held = shown_held rest;
-    split = λ entry is. elim is [
-      | inl buffered ↦ elim buffered [
-        | inl active ↦ inl (inl (inl active))
-        | inr taken ↦ inr taken
-      ]
-      | inr filed ↦ inl (inr filed)
-    ];
-    stays = λ entry is. elim is [
-      | inl buffered ↦ inl buffered
-      | inr filed ↦ inr (in_more filed file_stays)
-    ];
-    comes = λ entry out. inr (in_more out file_made);
-    only = λ entry is. elim is [
-      | inl buffered ↦ inl (inl buffered)
-      | inr filed ↦ elim (filed_cases entry filed) [
-        | inl old ↦ inl (inr (record { file = filed.file; there = old; spelled = filed.spelled }))
-        | inr new ↦ inr new.0
-      ]
-    ];
-    only_held = λ entry upto is. elim is [
-      | inl recorded ↦ inl (inl recorded)
-      | inr filed ↦ elim (filed_cases entry filed.0) [
-        | inl old ↦ inl (inr (record { file = filed.0.file; there = old; spelled = filed.0.spelled }, filed.1))
-        | inr new ↦ inr (new.0, filed.1 ∙ new.1)
-      ]
-    ];
+    split = λ entry. ⊎_elim (⊎_map (λ active. inl (inl active)) (λ taken. taken)) (λ filed. inl (inr filed));
+    stays = λ entry. ⊎_map (λ buffered. buffered) (λ filed. in_more filed (λ file old. file_then file (inr old)));
+    comes = λ entry out. inr (in_more out (λ file new. file_then file (inl new)));
+    only = λ entry. ⊎_elim (λ buffered. inl (inl buffered)) (λ filed. ⊎_elim (λ new. inr (refiled filed new)) (λ old. inl (inr (refiled filed old))) (file_cases filed.file filed.there));
+    only_held = λ entry upto. ⊎_elim (λ recorded. inl (inl recorded))
+        (λ filed. ⊎_elim (λ new. inr (refiled filed.0 new, filed.1 ∙ swept filed.0.file new)) (λ old. inl (inr (refiled filed.0 old, filed.1))) (file_cases filed.0.file filed.0.there));
     is_held = shown_held then;
-    clear = λ is entry input upto held taken same. elim held [
-      | inl recorded ↦ covers.newer_above.active_frozen (Written entry) (Written input) (rest_recorded (Written entry) recorded.0) (buffer_recorded (frozen_records l) input taken)
-      | inr filed ↦ absurd (flush.apart is input entry taken filed.0 same)
-    ];
+    clear = λ lone entry input upto held taken same. ⊎_elim
+        (λ recorded. covers.newer_above.active_frozen (Written entry) (Written input) (rest_recorded (Written entry) recorded.0) (buffer_recorded (frozen_records l) input taken))
+        (λ filed. absurd (flush.apart lone input entry taken filed.0 same)) held;
   }
 
   -- an output has the place of a record of the frozen segment
-  source : (entry : Entry) → Outputs entry → (input : Entry) × Contains (frozen_records l) (Written input) × (input.key ≡ entry.key) × (input.seq ≡ entry.seq)
-  source entry out =
-      let from = flush.outcome.source entry out in
-      (from.input, buffer_recorded (frozen_records l) from.input from.newest.shown, from.same, from.place)
+  source : (entry : Entry) → InFiles made entry → (input : Entry) × Contains (frozen_records l) (Written input) × (input.key ≡ entry.key) × (input.seq ≡ entry.seq)
+  source entry out = let from = flush.outcome.source entry out in (from.input, buffer_recorded (frozen_records l) from.input from.newest.shown, from.same, from.place)
 
   made_over : IsOver (files_in (singles made)) (files_in (runs_of l.levels))
   made_over entry older above below same =
-      let from = source entry (record { file = above.file; there = subst (λ files. Contains files above.file) (files_singles made) above.there; spelled = above.spelled }) in
-      let lower : older.seq < from.0.seq = covers.newer_above.frozen_files (Written from.0) older from.1 (in_more below (runs_file l.levels)) in
-      let place : from.0.seq ≡ entry.seq = from.3 in omega arith
-
-  runs_then : AllPairs IsOver (runs_of then.levels)
-  runs_then = subst (AllPairs IsOver) (sym (runs_newest made l.levels))
-      (falls_to (singles made ++ runs_of l.levels)
-      (falls_append (singles made) (runs_of l.levels) (falls_from (singles made) flush.order) (falls_from (runs_of l.levels) covers.newer_above.runs) made_over))
+      let from = source entry (refiled above (subst (λ files. Contains files above.file) (files_singles made) above.there)) in
+      omega (arith, covers.newer_above.frozen_files (Written from.0) older from.1 (in_more below (runs_file l.levels)), from.3)
 
   newer_then : IsNewerAbove then
   newer_then = record {
-    runs = runs_then;
+    runs = pairs_to IsOver (runs_of then.levels) (subst (Pairs IsOver) (sym (runs_newest made l.levels))
+        (runs_append (singles made) (runs_of l.levels) (pairs_from IsOver (singles made) flush.order) (pairs_from IsOver (runs_of l.levels) covers.newer_above.runs) made_over));
     active_frozen = λ r older is none. absurd (none_in older none);
-    active_files = λ r older is filed. elim (filed_cases older filed) [
-      | inl old ↦ covers.newer_above.active_files r older is (record { file = filed.file; there = old; spelled = filed.spelled })
-      | inr new ↦
-          let from = source older new.0 in
-          let lower : from.0.seq < place_of r = covers.newer_above.active_frozen r (Written from.0) is from.1 in
-          let place : from.0.seq ≡ older.seq = from.3 in omega arith
-    ];
+    active_files = λ r older is filed. ⊎_elim (λ new. let from = source older (refiled filed new) in omega (arith, covers.newer_above.active_frozen r (Written from.0) is from.1, from.3))
+        (λ old. covers.newer_above.active_files r older is (refiled filed old)) (file_cases filed.file filed.there);
     frozen_files = λ r older none. absurd (none_in r none);
     active_buffer = covers.newer_above.active_buffer;
     frozen_buffer = λ entry none. absurd (none_in (Written entry) none);
@@ -144,20 +74,13 @@ module _ (threshold : ℕ) (h : History) (l : Layout) (covers : Covers threshold
 
   pub flush_covers : Covers threshold h then × IsCounted h then
   flush_covers = (
-    parts_cover threshold h l covers l.active None (with_newest made l.levels)
-        (λ r is. inl (rest_recorded r is))
-        (replaced_cover threshold h l.clock l.pending l.pending (IsTrue alone) Inputs Outputs (length h) (Holds l) (Shows l) (Holds rest) (Shows rest) (Holds then) (Shows then)
+    parts_cover threshold h l covers l.active None (with_newest made l.levels) (λ r is. inl (rest_recorded r is))
+        (replaced_cover threshold h l.clock l.pending l.pending (IsTrue alone) Inputs (InFiles made) (length h) (Holds l) (Shows l) (Holds rest) (Shows rest) (Holds then) (Shows then)
         (entries_cover threshold h l covers) flush.outcome (all_applied threshold h l Inputs (length h) covers) flush_replaces)
         newer_then
-        (λ file there. elim (file_cases file there) [
-          | inl new ↦ let upto : file.swept ≡ length h = All-contains (λ file. file.swept ≡ length h) made file flush.swept new in omega arith
-          | inr old ↦ covers.erases_covered.swept file old
-        ])
-        (λ file erase entry there among unswept spelled. elim (file_cases file there) [
-          | inl new ↦
-              let upto : file.swept ≡ length h = All-contains (λ file. file.swept ≡ length h) made file flush.swept new in
-              let within = done_within h erase.seq (Erase erase.range) (covers.places.erases erase (inl among)).done in absurd (omega arith)
-          | inr old ↦ covers.erases_covered.unswept file erase entry old among unswept spelled
-        ]),
+        (λ file there. ⊎_elim (λ new. omega (arith, swept file new)) (covers.erases_covered.swept file) (file_cases file there))
+        (λ file erase entry there among unswept spelled. ⊎_elim
+        (λ new. absurd (omega (arith, swept file new, unswept, done_within h erase.seq (Erase erase.range) (covers.places.erases erase (inl among)).done)))
+        (λ old. covers.erases_covered.unswept file erase entry old among unswept spelled) (file_cases file there)),
     record { count = counted.count; places = λ r is. counted.places r (inl (rest_recorded r is)) },
   )

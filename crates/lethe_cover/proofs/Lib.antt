@@ -1,4 +1,5 @@
 pub mod Common
+pub mod Lists
 pub mod Grown
 pub mod Changed
 pub mod Entered

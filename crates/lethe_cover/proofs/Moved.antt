@@ -2,12 +2,9 @@
 use Rattle.std.proofs.Common.{◌≡◌, ◌⊎◌, inl, inr, ℕ, ◌<◌, Bool, IsTrue, List, ◌++◌, flat_map, AllPairs, Contains, refl, sym, ◌∙◌, subst, arith, ap, append_assoc}
 use Rattle.lethe_cover.proofs.Common.{History, Layout, File, Written, buffer_of, frozen_records, runs_of, files_of, IsRecorded, InFiles, IsFiled, InBuffer, Holds, Shows, IsOver, IsNewerAbove, Covers, Entry, Pending, shown_held, buffer_recorded, files_in, Move, runs_before, IsMove, Moves, IsReplaced, IsCounted, ⊎_elim, ⊎_map}
 use Rattle.lethe_cover.proofs.Bridge.{entries_cover, parts_cover}
-use Rattle.lethe_cover.proofs.FilesInRuns.{in_more, files_left, files_right, files_cases, Falls, falls_from, falls_to, over_append, falls_left, falls_right, falls_append, runs_file, file_runs}
+use Rattle.lethe_cover.proofs.FilesInRuns.{in_more, refiled, files_left, files_right, files_cases, runs_over, runs_append, runs_file, file_runs}
+use Rattle.lethe_cover.proofs.Lists.{Pairs, pairs_from, pairs_parts, pairs_to}
 use Rattle.lethe_cover.proofs.Replaced.{replaced_cover}
-
--- an entry of some files is one of those that its file is among
-abbrev refiled : {entry : Entry} {files others : List File} → (is : InFiles files entry) → Contains others is.file → InFiles others entry
-refiled is there = record { file = is.file; there = there; spelled = is.spelled }
 
 -- each of these entries has the key and the place of one of those
 abbrev IsDrawn : (Entry → Type 0) → (Entry → Type 0) → Type 0
@@ -59,15 +56,15 @@ module _ (alone : Bool) (m : Move) (moves : IsMove alone m) where
   in_around : (runs : List (List File)) (file : File) → Contains (files_in runs) file → Contains (files_in (around runs)) file
   in_around runs file there = files_right m.above (runs ++ m.below) file (files_left runs m.below file there)
 
-  module _ (falls : Falls (m.above ++ ((m.here ++ m.next) ++ m.below))) where
+  module _ (falls : Pairs IsOver (m.above ++ ((m.here ++ m.next) ++ m.below))) where
     above_over : IsOver (files_in m.above) (files_in (middle ++ m.below))
-    above_over = over_append m.above (middle ++ m.below) falls
+    above_over = runs_over m.above (middle ++ m.below) falls
 
-    below_falls : Falls (middle ++ m.below)
-    below_falls = falls_right m.above (middle ++ m.below) falls
+    below_falls : Pairs IsOver (middle ++ m.below)
+    below_falls = (pairs_parts IsOver m.above (middle ++ m.below) falls).1
 
     here_over : IsOver (files_in m.here) (files_in m.next)
-    here_over = over_append m.here m.next (falls_left middle m.below below_falls)
+    here_over = runs_over m.here m.next (pairs_parts IsOver middle m.below below_falls).0
 
     here_newer : (entry input : Entry) → InFiles (files_in m.here_then) entry → InFiles m.taken input → entry.key ≡ input.key → input.seq < entry.seq
     here_newer entry input is taken same = elim (moves.taken_from taken.file taken.there) [
@@ -99,18 +96,18 @@ module _ (alone : Bool) (m : Move) (moves : IsMove alone m) where
       middle_over_then : IsOver (files_in middle_then) (files_in m.below)
       middle_over_then entry older above below same =
           let from = drawn_by (files_in middle_then) (files_in middle) m.made m.taken middle_comes taken_in source entry above in
-          omega (arith, over_append middle m.below below_falls from.0 older from.1 below (from.2 ∙ same), from.3)
+          omega (arith, runs_over middle m.below below_falls from.0 older from.1 below (from.2 ∙ same), from.3)
 
       above_over_then : IsOver (files_in m.above) (files_in (middle_then ++ m.below))
       above_over_then entry older above below same =
           let from = drawn_by (files_in (middle_then ++ m.below)) (files_in (middle ++ m.below)) m.made m.taken rest_comes taken_rest source older below in
           omega (arith, above_over entry from.0 above from.1 (same ∙ sym from.2), from.3)
 
-      falls_then : Falls (around middle_then)
-      falls_then = falls_append m.above (middle_then ++ m.below) (falls_left m.above (middle ++ m.below) falls)
-          (falls_append middle_then m.below
-          (falls_append m.here_then m.next_then (falls_from m.here_then moves.here_order) (falls_from m.next_then moves.next_order) here_over_then)
-          (falls_right middle m.below below_falls) middle_over_then) above_over_then
+      falls_then : Pairs IsOver (around middle_then)
+      falls_then = runs_append m.above (middle_then ++ m.below) (pairs_parts IsOver m.above (middle ++ m.below) falls).0
+          (runs_append middle_then m.below
+          (runs_append m.here_then m.next_then (pairs_from IsOver m.here_then moves.here_order) (pairs_from IsOver m.next_then moves.next_order) here_over_then)
+          (pairs_parts IsOver middle m.below below_falls).1 middle_over_then) above_over_then
 
 -- the move of a layout's files
 module _ (threshold : ℕ) (h : History) (l : Layout) (covers : Covers threshold h l) (counted : IsCounted h l) (levels : List (List File)) (alone : Bool) (applied : List Pending) (swept : ℕ) (m : Move)
@@ -132,8 +129,8 @@ module _ (threshold : ℕ) (h : History) (l : Layout) (covers : Covers threshold
     from_runs : (levels : List (List File)) {runs : List (List File)} → runs_of levels ≡ runs → (file : File) → Contains (files_in runs) file → Contains (flat_map (λ files. files) levels) file
     from_runs levels is file there = runs_file levels file (subst (λ runs. Contains (files_in runs) file) (sym is) there)
 
-    falls : Falls (m.above ++ ((m.here ++ m.next) ++ m.below))
-    falls = subst Falls before (falls_from (runs_of l.levels) covers.newer_above.runs)
+    falls : Pairs IsOver (m.above ++ ((m.here ++ m.next) ++ m.below))
+    falls = subst (Pairs IsOver) before (pairs_from IsOver (runs_of l.levels) covers.newer_above.runs)
 
     taken_there : (file : File) → Contains m.taken file → Contains (files_of l) file
     taken_there file there = from_runs l.levels before file (in_around alone m moves.is (m.here ++ m.next) file (taken_in alone m moves.is file there))
@@ -193,7 +190,7 @@ module _ (threshold : ℕ) (h : History) (l : Layout) (covers : Covers threshold
 
     newer_then : IsNewerAbove then
     newer_then = record {
-      runs = subst (AllPairs IsOver) (sym afterwards) (falls_to (m.above ++ ((m.here_then ++ m.next_then) ++ m.below)) (falls_then alone m moves.is falls source));
+      runs = subst (AllPairs IsOver) (sym afterwards) (pairs_to IsOver (m.above ++ ((m.here_then ++ m.next_then) ++ m.below)) (falls_then alone m moves.is falls source));
       active_frozen = covers.newer_above.active_frozen;
       active_files = λ r entry is filed. let from = older entry filed in omega (arith, covers.newer_above.active_files r from.0 is from.1, from.3);
       frozen_files = λ r entry is filed. let from = older entry filed in omega (arith, covers.newer_above.frozen_files r from.0 is from.1, from.3);

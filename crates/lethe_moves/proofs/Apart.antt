@@ -2,7 +2,7 @@
 use Rattle.std.proofs.Common.{◌≡◌, ◌⊎◌, true, false, List, [], ◌∷◌, ◌++◌, map, Contains, sym, ◌∙◌, subst}
 use Rattle.lethe_moves.proofs.Common.{⊎_elim, Contains-append_left, Contains-append_right, Bytes, InFiles, File, entries_of, IsOver, facts_of, Entry, FileFacts, none_in, first_or_rest, IsApart, in_map, KeyRange, hull, joined, range_of, key_itself, key_upto, IsClearOf, IsTiled, IsWithin, hull_of_files, keys_of, IsBelow}
 use Rattle.lethe_moves.proofs.KeyOrder.{IsUpto, Spans, joined_spans, not_less, overlap_at, spans_through}
-use Rattle.lethe_moves.proofs.Pairs.{Pairs, in_middle, only_in, pairs_parts}
+use Rattle.lethe_cover.proofs.Lists.{Pairs, in_middle, only_in, pairs_parts}
 use Rattle.lethe_moves.proofs.Tiled.{entry_keys}
 
 -- a file that is clear of a range has none of its keys

@@ -2,7 +2,7 @@
 use Rattle.std.proofs.Common.{◌≡◌, false, true, cond, List, [], ◌∷◌, map, filter_map, count_by, Contains, Option, Some, None, refl, subst, arith}
 use Rattle.std.proofs.lemmas.List.Sums.{sum_by-cons}
 use Rattle.lethe_moves.proofs.Common.{⊎_elim, is_tomb, oldest_of, Entry, Pending, none_in, first_is, first_or_rest, bared, struck, left_of_each, merged}
-use Rattle.lethe_moves.proofs.Pairs.{in_rest}
+use Rattle.lethe_cover.proofs.Lists.{in_rest}
 
 -- it is a put without a time
 pub record IsPlain (entry : Entry) : Type 0 where

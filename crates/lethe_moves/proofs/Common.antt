@@ -23,7 +23,9 @@ pub use Rattle.lethe_cover.specs.Merged.{bared, struck}
 pub use Rattle.lethe_cover.specs.Moves.{IsApart, IsMove, Move, files_in}
 pub use Rattle.lethe_cover.specs.Outcomes.{IsApplied, IsOutcome}
 pub use Rattle.lethe_cover.specs.Steps.{IsCounted}
-pub use Rattle.lethe_cover.proofs.FilesInRuns.{files_left, files_right, files_runs, files_singles, flat_from, flat_in, in_map, map_from, singles}
+pub use Rattle.lethe_cover.proofs.FilesInRuns.{files_left, files_right, files_runs, files_singles, singles}
+pub use Rattle.lethe_cover.proofs.Lists.{Pairs, flat_from, flat_in, in_map, map_from}
+pub use Rattle.lethe_cover.proofs.Reading.{spelled_from, spelled_in}
 pub use Rattle.lethe_fade.specs.Spans.{KeyRange, hull, joined, overlaps, range_of}
 pub use Rattle.lethe_fade.proofs.MeetingLaws.{key_itself, key_upto}
 pub use Rattle.lethe_merge.specs.Merge.{left_of_each, merged}

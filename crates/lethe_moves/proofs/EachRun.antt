@@ -22,7 +22,7 @@ use Rattle.lethe_cover.proofs.Quiet.{tick_covers}
 use Rattle.lethe_cover.proofs.Unentered.{blind_covers, erase_covers}
 use Rattle.lethe_moves.specs.Reaches.{Follows, Reaches, New, Put, Delete, Blind, Erase, Tick, Freeze, Leave, Flush, Merge, Sweep, Number}
 use Rattle.lethe_moves.proofs.Fresh.{due_fresh}
-use Rattle.lethe_moves.proofs.Pairs.{in_rest}
+use Rattle.lethe_cover.proofs.Lists.{in_rest}
 use Rattle.lethe_moves.proofs.Flushing.{flush_follows}
 use Rattle.lethe_moves.proofs.MergeMoves.{merge_follows}
 use Rattle.lethe_moves.proofs.SweepMoves.{sweep_follows}

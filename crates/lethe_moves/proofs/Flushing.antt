@@ -13,7 +13,7 @@ use Rattle.lethe_moves.proofs.Apart.{clear_of, clear_over}
 use Rattle.lethe_moves.proofs.KeyOrder.{lowest, highest}
 use Rattle.lethe_moves.proofs.Orders.{AreOrdered, IsOther, order_from, ordered_with, order_then}
 use Rattle.lethe_moves.proofs.Outputs.{above_old, made_outcome}
-use Rattle.lethe_moves.proofs.Pairs.{Pairs, pairs_from, pairs_map, pairs_to}
+use Rattle.lethe_cover.proofs.Lists.{Pairs, pairs_from, pairs_map, pairs_to}
 
 -- each entry of a buffer stands under its own key
 keyed-fold : (entries : List Entry) (buffer : Buffer) → AreKeyed (finmap.entries buffer) → AreKeyed (finmap.entries (fold (λ buffer entry. finmap.insert buffer entry.key entry) buffer entries))

@@ -9,7 +9,7 @@ use Rattle.lethe_base.specs.declared.config.Fields.{Fields}
 use Rattle.lethe_base.specs.declared.shape.FileFacts.{FileFacts}
 use Rattle.lethe_base.proofs.Overdue.{none_overdue}
 use Rattle.lethe_cover.proofs.Bridge.{same_order}
-use Rattle.lethe_cover.proofs.FilesInRuns.{in_map}
+use Rattle.lethe_cover.proofs.Lists.{in_map}
 use Rattle.lethe_cover.proofs.Merging.{IsBy}
 use Rattle.lethe_fade.specs.LevelTimes.{level_deadline}
 use Rattle.lethe_fade.proofs.Powers.{deadlines_rise}

@@ -4,7 +4,7 @@ use Rattle.std.specs.Ordering.{ord_min, ord_max}
 use Rattle.std.proofs.lemmas.Bool.{and_from}
 use Rattle.std.proofs.lemmas.Cmp.{alike_right}
 use Rattle.lethe_moves.proofs.Common.{⊎_elim, nat_list_cmp_total, is_le, Less, Bytes, key_cmp, none_in, first_is, first_or_rest, KeyRange, joined, overlaps, key_itself, key_upto, IsWithin}
-use Rattle.lethe_moves.proofs.Pairs.{Pairs, in_rest}
+use Rattle.lethe_cover.proofs.Lists.{Pairs, in_rest}
 
 abbrev pub IsUpto : Bytes → Bytes → Type 0
 IsUpto a b = IsTrue (is_le (key_cmp a b))

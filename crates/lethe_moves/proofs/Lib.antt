@@ -1,5 +1,4 @@
 pub mod Common
-pub mod Pairs
 pub mod KeyOrder
 pub mod Tiled
 pub mod Apart

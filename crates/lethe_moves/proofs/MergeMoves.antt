@@ -3,12 +3,12 @@ use Rattle.std.proofs.Common.{◌≡◌, ◌⊎◌, ℕ, ◌<◌, List, [], ◌�
 use Rattle.std.proofs.lemmas.List.{append-nil}
 use Rattle.lethe_cover.proofs.Moved.{move_covers}
 use Rattle.lethe_moves.specs.Merges.{Merges, levels_before, levels_then}
-use Rattle.lethe_moves.proofs.Common.{⊎_elim, flat_map-append, map-append, All-contains, Contains-append_cases, Contains-append_left, Contains-append_right, Less, Covers, InFiles, History, key_cmp, File, Layout, entries_of, files_of, runs_of, IsOver, Entry, Pending, none_in, IsApart, files_in, IsCounted, files_right, files_runs, files_singles, flat_from, flat_in, singles, IsClearOf, IsTiled, hull_of_files, keys_of, IsBelow, Merge, inputs_of, Follows}
+use Rattle.lethe_moves.proofs.Common.{⊎_elim, flat_map-append, map-append, All-contains, Contains-append_cases, Contains-append_left, Contains-append_right, Less, Covers, InFiles, History, key_cmp, File, Layout, entries_of, files_of, runs_of, IsOver, Entry, Pending, none_in, IsApart, files_in, IsCounted, files_right, files_runs, files_singles, singles, spelled_from, spelled_in, IsClearOf, IsTiled, hull_of_files, keys_of, IsBelow, Merge, inputs_of, Follows}
 use Rattle.lethe_moves.proofs.Apart.{apart_back, around_apart, below_apart, clear_of, files_spanned}
 use Rattle.lethe_moves.proofs.KeyOrder.{IsUpto, less_upto, upto_less, within_spans}
 use Rattle.lethe_moves.proofs.Orders.{AreOrdered, IsOther, order_from, order_then, ordered_with, rise_at, rise_next, then_cases}
 use Rattle.lethe_moves.proofs.Outputs.{above_old, made_bare, made_ends, made_outcome}
-use Rattle.lethe_moves.proofs.Pairs.{Pairs, in_middle, pairs_from, pairs_parts, spliced}
+use Rattle.lethe_cover.proofs.Lists.{Pairs, in_middle, pairs_from, pairs_parts, spliced}
 use Rattle.lethe_moves.proofs.Shifts.{runs_above, shift_moves}
 use Rattle.lethe_moves.proofs.Tiled.{entry_keys}
 
@@ -60,12 +60,6 @@ module _ (threshold : ℕ) (h : History) (l : Layout) (follows : Follows thresho
       (All-contains (λ file. key_cmp (hull_of_files m.sources).hi (keys_of file).lo ≡ Less) m.higher file merges.higher right))
       (λ met. (pairs_parts IsBelow m.met m.higher next_parts.1).2 input file met right) (Contains-append_cases m.sources m.met input there)
 
-  to_input : (entry : Entry) → Contains (flat_map entries_of inputs) entry → InFiles inputs entry
-  to_input entry there = let found = flat_from entries_of inputs entry there in record { file = found.0; there = found.1; spelled = found.2 }
-
-  from_input : (entry : Entry) → InFiles inputs entry → Contains (flat_map entries_of inputs) entry
-  from_input entry is = flat_in entries_of inputs is.file entry is.there is.spelled
-
   abbrev IsCovered : Type 0
   IsCovered = Covers threshold h (record l { levels = levels_then m }) × IsCounted h (record l { levels = levels_then m })
 
@@ -98,7 +92,7 @@ module _ (threshold : ℕ) (h : History) (l : Layout) (follows : Follows thresho
         });
         before = ap runs_of merges.levels ∙ was;
         afterwards = afterwards;
-        outcome = made_outcome (InFiles inputs) (flat_map entries_of inputs) to_input from_input applied merges.alone swept m.made merges.made;
+        outcome = made_outcome (InFiles inputs) (flat_map entries_of inputs) (spelled_from inputs) (spelled_in inputs) applied merges.alone swept m.made merges.made;
         applies = merges.applies;
         made_swept = λ file there. All-contains (λ file. file.swept ≡ swept) m.made file merges.made.swept there;
         upto = merges.upto;
@@ -132,7 +126,7 @@ module _ (threshold : ℕ) (h : History) (l : Layout) (follows : Follows thresho
 
   order_merged : AreOrdered (levels_then m)
   order_merged =
-      let ends = made_ends (InFiles inputs) (flat_map entries_of inputs) to_input from_input applied merges.alone swept m.made merges.made in
+      let ends = made_ends (InFiles inputs) (flat_map entries_of inputs) (spelled_from inputs) (spelled_in inputs) applied merges.alone swept m.made merges.made in
       let keys = λ (entry : Entry) (is : InFiles inputs entry). entry_keys is.file (input_tiled is.file is.there) entry is.spelled in
       let split = λ (next : List File). append_assoc m.above ((m.newer ++ m.older) ∷ []) (next ∷ m.deeper) in
       subst AreOrdered (split next_then) (order_then (m.above ++ (m.newer ++ m.older) ∷ []) m.lower m.met m.higher m.deeper (subst AreOrdered (sym (split next)) order_without) m.made (record {
@@ -145,7 +139,7 @@ module _ (threshold : ℕ) (h : History) (l : Layout) (follows : Follows thresho
             less_upto (keys_of file).hi (keys_of low.1.file).lo (keys_of made).lo (lower_below file low.1.file left low.1.there) (subst (IsUpto (keys_of low.1.file).lo) low.2 (keys low.0 low.1).0))
             (λ made file there right. let high = (ends made there).1 in
             upto_less (keys_of made).hi (keys_of high.1.file).hi (keys_of file).lo (subst (λ key. IsUpto key (keys_of high.1.file).hi) high.2 (keys high.0 high.1).1) (higher_above high.1.file file high.1.there right));
-        bare = λ is. made_bare (InFiles inputs) (flat_map entries_of inputs) to_input from_input applied merges.alone swept m.made merges.made (merges.bottom is);
+        bare = λ is. made_bare (InFiles inputs) (flat_map entries_of inputs) (spelled_from inputs) (spelled_in inputs) applied merges.alone swept m.made merges.made (merges.bottom is);
       }))
 
   pub merge_follows : Follows threshold h (record l { levels = levels_then m })

@@ -3,13 +3,13 @@ use Rattle.std.proofs.Common.{◌≡◌, ◌⊎◌, inl, inr, List, [], ◌∷�
 use Rattle.lethe_cover.proofs.Common.{⊎_elim, File, Layout, runs_of, entries_of, none_in, first_or_rest}
 use Rattle.std.proofs.lemmas.List.Elements.{Contains-append_cases}
 use Rattle.lethe_cover.specs.Reads.{AreOnce}
-use Rattle.lethe_cover.proofs.FilesInRuns.{map_from, flat_in, runs_file}
+use Rattle.lethe_cover.proofs.FilesInRuns.{runs_file}
 use Rattle.lethe_moves.specs.Files.{IsTiled}
 use Rattle.lethe_moves.specs.Merges.{IsBelow}
 use Rattle.lethe_moves.specs.Ordered.{IsOrdered}
 use Rattle.lethe_moves.proofs.Apart.{below_apart}
 use Rattle.lethe_moves.proofs.Orders.{AreOrdered, order_from, rise_in}
-use Rattle.lethe_moves.proofs.Pairs.{Pairs}
+use Rattle.lethe_cover.proofs.Lists.{Pairs, flat_in, map_from}
 use Rattle.lethe_moves.proofs.Tiled.{file_once}
 
 -- two items are one, or they are related

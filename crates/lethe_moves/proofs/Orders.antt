@@ -6,7 +6,7 @@ use Rattle.lethe_base.specs.Shapes as shapes
 use Rattle.lethe_base.specs.Shapes.{HasOtherNumber, HasRange, all_files, facts_from, shape_of}
 use Rattle.lethe_moves.proofs.Common.{⊎_elim, ⊎_map, first_is, flat_map-append, map-append, All-contains, Contains-append_left, Contains-append_right, File, Layout, files_of, IsBare, facts_of, FileFacts, none_in, first_or_rest, files_in, in_map, IsTiled, IsBelow}
 use Rattle.lethe_moves.specs.Ordered.{IsOrdered}
-use Rattle.lethe_moves.proofs.Pairs.{Pairs, in_rest, all_from, pairs_from, pairs_to, pairs_map, pairs_unmap, spliced, swapped}
+use Rattle.lethe_cover.proofs.Lists.{Pairs, in_rest, all_from, pairs_from, pairs_to, pairs_map, pairs_unmap, spliced, swapped}
 use Rattle.lethe_moves.proofs.Tiled.{keys_ordered}
 
 abbrev pub IsOther : File → File → Type 0

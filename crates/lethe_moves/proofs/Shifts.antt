@@ -1,7 +1,7 @@
 -- A merge of files as a move of runs.
 use Rattle.std.proofs.Common.{◌≡◌, ◌≢◌, ◌⊎◌, inl, inr, Bool, IsTrue, List, [], ◌∷◌, ◌++◌, append_assoc, AllPairs, Contains, refl, sym, subst}
 use Rattle.lethe_moves.proofs.Common.{⊎_elim, ⊎_map, Contains-append_cases, Contains-append_left, Contains-append_right, File, runs_of, IsOver, none_in, IsApart, IsMove, files_in, files_left, files_right, singles, Merge, inputs_of}
-use Rattle.lethe_moves.proofs.Pairs.{in_middle, swapped}
+use Rattle.lethe_cover.proofs.Lists.{in_middle, swapped}
 
 -- behind level 0 each level is a run
 pub runs_above : (above rest : List (List File)) → above ≢ [] → runs_of (above ++ rest) ≡ runs_of above ++ rest

@@ -17,7 +17,7 @@ use Rattle.lethe_moves.proofs.Bare.{IsPlain, bare_each, bare_from}
 use Rattle.lethe_moves.proofs.KeyOrder.{less_upto, upto_less}
 use Rattle.lethe_moves.proofs.Orders.{AreOrdered, IsOther, last_behind, last_of, order_from, order_then, ordered_with, rise_at}
 use Rattle.lethe_moves.proofs.Outputs.{above_old}
-use Rattle.lethe_moves.proofs.Pairs.{Pairs, in_middle, in_rest, only_in, pairs_map, pairs_parts, pairs_to, spliced}
+use Rattle.lethe_cover.proofs.Lists.{Pairs, in_middle, in_rest, only_in, pairs_map, pairs_parts, pairs_to, spliced}
 use Rattle.lethe_moves.proofs.Shifts.{runs_above, shift_moves}
 use Rattle.lethe_moves.proofs.Tiled.{file_once}
 

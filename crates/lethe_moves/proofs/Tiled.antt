@@ -2,7 +2,7 @@
 use Rattle.std.proofs.Common.{◌≡◌, ◌≢◌, List, [], ◌∷◌, flat_map, Contains, refl, ◌∙◌, subst, arith}
 use Rattle.lethe_moves.proofs.Common.{All-contains, Tile, File, entries_of, lower_key, upper_key, Entry, none_in, first_is, first_or_rest, flat_in, flat_from, key_upto, IsBounded, IsLower, IsTiled, IsTight, IsWithin, entries_in, keys_of}
 use Rattle.lethe_moves.proofs.KeyOrder.{IsUpto, Spans, within_spans, not_less, lowest, highest}
-use Rattle.lethe_moves.proofs.Pairs.{Pairs, in_rest, pairs_from, pairs_append}
+use Rattle.lethe_cover.proofs.Lists.{Pairs, in_rest, pairs_from, pairs_append}
 
 abbrev AreBounded : List Tile → Type 0
 AreBounded tiles = (tile : Tile) → Contains tiles tile → IsBounded tile
