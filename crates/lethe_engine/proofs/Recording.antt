@@ -17,17 +17,17 @@ use Rattle.lethe_segment.specs.Segments.{segment_bytes, Ascends, last_seq}
 use Rattle.lethe_segment.proofs.Runs.{holds_spelling}
 use Rattle.lethe_cover.specs.Steps.{with_done}
 use Rattle.lethe_commit.specs.Append.{EndsAt, IsReady, IsAppended, IsUntouched, longer}
-use Rattle.lethe_recover.specs.Stored.{Stored, segment_name, appended}
-use Rattle.lethe_recover.specs.Encodes.{Encodes}
-use Rattle.lethe_recover.specs.Goes.{Goes}
-use Rattle.lethe_recover.specs.Kept.{IsKept}
-use Rattle.lethe_recover.specs.Left.{IsLeft, IsKeptOr}
+use Rattle.lethe_stored.specs.Stored.{Stored, segment_name, appended}
+use Rattle.lethe_stored.specs.Encodes.{Encodes}
+use Rattle.lethe_disk.specs.Goes.{Goes}
+use Rattle.lethe_stored.specs.Kept.{IsKept}
+use Rattle.lethe_stored.specs.Left.{IsLeft, IsKeptOr}
 use Rattle.lethe_recover.specs.Settled.{HasOnly}
-use Rattle.lethe_recover.specs.Steps.{addition}
-use Rattle.lethe_recover.proofs.Going.{goes_leads, goes_quiet}
-use Rattle.lethe_recover.proofs.Quieting.{quiet_itself}
+use Rattle.lethe_stored.specs.Steps.{addition}
+use Rattle.lethe_disk.proofs.Going.{goes_leads, goes_quiet}
+use Rattle.lethe_disk.proofs.Quieting.{quiet_itself}
 use Rattle.lethe_recover.proofs.Resumed.{old_kept}
-use Rattle.lethe_recover.proofs.Steps.{append_keeps, active_changed}
+use Rattle.lethe_stored.proofs.Steps.{append_keeps, active_changed}
 use Rattle.lethe_engine.specs.declared.journal.Journal.{Journal}
 use Rattle.lethe_engine.specs.Changes.{done_by, with_record, IsRecordOf}
 use Rattle.lethe_engine.specs.Journals.{Enters}

@@ -19,10 +19,10 @@ use Rattle.lethe_segment.specs.declared.record.Record.{Record}
 use Rattle.lethe_segment.specs.declared.record.Record.TheVariants as of
 use Rattle.lethe_segment.specs.Segments.{Ascends}
 use Rattle.lethe_cover.proofs.Records.{buffer_keyed}
-use Rattle.lethe_recover.specs.Stored.{Stored, IsStored, layout_of, plain, erase_of, in_order, records_from}
-use Rattle.lethe_recover.specs.Kept.{IsFor}
-use Rattle.lethe_recover.proofs.Firsts.{none_pending}
-use Rattle.lethe_recover.proofs.Unique.{none_frozen}
+use Rattle.lethe_stored.specs.Stored.{Stored, IsStored, layout_of, plain, erase_of, in_order, records_from}
+use Rattle.lethe_stored.specs.Kept.{IsFor}
+use Rattle.lethe_stored.proofs.Firsts.{none_pending}
+use Rattle.lethe_stored.proofs.Unique.{none_frozen}
 use Rattle.lethe_engine.specs.Replayed.{AreNewestOf}
 use Rattle.lethe_engine.specs.StandsFor.{map_of}
 

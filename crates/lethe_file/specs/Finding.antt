@@ -47,9 +47,3 @@ IsTileOf key tiles place = (place ≤ length tiles) × ((k : ℕ) (d : TileLine)
 -- of what the lines of these tiles have, one for each, what those of one tile have
 abbrev pub of_tile : {A : Type 0} → List TileLine → ℕ → TileLine → List A → List A
 of_tile tiles place other items = take (length (slice_index_or tiles place other).pages) (drop (length (lines_of (take place tiles))) items)
-
--- a refusal with this count of faults before it
-abbrev pub refused_since : ℕ → ReadRefused → ReadRefused
-refused_since earlier (ReadFault before after) = ReadFault earlier after
-refused_since earlier (Damaged name) = Damaged name
-refused_since earlier NoMemory = NoMemory

@@ -19,17 +19,17 @@ use Rattle.lethe_commit.specs.Gates.{gate_name}
 use Rattle.lethe_commit.specs.Switch.{manifest_name, HasGreatest, IsFree, HasNew, IsSwitched, older_names, placed, switched}
 use Rattle.lethe_commit.proofs.Placing.{gate≢manifest}
 use Rattle.lethe_commit.proofs.Exchange.{beside_placed}
-use Rattle.lethe_recover.specs.Stored.{Stored, Segment, IsStored, segment_name, IsCited, IsSpare}
-use Rattle.lethe_recover.specs.Encodes.{Encodes, HasParts, AreSpare}
-use Rattle.lethe_recover.specs.Goes.{Goes}
+use Rattle.lethe_stored.specs.Stored.{Stored, Segment, IsStored, segment_name, IsCited, IsSpare}
+use Rattle.lethe_stored.specs.Encodes.{Encodes, HasParts, AreSpare}
+use Rattle.lethe_disk.specs.Goes.{Goes}
 use Rattle.lethe_recover.specs.Settled.{IsSettled, HasOnly, IsWhole}
 use Rattle.lethe_recover.specs.Rewritten.{successor, rewritten}
-use Rattle.lethe_recover.proofs.Unique.{none_frozen, one_cited}
-use Rattle.lethe_recover.proofs.Frame.{gate≢segment, manifest≢segment, same_no, besides, fresh_spare}
-use Rattle.lethe_recover.proofs.Steps.{switch_encodes, one_name}
-use Rattle.lethe_recover.proofs.Replaying.{absent_of}
-use Rattle.lethe_recover.proofs.Reading.{pairs_of_one}
-use Rattle.lethe_recover.proofs.Going.{goes_leads, goes_then}
+use Rattle.lethe_stored.proofs.Unique.{none_frozen, one_cited}
+use Rattle.lethe_stored.proofs.Frame.{gate≢segment, manifest≢segment, same_no, besides, fresh_spare}
+use Rattle.lethe_stored.proofs.Steps.{switch_encodes, one_name}
+use Rattle.lethe_disk.proofs.Objects.{absent_of}
+use Rattle.lethe_stored.proofs.Unique.{pairs_of_one}
+use Rattle.lethe_disk.proofs.Going.{goes_leads, goes_then}
 
 true≢false : true ≡ false → ⊥
 true≢false e = cc

@@ -18,16 +18,16 @@ use Rattle.lethe_commit.specs.Switch.{manifest_name, HasGreatest, IsFree, HasNew
 use Rattle.lethe_commit.proofs.Exchange.{beside_placed}
 use Rattle.lethe_commit.proofs.Listed.{listed}
 use Rattle.lethe_commit.proofs.Removals.{all_absent, cleared_absent}
-use Rattle.lethe_recover.specs.Stored.{Stored, IsStored, segment_name}
-use Rattle.lethe_recover.specs.Encodes.{Encodes, HasParts}
-use Rattle.lethe_recover.specs.Goes.{Goes}
+use Rattle.lethe_stored.specs.Stored.{Stored, IsStored, segment_name}
+use Rattle.lethe_stored.specs.Encodes.{Encodes, HasParts}
+use Rattle.lethe_disk.specs.Goes.{Goes}
 use Rattle.lethe_recover.specs.Settled.{IsSettled, HasOnly, IsWhole}
 use Rattle.lethe_recover.specs.Rewritten.{first_manifest, new_stored}
-use Rattle.lethe_recover.proofs.Frame.{gate≢segment, manifest≢segment}
-use Rattle.lethe_recover.proofs.Firsts.{empty_is_stored}
-use Rattle.lethe_recover.proofs.Steps.{first_switch_encodes}
+use Rattle.lethe_stored.proofs.Frame.{gate≢segment, manifest≢segment}
+use Rattle.lethe_stored.proofs.Firsts.{empty_is_stored}
+use Rattle.lethe_stored.proofs.Steps.{first_switch_encodes}
 use Rattle.lethe_recover.proofs.Uncited.{all_present, apart_keys}
-use Rattle.lethe_recover.proofs.Going.{goes_leads}
+use Rattle.lethe_disk.proofs.Going.{goes_leads}
 
 true≢false : true ≡ false → ⊥
 true≢false e = cc

@@ -1,16 +1,7 @@
-pub mod Quieting
 pub mod Replaying
 pub mod Reading
-pub mod Unique
+pub mod Gated
 pub mod Exact
-pub mod Frame
-pub mod Steps
-pub mod Meanings
-pub mod Numbered
-pub mod Changes
-pub mod ExamplesSpelled
-pub mod Firsts
-pub mod Going
 pub mod Uncited
 pub mod Anew
 pub mod Begun

@@ -5,6 +5,7 @@ use Rattle.std.specs.FinMap.{keys}
 use Rattle.lethe_base.specs.declared.config.Fields.{Fields}
 use Rattle.lethe_base.specs.declared.name.Name.{Name}
 use Rattle.lethe_disk.specs.Directory.{Directory, object}
+use Rattle.lethe_disk.proofs.Objects.{absent_of}
 use Rattle.lethe_segment.specs.declared.record.Record.{Record}
 use Rattle.lethe_manifest.specs.declared.manifest.Manifest.{Manifest}
 use Rattle.lethe_manifest.specs.Manifests.{HasSpelling, IsOneBelow}
@@ -15,7 +16,7 @@ use Rattle.lethe_recover.specs.declared.recovered.Recovered.{Recovered}
 use Rattle.lethe_recover.specs.declared.refused.RecoverRefused.{RecoverRefused}
 use Rattle.lethe_recover.specs.declared.refused.RecoverRefused.TheVariants.{Damaged, Fault, NoMemory, OtherConfig}
 use Rattle.lethe_recover.specs.Loaded.{IsRead, IsSpelled, IsGated, MayFail, MayRefuse, IsReplayed, IsUnreplayed}
-use Rattle.lethe_recover.proofs.Replaying.{absent_of}
+use Rattle.lethe_stored.proofs.Unique.{pairs_of_one}
 
 -- what a `?` hands on
 pub err_moved : {T E : Type 0} (result : Result T E) (why : E) (P : E → Type 0) → IsErrAnd result (λ e. e ≡ why) → P why → IfErr result P
@@ -44,9 +45,6 @@ one_segment next (a ∷ b ∷ rest) is = absurd is
 
 pub contains_one : (segments : List ℕ) (k : ℕ) → segments ≡ k ∷ [] → Contains segments k
 contains_one segments k is = subst (λ l. Contains l k) (sym is) (0, omega arith, refl)
-
-pub pairs_of_one : (segments : List ℕ) (k : ℕ) → segments ≡ k ∷ [] → AllPairs (λ a b. a ≢ b) segments
-pairs_of_one segments k is = subst (AllPairs (λ a b. a ≢ b)) (sym is) (λ i j d lt within. absurd (omega arith))
 
 -- Refusals
 

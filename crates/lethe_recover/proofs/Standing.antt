@@ -10,11 +10,11 @@ use Rattle.lethe_segment.specs.declared.record.Record.TheVariants as of
 use Rattle.lethe_segment.specs.Records.{record_seq, RecordHasSpelling}
 use Rattle.lethe_segment.specs.Segments.{Ascends, last_seq}
 use Rattle.lethe_manifest.specs.declared.manifest.Manifest.{Manifest}
-use Rattle.lethe_recover.specs.Stored.{Stored, Segment, IsStored, records_from, erase_of, in_order, layout_of, count_of, certificate_number, plain}
-use Rattle.lethe_recover.specs.Kept.{IsFor}
+use Rattle.lethe_stored.specs.Stored.{Stored, Segment, IsStored, records_from, erase_of, in_order, layout_of, count_of, certificate_number, plain}
+use Rattle.lethe_stored.specs.Kept.{IsFor}
 use Rattle.lethe_recover.specs.Rewritten.{rewritten}
-use Rattle.lethe_recover.proofs.Numbered.{covers_numbered}
-use Rattle.lethe_recover.proofs.Unique.{none_frozen}
+use Rattle.lethe_stored.proofs.Numbered.{covers_numbered}
+use Rattle.lethe_stored.proofs.Unique.{none_frozen}
 
 -- The last place
 

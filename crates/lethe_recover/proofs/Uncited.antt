@@ -17,10 +17,10 @@ use Rattle.lethe_commit.specs.Gates.{gate_name}
 use Rattle.lethe_commit.specs.Switch.{manifest_name}
 use Rattle.lethe_commit.proofs.Listed.{listed}
 use Rattle.lethe_commit.proofs.Removals.{all_absent, cleared_absent}
-use Rattle.lethe_recover.specs.Stored.{Stored, Segment, IsStored, segment_name, IsCited}
-use Rattle.lethe_recover.specs.Encodes.{Encodes, AreSpare}
+use Rattle.lethe_stored.specs.Stored.{Stored, Segment, IsStored, segment_name, IsCited}
+use Rattle.lethe_stored.specs.Encodes.{Encodes, AreSpare}
 use Rattle.lethe_recover.specs.Settled.{is_cited, HasOnly}
-use Rattle.lethe_recover.proofs.Unique.{none_frozen, one_cited}
+use Rattle.lethe_stored.proofs.Unique.{none_frozen, one_cited}
 
 -- Names that differ from each other
 

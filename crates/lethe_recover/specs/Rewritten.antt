@@ -2,7 +2,7 @@
 use Rattle.std.specs.Prelude.{ℕ, ◌+◌, [], ◌∷◌, None}
 use Rattle.lethe_base.specs.declared.config.Fields.{Fields}
 use Rattle.lethe_manifest.specs.declared.manifest.Manifest.{Manifest}
-use Rattle.lethe_recover.specs.Stored.{Stored}
+use Rattle.lethe_stored.specs.Stored.{Stored}
 
 -- the manifest that follows, which cites one new segment; the next number is the segment's, and the one behind it the manifest's
 abbrev pub successor : Manifest → ℕ → Manifest

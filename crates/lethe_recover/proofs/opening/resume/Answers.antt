@@ -2,12 +2,12 @@ use Rattle.std.proofs.Common.{◌≡◌, ◌≤◌, ◌<◌, ◌+◌, ◌⊎◌,
 use Rattle.lethe_base.specs.Limits.{max_place}
 use Rattle.lethe_segment.specs.Segments.{last_seq}
 use Rattle.lethe_manifest.specs.declared.manifest.Manifest.{Manifest}
-use Rattle.lethe_recover.specs.Stored.{count_of}
-use Rattle.lethe_recover.specs.Encodes.{Encodes}
-use Rattle.lethe_recover.specs.Goes.{Goes}
-use Rattle.lethe_recover.specs.Kept.{IsKept}
+use Rattle.lethe_stored.specs.Stored.{count_of}
+use Rattle.lethe_stored.specs.Encodes.{Encodes}
+use Rattle.lethe_disk.specs.Goes.{Goes}
+use Rattle.lethe_stored.specs.Kept.{IsKept}
 use Rattle.lethe_recover.specs.Rewritten.{rewritten}
-use Rattle.lethe_recover.proofs.Going.{goes_then, goes_weaker}
+use Rattle.lethe_disk.proofs.Going.{goes_then, goes_weaker}
 use Rattle.lethe_recover.proofs.Anew.{rewritten_stored}
 use Rattle.lethe_recover.proofs.Standing.{last_fits, count_is, count_fits}
 use Rattle.lethe_recover.proofs.Resumed.{old_kept, either_kept}

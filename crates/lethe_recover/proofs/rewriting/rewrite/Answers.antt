@@ -9,9 +9,9 @@ use Rattle.lethe_manifest.specs.declared.manifest.Manifest.{Manifest}
 use Rattle.lethe_manifest.specs.Manifests.{manifest_bytes}
 use Rattle.lethe_commit.specs.Clear.{ArePresent, IsCleared, remove_all}
 use Rattle.lethe_commit.specs.Switch.{IsFree, IsSwitched, HasNew, switched}
-use Rattle.lethe_recover.specs.Stored.{segment_name}
+use Rattle.lethe_stored.specs.Stored.{segment_name}
 use Rattle.lethe_recover.specs.Rewritten.{successor}
-use Rattle.lethe_recover.proofs.Unique.{one_cited}
+use Rattle.lethe_stored.proofs.Unique.{one_cited}
 use Rattle.lethe_recover.proofs.Anew.{segment_some, free_placed, old_present, switch_moments, clear_moments, settled_new}
 use Rattle.lethe_recover.proofs.rewriting.rewrite.Goals as goal
 
