@@ -1,6 +1,6 @@
 -- The segment of a number, and the records that are replayed of it.
 use Rattle.std.proofs.Common.{◌≡◌, ◌≢◌, ◌<◌, ◌^◌, ℕ, true, eqb, List, ◌++◌, Option, Some, None, refl, sym, ap, subst, ◌∙◌, append_assoc, arith}
-use Rattle.std.specs.Prelude.{IsSome, MatchOption, MatchResult, Result, Err}
+use Rattle.std.specs.Prelude.{MatchOption, MatchResult, Result, Err}
 use Rattle.std.specs.Option.{option_eq}
 use Rattle.std.proofs.lemmas.Bool.{eqb-true}
 use Rattle.lethe_disk.specs.Directory.{Directory, object}
