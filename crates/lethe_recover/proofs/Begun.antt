@@ -24,6 +24,8 @@ use Rattle.lethe_disk.specs.Goes.{Goes}
 use Rattle.lethe_recover.specs.Settled.{IsSettled, HasOnly, IsWhole}
 use Rattle.lethe_recover.specs.Rewritten.{first_manifest, new_stored}
 use Rattle.lethe_stored.proofs.Frame.{gate≢segment, manifest≢segment}
+use Rattle.std.proofs.lemmas.List.Elements.{All-nil}
+use Rattle.lethe_stored.proofs.Parts.{active_part}
 use Rattle.lethe_stored.proofs.Firsts.{empty_is_stored}
 use Rattle.lethe_stored.proofs.Steps.{first_switch_encodes}
 use Rattle.lethe_recover.proofs.Uncited.{all_present, apart_keys}
@@ -85,6 +87,7 @@ module _ (config : Fields) (limits : IsConfig config) where
           holds = holds_spelling 1 [];
         };
         frozen = tt;
+        files = All-nil (HasObject s2.directory);
       }
 
       pub free_new : IsFree s2 2 None
@@ -132,7 +135,7 @@ module _ (config : Fields) (limits : IsConfig config) where
                   | inr ne_gate ↦ elim (name_cases name (manifest_name 2)) [
                     | inl is_manifest ↦ inr (inl is_manifest)
                     | inr ne_manifest ↦ elim (name_cases name (segment_name 1)) [
-                      | inl is_segment ↦ inr (inr (inl is_segment))
+                      | inl is_segment ↦ inr (inr (subst (Contains (part_names t)) (sym is_segment) (active_part t)))
                       | inr ne_segment ↦ absurd (true≢false (sym there ∙ ap is_some (ap (λ x. object x name) switched_is ∙ beside_placed 2 (manifest_bytes (first_manifest config)) s2.directory name (ne_manifest, (ne_gate, tt)) ∙ beside_new name ne_segment)))
                     ]
                   ]

@@ -1,3 +1,4 @@
+pub mod Narrow
 pub mod Replaying
 pub mod Reading
 pub mod Gated

@@ -16,7 +16,11 @@ use Rattle.lethe_recover.specs.declared.recovered.Recovered.{Recovered}
 use Rattle.lethe_recover.specs.declared.refused.RecoverRefused.{RecoverRefused}
 use Rattle.lethe_recover.specs.declared.refused.RecoverRefused.TheVariants.{Damaged, Fault, NoMemory, OtherConfig}
 use Rattle.lethe_recover.specs.Loaded.{IsRead, IsSpelled, IsGated, MayFail, MayRefuse, IsReplayed, IsUnreplayed}
-use Rattle.lethe_stored.proofs.Unique.{pairs_of_one}
+use Rattle.lethe_header.specs.declared.header.PageLine.{PageLine}
+use Rattle.lethe_stored.specs.Files.{StoredFile, IsFile}
+use Rattle.lethe_stored.specs.Encodes.{HasObject}
+use Rattle.lethe_stored.proofs.Lists.{no_pairs, pairs_of_one}
+use Rattle.std.proofs.lemmas.List.Elements.{All-nil}
 
 -- what a `?` hands on
 pub err_moved : {T E : Type 0} (result : Result T E) (why : E) (P : E → Type 0) → IsErrAnd result (λ e. e ≡ why) → P why → IfErr result P
@@ -77,12 +81,22 @@ pub is_read : (config : Fields) (d mid : Directory) (number : ℕ) (m : Manifest
 is_read config d mid number m k records read greatest spelled is same one mid_is replayed read_is =
     let gated = gated_of d number m greatest is in
     record {
-      s = record { manifest = m; frozen = None; active = record { no = k; records = records } };
-      stored = record { spelled = spelled; cites = one; once = pairs_of_one m.segments k one; active = replayed.0; frozen = tt };
+      s = record { manifest = m; frozen = None; active = record { no = k; records = records }; files = [] };
+      stored = record {
+        spelled = spelled;
+        cites = one;
+        once = pairs_of_one m.segments k one;
+        active = replayed.0;
+        frozen = tt;
+        files = spelled.files;
+        each = All-nil (IsFile m.next);
+        files_once = no_pairs (λ (a b : StoredFile). a.header.no ≢ b.header.no);
+        pages_once = no_pairs (λ (a b : PageLine). a.no ≢ b.no);
+      };
       encodes = record {
         greatest = gated.greatest;
         manifest = gated.is.there;
-        parts = record { active = (subst (λ x. IsReplayed x k records) mid_is replayed).1; frozen = tt };
+        parts = record { active = (subst (λ x. IsReplayed x k records) mid_is replayed).1; frozen = tt; files = All-nil (HasObject d) };
       };
       config_is = same;
       all = read_is;

@@ -29,7 +29,8 @@ use Rattle.lethe_recover.specs.Settled.{IsSettled}
 use Rattle.lethe_recover.specs.Opening.{IsTold, IsThere, IsResumed, IsExhausted, MayNotOpen, IsCut, since_start}
 use Rattle.lethe_disk.proofs.Going.{goes_quiet}
 use Rattle.lethe_disk.proofs.Quieting.{quiet_itself}
-use Rattle.lethe_stored.proofs.Unique.{none_or_some, none_frozen, one_stored}
+use Rattle.lethe_stored.proofs.Unique.{none_or_some, one_stored}
+use Rattle.lethe_recover.proofs.Narrow.{none_frozen}
 use Rattle.lethe_recover.proofs.Gated.{encodes_gated}
 use Rattle.lethe_stored.proofs.Firsts.{empty_stands}
 use Rattle.lethe_recover.proofs.Standing.{rewritten_stands, count_rewritten}

@@ -1,5 +1,5 @@
 -- With the record of a change, what is stored stands for the history with that change.
-use Rattle.std.proofs.Common.{◌≡◌, ◌<◌, ◌≤◌, ◌^◌, inl, inr, ℕ, ◌+◌, false, cond, List, [], ◌∷◌, ◌++◌, length, map, max, min, Option, Some, None, refl, sym, ap, ◌∙◌, subst, arith, append-nil, append_assoc}
+use Rattle.std.proofs.Common.{◌≡◌, ◌<◌, ◌≤◌, ◌^◌, inl, inr, ℕ, ◌+◌, false, cond, List, [], ◌∷◌, ◌++◌, length, map, min, Option, Some, None, refl, sym, ap, ◌∙◌, subst, arith, append-nil, append_assoc}
 use Rattle.std.specs.Prelude.{Contains, filter_map, unwrap_or, option_and_then}
 use Rattle.std.specs.List.{cons_option}
 use Rattle.std.specs.FinMap as finmap
@@ -18,7 +18,7 @@ use Rattle.lethe_base.specs.declared.call.Call.TheVariants.{Put, Delete, Tick, W
 use Rattle.lethe_base.specs.declared.call.Did.TheVariants.{Done}
 use Rattle.lethe_base.specs.declared.entry.Entry.{Entry}
 use Rattle.lethe_base.specs.declared.pending.Pending.{Pending}
-use Rattle.std.proofs.lemmas.List.{length_push}
+use Rattle.std.proofs.lemmas.List.{length_push, map_push}
 use Rattle.std.proofs.lemmas.List.Sums.{fold-append}
 use Rattle.lethe_base.proofs.Histories.{after-push, done_push, legal_push}
 use Rattle.lethe_base.proofs.HeldLaws.{buffer_recorded}
@@ -32,18 +32,13 @@ use Rattle.lethe_cover.specs.Steps.{IsCounted, next_place, with_done, recorded, 
 use Rattle.lethe_cover.proofs.Records.{buffer_keyed}
 use Rattle.lethe_cover.proofs.Entered.{put_covers, delete_covers}
 use Rattle.lethe_cover.proofs.Unentered.{blind_covers}
-use Rattle.lethe_stored.specs.Stored.{Stored, Segment, IsStored, records_from, plain, erase_of, in_order, layout_of, count_of, appended}
+use Rattle.lethe_stored.specs.Stored.{Stored, IsStored, records_in, records_of, plain, erase_of, in_order, pending_of, layout_of, count_of, appended}
 use Rattle.lethe_stored.specs.Kept.{IsFor, certifies, certificates}
-use Rattle.lethe_stored.proofs.Unique.{none_frozen}
 use Rattle.lethe_stored.proofs.Numbered.{covers_numbered}
-use Rattle.lethe_stored.proofs.Meanings.{plain_place}
+use Rattle.lethe_stored.proofs.Meanings.{plain_place, frozen_are}
 use Rattle.lethe_stored.proofs.Steps.{stored_appended}
 
 -- Lists
-
-map_push : {X Y : Type 0} (f : X → Y) (xs : List X) (x : X) → map f (xs ++ x ∷ []) ≡ map f xs ++ f x ∷ []
-map_push f [] x = refl
-map_push f (y ∷ ys) x = ap (λ l. f y ∷ l) (map_push f ys x)
 
 erases_push : (records : List Record) (r : Record) → erase_of r ≡ None → filter_map erase_of (records ++ r ∷ []) ≡ filter_map erase_of records
 erases_push records r none = filter_map-append erase_of records (r ∷ []) ∙ ap (λ l. filter_map erase_of records ++ l) (by (erase_of r) none) ∙ append-nil (filter_map erase_of records)
@@ -72,7 +67,7 @@ place_within last (first ∷ records) r up there = elim (first_or_rest (plain fi
 spelled_of : (r : Record) (entry : Entry) → RecordHasSpelling r → plain r ≡ Written entry → HasSpelling entry
 spelled_of (of.Entry other) entry spelled is = let same : other ≡ entry = cc in subst HasSpelling same spelled
 spelled_of (of.Blind place) entry spelled is = absurd cc
-spelled_of (of.Erase erase) entry spelled is = absurd spelled
+spelled_of (of.Erase erase) entry spelled is = absurd cc
 
 pub spelled_in : (last : ℕ) (records : List Record) (entry : Entry) → Ascends last records → Contains (map plain records) (Written entry) → HasSpelling entry
 spelled_in last [] entry up there = absurd (none_in (Written entry) there)
@@ -88,11 +83,10 @@ module _ (h : History) (s : Stored) (stored : IsStored s) (stands : IsFor h s) w
   l = layout_of s
 
   pub last_within : last_seq 0 s.active.records ≤ length h
-  last_within = by s.frozen (none_frozen s stored) stands.count
-    where
-      by : (o : Option Segment) → o ≡ None → max s.manifest.count (last_seq 0 (records_from o s.active.records)) ≡ length h → last_seq 0 s.active.records ≤ length h
-      by None is count = omega (arith, count)
-      by (Some older) is count = let clash : Some older ≡ None = is in cc
+  last_within = let count = stands.count in omega (arith, count)
+
+  pub frozen_within : last_seq 0 (records_in s.frozen) ≤ length h
+  frozen_within = let count = stands.count in omega (arith, count)
 
   pub count_within : s.manifest.count ≤ length h
   count_within = let count = stands.count in omega (arith, count)
@@ -102,7 +96,7 @@ module _ (h : History) (s : Stored) (stored : IsStored s) (stands : IsFor h s) w
     count = stands.count;
     places = λ r is. elim is [
       | inl active ↦ let within = place_within 0 s.active.records r stored.active active in omega (arith, within, last_within)
-      | inr older ↦ absurd (none_in r (subst (λ f. Contains (frozen_records (layout_of (record s { frozen = f }))) r) (none_frozen s stored) older))
+      | inr older ↦ let within = place_within 0 (records_in s.frozen) r stored.frozen (subst (λ rs. Contains rs r) (frozen_are s) older) in omega (arith, within, frozen_within)
     ];
   }
 
@@ -116,13 +110,12 @@ module _ (h : History) (s : Stored) (stored : IsStored s) (stands : IsFor h s) w
 
 -- The layout with a record more
 
-module _ (s : Stored) (stored : IsStored s) (r : Record) (none : erase_of r ≡ None) where
-  same_pending : (o : Option Segment) → in_order (s.manifest.erases ++ filter_map erase_of (records_from o (s.active.records ++ r ∷ []))) ≡ in_order (s.manifest.erases ++ filter_map erase_of (records_from o s.active.records))
-  same_pending None = ap (λ l. in_order (s.manifest.erases ++ l)) (erases_push s.active.records r none)
-  same_pending (Some older) = ap (λ l. in_order (s.manifest.erases ++ l)) (ap (filter_map erase_of) (sym (append_assoc older.records s.active.records (r ∷ []))) ∙ erases_push (older.records ++ s.active.records) r none)
+module _ (s : Stored) (r : Record) (none : erase_of r ≡ None) where
+  same_pending : pending_of (appended s r) ≡ pending_of s
+  same_pending = ap (λ l. in_order (s.manifest.erases ++ l)) (ap (filter_map erase_of) (sym (append_assoc (records_in s.frozen) s.active.records (r ∷ []))) ∙ erases_push (records_of s) r none)
 
   pub layout_appended : layout_of (appended s r) ≡ record (layout_of s) { count = count_of (appended s r); active = (layout_of s).active ++ plain r ∷ [] }
-  layout_appended = λ i. record (layout_of s) { count = count_of (appended s r); active = map_push plain s.active.records r i; pending = same_pending s.frozen i }
+  layout_appended = λ i. record (layout_of s) { count = count_of (appended s r); active = map_push plain s.active.records r i; pending = same_pending i }
 
 certificates_push : (threshold : ℕ) (h : History) (change : Change) → certifies threshold change.did change.call ≡ false → certificates threshold (h ++ change ∷ []) ≡ certificates threshold h
 certificates_push threshold h change no_more = fold-append count 0 h (change ∷ []) ∙ ap (λ b. certificates threshold h + cond b 1 0) no_more ∙ plus_none (certificates threshold h)
@@ -140,9 +133,11 @@ module _ (h : History) (s : Stored) (stored : IsStored s) (stands : IsFor h s) (
       → Covers s.manifest.config.threshold (with_done h caller call) (recorded (layout_of s) (plain r)) → IsFor (with_done h caller call) (appended s r)
   recorded_for few none place clock ticks works certified covers =
       let change : Change = record { caller = caller; call = call; did = Done } in
-      let is = layout_appended s stored r none in
+      let is = layout_appended s r none in
       let more : last_seq 0 (s.active.records ++ r ∷ []) ≡ length h + 1 = last_push 0 s.active.records r ∙ place in
-      let count_more : count_of (appended s r) ≡ length (h ++ change ∷ []) = by_frozen s.frozen (none_frozen s stored) more (length_push h change) in
+      let within = count_within h s stored stands in
+      let older = frozen_within h s stored stands in
+      let count_more : count_of (appended s r) ≡ length (h ++ change ∷ []) = omega (arith, more, within, older, length_push h change) in
       record {
         legal = legal_push h change stands.legal stands.done few works (λ to is. absurd (ticks to is));
         done = done_push h change stands.done refl;
@@ -152,11 +147,6 @@ module _ (h : History) (s : Stored) (stored : IsStored s) (stands : IsFor h s) (
         count = count_more;
         certificate = stands.certificate ∙ sym (certificates_push s.manifest.config.threshold h change certified);
       }
-    where
-      by_frozen : (o : Option Segment) → o ≡ None → last_seq 0 (s.active.records ++ r ∷ []) ≡ length h + 1 → length (h ++ record { caller = caller; call = call; did = Done } ∷ []) ≡ length h + 1
-          → max s.manifest.count (last_seq 0 (records_from o (s.active.records ++ r ∷ []))) ≡ length (h ++ record { caller = caller; call = call; did = Done } ∷ [])
-      by_frozen None is last long = let within = count_within h s stored stands in omega (arith, within, last, long)
-      by_frozen (Some older) is last long = let clash : Some older ≡ None = is in cc
 
 -- Puts and deletes
 

@@ -1,9 +1,11 @@
 -- The two smallest stores are kept for the empty history and for that of one put.
-use Rattle.std.proofs.Common.{◌≡◌, ◌<◌, ◌≤◌, inr, ℕ, List, [], ◌∷◌, length, map, Some, None, refl, sym, ap, ◌∙◌, subst, arith}
+use Rattle.std.proofs.Common.{◌≡◌, ◌≢◌, ◌+◌, zero, suc, ◌<◌, ◌≤◌, inr, ℕ, List, [], ◌∷◌, length, map, Some, None, refl, sym, ap, ◌∙◌, subst, arith}
 use Rattle.std.specs.FinMap as finmap
 use Rattle.std.specs.FinMap.{len-empty, len-entries}
 use Rattle.std.specs.Ordering.{nat_cmp}
-use Rattle.std.specs.Prelude.{option_and_then}
+use Rattle.std.specs.List.{range_with_len}
+use Rattle.std.specs.Prelude.{option_and_then, replicate}
+use Rattle.std.proofs.lemmas.List.Elements.{All-nil}
 use Rattle.lethe_base.specs.Configuration.{IsConfig}
 use Rattle.lethe_base.specs.Layout.{new_layout}
 use Rattle.lethe_base.specs.Shapes.{IsValidShape, shape_of}
@@ -25,12 +27,13 @@ use Rattle.lethe_segment.proofs.Runs.{holds_spelling}
 use Rattle.lethe_manifest.specs.Manifests.{manifest_bytes}
 use Rattle.lethe_commit.specs.Switch.{manifest_name, HasGreatest}
 use Rattle.lethe_cover.specs.Steps.{time_of, put_entry}
+use Rattle.lethe_stored.specs.Files.{IsFile, at_level}
 use Rattle.lethe_stored.specs.Stored.{Stored, IsStored, segment_name, in_order, layout_of, appended}
-use Rattle.lethe_stored.specs.Encodes.{Encodes}
+use Rattle.lethe_stored.specs.Encodes.{Encodes, HasObject}
 use Rattle.lethe_stored.specs.Kept.{IsFor, IsKept}
 use Rattle.lethe_stored.specs.Examples.{small, new_manifest, new_segment, put_manifest, put_segment, IsNewStore, IsOnePut, the_put}
 use Rattle.lethe_stored.proofs.ExamplesSpelled.{new_manifest_spelled, put_manifest_spelled, new_segment_spelled, put_segment_spelled, empty_manifest}
-use Rattle.lethe_stored.proofs.Unique.{pairs_of_one}
+use Rattle.lethe_stored.proofs.Lists.{no_pairs, pairs_of_one}
 use Rattle.lethe_stored.proofs.Numbered.{covers_numbered}
 use Rattle.lethe_stored.proofs.Changes.{put_stored, put_for}
 
@@ -38,13 +41,18 @@ no_items : {X : Type 0} (xs : List X) → length xs ≡ 0 → xs ≡ []
 no_items [] e = refl
 no_items (x ∷ xs) e = absurd (omega arith)
 
+-- levels without files
+pub no_levels : (first levels : ℕ) → map (at_level []) (range_with_len first levels) ≡ replicate levels []
+no_levels first zero = refl
+no_levels first (suc levels) = ap (λ l. [] ∷ l) (no_levels (first + 1) levels)
+
 pub none_pending : in_order [] ≡ []
 none_pending = ap (map (λ (p : ℕ × Pending). p.1)) (no_items (finmap.entries (finmap.empty {X = Pending} {R = nat_cmp})) (sym (len-entries (finmap.empty {X = Pending} {R = nat_cmp})) ∙ len-empty nat_cmp Pending))
 
 -- A store without records: its manifest, and an empty segment.
 
 abbrev pub empty_stored : Fields → ℕ → ℕ → ℕ → Stored
-empty_stored config own next segment = record { manifest = empty_manifest config own next segment; frozen = None; active = record { no = segment; records = [] } }
+empty_stored config own next segment = record { manifest = empty_manifest config own next segment; frozen = None; active = record { no = segment; records = [] }; files = [] }
 
 module _ (config : Fields) (own next segment : ℕ) (limits : IsConfig config) (own_below : own < next) (segment_below : segment < next) where
   pub empty_is_stored : next ≤ max_place → IsStored (empty_stored config own next segment)
@@ -54,10 +62,14 @@ module _ (config : Fields) (own next segment : ℕ) (limits : IsConfig config) (
     once = pairs_of_one (segment ∷ []) segment refl;
     active = tt;
     frozen = tt;
+    files = refl;
+    each = All-nil (IsFile next);
+    files_once = no_pairs (λ a b. a.header.no ≢ b.header.no);
+    pages_once = no_pairs (λ a b. a.no ≢ b.no);
   }
 
   empty_layout : layout_of (empty_stored config own next segment) ≡ record (new_layout config.levels) { next = next }
-  empty_layout = ap (λ pending. record (new_layout config.levels) { next = next; pending = pending }) none_pending
+  empty_layout = λ i. record (new_layout config.levels) { next = next; pending = none_pending i; levels = [] ∷ no_levels 1 config.levels i }
 
   pub empty_stands : IsFor [] (empty_stored config own next segment)
   empty_stands = record {
@@ -91,7 +103,7 @@ encoded : (d : Directory) (own next segment : ℕ) (records : List Record) (byte
 encoded d own next segment records bytes spelling below gate manifest is there spells = record {
   greatest = gate;
   manifest = manifest ∙ ap Some is;
-  parts = record { active = record { bytes = spelling; there = there; holds = subst (Holds segment records) (sym spells) (holds_spelling segment records) }; frozen = tt };
+  parts = record { active = record { bytes = spelling; there = there; holds = subst (Holds segment records) (sym spells) (holds_spelling segment records) }; frozen = tt; files = All-nil (HasObject d) };
 }
 
 pub new_store : (d : Directory) → IsNewStore d → IsKept d []

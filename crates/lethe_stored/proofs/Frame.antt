@@ -1,17 +1,19 @@
 -- The frame law: what a directory encodes rests on its greatest gate, the manifest of that, and what this cites.
-use Rattle.std.proofs.Common.{◌≡◌, ◌≢◌, ◌<◌, ◌≤◌, inl, inr, ℕ, suc, List, [], ◌∷◌, Option, Some, None, refl, sym, ap, ◌∙◌, subst, arith}
-use Rattle.std.specs.Prelude.{Contains, IfSome, IsSomeAnd, is_some}
+use Rattle.std.proofs.Common.{◌≡◌, ◌≢◌, ◌≤◌, inl, inr, ℕ, suc, List, [], ◌∷◌, Option, Some, None, refl, sym, ap, ◌∙◌, arith}
+use Rattle.std.specs.Prelude.{All, Contains, IfSome, is_some}
+use Rattle.std.proofs.lemmas.List.Elements.{All-contains}
 use Rattle.lethe_base.specs.History.{History}
 use Rattle.lethe_base.specs.declared.name.Kind.TheVariants as kinds
 use Rattle.lethe_base.specs.declared.name.Name.{Name}
 use Rattle.lethe_disk.specs.Directory.{Directory, object, IsNoneOf, SameBeside}
-use Rattle.lethe_manifest.specs.Manifests.{IsOneBelow}
 use Rattle.lethe_commit.specs.Gates.{gate_name}
 use Rattle.lethe_commit.specs.Switch.{manifest_name}
-use Rattle.lethe_stored.specs.Stored.{Stored, Segment, IsStored, segment_name, IsSegmentOf, IsCited, IsSpare}
-use Rattle.lethe_stored.specs.Encodes.{Encodes, HasParts, HasSegment, Agrees, IsBeside, AreSpare}
+use Rattle.lethe_stored.specs.Files.{objects_of}
+use Rattle.lethe_stored.specs.Stored.{Stored, Segment, IsStored, segment_name, part_names, IsCited, IsSpare}
+use Rattle.lethe_stored.specs.Encodes.{Encodes, HasParts, HasSegment, HasObject, Agrees, IsBeside, AreSpare}
 use Rattle.lethe_stored.specs.Kept.{IsKept}
-use Rattle.lethe_stored.proofs.Unique.{none_frozen, one_cited}
+use Rattle.lethe_stored.proofs.Lists.{all_from}
+use Rattle.lethe_stored.proofs.Parts.{active_part, frozen_part, object_part, part_below}
 
 -- Names
 
@@ -23,14 +25,6 @@ manifest≢segment k n e = let same : kinds.Manifest ≡ kinds.Segment = ap (λ 
 
 pub same_no : (a b : Name) → a ≡ b → a.no ≡ b.no
 same_no a b e = ap (λ (x : Name). x.no) e
-
-pub segment_kind : (s : Stored) (name : Name) → IsSegmentOf s name → name.kind ≡ kinds.Segment
-segment_kind s name (inl is) = ap (λ (x : Name). x.kind) is
-segment_kind s name (inr older) = by s.frozen older
-  where
-    by : (o : Option Segment) → IsSomeAnd o (λ older. name ≡ segment_name older.no) → name.kind ≡ kinds.Segment
-    by None is = absurd is
-    by (Some older) is = ap (λ (x : Name). x.kind) is
 
 -- what isn't in a list is none of it
 pub none_of : (names : List Name) (name : Name) → (Contains names name → ⊥) → IsNoneOf names name
@@ -45,15 +39,19 @@ none_of (first ∷ names) name out = (
 pub moved : (d c : Directory) (segment : Segment) → object c (segment_name segment.no) ≡ object d (segment_name segment.no) → HasSegment d segment → HasSegment c segment
 moved d c segment same has = record { bytes = has.bytes; there = same ∙ has.there; holds = has.holds }
 
-pub parts_framed : (d c : Directory) (s : Stored) → ((name : Name) → IsSegmentOf s name → object c name ≡ object d name) → HasParts d s → HasParts c s
+pub frozen_moved : (d c : Directory) (o : Option Segment) → ((older : Segment) → o ≡ Some older → object c (segment_name older.no) ≡ object d (segment_name older.no)) → IfSome o (HasSegment d) → IfSome o (HasSegment c)
+frozen_moved d c None same has = tt
+frozen_moved d c (Some older) same has = moved d c older (same older refl) has
+
+pub objects_moved : (d c : Directory) (objects : List (Name × List ℕ)) → ((named : Name × List ℕ) → Contains objects named → object c named.0 ≡ object d named.0) → All (HasObject d) objects → All (HasObject c) objects
+objects_moved d c objects same has = all_from (HasObject c) objects (λ named there. same named there ∙ All-contains (HasObject d) objects named has there)
+
+pub parts_framed : (d c : Directory) (s : Stored) → ((name : Name) → Contains (part_names s) name → object c name ≡ object d name) → HasParts d s → HasParts c s
 parts_framed d c s same parts = record {
-  active = moved d c s.active (same (segment_name s.active.no) (inl refl)) parts.active;
-  frozen = by s.frozen (λ name is. same name (inr is)) parts.frozen;
+  active = moved d c s.active (same (segment_name s.active.no) (active_part s)) parts.active;
+  frozen = frozen_moved d c s.frozen (λ older is. same (segment_name older.no) (frozen_part s older is)) parts.frozen;
+  files = objects_moved d c (objects_of s.files) (λ named there. same named.0 (object_part s named there)) parts.files;
 }
-  where
-    by : (o : Option Segment) → ((name : Name) → IsSomeAnd o (λ older. name ≡ segment_name older.no) → object c name ≡ object d name) → IfSome o (HasSegment d) → IfSome o (HasSegment c)
-    by None same has = tt
-    by (Some older) same has = moved d c older (same (segment_name older.no) refl) has
 
 pub framed : (s : Stored) (d c : Directory) → Encodes d s → Agrees s d c → Encodes c s
 framed s d c e a = record {
@@ -81,15 +79,7 @@ fresh_spare s name stored fresh other = record {
   no_gate = λ k lt is. other (ap (λ (n : Name). n.kind) is);
 }
   where
-    below : s.active.no < s.manifest.next
-    below = subst (IsOneBelow s.manifest.next) (one_cited s stored) stored.spelled.segments
-
     cited : IsCited s name → ⊥
     cited (inl is) = other (ap (λ (n : Name). n.kind) is)
     cited (inr (inl is)) = let same = same_no name (manifest_name s.manifest.no) is in omega (arith, same, fresh, stored.spelled.no)
-    cited (inr (inr (inl is))) = let same = same_no name (segment_name s.active.no) is in omega (arith, same, fresh, below)
-    cited (inr (inr (inr older))) = by s.frozen (none_frozen s stored) older
-      where
-        by : (o : Option Segment) → o ≡ None → IsSomeAnd o (λ older. name ≡ segment_name older.no) → ⊥
-        by None is older = older
-        by (Some segment) is older = let clash : Some segment ≡ None = is in cc
+    cited (inr (inr part)) = let below = part_below s name stored part in omega (arith, fresh, below)

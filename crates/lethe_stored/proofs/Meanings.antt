@@ -1,6 +1,6 @@
 -- What a directory is kept for is what it means, and nothing that it holds is overdue.
-use Rattle.std.proofs.Common.{◌≡◌, ◌<◌, inl, inr, ℕ, List, [], ◌∷◌, length, map, refl, sym, ap, ◌∙◌, subst, arith}
-use Rattle.std.specs.Prelude.{Contains}
+use Rattle.std.proofs.Common.{◌≡◌, ◌<◌, inl, inr, ℕ, List, [], ◌∷◌, Option, Some, None, length, map, refl, sym, ap, ◌∙◌, subst, arith}
+use Rattle.std.specs.Prelude.{Contains, unwrap_or, option_map}
 use Rattle.lethe_base.specs.History.{History, after}
 use Rattle.lethe_base.specs.Causes.{IsOverdue}
 use Rattle.lethe_base.specs.Matching.{IsPut}
@@ -18,11 +18,11 @@ use Rattle.lethe_segment.specs.declared.record.Record.{Record}
 use Rattle.lethe_segment.specs.declared.record.Record.TheVariants as of
 use Rattle.lethe_segment.specs.Records.{record_seq}
 use Rattle.lethe_segment.specs.Segments.{Ascends}
-use Rattle.lethe_stored.specs.Stored.{Stored, IsStored, plain, layout_of}
+use Rattle.lethe_stored.specs.Stored.{Stored, Segment, IsStored, records_in, plain, layout_of}
 use Rattle.lethe_stored.specs.Encodes.{Encodes}
 use Rattle.lethe_stored.specs.Kept.{IsFor, IsKept}
 use Rattle.lethe_stored.specs.Meaning.{IsHeld, Means}
-use Rattle.lethe_stored.proofs.Unique.{none_or_some, none_frozen, one_stored}
+use Rattle.lethe_stored.proofs.Unique.{none_or_some, one_stored}
 
 -- a record and its place, as layouts have them
 pub plain_place : (r : Record) → place_of (plain r) ≡ record_seq r
@@ -55,6 +55,14 @@ one_place last (first ∷ records) a b up x y same = elim (first_or_rest (plain 
 written_same : (a b : Entry) → Written a ≡ Written b → a ≡ b
 written_same a b e = cc
 
+-- the records of the frozen segment, as the layout has them
+pub frozen_are : (s : Stored) → frozen_records (layout_of s) ≡ map plain (records_in s.frozen)
+frozen_are s = by s.frozen
+  where
+    by : (o : Option Segment) → unwrap_or (option_map (λ (older : Segment). map plain older.records) o) [] ≡ map plain (records_in o)
+    by None = refl
+    by (Some older) = refl
+
 module _ (h : History) (s : Stored) (stored : IsStored s) (stands : IsFor h s) where
   abbrev pub l : Layout
   l = layout_of s
@@ -73,7 +81,14 @@ module _ (h : History) (s : Stored) (stored : IsStored s) (stands : IsFor h s) w
             let upto = above.3 in
             let same : entry ≡ above.0 = written_same entry above.0 (one_place 0 s.active.records (Written entry) (Written above.0) stored.active active there (omega (arith, last, upto))) in
             inl (inl (subst (InBuffer (buffer_of l.active)) (sym same) above.1))
-        | inr older ↦ absurd (none_in (Written entry) (subst (λ f. Contains (frozen_records (layout_of (record s { frozen = f }))) (Written entry)) (none_frozen s stored) older))
+        | inr older ↦
+            let above = stands.covers.newer_above.frozen_buffer entry older in
+            let there = buffer_recorded (frozen_records l) above.0 above.1 in
+            let last = newest.last above.0 (shown_held l above.0 (inl (inr above.1))) above.2 in
+            let upto = above.3 in
+            let same : entry ≡ above.0 = written_same entry above.0 (one_place 0 (records_in s.frozen) (Written entry) (Written above.0) stored.frozen
+            (subst (λ rs. Contains rs (Written entry)) (frozen_are s) older) (subst (λ rs. Contains rs (Written above.0)) (frozen_are s) there) (omega (arith, last, upto))) in
+            inl (inr (subst (InBuffer (buffer_of (frozen_records l))) (sym same) above.1))
       ]
 
   pub held_map : IsMap (IsHeld s) l.pending (after h).map

@@ -1,6 +1,6 @@
 -- What an append, a switch, a clear and a create of an uncited object leave is kept for what it was kept for, or for what they make it.
-use Rattle.std.proofs.Common.{◌≡◌, ◌≢◌, ◌<◌, ◌≤◌, ◌⊎◌, inl, inr, ℕ, zero, suc, get_or, map, List, [], ◌∷◌, ◌++◌, Option, Some, None, refl, sym, ap, ◌∙◌, subst, arith}
-use Rattle.std.specs.Prelude.{Contains, IfSome, is_some}
+use Rattle.std.proofs.Common.{◌≡◌, ◌≢◌, ◌<◌, ◌≤◌, ◌⊎◌, inl, inr, ℕ, zero, suc, get_or, map, List, [], ◌∷◌, ◌++◌, Some, None, refl, sym, ap, ◌∙◌, subst, arith}
+use Rattle.std.specs.Prelude.{AllPairs, Contains, is_some, option_to_list}
 use Rattle.std.proofs.lemmas.Bool.{cases_eq}
 use Rattle.lethe_base.specs.History.{History}
 use Rattle.lethe_base.specs.declared.name.Kind.TheVariants as kinds
@@ -17,12 +17,13 @@ use Rattle.lethe_commit.specs.Gates.{gate_name}
 use Rattle.lethe_commit.specs.Switch.{manifest_name, HasGreatest, new_names, IsSwitched}
 use Rattle.lethe_commit.proofs.Placing.{gate≢manifest, manifest≢gate, gate≢gate}
 use Rattle.lethe_commit.proofs.Exchange.{manifest≢manifest}
-use Rattle.lethe_stored.specs.Stored.{Stored, Segment, IsStored, before, number_of, segment_name, IsSegmentOf, IsCited, IsSpare, appended}
-use Rattle.lethe_stored.specs.Encodes.{Encodes, HasParts, HasSegment, AreSpare}
+use Rattle.lethe_stored.specs.Files.{objects_of}
+use Rattle.lethe_stored.specs.Stored.{Stored, Segment, IsStored, number_of, segment_name, part_names, IsCited, IsSpare, appended}
+use Rattle.lethe_stored.specs.Encodes.{Encodes, HasParts, AreSpare}
 use Rattle.lethe_stored.specs.Kept.{IsFor, IsKept}
 use Rattle.lethe_stored.specs.Steps.{addition}
-use Rattle.lethe_stored.proofs.Unique.{none_frozen}
-use Rattle.lethe_stored.proofs.Frame.{gate≢segment, manifest≢segment, segment_kind, parts_framed, framed, besides, fresh_spare}
+use Rattle.lethe_stored.proofs.Parts.{part_kind, object_apart}
+use Rattle.lethe_stored.proofs.Frame.{gate≢segment, manifest≢segment, same_no, frozen_moved, objects_moved, parts_framed, framed, besides, fresh_spare}
 
 -- Appending
 
@@ -30,15 +31,22 @@ use Rattle.lethe_stored.proofs.Frame.{gate≢segment, manifest≢segment, segmen
 pub stored_appended : (s : Stored) (next : Record) → IsStored s → RecordHasSpelling next → last_seq 0 s.active.records < record_seq next → IsStored (appended s next)
 stored_appended s next stored spelled above = record {
   spelled = stored.spelled;
-  cites = stored.cites ∙ same s.frozen;
+  cites = stored.cites;
   once = stored.once;
   active = ascends_push 0 s.active.records next stored.active spelled above;
   frozen = stored.frozen;
+  files = stored.files;
+  each = stored.each;
+  files_once = stored.files_once;
+  pages_once = stored.pages_once;
 }
-  where
-    same : (o : Option Segment) → map number_of (before o (s.active ∷ [])) ≡ map number_of (before o ((appended s next).active ∷ []))
-    same None = refl
-    same (Some older) = refl
+
+-- the frozen segment has another number than the active one
+frozen_apart : (s : Stored) (older : Segment) → IsStored s → s.frozen ≡ Some older → older.no ≢ s.active.no
+frozen_apart s older stored is =
+    let two : s.manifest.segments ≡ older.no ∷ s.active.no ∷ [] = stored.cites ∙ ap (λ o. map number_of (option_to_list o) ++ s.active.no ∷ []) is in
+    let once = subst (AllPairs (λ a b. a ≢ b)) two stored.once in
+    once 0 1 0 (omega arith) (omega arith)
 
 -- all but the active segment is as it was
 pub active_changed : (s : Stored) (d c : Directory) (records : List Record) → IsStored s → Encodes d s → SameBut (segment_name s.active.no) d c → HasRecords (segment_name s.active.no) s.active.no records c
@@ -49,7 +57,11 @@ active_changed s d c records stored e others has = record {
     λ k lt. others (gate_name k) (gate≢segment k s.active.no) ∙ e.greatest.1 k lt,
   );
   manifest = others (manifest_name s.manifest.no) (manifest≢segment s.manifest.no s.active.no) ∙ e.manifest;
-  parts = record { active = has; frozen = subst (λ f. IfSome f (HasSegment c)) (sym (none_frozen s stored)) tt };
+  parts = record {
+    active = has;
+    frozen = frozen_moved d c s.frozen (λ older is. others (segment_name older.no) (λ same. frozen_apart s older stored is (same_no (segment_name older.no) (segment_name s.active.no) same))) e.parts.frozen;
+    files = objects_moved d c (objects_of s.files) (λ named there. others named.0 (object_apart s s.active.no named there)) e.parts.files;
+  };
 }
 
 pub append_encodes : (s : Stored) (next : Record) (at : ℕ) (d c : Directory) → IsStored s → Encodes d s → IsAppended (segment_name s.active.no) at (addition s next) d c → Encodes c s ⊎ Encodes c (appended s next)
@@ -67,17 +79,15 @@ append_keeps h g s next at d c stored e stands longer_stored longer_stands left 
 
 -- Switching
 
-segment_new : (s : Stored) (number : ℕ) (name : Name) → IsSegmentOf s name → IsNoneOf (new_names number) name
-segment_new s number name is =
-    let kind = segment_kind s name is in (
-      (λ e. let clash : kinds.Segment ≡ kinds.Manifest = sym kind ∙ ap (λ (x : Name). x.kind) e in cc),
-      ((λ e. let clash : kinds.Segment ≡ kinds.Gate = sym kind ∙ ap (λ (x : Name). x.kind) e in cc), tt),
-    )
+part_new : (s : Stored) (number : ℕ) (name : Name) → Contains (part_names s) name → IsNoneOf (new_names number) name
+part_new s number name there =
+    let kind = part_kind s name there in
+    ((λ e. kind.1 (ap (λ (x : Name). x.kind) e)), ((λ e. kind.0 (ap (λ (x : Name). x.kind) e)), tt))
 
-segment_old : (s : Stored) (number older : ℕ) (name : Name) → IsSegmentOf s name → IsNoneOf (manifest_name number ∷ gate_name number ∷ gate_name older ∷ manifest_name older ∷ []) name
-segment_old s number older name is =
-    let new = segment_new s number name is in
-    let old = segment_new s older name is in
+part_old : (s : Stored) (number older : ℕ) (name : Name) → Contains (part_names s) name → IsNoneOf (manifest_name number ∷ gate_name number ∷ gate_name older ∷ manifest_name older ∷ []) name
+part_old s number older name there =
+    let new = part_new s number name there in
+    let old = part_new s older name there in
     (new.0, (new.1.0, (old.1.0, (old.0, tt))))
 
 -- what an older manifest commits isn't the new one's
@@ -90,7 +100,7 @@ cited_old s number name lt (inr (inl is)) = (
   (λ e. manifest≢manifest s.manifest.no number (λ same. omega (arith, same, lt)) (sym is ∙ e)),
   ((λ e. manifest≢gate s.manifest.no number (sym is ∙ e)), tt),
 )
-cited_old s number name lt (inr (inr is)) = segment_new s number name is
+cited_old s number name lt (inr (inr is)) = part_new s number name is
 
 pub switch_encodes : (s t : Stored) (d c : Directory) → Encodes d s → HasParts d t → s.manifest.no < t.manifest.no → IsSwitched t.manifest.no (manifest_bytes t.manifest) (Some s.manifest.no) d c → Encodes c s ⊎ Encodes c t
 switch_encodes s t d c e parts lt (inl un) = inl (framed s d c e (record {
@@ -109,7 +119,7 @@ switch_encodes s t d c e parts lt (inr new) = inr (record {
     ],
   );
   manifest = new.manifest;
-  parts = parts_framed d c t (λ name is. new.others name (segment_old t t.manifest.no s.manifest.no name is)) parts;
+  parts = parts_framed d c t (λ name is. new.others name (part_old t t.manifest.no s.manifest.no name is)) parts;
 })
 
 pub switch_keeps : (h : History) (s t : Stored) (d c : Directory) → IsStored s → Encodes d s → IsFor h s → IsStored t → HasParts d t → IsFor h t → s.manifest.no < t.manifest.no
@@ -134,7 +144,7 @@ first_switch_encodes t d c none parts (inr new) = inr (record {
     ],
   );
   manifest = new.manifest;
-  parts = parts_framed d c t (λ name is. new.others name (segment_new t t.manifest.no name is)) parts;
+  parts = parts_framed d c t (λ name is. new.others name (part_new t t.manifest.no name is)) parts;
 })
 
 pub first_switch_keeps : (t : Stored) (d c : Directory) → HasGreatest None d → IsStored t → HasParts d t → IsFor [] t → IsSwitched t.manifest.no (manifest_bytes t.manifest) None d c → IsKept c []

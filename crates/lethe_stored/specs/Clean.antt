@@ -14,6 +14,12 @@ use Rattle.lethe_segment.specs.declared.record.Record.TheVariants as of
 use Rattle.lethe_segment.specs.Segments.{segment_bytes, Ascends}
 use Rattle.lethe_manifest.specs.declared.manifest.Manifest.{Manifest}
 use Rattle.lethe_manifest.specs.Manifests.{manifest_bytes, HasSpelling}
+use Rattle.lethe_page.specs.Pages.{page_bytes}
+use Rattle.lethe_page.specs.Pages as pages
+use Rattle.lethe_page.specs.declared.class.Class.{Class}
+use Rattle.lethe_header.specs.Headers.{header_bytes}
+use Rattle.lethe_header.specs.Headers as headers
+use Rattle.lethe_header.specs.declared.header.Header.{Header}
 
 abbrev pub entry_of : Record → Option Entry
 entry_of (of.Entry entry) = Some entry
@@ -35,13 +41,26 @@ pub record SpellsSegment (number : ℕ) (bytes : List ℕ) (entries : List Entry
   pub is : bytes ≡ segment_bytes number records
   pub those : entries ≡ filter_map entry_of records
 
--- An object of the kind and number spells these entries; pages and headers of files aren't built yet.
+-- a header of this number is spelled so
+pub record SpellsHeader (number : ℕ) (bytes : List ℕ) : Type 0 where
+  pub header : Header
+  pub spelled : headers.HasSpelling header
+  pub own : header.no ≡ number
+  pub is : bytes ≡ header_bytes header
+
+-- a page with these entries is spelled so
+pub record SpellsPage (bytes : List ℕ) (entries : List Entry) : Type 0 where
+  pub class : Class
+  pub spelled : pages.HasSpelling class entries
+  pub is : bytes ≡ page_bytes class entries
+
+-- an object of the kind and number spells these entries
 abbrev pub Spells : Kind → ℕ → List ℕ → List Entry → Type 0
 Spells kinds.Gate number bytes entries = (bytes ≡ []) × (entries ≡ [])
 Spells kinds.Manifest number bytes entries = SpellsManifest number bytes × (entries ≡ [])
 Spells kinds.Segment number bytes entries = SpellsSegment number bytes entries
-Spells kinds.File number bytes entries = ⊥
-Spells kinds.Page number bytes entries = ⊥
+Spells kinds.File number bytes entries = SpellsHeader number bytes × (entries ≡ [])
+Spells kinds.Page number bytes entries = SpellsPage bytes entries
 
 -- an object of the directory spells it
 pub record IsHeldIn (d : Directory) (entry : Entry) : Type 0 where

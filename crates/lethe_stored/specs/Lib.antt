@@ -1,3 +1,4 @@
+pub mod Files
 pub mod Stored
 pub mod Encodes
 pub mod Steps

@@ -6,26 +6,29 @@ ghost use Rattle.lethe_base.specs.History.{History, after};
 ghost use Rattle.lethe_base.specs.Keys.{Bytes};
 ghost use Rattle.lethe_base.specs.Limits.{IsKey, IsValue, max_place};
 ghost use Rattle.lethe_base.specs.Matching.{IsPut};
+ghost use Rattle.lethe_base.specs.Shapes as shapes;
 ghost use Rattle.lethe_base.specs.declared.call.Call.TheVariants.{Put, Delete};
 ghost use Rattle.lethe_base.specs.declared.entry.Entry.{Entry};
 ghost use Rattle.lethe_base.specs.declared.name.Kind.TheVariants as kinds;
 ghost use Rattle.lethe_base.specs.declared.name.Name.{Name};
 ghost use Rattle.lethe_disk.specs.Directory.{Directory, IsCreated};
+ghost use Rattle.lethe_header.specs.Facts as facts;
 ghost use Rattle.lethe_segment.specs.declared.record.Record.{Record};
 ghost use Rattle.lethe_segment.specs.declared.record.Record.TheVariants as of;
-ghost use Rattle.lethe_manifest.specs.Manifests.{manifest_bytes};
+ghost use Rattle.lethe_manifest.specs.Manifests.{manifest_bytes, HasSpelling};
 ghost use Rattle.lethe_commit.specs.Append.{IsAppended};
 ghost use Rattle.lethe_commit.specs.Clear.{IsCleared};
 ghost use Rattle.lethe_commit.specs.Switch.{HasGreatest, IsSwitched};
 ghost use Rattle.lethe_cover.specs.Steps.{next_place, with_done, put_entry, tomb_entry};
-ghost use Rattle.lethe_stored.specs.Stored.{Stored, IsStored, segment_name, layout_of, appended};
+ghost use Rattle.lethe_stored.specs.Files.{StoredFile, IsFile, file_of};
+ghost use Rattle.lethe_stored.specs.Stored.{Stored, IsStored, segment_name, layout_of, appended, froze};
 ghost use Rattle.lethe_stored.specs.Encodes.{Encodes, HasParts, Agrees, IsBeside, AreSpare};
 ghost use Rattle.lethe_stored.specs.Steps.{addition};
 ghost use Rattle.lethe_stored.specs.Kept.{IsFor, IsKept};
 ghost use Rattle.lethe_stored.specs.Meaning.{Means};
 ghost use Rattle.lethe_stored.specs.Examples.{IsNewStore, IsOnePut, the_put};
 
-/// What a directory encodes, and so what it is kept for, rests on its greatest gate, the manifest of that gate and the segments that
+/// What a directory encodes, and so what it is kept for, rests on its greatest gate, the manifest of that gate, and the segments and files that
 /// this manifest cites: whatever else a directory has, it is kept for the same.
 pub fn what_is_cited_counts()
     ensures encodes { (s : Stored) (d c : Directory) → Encodes d s → Agrees s d c → Encodes c s }
@@ -95,6 +98,21 @@ pub fn delete_follows()
     ensures blind { (h : History) (s : Stored) → IsStored s → IsFor h s → length h < max_place → (caller : ℕ) (key : Bytes)
         → ((entry : Entry) → Shows (layout_of s) entry → entry.key ≡ key → ⊥)
         → IsStored (appended s (of.Blind (next_place h))) × IsFor (with_done h caller (Delete key)) (appended s (of.Blind (next_place h))) }
+{}
+
+/// With the active segment frozen and an empty one active, what is stored stands for the same history, where no segment was frozen. Its
+/// manifest has a spelling where it may cite two segments.
+pub fn freeze_follows()
+    ensures stored { (s : Stored) → IsStored s → (segment number : ℕ) → s.manifest.next ≤ segment → segment < number
+        → HasSpelling (froze s segment number).manifest → IsStored (froze s segment number) }
+    ensures stands { (h : History) (s : Stored) → IsStored s → IsFor h s → s.frozen ≡ None → (segment number : ℕ)
+        → IsFor h (froze s segment number) }
+{}
+
+/// The facts of a stored file's header are those of the file in the layout.
+pub fn facts_are_of_the_header()
+    ensures { (next level : ℕ) (file : StoredFile) → IsFile next file
+        → facts.facts_of level file.swept file.header ≡ shapes.facts_of level (file_of file) }
 {}
 
 /// The 71 bytes of a new store's manifest, its gate and its empty segment are kept for the empty history.

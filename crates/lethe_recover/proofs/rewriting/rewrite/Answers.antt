@@ -11,7 +11,7 @@ use Rattle.lethe_commit.specs.Clear.{ArePresent, IsCleared, remove_all}
 use Rattle.lethe_commit.specs.Switch.{IsFree, IsSwitched, HasNew, switched}
 use Rattle.lethe_stored.specs.Stored.{segment_name}
 use Rattle.lethe_recover.specs.Rewritten.{successor}
-use Rattle.lethe_stored.proofs.Unique.{one_cited}
+use Rattle.lethe_recover.proofs.Narrow.{one_cited}
 use Rattle.lethe_recover.proofs.Anew.{segment_some, free_placed, old_present, switch_moments, clear_moments, settled_new}
 use Rattle.lethe_recover.proofs.rewriting.rewrite.Goals as goal
 
