@@ -1,6 +1,6 @@
 -- The images of a disk while what is stored is written anew: the new segment is placed, the manifest switched, and the old segment cleared.
-use Rattle.std.proofs.Common.{◌≡◌, ◌≢◌, ◌<◌, ◌≤◌, ◌⊎◌, inl, inr, ℕ, ◌+◌, List, [], ◌∷◌, Option, Some, None, true, false, refl, sym, ap, ◌∙◌, subst, arith, length, length-append, ◌++◌}
-use Rattle.std.specs.Prelude.{Contains, IsSome, is_some, IsSomeAnd}
+use Rattle.std.proofs.Common.{◌≡◌, ◌≢◌, ◌<◌, ◌≤◌, ◌⊎◌, inl, inr, ℕ, ◌+◌, List, [], ◌∷◌, Some, None, true, false, refl, sym, ap, ◌∙◌, subst, arith, length, length-append, ◌++◌}
+use Rattle.std.specs.Prelude.{Contains, IsSome, is_some}
 use Rattle.std.specs.FinMap.{insert}
 use Rattle.lethe_base.specs.Limits.{max_place}
 use Rattle.lethe_base.specs.declared.name.Kind.TheVariants as kinds
@@ -12,7 +12,7 @@ use Rattle.lethe_disk.proofs.Objects.{name_cases, object_inserted, object_beside
 use Rattle.lethe_segment.specs.declared.record.Record.{Record}
 use Rattle.lethe_segment.specs.Segments.{head_bytes, open_records, segment_bytes}
 use Rattle.lethe_segment.proofs.Runs.{holds_spelling}
-use Rattle.lethe_manifest.specs.Manifests.{HasSpelling, IsOneBelow, manifest_bytes}
+use Rattle.lethe_manifest.specs.Manifests.{HasSpelling, manifest_bytes}
 use Rattle.lethe_manifest.specs.declared.manifest.Manifest.{Manifest}
 use Rattle.lethe_commit.specs.Clear.{ArePresent, IsCleared, remove_all}
 use Rattle.lethe_commit.specs.Gates.{gate_name}
@@ -27,7 +27,7 @@ use Rattle.lethe_disk.specs.Goes.{Goes}
 use Rattle.lethe_recover.specs.Settled.{IsSettled, HasOnly, IsWhole}
 use Rattle.lethe_recover.specs.Rewritten.{successor, rewritten}
 use Rattle.lethe_stored.proofs.Parts.{active_part, part_below}
-use Rattle.lethe_recover.proofs.Narrow.{one_cited, only_part}
+use Rattle.lethe_recover.proofs.Narrow.{only_part}
 use Rattle.lethe_stored.proofs.Frame.{gate≢segment, manifest≢segment, same_no, besides, fresh_spare}
 use Rattle.lethe_stored.proofs.Steps.{switch_encodes, one_name}
 use Rattle.lethe_disk.proofs.Objects.{absent_of}

@@ -1,6 +1,6 @@
 -- The images of a disk while an empty store is made on it.
 use Rattle.std.proofs.Common.{◌≡◌, ◌≢◌, ◌⊎◌, inl, inr, ℕ, List, [], Option, Some, None, true, false, refl, sym, ap, ◌∙◌, subst, arith}
-use Rattle.std.specs.Prelude.{is_some}
+use Rattle.std.specs.Prelude.{Contains, is_some}
 use Rattle.std.specs.FinMap.{insert, keys}
 use Rattle.lethe_base.specs.Configuration.{IsConfig}
 use Rattle.lethe_base.specs.declared.config.Fields.{Fields}
@@ -18,8 +18,8 @@ use Rattle.lethe_commit.specs.Switch.{manifest_name, HasGreatest, IsFree, HasNew
 use Rattle.lethe_commit.proofs.Exchange.{beside_placed}
 use Rattle.lethe_commit.proofs.Listed.{listed}
 use Rattle.lethe_commit.proofs.Removals.{all_absent, cleared_absent}
-use Rattle.lethe_stored.specs.Stored.{Stored, IsStored, segment_name}
-use Rattle.lethe_stored.specs.Encodes.{Encodes, HasParts}
+use Rattle.lethe_stored.specs.Stored.{Stored, IsStored, segment_name, part_names}
+use Rattle.lethe_stored.specs.Encodes.{Encodes, HasParts, HasObject}
 use Rattle.lethe_disk.specs.Goes.{Goes}
 use Rattle.lethe_recover.specs.Settled.{IsSettled, HasOnly, IsWhole}
 use Rattle.lethe_recover.specs.Rewritten.{first_manifest, new_stored}

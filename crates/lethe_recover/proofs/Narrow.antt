@@ -2,7 +2,6 @@
 use Rattle.std.proofs.Common.{◌≡◌, ℕ, map, List, [], ◌∷◌, ◌++◌, Option, Some, None, refl, sym, ap, ◌∙◌, subst}
 use Rattle.std.specs.Prelude.{Contains, option_to_list}
 use Rattle.lethe_base.specs.declared.name.Name.{Name}
-use Rattle.lethe_manifest.specs.declared.manifest.Cited.{Cited}
 use Rattle.lethe_manifest.specs.Manifests.{IsOneBelow}
 use Rattle.lethe_stored.specs.Files.{StoredFile, cited_of, objects_of}
 use Rattle.lethe_stored.specs.Stored.{Stored, Segment, IsStored, number_of, segment_name, part_names}

@@ -1,5 +1,5 @@
 -- What is read where the greatest gate commits something, and why it isn't.
-use Rattle.std.proofs.Common.{◌≡◌, ℕ, List, [], ◌∷◌, get_or, Some, None, Result, Ok, Err, refl, sym, subst, inr, arith}
+use Rattle.std.proofs.Common.{◌≡◌, ◌≢◌, ℕ, List, [], ◌∷◌, get_or, Some, None, Result, Ok, Err, refl, sym, subst, inr, arith}
 use Rattle.std.specs.Prelude.{Contains, IsErrAnd, IfErr}
 use Rattle.std.specs.FinMap.{keys}
 use Rattle.lethe_base.specs.declared.config.Fields.{Fields}

@@ -1,6 +1,6 @@
 -- What is listed of a directory beside what is cited.
-use Rattle.std.proofs.Common.{◌≡◌, ◌≢◌, ◌⊎◌, inl, inr, ℕ, suc, Bool, true, false, not, cond, T, List, [], ◌∷◌, map, filter, get_or, Option, Some, None, refl, sym, ap, ◌∙◌, subst, arith}
-use Rattle.std.specs.Prelude.{Contains, IsSome, is_some, ◌||◌, ◌&&◌, IsSomeAnd}
+use Rattle.std.proofs.Common.{◌≡◌, ◌≢◌, ◌⊎◌, inl, inr, ℕ, Bool, true, false, not, cond, T, List, [], ◌∷◌, map, filter, get_or, Option, Some, None, refl, sym, ap, ◌∙◌, subst, arith}
+use Rattle.std.specs.Prelude.{Contains, IsSome, is_some, ◌||◌, ◌&&◌}
 use Rattle.std.proofs.lemmas.Bool.{cases_Bool}
 use Rattle.std.specs.FinMap.{keys, entries, entries_sorted, remove}
 use Rattle.std.specs.FinMap.Entries.{below_all, is_sorted}
@@ -17,7 +17,7 @@ use Rattle.lethe_commit.specs.Gates.{gate_name}
 use Rattle.lethe_commit.specs.Switch.{manifest_name}
 use Rattle.lethe_commit.proofs.Listed.{listed}
 use Rattle.lethe_commit.proofs.Removals.{all_absent, cleared_absent}
-use Rattle.lethe_stored.specs.Stored.{Stored, Segment, IsStored, segment_name, part_names, IsCited}
+use Rattle.lethe_stored.specs.Stored.{Stored, IsStored, segment_name, part_names, IsCited}
 use Rattle.lethe_stored.specs.Encodes.{Encodes, AreSpare}
 use Rattle.lethe_recover.specs.Settled.{is_cited, HasOnly}
 use Rattle.lethe_stored.proofs.Lists.{later_in}
