@@ -1,2 +1,5 @@
 pub mod Moments
 pub mod Objects
+pub mod Quieting
+pub mod Going
+pub mod Causes

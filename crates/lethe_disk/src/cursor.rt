@@ -4,7 +4,7 @@ ghost use Rattle.lethe_base.specs.Entries.{IsAscending};
 ghost use Rattle.lethe_base.specs.declared.entry.Entry.{Entry};
 ghost use Rattle.lethe_base.specs.declared.name.Name.{Name};
 ghost use Rattle.lethe_disk.specs.declared.cursor.ReadRefused.TheVariants.{NoMemory, Damaged};
-ghost use Rattle.lethe_disk.specs.Reads.{IsNext, HasReadCause, IsFault};
+ghost use Rattle.lethe_disk.specs.Reads.{IsNext, HasReadCause, IsFault, refused_since};
 
 use crate::Disk;
 use lethe_base::{Entry, Name};
@@ -22,6 +22,19 @@ pub enum ReadRefused {
     Damaged { name: Name },
     /// There was no memory.
     NoMemory,
+}
+
+impl ReadRefused {
+    /// The refusal of several reads one of which was refused so: with the count of faults before the first of them.
+    pub fn since(self, before: u64) -> ReadRefused
+        ensures { result ≡ refused_since before self }
+    {
+        match self {
+            ReadRefused::ReadFault { after, .. } => ReadRefused::ReadFault { before, after },
+            ReadRefused::Damaged { name } => ReadRefused::Damaged { name },
+            ReadRefused::NoMemory => ReadRefused::NoMemory,
+        }
+    }
 }
 
 impl From<AllocError> for ReadRefused {

@@ -10,7 +10,7 @@ use Rattle.lethe_base.specs.declared.config.Fields.{Fields}
 use Rattle.lethe_disk.specs.Disk.{Seen}
 use Rattle.lethe_mem.proofs.PairsLemmas.{get-pairs_of}
 use Rattle.lethe_commit.specs.Append.{EndsAt}
-use Rattle.lethe_recover.specs.Stored.{segment_name}
+use Rattle.lethe_stored.specs.Stored.{segment_name}
 use Rattle.lethe_recover.specs.Opening as recover
 use Rattle.lethe_recover.specs.declared.opening.Opened.{Opened}
 use Rattle.lethe_engine.specs.declared.journal.Journal.{Journal}
@@ -20,7 +20,7 @@ use Rattle.lethe_recover.specs.declared.refused.RecoverRefused.{RecoverRefused}
 use Rattle.lethe_recover.specs.declared.refused.RecoverRefused.TheVariants as recover_why
 use Rattle.lethe_recover.specs.Loaded.{HasReason}
 use Rattle.lethe_recover.specs.Opening.{MayNotOpen}
-use Rattle.lethe_recover.specs.Quiet.{IsQuiet}
+use Rattle.lethe_disk.specs.Quiet.{IsQuiet}
 use Rattle.lethe_engine.specs.Opening.{IsOf, IsResumed, IsUntold}
 use Rattle.lethe_engine.specs.Replayed.{AreNewestOf}
 use Rattle.lethe_engine.specs.Scans.{by_keys, listed, pairs_between}

@@ -5,7 +5,7 @@ use Rattle.lethe_segment.specs.declared.record.Record.{Record}
 use Rattle.lethe_segment.specs.Records.{record_bytes, record_seq, RecordHasSpelling}
 use Rattle.lethe_segment.specs.Segments.{last_seq}
 use Rattle.lethe_commit.specs.Append.{Addition, EndsAt, IsReady, IsUntouched, longer}
-use Rattle.lethe_recover.specs.Stored.{segment_name}
+use Rattle.lethe_stored.specs.Stored.{segment_name}
 use Rattle.lethe_engine.specs.declared.journal.Journal.{Journal}
 use Rattle.lethe_engine.specs.Journals.{IsNext, IsLike}
 use Rattle.lethe_engine.specs.Sound.{IsAppendable, IsSound}

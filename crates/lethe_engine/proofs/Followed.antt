@@ -17,8 +17,8 @@ use Rattle.lethe_disk.specs.Disk.{Seen}
 use Rattle.lethe_mem.proofs.PairsLemmas.{map-inserts_put, map-inserts_tomb}
 use Rattle.lethe_segment.specs.declared.record.Record.TheVariants as of
 use Rattle.lethe_cover.specs.Steps.{next_place, with_done, put_entry, tomb_entry}
-use Rattle.lethe_recover.specs.Stored.{Stored, layout_of, plain}
-use Rattle.lethe_recover.proofs.Changes.{put_stored, put_for, delete_stored, delete_for, blind_stored, blind_for}
+use Rattle.lethe_stored.specs.Stored.{Stored, layout_of, plain}
+use Rattle.lethe_stored.proofs.Changes.{put_stored, put_for, delete_stored, delete_for, blind_stored, blind_for}
 use Rattle.lethe_engine.specs.declared.journal.Journal.{Journal}
 use Rattle.lethe_engine.specs.Changes.{done_by, IsRecordOf}
 use Rattle.lethe_engine.specs.Journals.{put_record, delete_over, delete_record}

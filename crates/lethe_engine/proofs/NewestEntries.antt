@@ -10,7 +10,7 @@ use Rattle.lethe_base.specs.declared.entry.Entry.{Entry}
 use Rattle.lethe_segment.specs.declared.record.Record.{Record}
 use Rattle.lethe_segment.specs.declared.record.Record.TheVariants as of
 use Rattle.lethe_cover.proofs.Records.{pushed, buffer_push}
-use Rattle.lethe_recover.specs.Stored.{plain}
+use Rattle.lethe_stored.specs.Stored.{plain}
 use Rattle.lethe_engine.specs.Journals.{Enters}
 use Rattle.lethe_engine.specs.Replayed.{AreNewestOf}
 

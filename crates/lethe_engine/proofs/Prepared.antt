@@ -12,10 +12,10 @@ use Rattle.lethe_segment.specs.Records.{record_bytes}
 use Rattle.lethe_segment.specs.Segments.{segment_bytes}
 use Rattle.lethe_cover.specs.Steps.{with_done, with_failed}
 use Rattle.lethe_commit.specs.Append.{EndsAt, IsReady, IsAppended, longer}
-use Rattle.lethe_recover.specs.Stored.{segment_name}
-use Rattle.lethe_recover.specs.Goes.{Goes}
-use Rattle.lethe_recover.specs.Left.{IsKeptOr}
-use Rattle.lethe_recover.specs.Steps.{addition}
+use Rattle.lethe_stored.specs.Stored.{segment_name}
+use Rattle.lethe_disk.specs.Goes.{Goes}
+use Rattle.lethe_stored.specs.Left.{IsKeptOr}
+use Rattle.lethe_stored.specs.Steps.{addition}
 use Rattle.lethe_engine.specs.declared.journal.Journal.{Journal}
 use Rattle.lethe_engine.specs.Changes.{done_by, with_record, IsRecordOf}
 use Rattle.lethe_engine.specs.Journals.{Enters, IsNext, IsLike}

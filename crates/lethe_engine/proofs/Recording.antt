@@ -1,6 +1,6 @@
 -- The record of a change is appended.
 use Rattle.std.proofs.Common.{◌≡◌, ◌<◌, inl, inr, ℕ, ◌+◌, List, [], ◌∷◌, ◌++◌, Some, None, refl, sym, ap, ◌∙◌, subst, arith}
-use Rattle.std.specs.Prelude.{IsSome}
+use Rattle.std.specs.Prelude.{Contains, IsSome}
 use Rattle.std.specs.FinMap.{insert}
 use Rattle.lethe_base.specs.History.{History}
 use Rattle.lethe_base.specs.declared.call.Call.{Call}
@@ -17,17 +17,18 @@ use Rattle.lethe_segment.specs.Segments.{segment_bytes, Ascends, last_seq}
 use Rattle.lethe_segment.proofs.Runs.{holds_spelling}
 use Rattle.lethe_cover.specs.Steps.{with_done}
 use Rattle.lethe_commit.specs.Append.{EndsAt, IsReady, IsAppended, IsUntouched, longer}
-use Rattle.lethe_recover.specs.Stored.{Stored, segment_name, appended}
-use Rattle.lethe_recover.specs.Encodes.{Encodes}
-use Rattle.lethe_recover.specs.Goes.{Goes}
-use Rattle.lethe_recover.specs.Kept.{IsKept}
-use Rattle.lethe_recover.specs.Left.{IsLeft, IsKeptOr}
+use Rattle.lethe_stored.specs.Stored.{Stored, segment_name, part_names, appended}
+use Rattle.lethe_stored.proofs.Parts.{active_part}
+use Rattle.lethe_stored.specs.Encodes.{Encodes}
+use Rattle.lethe_disk.specs.Goes.{Goes}
+use Rattle.lethe_stored.specs.Kept.{IsKept}
+use Rattle.lethe_stored.specs.Left.{IsLeft, IsKeptOr}
 use Rattle.lethe_recover.specs.Settled.{HasOnly}
-use Rattle.lethe_recover.specs.Steps.{addition}
-use Rattle.lethe_recover.proofs.Going.{goes_leads, goes_quiet}
-use Rattle.lethe_recover.proofs.Quieting.{quiet_itself}
+use Rattle.lethe_stored.specs.Steps.{addition}
+use Rattle.lethe_disk.proofs.Going.{goes_leads, goes_quiet}
+use Rattle.lethe_disk.proofs.Quieting.{quiet_itself}
 use Rattle.lethe_recover.proofs.Resumed.{old_kept}
-use Rattle.lethe_recover.proofs.Steps.{append_keeps, active_changed}
+use Rattle.lethe_stored.proofs.Steps.{append_keeps, active_changed}
 use Rattle.lethe_engine.specs.declared.journal.Journal.{Journal}
 use Rattle.lethe_engine.specs.Changes.{done_by, with_record, IsRecordOf}
 use Rattle.lethe_engine.specs.Journals.{Enters}
@@ -128,7 +129,7 @@ module _ (config : Fields) (h : History) (disk : Seen) (journal : Journal) (now 
 
       only_longer : HasOnly (appended s next) disk'.directory
       only_longer name there = elim (name_cases name (segment_name s.active.no)) [
-        | inl same ↦ inr (inr (inl same))
+        | inl same ↦ inr (inr (subst (Contains (part_names s)) (sym same) (active_part s)))
         | inr other ↦ now.only name (subst IsSome (ap (λ d. object d name) inserted ∙ object_beside_insert disk.directory (segment_name s.active.no) (segment_bytes s.active.no (longer (addition s next))) name other) there)
       ]
 

@@ -7,7 +7,7 @@ use Rattle.lethe_base.specs.Keys.{Bytes, key_cmp}
 use Rattle.lethe_base.specs.Entries.{IsAscending, pair_of}
 use Rattle.lethe_base.specs.History.{History, after}
 use Rattle.lethe_base.specs.Held.{Shows, InBuffer, IsFiled}
-use Rattle.lethe_base.specs.Layout.{buffer_of, frozen_records}
+use Rattle.lethe_base.specs.Layout.{File, buffer_of, frozen_records}
 use Rattle.lethe_base.specs.Matching.{answer_under, pair_under}
 use Rattle.lethe_base.specs.declared.entry.Body.{Body}
 use Rattle.lethe_base.specs.declared.entry.Body.TheVariants.{Put, Tomb}
@@ -19,10 +19,11 @@ use Rattle.lethe_segment.specs.declared.record.Record.{Record}
 use Rattle.lethe_segment.specs.declared.record.Record.TheVariants as of
 use Rattle.lethe_segment.specs.Segments.{Ascends}
 use Rattle.lethe_cover.proofs.Records.{buffer_keyed}
-use Rattle.lethe_recover.specs.Stored.{Stored, IsStored, layout_of, plain, erase_of, in_order, records_from}
-use Rattle.lethe_recover.specs.Kept.{IsFor}
-use Rattle.lethe_recover.proofs.Firsts.{none_pending}
-use Rattle.lethe_recover.proofs.Unique.{none_frozen}
+use Rattle.lethe_stored.specs.Files.{levels_of}
+use Rattle.lethe_stored.specs.Stored.{Stored, IsStored, layout_of, plain, erase_of, in_order, records_in}
+use Rattle.lethe_stored.specs.Kept.{IsFor}
+use Rattle.lethe_stored.proofs.Firsts.{none_pending, no_levels}
+use Rattle.lethe_recover.proofs.Narrow.{none_frozen, none_filed}
 use Rattle.lethe_engine.specs.Replayed.{AreNewestOf}
 use Rattle.lethe_engine.specs.StandsFor.{map_of}
 
@@ -34,8 +35,9 @@ in_none levels x there = none_in x (subst (λ files. Contains files x) (empty le
     empty zero = refl
     empty (suc n) = empty n
 
-no_file : (s : Stored) (entry : Entry) → IsFiled (layout_of s) entry → ⊥
-no_file s entry filed = in_none s.manifest.config.levels filed.file filed.there
+no_file : (s : Stored) → IsStored s → (entry : Entry) → IsFiled (layout_of s) entry → ⊥
+no_file s stored entry filed = in_none s.manifest.config.levels filed.file
+    (subst (λ levels. Contains (flat_map (λ (files : List File). files) levels) filed.file) (ap (levels_of s.manifest.config.levels) (none_filed s stored) ∙ ap (λ levels. [] ∷ levels) (no_levels 1 s.manifest.config.levels)) filed.there)
 
 none_there : (found : Option Entry) (entry : Entry) → found ≡ None → found ≡ Some entry → ⊥
 none_there found entry none is = let clash : None ≡ Some entry = sym none ∙ is in cc
@@ -49,7 +51,7 @@ shows_active s stored entry (inl (inl active)) = active
 shows_active s stored entry (inl (inr older)) =
     absurd (none_there (finmap.get (buffer_of []) entry.key) entry (finmap.get-empty key_cmp entry.key)
     (subst (λ f. InBuffer (buffer_of (frozen_records (layout_of (record s { frozen = f })))) entry) (none_frozen s stored) older))
-shows_active s stored entry (inr filed) = absurd (no_file s entry filed)
+shows_active s stored entry (inr filed) = absurd (no_file s stored entry filed)
 
 pub nothing_shown : (s : Stored) → IsStored s → (key : Bytes) → finmap.get (buffer_of (map plain s.active.records)) key ≡ None → (entry : Entry) → Shows (layout_of s) entry → entry.key ≡ key → ⊥
 nothing_shown s stored key none entry shows same =
@@ -66,7 +68,7 @@ nothing_pending : (s : Stored) → IsStored s → (layout_of s).pending ≡ []
 nothing_pending s stored =
     (let erases = stored.spelled.erases in
     let frozen = none_frozen s stored in
-    (λ i. in_order (erases i ++ filter_map erase_of (records_from (frozen i) s.active.records)))) ∙ ap in_order (no_erases 0 s.active.records stored.active) ∙ none_pending
+    (λ i. in_order (erases i ++ filter_map erase_of (records_in (frozen i) ++ s.active.records)))) ∙ ap in_order (no_erases 0 s.active.records stored.active) ∙ none_pending
 
 bare_answer : (seq : ℕ) (body : Body) → pair_under [] seq body ≡ pair_of body
 bare_answer seq (Put dkey value) = refl

@@ -13,7 +13,7 @@ use Rattle.lethe_disk.specs.Disk.{Seen}
 use Rattle.lethe_segment.specs.declared.record.Record.{Record}
 use Rattle.lethe_cover.specs.Steps.{with_done, with_failed}
 use Rattle.lethe_commit.specs.Append.{IsUntouched}
-use Rattle.lethe_recover.specs.Left.{IsLeft, IsKeptOr}
+use Rattle.lethe_stored.specs.Left.{IsLeft, IsKeptOr}
 use Rattle.lethe_engine.specs.declared.journal.Journal.{Journal}
 use Rattle.lethe_engine.specs.Changes.{done_by, tried_by, IsRecordOf}
 use Rattle.lethe_engine.specs.Journals.{MayRefuse, Enters, IsNext, IsLike}

@@ -14,8 +14,8 @@ use Rattle.lethe_base.specs.Layout.{buffer_of}
 use Rattle.lethe_base.proofs.HeldLaws.{buffer_recorded}
 use Rattle.lethe_segment.specs.Segments.{Ascends}
 use Rattle.lethe_cover.proofs.Records.{buffer_keyed}
-use Rattle.lethe_recover.specs.Stored.{plain}
-use Rattle.lethe_recover.proofs.Changes.{spelled_in}
+use Rattle.lethe_stored.specs.Stored.{plain}
+use Rattle.lethe_stored.proofs.Changes.{spelled_in}
 use Rattle.lethe_engine.specs.Replayed.{AreNewestOf}
 use Rattle.lethe_engine.specs.Journals.{Enters}
 use Rattle.lethe_engine.specs.Timely.{AreTimely, since_of}

@@ -14,8 +14,8 @@ use Rattle.lethe_disk.specs.Directory.{Directory}
 use Rattle.lethe_segment.specs.declared.record.Record.{Record}
 use Rattle.lethe_segment.specs.Segments.{segment_bytes}
 use Rattle.lethe_cover.specs.Steps.{with_done, with_failed}
-use Rattle.lethe_recover.specs.Stored.{Stored, IsStored, segment_name, appended}
-use Rattle.lethe_recover.specs.Kept.{IsFor}
+use Rattle.lethe_stored.specs.Stored.{Stored, IsStored, segment_name, appended}
+use Rattle.lethe_stored.specs.Kept.{IsFor}
 use Rattle.lethe_engine.specs.declared.journal.Journal.{Journal}
 use Rattle.lethe_engine.specs.Journals.{MayRefuse, Enters}
 use Rattle.lethe_engine.specs.StandsFor.{map_of}

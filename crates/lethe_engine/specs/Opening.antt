@@ -6,7 +6,7 @@ use Rattle.lethe_disk.specs.Disk.{Seen}
 use Rattle.lethe_recover.specs.declared.opening.OpenWhy.{OpenWhy}
 use Rattle.lethe_recover.specs.declared.opening.OpenWhy.TheVariants.{Damaged, OtherConfig, Fault, Exhausted, NoMemory}
 use Rattle.lethe_recover.specs.declared.opening.Opened.{Opened}
-use Rattle.lethe_recover.specs.Left.{IsHistoryOr}
+use Rattle.lethe_stored.specs.Left.{IsHistoryOr}
 use Rattle.lethe_engine.specs.declared.journal.Journal.{Journal}
 use Rattle.lethe_engine.specs.StandsFor.{StandsFor}
 

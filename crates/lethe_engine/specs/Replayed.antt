@@ -6,7 +6,7 @@ use Rattle.lethe_base.specs.Entries.{entry_of}
 use Rattle.lethe_base.specs.Layout.{buffer_of}
 use Rattle.lethe_base.specs.declared.entry.Entry.{Entry}
 use Rattle.lethe_segment.specs.declared.record.Record.{Record}
-use Rattle.lethe_recover.specs.Stored.{plain}
+use Rattle.lethe_stored.specs.Stored.{plain}
 
 -- of each key the entries have the newest of the records
 abbrev pub AreNewestOf : List Record → List Entry → Type 0

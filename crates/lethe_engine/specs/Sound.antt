@@ -4,7 +4,7 @@ use Rattle.lethe_disk.specs.Disk.{Seen}
 use Rattle.lethe_segment.specs.declared.record.Record.{Record}
 use Rattle.lethe_segment.specs.Segments.{last_seq}
 use Rattle.lethe_commit.specs.Append.{EndsAt}
-use Rattle.lethe_recover.specs.Stored.{segment_name}
+use Rattle.lethe_stored.specs.Stored.{segment_name}
 use Rattle.lethe_engine.specs.declared.journal.Journal.{Journal}
 
 -- in every image the segment ends where the journal says, and has no place above its count

@@ -9,10 +9,10 @@ use Rattle.lethe_base.specs.declared.entry.Entry.{Entry}
 use Rattle.lethe_disk.specs.Disk.{Seen}
 use Rattle.lethe_mem.specs.Pairs.{pairs_of}
 use Rattle.lethe_commit.specs.Append.{EndsAt}
-use Rattle.lethe_recover.specs.Stored.{Stored, segment_name}
+use Rattle.lethe_stored.specs.Stored.{Stored, segment_name}
 use Rattle.lethe_recover.specs.Settled.{IsSettled, HasOnly}
-use Rattle.lethe_recover.specs.Kept.{IsFor}
-use Rattle.lethe_recover.specs.Left.{IsLeft}
+use Rattle.lethe_stored.specs.Kept.{IsFor}
+use Rattle.lethe_stored.specs.Left.{IsLeft}
 use Rattle.lethe_engine.specs.declared.journal.Journal.{Journal}
 use Rattle.lethe_engine.specs.Replayed.{AreNewestOf}
 

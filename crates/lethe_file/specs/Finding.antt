@@ -5,8 +5,6 @@ use Rattle.std.specs.List.{list_all}
 use Rattle.std.specs.Ordering.{is_le}
 use Rattle.lethe_base.specs.Keys.{Bytes, key_cmp}
 use Rattle.lethe_base.specs.declared.entry.Entry.{Entry}
-use Rattle.lethe_disk.specs.declared.cursor.ReadRefused.{ReadRefused}
-use Rattle.lethe_disk.specs.declared.cursor.ReadRefused.TheVariants.{ReadFault, Damaged, NoMemory}
 use Rattle.lethe_tile.specs.Filters.{hash_of, start_of, step_of}
 use Rattle.lethe_header.specs.Facts.{lines_of}
 use Rattle.lethe_header.specs.declared.header.PageLine.{PageLine}
@@ -47,9 +45,3 @@ IsTileOf key tiles place = (place ≤ length tiles) × ((k : ℕ) (d : TileLine)
 -- of what the lines of these tiles have, one for each, what those of one tile have
 abbrev pub of_tile : {A : Type 0} → List TileLine → ℕ → TileLine → List A → List A
 of_tile tiles place other items = take (length (slice_index_or tiles place other).pages) (drop (length (lines_of (take place tiles))) items)
-
--- a refusal with this count of faults before it
-abbrev pub refused_since : ℕ → ReadRefused → ReadRefused
-refused_since earlier (ReadFault before after) = ReadFault earlier after
-refused_since earlier (Damaged name) = Damaged name
-refused_since earlier NoMemory = NoMemory

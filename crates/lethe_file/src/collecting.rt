@@ -11,7 +11,6 @@ ghost use Rattle.lethe_file.specs.Between.{is_in};
 ghost use Rattle.lethe_file.specs.Waiting.{IsWritten, of_waiting, waits_in};
 
 use crate::fetching::fetch_checked;
-use crate::finding::since;
 use crate::holding::HeldPage;
 use crate::range::KeyRange;
 use crate::source::PageSource;
@@ -59,7 +58,7 @@ fn collect<S: PageSource>(
                 keep_in(&mut entries, range);
                 all.append(&mut entries)?;
             }
-            Err(why) => return Err(since(why, before)),
+            Err(why) => return Err(why.since(before)),
         }
     }
     Ok(all)

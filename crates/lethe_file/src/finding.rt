@@ -11,7 +11,7 @@ ghost use Rattle.lethe_header.specs.Facts.{lines_of};
 ghost use Rattle.lethe_header.specs.Headers.{EachFollows, TileFollows};
 ghost use Rattle.lethe_header.specs.declared.header.TileLine.{TileLine};
 ghost use Rattle.lethe_file.specs.Agreement.{Agrees, entries_in, page_name};
-ghost use Rattle.lethe_file.specs.Finding.{Lacks, IsEntryOf, IsTileOf, allowed_in, allows, of_tile, refused_since};
+ghost use Rattle.lethe_file.specs.Finding.{Lacks, IsEntryOf, IsTileOf, allowed_in, allows, of_tile};
 
 use crate::fetching::fetch_line;
 use lethe_base::{Entry, Key};
@@ -49,17 +49,6 @@ fn entry_of(mut entries: Vec<Entry>, key: &Key) -> Option<Entry>
 {
     let place = place_of(&entries, key)?;
     Some(entries.swap_remove(place))
-}
-
-/// A refusal with the count of faults before an earlier fetch.
-pub fn since(why: ReadRefused, before: u64) -> ReadRefused
-    ensures { result ≡ refused_since before why }
-{
-    match why {
-        ReadRefused::ReadFault { after, .. } => ReadRefused::ReadFault { before, after },
-        ReadRefused::Damaged { name } => ReadRefused::Damaged { name },
-        ReadRefused::NoMemory => ReadRefused::NoMemory,
-    }
 }
 
 /// Whether the filter allows the key.
@@ -190,7 +179,7 @@ pub fn find_in<D: Disk>(
         match look::<D>(alloc, port, key, line, &pages[place]) {
             Ok(None) => {}
             Ok(Some(entry)) => return Ok(Some(entry)),
-            Err(why) => return Err(since(why, before)),
+            Err(why) => return Err(why.since(before)),
         }
     }
     Ok(None)

@@ -7,7 +7,6 @@ ghost use Rattle.lethe_file.specs.Agreement.{page_name};
 ghost use Rattle.lethe_file.specs.Waiting.{IsSoundIn, awaited_in, left_in};
 
 use crate::collecting::fetch_tile;
-use crate::finding::since;
 use crate::holding::HeldPage;
 use crate::range::KeyRange;
 use crate::source::PageSource;
@@ -49,7 +48,7 @@ pub fn fill<S: PageSource>(
         };
         match fetch_tile::<S>(alloc, port, tile.items(), &unread.range) {
             Ok(entries) => unread.entries = entries,
-            Err(why) => return Err(since(why, before)),
+            Err(why) => return Err(why.since(before)),
         }
         let _ = unread.tiles.pop();
     }

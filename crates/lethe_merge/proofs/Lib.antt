@@ -1,7 +1,6 @@
 pub mod Times
 pub mod Joins
 pub mod Merges
-pub mod Causes
 pub mod Heads
 pub mod Fills
 pub mod Steps

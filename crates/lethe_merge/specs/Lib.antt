@@ -1,3 +1,2 @@
 pub mod Merge
 pub mod Sources
-pub mod Refusals

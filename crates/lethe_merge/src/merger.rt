@@ -2,7 +2,6 @@
 ghost use Rattle.std.specs.Prelude.{◌≡◌, All, IfOk};
 ghost use Rattle.std.specs.List.{flat_map};
 ghost use Rattle.lethe_merge.specs.Merge.{merged};
-ghost use Rattle.lethe_merge.specs.Refusals.{refused_since};
 ghost use Rattle.lethe_merge.specs.Sources.{AreSound, left_merged};
 
 use crate::joining::bare;
@@ -73,7 +72,7 @@ impl<D: Disk, C: Cursor<D>> Cursor<D> for Merger<D, C> {
                 if let Head::Unasked = source.head {
                     match source.cursor.next(alloc, port) {
                         Ok(next) => source.keep(next),
-                        Err(why) => return Err(since(why, before)),
+                        Err(why) => return Err(why.since(before)),
                     }
                 }
             }
@@ -85,16 +84,5 @@ impl<D: Disk, C: Cursor<D>> Cursor<D> for Merger<D, C> {
             }
         }
         Err(ReadRefused::NoMemory)
-    }
-}
-
-/// A refusal with the count of faults before an earlier read.
-fn since(why: ReadRefused, before: u64) -> ReadRefused
-    ensures { result ≡ refused_since before why }
-{
-    match why {
-        ReadRefused::ReadFault { after, .. } => ReadRefused::ReadFault { before, after },
-        ReadRefused::Damaged { name } => ReadRefused::Damaged { name },
-        ReadRefused::NoMemory => ReadRefused::NoMemory,
     }
 }

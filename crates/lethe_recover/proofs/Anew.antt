@@ -1,6 +1,6 @@
 -- The images of a disk while what is stored is written anew: the new segment is placed, the manifest switched, and the old segment cleared.
-use Rattle.std.proofs.Common.{◌≡◌, ◌≢◌, ◌<◌, ◌≤◌, ◌⊎◌, inl, inr, ℕ, ◌+◌, List, [], ◌∷◌, Option, Some, None, true, false, refl, sym, ap, ◌∙◌, subst, arith, length, length-append, ◌++◌}
-use Rattle.std.specs.Prelude.{IsSome, is_some, IsSomeAnd}
+use Rattle.std.proofs.Common.{◌≡◌, ◌≢◌, ◌<◌, ◌≤◌, ◌⊎◌, inl, inr, ℕ, ◌+◌, List, [], ◌∷◌, Some, None, true, false, refl, sym, ap, ◌∙◌, subst, arith, length, length-append, ◌++◌}
+use Rattle.std.specs.Prelude.{Contains, IsSome, is_some}
 use Rattle.std.specs.FinMap.{insert}
 use Rattle.lethe_base.specs.Limits.{max_place}
 use Rattle.lethe_base.specs.declared.name.Kind.TheVariants as kinds
@@ -12,24 +12,28 @@ use Rattle.lethe_disk.proofs.Objects.{name_cases, object_inserted, object_beside
 use Rattle.lethe_segment.specs.declared.record.Record.{Record}
 use Rattle.lethe_segment.specs.Segments.{head_bytes, open_records, segment_bytes}
 use Rattle.lethe_segment.proofs.Runs.{holds_spelling}
-use Rattle.lethe_manifest.specs.Manifests.{HasSpelling, IsOneBelow, manifest_bytes}
+use Rattle.lethe_manifest.specs.Manifests.{HasSpelling, manifest_bytes}
 use Rattle.lethe_manifest.specs.declared.manifest.Manifest.{Manifest}
 use Rattle.lethe_commit.specs.Clear.{ArePresent, IsCleared, remove_all}
 use Rattle.lethe_commit.specs.Gates.{gate_name}
 use Rattle.lethe_commit.specs.Switch.{manifest_name, HasGreatest, IsFree, HasNew, IsSwitched, older_names, placed, switched}
 use Rattle.lethe_commit.proofs.Placing.{gate≢manifest}
 use Rattle.lethe_commit.proofs.Exchange.{beside_placed}
-use Rattle.lethe_recover.specs.Stored.{Stored, Segment, IsStored, segment_name, IsCited, IsSpare}
-use Rattle.lethe_recover.specs.Encodes.{Encodes, HasParts, AreSpare}
-use Rattle.lethe_recover.specs.Goes.{Goes}
+use Rattle.lethe_header.specs.declared.header.PageLine.{PageLine}
+use Rattle.lethe_stored.specs.Files.{StoredFile, IsFile}
+use Rattle.lethe_stored.specs.Stored.{Stored, IsStored, segment_name, part_names, IsCited, IsSpare}
+use Rattle.lethe_stored.specs.Encodes.{Encodes, HasParts, HasObject, AreSpare}
+use Rattle.lethe_disk.specs.Goes.{Goes}
 use Rattle.lethe_recover.specs.Settled.{IsSettled, HasOnly, IsWhole}
 use Rattle.lethe_recover.specs.Rewritten.{successor, rewritten}
-use Rattle.lethe_recover.proofs.Unique.{none_frozen, one_cited}
-use Rattle.lethe_recover.proofs.Frame.{gate≢segment, manifest≢segment, same_no, besides, fresh_spare}
-use Rattle.lethe_recover.proofs.Steps.{switch_encodes, one_name}
-use Rattle.lethe_recover.proofs.Replaying.{absent_of}
-use Rattle.lethe_recover.proofs.Reading.{pairs_of_one}
-use Rattle.lethe_recover.proofs.Going.{goes_leads, goes_then}
+use Rattle.lethe_stored.proofs.Parts.{active_part, part_below}
+use Rattle.lethe_recover.proofs.Narrow.{only_part}
+use Rattle.lethe_stored.proofs.Frame.{gate≢segment, manifest≢segment, same_no, besides, fresh_spare}
+use Rattle.lethe_stored.proofs.Steps.{switch_encodes, one_name}
+use Rattle.lethe_disk.proofs.Objects.{absent_of}
+use Rattle.lethe_stored.proofs.Lists.{no_pairs, pairs_of_one}
+use Rattle.std.proofs.lemmas.List.Elements.{All-nil}
+use Rattle.lethe_disk.proofs.Going.{goes_leads, goes_then}
 
 true≢false : true ≡ false → ⊥
 true≢false e = cc
@@ -63,10 +67,14 @@ module _ (s : Stored) (count : ℕ) (stored : IsStored s) (room : s.manifest.nex
     once = pairs_of_one (s.manifest.next ∷ []) s.manifest.next refl;
     active = stored.active;
     frozen = tt;
+    files = refl;
+    each = All-nil (IsFile t.manifest.next);
+    files_once = no_pairs (λ (a b : StoredFile). a.header.no ≢ b.header.no);
+    pages_once = no_pairs (λ (a b : PageLine). a.no ≢ b.no);
   }
 
   old_below : s.active.no < s.manifest.next
-  old_below = let l = subst (IsOneBelow s.manifest.next) (one_cited s stored) stored.spelled.segments in l
+  old_below = part_below s (segment_name s.active.no) stored (active_part s)
 
   -- a name from the next number on isn't there
   pub fresh_absent : (d : Directory) → HasOnly s d → (name : Name) → s.manifest.next ≤ name.no → name.kind ≢ kinds.Gate → object d name ≡ None
@@ -89,6 +97,7 @@ module _ (s : Stored) (count : ℕ) (stored : IsStored s) (room : s.manifest.nex
         holds = holds_spelling s.manifest.next s.active.records;
       };
       frozen = tt;
+      files = All-nil (HasObject placed_d);
     }
 
     pub free : (disk : Seen) → IsSynced disk → disk.directory ≡ placed_d → IsFree disk t.manifest.no (Some s.manifest.no)
@@ -117,10 +126,7 @@ module _ (s : Stored) (count : ℕ) (stored : IsStored s) (room : s.manifest.nex
         | inl is ↦ gate≢segment t.manifest.no s.active.no (sym is)
         | inr rest ↦ elim rest [
           | inl is ↦ manifest≢segment t.manifest.no s.active.no (sym is)
-          | inr seg ↦ elim seg [
-            | inl is ↦ let same = same_no (segment_name s.active.no) (segment_name s.manifest.next) is in absurd (omega (arith, same, old_below))
-            | inr none ↦ none
-          ]
+          | inr part ↦ let same = same_no (segment_name s.active.no) (segment_name s.manifest.next) (only_part t (segment_name s.active.no) rewritten_stored part) in absurd (omega (arith, same, old_below))
         ]
       ];
       no_gate = λ k lt is. gate≢segment k s.active.no (sym is);
@@ -159,16 +165,9 @@ module _ (s : Stored) (count : ℕ) (stored : IsStored s) (room : s.manifest.nex
             | inl gate ↦ not_gate gate
             | inr rest ↦ elim rest [
               | inl manifest ↦ not_manifest manifest
-              | inr seg ↦ elim seg [
-                | inl active ↦ not_old active
-                | inr older ↦ by s.frozen (none_frozen s stored) older
-              ]
+              | inr part ↦ not_old (only_part s name stored part)
             ]
           ]
-            where
-              by : (o : Option Segment) → o ≡ None → IsSomeAnd o (λ older. name ≡ segment_name older.no) → ⊥
-              by None is older = older
-              by (Some o) is older = let clash : Some o ≡ None = is in cc
 
           gone_gate : IsSome (object after name) → name ≡ gate_name s.manifest.no → ⊥
           gone_gate here same = true≢false (sym here ∙ ap is_some (ap (λ z. object z name) is ∙ object_beside_remove _ (manifest_name s.manifest.no) name (λ k. gate≢manifest s.manifest.no s.manifest.no (sym same ∙ k))
@@ -183,7 +182,7 @@ module _ (s : Stored) (count : ℕ) (stored : IsStored s) (room : s.manifest.nex
             | inr ne_gate ↦ elim (name_cases name (manifest_name t.manifest.no)) [
               | inl is_manifest ↦ inr (inl is_manifest)
               | inr ne_manifest ↦ elim (name_cases name (segment_name s.manifest.next)) [
-                | inl is_segment ↦ inr (inr (inl is_segment))
+                | inl is_segment ↦ inr (inr (subst (Contains (part_names t)) (sym is_segment) (active_part t)))
                 | inr ne_segment ↦ absurd (in_old not_old (gone_gate here) (gone_manifest here)
                     (sym (ap is_some (beside_all name ne_manifest ne_gate (gone_gate here) (gone_manifest here) ∙ beside_new name ne_segment)) ∙ here))
               ]

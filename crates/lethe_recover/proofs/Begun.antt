@@ -1,6 +1,6 @@
 -- The images of a disk while an empty store is made on it.
 use Rattle.std.proofs.Common.{◌≡◌, ◌≢◌, ◌⊎◌, inl, inr, ℕ, List, [], Option, Some, None, true, false, refl, sym, ap, ◌∙◌, subst, arith}
-use Rattle.std.specs.Prelude.{is_some}
+use Rattle.std.specs.Prelude.{Contains, is_some}
 use Rattle.std.specs.FinMap.{insert, keys}
 use Rattle.lethe_base.specs.Configuration.{IsConfig}
 use Rattle.lethe_base.specs.declared.config.Fields.{Fields}
@@ -18,16 +18,18 @@ use Rattle.lethe_commit.specs.Switch.{manifest_name, HasGreatest, IsFree, HasNew
 use Rattle.lethe_commit.proofs.Exchange.{beside_placed}
 use Rattle.lethe_commit.proofs.Listed.{listed}
 use Rattle.lethe_commit.proofs.Removals.{all_absent, cleared_absent}
-use Rattle.lethe_recover.specs.Stored.{Stored, IsStored, segment_name}
-use Rattle.lethe_recover.specs.Encodes.{Encodes, HasParts}
-use Rattle.lethe_recover.specs.Goes.{Goes}
+use Rattle.lethe_stored.specs.Stored.{Stored, IsStored, segment_name, part_names}
+use Rattle.lethe_stored.specs.Encodes.{Encodes, HasParts, HasObject}
+use Rattle.lethe_disk.specs.Goes.{Goes}
 use Rattle.lethe_recover.specs.Settled.{IsSettled, HasOnly, IsWhole}
 use Rattle.lethe_recover.specs.Rewritten.{first_manifest, new_stored}
-use Rattle.lethe_recover.proofs.Frame.{gate≢segment, manifest≢segment}
-use Rattle.lethe_recover.proofs.Firsts.{empty_is_stored}
-use Rattle.lethe_recover.proofs.Steps.{first_switch_encodes}
+use Rattle.lethe_stored.proofs.Frame.{gate≢segment, manifest≢segment}
+use Rattle.std.proofs.lemmas.List.Elements.{All-nil}
+use Rattle.lethe_stored.proofs.Parts.{active_part}
+use Rattle.lethe_stored.proofs.Firsts.{empty_is_stored}
+use Rattle.lethe_stored.proofs.Steps.{first_switch_encodes}
 use Rattle.lethe_recover.proofs.Uncited.{all_present, apart_keys}
-use Rattle.lethe_recover.proofs.Going.{goes_leads}
+use Rattle.lethe_disk.proofs.Going.{goes_leads}
 
 true≢false : true ≡ false → ⊥
 true≢false e = cc
@@ -85,6 +87,7 @@ module _ (config : Fields) (limits : IsConfig config) where
           holds = holds_spelling 1 [];
         };
         frozen = tt;
+        files = All-nil (HasObject s2.directory);
       }
 
       pub free_new : IsFree s2 2 None
@@ -132,7 +135,7 @@ module _ (config : Fields) (limits : IsConfig config) where
                   | inr ne_gate ↦ elim (name_cases name (manifest_name 2)) [
                     | inl is_manifest ↦ inr (inl is_manifest)
                     | inr ne_manifest ↦ elim (name_cases name (segment_name 1)) [
-                      | inl is_segment ↦ inr (inr (inl is_segment))
+                      | inl is_segment ↦ inr (inr (subst (Contains (part_names t)) (sym is_segment) (active_part t)))
                       | inr ne_segment ↦ absurd (true≢false (sym there ∙ ap is_some (ap (λ x. object x name) switched_is ∙ beside_placed 2 (manifest_bytes (first_manifest config)) s2.directory name (ne_manifest, (ne_gate, tt)) ∙ beside_new name ne_segment)))
                     ]
                   ]

@@ -10,13 +10,15 @@ use Rattle.lethe_commit.specs.Switch.{HasGreatest, manifest_name}
 use Rattle.lethe_recover.specs.declared.recovered.Recovered.{Recovered}
 use Rattle.lethe_recover.specs.declared.refused.RecoverRefused.{RecoverRefused}
 use Rattle.lethe_recover.specs.declared.refused.RecoverRefused.TheVariants.{Damaged, Fault, NoMemory, OtherConfig}
-use Rattle.lethe_recover.specs.Stored.{Stored, IsStored, segment_name}
+use Rattle.lethe_stored.specs.Stored.{Stored, IsStored, segment_name}
 use Rattle.lethe_base.specs.History.{History}
-use Rattle.lethe_recover.specs.Encodes.{Encodes}
-use Rattle.lethe_recover.specs.Kept.{IsKept}
+use Rattle.lethe_stored.specs.Encodes.{Encodes}
+use Rattle.lethe_stored.specs.Kept.{IsKept}
 use Rattle.lethe_recover.specs.Loaded.{nothing, recovered_of, IsLoaded, IsSpelled, IsGated, IsDamaged, IsDamagedManifest, HasOtherConfig, HasReason, IsInterrupted, MayRefuse}
 use Rattle.lethe_recover.proofs.Reading.{one_segment}
-use Rattle.lethe_recover.proofs.Unique.{none_or_some, one_greatest, one_gated, encodes_gated, one_cited, one_stored}
+use Rattle.lethe_stored.proofs.Unique.{none_or_some, one_greatest, one_stored}
+use Rattle.lethe_recover.proofs.Narrow.{one_cited}
+use Rattle.lethe_recover.proofs.Gated.{one_gated, encodes_gated}
 
 -- Where a manifest counts and is spelled, it isn't damaged.
 

@@ -1,10 +1,11 @@
 -- What is read where the greatest gate commits something, and why it isn't.
 use Rattle.std.proofs.Common.{◌≡◌, ◌≢◌, ℕ, List, [], ◌∷◌, get_or, Some, None, Result, Ok, Err, refl, sym, subst, inr, arith}
-use Rattle.std.specs.Prelude.{Contains, AllPairs, IsErrAnd, IfErr}
+use Rattle.std.specs.Prelude.{Contains, IsErrAnd, IfErr}
 use Rattle.std.specs.FinMap.{keys}
 use Rattle.lethe_base.specs.declared.config.Fields.{Fields}
 use Rattle.lethe_base.specs.declared.name.Name.{Name}
 use Rattle.lethe_disk.specs.Directory.{Directory, object}
+use Rattle.lethe_disk.proofs.Objects.{absent_of}
 use Rattle.lethe_segment.specs.declared.record.Record.{Record}
 use Rattle.lethe_manifest.specs.declared.manifest.Manifest.{Manifest}
 use Rattle.lethe_manifest.specs.Manifests.{HasSpelling, IsOneBelow}
@@ -15,7 +16,11 @@ use Rattle.lethe_recover.specs.declared.recovered.Recovered.{Recovered}
 use Rattle.lethe_recover.specs.declared.refused.RecoverRefused.{RecoverRefused}
 use Rattle.lethe_recover.specs.declared.refused.RecoverRefused.TheVariants.{Damaged, Fault, NoMemory, OtherConfig}
 use Rattle.lethe_recover.specs.Loaded.{IsRead, IsSpelled, IsGated, MayFail, MayRefuse, IsReplayed, IsUnreplayed}
-use Rattle.lethe_recover.proofs.Replaying.{absent_of}
+use Rattle.lethe_header.specs.declared.header.PageLine.{PageLine}
+use Rattle.lethe_stored.specs.Files.{StoredFile, IsFile}
+use Rattle.lethe_stored.specs.Encodes.{HasObject}
+use Rattle.lethe_stored.proofs.Lists.{no_pairs, pairs_of_one}
+use Rattle.std.proofs.lemmas.List.Elements.{All-nil}
 
 -- what a `?` hands on
 pub err_moved : {T E : Type 0} (result : Result T E) (why : E) (P : E → Type 0) → IsErrAnd result (λ e. e ≡ why) → P why → IfErr result P
@@ -44,9 +49,6 @@ one_segment next (a ∷ b ∷ rest) is = absurd is
 
 pub contains_one : (segments : List ℕ) (k : ℕ) → segments ≡ k ∷ [] → Contains segments k
 contains_one segments k is = subst (λ l. Contains l k) (sym is) (0, omega arith, refl)
-
-pub pairs_of_one : (segments : List ℕ) (k : ℕ) → segments ≡ k ∷ [] → AllPairs (λ a b. a ≢ b) segments
-pairs_of_one segments k is = subst (AllPairs (λ a b. a ≢ b)) (sym is) (λ i j d lt within. absurd (omega arith))
 
 -- Refusals
 
@@ -79,12 +81,22 @@ pub is_read : (config : Fields) (d mid : Directory) (number : ℕ) (m : Manifest
 is_read config d mid number m k records read greatest spelled is same one mid_is replayed read_is =
     let gated = gated_of d number m greatest is in
     record {
-      s = record { manifest = m; frozen = None; active = record { no = k; records = records } };
-      stored = record { spelled = spelled; cites = one; once = pairs_of_one m.segments k one; active = replayed.0; frozen = tt };
+      s = record { manifest = m; frozen = None; active = record { no = k; records = records }; files = [] };
+      stored = record {
+        spelled = spelled;
+        cites = one;
+        once = pairs_of_one m.segments k one;
+        active = replayed.0;
+        frozen = tt;
+        files = spelled.files;
+        each = All-nil (IsFile m.next);
+        files_once = no_pairs (λ (a b : StoredFile). a.header.no ≢ b.header.no);
+        pages_once = no_pairs (λ (a b : PageLine). a.no ≢ b.no);
+      };
       encodes = record {
         greatest = gated.greatest;
         manifest = gated.is.there;
-        parts = record { active = (subst (λ x. IsReplayed x k records) mid_is replayed).1; frozen = tt };
+        parts = record { active = (subst (λ x. IsReplayed x k records) mid_is replayed).1; frozen = tt; files = All-nil (HasObject d) };
       };
       config_is = same;
       all = read_is;

@@ -1,9 +1,10 @@
 -- The segment of a number, and the records that are replayed of it.
 use Rattle.std.proofs.Common.{◌≡◌, ◌≢◌, ◌<◌, ◌^◌, ℕ, true, eqb, List, ◌++◌, Option, Some, None, refl, sym, ap, subst, ◌∙◌, append_assoc, arith}
-use Rattle.std.specs.Prelude.{IsSome, MatchOption, MatchResult, Result, Err}
+use Rattle.std.specs.Prelude.{MatchOption, MatchResult, Result, Err}
 use Rattle.std.specs.Option.{option_eq}
 use Rattle.std.proofs.lemmas.Bool.{eqb-true}
 use Rattle.lethe_disk.specs.Directory.{Directory, object}
+use Rattle.lethe_disk.proofs.Objects.{one_object}
 use Rattle.lethe_segment.specs.declared.record.Record.{Record}
 use Rattle.lethe_segment.specs.declared.replaying.SegmentRefused.{SegmentRefused}
 use Rattle.lethe_segment.specs.declared.replaying.SegmentRefused.TheVariants as refused
@@ -11,15 +12,8 @@ use Rattle.lethe_segment.specs.Segments.{head_bytes, open_records, Ascends}
 use Rattle.lethe_segment.specs.Heads.{HasHead, IsNoHead}
 use Rattle.lethe_segment.specs.Holding.{Holds}
 use Rattle.lethe_segment.proofs.HeadLaws.{behind_heads, same_head}
-use Rattle.lethe_recover.specs.Stored.{segment_name}
+use Rattle.lethe_stored.specs.Stored.{segment_name}
 use Rattle.lethe_recover.specs.Loaded.{IsReplayed, IsUnreplayed, MayFail, refusal_of}
-
-pub absent_of : {X : Type 0} (o : Option X) → (IsSome o → ⊥) → o ≡ None
-absent_of None none = refl
-absent_of (Some x) none = absurd (none refl)
-
-pub one_object : {X : Type 0} (o : Option X) (a b : X) → o ≡ Some a → o ≡ Some b → a ≡ b
-one_object o a b x y = let e : Some a ≡ Some b = sym x ∙ y in cc
 
 -- what holds records under some number holds them under that of its head
 pub held_under : (number other : ℕ) (records : List Record) (bytes : List ℕ) → HasHead number bytes → Holds other records bytes → Holds number records bytes

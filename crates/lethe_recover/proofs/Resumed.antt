@@ -17,20 +17,22 @@ use Rattle.lethe_recover.specs.declared.opening.Opened.{Opened}
 use Rattle.lethe_recover.specs.declared.recovered.Recovered.{Recovered}
 use Rattle.lethe_recover.specs.declared.refused.RecoverRefused.{RecoverRefused}
 use Rattle.lethe_recover.specs.declared.refused.RecoverRefused.TheVariants as recover
-use Rattle.lethe_recover.specs.Stored.{Stored, segment_name, Segment, IsStored, segments_of, count_of}
-use Rattle.lethe_recover.specs.Encodes.{Encodes}
-use Rattle.lethe_recover.specs.Goes.{Goes}
-use Rattle.lethe_recover.specs.Kept.{IsFor, IsKept}
-use Rattle.lethe_recover.specs.Left.{IsHistoryOr}
+use Rattle.lethe_stored.specs.Stored.{Stored, segment_name, Segment, IsStored, segments_of, count_of}
+use Rattle.lethe_stored.specs.Encodes.{Encodes}
+use Rattle.lethe_disk.specs.Goes.{Goes}
+use Rattle.lethe_stored.specs.Kept.{IsFor, IsKept}
+use Rattle.lethe_stored.specs.Left.{IsHistoryOr}
 use Rattle.lethe_recover.specs.Loaded.{IsRead, IsLoaded, IsInterrupted, MayRefuse}
-use Rattle.lethe_recover.specs.Quiet.{IsQuiet}
+use Rattle.lethe_disk.specs.Quiet.{IsQuiet}
 use Rattle.lethe_recover.specs.Rewritten.{rewritten, new_stored}
 use Rattle.lethe_recover.specs.Settled.{IsSettled}
 use Rattle.lethe_recover.specs.Opening.{IsTold, IsThere, IsResumed, IsExhausted, MayNotOpen, IsCut, since_start}
-use Rattle.lethe_recover.proofs.Going.{goes_quiet}
-use Rattle.lethe_recover.proofs.Quieting.{quiet_itself}
-use Rattle.lethe_recover.proofs.Unique.{none_or_some, none_frozen, one_stored, encodes_gated}
-use Rattle.lethe_recover.proofs.Firsts.{empty_stands}
+use Rattle.lethe_disk.proofs.Going.{goes_quiet}
+use Rattle.lethe_disk.proofs.Quieting.{quiet_itself}
+use Rattle.lethe_stored.proofs.Unique.{none_or_some, one_stored}
+use Rattle.lethe_recover.proofs.Narrow.{none_frozen}
+use Rattle.lethe_recover.proofs.Gated.{encodes_gated}
+use Rattle.lethe_stored.proofs.Firsts.{empty_stands}
 use Rattle.lethe_recover.proofs.Standing.{rewritten_stands, count_rewritten}
 
 pub ok_weaker : {T E : Type 0} (result : Result T E) (P Q : T → Type 0) → IfOk result P → ((x : T) → P x → Q x) → IfOk result Q

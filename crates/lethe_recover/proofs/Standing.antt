@@ -10,11 +10,12 @@ use Rattle.lethe_segment.specs.declared.record.Record.TheVariants as of
 use Rattle.lethe_segment.specs.Records.{record_seq, RecordHasSpelling}
 use Rattle.lethe_segment.specs.Segments.{Ascends, last_seq}
 use Rattle.lethe_manifest.specs.declared.manifest.Manifest.{Manifest}
-use Rattle.lethe_recover.specs.Stored.{Stored, Segment, IsStored, records_from, erase_of, in_order, layout_of, count_of, certificate_number, plain}
-use Rattle.lethe_recover.specs.Kept.{IsFor}
+use Rattle.lethe_stored.specs.Files.{levels_of}
+use Rattle.lethe_stored.specs.Stored.{Stored, Segment, IsStored, records_in, erase_of, in_order, layout_of, count_of, certificate_number, plain}
+use Rattle.lethe_stored.specs.Kept.{IsFor}
 use Rattle.lethe_recover.specs.Rewritten.{rewritten}
-use Rattle.lethe_recover.proofs.Numbered.{covers_numbered}
-use Rattle.lethe_recover.proofs.Unique.{none_frozen}
+use Rattle.lethe_stored.proofs.Numbered.{covers_numbered}
+use Rattle.lethe_recover.proofs.Narrow.{none_frozen, none_filed}
 
 -- The last place
 
@@ -40,7 +41,9 @@ pub count_is : (s : Stored) (m : Manifest) (records : List Record) → IsStored 
 count_is s m records stored same held =
     let there = sym same in
     let read = sym held in
-    (λ i. max (there i).count (last_seq 0 (read i))) ∙ ap (λ (f : Option Segment). max s.manifest.count (last_seq 0 (records_from f s.active.records))) (sym (none_frozen s stored))
+    let counted : max m.count (last_seq 0 records) ≡ max s.manifest.count (last_seq 0 s.active.records) = λ i. max (there i).count (last_seq 0 (read i)) in
+    let older : last_seq 0 (records_in s.frozen) ≡ 0 = ap (λ (f : Option Segment). last_seq 0 (records_in f)) (none_frozen s stored) in
+    omega (arith, counted, older)
 
 pub count_fits : (s : Stored) → IsStored s → count_of s ≤ max_place
 count_fits s stored =
@@ -63,15 +66,16 @@ module _ (s : Stored) (stored : IsStored s) where
       let certificate = sym stored.spelled.certificate in
       let erases = sym stored.spelled.erases in
       let frozen = sym (none_frozen s stored) in
+      let filed = sym (none_filed s stored) in
       (λ i. record {
         clock = s.manifest.clock;
         count = count_of t;
         next = s.manifest.next + 2;
         certificate = certificate_number (certificate i);
-        pending = in_order (erases i ++ filter_map erase_of (records_from (frozen i) s.active.records));
+        pending = in_order (erases i ++ filter_map erase_of (records_in (frozen i) ++ s.active.records));
         active = map plain s.active.records;
         frozen = option_map (λ (older : Segment). map plain older.records) (frozen i);
-        levels = (layout_of s).levels;
+        levels = levels_of s.manifest.config.levels (filed i);
       })
 
   pub rewritten_stands : (h : History) → IsFor h s → IsFor h t

@@ -1,6 +1,6 @@
 -- What is listed of a directory beside what is cited.
-use Rattle.std.proofs.Common.{◌≡◌, ◌≢◌, ◌⊎◌, inl, inr, ℕ, suc, Bool, true, false, not, cond, T, List, [], ◌∷◌, map, filter, get_or, Option, Some, None, refl, sym, ap, ◌∙◌, subst, arith}
-use Rattle.std.specs.Prelude.{Contains, IsSome, is_some, ◌||◌, ◌&&◌, IsSomeAnd}
+use Rattle.std.proofs.Common.{◌≡◌, ◌≢◌, ◌⊎◌, inl, inr, ℕ, Bool, true, false, not, cond, T, List, [], ◌∷◌, map, filter, get_or, Option, Some, None, refl, sym, ap, ◌∙◌, subst, arith}
+use Rattle.std.specs.Prelude.{Contains, IsSome, is_some, ◌||◌, ◌&&◌}
 use Rattle.std.proofs.lemmas.Bool.{cases_Bool}
 use Rattle.std.specs.FinMap.{keys, entries, entries_sorted, remove}
 use Rattle.std.specs.FinMap.Entries.{below_all, is_sorted}
@@ -17,10 +17,12 @@ use Rattle.lethe_commit.specs.Gates.{gate_name}
 use Rattle.lethe_commit.specs.Switch.{manifest_name}
 use Rattle.lethe_commit.proofs.Listed.{listed}
 use Rattle.lethe_commit.proofs.Removals.{all_absent, cleared_absent}
-use Rattle.lethe_recover.specs.Stored.{Stored, Segment, IsStored, segment_name, IsCited}
-use Rattle.lethe_recover.specs.Encodes.{Encodes, AreSpare}
+use Rattle.lethe_stored.specs.Stored.{Stored, IsStored, segment_name, part_names, IsCited}
+use Rattle.lethe_stored.specs.Encodes.{Encodes, AreSpare}
 use Rattle.lethe_recover.specs.Settled.{is_cited, HasOnly}
-use Rattle.lethe_recover.proofs.Unique.{none_frozen, one_cited}
+use Rattle.lethe_stored.proofs.Lists.{later_in}
+use Rattle.lethe_stored.proofs.Parts.{active_part}
+use Rattle.lethe_recover.proofs.Narrow.{one_cited, only_part}
 
 -- Names that differ from each other
 
@@ -49,9 +51,6 @@ apart_sorted (e ∷ es) h = let parts = both_of (below_all name_cmp e.0 es) (is_
 
 pub apart_keys : (d : Directory) → AreApart (keys d)
 apart_keys d = apart_sorted (entries d) (entries_sorted d)
-
-later_in : (first : Name) (names : List Name) (name : Name) → Contains names name → Contains (first ∷ names) name
-later_in first names name there = let lt = there.1 in (suc there.0, omega arith, there.2)
 
 contains_filter : (p : Name → Bool) (names : List Name) (name : Name) → Contains (filter p names) name → Contains names name × (p name ≡ true)
 contains_filter p [] name there = let lt = there.1 in absurd (omega arith)
@@ -117,12 +116,7 @@ module _ (s : Stored) (stored : IsStored s) where
   cited_true : (name : Name) → IsCited s name → is_cited number segment name ≡ true
   cited_true name (inl is) = or_left (name_eq name (gate_name number) || name_eq name (manifest_name number)) (name_eq name (segment_name segment)) (or_left (name_eq name (gate_name number)) (name_eq name (manifest_name number)) (name_is name (gate_name number) is))
   cited_true name (inr (inl is)) = or_left (name_eq name (gate_name number) || name_eq name (manifest_name number)) (name_eq name (segment_name segment)) (or_right (name_eq name (gate_name number)) (name_eq name (manifest_name number)) (name_is name (manifest_name number) is))
-  cited_true name (inr (inr (inl is))) = or_right (name_eq name (gate_name number) || name_eq name (manifest_name number)) (name_eq name (segment_name segment)) (name_is name (segment_name segment) is)
-  cited_true name (inr (inr (inr older))) = by s.frozen (none_frozen s stored) older
-    where
-      by : (o : Option Segment) → o ≡ None → IsSomeAnd o (λ older. name ≡ segment_name older.no) → is_cited number segment name ≡ true
-      by None is older = absurd older
-      by (Some o) is older = let clash : Some o ≡ None = is in cc
+  cited_true name (inr (inr part)) = or_right (name_eq name (gate_name number) || name_eq name (manifest_name number)) (name_eq name (segment_name segment)) (name_is name (segment_name segment) (only_part s name stored part))
 
   cited_from : (name : Name) → is_cited number segment name ≡ true → IsCited s name
   cited_from name e = elim (or_cases (name_eq name (gate_name number) || name_eq name (manifest_name number)) (name_eq name (segment_name segment)) e) [
@@ -130,7 +124,7 @@ module _ (s : Stored) (stored : IsStored s) where
       | inl gate ↦ inl (name_true name (gate_name number) gate)
       | inr manifest ↦ inr (inl (name_true name (manifest_name number) manifest))
     ]
-    | inr here ↦ inr (inr (inl (name_true name (segment_name segment) here)))
+    | inr here ↦ inr (inr (subst (Contains (part_names s)) (sym (name_true name (segment_name segment) here)) (active_part s)))
   ]
 
   abbrev test : Name → Bool

@@ -1,14 +1,4 @@
-pub mod Stored
-pub mod Encodes
-pub mod Steps
-pub mod Kept
-pub mod Left
-pub mod Meaning
-pub mod Clean
 pub mod Loaded
-pub mod Quiet
-pub mod Examples
-pub mod Goes
 pub mod Settled
 pub mod Rewritten
 pub mod Opening

@@ -15,8 +15,8 @@ use Rattle.lethe_commit.specs.Switch.{manifest_name, HasGreatest}
 use Rattle.lethe_recover.specs.declared.recovered.Recovered.{Recovered}
 use Rattle.lethe_recover.specs.declared.refused.RecoverRefused.{RecoverRefused}
 use Rattle.lethe_recover.specs.declared.refused.RecoverRefused.TheVariants.{Damaged, Fault, NoMemory, OtherConfig}
-use Rattle.lethe_recover.specs.Stored.{Stored, IsStored, segments_of, segment_name}
-use Rattle.lethe_recover.specs.Encodes.{Encodes}
+use Rattle.lethe_stored.specs.Stored.{Stored, IsStored, segments_of, segment_name}
+use Rattle.lethe_stored.specs.Encodes.{Encodes}
 
 -- nothing is there
 abbrev pub nothing : Recovered

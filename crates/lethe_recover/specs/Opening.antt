@@ -14,9 +14,9 @@ use Rattle.lethe_recover.specs.declared.opening.OpenWhy.TheVariants.{Damaged, Ot
 use Rattle.lethe_recover.specs.declared.opening.Opened.{Opened}
 use Rattle.lethe_recover.specs.declared.refused.RecoverRefused.{RecoverRefused}
 use Rattle.lethe_recover.specs.declared.refused.RecoverRefused.TheVariants as recover
-use Rattle.lethe_recover.specs.Stored.{Stored, count_of, segment_name}
-use Rattle.lethe_recover.specs.Kept.{IsFor}
-use Rattle.lethe_recover.specs.Left.{IsHistoryOr}
+use Rattle.lethe_stored.specs.Stored.{Stored, count_of, segment_name}
+use Rattle.lethe_stored.specs.Kept.{IsFor}
+use Rattle.lethe_stored.specs.Left.{IsHistoryOr}
 use Rattle.lethe_recover.specs.Loaded.{IsGated, IsDamaged, HasOtherConfig}
 use Rattle.lethe_recover.specs.Settled.{IsSettled, HasOnly, IsWhole}
 

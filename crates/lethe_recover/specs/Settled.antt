@@ -7,8 +7,8 @@ use Rattle.lethe_disk.specs.Disk.{Seen, IsSynced}
 use Rattle.lethe_segment.specs.Segments.{segment_bytes}
 use Rattle.lethe_commit.specs.Gates.{gate_name}
 use Rattle.lethe_commit.specs.Switch.{manifest_name}
-use Rattle.lethe_recover.specs.Stored.{Stored, IsStored, IsCited, segment_name}
-use Rattle.lethe_recover.specs.Encodes.{Encodes}
+use Rattle.lethe_stored.specs.Stored.{Stored, IsStored, IsCited, segment_name}
+use Rattle.lethe_stored.specs.Encodes.{Encodes}
 
 -- what a read gives is the one image, and encodes what is stored
 pub record IsSettled (disk : Seen) (s : Stored) : Type 0 where

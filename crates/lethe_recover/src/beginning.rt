@@ -6,9 +6,9 @@ ghost use Rattle.lethe_disk.specs.Directory.{object};
 ghost use Rattle.lethe_disk.specs.Disk.{IsSynced, HasCause};
 ghost use Rattle.lethe_manifest.specs.Manifests.{HasSpelling};
 ghost use Rattle.lethe_commit.specs.Switch.{HasGreatest};
-ghost use Rattle.lethe_recover.specs.Stored.{IsStored};
-ghost use Rattle.lethe_recover.specs.Encodes.{Encodes};
-ghost use Rattle.lethe_recover.specs.Goes.{Goes};
+ghost use Rattle.lethe_stored.specs.Stored.{IsStored};
+ghost use Rattle.lethe_stored.specs.Encodes.{Encodes};
+ghost use Rattle.lethe_disk.specs.Goes.{Goes};
 ghost use Rattle.lethe_recover.specs.Settled.{IsSettled, HasOnly, IsWhole};
 ghost use Rattle.lethe_recover.specs.Rewritten.{first_manifest, new_stored};
 

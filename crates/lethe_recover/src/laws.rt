@@ -1,115 +1,12 @@
-//! Laws of what a disk is kept for. The functions do nothing: their contracts are the laws.
-ghost use Rattle.std.specs.Prelude.{◌≡◌, ◌≢◌, ◌⊎◌, ◌<◌, ◌≤◌, ◌^◌, ℕ, List, [], length, Some, None};
-ghost use Rattle.lethe_base.specs.Causes.{IsOverdue};
-ghost use Rattle.lethe_base.specs.Held.{Holds, Shows};
-ghost use Rattle.lethe_base.specs.History.{History, after};
-ghost use Rattle.lethe_base.specs.Keys.{Bytes};
-ghost use Rattle.lethe_base.specs.Limits.{IsKey, IsValue, max_place};
-ghost use Rattle.lethe_base.specs.Matching.{IsPut};
-ghost use Rattle.lethe_base.specs.declared.call.Call.TheVariants.{Put, Delete};
+//! A law of what is read of a disk. The function does nothing: its contract is the law.
+ghost use Rattle.lethe_base.specs.History.{History};
 ghost use Rattle.lethe_base.specs.declared.config.Fields.{Fields};
-ghost use Rattle.lethe_base.specs.declared.entry.Entry.{Entry};
-ghost use Rattle.lethe_base.specs.declared.name.Kind.TheVariants as kinds;
 ghost use Rattle.lethe_base.specs.declared.name.Name.{Name};
-ghost use Rattle.lethe_disk.specs.Directory.{Directory, IsCreated};
-ghost use Rattle.lethe_segment.specs.declared.record.Record.{Record};
-ghost use Rattle.lethe_segment.specs.declared.record.Record.TheVariants as of;
-ghost use Rattle.lethe_manifest.specs.Manifests.{manifest_bytes};
-ghost use Rattle.lethe_commit.specs.Append.{IsAppended};
-ghost use Rattle.lethe_commit.specs.Clear.{IsCleared};
-ghost use Rattle.lethe_commit.specs.Switch.{HasGreatest, IsSwitched};
-ghost use Rattle.lethe_cover.specs.Steps.{next_place, with_done, put_entry, tomb_entry};
-ghost use Rattle.lethe_recover.specs.Stored.{Stored, IsStored, segment_name, layout_of, appended};
-ghost use Rattle.lethe_recover.specs.Encodes.{Encodes, HasParts, Agrees, IsBeside, AreSpare};
-ghost use Rattle.lethe_recover.specs.Steps.{addition};
-ghost use Rattle.lethe_recover.specs.Kept.{IsFor, IsKept};
-ghost use Rattle.lethe_recover.specs.Meaning.{Means};
+ghost use Rattle.lethe_disk.specs.Directory.{Directory};
+ghost use Rattle.lethe_stored.specs.Kept.{IsKept};
 ghost use Rattle.lethe_recover.specs.Loaded.{IsDamaged};
-ghost use Rattle.lethe_recover.specs.Examples.{IsNewStore, IsOnePut, the_put};
 
-/// What a directory encodes, and so what it is kept for, rests on its greatest gate, the manifest of that gate and the segments that
-/// this manifest cites: whatever else a directory has, it is kept for the same.
-pub fn what_is_cited_counts()
-    ensures encodes { (s : Stored) (d c : Directory) → Encodes d s → Agrees s d c → Encodes c s }
-    ensures kept { (h : History) (d c : Directory) → IsKept d h → IsBeside d c → IsKept c h }
-{}
-
-/// A directory encodes one thing.
-pub fn one_stored()
-    ensures { (d : Directory) (s t : Stored) → IsStored s → IsStored t → Encodes d s → Encodes d t → s ≡ t }
-{}
-
-/// A directory that is kept for a history means the map, the clock and the count that this leaves.
-pub fn kept_means_its_history()
-    ensures { (h : History) (d : Directory) → IsKept d h
-        → Means d (record { map = (after h).map; clock = (after h).clock; count = length h }) }
-{}
-
-/// Of what it holds, nothing was erased a threshold ago.
-pub fn kept_holds_nothing_overdue()
-    ensures { (h : History) (d : Directory) (s : Stored) → IsKept d h → IsStored s → Encodes d s
-        → (entry : Entry) (swept : ℕ) → Holds (layout_of s) entry swept → IsPut entry.body
-        → IsOverdue s.manifest.config.threshold h (after h).clock entry.seq → ⊥ }
-{}
-
-/// And nothing of it is damaged.
+/// Of a directory that is kept for a history, nothing is damaged.
 pub fn kept_has_no_damage()
     ensures { (h : History) (d : Directory) → IsKept d h → (config : Fields) (name : Name) → IsDamaged config d name → ⊥ }
-{}
-
-/// What a crash leaves of an append is kept for the history before, or for the one that the new record stands for.
-pub fn append_keeps()
-    ensures { (h g : History) (s : Stored) (next : Record) (at : ℕ) (d c : Directory) → IsStored s → Encodes d s → IsFor h s
-        → IsStored (appended s next) → IsFor g (appended s next)
-        → IsAppended (segment_name s.active.no) at (addition s next) d c → IsKept c h ⊎ IsKept c g }
-{}
-
-/// What a crash leaves of a switch is kept for the history that the old manifest and the new one stand for.
-pub fn switch_keeps()
-    ensures later { (h : History) (s t : Stored) (d c : Directory) → IsStored s → Encodes d s → IsFor h s
-        → IsStored t → HasParts d t → IsFor h t → s.manifest.no < t.manifest.no
-        → IsSwitched t.manifest.no (manifest_bytes t.manifest) (Some s.manifest.no) d c → IsKept c h }
-    ensures first { (t : Stored) (d c : Directory) → HasGreatest None d → IsStored t → HasParts d t → IsFor [] t
-        → IsSwitched t.manifest.no (manifest_bytes t.manifest) None d c → IsKept c [] }
-{}
-
-/// What a crash leaves of a clear is kept for the same, where none of the names is cited.
-pub fn clear_keeps()
-    ensures { (h : History) (d c : Directory) (names : List Name) → IsKept d h
-        → ((s : Stored) → IsStored s → Encodes d s → AreSpare s names) → IsCleared names d c → IsKept c h }
-{}
-
-/// What a crash leaves of a create is kept for the same, where the name is no gate's and its number hasn't been drawn.
-pub fn create_keeps()
-    ensures { (h : History) (d c : Directory) (name : Name) → IsKept d h → name.kind ≢ kinds.Gate
-        → ((s : Stored) → IsStored s → Encodes d s → s.manifest.next ≤ name.no) → IsCreated name d c → IsKept c h }
-{}
-
-/// With the record of a put, what is stored stands for the history with that put.
-pub fn put_follows()
-    ensures { (h : History) (s : Stored) → IsStored s → IsFor h s → length h < max_place
-        → (caller : ℕ) (key : Bytes) (dkey : ℕ) (value : Bytes) → IsKey key → dkey < 2 ^ 64 → IsValue value
-        → IsStored (appended s (of.Entry (put_entry h (layout_of s) key dkey value)))
-        × IsFor (with_done h caller (Put key dkey value)) (appended s (of.Entry (put_entry h (layout_of s) key dkey value))) }
-{}
-
-/// With a tombstone, what is stored stands for the history with that delete; and with the delete's place alone where reads see no
-/// entry of the key.
-pub fn delete_follows()
-    ensures tombstone { (h : History) (s : Stored) → IsStored s → IsFor h s → length h < max_place → (caller : ℕ) (key : Bytes) → IsKey key
-        → IsStored (appended s (of.Entry (tomb_entry h (layout_of s) key)))
-        × IsFor (with_done h caller (Delete key)) (appended s (of.Entry (tomb_entry h (layout_of s) key))) }
-    ensures blind { (h : History) (s : Stored) → IsStored s → IsFor h s → length h < max_place → (caller : ℕ) (key : Bytes)
-        → ((entry : Entry) → Shows (layout_of s) entry → entry.key ≡ key → ⊥)
-        → IsStored (appended s (of.Blind (next_place h))) × IsFor (with_done h caller (Delete key)) (appended s (of.Blind (next_place h))) }
-{}
-
-/// The 71 bytes of a new store's manifest, its gate and its empty segment are kept for the empty history.
-pub fn new_store_is_kept()
-    ensures { (d : Directory) → IsNewStore d → IsKept d [] }
-{}
-
-/// With the 36 bytes of a segment that has one put, a store is kept for the history of that put.
-pub fn one_put_is_kept()
-    ensures { (caller : ℕ) (d : Directory) → IsOnePut d → IsKept d (the_put caller) }
 {}

@@ -1,4 +1,4 @@
-//! What a disk's greatest gate commits, how it is read back, and which history it is kept for.
+//! Opening a disk: what its greatest gate commits is read back and written anew.
 #![tactic(auto)]
 
 mod beginning;
@@ -11,11 +11,7 @@ mod rewriting;
 mod tidying;
 
 pub use beginning::begin;
-pub use laws::{
-    append_keeps, clear_keeps, create_keeps, delete_follows, kept_has_no_damage,
-    kept_holds_nothing_overdue, kept_means_its_history, new_store_is_kept, one_put_is_kept,
-    one_stored, put_follows, switch_keeps, what_is_cited_counts,
-};
+pub use laws::kept_has_no_damage;
 pub use loading::load;
 pub use opening::{OpenWhy, Opened, open};
 pub use recovered::Recovered;

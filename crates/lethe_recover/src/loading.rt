@@ -8,10 +8,10 @@ ghost use Rattle.lethe_manifest.specs.Manifests.{HasSpelling};
 ghost use Rattle.lethe_segment.specs.Segments.{Ascends};
 ghost use Rattle.lethe_commit.specs.Switch.{HasGreatest};
 ghost use Rattle.lethe_recover.specs.declared.refused.RecoverRefused.{RecoverRefused};
-ghost use Rattle.lethe_recover.specs.Stored.{Stored, IsStored};
-ghost use Rattle.lethe_recover.specs.Encodes.{Encodes};
+ghost use Rattle.lethe_stored.specs.Stored.{Stored, IsStored};
+ghost use Rattle.lethe_stored.specs.Encodes.{Encodes};
 ghost use Rattle.lethe_recover.specs.Loaded.{nothing, recovered_of, IsLoaded, IsRead, IsSpelled, IsSpelledOut, HasReason, IsInterrupted, MayRefuse, MayFail, IsMissing, IsUnspelled, IsReplayed, IsUnreplayed, refusal_of};
-ghost use Rattle.lethe_recover.specs.Quiet.{IsQuiet};
+ghost use Rattle.lethe_disk.specs.Quiet.{IsQuiet};
 
 use crate::{RecoverRefused, Recovered};
 use lethe_base::{Config, Kind, List, Name};

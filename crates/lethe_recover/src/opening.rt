@@ -10,12 +10,12 @@ ghost use Rattle.lethe_disk.specs.declared.disk.DiskRefused.TheVariants.{Failed}
 ghost use Rattle.lethe_segment.specs.Segments.{Ascends, last_seq};
 ghost use Rattle.lethe_manifest.specs.Manifests.{HasSpelling};
 ghost use Rattle.lethe_commit.specs.Switch.{HasGreatest};
-ghost use Rattle.lethe_recover.specs.Stored.{Stored, count_of};
-ghost use Rattle.lethe_recover.specs.Goes.{Goes};
-ghost use Rattle.lethe_recover.specs.Kept.{IsFor, IsKept};
-ghost use Rattle.lethe_recover.specs.Left.{IsLeft, IsKeptOr};
+ghost use Rattle.lethe_stored.specs.Stored.{Stored, count_of};
+ghost use Rattle.lethe_disk.specs.Goes.{Goes};
+ghost use Rattle.lethe_stored.specs.Kept.{IsFor, IsKept};
+ghost use Rattle.lethe_stored.specs.Left.{IsLeft, IsKeptOr};
 ghost use Rattle.lethe_recover.specs.Loaded.{HasReason};
-ghost use Rattle.lethe_recover.specs.Quiet.{IsQuiet};
+ghost use Rattle.lethe_disk.specs.Quiet.{IsQuiet};
 ghost use Rattle.lethe_recover.specs.declared.refused.RecoverRefused.{RecoverRefused};
 ghost use Rattle.lethe_recover.specs.Rewritten.{rewritten, new_stored};
 ghost use Rattle.lethe_recover.specs.Settled.{IsSettled};

@@ -4,9 +4,9 @@ ghost use Rattle.lethe_base.specs.Limits.{max_place};
 ghost use Rattle.lethe_disk.specs.Disk.{HasCause};
 ghost use Rattle.lethe_segment.specs.Segments.{Ascends, segment_bytes};
 ghost use Rattle.lethe_manifest.specs.Manifests.{HasSpelling};
-ghost use Rattle.lethe_recover.specs.Stored.{Stored};
-ghost use Rattle.lethe_recover.specs.Encodes.{Encodes};
-ghost use Rattle.lethe_recover.specs.Goes.{Goes};
+ghost use Rattle.lethe_stored.specs.Stored.{Stored};
+ghost use Rattle.lethe_stored.specs.Encodes.{Encodes};
+ghost use Rattle.lethe_disk.specs.Goes.{Goes};
 ghost use Rattle.lethe_recover.specs.Settled.{IsSettled, HasOnly, IsWhole};
 ghost use Rattle.lethe_recover.specs.Rewritten.{successor, rewritten};
 

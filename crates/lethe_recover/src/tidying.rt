@@ -2,9 +2,9 @@
 ghost use Rattle.std.specs.Prelude.{◌≡◌, not, filter, IfOk, OnOk};
 ghost use Rattle.lethe_disk.specs.Disk.{HasCause};
 ghost use Rattle.lethe_manifest.specs.Manifests.{HasSpelling};
-ghost use Rattle.lethe_recover.specs.Stored.{Stored};
-ghost use Rattle.lethe_recover.specs.Encodes.{Encodes};
-ghost use Rattle.lethe_recover.specs.Goes.{Goes};
+ghost use Rattle.lethe_stored.specs.Stored.{Stored};
+ghost use Rattle.lethe_stored.specs.Encodes.{Encodes};
+ghost use Rattle.lethe_disk.specs.Goes.{Goes};
 ghost use Rattle.lethe_recover.specs.Settled.{IsSettled, HasOnly, is_cited};
 
 use lethe_base::{Kind, Name, NoMemory};

@@ -6,7 +6,7 @@ use Rattle.lethe_base.specs.declared.call.Call.{Call}
 use Rattle.lethe_base.specs.declared.call.Call.TheVariants.{Put, Delete, Erase, Tick, Work}
 use Rattle.lethe_base.specs.declared.call.Did.{Did}
 use Rattle.lethe_base.specs.declared.call.Did.TheVariants.{Done, Failed}
-use Rattle.lethe_recover.specs.Left.{IsOutcome, is_done, is_work, as_done, without_failed, with_failed_done}
+use Rattle.lethe_stored.specs.Left.{IsOutcome, is_done, is_work, as_done, without_failed, with_failed_done}
 use Rattle.lethe_run.specs.Carried.{IsCut, failed_in}
 
 -- Histories whose changes are done

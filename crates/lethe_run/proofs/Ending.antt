@@ -10,15 +10,15 @@ use Rattle.lethe_disk.specs.Disk.{Seen}
 use Rattle.lethe_engine.specs.declared.journal.Journal.{Journal}
 use Rattle.lethe_engine.specs.Opening.{IsResumed}
 use Rattle.lethe_engine.proofs.Standings.{held_open}
-use Rattle.lethe_recover.specs.Goes.{Goes}
-use Rattle.lethe_recover.specs.Left.{IsLeft, IsKeptOr}
+use Rattle.lethe_disk.specs.Goes.{Goes}
+use Rattle.lethe_stored.specs.Left.{IsLeft, IsKeptOr}
 use Rattle.lethe_manifest.specs.declared.manifest.Manifest.{Manifest}
 use Rattle.lethe_recover.specs.Loaded.{HasReason, IsGated}
 use Rattle.lethe_recover.specs.Opening.{MayNotOpen}
 use Rattle.lethe_recover.specs.declared.opening.OpenWhy.{OpenWhy}
 use Rattle.lethe_recover.specs.declared.opening.OpenWhy.TheVariants as open_why
 use Rattle.lethe_recover.specs.declared.refused.RecoverRefused.{RecoverRefused}
-use Rattle.lethe_recover.proofs.Going.{goes_then, goes_weaker}
+use Rattle.lethe_disk.proofs.Going.{goes_then, goes_weaker}
 use Rattle.lethe_script.specs.declared.order.Order.{Order}
 use Rattle.lethe_script.specs.declared.refused.BadLine.{BadLine}
 use Rattle.lethe_script.specs.Grammar.{script_of}

@@ -9,10 +9,10 @@ use Rattle.lethe_disk.specs.Disk.{Seen, Image}
 use Rattle.lethe_engine.specs.declared.journal.Journal.{Journal}
 use Rattle.lethe_engine.specs.StandsFor.{IsOpenOrStopped}
 use Rattle.lethe_engine.proofs.Recording.{kept_open}
-use Rattle.lethe_recover.specs.Kept.{IsKept}
-use Rattle.lethe_recover.specs.Left.{IsLeft, IsKeptOr, as_done, without_failed}
-use Rattle.lethe_recover.proofs.Going.{goes_quiet}
-use Rattle.lethe_recover.proofs.Quieting.{quiet_itself}
+use Rattle.lethe_stored.specs.Kept.{IsKept}
+use Rattle.lethe_stored.specs.Left.{IsLeft, IsKeptOr, as_done, without_failed}
+use Rattle.lethe_disk.proofs.Going.{goes_quiet}
+use Rattle.lethe_disk.proofs.Quieting.{quiet_itself}
 use Rattle.lethe_run.specs.Carried.{IsCut, failed_in}
 use Rattle.lethe_run.specs.Transcript.{Faults}
 use Rattle.lethe_run.specs.Serving.{IsKeptFor, IsOn, GoesOn}

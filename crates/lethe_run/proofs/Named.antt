@@ -8,7 +8,7 @@ use Rattle.lethe_base.specs.Limits.{max_place}
 use Rattle.lethe_base.specs.History.{History, Change}
 use Rattle.lethe_base.specs.declared.call.Call.{Call}
 use Rattle.lethe_base.specs.declared.config.Fields.{Fields}
-use Rattle.lethe_recover.specs.Left.{IsLeft, IsHistoryOr, as_done}
+use Rattle.lethe_stored.specs.Left.{IsLeft, IsHistoryOr, as_done}
 use Rattle.lethe_recover.specs.Loaded.{HasOtherConfig}
 use Rattle.lethe_recover.specs.Opening.{MayNotOpen, IsExhausted}
 use Rattle.lethe_recover.specs.declared.opening.OpenWhy.{OpenWhy}

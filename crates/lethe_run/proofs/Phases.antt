@@ -8,7 +8,7 @@ use Rattle.lethe_base.specs.History.{History}
 use Rattle.lethe_base.specs.Keys.{Bytes}
 use Rattle.lethe_disk.specs.Disk.{Seen, Image}
 use Rattle.lethe_engine.specs.declared.journal.Journal.{Journal}
-use Rattle.lethe_recover.proofs.Going.{goes_then, goes_weaker}
+use Rattle.lethe_disk.proofs.Going.{goes_then, goes_weaker}
 use Rattle.lethe_script.specs.declared.order.Order.{Order}
 use Rattle.lethe_wire.specs.Causes.{AppendsFront}
 use Rattle.lethe_run.specs.declared.reply.Line.{Line}

@@ -20,10 +20,10 @@ use Rattle.lethe_disk.specs.Disk.{Seen}
 use Rattle.lethe_engine.specs.declared.journal.Journal.{Journal}
 use Rattle.lethe_engine.specs.Changes.{HasReason, done_by, answered_to, written_by}
 use Rattle.lethe_engine.specs.StandsFor.{IsOpen, IsOpenOrStopped, StandsFor}
-use Rattle.lethe_recover.specs.Goes.{Goes}
-use Rattle.lethe_recover.specs.Kept.{IsKept}
-use Rattle.lethe_recover.specs.Left.{IsKeptOr}
-use Rattle.lethe_recover.proofs.Going.{goes_weaker}
+use Rattle.lethe_disk.specs.Goes.{Goes}
+use Rattle.lethe_stored.specs.Kept.{IsKept}
+use Rattle.lethe_stored.specs.Left.{IsKeptOr}
+use Rattle.lethe_disk.proofs.Going.{goes_weaker}
 use Rattle.lethe_script.specs.declared.order.Act.{Act}
 use Rattle.lethe_run.specs.declared.reply.Reply.{Reply}
 use Rattle.lethe_run.specs.declared.reply.Reply.TheVariants as reply

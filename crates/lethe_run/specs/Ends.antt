@@ -12,11 +12,11 @@ use Rattle.lethe_base.specs.declared.name.Name.{Name}
 use Rattle.lethe_disk.specs.Disk.{Seen}
 use Rattle.lethe_engine.specs.Opening.{IsUntold}
 use Rattle.lethe_manifest.specs.declared.manifest.Manifest.{Manifest}
-use Rattle.lethe_recover.specs.Goes.{Goes}
-use Rattle.lethe_recover.specs.Left.{IsLeft, IsKeptOr}
+use Rattle.lethe_disk.specs.Goes.{Goes}
+use Rattle.lethe_stored.specs.Left.{IsLeft, IsKeptOr}
 use Rattle.lethe_recover.specs.Loaded.{IsGated, HasReason, HasOtherConfig}
 use Rattle.lethe_recover.specs.Opening.{MayNotOpen, IsExhausted}
-use Rattle.lethe_recover.specs.Quiet.{IsQuiet}
+use Rattle.lethe_disk.specs.Quiet.{IsQuiet}
 use Rattle.lethe_recover.specs.declared.opening.OpenWhy.{OpenWhy}
 use Rattle.lethe_recover.specs.declared.opening.OpenWhy.TheVariants as open_why
 use Rattle.lethe_recover.specs.declared.refused.RecoverRefused.{RecoverRefused}

@@ -6,9 +6,9 @@ use Rattle.lethe_disk.specs.Directory.{Directory}
 use Rattle.lethe_disk.specs.Disk.{Seen}
 use Rattle.lethe_engine.specs.declared.journal.Journal.{Journal}
 use Rattle.lethe_engine.specs.StandsFor.{StandsFor}
-use Rattle.lethe_recover.specs.Goes.{Goes}
-use Rattle.lethe_recover.specs.Kept.{IsKept}
-use Rattle.lethe_recover.specs.Left.{IsLeft, without_failed}
+use Rattle.lethe_disk.specs.Goes.{Goes}
+use Rattle.lethe_stored.specs.Kept.{IsKept}
+use Rattle.lethe_stored.specs.Left.{IsLeft, without_failed}
 use Rattle.lethe_script.specs.declared.order.Act.{Act}
 use Rattle.lethe_script.specs.declared.order.Order.{Order}
 use Rattle.lethe_run.specs.declared.reply.Line.{Line}

@@ -16,8 +16,9 @@ use Rattle.lethe_header.specs.Facts.{lines_of, max_seq_in}
 use Rattle.lethe_header.specs.Headers.{HasSpelling}
 use Rattle.lethe_header.specs.declared.header.Header.{Header}
 use Rattle.lethe_file.specs.Agreement.{FileAgrees, entries_in}
-use Rattle.lethe_file.specs.Finding.{IsEntryOf, refused_since}
-use Rattle.lethe_file.proofs.Pages.{cause_since, damage_since, fault_since}
+use Rattle.lethe_file.specs.Finding.{IsEntryOf}
+use Rattle.lethe_disk.specs.Reads.{refused_since}
+use Rattle.lethe_disk.proofs.Causes.{cause_since, damage_since, fault_since}
 use Rattle.lethe_file.proofs.Unique.{one_found}
 use Rattle.lethe_version.specs.Newest.{IsNewestIn, newer_of}
 use Rattle.lethe_version.specs.Probing.{bound, IsNarrowed}

@@ -2,7 +2,6 @@
 ghost use Rattle.std.specs.Prelude.{◌≡◌, ◌≤◌, ◌<◌, ◌∷◌, [], map, flat_map, IsTrue, nat_lt};
 ghost use Rattle.std.specs.Bool.{OnFalse};
 ghost use Rattle.std.specs.Option.{IsSomeAnd};
-ghost use Rattle.lethe_file.specs.Finding.{refused_since};
 ghost use Rattle.lethe_header.specs.Facts.{lines_of, max_seq_in};
 ghost use Rattle.lethe_version.specs.Newest.{newer_of};
 ghost use Rattle.lethe_version.specs.Search.{IsSearch};
@@ -37,17 +36,6 @@ pub fn newer(newest: Option<Entry>, found: Option<Entry>) -> Option<Entry>
         }
         (Some(newest), None) => Some(newest),
         (None, found) => found,
-    }
-}
-
-/// A refusal with the count of faults before an earlier fetch.
-fn since(why: ReadRefused, before: u64) -> ReadRefused
-    ensures { result ≡ refused_since before why }
-{
-    match why {
-        ReadRefused::ReadFault { after, .. } => ReadRefused::ReadFault { before, after },
-        ReadRefused::Damaged { name } => ReadRefused::Damaged { name },
-        ReadRefused::NoMemory => ReadRefused::NoMemory,
     }
 }
 
@@ -87,7 +75,7 @@ fn find_among<D: Disk>(
     for file in files {
         match look::<D>(alloc, port, key, file, newest) {
             Ok(newer) => newest = newer,
-            Err(why) => return Err(since(why, before)),
+            Err(why) => return Err(why.since(before)),
         }
     }
     Ok(newest)
@@ -109,7 +97,7 @@ pub fn find_in<D: Disk>(
     for level in levels {
         match find_among::<D>(alloc, port, key, level.candidates(key), newest) {
             Ok(found) => newest = found,
-            Err(why) => return Err(since(why, before)),
+            Err(why) => return Err(why.since(before)),
         }
     }
     Ok(newest)

@@ -4,9 +4,9 @@ use Rattle.lethe_base.specs.declared.entry.Entry.{Entry}
 use Rattle.lethe_disk.specs.Reads.{HasReadCause, IsFault}
 use Rattle.lethe_disk.specs.declared.cursor.ReadRefused.{ReadRefused}
 use Rattle.lethe_file.specs.Agreement.{entries_in}
-use Rattle.lethe_file.specs.Finding.{refused_since}
+use Rattle.lethe_disk.specs.Reads.{refused_since}
 use Rattle.lethe_file.proofs.Held.{IsCollected, collected_more, written_at}
-use Rattle.lethe_file.proofs.Pages.{cause_since, damage_since, fault_since}
+use Rattle.lethe_disk.proofs.Causes.{cause_since, damage_since, fault_since}
 use Rattle.lethe_file.proofs.collecting.collect.Goals as goal
 
 abbrev refused : ReadRefused → Result (Vec Entry Global) ReadRefused

@@ -4,8 +4,10 @@ use Rattle.lethe_disk.specs.Reads.{HasReadCause}
 use Rattle.lethe_disk.specs.declared.cursor.ReadRefused.{ReadRefused}
 use Rattle.lethe_header.specs.declared.header.PageLine.{PageLine}
 use Rattle.lethe_file.specs.Agreement.{entries_in}
-use Rattle.lethe_file.specs.Finding.{IsEntryOf, allowed_in, refused_since}
-use Rattle.lethe_file.proofs.Pages.{agrees_here, all_lack, allowed_more, allowed_upto, cause_since, damage_since, found_here, lacks_here, searched_more}
+use Rattle.lethe_disk.specs.Reads.{refused_since}
+use Rattle.lethe_disk.proofs.Causes.{cause_since, damage_since}
+use Rattle.lethe_file.specs.Finding.{IsEntryOf, allowed_in}
+use Rattle.lethe_file.proofs.Pages.{agrees_here, all_lack, allowed_more, allowed_upto, found_here, lacks_here, searched_more}
 use Rattle.lethe_file.proofs.finding.find_in.Goals as goal
 
 pub returns-in-Ok-Some-clause-found : goal.returns-in-Ok-Some-clause-found

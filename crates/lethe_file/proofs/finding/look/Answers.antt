@@ -1,6 +1,7 @@
 use Rattle.std.proofs.Common.{sym, ◌∙◌}
 use Rattle.lethe_file.specs.Agreement.{entries_in}
-use Rattle.lethe_file.proofs.Pages.{cause_as, damage_as, found_in, not_allowed, one_lacks}
+use Rattle.lethe_disk.proofs.Causes.{cause_as, damage_as}
+use Rattle.lethe_file.proofs.Pages.{found_in, not_allowed, one_lacks}
 use Rattle.lethe_file.proofs.finding.look.Goals as goal
 
 pub returns-in-Ok-clause-found : goal.returns-in-Ok-clause-found

@@ -8,11 +8,11 @@ use Rattle.lethe_disk.specs.Reads.{HasReadCause}
 use Rattle.lethe_disk.specs.declared.cursor.ReadRefused.{ReadRefused}
 use Rattle.lethe_tile.proofs.Parts.{empty_is}
 use Rattle.lethe_file.specs.Agreement.{page_name}
-use Rattle.lethe_file.specs.Finding.{refused_since}
+use Rattle.lethe_disk.specs.Reads.{refused_since}
 use Rattle.lethe_file.specs.Waiting.{of_waiting, waiting, waits_in}
 use Rattle.lethe_file.specs.declared.range.KeyRange.{KeyRange}
 use Rattle.lethe_file.proofs.Filling.{filling_none, refused_at_most, refused_names, refused_written, turn}
-use Rattle.lethe_file.proofs.Pages.{cause_since, damage_since}
+use Rattle.lethe_disk.proofs.Causes.{cause_since, damage_since}
 use Rattle.lethe_file.proofs.unread.fill.Goals as goal
 
 abbrev refused : ReadRefused → Result (Unit {0}) ReadRefused

@@ -8,13 +8,13 @@ use Rattle.lethe_segment.specs.Segments.{segment_bytes}
 use Rattle.lethe_manifest.specs.declared.manifest.Manifest.{Manifest}
 use Rattle.lethe_manifest.specs.Manifests.{manifest_bytes}
 use Rattle.lethe_commit.specs.Switch.{HasGreatest, IsFree, IsSwitched, HasNew, switched}
-use Rattle.lethe_recover.specs.Stored.{segment_name}
-use Rattle.lethe_recover.specs.Encodes.{Encodes}
-use Rattle.lethe_recover.specs.Goes.{Goes}
+use Rattle.lethe_stored.specs.Stored.{segment_name}
+use Rattle.lethe_stored.specs.Encodes.{Encodes}
+use Rattle.lethe_disk.specs.Goes.{Goes}
 use Rattle.lethe_recover.specs.Settled.{IsSettled, HasOnly, IsWhole}
 use Rattle.lethe_recover.specs.Rewritten.{first_manifest, new_stored}
-use Rattle.lethe_recover.proofs.Quieting.{on_ok_both}
-use Rattle.lethe_recover.proofs.Going.{goes_then, goes_weaker}
+use Rattle.lethe_disk.proofs.Quieting.{on_ok_both}
+use Rattle.lethe_disk.proofs.Going.{goes_then, goes_weaker}
 use Rattle.lethe_recover.proofs.Begun.{place_none, free_new, switch_either, clear_new, settled_new}
 use Rattle.lethe_recover.proofs.beginning.begin.Goals as goal
 

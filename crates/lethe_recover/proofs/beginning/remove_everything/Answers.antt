@@ -5,8 +5,8 @@ use Rattle.lethe_disk.specs.Directory.{object}
 use Rattle.lethe_disk.proofs.Moments.{same_synced}
 use Rattle.lethe_commit.specs.Clear.{ArePresent, IsCleared, remove_all}
 use Rattle.lethe_commit.specs.Switch.{HasGreatest}
-use Rattle.lethe_recover.proofs.Quieting.{quiet_call, on_ok}
-use Rattle.lethe_recover.proofs.Going.{goes_leads, goes_quiet, goes_then}
+use Rattle.lethe_disk.proofs.Quieting.{quiet_call, on_ok}
+use Rattle.lethe_disk.proofs.Going.{goes_leads, goes_quiet, goes_then}
 use Rattle.lethe_recover.proofs.Begun.{everything_present, everything_gone, cleared_none}
 use Rattle.lethe_recover.proofs.beginning.remove_everything.Goals as goal
 

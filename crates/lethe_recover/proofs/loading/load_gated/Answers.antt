@@ -1,6 +1,6 @@
 use Rattle.std.proofs.Common.{◌≡◌, [], ◌∷◌, ◌++◌, get_or, Some, sym, ap, ◌∙◌, inr}
 use Rattle.lethe_recover.specs.Loaded.{MayRefuse}
-use Rattle.lethe_recover.proofs.Quieting.{quiet_then}
+use Rattle.lethe_disk.proofs.Quieting.{quiet_then}
 use Rattle.lethe_recover.proofs.Reading.{err_moved, one_segment, contains_one, gated_of, segment_refused, is_read}
 use Rattle.lethe_recover.proofs.loading.load_gated.Goals as goal
 

@@ -1,7 +1,7 @@
 use Rattle.std.proofs.Common.{None, inl, ap, sym, subst, ◌∙◌}
 use Rattle.std.specs.FinMap.{keys}
 use Rattle.lethe_commit.specs.Gates.{IsGreatestOf}
-use Rattle.lethe_recover.proofs.Quieting.{quiet_call, quiet_then}
+use Rattle.lethe_disk.proofs.Quieting.{quiet_call, quiet_then}
 use Rattle.lethe_recover.proofs.Reading.{no_gate_of, greatest_of}
 use Rattle.lethe_recover.proofs.loading.load_greatest.Goals as goal
 

@@ -2,7 +2,7 @@ use Rattle.std.proofs.Common.{◌≡◌, Some, refl, sym, ap, subst, ◌∙◌}
 use Rattle.lethe_disk.specs.Directory.{object}
 use Rattle.lethe_segment.specs.Heads.{HasHead, IsNoHead}
 use Rattle.std.specs.Prelude.{MatchOption}
-use Rattle.lethe_recover.specs.Stored.{segment_name}
+use Rattle.lethe_stored.specs.Stored.{segment_name}
 use Rattle.lethe_recover.specs.Loaded.{MayFail, IsUnreplayed}
 use Rattle.lethe_recover.proofs.Replaying.{is_replayed, replay_refused, other_replayed, same_number, same_number_again}
 use Rattle.lethe_recover.proofs.loading.load_segment.Goals as goal

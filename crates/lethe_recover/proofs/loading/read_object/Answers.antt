@@ -2,8 +2,8 @@ use Rattle.std.proofs.Common.{refl, sym, subst}
 use Rattle.std.specs.Prelude.{Contains}
 use Rattle.lethe_disk.specs.Directory.{object}
 use Rattle.lethe_commit.proofs.Listed.{listed, found_decides}
-use Rattle.lethe_recover.proofs.Quieting.{quiet_itself, quiet_call}
-use Rattle.lethe_recover.proofs.Replaying.{absent_of}
+use Rattle.lethe_disk.proofs.Quieting.{quiet_itself, quiet_call}
+use Rattle.lethe_disk.proofs.Objects.{absent_of}
 use Rattle.lethe_recover.proofs.loading.read_object.Goals as goal
 
 pub returns-then-not-contains-clause-refused : goal.returns-then-not-contains-clause-refused

@@ -1,11 +1,11 @@
 use Rattle.std.proofs.Common.{◌≡◌, ◌⊎◌, None, sym, subst, arith}
-use Rattle.lethe_recover.specs.Kept.{IsKept}
-use Rattle.lethe_recover.specs.Left.{IsKeptOr}
+use Rattle.lethe_stored.specs.Kept.{IsKept}
+use Rattle.lethe_stored.specs.Left.{IsKeptOr}
 use Rattle.lethe_recover.specs.Loaded.{HasReason}
 use Rattle.std.specs.Prelude.{IfErr, MatchResult}
 use Rattle.lethe_recover.specs.Opening.{IsResumed, MayNotOpen, IsCut, since_start}
-use Rattle.lethe_recover.proofs.Going.{goes_quiet, goes_then, goes_weaker}
-use Rattle.lethe_recover.proofs.Quieting.{quiet_call, quiet_then}
+use Rattle.lethe_disk.proofs.Going.{goes_quiet, goes_then, goes_weaker}
+use Rattle.lethe_disk.proofs.Quieting.{quiet_call, quiet_then}
 use Rattle.lethe_recover.proofs.Resumed.{ok_weaker, err_weaker, same_may, from_left}
 use Rattle.lethe_recover.proofs.opening.open.Goals as goal
 

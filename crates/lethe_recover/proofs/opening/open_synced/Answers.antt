@@ -1,11 +1,11 @@
 use Rattle.std.proofs.Common.{◌≡◌, ◌≤◌, ◌+◌, ◌⊎◌, None, sym, subst}
 use Rattle.lethe_base.specs.Limits.{max_place}
-use Rattle.lethe_recover.specs.Stored.{count_of}
-use Rattle.lethe_recover.specs.Goes.{Goes}
-use Rattle.lethe_recover.specs.Kept.{IsKept}
+use Rattle.lethe_stored.specs.Stored.{count_of}
+use Rattle.lethe_disk.specs.Goes.{Goes}
+use Rattle.lethe_stored.specs.Kept.{IsKept}
 use Rattle.lethe_recover.specs.Rewritten.{rewritten, new_stored}
 use Rattle.lethe_recover.specs.Opening.{IsThere, IsOpened, IsResumed, MayNotOpen, IsCut, since_start}
-use Rattle.lethe_recover.proofs.Going.{goes_then}
+use Rattle.lethe_disk.proofs.Going.{goes_then}
 use Rattle.lethe_recover.proofs.Resumed.{ends_of, ok_weaker, err_weaker, since_may, since_exact, cut_may, new_resumed, kept_of_none, kept_for, resumed_of, read_some, read_none, manifest_of, segments_are, exhausted_of, settled_again, kept_goes}
 use Rattle.lethe_recover.proofs.opening.open_synced.Goals as goal
 

@@ -1,10 +1,10 @@
 use Rattle.std.proofs.Common.{◌≡◌, ◌+◌, ◌⊎◌, length, None, refl, [], ◌∙◌}
 use Rattle.lethe_segment.specs.Segments.{head_bytes, segment_bytes}
 use Rattle.lethe_commit.specs.Switch.{HasGreatest}
-use Rattle.lethe_recover.specs.Encodes.{Encodes}
-use Rattle.lethe_recover.specs.Kept.{IsKept}
+use Rattle.lethe_stored.specs.Encodes.{Encodes}
+use Rattle.lethe_stored.specs.Kept.{IsKept}
 use Rattle.lethe_recover.specs.Rewritten.{new_stored}
-use Rattle.lethe_recover.proofs.Going.{goes_weaker}
+use Rattle.lethe_disk.proofs.Going.{goes_weaker}
 use Rattle.lethe_recover.proofs.Resumed.{new_kept}
 use Rattle.lethe_recover.proofs.opening.start.Goals as goal
 

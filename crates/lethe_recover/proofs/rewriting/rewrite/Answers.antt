@@ -9,10 +9,10 @@ use Rattle.lethe_manifest.specs.declared.manifest.Manifest.{Manifest}
 use Rattle.lethe_manifest.specs.Manifests.{manifest_bytes}
 use Rattle.lethe_commit.specs.Clear.{ArePresent, IsCleared, remove_all}
 use Rattle.lethe_commit.specs.Switch.{IsFree, IsSwitched, HasNew, switched}
-use Rattle.lethe_recover.specs.Stored.{segment_name}
+use Rattle.lethe_stored.specs.Stored.{segment_name}
 use Rattle.lethe_recover.specs.Rewritten.{successor}
-use Rattle.lethe_recover.proofs.Unique.{one_cited}
-use Rattle.lethe_recover.proofs.Anew.{segment_some, free_placed, old_present, switch_moments, clear_moments, settled_new}
+use Rattle.lethe_recover.proofs.Narrow.{one_cited}
+use Rattle.lethe_recover.proofs.Anew.{segment_some, place_moments, free_placed, old_present, switch_moments, clear_moments, settled_new}
 use Rattle.lethe_recover.proofs.rewriting.rewrite.Goals as goal
 
 pub switch-requires-clause-free : goal.switch-requires-clause-free
@@ -37,6 +37,14 @@ switch-requires-clause-free g c κs within = λ told.
     let free = free_placed s count settled.stored room c.requires.counted s0 settled only s1 placing synced done in
     let free_next : IsFree s1 c.in_ok-next.next.no (Some s.manifest.no) = subst (λ (x : Manifest). IsFree s1 x.no (Some s.manifest.no)) (sym next_is) free in
     (Some s.manifest.no, free_next)
+
+pub returns-in_err-place-clause-any_moment : goal.returns-in_err-place-clause-any_moment
+returns-in_err-place-clause-any_moment g c = λ told s settled only same held.
+    let s0 = g.D.Disk.seen c.args.disk.now in
+    let s1 = g.D.Disk.seen c.place.new.disk in
+    let room : s.manifest.next + 2 ≤ max_place = subst (λ (x : Manifest). x.next + 2 ≤ max_place) (sym same) c.requires.room in
+    let placing : Leads (IsCreated (segment_name s.manifest.next)) s0 s1 = subst (λ (x : Manifest). Leads (IsCreated (segment_name x.next)) s0 s1) (sym same) (c.place.ensures.any_moment told) in
+    place_moments s c.args.count settled.stored room c.requires.counted s0 settled only s1 placing
 
 pub returns-in_err-switch-clause-any_moment : goal.returns-in_err-switch-clause-any_moment
 returns-in_err-switch-clause-any_moment g c = λ told s settled only same held.

@@ -4,12 +4,12 @@ use Rattle.lethe_disk.specs.Disk.{Seen, Image, IsSynced}
 use Rattle.lethe_disk.proofs.Moments.{same_synced}
 use Rattle.lethe_commit.specs.Clear.{ArePresent, IsCleared, remove_all}
 use Rattle.lethe_commit.proofs.Removals.{cleared_others}
-use Rattle.lethe_recover.specs.Stored.{Stored}
-use Rattle.lethe_recover.specs.Encodes.{Encodes, AreSpare}
+use Rattle.lethe_stored.specs.Stored.{Stored}
+use Rattle.lethe_stored.specs.Encodes.{Encodes, AreSpare}
 use Rattle.lethe_recover.specs.Settled.{IsSettled, HasOnly}
-use Rattle.lethe_recover.proofs.Quieting.{quiet_call, on_ok_both}
-use Rattle.lethe_recover.proofs.Going.{goes_leads, goes_quiet, goes_then}
-use Rattle.lethe_recover.proofs.Frame.{besides}
+use Rattle.lethe_disk.proofs.Quieting.{quiet_call, on_ok_both}
+use Rattle.lethe_disk.proofs.Going.{goes_leads, goes_quiet, goes_then}
+use Rattle.lethe_stored.proofs.Frame.{besides}
 use Rattle.lethe_recover.proofs.Uncited.{rest, rest_present, rest_spare, rest_gone, rest_is}
 use Rattle.lethe_recover.proofs.tidying.tidy.Goals as goal
 

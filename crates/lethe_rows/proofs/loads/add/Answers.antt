@@ -5,7 +5,7 @@ use Rattle.lethe_base.specs.declared.name.Name.{Name}
 use Rattle.lethe_disk.specs.Directory.{object}
 use Rattle.lethe_memdisk.specs.Held.{Held, seen_of}
 use Rattle.lethe_commit.proofs.Listed.{listed, found_decides}
-use Rattle.lethe_recover.proofs.Replaying.{absent_of}
+use Rattle.lethe_disk.proofs.Objects.{absent_of}
 use Rattle.lethe_rows.proofs.loads.add.Goals as goal
 
 pub create-requires : goal.create-requires

@@ -5,8 +5,8 @@ use Rattle.lethe_engine.specs.Changes.{IsRecordOf, with_record}
 use Rattle.lethe_engine.proofs.Followed.{put_follows}
 use Rattle.lethe_engine.proofs.Recording.{open_moments}
 use Rattle.lethe_engine.proofs.Standings.{held_open, untried}
-use Rattle.lethe_recover.specs.Goes.{Goes}
-use Rattle.lethe_recover.specs.Left.{IsKeptOr}
+use Rattle.lethe_disk.specs.Goes.{Goes}
+use Rattle.lethe_stored.specs.Left.{IsKeptOr}
 use Rattle.lethe_engine.proofs.engine.Engine.put.Goals as goal
 
 pub returns-clause-stands : goal.returns-clause-stands

@@ -1,8 +1,8 @@
 use Rattle.std.proofs.Common.{◌≡◌, ◌<◌, ◌+◌, length, Err, sym, ap, ◌∙◌, subst}
 use Rattle.lethe_commit.specs.Append.{EndsAt, IsAppended, longer}
 use Rattle.lethe_base.specs.Limits.{max_place}
-use Rattle.lethe_recover.specs.Steps.{addition}
-use Rattle.lethe_recover.specs.Stored.{segment_name}
+use Rattle.lethe_stored.specs.Steps.{addition}
+use Rattle.lethe_stored.specs.Stored.{segment_name}
 use Rattle.lethe_engine.proofs.Prepared.{is_ready, goes, stands_behind, stands_stopped, is_written}
 use Rattle.lethe_engine.proofs.Recording.{open_moments, untouched_moments}
 use Rattle.lethe_engine.proofs.Standings.{untouched, stands_still}

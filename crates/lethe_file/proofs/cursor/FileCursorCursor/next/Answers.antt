@@ -3,7 +3,7 @@ use Rattle.std.specs.Prelude.{IsErrAnd}
 use Rattle.lethe_base.specs.declared.entry.Entry.{Entry}
 use Rattle.lethe_disk.specs.Reads.{HasReadCause}
 use Rattle.lethe_disk.specs.declared.cursor.ReadRefused.{ReadRefused}
-use Rattle.lethe_file.proofs.Pages.{cause_as}
+use Rattle.lethe_disk.proofs.Causes.{cause_as}
 use Rattle.lethe_file.proofs.cursor.FileCursorCursor.next.Goals as goal
 
 -- the same refusal, handed on by a `?`

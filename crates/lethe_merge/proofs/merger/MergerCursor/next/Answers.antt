@@ -6,10 +6,10 @@ use Rattle.lethe_base.specs.declared.pending.Pending.{Pending}
 use Rattle.lethe_cover.specs.Merged.{bared}
 use Rattle.lethe_disk.specs.Reads.{HasReadCause}
 use Rattle.lethe_disk.specs.declared.cursor.ReadRefused.{ReadRefused}
-use Rattle.lethe_merge.specs.Refusals.{refused_since}
+use Rattle.lethe_disk.specs.Reads.{refused_since}
 use Rattle.lethe_merge.specs.Sources.{AreSound, HasNone, IsTaken, left_merged}
 use Rattle.lethe_merge.specs.declared.source.Source.{Source}
-use Rattle.lethe_merge.proofs.Causes.{cause_since}
+use Rattle.lethe_disk.proofs.Causes.{cause_since}
 use Rattle.lethe_merge.proofs.Fills.{filling-asked, filling-same}
 use Rattle.lethe_merge.proofs.Skips.{IsTurn, IsSkipping, turn, given-none, given-some, sound-again, skipping-more, merged_as, sound_as}
 use Rattle.lethe_merge.proofs.merger.MergerCursor.next.Goals as goal

@@ -1,5 +1,0 @@
-use Rattle.lethe_recover.proofs.Meanings.{kept_means}
-use Rattle.lethe_recover.proofs.laws.kept_means_its_history.Goals as goal
-
-pub returns : goal.returns
-returns c = kept_means

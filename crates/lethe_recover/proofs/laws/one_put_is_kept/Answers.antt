@@ -1,5 +1,0 @@
-use Rattle.lethe_recover.proofs.Firsts.{one_put}
-use Rattle.lethe_recover.proofs.laws.one_put_is_kept.Goals as goal
-
-pub returns : goal.returns
-returns c = one_put

@@ -1,8 +1,0 @@
-use Rattle.lethe_recover.proofs.Frame.{framed, kept_framed}
-use Rattle.lethe_recover.proofs.laws.what_is_cited_counts.Goals as goal
-
-pub returns-clause-encodes : goal.returns-clause-encodes
-returns-clause-encodes c = framed
-
-pub returns-clause-kept : goal.returns-clause-kept
-returns-clause-kept c = kept_framed

@@ -1,0 +1,13 @@
+pub mod Lists
+pub mod Spelled
+pub mod Parts
+pub mod Unique
+pub mod Frame
+pub mod Steps
+pub mod Meanings
+pub mod Numbered
+pub mod Changes
+pub mod Freezing
+pub mod FileFacts
+pub mod ExamplesSpelled
+pub mod Firsts
