@@ -6,3 +6,4 @@ pub mod Held
 pub mod Undo
 pub mod Past
 pub mod Images
+pub mod Flaky

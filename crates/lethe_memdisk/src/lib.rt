@@ -3,9 +3,11 @@
 
 mod crash;
 mod disk;
+mod flaky;
 mod objects;
 mod page;
 mod past;
 
 pub use disk::MemDisk;
+pub use flaky::{FlakyDisk, FlakyPort};
 pub use page::{MemPage, MemPort};

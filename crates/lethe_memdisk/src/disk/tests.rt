@@ -2,6 +2,7 @@ ghost use Rattle.std.specs.Prelude.{◌≡◌, ◌≤◌, ◌+◌, ◌↔◌, No
 ghost use Rattle.lethe_disk.specs.Directory.{object};
 
 use super::*;
+use crate::flaky::FlakyDisk;
 use lethe_base::Kind;
 use std::test::Fail;
 
@@ -235,5 +236,43 @@ fn a_page_keeps_the_bytes_that_it_had(rt: HostRuntime) -> Result<(), Fail> {
     }
     assert_eq!(rt; MemDisk::port_faults(&port), 0);
     assert_eq!(rt; disk.faults(), 1);
+    Ok(())
+}
+
+#[test]
+fn each_port_fails_at_the_fetches_that_it_is_told(rt: HostRuntime) -> Result<(), Fail> {
+    let alloc = rt.alloc();
+    let mut disk = MemDisk::new(alloc, 3, Vec::new(alloc))?;
+    let name = page(1);
+    if disk.is_absent(name) {
+        disk.create(name, b"abc").ok().ok_or("an object")?;
+    }
+    let page = open(&mut disk, alloc, 1)
+        .ok_or("an object")?
+        .ok()
+        .ok_or("a page")?;
+    let mut flaky = FlakyDisk::new(disk, vec![in alloc; 2, 3]?);
+    for _ in 0..2 {
+        let mut port = flaky.port(alloc)?;
+        for (want, faults) in [
+            (b"abc".as_slice(), 0),
+            (FAILED, 1),
+            (FAILED, 2),
+            (b"abc", 2),
+        ] {
+            let got = match FlakyDisk::fetch(alloc, &mut port, &page) {
+                Ok(bytes) => bytes,
+                Err(_) => FAILED.to_vec(alloc)?,
+            };
+            assert_eq!(rt; got.as_slice(), want);
+            assert_eq!(rt; FlakyDisk::port_faults(&port), faults);
+        }
+    }
+    assert_eq!(rt; flaky.faults(), 0);
+    let mut inner = flaky.into_inner();
+    assert_eq!(rt;
+        take(&mut inner, alloc, Step::Names)?.as_slice(),
+        [1].as_slice()
+    );
     Ok(())
 }

@@ -1,0 +1,75 @@
+//! The pages and ports of a folder.
+ghost use Rattle.std.specs.Prelude.{◌≡◌, ◌≤◌, ◌+◌};
+ghost use Rattle.lethe_disk.specs.Disk.{HasCause};
+ghost use Rattle.lethe_dirdisk.specs.Faults.{faults_after};
+
+use crate::place::Place;
+use crate::refusal::is_no_memory;
+use lethe_base::Name;
+use lethe_disk::{DiskRefused, Fetches};
+use std::alloc::Global;
+use std::marker::Model;
+
+/// A page of a folder: its name. Its file is opened at each fetch.
+#[derive(Drop)]
+pub struct DirPage {
+    name: Name,
+}
+
+impl DirPage {
+    pub(crate) fn of(name: Name) -> DirPage {
+        DirPage { name }
+    }
+}
+
+/// A port of a folder. Contracts see its counts.
+#[derive(Drop)]
+pub struct DirPort {
+    place: Place,
+    fetches: Fetches,
+    faults: u64,
+}
+
+impl Model for DirPort {
+    ghost use Rattle.lethe_dirdisk.specs.Faults.{Counts, counts_code};
+
+    ghost Value = { Counts };
+
+    ghost coded = { counts_code };
+
+    ghost view = { λ p. record { fetches = p.fetches.count; faults = p.faults } };
+}
+
+impl DirPort {
+    pub(crate) fn new(place: Place) -> DirPort
+        ensures { result ≡ record { fetches = 0; faults = 0 } }
+    {
+        DirPort {
+            place,
+            fetches: Fetches::new(),
+            faults: 0,
+        }
+    }
+
+    pub(crate) fn faults(&self) -> u64
+        ensures { result ≡ self.now.faults }
+    {
+        self.faults
+    }
+
+    pub(crate) fn fetch(&mut self, alloc: Global, page: &DirPage) -> Result<Vec<u8>, DiskRefused>
+        ensures count { self.new.faults ≡ faults_after result self.old.faults }
+        ensures cause { HasCause self.old.faults self.new.faults result }
+        ensures counted { self.new.fetches ≡ self.old.fetches + 1 }
+    {
+        self.fetches = self.fetches.next();
+        match self.place.read(alloc, page.name) {
+            Ok(bytes) => Ok(bytes),
+            Err(error) if is_no_memory(&error) => Err(DiskRefused::NoMemory),
+            Err(_) => {
+                self.faults = self.faults.saturating_add(1);
+                Err(DiskRefused::Failed)
+            }
+        }
+    }
+}
