@@ -1,18 +1,17 @@
 -- Files without tombstones and times.
-use Rattle.std.proofs.Common.{◌≡◌, false, true, cond, List, [], ◌∷◌, map, filter_map, count_by, Contains, Option, Some, None, refl, subst, arith}
+use Rattle.std.proofs.Common.{◌≡◌, false, true, cond, List, [], ◌∷◌, map, filter_map, count_by, Contains, Some, None, refl, subst, arith}
 use Rattle.std.proofs.lemmas.List.Sums.{sum_by-cons}
 use Rattle.lethe_moves.proofs.Common.{⊎_elim, is_tomb, oldest_of, Entry, Pending, none_in, first_is, first_or_rest, bared, struck, left_of_each, merged}
 use Rattle.lethe_cover.proofs.Lists.{in_rest}
 
 -- it is a put without a time
-pub record IsPlain (entry : Entry) : Type 0 where
-  pub put : is_tomb entry.body ≡ false
-  pub none : entry.since ≡ None
+abbrev pub IsPlain : Entry → Type 0
+IsPlain entry = (is_tomb entry.body ≡ false) × (entry.since ≡ None)
 
 abbrev AreBare : List Entry → Type 0
 AreBare entries = (count_by (λ entry. is_tomb entry.body) entries ≡ 0) × (oldest_of entries ≡ None)
 
-first_bare : (first : Entry) (entries : List Entry) → AreBare (first ∷ entries) → (is_tomb first.body ≡ false) × (first.since ≡ None) × AreBare entries
+first_bare : (first : Entry) (entries : List Entry) → AreBare (first ∷ entries) → IsPlain first × AreBare entries
 first_bare first entries bare = grind (arith, sum_by-cons (λ (entry : Entry). cond (is_tomb entry.body) 1 0) first entries)
 
 pub bare_from : (entries : List Entry) → ((entry : Entry) → Contains entries entry → IsPlain entry) → AreBare entries
@@ -22,18 +21,16 @@ bare_from (first ∷ entries) each =
 
 pub bare_each : (entries : List Entry) → AreBare entries → (entry : Entry) → Contains entries entry → IsPlain entry
 bare_each [] bare entry there = absurd (none_in entry there)
-bare_each (first ∷ entries) bare entry there = let parts = first_bare first entries bare in
-    ⊎_elim (λ same. subst IsPlain same (record { put = parts.0; none = parts.1 })) (bare_each entries parts.2 entry) (first_or_rest first entries entry there)
+bare_each (first ∷ entries) bare entry there =
+    let parts = first_bare first entries bare in ⊎_elim (λ same. subst IsPlain same parts.0) (bare_each entries parts.1 entry) (first_or_rest first entries entry there)
 
-kept_from : {X Y : Type 0} (keep : X → Option Y) (xs : List X) (y : Y) → Contains (filter_map keep xs) y → (x : X) × (keep x ≡ Some y)
-kept_from keep [] y there = absurd (none_in y there)
-kept_from {Y = Y} keep (x ∷ xs) y there = grind (arith, kept_from keep xs y, λ (z : Y). first_or_rest z (filter_map keep xs) y)
-
-plain_put : (left output : Entry) → bared true left left.body ≡ Some output → (is_tomb output.body ≡ false) × (output.since ≡ None)
+plain_put : (left output : Entry) → bared true left left.body ≡ Some output → IsPlain output
 plain_put left output is = grind arith
+
+plain_from : (left : List Entry) (output : Entry) → Contains (filter_map (λ entry. bared true entry entry.body) left) output → IsPlain output
+plain_from [] output there = absurd (none_in output there)
+plain_from (entry ∷ left) output there = grind (arith, plain_from left output, plain_put entry output, λ (z : Entry). first_or_rest z (filter_map (λ entry. bared true entry entry.body) left) output)
 
 -- the entries of an output that is alone are plain
 pub merged_plain : (inputs : List Entry) (erases : List Pending) (output : Entry) → Contains (merged inputs erases true) output → IsPlain output
-merged_plain inputs erases output there =
-    let from = kept_from (λ entry. bared true entry entry.body) (left_of_each (map (struck erases) inputs)) output there in
-    let plain = plain_put from.0 output from.1 in record { put = plain.0; none = plain.1 }
+merged_plain inputs erases = plain_from (left_of_each (map (struck erases) inputs))

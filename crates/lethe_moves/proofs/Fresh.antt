@@ -46,7 +46,7 @@ module _ (fields : Fields) (config : IsConfig fields) (h : History) (l : Layout)
       | inl above ↦ ⊎_elim (λ fresh. fresh) (λ late. absurd (kept above.0 (omega (arith, above.1)) above.2 late)) (cases_lt clock (since + fields.threshold))
       | inr last ↦
           let plain = bare_each (entries_of file) ((order_from l follows.ordered).bare file last) entry spelled in
-          absurd (let clash : None ≡ Some since = sym plain.none ∙ has in cc)
+          absurd (let clash : None ≡ Some since = sym plain.1 ∙ has in cc)
     ]
       where
         kept : (level : ℕ) → level < fields.levels → Contains (all_files (shape_of l)) (facts_of level file) → since + fields.threshold ≤ clock → ⊥

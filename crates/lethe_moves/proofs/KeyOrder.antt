@@ -25,9 +25,6 @@ Spans outer inner = IsUpto outer.lo inner.lo × IsUpto inner.hi outer.hi
 pub spans_through : (a b c : KeyRange) → Spans a b → Spans b c → Spans a c
 spans_through a b c ab bc = (key_upto a.lo b.lo c.lo ab.0 bc.0, key_upto c.hi b.hi a.hi bc.1 ab.1)
 
-pub within_spans : (outer inner : KeyRange) (key : Bytes) → Spans outer inner → IsWithin inner.lo inner.hi key → IsWithin outer.lo outer.hi key
-within_spans outer inner key spans within = (key_upto outer.lo inner.lo key spans.0 within.0, key_upto key inner.hi outer.hi within.1 spans.1)
-
 pub joined_spans : (a b : KeyRange) → Spans (joined a b) a × Spans (joined a b) b
 joined_spans a b = (((low a.lo b.lo).0, (high a.hi b.hi).0), ((low a.lo b.lo).1, (high a.hi b.hi).1))
   where

@@ -5,7 +5,7 @@ use Rattle.lethe_cover.proofs.Moved.{move_covers}
 use Rattle.lethe_moves.specs.Merges.{Merges, levels_before, levels_then}
 use Rattle.lethe_moves.proofs.Common.{⊎_elim, flat_map-append, map-append, All-contains, Contains-append_cases, Contains-append_left, Contains-append_right, Less, Covers, InFiles, History, key_cmp, File, Layout, entries_of, files_of, runs_of, IsOver, Entry, Pending, none_in, IsApart, files_in, IsCounted, files_right, files_runs, files_singles, singles, spelled_from, spelled_in, IsClearOf, IsTiled, hull_of_files, keys_of, IsBelow, Merge, inputs_of, Follows}
 use Rattle.lethe_moves.proofs.Apart.{apart_back, around_apart, below_apart, clear_of, files_spanned}
-use Rattle.lethe_moves.proofs.KeyOrder.{IsUpto, less_upto, upto_less, within_spans}
+use Rattle.lethe_moves.proofs.KeyOrder.{IsUpto, less_upto, upto_less, spans_through}
 use Rattle.lethe_moves.proofs.Orders.{AreOrdered, IsOther, order_from, order_then, ordered_with, rise_at, rise_next, then_cases}
 use Rattle.lethe_moves.proofs.Outputs.{above_old, made_bare, made_ends, made_outcome}
 use Rattle.lethe_cover.proofs.Lists.{Pairs, in_middle, pairs_from, pairs_parts, spliced}
@@ -86,7 +86,7 @@ module _ (threshold : ℕ) (h : History) (l : Layout) (follows : Follows thresho
           below_apart = λ lone file other there input. apart_back other file (λ entry below mine under same.
               clear_of (hull_of_files inputs) file (order.tiled file (in_behind file (Contains-append_right next (files_in m.deeper) file there)))
               (All-contains (IsClearOf (hull_of_files inputs)) (files_in m.deeper) file (merges.clear lone) there) entry.key
-              (within_spans (hull_of_files inputs) (keys_of other) entry.key (files_spanned inputs other input) (entry_keys other (input_tiled other input) entry mine)) below under same);
+              (spans_through (hull_of_files inputs) (keys_of other) (record { lo = entry.key; hi = entry.key }) (files_spanned inputs other input) (entry_keys other (input_tiled other input) entry mine)) below under same);
           here_order = order_here;
           next_order = λ i j d before within. absurd (omega arith);
         });

@@ -1,17 +1,13 @@
 -- A sweep keeps the history that a layout stands for, and the order of its files.
-use Rattle.std.proofs.Common.{◌≡◌, ◌≢◌, ◌⊎◌, inl, inr, ℕ, ◌+◌, ◌<◌, ◌≤◌, true, IsTrue, All, List, [], ◌∷◌, ◌++◌, append_assoc, Contains, Option, Some, None, refl, sym, ap, ◌∙◌, subst, arith}
+use Rattle.std.proofs.Common.{◌≡◌, ◌≢◌, ◌⊎◌, inl, inr, ℕ, ◌+◌, ◌<◌, ◌≤◌, Bool, IsTrue, All, List, [], ◌∷◌, ◌++◌, append_assoc, Contains, Option, Some, None, refl, sym, ap, ◌∙◌, subst, arith}
 use Rattle.std.proofs.lemmas.List.{append-nil}
 use Rattle.std.specs.Option.{IfSome}
-use Rattle.lethe_base.specs.Causes.{done_at}
-use Rattle.lethe_base.specs.History.{clock_before}
-use Rattle.lethe_base.specs.Placed.{IsAccepted}
-use Rattle.lethe_base.specs.declared.call.Call.TheVariants.{Erase}
 use Rattle.lethe_cover.specs.Sweeps.{swept_of}
 use Rattle.lethe_cover.proofs.Grown.{done_within}
 use Rattle.lethe_cover.proofs.Moved.{move_covers}
 use Rattle.lethe_cover.proofs.Sweeping.{swept_outcome}
 use Rattle.lethe_moves.specs.Sweeps.{Sweep, SweepsFile, below_of, levels_before, levels_then, made_files}
-use Rattle.lethe_moves.proofs.Common.{⊎_elim, flat_map-append, map-append, All-contains, Contains-append_cases, Contains-append_left, Contains-append_right, cons_option, Covers, Holds, InFiles, History, File, Layout, entries_of, files_of, runs_of, IsOver, Entry, Pending, none_in, first_is, IsApart, IsMove, Move, files_in, IsApplied, IsOutcome, IsCounted, files_right, files_runs, files_singles, singles, IsClearOf, IsTiled, IsWithin, keys_of, IsBelow, Follows}
+use Rattle.lethe_moves.proofs.Common.{IsAccepted, Erase, ⊎_elim, flat_map-append, map-append, All-contains, Contains-append_cases, Contains-append_left, Contains-append_right, cons_option, Covers, Holds, InFiles, History, File, Layout, entries_of, files_of, runs_of, IsOver, Entry, Pending, none_in, first_is, IsApart, IsMove, Move, files_in, IsApplied, IsOutcome, IsCounted, files_right, files_runs, files_singles, singles, IsClearOf, IsTiled, IsWithin, keys_of, IsBelow, Follows}
 use Rattle.lethe_moves.proofs.Apart.{apart_back, around_apart, clear_apart, only_file}
 use Rattle.lethe_moves.proofs.Bare.{IsPlain, bare_each, bare_from}
 use Rattle.lethe_moves.proofs.KeyOrder.{less_upto, upto_less}
@@ -22,15 +18,10 @@ use Rattle.lethe_moves.proofs.Shifts.{runs_above, shift_moves}
 use Rattle.lethe_moves.proofs.Tiled.{file_once}
 
 one_place : (h : History) (a b : Pending) → IsAccepted h a → IsAccepted h b → a.seq ≡ b.seq → a ≡ b
-one_place h a b is it same =
-    let done : Some (Erase a.range) ≡ Some (Erase b.range) = sym is.done ∙ ap (done_at h) same ∙ it.done in
-    let time : a.time ≡ b.time = is.timed ∙ ap (clock_before h) same ∙ sym it.timed in
-    let left : Pending = record { seq = a.seq; time = a.time; range = a.range } in
-    let right : Pending = record { seq = b.seq; time = b.time; range = b.range } in
-    let one : left ≡ right = cc in one
+one_place h a b is it same = grind (arith, is.done, it.done, is.timed, it.timed)
 
-kept_alone : (erase : Pending) (entry output : Entry) → swept_of true erase entry ≡ Some output → entry ≡ output
-kept_alone erase entry output is = grind arith
+kept_alone : (alone : Bool) (erase : Pending) (entry output : Entry) → IsTrue alone → swept_of alone erase entry ≡ Some output → entry ≡ output
+kept_alone alone erase entry output lone is = grind arith
 
 module _ (threshold : ℕ) (h : History) (l : Layout) (follows : Follows threshold h l) (erase : Pending) (s : Sweep) (sweeps : SweepsFile h l erase s) where
   abbrev made : List File
@@ -180,7 +171,7 @@ module _ (threshold : ℕ) (h : History) (l : Layout) (follows : Follows thresho
         (λ new file there right. upto_less (keys_of new).hi (keys_of s.file).hi (keys_of file).lo (inside new there).1.1 (parts.1.0 file right));
     bare = λ is file there. bare_from (entries_of file) (λ entry spelled.
         let from = sweeps.from entry (record { file = file; there = there; spelled = spelled }) in
-        let same = kept_alone erase from.0 entry (subst (λ alone. swept_of alone erase from.0 ≡ Some entry) (sweeps.bottom is) from.2) in
+        let same = kept_alone sweeps.alone erase from.0 entry (sweeps.bottom is) from.2 in
         let last : last_of (levels_before s) ≡ level = last_behind s.above level s.deeper ∙ ap (λ deeper. last_of (level ∷ deeper)) is in
         subst IsPlain same (bare_each (entries_of s.file) (order.bare s.file (subst (λ files. Contains files s.file) (sym last) file_there)) from.0 from.1));
   })

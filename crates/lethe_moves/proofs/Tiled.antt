@@ -1,7 +1,7 @@
 -- What the tiles of a file say of its keys.
 use Rattle.std.proofs.Common.{◌≡◌, ◌≢◌, List, [], ◌∷◌, flat_map, Contains, refl, ◌∙◌, subst, arith}
 use Rattle.lethe_moves.proofs.Common.{All-contains, Tile, File, entries_of, lower_key, upper_key, Entry, none_in, first_is, first_or_rest, flat_in, flat_from, key_upto, IsBounded, IsLower, IsTiled, IsTight, IsWithin, entries_in, keys_of}
-use Rattle.lethe_moves.proofs.KeyOrder.{IsUpto, Spans, within_spans, not_less, lowest, highest}
+use Rattle.lethe_moves.proofs.KeyOrder.{IsUpto, Spans, spans_through, not_less, lowest, highest}
 use Rattle.lethe_cover.proofs.Lists.{Pairs, in_rest, pairs_from, pairs_append}
 
 abbrev AreBounded : List Tile → Type 0
@@ -62,7 +62,7 @@ module _ (file : File) (tiled : IsTiled file) where
   pub entry_keys : (entry : Entry) → Contains (entries_of file) entry → IsWithin (keys_of file).lo (keys_of file).hi entry.key
   entry_keys entry there =
       let found = flat_from entries_in file.tiles entry there in
-      within_spans (keys_of file) (record { lo = found.0.lo; hi = found.0.hi }) entry.key (tile_keys found.0 found.1) (entry_within found.0 (bounded found.0 found.1) entry found.2)
+      spans_through (keys_of file) (record { lo = found.0.lo; hi = found.0.hi }) (record { lo = entry.key; hi = entry.key }) (tile_keys found.0 found.1) (entry_within found.0 (bounded found.0 found.1) entry found.2)
 
   -- no key stands twice in it
   pub file_once : (entry other : Entry) → Contains (entries_of file) entry → Contains (entries_of file) other → entry.key ≡ other.key → entry ≡ other
