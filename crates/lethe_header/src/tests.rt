@@ -9,6 +9,22 @@ const FILE: [u8; 174] =
 const LINE: [u8; 82] =
     *b"\0\0\0\0\0\0\0\x06\x01\0\0\0\x01\0\0\0\0\0\0\0\x08\0\0\0\0\0\0\0\0\x0b\0\0\0\0\0\0\0\x0b\0\0\0\x01\0\x08\0\x40\x02\0\x30\x01pppppppppppppppppppppppppppppppp";
 
+/// File 4 with the page of one put of the key `a`, at place 1 with delete key 5, whose number is 3.
+const ONE_PUT: [u8; 100] =
+    *b"LF\x01\0\0\0\0\0\0\0\x04\0\x01\x01a\x01a\x01\0\0\0\0\0\0\0\x03\x01\0\0\0\x01\0\0\0\0\0\0\0\x01\0\0\0\0\0\0\0\0\x05\0\0\0\0\0\0\0\x05\0\0\0\x01\0\x08\0\x40\x02\0\x30\x01\xe5\x53\xe0\xa5\x7f\x77\x05\xe6\xa6\x8b\x02\x2c\x96\x57\x08\xfc\x9d\x32\xd9\x40\xda\x62\x1a\x48\xbb\x3c\x13\x89\x09\x52\x0f\x98";
+
+#[test]
+fn the_header_of_one_put_is_written_as_it_was_read(rt: HostRuntime) -> Result<(), Fail> {
+    let alloc = rt.alloc();
+    let header = read_header(alloc, &ONE_PUT).ok().ok_or("a header")?;
+    let written = write_header(alloc, &header)?;
+    assert_eq!(rt; written.as_slice(), ONE_PUT.as_slice());
+    let facts = header.facts(0, 0)?;
+    assert_eq!(rt; (facts.no, facts.entries, facts.max_seq), (4, 1, 1));
+    assert_eq!(rt; facts.lo.bytes(), b"a".as_slice());
+    Ok(())
+}
+
 #[test]
 fn a_header_is_written_as_it_was_read(rt: HostRuntime) -> Result<(), Fail> {
     let alloc = rt.alloc();
