@@ -1,5 +1,5 @@
 -- The entry of a key in a list, and what is left of a key.
-use Rattle.std.proofs.Common.{◌≡◌, inl, inr, true, is_lt, List, [], ◌∷◌, Contains, Some, None, sym, ap, ◌∙◌, subst, ◌⊎◌, arith}
+use Rattle.std.proofs.Common.{◌≡◌, true, is_lt, List, [], ◌∷◌, Contains, Some, None, sym, ap, ◌∙◌, subst, ◌⊎◌, arith}
 use Rattle.lethe_cover.proofs.Common.{below_all, is_sorted, ⊎_elim, Contains-append_right, and_parts, Bytes, key_cmp, same_key, by_key, IsAscending, entry_of, Entry, none_in, first_or_rest, first_is, same_key-self, same_key-true}
 
 entry_of_cases : (key : Bytes) (x : Entry) (entries : List Entry) (entry : Entry) → entry_of key (x ∷ entries) ≡ Some entry → ((same_key key x.key ≡ true) × (x ≡ entry)) ⊎ (entry_of key entries ≡ Some entry)
@@ -8,10 +8,8 @@ entry_of_cases key x entries entry is = grind arith
 -- the entry of a key stands in the list, under the key
 pub entry_in : (key : Bytes) (entries : List Entry) (entry : Entry) → entry_of key entries ≡ Some entry → Contains entries entry × (entry.key ≡ key)
 entry_in key [] entry is = absurd (cc)
-entry_in key (x ∷ entries) entry is = elim (entry_of_cases key x entries entry is) [
-  | inl first ↦ (first_is x entries entry first.1, ap (λ e. e.key) (sym first.1) ∙ sym (same_key-true key x.key first.0))
-  | inr rest ↦ let more = entry_in key entries entry rest in (Contains-append_right (x ∷ []) entries entry more.0, more.1)
-]
+entry_in key (x ∷ entries) entry is = ⊎_elim (λ first. (first_is x entries entry first.1, ap (λ e. e.key) (sym first.1) ∙ sym (same_key-true key x.key first.0)))
+    (λ rest. let more = entry_in key entries entry rest in (Contains-append_right (x ∷ []) entries entry more.0, more.1)) (entry_of_cases key x entries entry is)
 
 below_in : (key : Bytes) (entries : List Entry) (entry : Entry) → below_all key_cmp key (by_key entries) ≡ true → Contains entries entry → is_lt (key_cmp key entry.key) ≡ true
 below_in key [] entry below there = absurd (none_in entry there)

@@ -1,12 +1,10 @@
 -- The smallest merge is a move of files.
-use Rattle.std.proofs.Common.{◌≡◌, ◌≢◌, inl, inr, Bool, [], ◌∷◌, Contains, refl, sym, ◌∙◌, arith}
-use Rattle.lethe_cover.proofs.Common.{⊎_elim, File, runs_of, none_in, first_or_rest, IsMove, runs_before, runs_then}
+use Rattle.std.proofs.Common.{◌≡◌, ◌≢◌, inl, inr, Bool, [], ◌∷◌, refl, sym, ◌∙◌, arith}
+use Rattle.lethe_cover.proofs.Common.{File, runs_of, none_in, IsMove, runs_before, runs_then}
+use Rattle.lethe_cover.proofs.Lists.{only_in}
 use Rattle.lethe_cover.specs.Examples.{first_merge}
 
 module _ (alone : Bool) (file made : File) (other : file ≢ made) where
-  single : (one x : File) → Contains (one ∷ []) x → one ≡ x
-  single one x there = ⊎_elim (λ same. same) (λ rest. absurd (none_in x rest)) (first_or_rest one [] x there)
-
   pub first_move : IsMove alone (first_merge file made)
   first_move = record {
     taken_from = λ x there. inl there;
@@ -15,7 +13,7 @@ module _ (alone : Bool) (file made : File) (other : file ≢ made) where
     next_split = λ x there. absurd (none_in x there);
     next_from = λ x there. inr there;
     made_there = λ x there. there;
-    made_new = λ x there before. other (single file x before ∙ sym (single made x there));
+    made_new = λ x there before. other (only_in file x before ∙ sym (only_in made x there));
     here_apart = λ x y there. absurd (none_in x there);
     next_apart = λ x y there before. absurd (none_in x before);
     alone_apart = λ lone x y there. absurd (none_in x there);

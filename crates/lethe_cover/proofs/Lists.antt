@@ -1,36 +1,30 @@
 -- Lists, and lists each two items of which are related.
-use Rattle.std.proofs.Common.{◌≡◌, ◌⊎◌, inl, inr, suc, ◌<◌, List, [], ◌∷◌, ◌++◌, map, flat_map, length, get_or, All, AllPairs, Contains, refl, sym, ap, ◌∙◌, subst, arith}
+use Rattle.std.proofs.Common.{◌≡◌, ◌⊎◌, suc, ◌<◌, List, [], ◌∷◌, ◌++◌, map, flat_map, length, get_or, All, AllPairs, Contains, refl, sym, ap, ◌∙◌, subst, arith}
 use Rattle.std.proofs.Math.ListN.{get_or-map}
 use Rattle.std.proofs.lemmas.List.Elements.{Contains-append_cases, Contains-get_or}
 use Rattle.std.proofs.lemmas.List.Kept.{AllPairs-cons}
 use Rattle.lethe_cover.proofs.Common.{⊎_elim, Contains-append_left, Contains-append_right, length-map, none_in, first_is, first_or_rest}
 
+pub in_rest : {X : Type 0} (x : X) (xs : List X) (y : X) → Contains xs y → Contains (x ∷ xs) y
+in_rest x xs y there = Contains-append_right (x ∷ []) xs y there
+
 pub map_from : {X Y : Type 0} (f : X → Y) (xs : List X) (y : Y) → Contains (map f xs) y → (x : X) × Contains xs x × (f x ≡ y)
 map_from f [] y there = absurd (none_in y there)
-map_from f (x ∷ xs) y there = elim (first_or_rest (f x) (map f xs) y there) [
-  | inl same ↦ (x, first_is x xs x refl, same)
-  | inr rest ↦ let found = map_from f xs y rest in (found.0, Contains-append_right (x ∷ []) xs found.0 found.1, found.2)
-]
+map_from f (x ∷ xs) y there = ⊎_elim (λ same. (x, first_is x xs x refl, same)) (λ rest. let found = map_from f xs y rest in (found.0, in_rest x xs found.0 found.1, found.2))
+    (first_or_rest (f x) (map f xs) y there)
 
 pub in_map : {X Y : Type 0} (f : X → Y) (xs : List X) (x : X) → Contains xs x → Contains (map f xs) (f x)
 in_map f xs x there = (there.0, omega (arith, length-map xs f, there.1), get_or-map f xs there.0 x ∙ ap f there.2)
 
 pub flat_in : {X Y : Type 0} (f : X → List Y) (xs : List X) (x : X) (y : Y) → Contains xs x → Contains (f x) y → Contains (flat_map f xs) y
 flat_in f [] x y there is = absurd (none_in x there)
-flat_in f (first ∷ xs) x y there is = elim (first_or_rest first xs x there) [
-  | inl same ↦ Contains-append_left (f first) (flat_map f xs) y (subst (λ x. Contains (f x) y) (sym same) is)
-  | inr rest ↦ Contains-append_right (f first) (flat_map f xs) y (flat_in f xs x y rest is)
-]
+flat_in f (first ∷ xs) x y there is = ⊎_elim (λ same. Contains-append_left (f first) (flat_map f xs) y (subst (λ x. Contains (f x) y) (sym same) is))
+    (λ rest. Contains-append_right (f first) (flat_map f xs) y (flat_in f xs x y rest is)) (first_or_rest first xs x there)
 
 pub flat_from : {X Y : Type 0} (f : X → List Y) (xs : List X) (y : Y) → Contains (flat_map f xs) y → (x : X) × Contains xs x × Contains (f x) y
 flat_from f [] y there = absurd (none_in y there)
-flat_from f (first ∷ xs) y there = elim (Contains-append_cases (f first) (flat_map f xs) y there) [
-  | inl here ↦ (first, first_is first xs first refl, here)
-  | inr rest ↦ let found = flat_from f xs y rest in (found.0, Contains-append_right (first ∷ []) xs found.0 found.1, found.2)
-]
-
-pub in_rest : {X : Type 0} (x : X) (xs : List X) (y : X) → Contains xs y → Contains (x ∷ xs) y
-in_rest x xs y there = Contains-append_right (x ∷ []) xs y there
+flat_from f (first ∷ xs) y there = ⊎_elim (λ here. (first, first_is first xs first refl, here)) (λ rest. let found = flat_from f xs y rest in (found.0, in_rest first xs found.0 found.1, found.2))
+    (Contains-append_cases (f first) (flat_map f xs) y there)
 
 pub in_middle : {X : Type 0} (before xs behind : List X) (x : X) → Contains xs x → Contains (before ++ (xs ++ behind)) x
 in_middle before xs behind x there = Contains-append_right before (xs ++ behind) x (Contains-append_left xs behind x there)

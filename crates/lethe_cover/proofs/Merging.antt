@@ -33,10 +33,9 @@ IsErasesTime erases time = (erase : Pending) × Contains erases erase × (erase.
 
 time_from : (erases : List Pending) (seq dkey time : ℕ) → time_under erases seq dkey ≡ Some time → IsErasesTime erases time
 time_from [] seq dkey time is = absurd (cc)
-time_from (first ∷ erases) seq dkey time is = elim (earlier_from (cond (matches first seq dkey) (Some first.time) None) (time_under erases seq dkey) time is) [
-  | inl own ↦ (first, first_is first erases first refl, grind arith)
-  | inr rest ↦ let found = time_from erases seq dkey time rest in (found.0, Contains-append_right (first ∷ []) erases found.0 found.1, found.2)
-]
+time_from (first ∷ erases) seq dkey time is = ⊎_elim (λ own. (first, first_is first erases first refl, grind arith))
+    (λ rest. let found = time_from erases seq dkey time rest in (found.0, Contains-append_right (first ∷ []) erases found.0 found.1, found.2))
+    (earlier_from (cond (matches first seq dkey) (Some first.time) None) (time_under erases seq dkey) time is)
 
 pub struck_from : (erases : List Pending) (seq : ℕ) (body : Body) (since : Option ℕ) (time : ℕ) → since_under erases seq body since ≡ Some time → (since ≡ Some time) ⊎ IsErasesTime erases time
 struck_from erases seq (Put dkey value) since time is = ⊎_map (λ own. own) (time_from erases seq dkey time) (earlier_from since (time_under erases seq dkey) time is)

@@ -67,26 +67,18 @@ module _ (alone : Bool) (m : Move) (moves : IsMove alone m) where
     here_over = runs_over m.here m.next (pairs_parts IsOver middle m.below below_falls).0
 
     here_newer : (entry input : Entry) → InFiles (files_in m.here_then) entry → InFiles m.taken input → entry.key ≡ input.key → input.seq < entry.seq
-    here_newer entry input is taken same = elim (moves.taken_from taken.file taken.there) [
-      | inl here ↦ absurd (moves.here_apart is.file taken.file is.there taken.there here entry input is.spelled taken.spelled same)
-      | inr next ↦ here_over entry input (in_more is moves.here_from) (refiled taken next) same
-    ]
+    here_newer entry input is taken same = ⊎_elim (λ here. absurd (moves.here_apart is.file taken.file is.there taken.there here entry input is.spelled taken.spelled same))
+        (λ next. here_over entry input (in_more is moves.here_from) (refiled taken next) same) (moves.taken_from taken.file taken.there)
 
     -- where the output is alone, what stays of a key of a taken file is newer
     stays_newer : IsTrue alone → (entry input : Entry) (now : InFiles (files_in (around middle_then)) entry) → Contains (files_in (runs_before m)) now.file → InFiles m.taken input → entry.key ≡ input.key → input.seq < entry.seq
-    stays_newer lone entry input now was taken same = elim (files_cases m.above (middle_then ++ m.below) now.file now.there) [
-      | inl above ↦ above_over entry input (refiled now above) (in_more taken taken_rest) same
-      | inr rest ↦ elim (files_cases middle_then m.below now.file rest) [
-        | inr below ↦ absurd (moves.alone_apart lone now.file taken.file below taken.there entry input now.spelled taken.spelled same)
-        | inl inside ↦ elim (files_cases m.here_then m.next_then now.file inside) [
-          | inl here ↦ here_newer entry input (refiled now here) taken same
-          | inr next ↦ elim (moves.next_from now.file next) [
-            | inl old ↦ absurd (moves.next_apart now.file taken.file next old taken.there entry input now.spelled taken.spelled same)
-            | inr made ↦ absurd (moves.made_new now.file made was)
-          ]
-        ]
-      ]
-    ]
+    stays_newer lone entry input now was taken same = ⊎_elim (λ above. above_over entry input (refiled now above) (in_more taken taken_rest) same)
+        (λ rest. ⊎_elim (λ inside. ⊎_elim (λ here. here_newer entry input (refiled now here) taken same) in_next (files_cases m.here_then m.next_then now.file inside))
+        (λ below. absurd (moves.alone_apart lone now.file taken.file below taken.there entry input now.spelled taken.spelled same)) (files_cases middle_then m.below now.file rest))
+        (files_cases m.above (middle_then ++ m.below) now.file now.there)
+      where
+        in_next : Contains (files_in m.next_then) now.file → input.seq < entry.seq
+        in_next next = ⊎_elim (λ old. absurd (moves.next_apart now.file taken.file next old taken.there entry input now.spelled taken.spelled same)) (λ made. absurd (moves.made_new now.file made was)) (moves.next_from now.file next)
 
     module _ (source : IsDrawn (InFiles m.made) (InFiles m.taken)) where
       here_over_then : IsOver (files_in m.here_then) (files_in m.next_then)
@@ -205,11 +197,7 @@ module _ (threshold : ℕ) (h : History) (l : Layout) (covers : Covers threshold
           (entries_cover threshold h l covers) moves.outcome moves.applies move_replaces)
           newer_then
           (λ file there. ⊎_elim (covers.erases_covered.swept file) (λ made. omega (arith, moves.made_swept file made, moves.upto)) (comes file there))
-          (λ file erase entry there among unswept spelled. elim (comes file there) [
-            | inl old ↦ covers.erases_covered.unswept file erase entry old among unswept spelled
-            | inr made ↦
-                let from = source entry (record { file = file; there = made; spelled = spelled }) in
-                omega (arith, moves.made_swept file made, moves.low from.0 from.1, from.3)
-          ]),
+          (λ file erase entry there among unswept spelled. ⊎_elim (λ old. covers.erases_covered.unswept file erase entry old among unswept spelled)
+          (λ made. let from = source entry (record { file = file; there = made; spelled = spelled }) in omega (arith, moves.made_swept file made, moves.low from.0 from.1, from.3, unswept)) (comes file there)),
       record { count = counted.count; places = counted.places },
     )

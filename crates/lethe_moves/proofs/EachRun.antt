@@ -137,40 +137,29 @@ module _ (fields : Fields) (config : IsConfig fields) where
 
   reached : (h : History) (l : Layout) → Reaches fields h l → IsReached fields h l
   reached h l New = new_reached
-  reached h l (Put g m caller key dkey value run) =
-      let before = reached g m run in let old = before.follows in
+  reached h l (Put g m caller key dkey value run) = let before = reached g m run in let old = before.follows in
       unmoved g m before h l (clock_kept g m before caller (call.Put key dkey value) refl) before.order (put_covers fields.threshold caller g m old.covers old.counted key dkey value)
-  reached h l (Delete g m caller key run) =
-      let before = reached g m run in let old = before.follows in
+  reached h l (Delete g m caller key run) = let before = reached g m run in let old = before.follows in
       unmoved g m before h l (clock_kept g m before caller (call.Delete key) refl) before.order (delete_covers fields.threshold caller g m old.covers old.counted key some old.clock)
-  reached h l (Blind g m caller key none run) =
-      let before = reached g m run in let old = before.follows in
+  reached h l (Blind g m caller key none run) = let before = reached g m run in let old = before.follows in
       unmoved g m before h l (clock_kept g m before caller (call.Delete key) refl) before.order (blind_covers fields.threshold caller g m old.covers old.counted key none)
-  reached h l (Erase g m caller range run) =
-      let before = reached g m run in let old = before.follows in
+  reached h l (Erase g m caller range run) = let before = reached g m run in let old = before.follows in
       unmoved g m before h l (clock_kept g m before caller (call.Erase range) refl) (one_more g m before range) (erase_covers fields.threshold caller g m old.covers old.counted some old.clock range)
-  reached h l (Tick g m caller to forward due run) =
-      let before = reached g m run in let old = before.follows in
+  reached h l (Tick g m caller to forward due run) = let before = reached g m run in let old = before.follows in
       unmoved g m before h l (sym (clock_more g caller (call.Tick to))) (before.order.0, before.order.1, λ erase there. omega (arith, before.order.2 erase there))
       (tick_covers fields.threshold caller g m old.covers old.counted to (due_fresh fields config g m old before.levels to due))
-  reached h l (Freeze g m free run) =
-      let before = reached g m run in let old = before.follows in
+  reached h l (Freeze g m free run) = let before = reached g m run in let old = before.follows in
       unmoved g m before g l old.clock before.order (freeze_covers fields.threshold g m old.covers old.counted free)
-  reached h l (Leave g m stays spent run) =
-      let before = reached g m run in let old = before.follows in
+  reached h l (Leave g m stays spent run) = let before = reached g m run in let old = before.follows in
       unmoved g m before g l old.clock (fewer g m before stays)
       (shorter_covers fields.threshold g m old.covers (filter stays m.pending) (shorter g m before stays spent), record { count = old.counted.count; places = old.counted.places })
-  reached h l (Flush g m made flush run) =
-      let before = reached g m run in
+  reached h l (Flush g m made flush run) = let before = reached g m run in
       moved g m before l.frozen l.levels (flush_follows fields.threshold g m before.follows made flush) (newest_level made m.levels before.follows.ordered.deep)
-  reached h l (Merge g m applied swept move is run) =
-      let before = reached g m run in
+  reached h l (Merge g m applied swept move is run) = let before = reached g m run in
       moved g m before m.frozen l.levels (merge_follows fields.threshold g m before.follows applied swept move is) (as_many move.above _ _ refl ∙ sym (ap length is.levels))
-  reached h l (Sweep g m erase move is run) =
-      let before = reached g m run in
+  reached h l (Sweep g m erase move is run) = let before = reached g m run in
       moved g m before m.frozen l.levels (sweep_follows fields.threshold g m before.follows erase move is) (as_many move.above _ _ refl ∙ sym (ap length is.levels))
-  reached h l (Number g m next certificate run) =
-      let before = reached g m run in let old = before.follows in
+  reached h l (Number g m next certificate run) = let before = reached g m run in let old = before.follows in
       unmoved g m before g l old.clock before.order (numbered_covers fields.threshold g m old.covers next certificate, record { count = old.counted.count; places = old.counted.places })
 
   pub each_run : (h : History) (l : Layout) → Reaches fields h l → Follows fields.threshold h l × (length l.levels ≡ fields.levels + 1)

@@ -30,11 +30,9 @@ file_level first [] file there = absurd (none_in file there)
 file_level first (files ∷ []) file there = inr (⊎_elim (λ here. here) (λ none. absurd (none_in file none)) (Contains-append_cases files [] file there))
 file_level first (files ∷ (next ∷ deeper)) file there =
     let behind : List FileFacts = flat_map (λ files. files) (facts_from (first + 1) (next ∷ deeper)) in
-    elim (Contains-append_cases files (flat_map (λ files. files) (next ∷ deeper)) file there) [
-      | inl here ↦ inl (first, omega arith, Contains-append_left (map (facts_of first) files) behind (facts_of first file) (in_map (facts_of first) files file here))
-      | inr below ↦ ⊎_map (λ found. (found.0, omega (arith, found.1), Contains-append_right (map (facts_of first) files) behind (facts_of found.0 file) found.2)) (λ last. last)
-          (file_level (first + 1) (next ∷ deeper) file below)
-    ]
+    ⊎_elim (λ here. inl (first, omega arith, Contains-append_left (map (facts_of first) files) behind (facts_of first file) (in_map (facts_of first) files file here)))
+    (λ below. ⊎_map (λ found. (found.0, omega (arith, found.1), Contains-append_right (map (facts_of first) files) behind (facts_of found.0 file) found.2)) (λ last. last)
+    (file_level (first + 1) (next ∷ deeper) file below)) (Contains-append_cases files (flat_map (λ files. files) (next ∷ deeper)) file there)
 
 module _ (fields : Fields) (config : IsConfig fields) (h : History) (l : Layout) (follows : Follows fields.threshold h l) (levels : length l.levels ≡ fields.levels + 1)
     (clock : ℕ) (due : HasNothingDue fields clock l)
@@ -42,12 +40,10 @@ module _ (fields : Fields) (config : IsConfig fields) (h : History) (l : Layout)
     -- what a file remembers above the last level isn't expired, and the last level remembers nothing
     file_fresh : (file : File) (entry : Entry) (since : ℕ) → Contains (flat_map (λ files. files) l.levels) file → Contains (entries_of file) entry → entry.since ≡ Some since
         → clock < since + fields.threshold
-    file_fresh file entry since there spelled has = elim (file_level 0 l.levels file there) [
-      | inl above ↦ ⊎_elim (λ fresh. fresh) (λ late. absurd (kept above.0 (omega (arith, above.1)) above.2 late)) (cases_lt clock (since + fields.threshold))
-      | inr last ↦
-          let plain = bare_each (entries_of file) ((order_from l follows.ordered).bare file last) entry spelled in
-          absurd (let clash : None ≡ Some since = sym plain.1 ∙ has in cc)
-    ]
+    file_fresh file entry since there spelled has = ⊎_elim
+        (λ above. ⊎_elim (λ fresh. fresh) (λ late. absurd (kept above.0 (omega (arith, above.1)) above.2 late)) (cases_lt clock (since + fields.threshold)))
+        (λ last. absurd (let clash : None ≡ Some since = sym (bare_each (entries_of file) ((order_from l follows.ordered).bare file last) entry spelled).1 ∙ has in cc))
+        (file_level 0 l.levels file there)
       where
         kept : (level : ℕ) → level < fields.levels → Contains (all_files (shape_of l)) (facts_of level file) → since + fields.threshold ≤ clock → ⊥
         kept level above there late =

@@ -1,6 +1,6 @@
 -- The merge of the entries that reads see between two keys has the map's pairs between them.
-use Rattle.std.proofs.Common.{◌≡◌, inl, inr, ℕ, true, cond, IsTrue, List, filter, Contains, Option, Some, None, option_and_then, refl, sym, ap, ◌∙◌, subst}
-use Rattle.lethe_cover.proofs.Common.{nat_list_cmp_total, entry_of, pair_of, History, Map, after, Bytes, key_cmp, Layout, Shows, IsNewest, Covers, Entry, IsOutcome}
+use Rattle.std.proofs.Common.{◌≡◌, ℕ, true, cond, IsTrue, List, filter, Contains, Option, Some, None, option_and_then, refl, sym, ap, ◌∙◌, subst}
+use Rattle.lethe_cover.proofs.Common.{⊎_elim, nat_list_cmp_total, entry_of, pair_of, History, Map, after, Bytes, key_cmp, Layout, Shows, IsNewest, Covers, Entry, IsOutcome}
 use Rattle.std.specs.FinMap as finmap
 use Rattle.std.specs.FinMap.Entries.{is_sorted-where_key, find-where_key, same_entries}
 use Rattle.std.proofs.lemmas.Bool.{cond_both}
@@ -46,13 +46,11 @@ module _ (threshold : ℕ) (h : History) (l : Layout) (covers : Covers threshold
   left_answers key = by (entry_of key left) refl
     where
       none_left : entry_of key left ≡ None → IsTrue (is_between lo hi key) → finmap.get map key ≡ None
-      none_left at within = elim (newest_shown l key) [
-        | inl best ↦ elim (outcome.kept best.0 (best.1.shown, moved key best.0.key (sym best.2) within)) [
-          | inl kept ↦ absurd (no_entry key left at kept.output kept.made (kept.same ∙ best.2))
-          | inr dropped ↦ ap (finmap.get map) (sym (dropped.same ∙ best.2)) ∙ sym (covers.same_map.newest dropped.newest (newest dropped.newest dropped.is)) ∙ dropped.nothing
-        ]
-        | inr none ↦ covers.same_map.absent key none
-      ]
+      none_left at within = ⊎_elim
+          (λ best. ⊎_elim (λ kept. absurd (no_entry key left at kept.output kept.made (kept.same ∙ best.2)))
+          (λ dropped. ap (finmap.get map) (sym (dropped.same ∙ best.2)) ∙ sym (covers.same_map.newest dropped.newest (newest dropped.newest dropped.is)) ∙ dropped.nothing)
+          (outcome.kept best.0 (best.1.shown, moved key best.0.key (sym best.2) within)))
+          (covers.same_map.absent key) (newest_shown l key)
 
       by : (o : Option Entry) → entry_of key left ≡ o → option_and_then (λ e. pair_of e.body) o ≡ cond (is_between lo hi key) (finmap.get map key) None
       by None at = sym (cond_both (is_between lo hi key) (finmap.get map key) None (λ found. found ≡ None) (none_left at) (λ _. refl))
