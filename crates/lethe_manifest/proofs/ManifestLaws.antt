@@ -15,8 +15,8 @@ use Rattle.lethe_manifest.specs.Manifests.{head_bytes, times_bytes, sizes_bytes,
 use Rattle.lethe_manifest.specs.Reading.{Gives, number_within, head_at, config_at, next_at, counts_at, segment_at, parts_at, made, manifest_at}
 use Rattle.lethe_manifest.specs.declared.manifest.Manifest.{Manifest}
 use Rattle.lethe_manifest.specs.declared.reading.Counts.{Counts}
-use Rattle.lethe_manifest.specs.declared.reading.ManifestRefused.{ManifestRefused}
-use Rattle.lethe_manifest.specs.declared.reading.ManifestRefused.TheVariants.{Short, Kind, Order, Trailing, NoMemory}
+use Rattle.lethe_manifest.specs.declared.refused.ManifestRefused.{ManifestRefused}
+use Rattle.lethe_manifest.specs.declared.refused.ManifestRefused.TheVariants.{Short, Kind, Order, Trailing, NoMemory}
 use Rattle.lethe_base.specs.Results.{◌>>=◌}
 use Rattle.lethe_base.proofs.ReadingSteps.{bind_ok, past_test, ok_is}
 use Rattle.lethe_manifest.proofs.Numbers.{tested_ok, wide_ok, wide_again, byte_ok, byte_back, wide32}

@@ -11,9 +11,9 @@ use Rattle.lethe_base.proofs.FieldLaws.{IsWide, number_stands, number_again, byt
 use Rattle.lethe_base.proofs.Configurations.{in_range}
 use Rattle.lethe_base.specs.Results.{◌>>=◌}
 use Rattle.lethe_base.proofs.ReadingSteps.{bind_ok, met_test, field_ok}
-use Rattle.lethe_manifest.specs.Reading.{number_within}
-use Rattle.lethe_manifest.specs.declared.reading.ManifestRefused.{ManifestRefused}
-use Rattle.lethe_manifest.specs.declared.reading.ManifestRefused.TheVariants.{Short, Kind}
+use Rattle.lethe_manifest.specs.Numbers.{number_within}
+use Rattle.lethe_manifest.specs.declared.refused.ManifestRefused.{ManifestRefused}
+use Rattle.lethe_manifest.specs.declared.refused.ManifestRefused.TheVariants.{Short, Kind}
 
 -- a number that was read and then passed a test
 pub tested_ok : (r : Result ℕ ManifestRefused) (t : ℕ → Bool) (why : ManifestRefused) (n : ℕ) → (r >>= λ k. cond (t k) (Ok k) (Err why)) ≡ Ok n → (r ≡ Ok n) × (t n ≡ true)
