@@ -12,6 +12,7 @@ use Rattle.lethe_base.specs.declared.config.Pick.{Pick}
 use Rattle.lethe_base.specs.declared.config.Pick.TheVariants.{So, Sd}
 use Rattle.lethe_base.proofs.FieldLaws.{stands_then, stands_parts, wide16, wide64}
 use Rattle.lethe_manifest.specs.Manifests.{head_bytes, pick_byte, times_bytes, sizes_bytes, config_bytes}
+use Rattle.lethe_manifest.specs.Numbers.{number_within}
 use Rattle.lethe_manifest.specs.Reading.{head_at, limited_at, tiles_at, buffer_at, pick_at, sizes_at, config_at}
 use Rattle.lethe_manifest.specs.declared.refused.ManifestRefused.{ManifestRefused}
 use Rattle.lethe_manifest.specs.declared.refused.ManifestRefused.TheVariants.{Kind}

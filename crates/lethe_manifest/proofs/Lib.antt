@@ -1,4 +1,4 @@
 pub mod Numbers
-pub mod Shapes
-pub mod Parts
-pub mod ManifestLaws
+pub mod Items
+pub mod ConfigLaws
+pub mod PartLaws

@@ -36,15 +36,18 @@ config_bytes fields = times_bytes fields ++ sizes_bytes fields
 unfoldable pub counts_bytes : Manifest → List ℕ
 counts_bytes m = to_be_bytes w64 m.clock ++ (to_be_bytes w64 m.count ++ to_be_bytes w64 m.next)
 
+unfoldable pub cert_bytes : LastCert → List ℕ
+cert_bytes cert = to_be_bytes w64 cert.number ++ (to_be_bytes w64 cert.clock ++ to_be_bytes w64 cert.before)
+
 -- a mark, and behind a mark of 1 the certificate
 abbrev pub certificate_bytes : Option LastCert → List ℕ
 certificate_bytes None = 0 ∷ []
-certificate_bytes (Some cert) = 1 ∷ (to_be_bytes w64 cert.number ++ (to_be_bytes w64 cert.clock ++ to_be_bytes w64 cert.before))
+certificate_bytes (Some cert) = 1 ∷ cert_bytes cert
 
-abbrev pub erase_bytes : Pending → List ℕ
+unfoldable pub erase_bytes : Pending → List ℕ
 erase_bytes erase = to_be_bytes w64 erase.seq ++ (to_be_bytes w64 erase.time ++ (to_be_bytes w64 erase.range.lo ++ to_be_bytes w64 erase.range.hi))
 
-abbrev pub file_bytes : Cited → List ℕ
+unfoldable pub file_bytes : Cited → List ℕ
 file_bytes file = (file.level ∷ []) ++ (to_be_bytes w64 file.no ++ (to_be_bytes w64 file.swept ++ file.digest))
 
 -- each list behind its length

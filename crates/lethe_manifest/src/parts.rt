@@ -1,5 +1,5 @@
 //! Reading what the store consists of.
-ghost use Rattle.std.specs.Prelude.{◌≡◌};
+ghost use Rattle.std.specs.Prelude.{◌≡◌, ◌+◌, ◌≤◌, IfOk, length};
 ghost use Rattle.lethe_manifest.specs.Numbers.{Gives};
 ghost use Rattle.lethe_manifest.specs.Parts.{certificate_at, marked_at, all_at, erase_at, erases_at, segment_at, segments_at, level_at, digest_at, file_at, files_at, parts_at};
 
@@ -114,7 +114,8 @@ fn read_segments(
 
 #[tactic(auto, unfolding(crate::specs::Parts::level_at))]
 fn read_level(levels: u64, last: u64, bytes: &[u8], at: usize) -> Result<u64, ManifestRefused>
-    ensures { result ≡ level_at levels last bytes.now at }
+    ensures level { result ≡ level_at levels last bytes.now at }
+    ensures ends { IfOk result (λ _. at + 1 ≤ length bytes.now) }
 {
     let level = read_byte(bytes, at, 0, levels)?;
     if last <= level {

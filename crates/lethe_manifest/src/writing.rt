@@ -1,7 +1,7 @@
 //! Writing a manifest.
 ghost use Rattle.std.specs.Prelude.{◌≡◌, ◌<◌, ◌≤◌, ◌^◌, ◌++◌, length, All, IfOk, OnOk};
 ghost use Rattle.lethe_base.specs.Configuration.{IsConfig};
-ghost use Rattle.lethe_manifest.specs.Manifests.{manifest_bytes, head_bytes, times_bytes, sizes_bytes, counts_bytes, certificate_bytes, erase_bytes, erases_bytes, segments_bytes, file_bytes, files_bytes, parts_bytes, HasSpelling, HasLowLevel};
+ghost use Rattle.lethe_manifest.specs.Manifests.{manifest_bytes, head_bytes, times_bytes, sizes_bytes, counts_bytes, cert_bytes, certificate_bytes, erase_bytes, erases_bytes, segments_bytes, file_bytes, files_bytes, parts_bytes, HasSpelling, HasLowLevel};
 
 use crate::{Cited, LastCert, Manifest};
 use lethe_base::{Fields, NoMemory, Pending, Pick};
@@ -73,29 +73,33 @@ fn write_parts(out: &mut Vec<u8>, manifest: &Manifest) -> Result<(), NoMemory>
     requires { HasSpelling manifest.now }
     ensures { OnOk result (out.new.items ≡ out.old.items ++ parts_bytes manifest.now) }
 {
-    write_certificate(out, manifest.certificate)?;
+    write_certificate(out, &manifest.certificate)?;
     write_erases(out, manifest.erases.items())?;
     write_segments(out, manifest.segments.items())?;
     write_files(out, manifest.files.items())?;
     Ok(())
 }
 
-fn write_certificate(out: &mut Vec<u8>, certificate: Option<LastCert>) -> Result<(), NoMemory>
-    ensures { OnOk result (out.new.items ≡ out.old.items ++ certificate_bytes certificate) }
+fn write_certificate(out: &mut Vec<u8>, certificate: &Option<LastCert>) -> Result<(), NoMemory>
+    ensures { OnOk result (out.new.items ≡ out.old.items ++ certificate_bytes certificate.now) }
 {
     match certificate {
         None => out.push(0)?,
-        Some(LastCert {
-            number,
-            clock,
-            before,
-        }) => {
+        Some(cert) => {
             out.push(1)?;
-            out.extend_from_slice(&number.to_be_bytes())?;
-            out.extend_from_slice(&clock.to_be_bytes())?;
-            out.extend_from_slice(&before.to_be_bytes())?;
+            write_cert(out, cert)?;
         }
     }
+    Ok(())
+}
+
+#[tactic(auto, unfolding(crate::specs::Manifests::cert_bytes))]
+fn write_cert(out: &mut Vec<u8>, cert: &LastCert) -> Result<(), NoMemory>
+    ensures { OnOk result (out.new.items ≡ out.old.items ++ cert_bytes cert.now) }
+{
+    out.extend_from_slice(&cert.number.to_be_bytes())?;
+    out.extend_from_slice(&cert.clock.to_be_bytes())?;
+    out.extend_from_slice(&cert.before.to_be_bytes())?;
     Ok(())
 }
 
@@ -110,6 +114,7 @@ fn write_erases(out: &mut Vec<u8>, erases: &[Pending]) -> Result<(), NoMemory>
     Ok(())
 }
 
+#[tactic(auto, unfolding(crate::specs::Manifests::erase_bytes))]
 fn write_erase(out: &mut Vec<u8>, erase: &Pending) -> Result<(), NoMemory>
     ensures { OnOk result (out.new.items ≡ out.old.items ++ erase_bytes erase.now) }
 {
@@ -143,6 +148,7 @@ fn write_files(out: &mut Vec<u8>, files: &[Cited]) -> Result<(), NoMemory>
     Ok(())
 }
 
+#[tactic(auto, unfolding(crate::specs::Manifests::file_bytes))]
 fn write_file(out: &mut Vec<u8>, file: &Cited) -> Result<(), NoMemory>
     requires { HasLowLevel file.now }
     ensures { OnOk result (out.new.items ≡ out.old.items ++ file_bytes file.now) }
