@@ -2,3 +2,4 @@ pub mod Numbers
 pub mod Items
 pub mod ConfigLaws
 pub mod PartLaws
+pub mod ManifestLaws

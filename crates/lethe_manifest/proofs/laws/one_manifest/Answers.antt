@@ -1,5 +1,5 @@
-use Rattle.lethe_manifest.proofs.PartLaws.{marked_ok}
+use Rattle.lethe_manifest.proofs.ManifestLaws.{same_manifest}
 use Rattle.lethe_manifest.proofs.laws.one_manifest.Goals as goal
 
 pub returns : goal.returns
-returns c = ?
+returns c = same_manifest
