@@ -102,9 +102,9 @@ unfolding sizes_at sizes_bytes
 sizes_ok times bytes x fits e =
     let a = bind_ok (limited_at Page bytes 21) _ x e in
     let b = bind_ok (limited_at Tile bytes 23) _ x a.2 in
-    let c = bind_ok (tiles_at (a.0 * b.0) bytes 24) _ x b.2 in
-    let d = bind_ok (buffer_at (a.0 * b.0 * c.0) bytes 26) _ x c.2 in
-    let f = bind_ok (pick_at bytes 28) _ x d.2 in
+    let c = bind_ok (tiles_at (a.0 * b.0) bytes 24) (λ file. buffer_at (a.0 * b.0 * file) bytes 26 >>= λ buffer. pick_at bytes 28 >>= λ pick. Ok (record times { page = a.0; tile = b.0; file = file; buffer = buffer; pick = pick })) x b.2 in
+    let d = bind_ok (buffer_at (a.0 * b.0 * c.0) bytes 26) (λ buffer. pick_at bytes 28 >>= λ pick. Ok (record times { page = a.0; tile = b.0; file = c.0; buffer = buffer; pick = pick })) x c.2 in
+    let f = bind_ok (pick_at bytes 28) (λ pick. Ok (record times { page = a.0; tile = b.0; file = c.0; buffer = d.0; pick = pick })) x d.2 in
     let t0 = wide_ok w16 (2 ^ 16) wide16 1 1024 bytes 21 a.0 fits a.1 in
     let t1 = byte_ok 1 64 bytes 23 b.0 fits b.1 in
     let t2 = file_ok (a.0 * b.0) bytes 24 c.0 fits c.1 in

@@ -1,5 +1,5 @@
 -- Certificates, erases, segments and files: what is read stands there, and what stands there is read.
-use Rattle.std.proofs.Common.{◌≡◌, ℕ, ◌+◌, ◌-◌, ◌^◌, ◌<◌, ◌≤◌, true, false, cond, eqb, leb, List, [], ◌∷◌, ◌++◌, length, take, drop, flat_map, Option, Some, None, Result, Ok, Err, refl, sym, ap, subst, ◌∙◌, arith, inl, inr, length-drop}
+use Rattle.std.proofs.Common.{◌≡◌, ℕ, ◌+◌, ◌-◌, ◌^◌, ◌<◌, ◌≤◌, true, cond, eqb, leb, List, [], ◌∷◌, ◌++◌, length, take, drop, flat_map, Option, Some, None, Result, Ok, refl, sym, ap, subst, ◌∙◌, arith, inl, inr, length-drop}
 use Rattle.std.specs.Int.{w8, w32, w64, to_be_bytes}
 use Rattle.std.proofs.lemmas.Bool.{eqb-true, eqb-false, le-leb, leb-true}
 use Rattle.std.proofs.lemmas.List.{drop-drop, length-take, take-append-drop, take_at}
@@ -12,7 +12,7 @@ use Rattle.lethe_base.proofs.FieldLaws.{chosen, stands_then}
 use Rattle.lethe_base.proofs.ReadingSteps.{bind_ok, met_test, ok_is}
 use Rattle.lethe_manifest.specs.Manifests.{cert_bytes, certificate_bytes, erase_bytes, erases_bytes, segments_bytes, file_bytes, files_bytes, IsCertificate, IsCertificateOrNone, IsErase, AreErases, AreSegments, IsFile, AreFiles}
 use Rattle.lethe_manifest.specs.Numbers.{number_within, number_above, cited_at}
-use Rattle.lethe_manifest.specs.Parts.{certificate_at, marked_at, all_at, erase_at, erases_at, segment_at, segments_at, level_at, digest_at, file_at, files_at}
+use Rattle.lethe_manifest.specs.Parts.{certificate_at, marked_at, erase_at, erases_at, segment_at, segments_at, level_at, digest_at, file_at, files_at}
 use Rattle.lethe_manifest.specs.declared.manifest.Cited.{Cited}
 use Rattle.lethe_manifest.specs.declared.manifest.LastCert.{LastCert}
 use Rattle.lethe_manifest.specs.declared.refused.ManifestRefused.{ManifestRefused}

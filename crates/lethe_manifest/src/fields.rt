@@ -20,12 +20,7 @@ fn in_place(value: u64, least: u64, greatest: u64, at: usize) -> Result<u64, Man
 
 /// The byte at `at`, in its range.
 #[tactic(auto, unfolding(crate::specs::Numbers::number_within))]
-pub fn read_byte(
-    bytes: &[u8],
-    at: usize,
-    least: u64,
-    greatest: u64,
-) -> Result<u64, ManifestRefused>
+pub fn read_byte(bytes: &[u8], at: usize, least: u64, greatest: u64) -> Result<u64, ManifestRefused>
     ensures value { result ≡ number_within w8 least greatest bytes.now at }
     ensures limit { IfOk result (λ value. value ≤ greatest) }
     ensures ends { IfOk result (λ _. at + 1 ≤ length bytes.now) }

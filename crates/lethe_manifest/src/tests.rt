@@ -1,5 +1,9 @@
+ghost use Rattle.std.specs.Prelude.{IfOk};
+ghost use Rattle.lethe_manifest.specs.Manifests.{HasSpelling};
+
 use super::*;
 use lethe_base::{Config, Fields, List, Pending, Pick, Range};
+use std::alloc::Global;
 use std::test::Fail;
 
 /// A new store: manifest 2, threshold 100, ratio 2, levels 2, page 2, tile 2, file 2, buffer 4, pick so, segment 1.
@@ -50,11 +54,31 @@ fn a_new_store_has_71_bytes(rt: HostRuntime) -> Result<(), Fail> {
     Ok(())
 }
 
+fn full(alloc: Global) -> Result<Manifest, Fail>
+    ensures { IfOk result HasSpelling }
+{
+    match read_manifest(alloc, &FULL) {
+        Ok(manifest) => Ok(manifest),
+        Err(_) => Err(Fail::new("a manifest")),
+    }
+}
+
 #[test]
-fn a_store_with_all_parts_is_read_and_written(rt: HostRuntime) -> Result<(), Fail> {
+fn a_store_with_all_parts_is_written_as_it_was_read(rt: HostRuntime) -> Result<(), Fail> {
     let alloc = rt.alloc();
-    let read = read_manifest(alloc, &FULL).ok().ok_or("a manifest")?;
-    assert_eq!(rt; (read.no, read.clock, read.count, read.next), (9, 50, 20, 12));
+    let manifest = full(alloc)?;
+    let bytes = write_manifest(alloc, &manifest).ok().ok_or("a spelling")?;
+    assert_eq!(rt; bytes.as_slice(), FULL.as_slice());
+    Ok(())
+}
+
+#[test]
+fn all_parts_of_a_store_are_read(rt: HostRuntime) -> Result<(), Fail> {
+    let read = full(rt.alloc())?;
+    assert_eq!(rt;
+        (read.no, read.clock, read.count, read.next),
+        (9, 50, 20, 12)
+    );
     assert_eq!(rt; *read.config.fields(), *limits(Pick::Sd)?.fields());
     let cert = LastCert {
         number: 3,
@@ -91,8 +115,6 @@ fn a_store_with_all_parts_is_read_and_written(rt: HostRuntime) -> Result<(), Fai
         },
     ];
     assert_eq!(rt; read.files.items(), files.as_slice());
-    let bytes = write_manifest(alloc, &read).ok().ok_or("a spelling")?;
-    assert_eq!(rt; bytes.as_slice(), FULL.as_slice());
     Ok(())
 }
 
