@@ -12,8 +12,9 @@ use Rattle.lethe_disk.proofs.Objects.{name_cases, object_inserted, object_beside
 use Rattle.lethe_segment.specs.declared.record.Record.{Record}
 use Rattle.lethe_segment.specs.Segments.{head_bytes, open_records, segment_bytes}
 use Rattle.lethe_segment.proofs.Runs.{holds_spelling}
-use Rattle.lethe_manifest.specs.Manifests.{HasSpelling, IsOneBelow, manifest_bytes}
+use Rattle.lethe_manifest.specs.Manifests.{HasSpelling, manifest_bytes}
 use Rattle.lethe_manifest.specs.declared.manifest.Manifest.{Manifest}
+use Rattle.lethe_manifest.proofs.Journals.{none_erased, one_segment, none_filed}
 use Rattle.lethe_commit.specs.Clear.{ArePresent, IsCleared, remove_all}
 use Rattle.lethe_commit.specs.Gates.{gate_name}
 use Rattle.lethe_commit.specs.Switch.{manifest_name, HasGreatest, IsFree, HasNew, IsSwitched, older_names, placed, switched}
@@ -24,7 +25,7 @@ use Rattle.lethe_recover.specs.Encodes.{Encodes, HasParts, AreSpare}
 use Rattle.lethe_recover.specs.Goes.{Goes}
 use Rattle.lethe_recover.specs.Settled.{IsSettled, HasOnly, IsWhole}
 use Rattle.lethe_recover.specs.Rewritten.{successor, rewritten}
-use Rattle.lethe_recover.proofs.Unique.{none_frozen, one_cited}
+use Rattle.lethe_recover.proofs.Unique.{none_frozen, active_below}
 use Rattle.lethe_recover.proofs.Frame.{gate≢segment, manifest≢segment, same_no, besides, fresh_spare}
 use Rattle.lethe_recover.proofs.Steps.{switch_encodes, one_name}
 use Rattle.lethe_recover.proofs.Replaying.{absent_of}
@@ -46,10 +47,10 @@ successor_spelled m count spelled room few = record {
   clock = spelled.clock;
   count = few;
   next = room;
-  segments = omega arith;
-  certificate = refl;
-  erases = refl;
-  files = refl;
+  certificate = tt;
+  erases = none_erased;
+  segments = one_segment (m.next + 2) m.next (omega arith);
+  files = none_filed (m.next + 2) m.config.levels;
 }
 
 module _ (s : Stored) (count : ℕ) (stored : IsStored s) (room : s.manifest.next + 2 ≤ max_place) (few : count ≤ max_place) where
@@ -59,6 +60,7 @@ module _ (s : Stored) (count : ℕ) (stored : IsStored s) (room : s.manifest.nex
   pub rewritten_stored : IsStored t
   rewritten_stored = record {
     spelled = successor_spelled s.manifest count stored.spelled room few;
+    journal = record { one = refl; certificate = refl; erases = refl; files = refl };
     cites = refl;
     once = pairs_of_one (s.manifest.next ∷ []) s.manifest.next refl;
     active = stored.active;
@@ -66,7 +68,7 @@ module _ (s : Stored) (count : ℕ) (stored : IsStored s) (room : s.manifest.nex
   }
 
   old_below : s.active.no < s.manifest.next
-  old_below = let l = subst (IsOneBelow s.manifest.next) (one_cited s stored) stored.spelled.segments in l
+  old_below = active_below s stored
 
   -- a name from the next number on isn't there
   pub fresh_absent : (d : Directory) → HasOnly s d → (name : Name) → s.manifest.next ≤ name.no → name.kind ≢ kinds.Gate → object d name ≡ None

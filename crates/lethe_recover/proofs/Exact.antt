@@ -78,7 +78,7 @@ module _ (config : Fields) (d : Directory) (before now : ℕ) (result : Result R
   one_damaged a b (inr x) (inl y) = absurd (gated_undamaged d x.manifest b x.gated y)
   one_damaged a b (inr x) (inr y) =
       let k = get_or x.manifest.segments 0 0 in
-      let one : x.manifest.segments ≡ k ∷ [] = one_segment x.manifest.next x.manifest.segments x.gated.is.spelled.segments in
+      let one : x.manifest.segments ≡ k ∷ [] = one_segment x.manifest.segments x.gated.is.journal.one in
       let first : k ≡ x.number = one_in k x.number (subst (λ l. Contains l x.number) one x.cited) in
       let same : y.manifest ≡ x.manifest = one_gated d y.manifest x.manifest y.gated x.gated in
       let second : k ≡ y.number = one_in k y.number (subst (λ l. Contains l y.number) (ap (λ (m : Manifest). m.segments) same ∙ one) y.cited) in

@@ -23,6 +23,7 @@ use Rattle.lethe_segment.specs.Segments.{segment_bytes}
 use Rattle.lethe_segment.specs.Holding.{Holds}
 use Rattle.lethe_segment.proofs.Runs.{holds_spelling}
 use Rattle.lethe_manifest.specs.Manifests.{manifest_bytes}
+use Rattle.lethe_manifest.proofs.Journals.{none_erased, one_segment, none_filed}
 use Rattle.lethe_commit.specs.Switch.{manifest_name, HasGreatest}
 use Rattle.lethe_cover.specs.Steps.{time_of, put_entry}
 use Rattle.lethe_recover.specs.Stored.{Stored, IsStored, segment_name, in_order, layout_of, appended}
@@ -49,7 +50,18 @@ empty_stored config own next segment = record { manifest = empty_manifest config
 module _ (config : Fields) (own next segment : ℕ) (limits : IsConfig config) (own_below : own < next) (segment_below : segment < next) where
   pub empty_is_stored : next ≤ max_place → IsStored (empty_stored config own next segment)
   empty_is_stored few = record {
-    spelled = record { no = own_below; config = limits; clock = omega arith; count = omega arith; next = few; segments = segment_below; certificate = refl; erases = refl; files = refl };
+    spelled = record {
+      no = own_below;
+      config = limits;
+      clock = omega arith;
+      count = omega arith;
+      next = few;
+      certificate = tt;
+      erases = none_erased;
+      segments = one_segment next segment segment_below;
+      files = none_filed next config.levels;
+    };
+    journal = record { one = refl; certificate = refl; erases = refl; files = refl };
     cites = refl;
     once = pairs_of_one (segment ∷ []) segment refl;
     active = tt;

@@ -1,17 +1,16 @@
 -- The frame law: what a directory encodes rests on its greatest gate, the manifest of that, and what this cites.
-use Rattle.std.proofs.Common.{◌≡◌, ◌≢◌, ◌<◌, ◌≤◌, inl, inr, ℕ, suc, List, [], ◌∷◌, Option, Some, None, refl, sym, ap, ◌∙◌, subst, arith}
+use Rattle.std.proofs.Common.{◌≡◌, ◌≢◌, ◌≤◌, inl, inr, ℕ, suc, List, [], ◌∷◌, Option, Some, None, refl, sym, ap, ◌∙◌, arith}
 use Rattle.std.specs.Prelude.{Contains, IfSome, IsSomeAnd, is_some}
 use Rattle.lethe_base.specs.History.{History}
 use Rattle.lethe_base.specs.declared.name.Kind.TheVariants as kinds
 use Rattle.lethe_base.specs.declared.name.Name.{Name}
 use Rattle.lethe_disk.specs.Directory.{Directory, object, IsNoneOf, SameBeside}
-use Rattle.lethe_manifest.specs.Manifests.{IsOneBelow}
 use Rattle.lethe_commit.specs.Gates.{gate_name}
 use Rattle.lethe_commit.specs.Switch.{manifest_name}
 use Rattle.lethe_recover.specs.Stored.{Stored, Segment, IsStored, segment_name, IsSegmentOf, IsCited, IsSpare}
 use Rattle.lethe_recover.specs.Encodes.{Encodes, HasParts, HasSegment, Agrees, IsBeside, AreSpare}
 use Rattle.lethe_recover.specs.Kept.{IsKept}
-use Rattle.lethe_recover.proofs.Unique.{none_frozen, one_cited}
+use Rattle.lethe_recover.proofs.Unique.{none_frozen, active_below}
 
 -- Names
 
@@ -81,13 +80,10 @@ fresh_spare s name stored fresh other = record {
   no_gate = λ k lt is. other (ap (λ (n : Name). n.kind) is);
 }
   where
-    below : s.active.no < s.manifest.next
-    below = subst (IsOneBelow s.manifest.next) (one_cited s stored) stored.spelled.segments
-
     cited : IsCited s name → ⊥
     cited (inl is) = other (ap (λ (n : Name). n.kind) is)
     cited (inr (inl is)) = let same = same_no name (manifest_name s.manifest.no) is in omega (arith, same, fresh, stored.spelled.no)
-    cited (inr (inr (inl is))) = let same = same_no name (segment_name s.active.no) is in omega (arith, same, fresh, below)
+    cited (inr (inr (inl is))) = let same = same_no name (segment_name s.active.no) is in omega (arith, same, fresh, active_below s stored)
     cited (inr (inr (inr older))) = by s.frozen (none_frozen s stored) older
       where
         by : (o : Option Segment) → o ≡ None → IsSomeAnd o (λ older. name ≡ segment_name older.no) → ⊥

@@ -1,5 +1,5 @@
 -- What is read where the greatest gate commits something, and why it isn't.
-use Rattle.std.proofs.Common.{◌≡◌, ◌≢◌, ℕ, List, [], ◌∷◌, get_or, Some, None, Result, Ok, Err, refl, sym, subst, inr, arith}
+use Rattle.std.proofs.Common.{◌≡◌, ◌≢◌, ℕ, List, [], ◌∷◌, length, get_or, Some, None, Result, Ok, Err, refl, sym, subst, inr, arith}
 use Rattle.std.specs.Prelude.{Contains, AllPairs, IsErrAnd, IfErr}
 use Rattle.std.specs.FinMap.{keys}
 use Rattle.lethe_base.specs.declared.config.Fields.{Fields}
@@ -7,7 +7,7 @@ use Rattle.lethe_base.specs.declared.name.Name.{Name}
 use Rattle.lethe_disk.specs.Directory.{Directory, object}
 use Rattle.lethe_segment.specs.declared.record.Record.{Record}
 use Rattle.lethe_manifest.specs.declared.manifest.Manifest.{Manifest}
-use Rattle.lethe_manifest.specs.Manifests.{HasSpelling, IsOneBelow}
+use Rattle.lethe_manifest.specs.Manifests.{HasSpelling}
 use Rattle.lethe_commit.specs.Gates.{gate_name, HasNoGate, IsGreatestGate}
 use Rattle.lethe_commit.specs.Switch.{HasGreatest}
 use Rattle.lethe_commit.proofs.Listed.{listed}
@@ -37,10 +37,10 @@ greatest_of names d number is greatest = (
 
 -- The one segment
 
-pub one_segment : (next : ℕ) (segments : List ℕ) → IsOneBelow next segments → segments ≡ get_or segments 0 0 ∷ []
-one_segment next [] is = absurd is
-one_segment next (k ∷ []) is = refl
-one_segment next (a ∷ b ∷ rest) is = absurd is
+pub one_segment : (segments : List ℕ) → length segments ≡ 1 → segments ≡ get_or segments 0 0 ∷ []
+one_segment [] is = absurd (omega (arith, is))
+one_segment (k ∷ []) is = refl
+one_segment (a ∷ b ∷ rest) is = absurd (omega (arith, is))
 
 pub contains_one : (segments : List ℕ) (k : ℕ) → segments ≡ k ∷ [] → Contains segments k
 contains_one segments k is = subst (λ l. Contains l k) (sym is) (0, omega arith, refl)
@@ -80,7 +80,7 @@ is_read config d mid number m k records read greatest spelled is same one mid_is
     let gated = gated_of d number m greatest is in
     record {
       s = record { manifest = m; frozen = None; active = record { no = k; records = records } };
-      stored = record { spelled = spelled; cites = one; once = pairs_of_one m.segments k one; active = replayed.0; frozen = tt };
+      stored = record { spelled = spelled; journal = is.journal; cites = one; once = pairs_of_one m.segments k one; active = replayed.0; frozen = tt };
       encodes = record {
         greatest = gated.greatest;
         manifest = gated.is.there;

@@ -60,8 +60,8 @@ module _ (s : Stored) (stored : IsStored s) where
 
   layout_rewritten : layout_of t ≡ record (layout_of s) { count = count_of t; next = s.manifest.next + 2 }
   layout_rewritten =
-      let certificate = sym stored.spelled.certificate in
-      let erases = sym stored.spelled.erases in
+      let certificate = sym stored.journal.certificate in
+      let erases = sym stored.journal.erases in
       let frozen = sym (none_frozen s stored) in
       (λ i. record {
         clock = s.manifest.clock;
@@ -82,5 +82,5 @@ module _ (s : Stored) (stored : IsStored s) where
     shape = subst (λ l. IsValidShape (shape_of l)) (sym layout_rewritten) stands.shape;
     clock = stands.clock;
     count = count_rewritten s stored ∙ stands.count;
-    certificate = sym (ap certificate_number stored.spelled.certificate) ∙ stands.certificate;
+    certificate = sym (ap certificate_number stored.journal.certificate) ∙ stands.certificate;
   }

@@ -30,6 +30,7 @@ use Rattle.lethe_recover.proofs.Frame.{gate≢segment, manifest≢segment, segme
 pub stored_appended : (s : Stored) (next : Record) → IsStored s → RecordHasSpelling next → last_seq 0 s.active.records < record_seq next → IsStored (appended s next)
 stored_appended s next stored spelled above = record {
   spelled = stored.spelled;
+  journal = stored.journal;
   cites = stored.cites ∙ same s.frozen;
   once = stored.once;
   active = ascends_push 0 s.active.records next stored.active spelled above;

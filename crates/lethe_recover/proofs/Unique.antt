@@ -1,5 +1,5 @@
 -- A directory encodes one thing.
-use Rattle.std.proofs.Common.{◌≡◌, ◌⊎◌, ◌<◌, ◌≤◌, inl, inr, true, false, ℕ, List, [], ◌∷◌, Option, Some, None, refl, sym, ap, ◌∙◌, subst, arith}
+use Rattle.std.proofs.Common.{◌≡◌, ◌⊎◌, ◌<◌, ◌≤◌, inl, inr, true, false, ℕ, List, [], ◌∷◌, length, All, Option, Some, None, refl, sym, ap, ◌∙◌, subst, arith}
 use Rattle.std.specs.Prelude.{map, is_some, IsSome}
 use Rattle.std.proofs.lemmas.Bool.{cases_lt}
 use Rattle.lethe_disk.specs.Directory.{Directory, object}
@@ -8,7 +8,7 @@ use Rattle.lethe_segment.specs.Segments.{Ascends}
 use Rattle.lethe_segment.specs.Holding.{Holds}
 use Rattle.lethe_segment.proofs.Runs.{same_held}
 use Rattle.lethe_manifest.specs.declared.manifest.Manifest.{Manifest}
-use Rattle.lethe_manifest.specs.Manifests.{IsOneBelow, manifest_bytes}
+use Rattle.lethe_manifest.specs.Manifests.{manifest_bytes}
 use Rattle.lethe_manifest.proofs.ManifestLaws.{same_manifest}
 use Rattle.lethe_commit.specs.Append.{HasRecords}
 use Rattle.lethe_commit.specs.Gates.{gate_name}
@@ -43,7 +43,7 @@ pub one_gated : (d : Directory) (m n : Manifest) → IsGated d m → IsGated d n
 one_gated d m n x y = one_spelled d m.no m n x.is (subst (λ k. IsSpelled d k n) (sym (one_greatest d m.no n.no x.greatest y.greatest)) y.is)
 
 pub encodes_gated : (d : Directory) (s : Stored) → IsStored s → Encodes d s → IsGated d s.manifest
-encodes_gated d s stored e = record { greatest = e.greatest; is = record { spelled = stored.spelled; own = refl; there = e.manifest } }
+encodes_gated d s stored e = record { greatest = e.greatest; is = record { spelled = stored.spelled; journal = stored.journal; own = refl; there = e.manifest } }
 
 -- Segments
 
@@ -58,10 +58,16 @@ none_frozen s stored = by s.frozen refl
   where
     by : (o : Option Segment) → s.frozen ≡ o → s.frozen ≡ None
     by None is = is
-    by (Some older) is = absurd (subst (IsOneBelow s.manifest.next) (stored.cites ∙ ap (λ f. map number_of (segments_of (record s { frozen = f }))) is) stored.spelled.segments)
+    by (Some older) is =
+        let two : s.manifest.segments ≡ older.no ∷ s.active.no ∷ [] = stored.cites ∙ ap (λ f. map number_of (segments_of (record s { frozen = f }))) is in
+        absurd (omega (arith, stored.journal.one, ap length two))
 
 pub one_cited : (s : Stored) → IsStored s → s.manifest.segments ≡ s.active.no ∷ []
 one_cited s stored = stored.cites ∙ ap (λ f. map number_of (segments_of (record s { frozen = f }))) (none_frozen s stored)
+
+-- and its number is below the next
+pub active_below : (s : Stored) → IsStored s → s.active.no < s.manifest.next
+active_below s stored = subst (All (λ n. n < s.manifest.next)) (one_cited s stored) stored.spelled.segments.below 0 0 (omega arith)
 
 pub head_same : (a b : ℕ) → a ∷ [] ≡ b ∷ [] → a ≡ b
 head_same a b e = cc

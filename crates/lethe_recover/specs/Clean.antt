@@ -14,16 +14,18 @@ use Rattle.lethe_segment.specs.declared.record.Record.TheVariants as of
 use Rattle.lethe_segment.specs.Segments.{segment_bytes, Ascends}
 use Rattle.lethe_manifest.specs.declared.manifest.Manifest.{Manifest}
 use Rattle.lethe_manifest.specs.Manifests.{manifest_bytes, HasSpelling}
+use Rattle.lethe_recover.specs.Stored.{IsJournalOnly}
 
 abbrev pub entry_of : Record → Option Entry
 entry_of (of.Entry entry) = Some entry
 entry_of (of.Blind place) = None
 entry_of (of.Erase erase) = None
 
--- a manifest of this number is spelled so
+-- a manifest of this number, of a journal alone, is spelled so
 pub record SpellsManifest (number : ℕ) (bytes : List ℕ) : Type 0 where
   pub manifest : Manifest
   pub spelled : HasSpelling manifest
+  pub journal : IsJournalOnly manifest
   pub own : manifest.no ≡ number
   pub is : bytes ≡ manifest_bytes manifest
 

@@ -1,5 +1,5 @@
 -- What the greatest gate of a directory commits, as plain values, and the layout that this is.
-use Rattle.std.specs.Prelude.{◌≡◌, ◌⊎◌, ◌≢◌, ℕ, ◌<◌, max, List, [], ◌∷◌, ◌++◌, map, filter_map, replicate, AllPairs, Option, Some, None, IfSome, IsSomeAnd, option_map}
+use Rattle.std.specs.Prelude.{◌≡◌, ◌⊎◌, ◌≢◌, ℕ, ◌<◌, max, List, [], ◌∷◌, ◌++◌, length, map, filter_map, replicate, AllPairs, Option, Some, None, IfSome, IsSomeAnd, option_map}
 use Rattle.std.specs.Ordering.{nat_cmp}
 use Rattle.std.specs.FinMap as finmap
 use Rattle.lethe_base.specs.declared.name.Kind.TheVariants as kinds
@@ -46,9 +46,17 @@ records_from (Some older) records = older.records ++ records
 abbrev pub records_of : Stored → List Record
 records_of s = records_from s.frozen s.active.records
 
--- It has a spelling: the manifest has one and cites these segments, each once, and the places of each one's records ascend.
+-- The journal is all that it has: one segment, and no certificate, erase or file.
+pub record IsJournalOnly (m : Manifest) : Type 0 where
+  pub one : length m.segments ≡ 1
+  pub certificate : m.certificate ≡ None
+  pub erases : m.erases ≡ []
+  pub files : m.files ≡ []
+
+-- It has a spelling: the manifest has one, of a journal alone, and cites these segments, each once, and the places of each one's records ascend.
 pub record IsStored (s : Stored) : Type 0 where
   pub spelled : HasSpelling s.manifest
+  pub journal : IsJournalOnly s.manifest
   pub cites : s.manifest.segments ≡ map number_of (segments_of s)
   pub once : AllPairs (λ a b. a ≢ b) s.manifest.segments
   pub active : Ascends 0 s.active.records
