@@ -3,3 +3,4 @@ pub mod Items
 pub mod ConfigLaws
 pub mod PartLaws
 pub mod ManifestLaws
+pub mod Journals
