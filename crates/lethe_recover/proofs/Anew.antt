@@ -64,15 +64,15 @@ module _ (s : Stored) (count : ℕ) (stored : IsStored s) (room : s.manifest.nex
   pub rewritten_stored : IsStored t
   rewritten_stored = record {
     coherent = record {
-    spelled = successor_spelled s.manifest count stored.coherent.spelled room few;
-    cites = refl;
-    once = pairs_of_one (s.manifest.next ∷ []) s.manifest.next refl;
-    active = stored.coherent.active;
-    frozen = tt;
-    files = refl;
-    each = All-nil (IsFile t.manifest.next);
-    files_once = no_pairs (λ (a b : StoredFile). a.header.no ≢ b.header.no);
-    pages_once = no_pairs (λ (a b : PageLine). a.no ≢ b.no);
+      spelled = successor_spelled s.manifest count stored.coherent.spelled room few;
+      cites = refl;
+      once = pairs_of_one (s.manifest.next ∷ []) s.manifest.next refl;
+      active = stored.coherent.active;
+      frozen = tt;
+      files = refl;
+      each = All-nil (IsFile t.manifest.next);
+      files_once = no_pairs (λ (a b : StoredFile). a.header.no ≢ b.header.no);
+      pages_once = no_pairs (λ (a b : PageLine). a.no ≢ b.no);
     };
     journal = record { one = refl; certificate = refl; erases = refl; files = refl };
   }
