@@ -84,8 +84,8 @@ parts_ok next levels bytes x fits e =
     let t2 = segments_ok next bytes b.0.1 c.0 fits c.1 in
     let t3 = files_ok next levels bytes c.0.1 d.0 fits d.1 in
     let s2 = stands_then (segments_bytes c.0.0) (files_bytes d.0.0) bytes b.0.1 c.0.1 d.0.1 t2.0 t3.0 in
-    let s1 = stands_then (erases_bytes b.0.0) _ bytes a.0.1 b.0.1 d.0.1 t1.0 s2 in
-    let s0 = stands_then (certificate_bytes a.0.0) _ bytes 53 a.0.1 d.0.1 t0.0 s1 in
+    let s1 = stands_then (erases_bytes b.0.0) (segments_bytes c.0.0 ++ files_bytes d.0.0) bytes a.0.1 b.0.1 d.0.1 t1.0 s2 in
+    let s0 = stands_then (certificate_bytes a.0.0) (erases_bytes b.0.0 ++ (segments_bytes c.0.0 ++ files_bytes d.0.0)) bytes 53 a.0.1 d.0.1 t0.0 s1 in
     let read : Parts × ℕ = (record { certificate = a.0.0; erases = b.0.0; segments = c.0.0; files = d.0.0 }, d.0.1) in
     subst (λ (y : Parts × ℕ). StandsAt (spelled_parts y.0) bytes 53 y.1 × AreParts next levels y.0) {x = read} (ok_is read x d.2)
     (s0, record { certificate = t0.1; erases = t1.1; segments = t2.1; files = t3.1 })
