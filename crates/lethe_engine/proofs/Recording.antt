@@ -99,7 +99,7 @@ module _ (config : Fields) (h : History) (disk : Seen) (journal : Journal) (now 
 
     pub ready : (body : List ℕ) → body ≡ record_bytes next → IsReady disk segment journal.end body (addition s next)
     ready body bytes =
-        let above = last_above 0 s.active.records next is.stored.active in
+        let above = last_above 0 s.active.records next is.stored.coherent.active in
         record {
           ends = subst (λ n. EndsAt disk n s.active.no s.active.records journal.end) (sym segment_is) now.ends;
           spelled = above.0;

@@ -66,9 +66,9 @@ no_erases last (of.Erase erase ∷ records) up = absurd up.0
 
 nothing_pending : (s : Stored) → IsStored s → (layout_of s).pending ≡ []
 nothing_pending s stored =
-    (let erases = stored.spelled.erases in
+    (let erases = stored.journal.erases in
     let frozen = none_frozen s stored in
-    (λ i. in_order (erases i ++ filter_map erase_of (records_in (frozen i) ++ s.active.records)))) ∙ ap in_order (no_erases 0 s.active.records stored.active) ∙ none_pending
+    (λ i. in_order (erases i ++ filter_map erase_of (records_in (frozen i) ++ s.active.records)))) ∙ ap in_order (no_erases 0 s.active.records stored.coherent.active) ∙ none_pending
 
 bare_answer : (seq : ℕ) (body : Body) → pair_under [] seq body ≡ pair_of body
 bare_answer seq (Put dkey value) = refl

@@ -1,4 +1,6 @@
 pub mod Numbers
-pub mod Shapes
-pub mod Parts
+pub mod Items
+pub mod ConfigLaws
+pub mod PartLaws
 pub mod ManifestLaws
+pub mod Journals

@@ -1,27 +1,28 @@
 -- What is read of a manifest is spelled so, and what is spelled so is read.
-use Rattle.std.proofs.Common.{◌≡◌, ℕ, ◌^◌, ◌<◌, ◌≤◌, false, cond, ltb, List, [], ◌∷◌, ◌++◌, length, Result, Ok, Err, refl, sym, ap, subst, ◌∙◌, arith}
+use Rattle.std.proofs.Common.{◌≡◌, ℕ, ◌<◌, ◌≤◌, ltb, List, ◌++◌, length, Result, Ok, Err, refl, sym, ap, subst, ◌∙◌, arith}
 use Rattle.std.specs.Prelude.{IfOk, MatchResult}
-use Rattle.std.specs.Int.{w8, w32, w64, to_be_bytes}
-use Rattle.std.proofs.lemmas.Bool.{lt-ltb, ltb-true, ltb-false, le-ltb}
+use Rattle.std.specs.Int.{w64, to_be_bytes}
+use Rattle.std.proofs.lemmas.Bool.{ltb-false, le-ltb}
 use Rattle.std.proofs.lemmas.List.{append-nil}
 use Rattle.std.proofs.Math.ListN.{drop_of_length-le}
 use Rattle.lethe_base.specs.Limits.{max_place, max_time}
 use Rattle.lethe_base.specs.Numbers.{IsBytes}
 use Rattle.lethe_base.specs.Reading.{StandsAt}
-use Rattle.lethe_base.specs.Configuration.{IsConfig}
 use Rattle.lethe_base.specs.declared.config.Fields.{Fields}
-use Rattle.lethe_base.proofs.FieldLaws.{stands_then, stands_parts, wide64}
-use Rattle.lethe_manifest.specs.Manifests.{head_bytes, times_bytes, sizes_bytes, config_bytes, counts_bytes, parts_bytes, manifest_bytes, HasSpelling}
-use Rattle.lethe_manifest.specs.Reading.{Gives, number_within, head_at, config_at, next_at, counts_at, segment_at, parts_at, made, manifest_at}
-use Rattle.lethe_manifest.specs.declared.manifest.Manifest.{Manifest}
-use Rattle.lethe_manifest.specs.declared.reading.Counts.{Counts}
-use Rattle.lethe_manifest.specs.declared.reading.ManifestRefused.{ManifestRefused}
-use Rattle.lethe_manifest.specs.declared.reading.ManifestRefused.TheVariants.{Short, Kind, Order, Trailing, NoMemory}
-use Rattle.lethe_base.specs.Results.{◌>>=◌}
+use Rattle.lethe_base.proofs.FieldLaws.{stands_then}
 use Rattle.lethe_base.proofs.ReadingSteps.{bind_ok, past_test, ok_is}
-use Rattle.lethe_manifest.proofs.Numbers.{tested_ok, wide_ok, wide_again, byte_ok, byte_back, wide32}
-use Rattle.lethe_manifest.proofs.Shapes.{counts_of, shape}
-use Rattle.lethe_manifest.proofs.Parts.{only, head_ok, head_again, config_ok, config_again}
+use Rattle.lethe_manifest.specs.Manifests.{head_bytes, times_bytes, sizes_bytes, config_bytes, counts_bytes, certificate_bytes, erases_bytes, segments_bytes, files_bytes, parts_bytes, manifest_bytes, IsCertificateOrNone, AreErases, AreSegments, AreFiles, HasSpelling}
+use Rattle.lethe_manifest.specs.Numbers.{Gives, number_within, number_above}
+use Rattle.lethe_manifest.specs.Parts.{marked_at, erases_at, segments_at, files_at, parts_at}
+use Rattle.lethe_manifest.specs.Reading.{head_at, config_at, counts_at, made, manifest_at}
+use Rattle.lethe_manifest.specs.declared.manifest.Manifest.{Manifest}
+use Rattle.lethe_manifest.specs.declared.parts.Parts.{Parts}
+use Rattle.lethe_manifest.specs.declared.reading.Counts.{Counts}
+use Rattle.lethe_manifest.specs.declared.refused.ManifestRefused.{ManifestRefused}
+use Rattle.lethe_manifest.specs.declared.refused.ManifestRefused.TheVariants.{Short, Kind, Order, Trailing, NoMemory}
+use Rattle.lethe_manifest.proofs.Numbers.{split, long_ok, long_again, above_ok, above_again}
+use Rattle.lethe_manifest.proofs.ConfigLaws.{head_ok, head_again, config_ok, config_again}
+use Rattle.lethe_manifest.proofs.PartLaws.{marked_ok, marked_again, erases_ok, erases_again, segments_ok, segments_again, files_ok, files_again}
 
 -- ---- counts
 
@@ -35,147 +36,140 @@ record Counted (own : ℕ) (bytes : List ℕ) (x : Counts) : Type 0 where
   next : x.next ≤ max_place
   above : own < x.next
 
-next_ok : (own : ℕ) (bytes : List ℕ) (n : ℕ) → IsBytes bytes → next_at own bytes 45 ≡ Ok n → StandsAt (to_be_bytes w64 n) bytes 45 53 × (n ≤ max_place) × (own < n)
-unfolding next_at
-next_ok own bytes n fits e =
-    let b = tested_ok (number_within w64 0 max_place bytes 45) (λ next. ltb own next) (Order 45) n e in
-    let t = wide_ok w64 (2 ^ 64) wide64 0 max_place bytes 45 n fits b.0 in
-    (t.0, t.1.1, ltb-true own n b.1)
-
 counts_ok : (own : ℕ) (bytes : List ℕ) (x : Counts) → IsBytes bytes → counts_at own bytes ≡ Ok x → Counted own bytes x
 unfolding counts_at
 counts_ok own bytes x fits e =
-    let a = bind_ok (number_within w64 0 max_time bytes 29) (λ clock. number_within w64 0 max_place bytes 37 >>= λ count. next_at own bytes 45 >>= λ next. Ok (record { clock = clock; count = count; next = next })) x e in
-    let b = bind_ok (number_within w64 0 max_place bytes 37) (λ count. next_at own bytes 45 >>= λ next. Ok (record { clock = a.0; count = count; next = next })) x a.2 in
-    let c = bind_ok (next_at own bytes 45) (λ next. Ok (record { clock = a.0; count = b.0; next = next })) x b.2 in
-    let t0 = wide_ok w64 (2 ^ 64) wide64 0 max_time bytes 29 a.0 fits a.1 in
-    let t1 = wide_ok w64 (2 ^ 64) wide64 0 max_place bytes 37 b.0 fits b.1 in
-    let t2 = next_ok own bytes c.0 fits c.1 in
-    let s1 = stands_then (to_be_bytes w64 b.0) (to_be_bytes w64 c.0) bytes 37 45 53 t1.0 t2.0 in
-    let s0 = stands_then (to_be_bytes w64 a.0) (to_be_bytes w64 b.0 ++ to_be_bytes w64 c.0) bytes 29 37 53 t0.0 s1 in
+    let a = bind_ok (number_within w64 0 max_time bytes 29) _ x e in
+    let b = bind_ok (number_within w64 0 max_place bytes 37) _ x a.2 in
+    let c = bind_ok (number_above own 0 max_place bytes 45) _ x b.2 in
+    let t0 = long_ok 0 max_time bytes 29 37 a.0 refl fits a.1 in
+    let t1 = long_ok 0 max_place bytes 37 45 b.0 refl fits b.1 in
+    let t2 = above_ok own 0 max_place bytes 45 53 c.0 refl fits c.1 in
+    let s1 = stands_then _ _ bytes 37 45 53 t1.0 t2.0 in
     let read : Counts = record { clock = a.0; count = b.0; next = c.0 } in
-    let counted : Counted own bytes read = record { stands = s0; clock = t0.1.1; count = t1.1.1; next = t2.1; above = t2.2 } in
-    subst (Counted own bytes) (ok_is read x c.2) counted
-
-next_again : (own : ℕ) (bytes : List ℕ) (end n : ℕ) → n ≤ max_place → own < n → StandsAt (to_be_bytes w64 n) bytes 45 end → next_at own bytes 45 ≡ Ok n
-unfolding next_at
-next_again own bytes end n fits above p = rw (wide_again w64 (2 ^ 64) wide64 0 max_place bytes 45 end n (omega (arith, fits)) (omega arith, fits) p, lt-ltb own n above) refl
+    let counted : Counted own bytes read = record { stands = stands_then _ _ bytes 29 37 53 t0.0 s1; clock = t0.1.1; count = t1.1.1; next = t2.1.1; above = t2.2 } in
+    subst (Counted own bytes) {x = read} (ok_is read x c.2) counted
 
 counts_again : (own : ℕ) (bytes : List ℕ) (end : ℕ) (x : Counts) → x.clock ≤ max_time → x.count ≤ max_place → x.next ≤ max_place → own < x.next → StandsAt (spelled_counts x) bytes 29 end → counts_at own bytes ≡ Ok x
 unfolding counts_at
 counts_again own bytes end x timed counted numbered above p =
-    let p0 = stands_parts (to_be_bytes w64 x.clock) (to_be_bytes w64 x.count ++ to_be_bytes w64 x.next) bytes 29 end p in
-    let p1 = stands_parts (to_be_bytes w64 x.count) (to_be_bytes w64 x.next) bytes 37 end p0.1 in
-    let clock : number_within w64 0 max_time bytes 29 ≡ Ok x.clock = wide_again w64 (2 ^ 64) wide64 0 max_time bytes 29 37 x.clock (omega (arith, timed)) (omega arith, timed) p0.0 in
-    let count : number_within w64 0 max_place bytes 37 ≡ Ok x.count = wide_again w64 (2 ^ 64) wide64 0 max_place bytes 37 45 x.count (omega (arith, counted)) (omega arith, counted) p1.0 in
-    rw (clock, count, next_again own bytes end x.next numbered above p1.1) refl
+    let p0 = split (to_be_bytes w64 x.clock) (to_be_bytes w64 x.count ++ to_be_bytes w64 x.next) bytes 29 37 end refl p in
+    let p1 = split (to_be_bytes w64 x.count) (to_be_bytes w64 x.next) bytes 37 45 end refl p0.1 in
+    rw (
+      long_again 0 max_time bytes 29 37 x.clock (omega arith) (omega arith, timed) p0.0,
+      long_again 0 max_place bytes 37 45 x.count (omega arith) (omega arith, counted) p1.0,
+      above_again own 0 max_place bytes 45 end x.next (omega arith) (omega arith, numbered) above p1.1,
+    ) refl
 
 -- ---- what the store consists of
 
-abbrev spelled_parts : ℕ → List ℕ
-spelled_parts segment = (0 ∷ []) ++ (to_be_bytes w32 0 ++ ((1 ∷ []) ++ (to_be_bytes w64 segment ++ to_be_bytes w32 0)))
+abbrev spelled_parts : Parts → List ℕ
+spelled_parts x = certificate_bytes x.certificate ++ (erases_bytes x.erases ++ (segments_bytes x.segments ++ files_bytes x.files))
 
-segment_ok : (next : ℕ) (bytes : List ℕ) (n : ℕ) → IsBytes bytes → segment_at next bytes 59 ≡ Ok n → StandsAt (to_be_bytes w64 n) bytes 59 67 × (n < next)
-unfolding segment_at
-segment_ok next bytes n fits e =
-    let b = tested_ok (number_within w64 0 max_place bytes 59) (λ segment. ltb segment next) (Order 59) n e in
-    let t = wide_ok w64 (2 ^ 64) wide64 0 max_place bytes 59 n fits b.0 in
-    (t.0, ltb-true n next b.1)
+record AreParts (next levels : ℕ) (x : Parts) : Type 0 where
+  certificate : IsCertificateOrNone x.certificate
+  erases : AreErases x.erases
+  segments : AreSegments next x.segments
+  files : AreFiles next levels x.files
 
-parts_ok : (next : ℕ) (bytes : List ℕ) (n : ℕ) → IsBytes bytes → parts_at next bytes ≡ Ok n → StandsAt (spelled_parts n) bytes 53 71 × (n < next)
+parts_ok : (next levels : ℕ) (bytes : List ℕ) (x : Parts × ℕ) → IsBytes bytes → parts_at next levels bytes ≡ Ok x → StandsAt (spelled_parts x.0) bytes 53 x.1 × AreParts next levels x.0
 unfolding parts_at
-parts_ok next bytes n fits e =
-    let a = bind_ok (number_within w8 0 0 bytes 53) (λ _. number_within w32 0 0 bytes 54 >>= λ _. number_within w8 1 1 bytes 58 >>= λ _. segment_at next bytes 59 >>= λ segment. number_within w32 0 0 bytes 67 >>= λ _. Ok segment) n e in
-    let b = bind_ok (number_within w32 0 0 bytes 54) (λ _. number_within w8 1 1 bytes 58 >>= λ _. segment_at next bytes 59 >>= λ segment. number_within w32 0 0 bytes 67 >>= λ _. Ok segment) n a.2 in
-    let c = bind_ok (number_within w8 1 1 bytes 58) (λ _. segment_at next bytes 59 >>= λ segment. number_within w32 0 0 bytes 67 >>= λ _. Ok segment) n b.2 in
-    let d = bind_ok (segment_at next bytes 59) (λ segment. number_within w32 0 0 bytes 67 >>= λ _. Ok segment) n c.2 in
-    let f = bind_ok (number_within w32 0 0 bytes 67) (λ _. Ok d.0) n d.2 in
-    let t0 = byte_ok 0 0 bytes 53 a.0 fits a.1 in
-    let t1 = wide_ok w32 (2 ^ 32) wide32 0 0 bytes 54 b.0 fits b.1 in
-    let t2 = byte_ok 1 1 bytes 58 c.0 fits c.1 in
-    let t3 = segment_ok next bytes d.0 fits d.1 in
-    let t4 = wide_ok w32 (2 ^ 32) wide32 0 0 bytes 67 f.0 fits f.1 in
-    let u0 : StandsAt (0 ∷ []) bytes 53 54 = subst (λ (k : ℕ). StandsAt (k ∷ []) bytes 53 54) (only 0 a.0 t0.1) t0.0 in
-    let u1 : StandsAt (to_be_bytes w32 0) bytes 54 58 = subst (λ (k : ℕ). StandsAt (to_be_bytes w32 k) bytes 54 58) (only 0 b.0 t1.1) t1.0 in
-    let u2 : StandsAt (1 ∷ []) bytes 58 59 = subst (λ (k : ℕ). StandsAt (k ∷ []) bytes 58 59) (only 1 c.0 t2.1) t2.0 in
-    let u4 : StandsAt (to_be_bytes w32 0) bytes 67 71 = subst (λ (k : ℕ). StandsAt (to_be_bytes w32 k) bytes 67 71) (only 0 f.0 t4.1) t4.0 in
-    let s3 = stands_then (to_be_bytes w64 d.0) (to_be_bytes w32 0) bytes 59 67 71 t3.0 u4 in
-    let s2 = stands_then (1 ∷ []) (to_be_bytes w64 d.0 ++ to_be_bytes w32 0) bytes 58 59 71 u2 s3 in
-    let s1 = stands_then (to_be_bytes w32 0) ((1 ∷ []) ++ (to_be_bytes w64 d.0 ++ to_be_bytes w32 0)) bytes 54 58 71 u1 s2 in
-    let s0 = stands_then (0 ∷ []) (to_be_bytes w32 0 ++ ((1 ∷ []) ++ (to_be_bytes w64 d.0 ++ to_be_bytes w32 0))) bytes 53 54 71 u0 s1 in
-    subst (λ (k : ℕ). StandsAt (spelled_parts k) bytes 53 71 × (k < next)) (ok_is d.0 n f.2) (s0, t3.1)
+parts_ok next levels bytes x fits e =
+    let a = bind_ok (marked_at bytes) _ x e in
+    let b = bind_ok (erases_at bytes a.0.1) _ x a.2 in
+    let c = bind_ok (segments_at next bytes b.0.1) _ x b.2 in
+    let d = bind_ok (files_at next levels bytes c.0.1) _ x c.2 in
+    let t0 = marked_ok bytes a.0 fits a.1 in
+    let t1 = erases_ok bytes a.0.1 b.0 fits b.1 in
+    let t2 = segments_ok next bytes b.0.1 c.0 fits c.1 in
+    let t3 = files_ok next levels bytes c.0.1 d.0 fits d.1 in
+    let s2 = stands_then (segments_bytes c.0.0) (files_bytes d.0.0) bytes b.0.1 c.0.1 d.0.1 t2.0 t3.0 in
+    let s1 = stands_then (erases_bytes b.0.0) (segments_bytes c.0.0 ++ files_bytes d.0.0) bytes a.0.1 b.0.1 d.0.1 t1.0 s2 in
+    let s0 = stands_then (certificate_bytes a.0.0) (erases_bytes b.0.0 ++ (segments_bytes c.0.0 ++ files_bytes d.0.0)) bytes 53 a.0.1 d.0.1 t0.0 s1 in
+    let read : Parts × ℕ = (record { certificate = a.0.0; erases = b.0.0; segments = c.0.0; files = d.0.0 }, d.0.1) in
+    subst (λ (y : Parts × ℕ). StandsAt (spelled_parts y.0) bytes 53 y.1 × AreParts next levels y.0) {x = read} (ok_is read x d.2)
+    (s0, record { certificate = t0.1; erases = t1.1; segments = t2.1; files = t3.1 })
 
-segment_again : (next : ℕ) (bytes : List ℕ) (end n : ℕ) → next ≤ max_place → n < next → StandsAt (to_be_bytes w64 n) bytes 59 end → segment_at next bytes 59 ≡ Ok n
-unfolding segment_at
-segment_again next bytes end n fits below p = rw (wide_again w64 (2 ^ 64) wide64 0 max_place bytes 59 end n (omega (arith, fits, below)) (omega arith, omega (arith, fits, below)) p, lt-ltb n next below) refl
-
-parts_again : (next : ℕ) (bytes : List ℕ) (end n : ℕ) → next ≤ max_place → n < next → StandsAt (spelled_parts n) bytes 53 end → parts_at next bytes ≡ Ok n
+parts_again : (next levels : ℕ) (bytes : List ℕ) (end : ℕ) (x : Parts) → next ≤ max_place → AreParts next levels x → StandsAt (spelled_parts x) bytes 53 end → parts_at next levels bytes ≡ Ok (x, end)
 unfolding parts_at
-parts_again next bytes end n fits below p =
-    let p0 = stands_parts (0 ∷ []) (to_be_bytes w32 0 ++ ((1 ∷ []) ++ (to_be_bytes w64 n ++ to_be_bytes w32 0))) bytes 53 end p in
-    let p1 = stands_parts (to_be_bytes w32 0) ((1 ∷ []) ++ (to_be_bytes w64 n ++ to_be_bytes w32 0)) bytes 54 end p0.1 in
-    let p2 = stands_parts (1 ∷ []) (to_be_bytes w64 n ++ to_be_bytes w32 0) bytes 58 end p1.1 in
-    let p3 = stands_parts (to_be_bytes w64 n) (to_be_bytes w32 0) bytes 59 end p2.1 in
-    let mark : number_within w8 0 0 bytes 53 ≡ Ok 0 = byte_back 0 0 bytes 53 54 0 (omega arith, omega arith) p0.0 in
-    let erases : number_within w32 0 0 bytes 54 ≡ Ok 0 = wide_again w32 (2 ^ 32) wide32 0 0 bytes 54 58 0 (omega arith) (omega arith, omega arith) p1.0 in
-    let count : number_within w8 1 1 bytes 58 ≡ Ok 1 = byte_back 1 1 bytes 58 59 1 (omega arith, omega arith) p2.0 in
-    let files : number_within w32 0 0 bytes 67 ≡ Ok 0 = wide_again w32 (2 ^ 32) wide32 0 0 bytes 67 end 0 (omega arith) (omega arith, omega arith) p3.1 in
-    rw (mark, erases, count, segment_again next bytes 67 n fits below p3.0, files) refl
+parts_again next levels bytes end x small fits p =
+    let p0 = split (certificate_bytes x.certificate) (erases_bytes x.erases ++ (segments_bytes x.segments ++ files_bytes x.files)) bytes 53 _ end refl p in
+    let p1 = split (erases_bytes x.erases) (segments_bytes x.segments ++ files_bytes x.files) bytes _ _ end refl p0.1 in
+    let p2 = split (segments_bytes x.segments) (files_bytes x.files) bytes _ _ end refl p1.1 in
+    rw (
+      marked_again bytes _ x.certificate fits.certificate p0.0,
+      erases_again bytes _ _ x.erases fits.erases p1.0,
+      segments_again next bytes _ _ x.segments small fits.segments p2.0,
+      files_again next levels bytes _ end x.files small fits.files p2.1,
+    ) refl
 
 -- ---- manifests
 
-abbrev spelled : ℕ → Fields → Counts → ℕ → List ℕ
-spelled own config counts segment = head_bytes own ++ (config_bytes config ++ (spelled_counts counts ++ spelled_parts segment))
+abbrev spelled : ℕ → Fields → Counts → Parts → List ℕ
+spelled own config counts parts = head_bytes own ++ (config_bytes config ++ (spelled_counts counts ++ spelled_parts parts))
 
-made_is : (own : ℕ) (config : Fields) (counts : Counts) (segment : ℕ) → manifest_bytes (made own config counts segment) ≡ spelled own config counts segment
+made_is : (own : ℕ) (config : Fields) (counts : Counts) (parts : Parts) → manifest_bytes (made own config counts parts) ≡ spelled own config counts parts
 unfolding manifest_bytes counts_bytes parts_bytes
-made_is own config counts segment = refl
+made_is own config counts parts = refl
 
 -- what stands in all of the bytes is the bytes
-all_stands : (x bytes : List ℕ) → StandsAt x bytes 0 71 → length bytes ≤ 71 → bytes ≡ x
-all_stands x bytes p few = p.parts ∙ ap (λ (l : List ℕ). x ++ l) (drop_of_length-le bytes few) ∙ append-nil x
+all_stands : (x bytes : List ℕ) (end : ℕ) → StandsAt x bytes 0 end → length bytes ≤ end → bytes ≡ x
+all_stands x bytes end p few = p.parts ∙ ap (λ (l : List ℕ). x ++ l) (drop_of_length-le bytes few) ∙ append-nil x
 
-pub manifest_ok : (bytes : List ℕ) (m : Manifest) → IsBytes bytes → manifest_at bytes ≡ Ok m → HasSpelling m × (bytes ≡ manifest_bytes m)
+manifest_ok : (bytes : List ℕ) (m : Manifest) → IsBytes bytes → manifest_at bytes ≡ Ok m → HasSpelling m × (bytes ≡ manifest_bytes m)
 unfolding manifest_at
 manifest_ok bytes m fits e =
-    let a = bind_ok (head_at bytes) (λ own. config_at bytes >>= λ config. counts_at own bytes >>= λ counts. parts_at counts.next bytes >>= λ segment. cond (ltb 71 (length bytes)) (Err (Trailing 71)) (Ok (made own config counts segment))) m e in
-    let b = bind_ok (config_at bytes) (λ config. counts_at a.0 bytes >>= λ counts. parts_at counts.next bytes >>= λ segment. cond (ltb 71 (length bytes)) (Err (Trailing 71)) (Ok (made a.0 config counts segment))) m a.2 in
-    let c = bind_ok (counts_at a.0 bytes) (λ counts. parts_at counts.next bytes >>= λ segment. cond (ltb 71 (length bytes)) (Err (Trailing 71)) (Ok (made a.0 b.0 counts segment))) m b.2 in
-    let d = bind_ok (parts_at c.0.next bytes) (λ segment. cond (ltb 71 (length bytes)) (Err (Trailing 71)) (Ok (made a.0 b.0 c.0 segment))) m c.2 in
-    let g = past_test (ltb 71 (length bytes)) (Trailing 71) (Ok (made a.0 b.0 c.0 d.0)) m d.2 in
+    let a = bind_ok (head_at bytes) _ m e in
+    let b = bind_ok (config_at bytes) _ m a.2 in
+    let c = bind_ok (counts_at a.0 bytes) _ m b.2 in
+    let d = bind_ok (parts_at c.0.next b.0.levels bytes) _ m c.2 in
+    let read : Manifest = made a.0 b.0 c.0 d.0.0 in
+    let g = past_test (ltb d.0.1 (length bytes)) (Trailing d.0.1) (Ok read) m d.2 in
     let t0 = head_ok bytes a.0 fits a.1 in
     let t1 = config_ok bytes b.0 fits b.1 in
     let t2 = counts_ok a.0 bytes c.0 fits c.1 in
-    let t3 = parts_ok c.0.next bytes d.0 fits d.1 in
-    let s2 = stands_then (spelled_counts c.0) (spelled_parts d.0) bytes 29 53 71 t2.stands t3.0 in
-    let s1 = stands_then (config_bytes b.0) (spelled_counts c.0 ++ spelled_parts d.0) bytes 11 29 71 t1.0 s2 in
-    let s0 = stands_then (head_bytes a.0) (config_bytes b.0 ++ (spelled_counts c.0 ++ spelled_parts d.0)) bytes 0 11 71 t0.0 s1 in
-    let whole = all_stands (spelled a.0 b.0 c.0 d.0) bytes s0 (ltb-false 71 (length bytes) g.0) in
-    let read : Manifest = made a.0 b.0 c.0 d.0 in
-    let has : HasSpelling read = record { no = t2.above; config = t1.1; clock = t2.clock; count = t2.count; next = t2.next; segments = t3.1; certificate = refl; erases = refl; files = refl } in
-    subst (λ (x : Manifest). HasSpelling x × (bytes ≡ manifest_bytes x)) (ok_is read m g.1) (has, whole ∙ sym (made_is a.0 b.0 c.0 d.0))
+    let t3 = parts_ok c.0.next b.0.levels bytes d.0 fits d.1 in
+    let s2 = stands_then _ _ bytes 29 53 d.0.1 t2.stands t3.0 in
+    let s1 = stands_then (config_bytes b.0) _ bytes 11 29 d.0.1 t1.0 s2 in
+    let s0 = stands_then (head_bytes a.0) _ bytes 0 11 d.0.1 t0.0 s1 in
+    let whole : bytes ≡ spelled a.0 b.0 c.0 d.0.0 = all_stands _ bytes d.0.1 s0 (ltb-false d.0.1 (length bytes) g.0) in
+    let has : HasSpelling read = record { no = t2.above; config = t1.1; clock = t2.clock; count = t2.count; next = t2.next; certificate = t3.1.certificate; erases = t3.1.erases; segments = t3.1.segments; files = t3.1.files } in
+    subst (λ (x : Manifest). HasSpelling x × (bytes ≡ manifest_bytes x)) {x = read} (ok_is read m g.1) (has, whole ∙ sym (made_is a.0 b.0 c.0 d.0.0))
 
-made_again : (bytes : List ℕ) (own : ℕ) (config : Fields) (counts : Counts) (segment : ℕ) → IsConfig config → own < counts.next → counts.clock ≤ max_time → counts.count ≤ max_place → counts.next ≤ max_place → segment < counts.next → StandsAt (spelled own config counts segment) bytes 0 71 → length bytes ≡ 71 → manifest_at bytes ≡ Ok (made own config counts segment)
+abbrev counts_of : Manifest → Counts
+counts_of m = record { clock = m.clock; count = m.count; next = m.next }
+
+abbrev parts_of : Manifest → Parts
+parts_of m = record { certificate = m.certificate; erases = m.erases; segments = m.segments; files = m.files }
+
+made_again : (bytes : List ℕ) (end : ℕ) (m : Manifest) → HasSpelling m → StandsAt (spelled m.no m.config (counts_of m) (parts_of m)) bytes 0 end → length bytes ≤ end → manifest_at bytes ≡ Ok m
 unfolding manifest_at head_bytes times_bytes sizes_bytes
-made_again bytes own config counts segment limits above timed counted numbered below p len =
-    let p0 = stands_parts (head_bytes own) (config_bytes config ++ (spelled_counts counts ++ spelled_parts segment)) bytes 0 71 p in
-    let p1 = stands_parts (config_bytes config) (spelled_counts counts ++ spelled_parts segment) bytes 11 71 p0.1 in
-    let p2 = stands_parts (spelled_counts counts) (spelled_parts segment) bytes 29 71 p1.1 in
-    let few : ltb 71 (length bytes) ≡ false = le-ltb 71 (length bytes) (omega (arith, len)) in
-    rw (head_again bytes _ own (omega (arith, above, numbered)) p0.0, config_again bytes _ config limits p1.0, counts_again own bytes _ counts timed counted numbered above p2.0, parts_again counts.next bytes 71 segment numbered below p2.1, few) refl
+made_again bytes end m fits p all =
+    let p0 = split (head_bytes m.no) (config_bytes m.config ++ (spelled_counts (counts_of m) ++ spelled_parts (parts_of m))) bytes 0 11 end refl p in
+    let p1 = split (config_bytes m.config) (spelled_counts (counts_of m) ++ spelled_parts (parts_of m)) bytes 11 29 end refl p0.1 in
+    let p2 = split (spelled_counts (counts_of m)) (spelled_parts (parts_of m)) bytes 29 53 end refl p1.1 in
+    rw (
+      head_again bytes 11 m.no (omega (arith, fits.no, fits.next)) p0.0,
+      config_again bytes 29 m.config fits.config p1.0,
+      counts_again m.no bytes 53 (counts_of m) fits.clock fits.count fits.next fits.no p2.0,
+      parts_again m.next m.config.levels bytes end (parts_of m) fits.next (record { certificate = fits.certificate; erases = fits.erases; segments = fits.segments; files = fits.files }) p2.1,
+      le-ltb end (length bytes) all,
+    ) refl
 
-length_spelled : (own : ℕ) (config : Fields) (counts : Counts) (segment : ℕ) → length (spelled own config counts segment) ≡ 71
-unfolding head_bytes times_bytes sizes_bytes
-length_spelled own config counts segment = refl
+stands_alone : (x : List ℕ) → StandsAt x x 0 (length x)
+stands_alone x =
+    let all : length x ≤ length x = omega arith in
+    record { parts = sym (ap (λ (l : List ℕ). x ++ l) (drop_of_length-le x all) ∙ append-nil x); ends = omega arith; within = all }
 
-stands_alone : (x : List ℕ) → length x ≡ 71 → StandsAt x x 0 71
-stands_alone x len =
-    let few : length x ≤ 71 = omega (arith, len) in
-    record {
-      parts = sym (ap (λ (l : List ℕ). x ++ l) (drop_of_length-le x few) ∙ append-nil x);
-      ends = omega (arith, len);
-      within = omega (arith, len);
-    }
+manifest_again : (m : Manifest) → HasSpelling m → manifest_at (manifest_bytes m) ≡ Ok m
+manifest_again m fits =
+    let bytes : List ℕ = spelled m.no m.config (counts_of m) (parts_of m) in
+    ap manifest_at (made_is m.no m.config (counts_of m) (parts_of m)) ∙ made_again bytes (length bytes) m fits (stands_alone bytes) (omega arith)
+
+pub same_manifest : (a b : Manifest) → HasSpelling a → HasSpelling b → manifest_bytes a ≡ manifest_bytes b → a ≡ b
+same_manifest a b a_fits b_fits e = ok_is a b (sym (manifest_again a a_fits) ∙ ap manifest_at e ∙ manifest_again b b_fits)
+
+-- ---- what a reader gives
 
 abbrev ok_of : Manifest → Result Manifest ManifestRefused
 ok_of m = Ok m
@@ -185,21 +179,6 @@ failed why = Err why
 
 differ : (why : ManifestRefused) (m : Manifest) → failed why ≡ ok_of m → ⊥
 differ why m e = cc
-
-pub manifest_again : (m : Manifest) → HasSpelling m → manifest_at (manifest_bytes m) ≡ Ok m
-manifest_again m fits =
-    let s = shape m fits in
-    let counts : Counts = counts_of m in
-    let bytes : List ℕ = spelled m.no m.config counts s.0 in
-    let len = length_spelled m.no m.config counts s.0 in
-    let bytes_are : manifest_bytes m ≡ bytes = ap manifest_bytes s.2 ∙ made_is m.no m.config counts s.0 in
-    let read = made_again bytes m.no m.config counts s.0 fits.config fits.no fits.clock fits.count fits.next s.1 (stands_alone bytes len) len in
-    ap manifest_at bytes_are ∙ read ∙ ap ok_of (sym s.2)
-
-pub same_manifest : (a b : Manifest) → HasSpelling a → HasSpelling b → manifest_bytes a ≡ manifest_bytes b → a ≡ b
-same_manifest a b a_fits b_fits e = ok_is a b (sym (manifest_again a a_fits) ∙ ap manifest_at e ∙ manifest_again b b_fits)
-
--- ---- what a reader gives
 
 pub found_manifest : (result : Result Manifest ManifestRefused) (bytes : List ℕ) → IsBytes bytes → Gives result (manifest_at bytes) → IfOk result (λ m. HasSpelling m × (bytes ≡ manifest_bytes m))
 found_manifest (Ok m) bytes fits gives = manifest_ok bytes m fits gives

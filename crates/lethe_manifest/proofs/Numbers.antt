@@ -1,19 +1,20 @@
 -- A number that is read in its range stands there, and one that stands there is read.
-use Rattle.std.proofs.Common.{◌≡◌, ℕ, ◌+◌, ◌^◌, ◌<◌, Bool, true, cond, leb, List, [], ◌∷◌, Option, Some, Result, Ok, Err, refl, ap, subst, arith}
+use Rattle.std.proofs.Common.{◌≡◌, ℕ, ◌+◌, ◌^◌, ◌<◌, ◌≤◌, Bool, true, cond, ltb, leb, List, [], ◌∷◌, ◌++◌, length, Option, Some, Result, Ok, Err, refl, ap, subst, arith}
 use Rattle.std.specs.Prelude.{ok_or}
-use Rattle.std.specs.Int.{Width, w8, w32, byte_len, to_be_bytes, is_in_range, IsInRange}
-use Rattle.std.proofs.lemmas.Bool.{and_from, le-leb}
+use Rattle.std.specs.Int.{Width, w8, w32, w64, byte_len, to_be_bytes, is_in_range, IsInRange}
+use Rattle.std.proofs.lemmas.Bool.{and_from, le-leb, lt-ltb, ltb-true}
 use Rattle.std.proofs.lemmas.Nat.{be_bytes_4, from_be_bytes-to_be_bytes_4}
+use Rattle.lethe_base.specs.Limits.{max_place}
 use Rattle.lethe_base.specs.Numbers.{number_at, IsBytes}
 use Rattle.lethe_base.specs.Reading.{StandsAt}
 use Rattle.lethe_base.specs.declared.reading.EntryRefused.TheVariants as entry
-use Rattle.lethe_base.proofs.FieldLaws.{IsWide, number_stands, number_again, byte_stands, first_byte}
+use Rattle.lethe_base.proofs.FieldLaws.{IsWide, wide64, stands_parts, number_stands, number_again, byte_stands, first_byte}
 use Rattle.lethe_base.proofs.Configurations.{in_range}
 use Rattle.lethe_base.specs.Results.{◌>>=◌}
 use Rattle.lethe_base.proofs.ReadingSteps.{bind_ok, met_test, field_ok}
-use Rattle.lethe_manifest.specs.Reading.{number_within}
-use Rattle.lethe_manifest.specs.declared.reading.ManifestRefused.{ManifestRefused}
-use Rattle.lethe_manifest.specs.declared.reading.ManifestRefused.TheVariants.{Short, Kind}
+use Rattle.lethe_manifest.specs.Numbers.{number_within, number_above, cited_at}
+use Rattle.lethe_manifest.specs.declared.refused.ManifestRefused.{ManifestRefused}
+use Rattle.lethe_manifest.specs.declared.refused.ManifestRefused.TheVariants.{Short, Kind, Order}
 
 -- a number that was read and then passed a test
 pub tested_ok : (r : Result ℕ ManifestRefused) (t : ℕ → Bool) (why : ManifestRefused) (n : ℕ) → (r >>= λ k. cond (t k) (Ok k) (Err why)) ≡ Ok n → (r ≡ Ok n) × (t n ≡ true)
@@ -61,3 +62,38 @@ wide32 = record {
   again = λ n lt. from_be_bytes-to_be_bytes_4 n lt;
   below = λ bytes fits. omega (arith, fits 0, fits 1, fits 2, fits 3);
 }
+
+-- ---- fields of eight bytes
+
+-- a text and what stands behind it
+pub split : (x y bytes : List ℕ) (at mid end : ℕ) → at + length x ≡ mid → StandsAt (x ++ y) bytes at end → StandsAt x bytes at mid × StandsAt y bytes mid end
+split x y bytes at mid end is p = subst (λ (n : ℕ). StandsAt x bytes at n × StandsAt y bytes n end) is (stands_parts x y bytes at end p)
+
+pub long_ok : (lo hi : ℕ) (bytes : List ℕ) (at end n : ℕ) → at + 8 ≡ end → IsBytes bytes → number_within w64 lo hi bytes at ≡ Ok n → StandsAt (to_be_bytes w64 n) bytes at end × IsInRange lo hi n
+long_ok lo hi bytes at end n ends fits e =
+    let t = wide_ok w64 (2 ^ 64) wide64 lo hi bytes at n fits e in
+    (subst (λ (e : ℕ). StandsAt (to_be_bytes w64 n) bytes at e) ends t.0, t.1)
+
+pub long_again : (lo hi : ℕ) (bytes : List ℕ) (at end n : ℕ) → hi < 2 ^ 64 → IsInRange lo hi n → StandsAt (to_be_bytes w64 n) bytes at end → number_within w64 lo hi bytes at ≡ Ok n
+long_again lo hi bytes at end n small r p = wide_again w64 (2 ^ 64) wide64 lo hi bytes at end n (omega (arith, r.1)) r p
+
+pub above_ok : (bound lo hi : ℕ) (bytes : List ℕ) (at end n : ℕ) → at + 8 ≡ end → IsBytes bytes → number_above bound lo hi bytes at ≡ Ok n → StandsAt (to_be_bytes w64 n) bytes at end × IsInRange lo hi n × (bound < n)
+unfolding number_above
+above_ok bound lo hi bytes at end n ends fits e =
+    let b = tested_ok (number_within w64 lo hi bytes at) (λ n. ltb bound n) (Order at) n e in
+    let t = long_ok lo hi bytes at end n ends fits b.0 in
+    (t.0, t.1, ltb-true bound n b.1)
+
+pub above_again : (bound lo hi : ℕ) (bytes : List ℕ) (at end n : ℕ) → hi < 2 ^ 64 → IsInRange lo hi n → bound < n → StandsAt (to_be_bytes w64 n) bytes at end → number_above bound lo hi bytes at ≡ Ok n
+unfolding number_above
+above_again bound lo hi bytes at end n small r above p = rw (long_again lo hi bytes at end n small r p, lt-ltb bound n above) refl
+
+pub cited_ok : (next : ℕ) (bytes : List ℕ) (at end n : ℕ) → at + 8 ≡ end → IsBytes bytes → cited_at next bytes at ≡ Ok n → StandsAt (to_be_bytes w64 n) bytes at end × (n < next)
+unfolding cited_at
+cited_ok next bytes at end n ends fits e =
+    let b = tested_ok (number_within w64 0 max_place bytes at) (λ n. ltb n next) (Order at) n e in
+    ((long_ok 0 max_place bytes at end n ends fits b.0).0, ltb-true n next b.1)
+
+pub cited_again : (next : ℕ) (bytes : List ℕ) (at end n : ℕ) → next ≤ max_place → n < next → StandsAt (to_be_bytes w64 n) bytes at end → cited_at next bytes at ≡ Ok n
+unfolding cited_at
+cited_again next bytes at end n fits below p = rw (long_again 0 max_place bytes at end n (omega arith) (omega arith, omega (arith, fits, below)) p, lt-ltb n next below) refl

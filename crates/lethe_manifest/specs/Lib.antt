@@ -1,2 +1,4 @@
 pub mod Manifests
+pub mod Numbers
+pub mod Parts
 pub mod Reading

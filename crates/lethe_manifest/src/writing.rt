@@ -1,10 +1,10 @@
 //! Writing a manifest.
-ghost use Rattle.std.specs.Prelude.{◌≡◌, ◌++◌, IfOk, OnOk};
+ghost use Rattle.std.specs.Prelude.{◌≡◌, ◌<◌, ◌≤◌, ◌^◌, ◌++◌, length, All, IfOk, OnOk};
 ghost use Rattle.lethe_base.specs.Configuration.{IsConfig};
-ghost use Rattle.lethe_manifest.specs.Manifests.{manifest_bytes, head_bytes, times_bytes, sizes_bytes, counts_bytes, parts_bytes, HasSpelling};
+ghost use Rattle.lethe_manifest.specs.Manifests.{manifest_bytes, head_bytes, times_bytes, sizes_bytes, counts_bytes, cert_bytes, certificate_bytes, erase_bytes, erases_bytes, segments_bytes, file_bytes, files_bytes, parts_bytes, HasSpelling, HasLowLevel};
 
-use crate::Manifest;
-use lethe_base::{Fields, NoMemory, Pick};
+use crate::{Cited, LastCert, Manifest};
+use lethe_base::{Fields, NoMemory, Pending, Pick};
 use std::alloc::Global;
 
 /// The manifest's one spelling.
@@ -67,13 +67,95 @@ fn write_counts(out: &mut Vec<u8>, manifest: &Manifest) -> Result<(), NoMemory>
     Ok(())
 }
 
-// No certificate, no erase, one segment and no file.
+// The certificate, and each list behind its length.
+#[tactic(auto, unfolding(crate::specs::Manifests::parts_bytes))]
 fn write_parts(out: &mut Vec<u8>, manifest: &Manifest) -> Result<(), NoMemory>
     requires { HasSpelling manifest.now }
     ensures { OnOk result (out.new.items ≡ out.old.items ++ parts_bytes manifest.now) }
 {
-    out.extend_from_slice(&[0, 0, 0, 0, 0, 1])?;
-    out.extend_from_slice(&manifest.segments.items()[0].to_be_bytes())?;
-    out.extend_from_slice(&[0; 4])?;
+    write_certificate(out, &manifest.certificate)?;
+    write_erases(out, manifest.erases.items())?;
+    write_segments(out, manifest.segments.items())?;
+    write_files(out, manifest.files.items())?;
+    Ok(())
+}
+
+fn write_certificate(out: &mut Vec<u8>, certificate: &Option<LastCert>) -> Result<(), NoMemory>
+    ensures { OnOk result (out.new.items ≡ out.old.items ++ certificate_bytes certificate.now) }
+{
+    match certificate {
+        None => out.push(0)?,
+        Some(cert) => {
+            out.push(1)?;
+            write_cert(out, cert)?;
+        }
+    }
+    Ok(())
+}
+
+#[tactic(auto, unfolding(crate::specs::Manifests::cert_bytes))]
+fn write_cert(out: &mut Vec<u8>, cert: &LastCert) -> Result<(), NoMemory>
+    ensures { OnOk result (out.new.items ≡ out.old.items ++ cert_bytes cert.now) }
+{
+    out.extend_from_slice(&cert.number.to_be_bytes())?;
+    out.extend_from_slice(&cert.clock.to_be_bytes())?;
+    out.extend_from_slice(&cert.before.to_be_bytes())?;
+    Ok(())
+}
+
+fn write_erases(out: &mut Vec<u8>, erases: &[Pending]) -> Result<(), NoMemory>
+    requires { length erases.now < 2 ^ 32 }
+    ensures { OnOk result (out.new.items ≡ out.old.items ++ erases_bytes erases.now) }
+{
+    out.extend_from_slice(&(erases.len() as u32).to_be_bytes())?;
+    for erase in erases {
+        write_erase(out, erase)?;
+    }
+    Ok(())
+}
+
+#[tactic(auto, unfolding(crate::specs::Manifests::erase_bytes))]
+fn write_erase(out: &mut Vec<u8>, erase: &Pending) -> Result<(), NoMemory>
+    ensures { OnOk result (out.new.items ≡ out.old.items ++ erase_bytes erase.now) }
+{
+    out.extend_from_slice(&erase.seq.to_be_bytes())?;
+    out.extend_from_slice(&erase.time.to_be_bytes())?;
+    out.extend_from_slice(&erase.range.lo().to_be_bytes())?;
+    out.extend_from_slice(&erase.range.hi().to_be_bytes())?;
+    Ok(())
+}
+
+fn write_segments(out: &mut Vec<u8>, segments: &[u64]) -> Result<(), NoMemory>
+    requires { length segments.now ≤ 2 }
+    ensures { OnOk result (out.new.items ≡ out.old.items ++ segments_bytes segments.now) }
+{
+    out.push(segments.len() as u8)?;
+    for segment in segments {
+        out.extend_from_slice(&segment.to_be_bytes())?;
+    }
+    Ok(())
+}
+
+fn write_files(out: &mut Vec<u8>, files: &[Cited]) -> Result<(), NoMemory>
+    requires few { length files.now < 2 ^ 32 }
+    requires levels { All HasLowLevel files.now }
+    ensures { OnOk result (out.new.items ≡ out.old.items ++ files_bytes files.now) }
+{
+    out.extend_from_slice(&(files.len() as u32).to_be_bytes())?;
+    for file in files {
+        write_file(out, file)?;
+    }
+    Ok(())
+}
+
+#[tactic(auto, unfolding(crate::specs::Manifests::file_bytes))]
+fn write_file(out: &mut Vec<u8>, file: &Cited) -> Result<(), NoMemory>
+    requires { HasLowLevel file.now }
+    ensures { OnOk result (out.new.items ≡ out.old.items ++ file_bytes file.now) }
+{
+    out.push(file.level as u8)?;
+    out.extend_from_slice(&file.no.to_be_bytes())?;
+    out.extend_from_slice(&file.swept.to_be_bytes())?;
+    out.extend_from_slice(&file.digest)?;
     Ok(())
 }

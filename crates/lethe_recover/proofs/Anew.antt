@@ -14,6 +14,7 @@ use Rattle.lethe_segment.specs.Segments.{head_bytes, open_records, segment_bytes
 use Rattle.lethe_segment.proofs.Runs.{holds_spelling}
 use Rattle.lethe_manifest.specs.Manifests.{HasSpelling, manifest_bytes}
 use Rattle.lethe_manifest.specs.declared.manifest.Manifest.{Manifest}
+use Rattle.lethe_manifest.proofs.Journals.{none_erased, one_segment, none_filed}
 use Rattle.lethe_commit.specs.Clear.{ArePresent, IsCleared, remove_all}
 use Rattle.lethe_commit.specs.Gates.{gate_name}
 use Rattle.lethe_commit.specs.Switch.{manifest_name, HasGreatest, IsFree, HasNew, IsSwitched, older_names, placed, switched}
@@ -50,10 +51,10 @@ successor_spelled m count spelled room few = record {
   clock = spelled.clock;
   count = few;
   next = room;
-  segments = omega arith;
-  certificate = refl;
-  erases = refl;
-  files = refl;
+  certificate = tt;
+  erases = none_erased;
+  segments = one_segment (m.next + 2) m.next (omega arith);
+  files = none_filed (m.next + 2) m.config.levels;
 }
 
 module _ (s : Stored) (count : ℕ) (stored : IsStored s) (room : s.manifest.next + 2 ≤ max_place) (few : count ≤ max_place) where
@@ -62,19 +63,22 @@ module _ (s : Stored) (count : ℕ) (stored : IsStored s) (room : s.manifest.nex
 
   pub rewritten_stored : IsStored t
   rewritten_stored = record {
-    spelled = successor_spelled s.manifest count stored.spelled room few;
-    cites = refl;
-    once = pairs_of_one (s.manifest.next ∷ []) s.manifest.next refl;
-    active = stored.active;
-    frozen = tt;
-    files = refl;
-    each = All-nil (IsFile t.manifest.next);
-    files_once = no_pairs (λ (a b : StoredFile). a.header.no ≢ b.header.no);
-    pages_once = no_pairs (λ (a b : PageLine). a.no ≢ b.no);
+    coherent = record {
+      spelled = successor_spelled s.manifest count stored.coherent.spelled room few;
+      cites = refl;
+      once = pairs_of_one (s.manifest.next ∷ []) s.manifest.next refl;
+      active = stored.coherent.active;
+      frozen = tt;
+      files = refl;
+      each = All-nil (IsFile t.manifest.next);
+      files_once = no_pairs (λ (a b : StoredFile). a.header.no ≢ b.header.no);
+      pages_once = no_pairs (λ (a b : PageLine). a.no ≢ b.no);
+    };
+    journal = record { one = refl; certificate = refl; erases = refl; files = refl };
   }
 
   old_below : s.active.no < s.manifest.next
-  old_below = part_below s (segment_name s.active.no) stored (active_part s)
+  old_below = part_below s (segment_name s.active.no) stored.coherent (active_part s)
 
   -- a name from the next number on isn't there
   pub fresh_absent : (d : Directory) → HasOnly s d → (name : Name) → s.manifest.next ≤ name.no → name.kind ≢ kinds.Gate → object d name ≡ None
@@ -104,19 +108,19 @@ module _ (s : Stored) (count : ℕ) (stored : IsStored s) (room : s.manifest.nex
     free disk synced is = record {
       no_manifest = λ c here. ap (λ x. object x (manifest_name t.manifest.no)) (synced c here ∙ is) ∙ beside_new (manifest_name t.manifest.no) (manifest≢segment t.manifest.no s.manifest.next)
           ∙ fresh_absent d only (manifest_name t.manifest.no) (omega arith) (λ k. let clash : kinds.Manifest ≡ kinds.Gate = k in cc);
-      no_gate = λ c here other above. ap (λ x. object x (gate_name other)) (synced c here ∙ is) ∙ still.greatest.1 other (let own = stored.spelled.no in omega (arith, own, above));
+      no_gate = λ c here other above. ap (λ x. object x (gate_name other)) (synced c here ∙ is) ∙ still.greatest.1 other (let own = stored.coherent.spelled.no in omega (arith, own, above));
       greatest_gate = λ c here. subst (HasGreatest (Some s.manifest.no)) (sym (synced c here ∙ is)) still.greatest;
     }
 
     -- what a switch from it leaves
     pub switch_left : (c : Directory) → IsSwitched t.manifest.no (manifest_bytes t.manifest) (Some s.manifest.no) placed_d c → Encodes c s ⊎ Encodes c t
-    switch_left c left = switch_encodes s t placed_d c still new_parts (let own = stored.spelled.no in omega (arith, own)) left
+    switch_left c left = switch_encodes s t placed_d c still new_parts (let own = stored.coherent.spelled.no in omega (arith, own)) left
 
     -- and what it leaves where the new gate is there
     pub switch_new : (c : Directory) → IsSwitched t.manifest.no (manifest_bytes t.manifest) (Some s.manifest.no) placed_d c → HasNew t.manifest.no (manifest_bytes t.manifest) c → Encodes c t
     switch_new c (inl un) new = absurd (true≢false (sym new.greatest_gate.0 ∙ ap is_some un.no_gate))
     switch_new c (inr is) new = elim (switch_left c (inr is)) [
-      | inl old ↦ absurd (true≢false (sym new.greatest_gate.0 ∙ ap is_some (old.greatest.1 t.manifest.no (let own = stored.spelled.no in omega (arith, own)))))
+      | inl old ↦ absurd (true≢false (sym new.greatest_gate.0 ∙ ap is_some (old.greatest.1 t.manifest.no (let own = stored.coherent.spelled.no in omega (arith, own)))))
       | inr made ↦ made
     ]
 

@@ -55,7 +55,7 @@ cleared_none names d c none cleared k = elim (cleared.either (gate_name k)) [
 -- The new store
 
 pub first_spelled : (config : Fields) → IsConfig config → HasSpelling (first_manifest config)
-first_spelled config limits = (empty_is_stored config 2 3 1 limits (omega arith) (omega arith) (omega arith)).spelled
+first_spelled config limits = (empty_is_stored config 2 3 1 limits (omega arith) (omega arith) (omega arith)).coherent.spelled
 
 module _ (config : Fields) (limits : IsConfig config) where
   abbrev pub t : Stored

@@ -42,7 +42,7 @@ encoded_undamaged config d s name stored e (inl bad) = gated_undamaged d s.manif
 encoded_undamaged config d s name stored e (inr bad) =
     let same : bad.manifest ≡ s.manifest = one_gated d bad.manifest s.manifest bad.gated (encodes_gated d s stored e) in
     let number : s.active.no ≡ bad.number = one_in s.active.no bad.number (subst (λ l. Contains l bad.number) (ap (λ (m : Manifest). m.segments) same ∙ one_cited s stored) bad.cited) in
-    bad.damaged s.active.records stored.active (subst (λ n. HasRecords (segment_name n) n s.active.records d) number e.parts.active)
+    bad.damaged s.active.records stored.coherent.active (subst (λ n. HasRecords (segment_name n) n s.active.records d) number e.parts.active)
 
 -- The three answers
 
@@ -53,7 +53,7 @@ module _ (config : Fields) (d : Directory) (before now : ℕ) (result : Result R
     where
       by : (r : Result Recovered RecoverRefused) → IfOk r (IsLoaded config d) → IfErr r (MayRefuse Tells config d before now) → MatchResult r (λ read. read ≡ recovered_of s) (IsInterrupted before now)
       by (Ok read) (inl none) fails = absurd (none_or_some d s.manifest.no none.0 e.greatest)
-      by (Ok read) (inr is) fails = is.all ∙ ap recovered_of (one_stored d is.s s is.stored stored is.encodes e)
+      by (Ok read) (inr is) fails = is.all ∙ ap recovered_of (one_stored d is.s s is.stored.coherent stored.coherent is.encodes e)
       by (Err (Damaged name)) ok fails = encoded_undamaged config d s name stored e (fails told)
       by (Err (Fault a b)) ok fails = fails
       by (Err NoMemory) ok fails = tt
@@ -80,7 +80,7 @@ module _ (config : Fields) (d : Directory) (before now : ℕ) (result : Result R
   one_damaged a b (inr x) (inl y) = absurd (gated_undamaged d x.manifest b x.gated y)
   one_damaged a b (inr x) (inr y) =
       let k = get_or x.manifest.segments 0 0 in
-      let one : x.manifest.segments ≡ k ∷ [] = one_segment x.manifest.next x.manifest.segments x.gated.is.spelled.segments in
+      let one : x.manifest.segments ≡ k ∷ [] = one_segment x.manifest.segments x.gated.is.journal.one in
       let first : k ≡ x.number = one_in k x.number (subst (λ l. Contains l x.number) one x.cited) in
       let same : y.manifest ≡ x.manifest = one_gated d y.manifest x.manifest y.gated x.gated in
       let second : k ≡ y.number = one_in k y.number (subst (λ l. Contains l y.number) (ap (λ (m : Manifest). m.segments) same ∙ one) y.cited) in

@@ -17,4 +17,4 @@ pub one_gated : (d : Directory) (m n : Manifest) → IsGated d m → IsGated d n
 one_gated d m n x y = one_spelled d m.no m n x.is (subst (λ k. IsSpelled d k n) (sym (one_greatest d m.no n.no x.greatest y.greatest)) y.is)
 
 pub encodes_gated : (d : Directory) (s : Stored) → IsStored s → Encodes d s → IsGated d s.manifest
-encodes_gated d s stored e = record { greatest = e.greatest; is = record { spelled = stored.spelled; own = refl; there = e.manifest } }
+encodes_gated d s stored e = record { greatest = e.greatest; is = record { spelled = stored.coherent.spelled; journal = stored.journal; own = refl; there = e.manifest } }

@@ -1,5 +1,5 @@
 -- What is read where the greatest gate commits something, and why it isn't.
-use Rattle.std.proofs.Common.{◌≡◌, ◌≢◌, ℕ, List, [], ◌∷◌, get_or, Some, None, Result, Ok, Err, refl, sym, subst, inr, arith}
+use Rattle.std.proofs.Common.{◌≡◌, ◌≢◌, ℕ, List, [], ◌∷◌, length, get_or, Some, None, Result, Ok, Err, refl, sym, subst, inr, arith}
 use Rattle.std.specs.Prelude.{Contains, IsErrAnd, IfErr}
 use Rattle.std.specs.FinMap.{keys}
 use Rattle.lethe_base.specs.declared.config.Fields.{Fields}
@@ -8,7 +8,7 @@ use Rattle.lethe_disk.specs.Directory.{Directory, object}
 use Rattle.lethe_disk.proofs.Objects.{absent_of}
 use Rattle.lethe_segment.specs.declared.record.Record.{Record}
 use Rattle.lethe_manifest.specs.declared.manifest.Manifest.{Manifest}
-use Rattle.lethe_manifest.specs.Manifests.{HasSpelling, IsOneBelow}
+use Rattle.lethe_manifest.specs.Manifests.{HasSpelling}
 use Rattle.lethe_commit.specs.Gates.{gate_name, HasNoGate, IsGreatestGate}
 use Rattle.lethe_commit.specs.Switch.{HasGreatest}
 use Rattle.lethe_commit.proofs.Listed.{listed}
@@ -42,10 +42,10 @@ greatest_of names d number is greatest = (
 
 -- The one segment
 
-pub one_segment : (next : ℕ) (segments : List ℕ) → IsOneBelow next segments → segments ≡ get_or segments 0 0 ∷ []
-one_segment next [] is = absurd is
-one_segment next (k ∷ []) is = refl
-one_segment next (a ∷ b ∷ rest) is = absurd is
+pub one_segment : (segments : List ℕ) → length segments ≡ 1 → segments ≡ get_or segments 0 0 ∷ []
+one_segment [] is = absurd (omega (arith, is))
+one_segment (k ∷ []) is = refl
+one_segment (a ∷ b ∷ rest) is = absurd (omega (arith, is))
 
 pub contains_one : (segments : List ℕ) (k : ℕ) → segments ≡ k ∷ [] → Contains segments k
 contains_one segments k is = subst (λ l. Contains l k) (sym is) (0, omega arith, refl)
@@ -83,15 +83,18 @@ is_read config d mid number m k records read greatest spelled is same one mid_is
     record {
       s = record { manifest = m; frozen = None; active = record { no = k; records = records }; files = [] };
       stored = record {
-        spelled = spelled;
-        cites = one;
-        once = pairs_of_one m.segments k one;
-        active = replayed.0;
-        frozen = tt;
-        files = spelled.files;
-        each = All-nil (IsFile m.next);
-        files_once = no_pairs (λ (a b : StoredFile). a.header.no ≢ b.header.no);
-        pages_once = no_pairs (λ (a b : PageLine). a.no ≢ b.no);
+        coherent = record {
+          spelled = spelled;
+          cites = one;
+          once = pairs_of_one m.segments k one;
+          active = replayed.0;
+          frozen = tt;
+          files = is.journal.files;
+          each = All-nil (IsFile m.next);
+          files_once = no_pairs (λ (a b : StoredFile). a.header.no ≢ b.header.no);
+          pages_once = no_pairs (λ (a b : PageLine). a.no ≢ b.no);
+        };
+        journal = is.journal;
       };
       encodes = record {
         greatest = gated.greatest;

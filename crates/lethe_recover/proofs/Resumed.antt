@@ -84,7 +84,7 @@ same_may Tells config d e before now same NoMemory may = tt
 
 pub ends_of : (disk : Seen) (s : Stored) (opened : Opened) → IsThere disk s opened → EndsAt disk (segment_name s.active.no) s.active.no s.active.records opened.end
 ends_of disk s opened there = record {
-  ascends = there.settled.stored.active;
+  ascends = there.settled.stored.coherent.active;
   spelled = λ c here. ap (λ x. object x (segment_name s.active.no)) (there.settled.synced c here) ∙ there.whole;
   place = there.told.end;
 }
@@ -93,7 +93,7 @@ ends_of disk s opened there = record {
 
 module _ (config : Fields) (stored : IsStored (new_stored config)) where
   pub new_stands : IsFor [] (new_stored config)
-  new_stands = empty_stands config 2 3 1 stored.spelled.config (omega arith) (omega arith)
+  new_stands = empty_stands config 2 3 1 stored.coherent.spelled.config (omega arith) (omega arith)
 
   pub new_kept : (c : Directory) → HasGreatest None c ⊎ Encodes c (new_stored config) → IsKept c []
   new_kept c (inl none) = inl (none, refl)
@@ -115,7 +115,7 @@ kept_of_none d h none (inr k) = absurd (none_or_some d k.s.manifest.no none k.en
 
 pub kept_for : (d : Directory) (h : History) (s : Stored) → IsStored s → Encodes d s → IsKept d h → IsFor h s
 kept_for d h s stored e (inl k) = absurd (none_or_some d s.manifest.no k.0 e.greatest)
-kept_for d h s stored e (inr k) = subst (IsFor h) (one_stored d k.s s k.stored stored k.encodes e) k.stands
+kept_for d h s stored e (inr k) = subst (IsFor h) (one_stored d k.s s k.stored.coherent stored.coherent k.encodes e) k.stands
 
 pub old_kept : (h : History) (s : Stored) → IsStored s → IsFor h s → (c : Directory) → Encodes c s → IsKept c h
 old_kept h s stored stands c e = inr (record { s = s; stored = stored; encodes = e; stands = stands })

@@ -48,8 +48,8 @@ count_is s m records stored same held =
 pub count_fits : (s : Stored) → IsStored s → count_of s ≤ max_place
 count_fits s stored =
     let is = count_is s s.manifest s.active.records stored refl refl in
-    let last = last_fits 0 s.active.records stored.active (omega arith) in
-    let counted = stored.spelled.count in
+    let last = last_fits 0 s.active.records stored.coherent.active (omega arith) in
+    let counted = stored.coherent.spelled.count in
     omega (arith, is, last, counted)
 
 pub count_rewritten : (s : Stored) → IsStored s → count_of (rewritten s (count_of s)) ≡ count_of s
@@ -63,8 +63,8 @@ module _ (s : Stored) (stored : IsStored s) where
 
   layout_rewritten : layout_of t ≡ record (layout_of s) { count = count_of t; next = s.manifest.next + 2 }
   layout_rewritten =
-      let certificate = sym stored.spelled.certificate in
-      let erases = sym stored.spelled.erases in
+      let certificate = sym stored.journal.certificate in
+      let erases = sym stored.journal.erases in
       let frozen = sym (none_frozen s stored) in
       let filed = sym (none_filed s stored) in
       (λ i. record {
@@ -86,5 +86,5 @@ module _ (s : Stored) (stored : IsStored s) where
     shape = subst (λ l. IsValidShape (shape_of l)) (sym layout_rewritten) stands.shape;
     clock = stands.clock;
     count = count_rewritten s stored ∙ stands.count;
-    certificate = sym (ap certificate_number stored.spelled.certificate) ∙ stands.certificate;
+    certificate = sym (ap certificate_number stored.journal.certificate) ∙ stands.certificate;
   }

@@ -15,7 +15,7 @@ use Rattle.lethe_commit.specs.Switch.{manifest_name, HasGreatest}
 use Rattle.lethe_recover.specs.declared.recovered.Recovered.{Recovered}
 use Rattle.lethe_recover.specs.declared.refused.RecoverRefused.{RecoverRefused}
 use Rattle.lethe_recover.specs.declared.refused.RecoverRefused.TheVariants.{Damaged, Fault, NoMemory, OtherConfig}
-use Rattle.lethe_stored.specs.Stored.{Stored, IsStored, segments_of, segment_name}
+use Rattle.lethe_stored.specs.Stored.{Stored, IsStored, IsJournalOnly, segments_of, segment_name}
 use Rattle.lethe_stored.specs.Encodes.{Encodes}
 
 -- nothing is there
@@ -28,7 +28,7 @@ recovered_of s = record { manifest = Some s.manifest; segments = map (λ segment
 
 -- nothing, or a manifest with the records of its one segment, each of which has a spelling
 abbrev pub IsSpelledOut : Recovered → Type 0
-IsSpelledOut read = (read ≡ nothing) ⊎ ((m : Manifest) × (records : List Record) × (read ≡ record { manifest = Some m; segments = records ∷ [] }) × HasSpelling m × Ascends 0 records)
+IsSpelledOut read = (read ≡ nothing) ⊎ ((m : Manifest) × (records : List Record) × (read ≡ record { manifest = Some m; segments = records ∷ [] }) × HasSpelling m × IsJournalOnly m × Ascends 0 records)
 
 -- the directory encodes what was read, of this configuration
 pub record IsRead (config : Fields) (d : Directory) (read : Recovered) : Type 0 where
@@ -42,9 +42,10 @@ pub record IsRead (config : Fields) (d : Directory) (read : Recovered) : Type 0 
 abbrev pub IsLoaded : Fields → Directory → Recovered → Type 0
 IsLoaded config d read = (HasGreatest None d × (read ≡ nothing)) ⊎ IsRead config d read
 
--- the manifest of this number is spelled there
+-- the manifest of this number, of a journal alone, is spelled there
 pub record IsSpelled (d : Directory) (number : ℕ) (m : Manifest) : Type 0 where
   pub spelled : HasSpelling m
+  pub journal : IsJournalOnly m
   pub own : m.no ≡ number
   pub there : object d (manifest_name number) ≡ Some (manifest_bytes m)
 
@@ -55,7 +56,7 @@ pub record IsGated (d : Directory) (m : Manifest) : Type 0 where
 
 -- Damage
 
--- the greatest gate names a manifest that is missing, or isn't spelled there under its number
+-- the greatest gate names a manifest that is missing, or isn't spelled there under its number, or has more than a journal
 pub record IsDamagedManifest (d : Directory) (name : Name) : Type 0 where
   pub number : ℕ
   pub greatest : HasGreatest (Some number) d

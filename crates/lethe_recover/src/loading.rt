@@ -8,7 +8,7 @@ ghost use Rattle.lethe_manifest.specs.Manifests.{HasSpelling};
 ghost use Rattle.lethe_segment.specs.Segments.{Ascends};
 ghost use Rattle.lethe_commit.specs.Switch.{HasGreatest};
 ghost use Rattle.lethe_recover.specs.declared.refused.RecoverRefused.{RecoverRefused};
-ghost use Rattle.lethe_stored.specs.Stored.{Stored, IsStored};
+ghost use Rattle.lethe_stored.specs.Stored.{Stored, IsStored, IsJournalOnly};
 ghost use Rattle.lethe_stored.specs.Encodes.{Encodes};
 ghost use Rattle.lethe_recover.specs.Loaded.{nothing, recovered_of, IsLoaded, IsRead, IsSpelled, IsSpelledOut, HasReason, IsInterrupted, MayRefuse, MayFail, IsMissing, IsUnspelled, IsReplayed, IsUnreplayed, refusal_of};
 ghost use Rattle.lethe_disk.specs.Quiet.{IsQuiet};
@@ -130,6 +130,7 @@ fn load_manifest<D: Disk>(
     requires before { before ≤ D.faults disk.old }
     requires listed { D.tells → names.now ≡ keys (D.seen disk.old).directory }
     ensures spelled { IfOk result HasSpelling }
+    ensures journal { IfOk result IsJournalOnly }
     ensures found { D.tells → IfOk result (IsSpelled (D.seen disk.old).directory number) }
     ensures refused { IfErr result (MayFail D.tells (IsUnspelled (D.seen disk.old).directory number) before (D.faults disk.new)) }
     ensures quiet { D.tells → IsQuiet (D.seen disk.old) (D.seen disk.new) }
@@ -141,10 +142,20 @@ fn load_manifest<D: Disk>(
     };
     let bytes = read_object(alloc, disk, before, names, name)?;
     match read_manifest(alloc, &bytes) {
-        Ok(manifest) if manifest.no == number => Ok(manifest),
+        Ok(manifest) if manifest.no == number && is_journal_only(&manifest) => Ok(manifest),
         Err(ManifestRefused::NoMemory) => Err(RecoverRefused::NoMemory),
         _ => Err(RecoverRefused::Damaged { name }),
     }
+}
+
+// Whether the journal is all that the manifest has.
+fn is_journal_only(manifest: &Manifest) -> bool
+    ensures { IsTrue result ↔ IsJournalOnly manifest.now }
+{
+    manifest.segments.items().len() == 1
+        && manifest.certificate.is_none()
+        && manifest.erases.items().is_empty()
+        && manifest.files.items().is_empty()
 }
 
 fn load_segment<D: Disk>(

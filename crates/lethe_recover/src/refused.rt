@@ -8,8 +8,8 @@ use std::alloc::AllocFailed;
 /// Why a disk couldn't be read.
 #[derive(Clone, Copy, Debug, PartialEq, Eq)]
 pub enum RecoverRefused {
-    /// The manifest of the greatest gate, or a segment that it cites, is missing, isn't spelled as one, or is another's. This is the
-    /// first such object, in that order.
+    /// The manifest of the greatest gate, or a segment that it cites, is missing, isn't spelled as one, or is another's, or the
+    /// manifest has more than a journal of one segment, which no store has yet. This is the first such object, in that order.
     Damaged { name: Name },
     /// The disk failed, and its count of faults went from `before` to `after`.
     Fault { before: u64, after: u64 },

@@ -11,6 +11,10 @@ use std::test::Fail;
 const MANIFEST: [u8; 71] =
     *b"LM\x01\0\0\0\0\0\0\0\x02\0\0\0\0\0\0\0\x64\x02\x02\0\x02\x02\0\x02\0\x04\0\0\0\0\0\0\0\0\0\0\0\0\0\0\0\0\0\0\0\0\0\0\0\0\x03\0\0\0\0\0\x01\0\0\0\0\0\0\0\x01\0\0\0\0";
 
+/// The same manifest, which cites segment 0 too. It is spelled so, but none has two segments yet.
+const TWO_SEGMENTS: [u8; 79] =
+    *b"LM\x01\0\0\0\0\0\0\0\x02\0\0\0\0\0\0\0\x64\x02\x02\0\x02\x02\0\x02\0\x04\0\0\0\0\0\0\0\0\0\0\0\0\0\0\0\0\0\0\0\0\0\0\0\0\x03\0\0\0\0\0\x02\0\0\0\0\0\0\0\0\0\0\0\0\0\0\0\x01\0\0\0\0";
+
 /// Segment 1 with one put.
 const SEGMENT: [u8; 36] =
     *b"LS\x01\0\0\0\0\0\0\0\x01\x01\x01\0\0\0\0\0\0\0\x01\0\x01a\0\0\0\0\0\0\0\x05\0\x01x\0";
@@ -147,6 +151,13 @@ fn the_greatest_gate_tells_what_is_loaded(rt: HostRuntime) -> Result<(), Fail> {
         (
             Parts {
                 manifest: Some(b"LM\x01"),
+                ..WHOLE
+            },
+            damaged(Kind::Manifest, 2),
+        ),
+        (
+            Parts {
+                manifest: Some(&TWO_SEGMENTS),
                 ..WHOLE
             },
             damaged(Kind::Manifest, 2),

@@ -32,7 +32,7 @@ use Rattle.lethe_cover.specs.Steps.{IsCounted, next_place, with_done, recorded, 
 use Rattle.lethe_cover.proofs.Records.{buffer_keyed}
 use Rattle.lethe_cover.proofs.Entered.{put_covers, delete_covers}
 use Rattle.lethe_cover.proofs.Unentered.{blind_covers}
-use Rattle.lethe_stored.specs.Stored.{Stored, IsStored, records_in, records_of, plain, erase_of, in_order, pending_of, layout_of, count_of, appended}
+use Rattle.lethe_stored.specs.Stored.{Stored, IsCoherent, IsStored, records_in, records_of, plain, erase_of, in_order, pending_of, layout_of, count_of, appended}
 use Rattle.lethe_stored.specs.Kept.{IsFor, certifies, certificates}
 use Rattle.lethe_stored.proofs.Numbered.{covers_numbered}
 use Rattle.lethe_stored.proofs.Meanings.{plain_place, frozen_are}
@@ -78,7 +78,7 @@ spelled_in last (first ∷ records) entry up there = elim (first_or_rest (plain 
 
 -- What is counted
 
-module _ (h : History) (s : Stored) (stored : IsStored s) (stands : IsFor h s) where
+module _ (h : History) (s : Stored) (coherent : IsCoherent s) (stands : IsFor h s) where
   abbrev pub l : Layout
   l = layout_of s
 
@@ -95,8 +95,8 @@ module _ (h : History) (s : Stored) (stored : IsStored s) (stands : IsFor h s) w
   counted = record {
     count = stands.count;
     places = λ r is. elim is [
-      | inl active ↦ let within = place_within 0 s.active.records r stored.active active in omega (arith, within, last_within)
-      | inr older ↦ let within = place_within 0 (records_in s.frozen) r stored.frozen (subst (λ rs. Contains rs r) (frozen_are s) older) in omega (arith, within, frozen_within)
+      | inl active ↦ let within = place_within 0 s.active.records r coherent.active active in omega (arith, within, last_within)
+      | inr older ↦ let within = place_within 0 (records_in s.frozen) r coherent.frozen (subst (λ rs. Contains rs r) (frozen_are s) older) in omega (arith, within, frozen_within)
     ];
   }
 
@@ -106,7 +106,7 @@ module _ (h : History) (s : Stored) (stored : IsStored s) (stands : IsFor h s) w
     where
       by : (o : Option Entry) → finmap.get (buffer_of l.active) key ≡ o → IsTimeOrNone (option_and_then (λ entry. entry.since) o)
       by None is = tt
-      by (Some entry) is = (spelled_in 0 s.active.records entry stored.active (buffer_recorded l.active entry (subst (λ k. finmap.get (buffer_of l.active) k ≡ Some entry) (sym (buffer_keyed l.active key entry is)) is))).front.time
+      by (Some entry) is = (spelled_in 0 s.active.records entry coherent.active (buffer_recorded l.active entry (subst (λ k. finmap.get (buffer_of l.active) k ≡ Some entry) (sym (buffer_keyed l.active key entry is)) is))).front.time
 
 -- The layout with a record more
 
@@ -128,15 +128,15 @@ certificates_push threshold h change no_more = fold-append count 0 h (change ∷
 
 -- A change that doesn't move the clock
 
-module _ (h : History) (s : Stored) (stored : IsStored s) (stands : IsFor h s) (caller : ℕ) (call : Call) (r : Record) where
+module _ (h : History) (s : Stored) (coherent : IsCoherent s) (stands : IsFor h s) (caller : ℕ) (call : Call) (r : Record) where
   pub recorded_for : length h < max_place → erase_of r ≡ None → record_seq r ≡ next_place h → (done call (after h)).clock ≡ (after h).clock → ((to : ℕ) → call ≡ Tick to → ⊥) → (call ≡ Work → ⊥) → certifies s.manifest.config.threshold Done call ≡ false
       → Covers s.manifest.config.threshold (with_done h caller call) (recorded (layout_of s) (plain r)) → IsFor (with_done h caller call) (appended s r)
   recorded_for few none place clock ticks works certified covers =
       let change : Change = record { caller = caller; call = call; did = Done } in
       let is = layout_appended s r none in
       let more : last_seq 0 (s.active.records ++ r ∷ []) ≡ length h + 1 = last_push 0 s.active.records r ∙ place in
-      let within = count_within h s stored stands in
-      let older = frozen_within h s stored stands in
+      let within = count_within h s coherent stands in
+      let older = frozen_within h s coherent stands in
       let count_more : count_of (appended s r) ≡ length (h ++ change ∷ []) = omega (arith, more, within, older, length_push h change) in
       record {
         legal = legal_push h change stands.legal stands.done few works (λ to is. absurd (ticks to is));
@@ -155,30 +155,30 @@ module _ (h : History) (s : Stored) (stored : IsStored s) (stands : IsFor h s) (
   threshold = s.manifest.config.threshold
 
   above : last_seq 0 s.active.records < next_place h
-  above = let within = last_within h s stored stands in omega (arith, within)
+  above = let within = last_within h s stored.coherent stands in omega (arith, within)
 
   pub put_stored : (key : Bytes) (dkey : ℕ) (value : Bytes) → IsKey key → dkey < 2 ^ 64 → IsValue value → IsStored (appended s (of.Entry (put_entry h (layout_of s) key dkey value)))
   put_stored key dkey value named fits short = stored_appended s (of.Entry (put_entry h (layout_of s) key dkey value)) stored
-      (record { front = record { place = (omega arith, omega (arith, few)); marked = tt; time = time_fits h s stored stands key; named = named }; body = (fits, short) }) above
+      (record { front = record { place = (omega arith, omega (arith, few)); marked = tt; time = time_fits h s stored.coherent stands key; named = named }; body = (fits, short) }) above
 
   pub put_for : (key : Bytes) (dkey : ℕ) (value : Bytes) → IsFor (with_done h caller (Put key dkey value)) (appended s (of.Entry (put_entry h (layout_of s) key dkey value)))
-  put_for key dkey value = recorded_for h s stored stands caller (Put key dkey value) (of.Entry (put_entry h (layout_of s) key dkey value)) few refl refl refl (λ to e. cc) (λ e. cc) refl
-      (put_covers threshold caller h (layout_of s) stands.covers (counted h s stored stands) key dkey value).0
+  put_for key dkey value = recorded_for h s stored.coherent stands caller (Put key dkey value) (of.Entry (put_entry h (layout_of s) key dkey value)) few refl refl refl (λ to e. cc) (λ e. cc) refl
+      (put_covers threshold caller h (layout_of s) stands.covers (counted h s stored.coherent stands) key dkey value).0
 
   tomb_time : (key : Bytes) → min s.manifest.clock (unwrap_or (time_of key (layout_of s)) s.manifest.clock) ≤ max_time
-  tomb_time key = let clock = stored.spelled.clock in omega (arith, clock)
+  tomb_time key = let clock = stored.coherent.spelled.clock in omega (arith, clock)
 
   pub delete_stored : (key : Bytes) → IsKey key → IsStored (appended s (of.Entry (tomb_entry h (layout_of s) key)))
   delete_stored key named = stored_appended s (of.Entry (tomb_entry h (layout_of s) key)) stored
       (record { front = record { place = (omega arith, omega (arith, few)); marked = refl; time = tomb_time key; named = named }; body = tt }) above
 
   pub delete_for : (key : Bytes) → IsFor (with_done h caller (Delete key)) (appended s (of.Entry (tomb_entry h (layout_of s) key)))
-  delete_for key = recorded_for h s stored stands caller (Delete key) (of.Entry (tomb_entry h (layout_of s) key)) few refl refl refl (λ to e. cc) (λ e. cc) refl
-      (delete_covers threshold caller h (layout_of s) stands.covers (counted h s stored stands) key (stored.spelled.config.threshold.0) stands.clock).0
+  delete_for key = recorded_for h s stored.coherent stands caller (Delete key) (of.Entry (tomb_entry h (layout_of s) key)) few refl refl refl (λ to e. cc) (λ e. cc) refl
+      (delete_covers threshold caller h (layout_of s) stands.covers (counted h s stored.coherent stands) key (stored.coherent.spelled.config.threshold.0) stands.clock).0
 
   pub blind_stored : IsStored (appended s (of.Blind (next_place h)))
   blind_stored = stored_appended s (of.Blind (next_place h)) stored (omega arith, omega (arith, few)) above
 
   pub blind_for : (key : Bytes) → ((entry : Entry) → Shows (layout_of s) entry → entry.key ≡ key → ⊥) → IsFor (with_done h caller (Delete key)) (appended s (of.Blind (next_place h)))
-  blind_for key none = recorded_for h s stored stands caller (Delete key) (of.Blind (next_place h)) few refl refl refl (λ to e. cc) (λ e. cc) refl
-      (blind_covers threshold caller h (layout_of s) stands.covers (counted h s stored stands) key none).0
+  blind_for key none = recorded_for h s stored.coherent stands caller (Delete key) (of.Blind (next_place h)) few refl refl refl (λ to e. cc) (λ e. cc) refl
+      (blind_covers threshold caller h (layout_of s) stands.covers (counted h s stored.coherent stands) key none).0

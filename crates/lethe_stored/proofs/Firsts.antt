@@ -25,6 +25,7 @@ use Rattle.lethe_segment.specs.Segments.{segment_bytes}
 use Rattle.lethe_segment.specs.Holding.{Holds}
 use Rattle.lethe_segment.proofs.Runs.{holds_spelling}
 use Rattle.lethe_manifest.specs.Manifests.{manifest_bytes}
+use Rattle.lethe_manifest.proofs.Journals.{none_erased, one_segment, none_filed}
 use Rattle.lethe_commit.specs.Switch.{manifest_name, HasGreatest}
 use Rattle.lethe_cover.specs.Steps.{time_of, put_entry}
 use Rattle.lethe_stored.specs.Files.{IsFile, at_level}
@@ -57,15 +58,28 @@ empty_stored config own next segment = record { manifest = empty_manifest config
 module _ (config : Fields) (own next segment : ℕ) (limits : IsConfig config) (own_below : own < next) (segment_below : segment < next) where
   pub empty_is_stored : next ≤ max_place → IsStored (empty_stored config own next segment)
   empty_is_stored few = record {
-    spelled = record { no = own_below; config = limits; clock = omega arith; count = omega arith; next = few; segments = segment_below; certificate = refl; erases = refl; files = refl };
-    cites = refl;
-    once = pairs_of_one (segment ∷ []) segment refl;
-    active = tt;
-    frozen = tt;
-    files = refl;
-    each = All-nil (IsFile next);
-    files_once = no_pairs (λ a b. a.header.no ≢ b.header.no);
-    pages_once = no_pairs (λ a b. a.no ≢ b.no);
+    coherent = record {
+      spelled = record {
+        no = own_below;
+        config = limits;
+        clock = omega arith;
+        count = omega arith;
+        next = few;
+        certificate = tt;
+        erases = none_erased;
+        segments = one_segment next segment segment_below;
+        files = none_filed next config.levels;
+      };
+      cites = refl;
+      once = pairs_of_one (segment ∷ []) segment refl;
+      active = tt;
+      frozen = tt;
+      files = refl;
+      each = All-nil (IsFile next);
+      files_once = no_pairs (λ a b. a.header.no ≢ b.header.no);
+      pages_once = no_pairs (λ a b. a.no ≢ b.no);
+    };
+    journal = record { one = refl; certificate = refl; erases = refl; files = refl };
   }
 
   empty_layout : layout_of (empty_stored config own next segment) ≡ record (new_layout config.levels) { next = next }

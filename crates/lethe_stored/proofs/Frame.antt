@@ -81,5 +81,5 @@ fresh_spare s name stored fresh other = record {
   where
     cited : IsCited s name → ⊥
     cited (inl is) = other (ap (λ (n : Name). n.kind) is)
-    cited (inr (inl is)) = let same = same_no name (manifest_name s.manifest.no) is in omega (arith, same, fresh, stored.spelled.no)
-    cited (inr (inr part)) = let below = part_below s name stored part in omega (arith, fresh, below)
+    cited (inr (inl is)) = let same = same_no name (manifest_name s.manifest.no) is in omega (arith, same, fresh, stored.coherent.spelled.no)
+    cited (inr (inr part)) = let below = part_below s name stored.coherent part in omega (arith, fresh, below)

@@ -10,7 +10,7 @@ use Rattle.lethe_manifest.specs.Manifests.{HasSpelling}
 use Rattle.lethe_cover.specs.Steps.{frozen}
 use Rattle.lethe_cover.proofs.Frozen.{freeze_covers}
 use Rattle.lethe_stored.specs.Files.{StoredFile, IsFile, lines_in}
-use Rattle.lethe_stored.specs.Stored.{Stored, Segment, IsStored, records_in, records_of, plain, segment_name, erase_of, in_order, layout_of, count_of, froze}
+use Rattle.lethe_stored.specs.Stored.{Stored, Segment, IsCoherent, records_in, records_of, plain, segment_name, erase_of, in_order, layout_of, count_of, froze}
 use Rattle.lethe_stored.specs.Kept.{IsFor}
 use Rattle.lethe_stored.proofs.Lists.{pairs_of_two}
 use Rattle.lethe_stored.proofs.Parts.{active_part, part_below}
@@ -25,23 +25,23 @@ file_later next later file le is = record {
   below = All-weaker (λ (line : PageLine). line.no < next) (λ (line : PageLine). line.no < later) (λ line lt. omega (arith, lt, le)) (lines_in file) is.below;
 }
 
-module _ (s : Stored) (stored : IsStored s) (segment number : ℕ) where
+module _ (s : Stored) (coherent : IsCoherent s) (segment number : ℕ) where
   abbrev t : Stored
   t = froze s segment number
 
-  pub froze_stored : s.manifest.next ≤ segment → segment < number → HasSpelling t.manifest → IsStored t
-  froze_stored fresh later spelled =
-      let below = part_below s (segment_name s.active.no) stored (active_part s) in
+  pub froze_coherent : s.manifest.next ≤ segment → segment < number → HasSpelling t.manifest → IsCoherent t
+  froze_coherent fresh later spelled =
+      let below = part_below s (segment_name s.active.no) coherent (active_part s) in
       record {
         spelled = spelled;
         cites = refl;
         once = pairs_of_two s.active.no segment (λ same. omega (arith, same, below, fresh));
         active = tt;
-        frozen = stored.active;
-        files = stored.files;
-        each = All-weaker (IsFile s.manifest.next) (IsFile (number + 1)) (λ file is. file_later s.manifest.next (number + 1) file (omega (arith, fresh, later)) is) s.files stored.each;
-        files_once = stored.files_once;
-        pages_once = stored.pages_once;
+        frozen = coherent.active;
+        files = coherent.files;
+        each = All-weaker (IsFile s.manifest.next) (IsFile (number + 1)) (λ file is. file_later s.manifest.next (number + 1) file (omega (arith, fresh, later)) is) s.files coherent.each;
+        files_once = coherent.files_once;
+        pages_once = coherent.pages_once;
       }
 
   count_froze : count_of t ≡ count_of s
@@ -56,7 +56,7 @@ module _ (s : Stored) (stored : IsStored s) (segment number : ℕ) where
 
     pub froze_for : (h : History) → IsFor h s → IsFor h t
     froze_for h stands =
-        let covers = freeze_covers s.manifest.config.threshold h (layout_of s) stands.covers (counted h s stored stands) (ap (option_map (λ (older : Segment). map plain older.records)) none) in
+        let covers = freeze_covers s.manifest.config.threshold h (layout_of s) stands.covers (counted h s coherent stands) (ap (option_map (λ (older : Segment). map plain older.records)) none) in
         record {
           legal = stands.legal;
           done = stands.done;

@@ -1,5 +1,4 @@
 pub mod Lists
-pub mod Spelled
 pub mod Parts
 pub mod Unique
 pub mod Frame

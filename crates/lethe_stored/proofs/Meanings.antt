@@ -79,14 +79,14 @@ module _ (h : History) (s : Stored) (stored : IsStored s) (stands : IsFor h s) w
             let there = buffer_recorded l.active above.0 above.1 in
             let last = newest.last above.0 (shown_held l above.0 (inl (inl above.1))) above.2 in
             let upto = above.3 in
-            let same : entry ≡ above.0 = written_same entry above.0 (one_place 0 s.active.records (Written entry) (Written above.0) stored.active active there (omega (arith, last, upto))) in
+            let same : entry ≡ above.0 = written_same entry above.0 (one_place 0 s.active.records (Written entry) (Written above.0) stored.coherent.active active there (omega (arith, last, upto))) in
             inl (inl (subst (InBuffer (buffer_of l.active)) (sym same) above.1))
         | inr older ↦
             let above = stands.covers.newer_above.frozen_buffer entry older in
             let there = buffer_recorded (frozen_records l) above.0 above.1 in
             let last = newest.last above.0 (shown_held l above.0 (inl (inr above.1))) above.2 in
             let upto = above.3 in
-            let same : entry ≡ above.0 = written_same entry above.0 (one_place 0 (records_in s.frozen) (Written entry) (Written above.0) stored.frozen
+            let same : entry ≡ above.0 = written_same entry above.0 (one_place 0 (records_in s.frozen) (Written entry) (Written above.0) stored.coherent.frozen
             (subst (λ rs. Contains rs (Written entry)) (frozen_are s) older) (subst (λ rs. Contains rs (Written above.0)) (frozen_are s) there) (omega (arith, last, upto))) in
             inl (inr (subst (InBuffer (buffer_of (frozen_records l))) (sym same) above.1))
       ]
@@ -109,6 +109,6 @@ pub kept_timely : (h : History) (d : Directory) (s : Stored) → IsKept d h → 
     → IsOverdue s.manifest.config.threshold h (after h).clock entry.seq → ⊥
 kept_timely h d s (inl none) stored e entry swept held put overdue = none_or_some d s.manifest.no none.0 e.greatest
 kept_timely h d s (inr k) stored e entry swept held put overdue =
-    let same = one_stored d k.s s k.stored stored k.encodes e in
+    let same = one_stored d k.s s k.stored.coherent stored.coherent k.encodes e in
     let stands : IsFor h s = subst (IsFor h) same k.stands in
     none_overdue s.manifest.config.threshold h (layout_of s) stands.covers entry swept held put (subst (λ t. IsOverdue s.manifest.config.threshold h t entry.seq) (sym stands.clock) overdue)

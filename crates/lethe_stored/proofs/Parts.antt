@@ -7,11 +7,10 @@ use Rattle.lethe_base.specs.declared.name.Name.{Name}
 use Rattle.lethe_base.proofs.Newest.{first_or_rest, first_is}
 use Rattle.lethe_header.specs.declared.header.PageLine.{PageLine}
 use Rattle.lethe_file.specs.Agreement.{page_name}
-use Rattle.lethe_manifest.specs.declared.manifest.Cited.{Cited}
+use Rattle.lethe_manifest.specs.Manifests as manifests
 use Rattle.lethe_stored.specs.Files.{StoredFile, IsFile, lines_in, cited_of, file_name, objects_in, objects_of}
-use Rattle.lethe_stored.specs.Stored.{Stored, Segment, IsStored, number_of, segment_numbers, segment_name, part_names}
+use Rattle.lethe_stored.specs.Stored.{Stored, Segment, IsCoherent, number_of, segment_numbers, segment_name, part_names}
 use Rattle.lethe_stored.proofs.Lists.{in_map, from_map, from_flat, zip_left}
-use Rattle.lethe_stored.proofs.Spelled.{segments_below, files_below}
 
 abbrev name_of : Name × List ℕ → Name
 name_of named = named.0
@@ -67,17 +66,17 @@ part_kind s name there = by (name_cases s name there)
     by (OfPage file line cited inside is) = kind_of (page_name line.no) is (λ e. cc, λ e. cc)
 
 -- the number of each is below the next
-pub part_below : (s : Stored) (name : Name) → IsStored s → Contains (part_names s) name → name.no < s.manifest.next
-part_below s name stored there = by (name_cases s name there)
+pub part_below : (s : Stored) (name : Name) → IsCoherent s → Contains (part_names s) name → name.no < s.manifest.next
+part_below s name coherent there = by (name_cases s name there)
   where
     below : (other : Name) → other ≡ name → other.no < s.manifest.next → name.no < s.manifest.next
     below other is lt = subst (λ (n : Name). n.no < s.manifest.next) is lt
 
     by : IsNameOf s name → name.no < s.manifest.next
-    by (OfSegment number cited is) = below (segment_name number) is (All-contains (λ n. n < s.manifest.next) s.manifest.segments number (segments_below s.manifest stored.spelled) (subst (λ l. Contains l number) (sym stored.cites) cited))
-    by (OfHeader file cited is) = below (file_name file.header.no) is (All-contains (λ (c : Cited). c.no < s.manifest.next) s.manifest.files (cited_of file) (files_below s.manifest stored.spelled)
-        (subst (λ l. Contains l (cited_of file)) (sym stored.files) (in_map cited_of s.files file cited)))
-    by (OfPage file line cited inside is) = below (page_name line.no) is (All-contains (λ (l : PageLine). l.no < s.manifest.next) (lines_in file) line (All-contains (IsFile s.manifest.next) s.files file stored.each cited).below inside)
+    by (OfSegment number cited is) = below (segment_name number) is (All-contains (λ n. n < s.manifest.next) s.manifest.segments number coherent.spelled.segments.below (subst (λ l. Contains l number) (sym coherent.cites) cited))
+    by (OfHeader file cited is) = below (file_name file.header.no) is (All-contains (manifests.IsFile s.manifest.next s.manifest.config.levels) s.manifest.files (cited_of file) coherent.spelled.files.each
+        (subst (λ l. Contains l (cited_of file)) (sym coherent.files) (in_map cited_of s.files file cited))).no
+    by (OfPage file line cited inside is) = below (page_name line.no) is (All-contains (λ (l : PageLine). l.no < s.manifest.next) (lines_in file) line (All-contains (IsFile s.manifest.next) s.files file coherent.each cited).below inside)
 
 -- a header or a page is no segment
 pub object_apart : (s : Stored) (number : ℕ) (named : Name × List ℕ) → Contains (objects_of s.files) named → named.0 ≢ segment_name number

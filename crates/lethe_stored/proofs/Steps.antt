@@ -30,22 +30,25 @@ use Rattle.lethe_stored.proofs.Frame.{gate≢segment, manifest≢segment, same_n
 -- with one record more it has a spelling, where the record has one and its place is above all others
 pub stored_appended : (s : Stored) (next : Record) → IsStored s → RecordHasSpelling next → last_seq 0 s.active.records < record_seq next → IsStored (appended s next)
 stored_appended s next stored spelled above = record {
-  spelled = stored.spelled;
-  cites = stored.cites;
-  once = stored.once;
-  active = ascends_push 0 s.active.records next stored.active spelled above;
-  frozen = stored.frozen;
-  files = stored.files;
-  each = stored.each;
-  files_once = stored.files_once;
-  pages_once = stored.pages_once;
+  coherent = record {
+    spelled = stored.coherent.spelled;
+    cites = stored.coherent.cites;
+    once = stored.coherent.once;
+    active = ascends_push 0 s.active.records next stored.coherent.active spelled above;
+    frozen = stored.coherent.frozen;
+    files = stored.coherent.files;
+    each = stored.coherent.each;
+    files_once = stored.coherent.files_once;
+    pages_once = stored.coherent.pages_once;
+  };
+  journal = stored.journal;
 }
 
 -- the frozen segment has another number than the active one
 frozen_apart : (s : Stored) (older : Segment) → IsStored s → s.frozen ≡ Some older → older.no ≢ s.active.no
 frozen_apart s older stored is =
-    let two : s.manifest.segments ≡ older.no ∷ s.active.no ∷ [] = stored.cites ∙ ap (λ o. map number_of (option_to_list o) ++ s.active.no ∷ []) is in
-    let once = subst (AllPairs (λ a b. a ≢ b)) two stored.once in
+    let two : s.manifest.segments ≡ older.no ∷ s.active.no ∷ [] = stored.coherent.cites ∙ ap (λ o. map number_of (option_to_list o) ++ s.active.no ∷ []) is in
+    let once = subst (AllPairs (λ a b. a ≢ b)) two stored.coherent.once in
     once 0 1 0 (omega arith) (omega arith)
 
 -- all but the active segment is as it was

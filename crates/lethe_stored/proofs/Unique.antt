@@ -27,7 +27,7 @@ use Rattle.lethe_commit.specs.Append.{HasRecords}
 use Rattle.lethe_commit.specs.Gates.{gate_name}
 use Rattle.lethe_commit.specs.Switch.{manifest_name, HasGreatest}
 use Rattle.lethe_stored.specs.Files.{StoredFile, IsFile, lines_in, cited_of, file_name, objects_in, objects_of}
-use Rattle.lethe_stored.specs.Stored.{Stored, Segment, IsStored, number_of, segment_numbers, records_in, segment_name}
+use Rattle.lethe_stored.specs.Stored.{Stored, Segment, IsCoherent, number_of, segment_numbers, records_in, segment_name}
 use Rattle.lethe_stored.specs.Encodes.{Encodes, HasSegment, HasObject}
 use Rattle.lethe_stored.proofs.Lists.{all_left, all_right}
 
@@ -108,13 +108,13 @@ one_files d next (f ∷ fs) (g ∷ gs) same is_f is_g x y =
 
 -- All of it
 
-pub one_manifest : (d : Directory) (s t : Stored) → IsStored s → IsStored t → Encodes d s → Encodes d t → s.manifest ≡ t.manifest
+pub one_manifest : (d : Directory) (s t : Stored) → IsCoherent s → IsCoherent t → Encodes d s → Encodes d t → s.manifest ≡ t.manifest
 one_manifest d s t s_is t_is x y =
     let own = one_greatest d s.manifest.no t.manifest.no x.greatest y.greatest in
     same_manifest s.manifest t.manifest s_is.spelled t_is.spelled
     (one_object (object d (manifest_name s.manifest.no)) (manifest_bytes s.manifest) (manifest_bytes t.manifest) x.manifest (subst (λ n. object d (manifest_name n) ≡ Some (manifest_bytes t.manifest)) (sym own) y.manifest))
 
-pub one_stored : (d : Directory) (s t : Stored) → IsStored s → IsStored t → Encodes d s → Encodes d t → s ≡ t
+pub one_stored : (d : Directory) (s t : Stored) → IsCoherent s → IsCoherent t → Encodes d s → Encodes d t → s ≡ t
 one_stored d s t s_is t_is x y =
     let manifests : s.manifest ≡ t.manifest = one_manifest d s t s_is t_is x y in
     let numbers : segment_numbers s ≡ segment_numbers t = sym s_is.cites ∙ ap (λ (m : Manifest). m.segments) manifests ∙ t_is.cites in

@@ -1,5 +1,5 @@
 -- What the greatest gate of a directory commits, as plain values, and the layout that this is.
-use Rattle.std.specs.Prelude.{◌≡◌, ◌⊎◌, ◌≢◌, ℕ, ◌+◌, ◌<◌, max, List, [], ◌∷◌, ◌++◌, map, filter_map, flat_map, option_to_list, All, AllPairs, Contains, Option, Some, None, option_map}
+use Rattle.std.specs.Prelude.{◌≡◌, ◌⊎◌, ◌≢◌, ℕ, ◌+◌, ◌<◌, max, List, [], ◌∷◌, ◌++◌, length, map, filter_map, flat_map, option_to_list, All, AllPairs, Contains, Option, Some, None, option_map}
 use Rattle.std.specs.Ordering.{nat_cmp}
 use Rattle.std.specs.FinMap as finmap
 use Rattle.lethe_base.specs.declared.name.Kind.TheVariants as kinds
@@ -50,7 +50,7 @@ records_of s = records_in s.frozen ++ s.active.records
 
 -- It has a spelling: the manifest has one and cites these segments and these files, each once, and the places of each segment's
 -- records ascend.
-pub record IsStored (s : Stored) : Type 0 where
+pub record IsCoherent (s : Stored) : Type 0 where
   pub spelled : HasSpelling s.manifest
   pub cites : s.manifest.segments ≡ segment_numbers s
   pub once : AllPairs (λ a b. a ≢ b) s.manifest.segments
@@ -60,6 +60,18 @@ pub record IsStored (s : Stored) : Type 0 where
   pub each : All (IsFile s.manifest.next) s.files
   pub files_once : AllPairs (λ a b. a.header.no ≢ b.header.no) s.files
   pub pages_once : AllPairs (λ a b. a.no ≢ b.no) (flat_map lines_in s.files)
+
+-- The journal is all that it has: one segment, and no certificate, erase or file.
+pub record IsJournalOnly (m : Manifest) : Type 0 where
+  pub one : length m.segments ≡ 1
+  pub certificate : m.certificate ≡ None
+  pub erases : m.erases ≡ []
+  pub files : m.files ≡ []
+
+-- It has a spelling, and is what a store has so far: its journal alone.
+pub record IsStored (s : Stored) : Type 0 where
+  pub coherent : IsCoherent s
+  pub journal : IsJournalOnly s.manifest
 
 -- Names
 

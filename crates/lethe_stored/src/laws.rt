@@ -21,7 +21,7 @@ ghost use Rattle.lethe_commit.specs.Clear.{IsCleared};
 ghost use Rattle.lethe_commit.specs.Switch.{HasGreatest, IsSwitched};
 ghost use Rattle.lethe_cover.specs.Steps.{next_place, with_done, put_entry, tomb_entry};
 ghost use Rattle.lethe_stored.specs.Files.{StoredFile, IsFile, file_of};
-ghost use Rattle.lethe_stored.specs.Stored.{Stored, IsStored, segment_name, layout_of, appended, froze};
+ghost use Rattle.lethe_stored.specs.Stored.{Stored, IsCoherent, IsStored, segment_name, layout_of, appended, froze};
 ghost use Rattle.lethe_stored.specs.Encodes.{Encodes, HasParts, Agrees, IsBeside, AreSpare};
 ghost use Rattle.lethe_stored.specs.Steps.{addition};
 ghost use Rattle.lethe_stored.specs.Kept.{IsFor, IsKept};
@@ -37,7 +37,7 @@ pub fn what_is_cited_counts()
 
 /// A directory encodes one thing.
 pub fn one_stored()
-    ensures { (d : Directory) (s t : Stored) → IsStored s → IsStored t → Encodes d s → Encodes d t → s ≡ t }
+    ensures { (d : Directory) (s t : Stored) → IsCoherent s → IsCoherent t → Encodes d s → Encodes d t → s ≡ t }
 {}
 
 /// A directory that is kept for a history means the map, the clock and the count that this leaves.
@@ -100,12 +100,11 @@ pub fn delete_follows()
         → IsStored (appended s (of.Blind (next_place h))) × IsFor (with_done h caller (Delete key)) (appended s (of.Blind (next_place h))) }
 {}
 
-/// With the active segment frozen and an empty one active, what is stored stands for the same history, where no segment was frozen. Its
-/// manifest has a spelling where it may cite two segments.
+/// With the active segment frozen and an empty one active, what is stored stands for the same history, where no segment was frozen.
 pub fn freeze_follows()
-    ensures stored { (s : Stored) → IsStored s → (segment number : ℕ) → s.manifest.next ≤ segment → segment < number
-        → HasSpelling (froze s segment number).manifest → IsStored (froze s segment number) }
-    ensures stands { (h : History) (s : Stored) → IsStored s → IsFor h s → s.frozen ≡ None → (segment number : ℕ)
+    ensures coherent { (s : Stored) → IsCoherent s → (segment number : ℕ) → s.manifest.next ≤ segment → segment < number
+        → HasSpelling (froze s segment number).manifest → IsCoherent (froze s segment number) }
+    ensures stands { (h : History) (s : Stored) → IsCoherent s → IsFor h s → s.frozen ≡ None → (segment number : ℕ)
         → IsFor h (froze s segment number) }
 {}
 

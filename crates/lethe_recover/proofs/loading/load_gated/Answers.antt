@@ -10,7 +10,7 @@ returns-in_err-records-clause-refused g c =
     let mid = (g.D.Disk.seen c.load_manifest.new.disk).directory in
     let m = c.in_ok-manifest.manifest in
     let k = get_or c.items.result.now 0 0 in
-    let one : m.segments ≡ k ∷ [] = one_segment m.next m.segments c.in_ok-manifest.ensures.spelled.segments ∙ ap (λ l. get_or l 0 0 ∷ []) (sym c.items.ensures) in
+    let one : m.segments ≡ k ∷ [] = one_segment m.segments c.in_ok-manifest.ensures.journal.one ∙ ap (λ l. get_or l 0 0 ∷ []) (sym c.items.ensures) in
     err_moved c.from_residual-in_err-records.result c.in_err-records.field-0.0 (MayRefuse g.D.Disk.tells c.args.config.now d c.args.before (g.D.Disk.faults c.load_segment.new.disk)) c.from_residual-in_err-records.ensures.1
     (segment_refused g.D.Disk.tells c.args.config.now d mid c.args.before (g.D.Disk.faults c.load_segment.new.disk) m k c.in_err-records.field-0.0
     (λ told. gated_of d c.args.number m (c.requires.greatest told) (c.in_ok-manifest.ensures.found told)) (c.is_same.ensures.0 c.if-not-is_same.false) (contains_one m.segments k one)
@@ -30,7 +30,7 @@ returns-clause-found g c = λ told.
     let mid = (g.D.Disk.seen c.load_manifest.new.disk).directory in
     let m = c.in_ok-manifest.manifest in
     let k = get_or c.items.result.now 0 0 in
-    let one : m.segments ≡ k ∷ [] = one_segment m.next m.segments c.in_ok-manifest.ensures.spelled.segments ∙ ap (λ l. get_or l 0 0 ∷ []) (sym c.items.ensures) in
+    let one : m.segments ≡ k ∷ [] = one_segment m.segments c.in_ok-manifest.ensures.journal.one ∙ ap (λ l. get_or l 0 0 ∷ []) (sym c.items.ensures) in
     let segments : c.of-2.result ≡ c.in_ok-records.records.items ∷ [] = c.of-2.ensures ∙ c.in_ok-push.ensures.items ∙ ap (λ l. l ++ c.of.result ∷ []) c.new-segments.ensures.items ∙ ap (λ r. r ∷ []) c.of.ensures in
     is_read c.args.config.now d mid c.args.number m k c.in_ok-records.records.items (record { manifest = Some m; segments = c.of-2.result }) (c.requires.greatest told) c.in_ok-manifest.ensures.spelled (c.in_ok-manifest.ensures.found told)
     (c.is_same.ensures.0 c.if-not-is_same.false) one (c.load_manifest.ensures.quiet told).directory (c.in_ok-records.ensures.found told) (ap (λ l. record { manifest = Some m; segments = l }) segments)
@@ -43,4 +43,4 @@ pub returns-clause-spelled : goal.returns-clause-spelled
 returns-clause-spelled g c =
     let m = c.in_ok-manifest.manifest in
     let segments : c.of-2.result ≡ c.in_ok-records.records.items ∷ [] = c.of-2.ensures ∙ c.in_ok-push.ensures.items ∙ ap (λ l. l ++ c.of.result ∷ []) c.new-segments.ensures.items ∙ ap (λ r. r ∷ []) c.of.ensures in
-    inr (m, c.in_ok-records.records.items, ap (λ l. record { manifest = Some m; segments = l }) segments, c.in_ok-manifest.ensures.spelled, c.in_ok-records.ensures.ascends)
+    inr (m, c.in_ok-records.records.items, ap (λ l. record { manifest = Some m; segments = l }) segments, c.in_ok-manifest.ensures.spelled, c.in_ok-manifest.ensures.journal, c.in_ok-records.ensures.ascends)

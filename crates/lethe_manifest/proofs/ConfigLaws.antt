@@ -1,4 +1,4 @@
--- The parts of a manifest: what is read stands there, and what stands there is read.
+-- The head and the configuration: what is read stands there, and what stands there is read.
 use Rattle.std.proofs.Common.{◌≡◌, ℕ, ◌+◌, ◌*◌, ◌^◌, ◌≤◌, Bool, true, false, cond, leb, eqb, List, [], ◌∷◌, ◌++◌, Ok, refl, sym, subst, arith}
 use Rattle.std.specs.Int.{w8, w16, w64, to_be_bytes, IsInRange}
 use Rattle.std.proofs.lemmas.Bool.{le-leb, leb-true, eqb-true, eqb-false}
@@ -12,9 +12,10 @@ use Rattle.lethe_base.specs.declared.config.Pick.{Pick}
 use Rattle.lethe_base.specs.declared.config.Pick.TheVariants.{So, Sd}
 use Rattle.lethe_base.proofs.FieldLaws.{stands_then, stands_parts, wide16, wide64}
 use Rattle.lethe_manifest.specs.Manifests.{head_bytes, pick_byte, times_bytes, sizes_bytes, config_bytes}
-use Rattle.lethe_manifest.specs.Reading.{number_within, head_at, limited_at, file_at, buffer_at, pick_at, sizes_at, config_at}
-use Rattle.lethe_manifest.specs.declared.reading.ManifestRefused.{ManifestRefused}
-use Rattle.lethe_manifest.specs.declared.reading.ManifestRefused.TheVariants.{Kind}
+use Rattle.lethe_manifest.specs.Numbers.{number_within}
+use Rattle.lethe_manifest.specs.Reading.{head_at, limited_at, tiles_at, buffer_at, pick_at, sizes_at, config_at}
+use Rattle.lethe_manifest.specs.declared.refused.ManifestRefused.{ManifestRefused}
+use Rattle.lethe_manifest.specs.declared.refused.ManifestRefused.TheVariants.{Kind}
 use Rattle.lethe_base.specs.Results.{◌>>=◌}
 use Rattle.lethe_base.proofs.ReadingSteps.{bind_ok, ok_of, ok_is}
 use Rattle.lethe_manifest.proofs.Numbers.{tested_ok, wide_ok, wide_again, byte_ok, byte_back}
@@ -27,8 +28,8 @@ only k n r = omega (arith, r.0, r.1)
 pub head_ok : (bytes : List ℕ) (n : ℕ) → IsBytes bytes → head_at bytes ≡ Ok n → StandsAt (head_bytes n) bytes 0 11 × (n ≤ max_place)
 unfolding head_at head_bytes
 head_ok bytes n fits e =
-    let a = bind_ok (number_within w16 0x4c4d 0x4c4d bytes 0) (λ _. number_within w8 1 1 bytes 2 >>= λ _. number_within w64 0 max_place bytes 3) n e in
-    let b = bind_ok (number_within w8 1 1 bytes 2) (λ _. number_within w64 0 max_place bytes 3) n a.2 in
+    let a = bind_ok (number_within w16 0x4c4d 0x4c4d bytes 0) _ n e in
+    let b = bind_ok (number_within w8 1 1 bytes 2) _ n a.2 in
     let t0 = wide_ok w16 (2 ^ 16) wide16 0x4c4d 0x4c4d bytes 0 a.0 fits a.1 in
     let t1 = byte_ok 1 1 bytes 2 b.0 fits b.1 in
     let t2 = wide_ok w64 (2 ^ 64) wide64 0 max_place bytes 3 n fits b.2 in
@@ -51,7 +52,7 @@ head_again bytes end n fits p =
 pub pick_ok : (bytes : List ℕ) (at : ℕ) (k : Pick) → IsBytes bytes → pick_at bytes at ≡ Ok k → StandsAt (pick_byte k ∷ []) bytes at (at + 1)
 unfolding pick_at
 pick_ok bytes at k fits e =
-    let b = bind_ok (number_within w8 0 1 bytes at) (λ byte. cond (eqb byte 0) (Ok So) (Ok Sd)) k e in
+    let b = bind_ok (number_within w8 0 1 bytes at) _ k e in
     let t = byte_ok 0 1 bytes at b.0 fits b.1 in
     by_test (eqb b.0 0) b.0 k refl t.1 t.0 b.2
   where
@@ -69,8 +70,8 @@ unfolding pick_at
 pick_again bytes at end So p = rw (byte_back 0 1 bytes at end 0 (omega arith, omega arith) p) refl
 pick_again bytes at end Sd p = rw (byte_back 0 1 bytes at end 1 (omega arith, omega arith) p) refl
 
-file_ok : (entries : ℕ) (bytes : List ℕ) (at n : ℕ) → IsBytes bytes → file_at entries bytes at ≡ Ok n → StandsAt (to_be_bytes w16 n) bytes at (at + 2) × IsInRange 1 256 n × (entries * n ≤ max_file_entries)
-unfolding file_at
+file_ok : (entries : ℕ) (bytes : List ℕ) (at n : ℕ) → IsBytes bytes → tiles_at entries bytes at ≡ Ok n → StandsAt (to_be_bytes w16 n) bytes at (at + 2) × IsInRange 1 256 n × (entries * n ≤ max_file_entries)
+unfolding tiles_at
 file_ok entries bytes at n fits e =
     let b = tested_ok (limited_at File bytes at) (λ file. leb (entries * file) max_file_entries) (Kind at) n e in
     let t = wide_ok w16 (2 ^ 16) wide16 1 256 bytes at n fits b.0 in
@@ -99,9 +100,9 @@ pub record Sized (times : Fields) (bytes : List ℕ) (x : Fields) : Type 0 where
 pub sizes_ok : (times : Fields) (bytes : List ℕ) (x : Fields) → IsBytes bytes → sizes_at times bytes ≡ Ok x → Sized times bytes x
 unfolding sizes_at sizes_bytes
 sizes_ok times bytes x fits e =
-    let a = bind_ok (limited_at Page bytes 21) (λ page. limited_at Tile bytes 23 >>= λ tile. file_at (page * tile) bytes 24 >>= λ file. buffer_at (page * tile * file) bytes 26 >>= λ buffer. pick_at bytes 28 >>= λ pick. Ok (record times { page = page; tile = tile; file = file; buffer = buffer; pick = pick })) x e in
-    let b = bind_ok (limited_at Tile bytes 23) (λ tile. file_at (a.0 * tile) bytes 24 >>= λ file. buffer_at (a.0 * tile * file) bytes 26 >>= λ buffer. pick_at bytes 28 >>= λ pick. Ok (record times { page = a.0; tile = tile; file = file; buffer = buffer; pick = pick })) x a.2 in
-    let c = bind_ok (file_at (a.0 * b.0) bytes 24) (λ file. buffer_at (a.0 * b.0 * file) bytes 26 >>= λ buffer. pick_at bytes 28 >>= λ pick. Ok (record times { page = a.0; tile = b.0; file = file; buffer = buffer; pick = pick })) x b.2 in
+    let a = bind_ok (limited_at Page bytes 21) _ x e in
+    let b = bind_ok (limited_at Tile bytes 23) _ x a.2 in
+    let c = bind_ok (tiles_at (a.0 * b.0) bytes 24) (λ file. buffer_at (a.0 * b.0 * file) bytes 26 >>= λ buffer. pick_at bytes 28 >>= λ pick. Ok (record times { page = a.0; tile = b.0; file = file; buffer = buffer; pick = pick })) x b.2 in
     let d = bind_ok (buffer_at (a.0 * b.0 * c.0) bytes 26) (λ buffer. pick_at bytes 28 >>= λ pick. Ok (record times { page = a.0; tile = b.0; file = c.0; buffer = buffer; pick = pick })) x c.2 in
     let f = bind_ok (pick_at bytes 28) (λ pick. Ok (record times { page = a.0; tile = b.0; file = c.0; buffer = d.0; pick = pick })) x d.2 in
     let t0 = wide_ok w16 (2 ^ 16) wide16 1 1024 bytes 21 a.0 fits a.1 in
@@ -126,14 +127,14 @@ sizes_ok times bytes x fits e =
       ratio = refl;
       levels = refl;
     } in
-    subst (Sized times bytes) (ok_is read x f.2) sized
+    subst (Sized times bytes) {x = read} (ok_is read x f.2) sized
 
 pub config_ok : (bytes : List ℕ) (x : Fields) → IsBytes bytes → config_at bytes ≡ Ok x → StandsAt (config_bytes x) bytes 11 29 × IsConfig x
 unfolding config_at times_bytes
 config_ok bytes x fits e =
-    let a = bind_ok (limited_at Threshold bytes 11) (λ threshold. limited_at Ratio bytes 19 >>= λ ratio. limited_at Levels bytes 20 >>= λ levels. sizes_at (record default_fields { threshold = threshold; ratio = ratio; levels = levels }) bytes) x e in
-    let b = bind_ok (limited_at Ratio bytes 19) (λ ratio. limited_at Levels bytes 20 >>= λ levels. sizes_at (record default_fields { threshold = a.0; ratio = ratio; levels = levels }) bytes) x a.2 in
-    let c = bind_ok (limited_at Levels bytes 20) (λ levels. sizes_at (record default_fields { threshold = a.0; ratio = b.0; levels = levels }) bytes) x b.2 in
+    let a = bind_ok (limited_at Threshold bytes 11) _ x e in
+    let b = bind_ok (limited_at Ratio bytes 19) _ x a.2 in
+    let c = bind_ok (limited_at Levels bytes 20) _ x b.2 in
     let sized = sizes_ok (record default_fields { threshold = a.0; ratio = b.0; levels = c.0 }) bytes x fits c.2 in
     let t0 = wide_ok w64 (2 ^ 64) wide64 1 (2 ^ 40) bytes 11 a.0 fits a.1 in
     let t1 = byte_ok 2 16 bytes 19 b.0 fits b.1 in
@@ -157,8 +158,8 @@ config_ok bytes x fits e =
       },
     )
 
-file_again : (entries : ℕ) (bytes : List ℕ) (at end n : ℕ) → IsInRange 1 256 n → entries * n ≤ max_file_entries → StandsAt (to_be_bytes w16 n) bytes at end → file_at entries bytes at ≡ Ok n
-unfolding file_at
+file_again : (entries : ℕ) (bytes : List ℕ) (at end n : ℕ) → IsInRange 1 256 n → entries * n ≤ max_file_entries → StandsAt (to_be_bytes w16 n) bytes at end → tiles_at entries bytes at ≡ Ok n
+unfolding tiles_at
 file_again entries bytes at end n r few p = rw (wide_again w16 (2 ^ 16) wide16 1 256 bytes at end n (omega (arith, r.1)) r p, le-leb _ _ few) refl
 
 buffer_again : (entries : ℕ) (bytes : List ℕ) (at end n : ℕ) → IsInRange 1 16384 n → n ≤ entries → StandsAt (to_be_bytes w16 n) bytes at end → buffer_at entries bytes at ≡ Ok n

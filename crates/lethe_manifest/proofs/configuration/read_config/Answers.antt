@@ -1,6 +1,6 @@
 use Rattle.std.proofs.Common.{arith, sym}
-use Rattle.lethe_manifest.proofs.Parts.{config_ok}
-use Rattle.lethe_manifest.proofs.reading.read_config.Goals as goal
+use Rattle.lethe_manifest.proofs.ConfigLaws.{config_ok}
+use Rattle.lethe_manifest.proofs.configuration.read_config.Goals as goal
 
 -- what was read of the fields keeps their limits
 pub unwrap-requires : goal.unwrap-requires
