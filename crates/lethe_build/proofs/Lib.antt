@@ -1,0 +1,5 @@
+pub mod Fences
+pub mod Lines
+pub mod Follows
+pub mod Whole
+pub mod TileLines

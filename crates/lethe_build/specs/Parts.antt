@@ -1,5 +1,6 @@
 -- The parts of a file, one by one.
-use Rattle.std.specs.Prelude.{◌≡◌, ℕ, ◌<◌, ◌≤◌, List, length, All}
+use Rattle.std.specs.Prelude.{◌≡◌, ◌*◌, ◌<◌, ◌≤◌, List, length, All}
+use Rattle.std.specs.List.{AllZip}
 use Rattle.std.specs.declared.cmp.Ordering.TheVariants.{Less}
 use Rattle.lethe_base.specs.Configuration.{IsConfig}
 use Rattle.lethe_base.specs.Entries.{IsAscending}
@@ -12,6 +13,7 @@ use Rattle.lethe_page.specs.Pages as pages
 use Rattle.lethe_tile.specs.Woven.{IsTile}
 use Rattle.lethe_header.specs.Headers.{IsLine, max_tile_entries}
 use Rattle.lethe_header.specs.declared.header.PageLine.{PageLine}
+use Rattle.lethe_header.specs.declared.header.TileLine.{TileLine}
 use Rattle.lethe_file.specs.Agreement.{Agrees, fence_of}
 use Rattle.lethe_build.specs.Built.{class_of, spelled}
 
@@ -38,6 +40,12 @@ pub record IsWhole (tile : layout.Tile) : Type 0 where
   pub ascending : IsAscending entries
   pub each : All spelling.HasSpelling entries
   pub is : IsTile fields.page entries tile
+
+-- the line of a tile
+pub record IsTileLineOf (tile : layout.Tile) (line : TileLine) : Type 0 where
+  pub lo : line.lo ≡ tile.lo
+  pub hi : line.hi ≡ tile.hi
+  pub pages : AllZip IsLineOf tile.pages line.pages
 
 -- each key of the tile is below each of the other
 abbrev pub IsBelow : layout.Tile → layout.Tile → Type 0

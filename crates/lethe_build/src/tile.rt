@@ -1,10 +1,10 @@
 //! A tile's line, and the bytes of its pages.
 ghost use Rattle.std.specs.Prelude.{◌≡◌, ◌+◌, ◌≤◌, ◌++◌, length, map, IfOk, OnOk};
-ghost use Rattle.std.specs.List.{AllZip, range_with_len};
+ghost use Rattle.std.specs.List.{range_with_len};
 ghost use Rattle.lethe_base.specs.Limits.{max_place};
 ghost use Rattle.lethe_tile.specs.Woven.{plain};
 ghost use Rattle.lethe_build.specs.Built.{spelled};
-ghost use Rattle.lethe_build.specs.Parts.{IsWhole, IsLineOf};
+ghost use Rattle.lethe_build.specs.Parts.{IsWhole, IsTileLineOf};
 
 use crate::page::build_page;
 use lethe_base::{List, NoMemory};
@@ -22,9 +22,7 @@ pub fn build_tile(
 ) -> Result<TileLine, NoMemory>
     requires whole { IsWhole (plain tile) }
     requires numbers { first + (length pages.old.items + length tile.pages) ≤ max_place + 1 }
-    ensures lo { IfOk result (λ line. line.lo ≡ tile.lo) }
-    ensures hi { IfOk result (λ line. line.hi ≡ tile.hi) }
-    ensures lines { IfOk result (λ line. AllZip IsLineOf tile.pages line.pages) }
+    ensures line { IfOk result (IsTileLineOf (plain tile)) }
     ensures numbers { IfOk result (λ line. map (λ page. page.no) line.pages ≡ range_with_len (first + length pages.old.items) (length line.pages)) }
     ensures pages { OnOk result (pages.new.items ≡ pages.old.items ++ map spelled tile.pages) }
 {
