@@ -62,7 +62,8 @@ fence_behind first page before zip precede =
 room : (first : List (List Entry)) (page : List Entry) (before after : List PageLine) (line : PageLine) (class : Class) → AllZip IsLineOf first before → All (λ q. Precedes q page) first
     → line.class ≡ class → class_of page ≡ class → puts_in (before ++ line ∷ after) ≤ max_puts → HasRoomFor class before
 room first page before after line Puts zip precede is own few =
-    let here : cond (is_puts line.class) 1 0 ≡ 1 = ap (λ (c : Class). cond (is_puts c) 1 0) is in
+    let one : ℕ = 1 in
+    let here : cond (is_puts line.class) 1 0 ≡ one = ap (λ (c : Class). cond (is_puts c) 1 0) is in
     let all : puts_in (before ++ line ∷ after) ≡ puts_in before + puts_in (line ∷ after) = sum_by-append (λ (l : PageLine). cond (is_puts l.class) 1 0) before (line ∷ after) in
     let rest : puts_in (line ∷ after) ≡ cond (is_puts line.class) 1 0 + puts_in after = sum_by-cons (λ (l : PageLine). cond (is_puts l.class) 1 0) line after in
     omega (arith, few, all, rest, here)

@@ -3,3 +3,4 @@ pub mod Lines
 pub mod Follows
 pub mod Whole
 pub mod TileLines
+pub mod Loops

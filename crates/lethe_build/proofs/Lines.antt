@@ -3,6 +3,7 @@ use Rattle.std.proofs.Common.{◌≡◌, ℕ, ◌+◌, ◌≤◌, ◌<◌, max, 
 use Rattle.std.proofs.lemmas.List.{length-map, take_more}
 use Rattle.std.proofs.lemmas.List.Elements.{All-head, All-tail}
 use Rattle.sha2.specs.Sha256.{sha256}
+use Rattle.sha2.proofs.Facts256.{length-sha256}
 use Rattle.lethe_base.specs.Limits.{max_place}
 use Rattle.lethe_base.specs.Shapes.{earlier, oldest_of}
 use Rattle.lethe_base.specs.Spelling.{IsPlace, IsTimeOrNone}
@@ -71,21 +72,21 @@ oldest_more entries i d below = ap oldest_of (take_more entries i d below) ∙ o
 
 -- a line whose fields are those of the entries is theirs
 pub is_line_of : (entries : List Entry) (line : PageLine) → IsPage entries → line.no ≤ max_place → line.class ≡ class_of entries → line.entries ≡ length entries → line.max_seq ≡ most_then 0 entries
-    → line.oldest ≡ oldest_of entries → line.fence ≡ fence_of entries → IsFilterOf (keys_of entries) line.filter → line.digest ≡ sha256 (spelled entries) → length line.digest ≡ 32 → IsLineOf entries line
-is_line_of entries line page no class len max_seq oldest fence filter digest long =
+    → line.oldest ≡ oldest_of entries → line.fence ≡ fence_of entries → IsFilterOf (keys_of entries) line.filter → line.digest ≡ sha256 (spelled entries) → IsLineOf entries line
+is_line_of entries line page low class len max_seq oldest fence filter digest =
     let class_is : Class = class_of entries in
     let fits : pages.HasSpelling line.class entries = subst (λ (c : Class). pages.HasSpelling c entries) (sym class) page.has_spelling in
     let same : entries_in (spelled entries) ≡ entries = same_entries (class_of entries) entries page.has_spelling in
     let bytes : page_bytes line.class entries ≡ spelled entries = ap (λ (c : Class). page_bytes c entries) class in
     record {
       itself = record {
-        no = no;
+        no = low;
         some = omega (arith, len, page.has_spelling.some);
         place = subst IsPlace (sym max_seq) (page_place (class_of entries) entries page.has_spelling);
         oldest = subst IsTimeOrNone (sym oldest) (page_oldest (class_of entries) entries page.has_spelling.each);
         fence = subst (IsFence line.class) (sym fence) (page_fence line.class entries fits);
         filter = record { len = omega (arith, filter.len, len, length-map entries (λ (e : Entry). e.key)); each = filter.each };
-        digest = long;
+        digest = ap length digest ∙ length-sha256 (spelled entries);
       };
       class = class;
       len = len;

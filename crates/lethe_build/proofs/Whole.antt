@@ -1,16 +1,18 @@
 -- What a tile that a configuration makes has: how many pages, in which order, and which keys.
-use Rattle.std.proofs.Common.{◌≡◌, ℕ, ◌+◌, ◌*◌, ◌-◌, ◌≤◌, ◌<◌, true, false, cond, not, Bool, List, [], ◌∷◌, ◌++◌, length, get_or, Some, All, AllPairs, IsPermutation, inl, inr, refl, ◌∙◌, ap, sym, subst, append-nil, length-append, arith}
-use Rattle.std.specs.Prelude.{IsTrue, filter, option_map}
+use Rattle.std.proofs.Common.{◌≡◌, ℕ, ◌+◌, ◌*◌, ◌-◌, zero, suc, ◌≤◌, ◌<◌, true, false, cond, not, Bool, List, [], ◌∷◌, ◌++◌, length, get_or, Some, All, AllPairs, IsPermutation, inl, inr, refl, ◌∙◌, ap, sym, subst, append-nil, length-append, arith}
+use Rattle.std.specs.Prelude.{IsTrue, count_by, filter, option_map}
 use Rattle.std.specs.Ordering.{is_le, is_eq, nat_cmp, ordering_then}
 use Rattle.std.specs.declared.cmp.Ordering.{Ordering}
-use Rattle.std.specs.declared.cmp.Ordering.TheVariants.{Less, Equal, Greater}
+use Rattle.std.specs.declared.cmp.Ordering.TheVariants.{Less, Greater}
 use Rattle.std.specs.Cmp.{nat_cmp_is}
 use Rattle.std.proofs.Math.Nat.{mul-le-mul_left}
-use Rattle.std.proofs.lemmas.Bool.{cases_order, true≢false}
+use Rattle.std.proofs.lemmas.Bool.{cases_lt, cases_order}
 use Rattle.std.proofs.lemmas.List.Concat.{flat_map-append}
 use Rattle.std.proofs.lemmas.List.Elements.{All-nil, All-cons, All-head, All-tail, All-weaker, filter_passes}
 use Rattle.std.proofs.lemmas.List.Kept.{AllPairs-cons}
 use Rattle.std.proofs.lemmas.List.Sorted.{All-permutation, IsPermutation-append, IsPermutation-filter_both, IsPermutation-refl, IsPermutation-trans, length_permutation}
+use Rattle.std.proofs.lemmas.List.Filters.{length-filter_both}
+use Rattle.std.proofs.lemmas.List.Sums.{count_by-le-length, sum_by-append}
 use Rattle.std.proofs.lemmas.Option.{slice_get-get_or}
 use Rattle.lethe_base.specs.Entries.{IsAscending}
 use Rattle.lethe_base.specs.Keys.{Bytes, key_cmp, same_key}
@@ -23,8 +25,9 @@ use Rattle.lethe_page.specs.declared.class.Class.{Class}
 use Rattle.lethe_page.specs.declared.class.Class.TheVariants.{Puts, Tombs}
 use Rattle.lethe_tile.specs.Woven.{joined, ComesBefore, IsBelow, IsCut, dkey_of, key_at, page_of, puts_of, tombs_of, weave_cmp}
 use Rattle.lethe_tile.proofs.Orders.{pairs_nil, pairs_append, all_left, all_right, Across, HasLowerKey, HasOtherKey, other_from_ascending, other_permuted, pairs_from_ascending, pairs_from_other}
+use Rattle.lethe_header.specs.Headers.{is_puts}
 use Rattle.lethe_file.proofs.Orders.{own_key}
-use Rattle.lethe_build.specs.Built.{class_of}
+use Rattle.lethe_build.specs.Built.{class_of, class_of_body}
 use Rattle.lethe_build.specs.Parts.{IsWhole}
 use Rattle.lethe_build.proofs.Follows.{Precedes}
 
@@ -71,28 +74,36 @@ no_dkey : (body : Body) → is_tomb body ≡ true → dkey_of body ≡ 0
 no_dkey (Put dkey value) tomb = absurd cc
 no_dkey Tomb tomb = refl
 
-not_tomb : (body : Body) → not (is_tomb body) ≡ true → is_tomb body ≡ false
+pub not_tomb : (body : Body) → not (is_tomb body) ≡ true → is_tomb body ≡ false
 not_tomb (Put dkey value) put = refl
 not_tomb Tomb put = absurd cc
 
-abbrev IsPut : Entry → Type 0
+abbrev pub IsPut : Entry → Type 0
 IsPut e = not (is_tomb e.body) ≡ true
 
-abbrev IsTombstone : Entry → Type 0
+abbrev pub IsTombstone : Entry → Type 0
 IsTombstone e = is_tomb e.body ≡ true
 
 pub puts_class : (page : List Entry) → All IsPut page → class_of page ≡ Puts
 puts_class [] puts = refl
-puts_class (e ∷ es) puts = ap (λ (b : Bool). cond b Tombs Puts) (not_tomb e.body (All-head IsPut e es puts))
+puts_class (e ∷ es) puts = by e.body (All-head IsPut e es puts)
+  where
+    by : (body : Body) → not (is_tomb body) ≡ true → class_of_body body ≡ Puts
+    by (Put dkey value) put = refl
+    by Tomb put = absurd cc
 
 pub tombs_class : (e : Entry) (es : List Entry) → All IsTombstone (e ∷ es) → class_of (e ∷ es) ≡ Tombs
-tombs_class e es tombs = ap (λ (b : Bool). cond b Tombs Puts) (All-head IsTombstone e es tombs)
+tombs_class e es tombs = by e.body (All-head IsTombstone e es tombs)
+  where
+    by : (body : Body) → is_tomb body ≡ true → class_of_body body ≡ Tombs
+    by (Put dkey value) tomb = absurd cc
+    by Tomb tomb = refl
 
 -- pages of puts by their delete keys
 puts_precede : (pages : List (List Entry)) → AllPairs IsBelow pages → All (All IsPut) pages → AllPairs Precedes pages
 puts_precede pages below puts i j d lt inside = record {
   puts = puts_class (get_or pages j d) (puts j d inside);
-  dkeys = λ k e in_page l f in_other. dkey_before _ _ (below i j d lt inside k e in_page l f in_other);
+  dkeys = λ k e in_page l f in_other. dkey_before (get_or (get_or pages i d) k e) (get_or (get_or pages j d) l f) (below i j d lt inside k e in_page l f in_other);
 }
 
 -- and the page of the tombstones before them
@@ -120,7 +131,7 @@ page_few (t ∷ ts) = omega arith
 
 -- ---- keys in order
 
-key_there : (entries : List Entry) (k : ℕ) (key : Bytes) (d : Entry) → k < length entries → key_at k entries ≡ Some key → (get_or entries k d).key ≡ key
+pub key_there : (entries : List Entry) (k : ℕ) (key : Bytes) (d : Entry) → k < length entries → key_at k entries ≡ Some key → (get_or entries k d).key ≡ key
 key_there entries k key d inside is =
     let read : key_at k entries ≡ Some (get_or entries k d).key = ap (option_map (λ (e : Entry). e.key)) (slice_get-get_or entries k d inside) in
     let same : Some (get_or entries k d).key ≡ Some key = sym read ∙ is in
@@ -173,10 +184,10 @@ module _ (tile : layout.Tile) (whole : IsWhole tile) where
   pub long : length (joined tile.pages) ≡ length whole.entries
   long = length_permutation whole.entries (joined tile.pages) pages_once
 
-  tombs_are : All IsTombstone (tombs_of whole.entries)
+  pub tombs_are : All IsTombstone (tombs_of whole.entries)
   tombs_are = filter_passes (λ (e : Entry). is_tomb e.body) whole.entries
 
-  puts_are : All (All IsPut) whole.is.pages
+  pub puts_are : All (All IsPut) whole.is.pages
   puts_are = parts_all IsPut whole.is.pages (All-permutation IsPut (puts_of whole.entries) (joined whole.is.pages) whole.is.paged.once (filter_passes (λ (e : Entry). not (is_tomb e.body)) whole.entries))
 
   pub precede : AllPairs Precedes tile.pages

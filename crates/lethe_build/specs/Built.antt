@@ -1,10 +1,11 @@
 -- The files that entries make: woven into tiles, the tiles cut into files, and each file spelled, digested and numbered.
-use Rattle.std.specs.Prelude.{◌≡◌, ℕ, ◌*◌, List, [], ◌∷◌, ◌++◌, length, map, flat_map, if◌then◌else◌}
+use Rattle.std.specs.Prelude.{◌≡◌, ℕ, ◌*◌, List, [], ◌∷◌, ◌++◌, length, map, flat_map}
 use Rattle.std.specs.List.{AllZip, range_with_len}
 use Rattle.sha2.specs.Sha256.{sha256}
 use Rattle.lethe_base.specs.Layout as layout
-use Rattle.lethe_base.specs.Shapes.{is_tomb}
 use Rattle.lethe_base.specs.declared.config.Fields.{Fields}
+use Rattle.lethe_base.specs.declared.entry.Body.{Body}
+use Rattle.lethe_base.specs.declared.entry.Body.TheVariants.{Put, Tomb}
 use Rattle.lethe_base.specs.declared.entry.Entry.{Entry}
 use Rattle.lethe_page.specs.Pages.{page_bytes}
 use Rattle.lethe_page.specs.declared.class.Class.{Class}
@@ -16,10 +17,14 @@ use Rattle.lethe_header.specs.declared.header.TileLine.{TileLine}
 use Rattle.lethe_file.specs.Agreement.{FileAgrees, entries_in}
 use Rattle.lethe_build.specs.declared.built.Built.{Built}
 
+abbrev pub class_of_body : Body → Class
+class_of_body (Put dkey value) = Puts
+class_of_body Tomb = Tombs
+
 -- what the entries of a page are, by the first of them
 abbrev pub class_of : List Entry → Class
 class_of [] = Puts
-class_of (entry ∷ entries) = if is_tomb entry.body then Tombs else Puts
+class_of (entry ∷ entries) = class_of_body entry.body
 
 -- the bytes of the page of these entries
 abbrev pub spelled : List Entry → List ℕ
@@ -37,7 +42,7 @@ pub record IsToldBy (tile : layout.Tile) (line : TileLine) : Type 0 where
 
 -- the file of some tiles
 pub record IsFileOf (tiles : List layout.Tile) (file : Built) : Type 0 where
-  pub tiles : AllZip IsToldBy tiles file.header.tiles
+  pub lines : AllZip IsToldBy tiles file.header.tiles
   pub pages : file.pages ≡ map spelled (pages_of tiles)
   -- so what the pages spell are the tiles' pages
   pub entries : map entries_in file.pages ≡ pages_of tiles

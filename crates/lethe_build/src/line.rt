@@ -2,7 +2,7 @@
 ghost use Rattle.std.specs.Prelude.{◌≡◌, max, fold, IfOk};
 ghost use Rattle.lethe_base.specs.Shapes.{earlier, oldest_of};
 ghost use Rattle.lethe_file.specs.Agreement.{fence_of, fence_with, keys_of};
-ghost use Rattle.lethe_build.specs.Built.{class_of};
+ghost use Rattle.lethe_build.specs.Built.{class_of, class_of_body};
 
 use lethe_base::{Body, Entry, Key, NoMemory};
 use lethe_page::Class;
@@ -19,7 +19,7 @@ pub fn class_of(entries: &[Entry]) -> Class
 }
 
 fn class_of_body(body: &Body) -> Class
-    ensures { result ≡ (if is_tomb body.now then Class.Tombs else Class.Puts) }
+    ensures { result ≡ class_of_body body.now }
 {
     match body {
         Body::Put { .. } => Class::Puts,

@@ -1,12 +1,13 @@
 //! Spelling a page, and telling of it by a line.
-ghost use Rattle.std.specs.Prelude.{◌≡◌, ◌≤◌, IfOk};
+ghost use Rattle.std.specs.Prelude.{◌≡◌, ◌≤◌, ◌<◌, ◌^◌, length, All, IfOk};
 ghost use Rattle.sha2.specs.Sha256.{sha256};
 ghost use Rattle.lethe_base.specs.Limits.{max_place};
+ghost use Rattle.lethe_file.specs.Agreement.{IsFilterOf};
 ghost use Rattle.lethe_build.specs.Built.{spelled};
 ghost use Rattle.lethe_build.specs.Parts.{IsPage, IsLineOf};
 
 use crate::line::{class_of, fence_of, keys_of, max_seq_of, oldest_of};
-use lethe_base::{Entry, List, NoMemory};
+use lethe_base::{Entry, Key, List, NoMemory};
 use lethe_header::PageLine;
 use lethe_page::write_page;
 use lethe_tile::Filter;
@@ -21,6 +22,21 @@ pub fn digest_of(bytes: &[u8]) -> [u8; 32]
     hasher.update(bytes);
     hasher.finalize()
 }
+
+/// The filter of these keys.
+fn filter_of(alloc: Global, keys: &[Key]) -> Result<Filter, NoMemory>
+    requires { 0 < length keys.now }
+    ensures { IfOk result (IsFilterOf keys.now) }
+{
+    let filter = Filter::build(alloc, keys)?;
+    are_words(filter.words());
+    Ok(filter)
+}
+
+/// Each of the words has 64 bits: this does nothing, and its contract says so of the numbers that contracts see.
+fn are_words(words: &[u64])
+    ensures { All (λ word. word < 2 ^ 64) words.now }
+{}
 
 /// The line and the bytes of the page of these entries, with this number.
 pub fn build_page(
@@ -41,7 +57,7 @@ pub fn build_page(
     let max_seq = max_seq_of(&entries);
     let oldest = oldest_of(&entries);
     let fence = fence_of(&entries);
-    let filter = Filter::build(alloc, &keys_of(alloc, entries)?)?;
+    let filter = filter_of(alloc, &keys_of(alloc, entries)?)?;
     let line = PageLine {
         no,
         class,
