@@ -20,10 +20,14 @@ use Rattle.lethe_build.proofs.TileLines.{zip_length}
 -- ---- numbers one after another
 
 numbers_append : (a n m : ℕ) → range_with_len a n ++ range_with_len (a + n) m ≡ range_with_len a (n + m)
-numbers_append a zero m = ap (λ (x : ℕ). range_with_len x m) (let same : a + 0 ≡ a = omega arith in same)
+numbers_append a zero m =
+    let start : a + 0 ≡ a = omega arith in
+    let len : m ≡ 0 + m = omega arith in
+    ap (λ (x : ℕ). range_with_len x m) start ∙ ap (range_with_len a) len
 numbers_append a (suc n) m =
     let next : a + suc n ≡ a + 1 + n = omega arith in
-    ap (λ (l : List ℕ). a ∷ l) (ap (λ (x : ℕ). range_with_len (a + 1) n ++ range_with_len x m) next ∙ numbers_append (a + 1) n m)
+    let len : suc (n + m) ≡ suc n + m = omega arith in
+    ap (λ (l : List ℕ). a ∷ l) (ap (λ (x : ℕ). range_with_len (a + 1) n ++ range_with_len x m) next ∙ numbers_append (a + 1) n m) ∙ ap (range_with_len a) len
 
 -- some numbers, and those that begin where they end
 pub numbers_join : (xs ys : List ℕ) (a n b m : ℕ) → xs ≡ range_with_len a n → ys ≡ range_with_len b m → b ≡ a + n → xs ++ ys ≡ range_with_len a (n + m)
@@ -37,28 +41,28 @@ one_number x = refl
 -- the pages so far have their lines, their bytes stand behind those of the tiles before, and they are numbered in turn
 pub record AreTold (start : ℕ) (old : List (List ℕ)) (whole rest : List (List Entry)) (lines : List PageLine) (pages : List (List ℕ)) : Type 0 where
   pub going : IsGoing IsLineOf whole rest lines
-  pub bytes : pages ≡ old ++ map spelled going.done
+  pub bytes : pages ++ map spelled rest ≡ old ++ map spelled whole
   pub numbers : map (λ line. line.no) lines ≡ range_with_len start (length lines)
 
 pub told_none : (start : ℕ) (old : List (List ℕ)) (whole : List (List Entry)) → AreTold start old whole whole [] old
-told_none start old whole = record { going = going_none IsLineOf whole; bytes = sym (append-nil old); numbers = refl }
+told_none start old whole = record { going = going_none IsLineOf whole; bytes = refl; numbers = refl }
 
 module _ (start : ℕ) (old : List (List ℕ)) (whole rest : List (List Entry)) (lines : List PageLine) (pages : List (List ℕ)) (told : AreTold start old whole rest lines pages) where
-  pub told_len : length pages ≡ length old + length lines
-  told_len =
-      omega (arith, ap length told.bytes, length-append old (map spelled told.going.done), length-map told.going.done spelled, zip_length IsLineOf told.going.done lines told.going.each)
-
   pub told_room : length lines + length rest ≡ length whole
   told_room = omega (arith, ap length told.going.is, length-append told.going.done rest, zip_length IsLineOf told.going.done lines told.going.each)
 
+  pub told_len : length pages ≡ length old + length lines
+  told_len =
+      omega (arith, told_room, ap length told.bytes, length-append pages (map spelled rest), length-append old (map spelled whole), length-map rest spelled, length-map whole spelled)
+
 pub told_more : (start : ℕ) (old : List (List ℕ)) (whole rest : List (List Entry)) (lines : List PageLine) (pages : List (List ℕ)) (page : List Entry) (line : PageLine)
     → AreTold start old whole (page ∷ rest) lines pages → IsLineOf page line → line.no ≡ start + length lines → AreTold start old whole rest (lines ++ line ∷ []) (pages ++ spelled page ∷ [])
-told_more start old whole rest lines pages page line told is no = record {
+told_more start old whole rest lines pages page line told is number = record {
   going = going_more IsLineOf whole rest lines page line told.going is;
-  bytes = ap (λ (l : List (List ℕ)). l ++ spelled page ∷ []) told.bytes ∙ append_assoc old (map spelled told.going.done) (spelled page ∷ []) ∙ ap (λ (l : List (List ℕ)). old ++ l) (sym (map-append spelled told.going.done (page ∷ [])));
+  bytes = append_assoc pages (spelled page ∷ []) (map spelled rest) ∙ told.bytes;
   numbers =
   map-append (λ (l : PageLine). l.no) lines (line ∷ [])
-  ∙ numbers_join (map (λ l. l.no) lines) (line.no ∷ []) start (length lines) line.no 1 told.numbers refl no
+  ∙ numbers_join (map (λ l. l.no) lines) (line.no ∷ []) start (length lines) line.no 1 told.numbers refl number
   ∙ ap (range_with_len start) (sym (length-append lines (line ∷ [])));
 }
 
@@ -66,7 +70,7 @@ told_more start old whole rest lines pages page line told is no = record {
 
 pub record AreJoined (first : ℕ) (whole rest : List layout.Tile) (lines : List TileLine) (pages : List (List ℕ)) : Type 0 where
   pub going : IsGoing IsTileLineOf whole rest lines
-  pub bytes : pages ≡ map spelled (pages_of going.done)
+  pub bytes : pages ++ map spelled (pages_of rest) ≡ map spelled (pages_of whole)
   pub numbers : map (λ line. line.no) (lines_of lines) ≡ range_with_len first (length pages)
 
 pub joined_none : (first : ℕ) (whole : List layout.Tile) → AreJoined first whole whole [] []
@@ -81,8 +85,10 @@ pub joined_more : (first : ℕ) (whole rest : List layout.Tile) (lines : List Ti
 joined_more first whole rest lines pages new tile line made is bytes numbers = record {
   going = going_more IsTileLineOf whole rest lines tile line made.going is;
   bytes =
-  bytes ∙ ap (λ (l : List (List ℕ)). l ++ map spelled tile.pages) made.bytes ∙ sym (map-append spelled (pages_of made.going.done) tile.pages)
-  ∙ ap (map spelled) (sym (flat-push (λ (t : layout.Tile). t.pages) made.going.done tile));
+  ap (λ (l : List (List ℕ)). l ++ map spelled (pages_of rest)) bytes
+  ∙ append_assoc pages (map spelled tile.pages) (map spelled (pages_of rest))
+  ∙ ap (λ (l : List (List ℕ)). pages ++ l) (sym (map-append spelled tile.pages (pages_of rest)))
+  ∙ made.bytes;
   numbers =
   ap (map (λ (l : PageLine). l.no)) (flat-push (λ (t : TileLine). t.pages) lines line)
   ∙ map-append (λ (l : PageLine). l.no) (lines_of lines) line.pages
