@@ -4,3 +4,4 @@ pub mod Follows
 pub mod Whole
 pub mod TileLines
 pub mod Loops
+pub mod Files

@@ -22,6 +22,7 @@ pub fn build_file(alloc: Global, tiles: Vec<Tile>, first: u64) -> Result<Built, 
     requires below { AllPairs IsBelow (map plain tiles.items) }
     requires numbers { first + length (pages_of (map plain tiles.items)) ≤ max_place }
     ensures file { IfOk result (IsFileOf (map plain tiles.items)) }
+    ensures no { IfOk result (λ file. file.header.no ≡ first + length (pages_of (map plain tiles.items))) }
     ensures numbers { IfOk result (λ file. numbers_of file ≡ range_with_len first (length (pages_of (map plain tiles.items)) + 1)) }
 {
     let mut pages = Vec::new(alloc);
