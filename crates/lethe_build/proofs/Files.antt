@@ -26,7 +26,7 @@ use Rattle.lethe_header.specs.declared.header.TileLine.{TileLine}
 use Rattle.lethe_file.specs.Agreement.{Agrees, FileAgrees, TilesHold, entries_in}
 use Rattle.lethe_file.proofs.Pages.{same_entries}
 use Rattle.lethe_build.specs.Built.{IsFileOf, IsToldBy, class_of, numbers_of, pages_of, spelled}
-use Rattle.lethe_build.specs.Parts.{IsBelow, IsLineOf, IsPage, IsTileLineOf, IsWhole}
+use Rattle.lethe_build.specs.Parts.{IsBelow, IsGroup, IsLineOf, IsPage, IsTileLineOf, IsWhole}
 use Rattle.lethe_build.proofs.Follows.{zip_split}
 use Rattle.lethe_build.specs.declared.built.Built.{Built}
 use Rattle.lethe_build.proofs.Loops.{AreJoined, numbers_join}
@@ -95,7 +95,7 @@ read_again (p ∷ ps) each =
     ap (λ (page : List Entry). page ∷ map entries_in (map spelled ps)) (same_entries (class_of p) p (All-head IsPage p ps each).has_spelling)
     ∙ ap (λ (pages : List (List Entry)). p ∷ pages) (read_again ps (All-tail IsPage p ps each))
 
-all_pages : (tiles : List layout.Tile) → All IsWhole tiles → All IsPage (pages_of tiles)
+pub all_pages : (tiles : List layout.Tile) → All IsWhole tiles → All IsPage (pages_of tiles)
 all_pages [] whole = All-nil IsPage
 all_pages (t ∷ ts) whole = All-append IsPage t.pages (pages_of ts) (tile_pages t (All-head IsWhole t ts whole)) (all_pages ts (All-tail IsWhole t ts whole))
 
@@ -121,7 +121,7 @@ all_done first tiles rest lines now pages none same made =
     subst (λ (ls : List TileLine). AreJoined first (map plain tiles) [] ls pages) (sym same)
     (subst (λ (left : List Tile). AreJoined first (map plain tiles) (map plain left) lines pages) (empty_is rest none) made)
 
-module _ (of : List Tile) (header : Header) (pages : List (List ℕ)) (first : ℕ) (some : 0 < length of) (few : length of ≤ 256) (whole : All IsWhole (map plain of)) (below : AllPairs IsBelow (map plain of))
+module _ (of : List Tile) (header : Header) (pages : List (List ℕ)) (first : ℕ) (group : IsGroup (map plain of))
   (fits : first + length (pages_of (map plain of)) ≤ max_place) (number : header.no ≡ first + length pages) (made : AreJoined first (map plain of) [] header.tiles pages) where
   lines : AllZip IsTileLineOf (map plain of) header.tiles
   lines = going_all IsTileLineOf (map plain of) header.tiles made.going
@@ -137,9 +137,9 @@ module _ (of : List Tile) (header : Header) (pages : List (List ℕ)) (first : �
       let so_many = zip_length IsTileLineOf (map plain of) header.tiles lines in
       record {
         no = omega (arith, number, len, fits);
-        some = omega (arith, so_many, length-map of plain, some);
-        few = omega (arith, so_many, length-map of plain, few);
-        tiles = tiles_follow (map plain of) header.tiles lines whole below;
+        some = omega (arith, so_many, group.some);
+        few = omega (arith, so_many, group.few);
+        tiles = tiles_follow (map plain of) header.tiles lines group.whole group.below;
       }
 
   module _ (header_bytes_of digest : List ℕ) where
@@ -148,10 +148,10 @@ module _ (of : List Tile) (header : Header) (pages : List (List ℕ)) (first : �
 
     pub is_file_of : header_bytes_of ≡ header_bytes header → digest ≡ sha256 header_bytes_of → IsFileOf (map plain of) file
     is_file_of spelled_so hash = record {
-      lines = told_by (map plain of) header.tiles lines whole;
+      lines = told_by (map plain of) header.tiles lines group.whole;
       pages = bytes;
-      entries = ap (map entries_in) bytes ∙ pages_again (map plain of) whole;
-      agrees = file_agrees (map plain of) header.tiles pages lines whole bytes;
+      entries = ap (map entries_in) bytes ∙ pages_again (map plain of) group.whole;
+      agrees = file_agrees (map plain of) header.tiles pages lines group.whole bytes;
       has_spelling = header_spelled;
       bytes = spelled_so;
       digest = hash;

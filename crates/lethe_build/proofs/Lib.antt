@@ -5,3 +5,4 @@ pub mod Whole
 pub mod TileLines
 pub mod Loops
 pub mod Files
+pub mod Groups

@@ -1,9 +1,10 @@
 -- Loops that make lines and files, one after another, and number them.
-use Rattle.std.proofs.Common.{◌≡◌, ℕ, zero, suc, ◌+◌, ◌≤◌, ◌<◌, List, [], ◌∷◌, ◌++◌, length, map, flat_map, refl, ◌∙◌, ap, sym, append_assoc, append-nil, length-append, arith}
+use Rattle.std.proofs.Common.{◌≡◌, ℕ, zero, suc, ◌+◌, ◌≤◌, ◌<◌, List, [], ◌∷◌, ◌++◌, length, map, flat_map, All, refl, ◌∙◌, ap, sym, append_assoc, append-nil, length-append, arith}
 use Rattle.std.specs.Prelude.{sum_by}
 use Rattle.std.specs.List.{AllZip, range_with_len}
 use Rattle.std.proofs.lemmas.List.{length-map, map-append}
 use Rattle.std.proofs.lemmas.List.Concat.{flat_map-append}
+use Rattle.std.proofs.lemmas.List.Elements.{All-tail}
 use Rattle.std.proofs.lemmas.List.FromFn.{length-range_with_len}
 use Rattle.std.proofs.lemmas.List.Sums.{sum_by-cons}
 use Rattle.lethe_base.specs.Layout as layout
@@ -13,7 +14,7 @@ use Rattle.lethe_header.specs.Facts.{lines_of}
 use Rattle.lethe_header.specs.declared.header.PageLine.{PageLine}
 use Rattle.lethe_header.specs.declared.header.TileLine.{TileLine}
 use Rattle.lethe_build.specs.Built.{IsFileOf, all_numbers, numbers_of, pages_of, spelled}
-use Rattle.lethe_build.specs.Parts.{IsLineOf, IsTileLineOf}
+use Rattle.lethe_build.specs.Parts.{IsGroup, IsLineOf, IsTileLineOf}
 use Rattle.lethe_build.specs.declared.built.Built.{Built}
 use Rattle.lethe_build.proofs.TileLines.{zip_length}
 
@@ -102,24 +103,30 @@ joined_more first whole rest lines pages new tile line made is bytes numbers = r
 abbrev pub numbers_for : List layout.Tile → ℕ
 numbers_for tiles = length (pages_of tiles) + 1
 
-pub record AreMade (first next : ℕ) (whole rest : List (List layout.Tile)) (files : List Built) : Type 0 where
+-- the files so far, of groups that take at most so many numbers
+pub record AreMade (most first next : ℕ) (whole rest : List (List layout.Tile)) (files : List Built) : Type 0 where
   pub going : IsGoing IsFileOf whole rest files
+  pub left : All IsGroup rest
   pub numbers : all_numbers files ≡ range_with_len first (length (all_numbers files))
   pub next_is : next ≡ first + length (all_numbers files)
-  pub room : next + sum_by numbers_for rest ≡ first + sum_by numbers_for whole
+  pub room : length (all_numbers files) + sum_by numbers_for rest ≤ most
 
-pub made_none : (first : ℕ) (whole : List (List layout.Tile)) → AreMade first first whole whole []
-made_none first whole = record { going = going_none IsFileOf whole; numbers = refl; next_is = omega arith; room = refl }
+pub made_none : (most first : ℕ) (whole : List (List layout.Tile)) (files : List Built) → files ≡ [] → All IsGroup whole → sum_by numbers_for whole ≤ most → AreMade most first first whole whole files
+made_none most first whole files none groups few = rw none (record { going = going_none IsFileOf whole; left = groups; numbers = refl; next_is = omega arith; room = omega (arith, few) })
 
-pub made_more : (first next : ℕ) (whole rest : List (List layout.Tile)) (files : List Built) (tiles : List layout.Tile) (file : Built)
-    → AreMade first next whole (tiles ∷ rest) files → IsFileOf tiles file → numbers_of file ≡ range_with_len next (numbers_for tiles) → AreMade first (next + numbers_for tiles) whole rest (files ++ file ∷ [])
-made_more first next whole rest files tiles file made is numbers =
-    let split : all_numbers (files ++ file ∷ []) ≡ all_numbers files ++ numbers_of file = flat-push numbers_of files file in
-    let len : length (all_numbers (files ++ file ∷ [])) ≡ length (all_numbers files) + numbers_for tiles =
-    omega (arith, ap length split, length-append (all_numbers files) (numbers_of file), ap length numbers, length-range_with_len next (numbers_for tiles)) in
-    record {
-      going = going_more IsFileOf whole rest files tiles file made.going is;
-      numbers = split ∙ numbers_join (all_numbers files) (numbers_of file) first (length (all_numbers files)) next (numbers_for tiles) made.numbers numbers made.next_is ∙ ap (range_with_len first) (sym len);
-      next_is = omega (arith, len, made.next_is);
-      room = omega (arith, made.room, sum_by-cons numbers_for tiles rest);
-    }
+module _ (most first next : ℕ) (whole rest : List (List layout.Tile)) (files : List Built) (tiles : List layout.Tile) (made : AreMade most first next whole (tiles ∷ rest) files) where
+  pub made_room : next + numbers_for tiles ≤ first + most
+  made_room = omega (arith, made.room, made.next_is, sum_by-cons numbers_for tiles rest)
+
+  pub made_more : (file : Built) (now : ℕ) → IsFileOf tiles file → numbers_of file ≡ range_with_len next (numbers_for tiles) → now ≡ next + numbers_for tiles → AreMade most first now whole rest (files ++ file ∷ [])
+  made_more file now is numbers now_is =
+      let split : all_numbers (files ++ file ∷ []) ≡ all_numbers files ++ numbers_of file = flat-push numbers_of files file in
+      let len : length (all_numbers (files ++ file ∷ [])) ≡ length (all_numbers files) + numbers_for tiles =
+      omega (arith, ap length split, length-append (all_numbers files) (numbers_of file), ap length numbers, length-range_with_len next (numbers_for tiles)) in
+      record {
+        going = going_more IsFileOf whole rest files tiles file made.going is;
+        left = All-tail IsGroup tiles rest made.left;
+        numbers = split ∙ numbers_join (all_numbers files) (numbers_of file) first (length (all_numbers files)) next (numbers_for tiles) made.numbers numbers made.next_is ∙ ap (range_with_len first) (sym len);
+        next_is = omega (arith, len, made.next_is, now_is);
+        room = omega (arith, len, made.room, sum_by-cons numbers_for tiles rest);
+      }

@@ -34,7 +34,7 @@ use Rattle.lethe_file.proofs.Orders.{own_key}
 use Rattle.lethe_build.specs.Built.{class_of}
 use Rattle.lethe_build.specs.Parts.{IsPage, IsLineOf, IsTileLineOf, IsWhole}
 use Rattle.lethe_build.proofs.Follows.{lines_follow}
-use Rattle.lethe_build.proofs.Whole.{IsPut, IsTombstone, between, few_entries, few_pages, key_there, keys_between, keys_differ, long, not_tomb, pages_once, parts_all, precede, puts_are, puts_class, puts_few, some_pages, tombs_are, tombs_class}
+use Rattle.lethe_build.proofs.Whole.{IsPut, IsTombstone, between, few_entries, few_pages, key_there, keys_between, keys_differ, long, not_tomb, parts_all, precede, puts_are, puts_class, puts_few, some_pages, tombs_are, tombs_class}
 
 -- ---- lists item by item
 

@@ -23,7 +23,7 @@ use Rattle.lethe_base.specs.declared.entry.Body.TheVariants.{Put, Tomb}
 use Rattle.lethe_base.specs.declared.entry.Entry.{Entry}
 use Rattle.lethe_page.specs.declared.class.Class.{Class}
 use Rattle.lethe_page.specs.declared.class.Class.TheVariants.{Puts, Tombs}
-use Rattle.lethe_tile.specs.Woven.{joined, ComesBefore, IsBelow, IsCut, dkey_of, key_at, page_of, puts_of, tombs_of, weave_cmp}
+use Rattle.lethe_tile.specs.Woven.{joined, ComesBefore, IsBelow, IsCut, IsTile, dkey_of, key_at, page_of, puts_of, tombs_of, weave_cmp}
 use Rattle.lethe_tile.proofs.Orders.{pairs_nil, pairs_append, all_left, all_right, Across, HasLowerKey, HasOtherKey, other_from_ascending, other_permuted, pairs_from_ascending, pairs_from_other}
 use Rattle.lethe_header.specs.Headers.{is_puts}
 use Rattle.lethe_file.proofs.Orders.{own_key}
@@ -169,20 +169,26 @@ between entries lo hi up first last k d inside = (above, below)
 
 -- ---- a whole tile
 
+-- the tile's pages have its entries, each once
+tile_once : (page : ℕ) (entries : List Entry) (tile : layout.Tile) → IsTile page entries tile → IsPermutation entries (joined tile.pages)
+tile_once page entries tile is =
+    let tombs = tombs_of entries in
+    let puts = puts_of entries in
+    let parted : IsPermutation entries (tombs ++ puts) = IsPermutation-filter_both (λ (e : Entry). is_tomb e.body) (λ (e : Entry). not (is_tomb e.body)) (λ e. refl) entries in
+    let paged : IsPermutation (tombs ++ puts) (tombs ++ joined is.pages) = IsPermutation-append tombs tombs puts (joined is.pages) (IsPermutation-refl tombs) is.paged.once in
+    let all : joined tile.pages ≡ tombs ++ joined is.pages =
+    ap joined is.is ∙ flat_map-append (λ (part : List Entry). part) (page_of tombs) is.pages ∙ ap (λ (l : List Entry). l ++ joined is.pages) (joined_page tombs) in
+    subst (IsPermutation entries) (sym all) (IsPermutation-trans entries (tombs ++ puts) (tombs ++ joined is.pages) parted paged)
+
+pub tile_long : (page : ℕ) (entries : List Entry) (tile : layout.Tile) → IsTile page entries tile → length (joined tile.pages) ≡ length entries
+tile_long page entries tile is = length_permutation entries (joined tile.pages) (tile_once page entries tile is)
+
 module _ (tile : layout.Tile) (whole : IsWhole tile) where
-  -- the tile's pages have its entries, each once
-  pub pages_once : IsPermutation whole.entries (joined tile.pages)
-  pages_once =
-      let tombs = tombs_of whole.entries in
-      let puts = puts_of whole.entries in
-      let parted : IsPermutation whole.entries (tombs ++ puts) = IsPermutation-filter_both (λ (e : Entry). is_tomb e.body) (λ (e : Entry). not (is_tomb e.body)) (λ e. refl) whole.entries in
-      let paged : IsPermutation (tombs ++ puts) (tombs ++ joined whole.is.pages) = IsPermutation-append tombs tombs puts (joined whole.is.pages) (IsPermutation-refl tombs) whole.is.paged.once in
-      let all : joined tile.pages ≡ tombs ++ joined whole.is.pages =
-      ap joined whole.is.is ∙ flat_map-append (λ (part : List Entry). part) (page_of tombs) whole.is.pages ∙ ap (λ (l : List Entry). l ++ joined whole.is.pages) (joined_page tombs) in
-      subst (IsPermutation whole.entries) (sym all) (IsPermutation-trans whole.entries (tombs ++ puts) (tombs ++ joined whole.is.pages) parted paged)
+  pages_once : IsPermutation whole.entries (joined tile.pages)
+  pages_once = tile_once whole.fields.page whole.entries tile whole.is
 
   pub long : length (joined tile.pages) ≡ length whole.entries
-  long = length_permutation whole.entries (joined tile.pages) pages_once
+  long = tile_long whole.fields.page whole.entries tile whole.is
 
   pub tombs_are : All IsTombstone (tombs_of whole.entries)
   tombs_are = filter_passes (λ (e : Entry). is_tomb e.body) whole.entries

@@ -1,5 +1,5 @@
 -- The parts of a file, one by one.
-use Rattle.std.specs.Prelude.{◌≡◌, ◌*◌, ◌<◌, ◌≤◌, List, length, All}
+use Rattle.std.specs.Prelude.{◌≡◌, ◌*◌, ◌<◌, ◌≤◌, List, length, All, AllPairs}
 use Rattle.std.specs.List.{AllZip}
 use Rattle.std.specs.declared.cmp.Ordering.TheVariants.{Less}
 use Rattle.lethe_base.specs.Configuration.{IsConfig}
@@ -50,3 +50,10 @@ pub record IsTileLineOf (tile : layout.Tile) (line : TileLine) : Type 0 where
 -- each key of the tile is below each of the other
 abbrev pub IsBelow : layout.Tile → layout.Tile → Type 0
 IsBelow tile other = key_cmp tile.hi other.lo ≡ Less
+
+-- neighbouring tiles, as many as a file may have
+pub record IsGroup (tiles : List layout.Tile) : Type 0 where
+  pub some : 0 < length tiles
+  pub few : length tiles ≤ 256
+  pub whole : All IsWhole tiles
+  pub below : AllPairs IsBelow tiles

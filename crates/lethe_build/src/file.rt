@@ -1,10 +1,10 @@
 //! A file of some tiles.
-ghost use Rattle.std.specs.Prelude.{◌≡◌, ◌+◌, ◌<◌, ◌≤◌, length, map, All, AllPairs, IfOk};
+ghost use Rattle.std.specs.Prelude.{◌≡◌, ◌+◌, ◌≤◌, length, map, IfOk};
 ghost use Rattle.std.specs.List.{range_with_len};
 ghost use Rattle.lethe_base.specs.Limits.{max_place};
 ghost use Rattle.lethe_tile.specs.Woven.{plain};
 ghost use Rattle.lethe_build.specs.Built.{pages_of, numbers_of, IsFileOf};
-ghost use Rattle.lethe_build.specs.Parts.{IsWhole, IsBelow};
+ghost use Rattle.lethe_build.specs.Parts.{IsGroup};
 
 use crate::built::Built;
 use crate::page::digest_of;
@@ -16,10 +16,7 @@ use std::alloc::Global;
 
 /// The file of these tiles, whose pages are numbered from `first` on, and behind them its header.
 pub fn build_file(alloc: Global, tiles: Vec<Tile>, first: u64) -> Result<Built, NoMemory>
-    requires some { 0 < length tiles.items }
-    requires few { length tiles.items ≤ 256 }
-    requires whole { All IsWhole (map plain tiles.items) }
-    requires below { AllPairs IsBelow (map plain tiles.items) }
+    requires group { IsGroup (map plain tiles.items) }
     requires numbers { first + length (pages_of (map plain tiles.items)) ≤ max_place }
     ensures file { IfOk result (IsFileOf (map plain tiles.items)) }
     ensures no { IfOk result (λ file. file.header.no ≡ first + length (pages_of (map plain tiles.items))) }

@@ -10,7 +10,7 @@ use Rattle.lethe_build.proofs.file.build_file.Goals as goal
 pub build_tile-requires-clause-whole : goal.build_tile-requires-clause-whole
 build_tile-requires-clause-whole c =
     let made = rw (c.in-Some.ensures.steps.0) at c.loop-tile.invariant in
-    going_next IsTileLineOf IsWhole _ _ _ (plain c.in-Some.tile) made.going c.requires.whole
+    going_next IsTileLineOf IsWhole _ _ _ (plain c.in-Some.tile) made.going c.requires.group.whole
 
 pub loop-tile-preserved : goal.loop-tile-preserved
 loop-tile-preserved c =
@@ -22,16 +22,16 @@ pub write_header-requires : goal.write_header-requires
 write_header-requires c =
     let made = all_done _ _ _ _ _ _ (omega (arith, c.in-None.ensures.steps.0)) c.of.ensures c.loop-tile.invariant in
     let number : c.args.first + c.len-2.result ≡ c.args.first + length c.loop-tile.pages.items = omega (arith, c.loop-tile.pages.ok.0) in
-    header_spelled _ _ _ _ c.requires.some c.requires.few c.requires.whole c.requires.below c.requires.numbers number made
+    header_spelled _ _ _ _ c.requires.group c.requires.numbers number made
 
 pub returns-clause-file : goal.returns-clause-file
 returns-clause-file c =
     let made = all_done _ _ _ _ _ _ (omega (arith, c.in-None.ensures.steps.0)) c.of.ensures c.loop-tile.invariant in
     let number : c.args.first + c.len-2.result ≡ c.args.first + length c.loop-tile.pages.items = omega (arith, c.loop-tile.pages.ok.0) in
-    rw c.of-3.ensures (is_file_of _ _ _ _ c.requires.some c.requires.few c.requires.whole c.requires.below c.requires.numbers number made _ _ (c.of-2.ensures ∙ c.in_ok-bytes.ensures) (c.digest_of-digest.ensures ∙ ap sha256 (c.deref.ensures.value ∙ sym c.of-2.ensures)))
+    rw c.of-3.ensures (is_file_of _ _ _ _ c.requires.group c.requires.numbers number made _ _ (c.of-2.ensures ∙ c.in_ok-bytes.ensures) (c.digest_of-digest.ensures ∙ ap sha256 (c.deref.ensures.value ∙ sym c.of-2.ensures)))
 
 pub returns-clause-numbers : goal.returns-clause-numbers
 returns-clause-numbers c =
     let made = all_done _ _ _ _ _ _ (omega (arith, c.in-None.ensures.steps.0)) c.of.ensures c.loop-tile.invariant in
     let number : c.args.first + c.len-2.result ≡ c.args.first + length c.loop-tile.pages.items = omega (arith, c.loop-tile.pages.ok.0) in
-    file_numbers _ _ _ _ c.requires.some c.requires.few c.requires.whole c.requires.below c.requires.numbers number made c.of-2.result c.digest_of-digest.result
+    file_numbers _ _ _ _ c.requires.group c.requires.numbers number made c.of-2.result c.digest_of-digest.result
