@@ -122,7 +122,7 @@ all_done first tiles rest lines now pages none same made =
     (subst (λ (left : List Tile). AreJoined first (map plain tiles) (map plain left) lines pages) (empty_is rest none) made)
 
 module _ (of : List Tile) (header : Header) (pages : List (List ℕ)) (first : ℕ) (group : IsGroup (map plain of))
-  (fits : first + length (pages_of (map plain of)) ≤ max_place) (number : header.no ≡ first + length pages) (made : AreJoined first (map plain of) [] header.tiles pages) where
+    (fits : first + length (pages_of (map plain of)) ≤ max_place) (number : header.no ≡ first + length pages) (made : AreJoined first (map plain of) [] header.tiles pages) where
   lines : AllZip IsTileLineOf (map plain of) header.tiles
   lines = going_all IsTileLineOf (map plain of) header.tiles made.going
 

@@ -118,7 +118,7 @@ tiles_long page (s ∷ ss) (t ∷ ts) zip =
 -- ---- the tiles of each file
 
 module _ (fields : Fields) (entries : List Entry) (tiles : List layout.Tile) (groups : List (List layout.Tile)) (config : IsConfig fields) (up : IsAscending entries) (each : All HasSpelling entries)
-  (woven : IsWoven fields entries tiles) (consecutive : joined groups ≡ tiles) (lengths : IsCut fields.file groups) where
+    (woven : IsWoven fields entries tiles) (consecutive : joined groups ≡ tiles) (lengths : IsCut fields.file groups) where
   some : All (λ slice. 0 < length slice) woven.slices
   some = cut_some (fields.page * fields.tile) woven.slices (one-le-mul config.page.0 config.tile.0) woven.lengths
 

@@ -62,9 +62,9 @@ told_more start old whole rest lines pages page line told is number = record {
   going = going_more IsLineOf whole rest lines page line told.going is;
   bytes = append_assoc pages (spelled page ∷ []) (map spelled rest) ∙ told.bytes;
   numbers =
-  map-append (λ (l : PageLine). l.no) lines (line ∷ [])
-  ∙ numbers_join (map (λ l. l.no) lines) (line.no ∷ []) start (length lines) line.no 1 told.numbers refl number
-  ∙ ap (range_with_len start) (sym (length-append lines (line ∷ [])));
+      map-append (λ (l : PageLine). l.no) lines (line ∷ [])
+      ∙ numbers_join (map (λ l. l.no) lines) (line.no ∷ []) start (length lines) line.no 1 told.numbers refl number
+      ∙ ap (range_with_len start) (sym (length-append lines (line ∷ [])));
 }
 
 -- ---- the tiles of a file
@@ -86,15 +86,15 @@ pub joined_more : (first : ℕ) (whole rest : List layout.Tile) (lines : List Ti
 joined_more first whole rest lines pages new tile line made is bytes numbers = record {
   going = going_more IsTileLineOf whole rest lines tile line made.going is;
   bytes =
-  ap (λ (l : List (List ℕ)). l ++ map spelled (pages_of rest)) bytes
-  ∙ append_assoc pages (map spelled tile.pages) (map spelled (pages_of rest))
-  ∙ ap (λ (l : List (List ℕ)). pages ++ l) (sym (map-append spelled tile.pages (pages_of rest)))
-  ∙ made.bytes;
+      ap (λ (l : List (List ℕ)). l ++ map spelled (pages_of rest)) bytes
+      ∙ append_assoc pages (map spelled tile.pages) (map spelled (pages_of rest))
+      ∙ ap (λ (l : List (List ℕ)). pages ++ l) (sym (map-append spelled tile.pages (pages_of rest)))
+      ∙ made.bytes;
   numbers =
-  ap (map (λ (l : PageLine). l.no)) (flat-push (λ (t : TileLine). t.pages) lines line)
-  ∙ map-append (λ (l : PageLine). l.no) (lines_of lines) line.pages
-  ∙ numbers_join (map (λ l. l.no) (lines_of lines)) (map (λ l. l.no) line.pages) first (length pages) (first + length pages) (length line.pages) made.numbers numbers refl
-  ∙ ap (range_with_len first) (let same : length pages + length line.pages ≡ length new = omega (arith, ap length bytes, length-append pages (map spelled tile.pages), length-map tile.pages spelled, zip_length IsLineOf tile.pages line.pages is.pages) in same);
+      ap (map (λ (l : PageLine). l.no)) (flat-push (λ (t : TileLine). t.pages) lines line)
+      ∙ map-append (λ (l : PageLine). l.no) (lines_of lines) line.pages
+      ∙ numbers_join (map (λ l. l.no) (lines_of lines)) (map (λ l. l.no) line.pages) first (length pages) (first + length pages) (length line.pages) made.numbers numbers refl
+      ∙ ap (range_with_len first) (let same : length pages + length line.pages ≡ length new = omega (arith, ap length bytes, length-append pages (map spelled tile.pages), length-map tile.pages spelled, zip_length IsLineOf tile.pages line.pages is.pages) in same);
 }
 
 -- ---- the files

@@ -149,18 +149,18 @@ module _ (tile : layout.Tile) (line : TileLine) (whole : IsWhole tile) (is : IsT
         some = omega (arith, same_len, some_pages tile whole);
         few = omega (arith, same_len, few_pages tile whole);
         lines =
-        lines_follow tile.pages line.pages is.pages (precede tile whole)
-        (omega (arith, lines_puts tile.pages line.pages is.pages, puts_few tile whole))
-        (omega (arith, lines_entries tile.pages line.pages is.pages, long tile whole, few_entries tile whole));
+            lines_follow tile.pages line.pages is.pages (precede tile whole)
+            (omega (arith, lines_puts tile.pages line.pages is.pages, puts_few tile whole))
+            (omega (arith, lines_entries tile.pages line.pages is.pages, long tile whole, few_entries tile whole));
       }
 
   pub line_holds : TileHolds line tile.pages
   line_holds = record {
     within = λ k d lt j e inside.
-    let between = keys_between tile whole k d lt j e inside in
-    record { lo = subst (λ (x : Bytes). is_le (key_cmp x (get_or (get_or tile.pages k d) j e).key) ≡ true) (sym is.lo) between.0; hi = subst (λ (x : Bytes). is_le (key_cmp (get_or (get_or tile.pages k d) j e).key x) ≡ true) (sym is.hi) between.1 };
+        let between = keys_between tile whole k d lt j e inside in
+        record { lo = subst (λ (x : Bytes). is_le (key_cmp x (get_or (get_or tile.pages k d) j e).key) ≡ true) (sym is.lo) between.0; hi = subst (λ (x : Bytes). is_le (key_cmp (get_or (get_or tile.pages k d) j e).key x) ≡ true) (sym is.hi) between.1 };
     once = λ i j d lt below k e inside l f inside' same.
-    let differ : same_key (get_or (get_or tile.pages i d) k e).key (get_or (get_or tile.pages j d) l f).key ≡ false = keys_differ tile whole i j d lt below k e inside l f inside' in
-    let own : same_key (get_or (get_or tile.pages i d) k e).key (get_or (get_or tile.pages j d) l f).key ≡ true = subst (λ (x : Bytes). same_key (get_or (get_or tile.pages i d) k e).key x ≡ true) same (ap is_eq (own_key (get_or (get_or tile.pages i d) k e).key)) in
-    true≢false (sym own ∙ differ);
+        let differ : same_key (get_or (get_or tile.pages i d) k e).key (get_or (get_or tile.pages j d) l f).key ≡ false = keys_differ tile whole i j d lt below k e inside l f inside' in
+        let own : same_key (get_or (get_or tile.pages i d) k e).key (get_or (get_or tile.pages j d) l f).key ≡ true = subst (λ (x : Bytes). same_key (get_or (get_or tile.pages i d) k e).key x ≡ true) same (ap is_eq (own_key (get_or (get_or tile.pages i d) k e).key)) in
+        true≢false (sym own ∙ differ);
   }
