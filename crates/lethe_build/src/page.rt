@@ -1,0 +1,72 @@
+//! Spelling a page, and telling of it by a line.
+ghost use Rattle.std.specs.Prelude.{◌≡◌, ◌≤◌, ◌<◌, ◌^◌, length, All, IfOk};
+ghost use Rattle.sha2.specs.Sha256.{sha256};
+ghost use Rattle.lethe_base.specs.Limits.{max_place};
+ghost use Rattle.lethe_file.specs.Agreement.{IsFilterOf};
+ghost use Rattle.lethe_build.specs.Built.{spelled};
+ghost use Rattle.lethe_build.specs.Parts.{IsPage, IsLineOf};
+
+use crate::line::{class_of, fence_of, keys_of, max_seq_of, oldest_of};
+use lethe_base::{Entry, Key, List, NoMemory};
+use lethe_header::PageLine;
+use lethe_page::write_page;
+use lethe_tile::Filter;
+use sha2::{Digest, Sha256};
+use std::alloc::Global;
+
+/// SHA-256 of the bytes.
+pub fn digest_of(bytes: &[u8]) -> [u8; 32]
+    ensures { result ≡ sha256 bytes.now }
+{
+    let mut hasher = Sha256::new();
+    hasher.update(bytes);
+    hasher.finalize()
+}
+
+/// The filter of these keys.
+fn filter_of(alloc: Global, keys: &[Key]) -> Result<Filter, NoMemory>
+    requires { 0 < length keys.now }
+    ensures { IfOk result (IsFilterOf keys.now) }
+{
+    let filter = Filter::build(alloc, keys)?;
+    are_words(filter.words());
+    Ok(filter)
+}
+
+/// Each of the words has 64 bits: this does nothing, and its contract says so of the numbers that contracts see.
+fn are_words(words: &[u64])
+    ensures { All (λ word. word < 2 ^ 64) words.now }
+{}
+
+/// The line and the bytes of the page of these entries, with this number.
+pub fn build_page(
+    alloc: Global,
+    no: u64,
+    entries: List<Entry>,
+) -> Result<(PageLine, List<u8>), NoMemory>
+    requires number { no ≤ max_place }
+    requires page { IsPage entries }
+    ensures number { IfOk result (λ page. page.0.no ≡ no) }
+    ensures line { IfOk result (λ page. IsLineOf entries page.0) }
+    ensures bytes { IfOk result (λ page. page.1 ≡ spelled entries) }
+{
+    let entries = entries.into_vec();
+    let class = class_of(&entries);
+    let bytes = write_page(alloc, class, &entries)?;
+    let count = entries.len() as u32;
+    let max_seq = max_seq_of(&entries);
+    let oldest = oldest_of(&entries);
+    let fence = fence_of(&entries);
+    let filter = filter_of(alloc, &keys_of(alloc, entries)?)?;
+    let line = PageLine {
+        no,
+        class,
+        entries: count,
+        max_seq,
+        oldest,
+        fence,
+        filter,
+        digest: digest_of(&bytes),
+    };
+    Ok((line, List::of(bytes)))
+}
