@@ -1,43 +1,66 @@
-//! `lethe DIR run`: carries out the script on standard input, over a store in memory that begins empty and is forgotten at the end.
+//! `lethe DIR run`: carries out the script on standard input, over the store that is kept in the folder DIR.
 #![tactic(auto)]
 
-use lethe_memdisk::MemDisk;
+use lethe_dirdisk::{DirDisk, DirRefused};
 use lethe_run::run;
-use lethe_wire::{StdSink, StdSource};
+use lethe_wire::{Sink, StdSink, StdSource, write_all};
 use std::env;
 use std::io::{self, ErrorKind};
 use std::process::ExitCode;
 
-/// The status for want of memory before the words are known, or for the disk.
+/// The status where there is no DIR.
+const BAD_WORDS: u8 = 2;
+
+/// The status where standard output failed.
+const WRITE_FAULT: u8 = 5;
+
+/// The status for want of memory before the words are known, or for the folder.
 const NO_MEMORY: u8 = 7;
 
-/// How many device calls the disk has room for. A later one fails. A change takes four.
-const DEVICE_CALLS: u64 = 100_000;
+/// The status where the folder is refused.
+const BAD_FOLDER: u8 = 10;
 
 fn main(rt: HostRuntime) -> ExitCode {
-    match words_of(&rt) {
-        Ok(words) => ExitCode::from(status_of(rt, &words)),
-        Err(error) if error.kind() == ErrorKind::OutOfMemory => ExitCode::from(NO_MEMORY),
+    let status = match words_of(&rt) {
+        Ok(words) => status_of(&rt, &words),
+        Err(error) if error.kind() == ErrorKind::OutOfMemory => NO_MEMORY,
         // A word that is no text is no word of a command.
-        Err(_) => ExitCode::from(status_of(rt, &[])),
+        Err(_) => status_of(&rt, &[]),
+    };
+    ExitCode::from(status)
+}
+
+/// Runs the words behind DIR over the disk of that folder, and answers the status.
+fn status_of(rt: &HostRuntime, words: &[String]) -> u8 {
+    let alloc = rt.alloc();
+    let mut sink = StdSink::new(io::writer(rt));
+    let [dir, words @ ..] = words else {
+        return say(&mut sink, b"bad words\n", BAD_WORDS);
+    };
+    match DirDisk::open(rt, alloc, dir.as_str()) {
+        Ok(disk) => {
+            let mut source = StdSource::new(rt.reader());
+            run(alloc, words, &mut source, &mut sink, disk).status
+        }
+        Err(DirRefused::NoMemory) => NO_MEMORY,
+        Err(DirRefused::Foreign | DirRefused::Folder) => {
+            say(&mut sink, b"bad folder\n", BAD_FOLDER)
+        }
     }
 }
 
-/// Runs the words over an empty disk, and answers the status.
-fn status_of(rt: HostRuntime, words: &[String]) -> u8 {
-    let alloc = rt.alloc();
-    let Ok(disk) = MemDisk::new(alloc, DEVICE_CALLS, Vec::new(alloc)) else {
-        return NO_MEMORY;
-    };
-    let mut source = StdSource::new(rt.reader());
-    let mut sink = StdSink::new(io::writer(&rt));
-    run(alloc, words, &mut source, &mut sink, disk).status
+/// Writes a line, and answers the status.
+fn say<K: Sink>(sink: &mut K, line: &[u8], status: u8) -> u8 {
+    match write_all(sink, line) {
+        Ok(()) => status,
+        Err(_) => WRITE_FAULT,
+    }
 }
 
-/// The words behind the program's name and DIR.
+/// The words behind the program's name.
 fn words_of(rt: &HostRuntime) -> io::Result<Vec<String>> {
     let mut words = Vec::new(rt.alloc());
-    for word in env::args(rt)?.skip(2) {
+    for word in env::args(rt)?.skip(1) {
         words.push(word)?;
     }
     Ok(words)

@@ -1,6 +1,5 @@
 -- What is known of a disk that tells nothing of what it holds: how often it failed.
-use Rattle.std.specs.Prelude.{ℕ, Result, Ok, Err, refl}
-use Rattle.std.specs.Coded.{Coded, code_by, coded_ℕ, coded×}
+use Rattle.std.specs.Prelude.{ℕ, Result, Ok, Err}
 use Rattle.std.specs.FinMap.{empty}
 use Rattle.lethe_base.specs.Counts.{counted}
 use Rattle.lethe_disk.specs.Disk.{Seen}
@@ -12,15 +11,6 @@ abbrev pub faults_after : {T : Type 0} → Result T DiskRefused → ℕ → ℕ
 faults_after (Ok value) faults = faults
 faults_after (Err Failed) faults = counted faults
 faults_after (Err NoMemory) faults = faults
-
--- what is known of a port
-pub record Counts : Type 0 where
-  pub fetches : ℕ
-  pub faults : ℕ
-
--- how it is stored
-abbrev pub counts_code : Coded Counts
-counts_code = code_by (ℕ × ℕ) (coded× coded_ℕ coded_ℕ) (λ c. (c.fetches, c.faults)) (λ p. record { fetches = p.0; faults = p.1 }) (λ _. refl)
 
 -- stands where a disk is asked what it holds, and says nothing of it
 abbrev pub untold : Seen

@@ -91,7 +91,7 @@ impl Disk for DirDisk {
 
     ghost port_faults = { λ p. p.faults };
 
-    ghost fetches = { λ p. p.fetches };
+    ghost fetches = { λ p. p.fetches.count };
 
     ghost itself = { λ told _. absurd told };
 
@@ -160,7 +160,7 @@ impl Disk for DirDisk {
     }
 
     fn port(&mut self, alloc: Global) -> Result<DirPort, NoMemory>
-        ensures fresh { IfOk result (λ port. port ≡ record { fetches = 0; faults = 0 }) }
+        ensures fresh { IfOk result (λ port. (port.fetches.count ≡ 0) × (port.faults ≡ 0)) }
         ensures same { self.new ≡ self.old }
     {
         Ok(DirPort::new(self.folder.place(alloc)?))
@@ -169,7 +169,7 @@ impl Disk for DirDisk {
     fn fetch(alloc: Global, port: &mut DirPort, page: &DirPage) -> Result<Vec<u8>, DiskRefused>
         ensures count { port.new.faults ≡ faults_after result port.old.faults }
         ensures cause { HasCause port.old.faults port.new.faults result }
-        ensures counted { port.new.fetches ≡ port.old.fetches + 1 }
+        ensures counted { port.new.fetches.count ≡ port.old.fetches.count + 1 }
     {
         port.fetch(alloc, page)
     }

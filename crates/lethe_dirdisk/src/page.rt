@@ -8,7 +8,6 @@ use crate::refusal::is_no_memory;
 use lethe_base::Name;
 use lethe_disk::{DiskRefused, Fetches};
 use std::alloc::Global;
-use std::marker::Model;
 
 /// A page of a folder: its name. Its file is opened at each fetch.
 #[derive(Drop)]
@@ -22,7 +21,7 @@ impl DirPage {
     }
 }
 
-/// A port of a folder. Contracts see its counts.
+/// A port of a folder.
 #[derive(Drop)]
 pub struct DirPort {
     place: Place,
@@ -30,19 +29,10 @@ pub struct DirPort {
     faults: u64,
 }
 
-impl Model for DirPort {
-    ghost use Rattle.lethe_dirdisk.specs.Faults.{Counts, counts_code};
-
-    ghost Value = { Counts };
-
-    ghost coded = { counts_code };
-
-    ghost view = { λ p. record { fetches = p.fetches.count; faults = p.faults } };
-}
-
 impl DirPort {
     pub(crate) fn new(place: Place) -> DirPort
-        ensures { result ≡ record { fetches = 0; faults = 0 } }
+        ensures fetches { result.fetches.count ≡ 0 }
+        ensures faults { result.faults ≡ 0 }
     {
         DirPort {
             place,
@@ -60,7 +50,7 @@ impl DirPort {
     pub(crate) fn fetch(&mut self, alloc: Global, page: &DirPage) -> Result<Vec<u8>, DiskRefused>
         ensures count { self.new.faults ≡ faults_after result self.old.faults }
         ensures cause { HasCause self.old.faults self.new.faults result }
-        ensures counted { self.new.fetches ≡ self.old.fetches + 1 }
+        ensures counted { self.new.fetches.count ≡ self.old.fetches.count + 1 }
     {
         self.fetches = self.fetches.next();
         match self.place.read(alloc, page.name) {

@@ -1,0 +1,86 @@
+#!/bin/sh
+# Kills the program with signal 9 at a random moment of 200 runs over one folder, tests/kill.sh [SEED]. Behind each, the store is
+# the map after a front of that run's changes, and after all of them where the run had finished: so nothing is lost that a
+# finished run was answered. A disk whose list of names leaves out a kind of the journal's objects is seen here too: the next run
+# would find no store, or a damaged one.
+. "$(dirname -- "$0")/common.sh"
+python3 - "$program" "$work/store" "${1:-$(od -An -N4 -tu4 /dev/urandom | tr -d ' ')}" <<'END'
+import random
+import subprocess
+import sys
+import time
+
+LETHE, STORE, SEED = sys.argv[1], sys.argv[2], int(sys.argv[3])
+RUNS = 200
+LINES = 400
+
+
+def fail(why):
+    print(f"FAIL kill: seed {SEED}: {why}")
+    sys.exit(1)
+
+
+def lethe(text, seconds=None):
+    """What the program printed and its status; the status is None where it was killed that many seconds after its start."""
+    program = subprocess.Popen([LETHE, STORE, "run"], stdin=subprocess.PIPE, stdout=subprocess.PIPE)
+    try:
+        out, _ = program.communicate(text.encode(), timeout=seconds)
+        return out.decode(), program.returncode
+    except subprocess.TimeoutExpired:
+        program.kill()
+        program.communicate()
+        return "", None
+
+
+def changes(rng):
+    """A key with its delete key and value, or with None where it is deleted."""
+    for at in range(LINES):
+        key = f"k{rng.randrange(60):02}"
+        yield (key, None) if rng.randrange(4) == 0 else (key, (rng.randrange(1000), f"v{at}x" + "y" * rng.randrange(200)))
+
+
+def spelled(key, pair):
+    return f"1 del {key}\n" if pair is None else f"1 put {key} {pair[0]} {pair[1]}\n"
+
+
+def read():
+    """How many changes there are, and the map that a scan of all keys prints."""
+    out, status = lethe("1 scan ! ~\n")
+    if status != 0:
+        fail(f"behind a kill the store could not be read: status {status}, {out!r}")
+    words = out.split()
+    fields = words[5:]
+    return int(words[2]), {fields[i]: (int(fields[i + 1]), fields[i + 2]) for i in range(0, len(fields), 3)}
+
+
+def main():
+    rng = random.Random(SEED)
+    state, place, killed, midway, longest = {}, 0, 0, 0, 0.05
+    for turn in range(RUNS):
+        script = list(changes(rng))
+        begun = time.monotonic()
+        out, status = lethe("".join(spelled(*it) for it in script), rng.random() * longest * 1.2)
+        if status not in (None, 0):
+            fail(f"run {turn}: status {status}, {out[-200:]!r}")
+        if status == 0:
+            longest = time.monotonic() - begun
+            if not out.endswith(f"1 ok {place + LINES}\n"):
+                fail(f"run {turn}: the last line was {out[-80:]!r}")
+        now, got = read()
+        least = place + LINES if status == 0 else place
+        if not least <= now <= place + LINES:
+            fail(f"run {turn}: {now} changes are there, of {least} to {place + LINES}")
+        for key, pair in script[: now - place]:
+            state.pop(key, None)
+            if pair is not None:
+                state[key] = pair
+        if got != state:
+            fail(f"run {turn}: the store isn't the map after {now} changes")
+        killed += status is None
+        midway += place < now < place + LINES
+        place = now
+    print(f"PASS kill: seed {SEED}, {RUNS} runs, {killed} killed, {midway} of them between their first change and their last, {place} changes in the end")
+
+
+main()
+END
