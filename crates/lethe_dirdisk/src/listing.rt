@@ -1,5 +1,7 @@
 //! The names in a folder.
-ghost use Rattle.std.specs.Prelude.{◌≡◌};
+ghost use Rattle.std.specs.Prelude.{◌≡◌, ◌<◌, ◌^◌, ◌++◌, ◌∷◌, [], ◌↔◌, OnOk, IsTrue, Contains, codes};
+ghost use Rattle.lethe_base.specs.declared.name.Name.{Name};
+ghost use Rattle.lethe_dirdisk.specs.FileNames.{file_name, IsObjectFile};
 
 use crate::file_name::read_file_name;
 use lethe_base::Name;
@@ -39,16 +41,28 @@ impl Listing {
     // Takes names that have each a zero behind it.
     fn take(&mut self, piece: &[u8]) -> Result<(), AllocError> {
         for name in piece.split(|byte| *byte == 0) {
-            match read_file_name(name) {
-                Some(name) => self.names.push(name)?,
-                None => self.has_foreign = self.has_foreign || !is_passed(name),
+            if !is_own(name) {
+                self.take_name(name)?;
             }
+        }
+        Ok(())
+    }
+
+    fn take_name(&mut self, text: &[u8]) -> Result<(), AllocError>
+        ensures object { (name : Name) → name.no < 2 ^ 64 → text.now ≡ file_name name → OnOk result ((self.new.names.items ≡ self.old.names.items ++ name ∷ []) × (self.new.has_foreign ≡ self.old.has_foreign)) }
+        ensures foreign { (IsObjectFile text.now → ⊥) → (self.new.names.items ≡ self.old.names.items) × IsTrue self.new.has_foreign }
+    {
+        match read_file_name(text) {
+            Some(name) => self.names.push(name)?,
+            None => self.has_foreign = true,
         }
         Ok(())
     }
 }
 
-// What stands behind the last zero, and the folder's own names.
-fn is_passed(name: &[u8]) -> bool {
+// What stands behind the last zero, and the folder's names of itself and of the one that it lies in.
+fn is_own(name: &[u8]) -> bool
+    ensures { IsTrue result ↔ Contains ([] ∷ codes "." ∷ codes ".." ∷ []) name.now }
+{
     matches!(name, b"" | b"." | b"..")
 }
