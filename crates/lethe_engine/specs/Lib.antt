@@ -5,4 +5,5 @@ pub mod Sound
 pub mod StandsFor
 pub mod Changes
 pub mod Scans
+pub mod Stats
 pub mod Opening

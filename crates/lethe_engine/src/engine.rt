@@ -21,12 +21,14 @@ ghost use Rattle.lethe_engine.specs.Changes.{HasReason, IsRecordOf, answered_to,
 ghost use Rattle.lethe_engine.specs.Journals.{Enters, put_record, delete_record};
 ghost use Rattle.lethe_engine.specs.Scans.{listed};
 ghost use Rattle.lethe_engine.specs.Sound.{IsSound};
+ghost use Rattle.lethe_engine.specs.Stats.{stat_in};
 ghost use Rattle.lethe_engine.specs.StandsFor.{IsOpen, StandsFor};
 
 use crate::journal::Journal;
 use crate::reading::pair_at;
 use crate::replaying::journal_of;
 use crate::scanning::scan;
+use crate::telling::Stat;
 use lethe_base::{Config, Key, Kind, Name, NoMemory, Refused, Value};
 use lethe_commit::append;
 use lethe_disk::{Disk, DiskRefused};
@@ -189,6 +191,19 @@ impl<D: Disk> Engine<D> {
             → IfOk result (λ pairs. answer (after h) (Scan lo.now hi.now) ≡ listed pairs.items) }
     {
         scan(&self.journal.buffer, alloc, lo, hi)
+    }
+
+    /// What there is of the store as a whole. As `get`, it makes no device call.
+    pub fn stat(&self) -> Stat
+        ensures { (config : Fields) (h : History) → StandsFor config h (D.seen self.now.disk) self.now.journal → result ≡ stat_in (after h) }
+    {
+        Stat {
+            clock: self.journal.clock,
+            pins: 0,
+            pending: 0,
+            files: 0,
+            tombs: 0,
+        }
     }
 
     /// How many changes there were. One that failed counts.

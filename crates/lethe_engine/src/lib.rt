@@ -7,5 +7,7 @@ mod reading;
 mod records;
 mod replaying;
 mod scanning;
+mod telling;
 
 pub use engine::{Engine, OpenRefused};
+pub use telling::Stat;

@@ -1,11 +1,11 @@
 -- How a run's end follows from what its parts say.
-use Rattle.std.proofs.Common.{◌≡◌, ◌<◌, ◌≤◌, ◌+◌, ◌-◌, ℕ, Bool, true, false, List, [], ◌++◌, length, take, Option, Some, None, IfSome, IfOk, Result, Ok, Err, inl, inr, refl, sym, ap, ◌∙◌, subst, arith, append-nil}
+use Rattle.std.proofs.Common.{◌≡◌, ◌<◌, ◌≤◌, ◌+◌, ◌-◌, ℕ, Bool, true, false, List, [], ◌++◌, length, take, Option, Some, None, IfSome, IsSome, IfOk, Result, Ok, Err, inl, inr, refl, sym, ap, ◌∙◌, subst, arith, append-nil}
 use Rattle.std.specs.Io.KnownBytes.{Consumes, IsAtEnd, Appends, Keeps}
 use Rattle.std.proofs.lemmas.Bool.{cases_lt, lt-ltb}
 use Rattle.std.proofs.lemmas.List.{length-append, take-append-le}
-use Rattle.lethe_base.specs.Configuration.{default_fields}
 use Rattle.lethe_base.specs.Keys.{Bytes}
 use Rattle.lethe_base.specs.History.{History, Change}
+use Rattle.lethe_base.specs.declared.config.Fields.{Fields}
 use Rattle.lethe_disk.specs.Disk.{Seen}
 use Rattle.lethe_engine.specs.declared.journal.Journal.{Journal}
 use Rattle.lethe_engine.specs.Opening.{IsResumed}
@@ -27,7 +27,7 @@ use Rattle.lethe_run.specs.declared.status.Status.{Status}
 use Rattle.lethe_run.specs.declared.status.Status.TheVariants.{Answered, BadWords, BadScript, ReadFault, WriteFault, Refused, NoMemory, Damaged, OtherConfig}
 use Rattle.lethe_run.specs.Carried.{IsKeptMeanwhile, IsCarriedOut}
 use Rattle.lethe_run.specs.Ends as ends
-use Rattle.lethe_run.specs.Ends.{Run, IsRun, OnLeft, OnScript, Carries, IsFront, IsNoScript, IsNotOpened, Refuses, IsAsked, IsUnbegun, IsOpenFault, StoppedBehind, StoppedInside}
+use Rattle.lethe_run.specs.Ends.{Run, Asks, IsCommand, IsNoCommand, OnLeft, OnScript, Carries, IsFront, IsNoScript, IsNotOpened, Refuses, IsAsked, IsUnbegun, IsOpenFault, StoppedBehind, StoppedInside}
 use Rattle.lethe_run.specs.Printed.{bad_words, bad_line, open_line}
 use Rattle.lethe_run.specs.Scripts.{Serves, All, ScriptEnds}
 use Rattle.lethe_run.specs.Serving.{IsKeptFor, IsOn, IsCarried}
@@ -75,19 +75,22 @@ no_script source bytes bad same e = some_then source same (λ all is. is ∙ e)
 
 -- Words that are no command, and bytes that are no script
 
-pub said_bad_words : (run : Run) (end : Status) → (IsRun run.words → ⊥) → run.Unused → Says BadWords bad_words run.taken_before run.taken run.SinkRose end → EndsWith run end
+pub is_command : (run : Run) (config : Fields) → Asks run config → IsCommand run
+is_command run config asks = subst IsSome (sym asks) refl
+
+pub said_bad_words : (run : Run) (end : Status) → IsNoCommand run → run.Unused → Says BadWords bad_words run.taken_before run.taken run.SinkRose end → EndsWith run end
 said_bad_words run end other unused (inl says) = subst (EndsWith run) (sym says.0) (other, says.1, unused)
 said_bad_words run end other unused (inr says) = subst (EndsWith run) (sym says.0) (says.1, bad_words, inl (other, refl, unused), says.2)
 
-pub said_bad_script : (run : Run) (end : Status) (bad : BadLine) → IsRun run.words → IsNoScript run bad → IsToldOf BadScript (bad_line bad) run.taken_before run.taken run.SinkRose end → EndsWith run end
-said_bad_script run end bad words none (inl (inl says)) = subst (EndsWith run) (sym says.0) (words, bad, none, says.1)
-said_bad_script run end bad words none (inl (inr says)) = subst (EndsWith run) (sym says.0) (says.1, bad_line bad, inr (inl (words, bad, none, refl)), says.2)
-said_bad_script run end bad words none (inr silent) = subst (EndsWith run) (sym silent.0) (words, inl (silent.1, inl none.1))
+pub said_bad_script : (run : Run) (end : Status) (bad : BadLine) → IsNoScript run bad → IsToldOf BadScript (bad_line bad) run.taken_before run.taken run.SinkRose end → (config : Fields) → Asks run config → EndsWith run end
+said_bad_script run end bad none (inl (inl says)) config asks = subst (EndsWith run) (sym says.0) (is_command run config asks, bad, none, says.1)
+said_bad_script run end bad none (inl (inr says)) config asks = subst (EndsWith run) (sym says.0) (says.1, bad_line bad, inr (inl (is_command run config asks, bad, none, refl)), says.2)
+said_bad_script run end bad none (inr silent) config asks = subst (EndsWith run) (sym silent.0) (config, asks, inl (silent.1, inl none.1))
 
 -- A store that wasn't opened
 
-no_memory_why : (run : Run) (why : OpenWhy) → IsNotOpened run why → IsNotOpened run open_why.NoMemory
-no_memory_why run why not = record {
+no_memory_why : (run : Run) (config : Fields) (why : OpenWhy) → IsNotOpened run config why → IsNotOpened run config open_why.NoMemory
+no_memory_why run config why not = record {
   script = not.script;
   reason = tt;
   untouched = λ told. inl tt;
@@ -98,43 +101,43 @@ no_memory_why run why not = record {
     clash : (last : ℕ) → open_why.NoMemory ≡ open_why.Exhausted last → ⊥
     clash last e = cc
 
-told_by : (run : Run) (why : OpenWhy) → IsRun run.words → IsNotOpened run why → Appends run.taken_before run.taken (open_line default_fields why) → EndsWith run (status_for why)
-told_by run (open_why.Damaged name) words not written = (words, name, (not, written))
-told_by run (open_why.OtherConfig kept) words not written = (words, kept, (not, written))
-told_by run (open_why.Fault before after) words not written = (words, inr (inl (before, after, (not, written))))
-told_by run (open_why.Exhausted last) words not written = (words, inr (inr (last, (not, written))))
-told_by run open_why.NoMemory words not written = (words, inl (keeps run.taken_before run.taken written, inr not))
+told_by : (run : Run) (why : OpenWhy) (config : Fields) → Asks run config → IsNotOpened run config why → Appends run.taken_before run.taken (open_line config why) → EndsWith run (status_for why)
+told_by run (open_why.Damaged name) config asks not written = (config, asks, name, (not, written))
+told_by run (open_why.OtherConfig kept) config asks not written = (config, asks, kept, (not, written))
+told_by run (open_why.Fault before after) config asks not written = (config, asks, inr (inl (before, after, (not, written))))
+told_by run (open_why.Exhausted last) config asks not written = (config, asks, inr (inr (last, (not, written))))
+told_by run open_why.NoMemory config asks not written = (config, asks, inl (keeps run.taken_before run.taken written, inr not))
   where
     keeps : (old new : Option Bytes) → Appends old new [] → Keeps old new
     keeps None new a = tt
     keeps (Some xs) None a = absurd a
     keeps (Some xs) (Some ys) a = a ∙ append-nil xs
 
-pub said_not_opened : (run : Run) (end : Status) (why : OpenWhy) → IsRun run.words → IsNotOpened run why → IsToldOf (status_for why) (open_line default_fields why) run.taken_before run.taken run.SinkRose end → EndsWith run end
-said_not_opened run end why words not (inl (inl says)) = subst (EndsWith run) (sym says.0) (told_by run why words not says.1)
-said_not_opened run end why words not (inl (inr says)) = subst (EndsWith run) (sym says.0) (says.1, open_line default_fields why, inr (inr (inl (words, why, not, refl))), says.2)
-said_not_opened run end why words not (inr silent) = subst (EndsWith run) (sym silent.0) (words, inl (silent.1, inr (no_memory_why run why not)))
+pub said_not_opened : (run : Run) (end : Status) (why : OpenWhy) (config : Fields) → Asks run config → IsNotOpened run config why → IsToldOf (status_for why) (open_line config why) run.taken_before run.taken run.SinkRose end → EndsWith run end
+said_not_opened run end why config asks not (inl (inl says)) = subst (EndsWith run) (sym says.0) (told_by run why config asks not says.1)
+said_not_opened run end why config asks not (inl (inr says)) = subst (EndsWith run) (sym says.0) (says.1, open_line config why, inr (inr (inl (config, asks, why, not, refl))), says.2)
+said_not_opened run end why config asks not (inr silent) = subst (EndsWith run) (sym silent.0) (config, asks, inl (silent.1, inr (no_memory_why run config why not)))
 
 -- A script that was carried out
 
-module _ (run : Run) (words : IsRun run.words) (phases : List (List Order)) (script : (P : List (List Order) → Type 0) → P phases → OnScript run P) (mid : Seen) (journal : Journal) (counted : ℕ) (up : run.faults_before ≤ counted)
-    (resumed : run.Tells → (h : History) (change : Option Change) → IsLeft run.start h change → IsResumed default_fields h change mid journal)
+module _ (run : Run) (config : Fields) (asks : Asks run config) (phases : List (List Order)) (script : (P : List (List Order) → Type 0) → P phases → OnScript run P) (mid : Seen) (journal : Journal) (counted : ℕ) (up : run.faults_before ≤ counted)
+    (resumed : run.Tells → (h : History) (change : Option Change) → IsLeft run.start h change → IsResumed config h change mid journal)
     (moments : run.Tells → (h : History) (change : Option Change) → IsLeft run.start h change → Goes (IsKeptOr h change) run.start mid)
-    (sound : run.Tells → (why : RecoverRefused) → HasReason default_fields run.start.directory why → ⊥) where
+    (sound : run.Tells → (why : RecoverRefused) → HasReason config run.start.directory why → ⊥) where
   none_some : (at : ℕ) → journal.stopped ≡ None → journal.stopped ≡ Some at → ⊥
   none_some at a b = let clash : None ≡ Some at = sym a ∙ b in cc
 
-  on : (h : History) (change : Option Change) → (r : IsResumed default_fields h change mid journal) → IsOn (record { before = counted; now = counted }) r.history r.history mid journal
+  on : (h : History) (change : Option Change) → (r : IsResumed config h change mid journal) → IsOn config (record { before = counted; now = counted }) r.history r.history mid journal
   on h change r = record {
     begins = ([], sym (append-nil r.history));
-    done = (held_open default_fields r.history mid journal r.runs r.stands.held).stands.done;
+    done = (held_open config r.history mid journal r.runs r.stands.held).stands.done;
     stands = r.stands;
     stopped = λ at is. absurd (none_some at r.runs is);
   }
 
-  carried_out : (left : History) (change : Option Change) (r : IsResumed default_fields left change mid journal) (front : List (List Order)) (lines : List (List Line)) → Goes (IsKeptOr left change) run.start mid
-      → IsCarried (record { before = run.faults_before; now = run.faults }) r.history front lines mid run.finish
-      → IsCarriedOut (record { before = run.faults_before; now = run.faults }) run.start run.finish left change front lines
+  carried_out : (left : History) (change : Option Change) (r : IsResumed config left change mid journal) (front : List (List Order)) (lines : List (List Line)) → Goes (IsKeptOr left change) run.start mid
+      → IsCarried config (record { before = run.faults_before; now = run.faults }) r.history front lines mid run.finish
+      → IsCarriedOut config (record { before = run.faults_before; now = run.faults }) run.start run.finish left change front lines
   carried_out left change r front lines opening c = record {
     opened = r.history;
     either = r.either;
@@ -144,41 +147,43 @@ module _ (run : Run) (words : IsRun run.words) (phases : List (List Order)) (scr
         (goes_weaker (IsKeptOr left change) (IsKeptMeanwhile left change r.history c.history) run.start mid (λ d kept. (kept.0, inl kept.1, kept.2)) opening)
         (goes_weaker (IsKeptFor r.history c.history) (IsKeptMeanwhile left change r.history c.history) mid run.finish (λ d kept. (kept.0, inr kept.1, kept.2)) c.any_moment);
     leaves = c.leaves;
+    config_is = c.config_is;
   }
 
-  carries : (front : List (List Order)) (lines : List (List Line)) → Serves run.Tells mid run.finish journal counted run.faults front lines → Carries run front lines
+  carries : (front : List (List Order)) (lines : List (List Line)) → Serves run.Tells mid run.finish journal counted run.faults front lines → Carries run config front lines
   carries front lines served = λ told left change is.
       let r = resumed told left change is in
-      carried_out left change r front lines (moments told left change is) (served told r.history (on left change r) run.faults_before up)
+      carried_out left change r front lines (moments told left change is) (served told config r.history (on left change r) run.faults_before up)
 
-  all : (refused : Bool) → All run.Tells mid run.finish journal counted run.faults run.taken_before run.taken phases refused → ends.Answered run refused
-  all refused a = record { lines = a.lines; script = script (λ p. Carries run p a.lines) (carries phases a.lines a.served); written = a.written; is = a.is; sound = sound }
+  all : (refused : Bool) → All run.Tells mid run.finish journal counted run.faults run.taken_before run.taken phases refused → ends.Answered run config refused
+  all refused a = record { lines = a.lines; script = script (λ p. Carries run config p a.lines) (carries phases a.lines a.served); written = a.written; is = a.is; sound = sound }
 
   pub script_ended : (status : Status) → ScriptEnds run.Tells mid run.finish journal counted run.faults run.taken_before run.taken run.SinkRose phases status → EndsWith run status
-  script_ended Answered e = (words, all false e)
-  script_ended Refused e = (words, inl (all true e))
+  script_ended Answered e = (config, asks, all false e)
+  script_ended Refused e = (config, asks, inl (all true e))
   script_ended WriteFault e = (
     e.0,
     text_of e.1.lines,
     inr (inr (inr (
-      words,
+      config,
+      asks,
       record {
         lines = e.1.lines;
-        script = script (λ p. (count : ℕ) × Carries run (take count p) e.1.lines) (e.1.count, carries (take e.1.count phases) e.1.lines e.1.served);
+        script = script (λ p. (count : ℕ) × Carries run config (take count p) e.1.lines) (e.1.count, carries (take e.1.count phases) e.1.lines e.1.served);
         is = refl;
       },
     ))),
     e.1.written,
   )
-  script_ended NoMemory e = (words, inr (record { lines = e.lines; script = script (λ p. Inner p) inner; written = e.written }))
+  script_ended NoMemory e = (config, asks, inr (record { lines = e.lines; script = script (λ p. Inner p) inner; written = e.written }))
     where
       Inner : List (List Order) → Type 0
-      Inner p = OnLeft run (λ left change. (front : List (List Order)) × IsFront p front × IsCarriedOut (record { before = run.faults_before; now = run.faults }) run.start run.finish left change front e.lines)
+      Inner p = OnLeft run (λ left change. (front : List (List Order)) × IsFront p front × IsCarriedOut config (record { before = run.faults_before; now = run.faults }) run.start run.finish left change front e.lines)
 
       inner : Inner phases
       inner = λ told left change is.
           let r = resumed told left change is in
-          let c = e.served told r.history (on left change r) run.faults_before up in
+          let c = e.served told config r.history (on left change r) run.faults_before up in
           (c.0, c.1, carried_out left change r c.0 e.lines (moments told left change is) c.2)
   script_ended BadWords e = absurd e
   script_ended BadScript e = absurd e
@@ -187,10 +192,10 @@ module _ (run : Run) (words : IsRun run.words) (phases : List (List Order)) (scr
   script_ended OtherConfig e = absurd e
 
 -- where numbers ran out, the manifest's next number and the device calls reach the last one
-pub drawn_by : (Tells : Type 0) (start finish : Seen) (before now : ℕ) (why : OpenWhy) → MayNotOpen Tells default_fields start.directory before now why → ((last : ℕ) → why ≡ open_why.Exhausted last → start.moment < finish.moment) → Tells → (last : ℕ) → why ≡ open_why.Exhausted last
+pub drawn_by : (Tells : Type 0) (start finish : Seen) (before now : ℕ) (why : OpenWhy) (config : Fields) → MayNotOpen Tells config start.directory before now why → ((last : ℕ) → why ≡ open_why.Exhausted last → start.moment < finish.moment) → Tells → (last : ℕ) → why ≡ open_why.Exhausted last
     → (manifest : Manifest) × IsGated start.directory manifest × (last ≤ manifest.next + (finish.moment - start.moment))
-drawn_by Tells start finish before now why may later told last is =
-    let full = subst (MayNotOpen Tells default_fields start.directory before now) is may in
+drawn_by Tells start finish before now why config may later told last is =
+    let full = subst (MayNotOpen Tells config start.directory before now) is may in
     let e = full.1 told in
     let more = later last is in
     let all = full.0 in

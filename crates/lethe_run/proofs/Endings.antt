@@ -3,6 +3,7 @@ use Rattle.std.proofs.Common.{◌≡◌, ◌≤◌, ℕ, suc, Bool, true, false,
 use Rattle.std.specs.Io.KnownBytes.{Appends}
 use Rattle.lethe_base.specs.Keys.{Bytes}
 use Rattle.lethe_base.specs.History.{History}
+use Rattle.lethe_base.specs.declared.config.Fields.{Fields}
 use Rattle.lethe_disk.specs.Disk.{Seen, Image}
 use Rattle.lethe_engine.specs.declared.journal.Journal.{Journal}
 use Rattle.lethe_script.specs.declared.order.Order.{Order}
@@ -32,40 +33,40 @@ part_whole orders items part rest is parts none = sym (append-nil part) ∙ ap (
 
 -- what serving a phase gave
 abbrev pub Phase : Type 0 → Seen → Seen → Journal → Journal → ℕ → ℕ → List Order → Bool → List Line → Type 0
-Phase Tells now then journal journal' f0 f1 orders whole more = Tells → (from : ℕ) (opened start : History) → IsOn (record { before = from; now = f0 }) opened start now journal → from ≤ f0
-    → (h : History) × (part : List Order) × (rest : List Order) × (orders ≡ part ++ rest) × ((whole ≡ true) → rest ≡ []) × IsPhase (record { before = from; now = f1 }) opened start h part more now then journal'
+Phase Tells now then journal journal' f0 f1 orders whole more = Tells → (config : Fields) (from : ℕ) (opened start : History) → IsOn config (record { before = from; now = f0 }) opened start now journal → from ≤ f0
+    → (h : History) × (part : List Order) × (rest : List Order) × (orders ≡ part ++ rest) × ((whole ≡ true) → rest ≡ []) × IsPhase config (record { before = from; now = f1 }) opened start h part more now then journal'
 
 -- what the phases before gave
 abbrev pub Before : Type 0 → Seen → Seen → Journal → Journal → ℕ → ℕ → List (List Order) → List (List Line) → Type 0
-Before Tells start now first journal before f0 yielded lines = Tells → (opened : History) → IsOn (record { before = before; now = before }) opened opened start first → (from : ℕ) → from ≤ before
-    → SoFar (record { before = from; now = f0 }) opened yielded lines start now journal
+Before Tells start now first journal before f0 yielded lines = Tells → (config : Fields) (opened : History) → IsOn config (record { before = before; now = before }) opened opened start first → (from : ℕ) → from ≤ before
+    → SoFar config (record { before = from; now = f0 }) opened yielded lines start now journal
 
 module _ (Tells : Type 0) (start now then : Seen) (first journal journal' : Journal) (before f0 f1 : ℕ) (up : before ≤ f0) (later : f0 ≤ f1) (itself : Tells → Image then then.directory)
     (phases yielded rest : List (List Order)) (orders : List Order) (are : phases ≡ yielded ++ orders ∷ rest) (lines : List (List Line)) (more : List Line) (whole : Bool)
     (so_far : Before Tells start now first journal before f0 yielded lines) (phase : Phase Tells now then journal journal' f0 f1 orders whole more) where
   pub next_so_far : whole ≡ true → Before Tells start then first journal' before f1 (yielded ++ orders ∷ []) (lines ++ more ∷ [])
-  next_so_far is told opened on from le =
-      let prior = so_far told opened on from le in
-      let next = phase told from opened prior.history prior.stands (omega (arith, le, up)) in
-      subst (λ p. SoFar (record { before = from; now = f1 }) opened (yielded ++ p ∷ []) (lines ++ more ∷ []) start then journal') (part_whole orders orders next.1 next.2 refl next.3 (next.4 is))
+  next_so_far is told config opened on from le =
+      let prior = so_far told config opened on from le in
+      let next = phase told config from opened prior.history prior.stands (omega (arith, le, up)) in
+      subst (λ p. SoFar config (record { before = from; now = f1 }) opened (yielded ++ p ∷ []) (lines ++ more ∷ []) start then journal') (part_whole orders orders next.1 next.2 refl next.3 (next.4 is))
       (so_far_more from f0 f1 opened next.0 yielded lines next.1 more start now then journal journal' later prior next.5)
 
   pub behind : (old new : Option Bytes) → whole ≡ true → AppendsFront old new (text_of (lines ++ more ∷ [])) → Behind Tells start then first before f1 old new phases
   behind old new is written = record {
     lines = lines ++ more ∷ [];
     count = suc (length yielded);
-    served = λ told opened on from le.
-        subst (λ p. IsCarried (record { before = from; now = f1 }) opened p (lines ++ more ∷ []) start then) (sym (ap (take (suc (length yielded))) are ∙ take_more yielded orders rest))
-        (carried (record { before = from; now = f1 }) opened (yielded ++ orders ∷ []) (lines ++ more ∷ []) start then journal' (itself told) (next_so_far is told opened on from le));
+    served = λ told config opened on from le.
+        subst (λ p. IsCarried config (record { before = from; now = f1 }) opened p (lines ++ more ∷ []) start then) (sym (ap (take (suc (length yielded))) are ∙ take_more yielded orders rest))
+        (carried (record { before = from; now = f1 }) opened (yielded ++ orders ∷ []) (lines ++ more ∷ []) start then journal' (itself told) (next_so_far is told config opened on from le));
     written = written;
   }
 
   pub inside : (old new : Option Bytes) → AppendsFront old new (text_of (lines ++ more ∷ [])) → Inside Tells start then first before f1 old new phases
   inside old new written = record {
     lines = lines ++ more ∷ [];
-    served = λ told opened on from le.
-        let prior = so_far told opened on from le in
-        let next = phase told from opened prior.history prior.stands (omega (arith, le, up)) in (
+    served = λ told config opened on from le.
+        let prior = so_far told config opened on from le in
+        let next = phase told config from opened prior.history prior.stands (omega (arith, le, up)) in (
           yielded ++ next.1 ∷ [],
           record {
             count = length yielded;
@@ -97,13 +98,13 @@ pub all_ends : (Tells : Type 0) (start then : Seen) (first journal' : Journal) (
     → Before Tells start then first journal' before f1 phases lines → Appends old new (text_of lines) → has_refusal lines ≡ refused → ScriptEnds Tells start then first before f1 old new SinkRose phases (cond refused Refused Answered)
 all_ends Tells start then first journal' before f1 itself phases lines old new SinkRose true so_far written is = record {
   lines = lines;
-  served = λ told opened on from le. carried (record { before = from; now = f1 }) opened phases lines start then journal' (itself told) (so_far told opened on from le);
+  served = λ told config opened on from le. carried (record { before = from; now = f1 }) opened phases lines start then journal' (itself told) (so_far told config opened on from le);
   written = written;
   is = is;
 }
 all_ends Tells start then first journal' before f1 itself phases lines old new SinkRose false so_far written is = record {
   lines = lines;
-  served = λ told opened on from le. carried (record { before = from; now = f1 }) opened phases lines start then journal' (itself told) (so_far told opened on from le);
+  served = λ told config opened on from le. carried (record { before = from; now = f1 }) opened phases lines start then journal' (itself told) (so_far told config opened on from le);
   written = written;
   is = is;
 }

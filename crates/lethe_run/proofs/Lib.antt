@@ -3,6 +3,7 @@ pub mod Cuts
 pub mod Images
 pub mod Steps
 pub mod Runs
+pub mod Options
 pub mod Serving
 pub mod Phases
 pub mod Endings

@@ -1,15 +1,15 @@
 -- The named parts of a run's end, by its cases.
 use Rattle.std.proofs.Common.{◌≡◌, ◌⊎◌, ◌≤◌, ◌<◌, ℕ, ◌+◌, Bool, true, false, ◌||◌, List, [], ◌∷◌, length, Option, Some, None, IfSome, Result, Ok, Err, IsSomeAnd, inl, inr, refl, sym, ap, ◌∙◌, subst, arith, lit<}
-use Rattle.std.specs.Prelude.{IsOk, IsErr, Contains, sum_by}
+use Rattle.std.specs.Prelude.{IsOk, IsErr, Contains, sum_by, is_some}
 use Rattle.std.specs.List.{list_any}
-use Rattle.lethe_base.specs.Configuration.{default_fields}
 use Rattle.lethe_base.specs.Counts.{Rose}
 use Rattle.lethe_base.specs.Limits.{max_place}
 use Rattle.lethe_base.specs.History.{History, Change}
 use Rattle.lethe_base.specs.declared.call.Call.{Call}
 use Rattle.lethe_base.specs.declared.config.Fields.{Fields}
 use Rattle.lethe_stored.specs.Left.{IsLeft, IsHistoryOr, as_done}
-use Rattle.lethe_recover.specs.Loaded.{HasOtherConfig}
+use Rattle.lethe_recover.specs.Loaded.{HasReason, HasOtherConfig}
+use Rattle.lethe_recover.specs.declared.refused.RecoverRefused.{RecoverRefused}
 use Rattle.lethe_recover.specs.Opening.{MayNotOpen, IsExhausted}
 use Rattle.lethe_recover.specs.declared.opening.OpenWhy.{OpenWhy}
 use Rattle.lethe_recover.specs.declared.opening.OpenWhy.TheVariants as open_why
@@ -22,9 +22,10 @@ use Rattle.lethe_run.specs.declared.reply.Reply.{Reply}
 use Rattle.lethe_run.specs.declared.reply.Reply.TheVariants as reply
 use Rattle.lethe_run.specs.declared.status.Status.{Status}
 use Rattle.lethe_run.specs.declared.status.Status.TheVariants as status
+use Rattle.lethe_run.specs.Asked.{config_of}
 use Rattle.lethe_run.specs.Carried.{IsCarriedOut}
 use Rattle.lethe_run.specs.Ends as ends
-use Rattle.lethe_run.specs.Ends.{Run, Ends, IsRun, OnLeft, IsNotOpened, IsOpenFault, script_ends}
+use Rattle.lethe_run.specs.Ends.{Run, Ends, Asks, IsCommand, OnLeft, IsNotOpened, IsOpenFault, script_ends}
 use Rattle.lethe_run.specs.Status.{EndsWith, code_of}
 use Rattle.lethe_run.specs.Transcript.{Faults, Told, call_of, Answers, Answered, IsFailedAt, IsFaultOf, Follows, InTurn, AreServed, is_refusal, has_refusal}
 use Rattle.std.proofs.lemmas.List.{length_push}
@@ -59,6 +60,7 @@ module _ (told : Told) (calm : Rose told.before told.now → ⊥) where
   done_line n next caller by act (reply.Done place) room a f = (refl, omega arith)
   done_line n next caller by act (reply.Got point held) room a f = (refl, omega arith)
   done_line n next caller by act (reply.Scanned point pairs) room a f = (refl, omega arith)
+  done_line n next caller by act (reply.Counted point stat) room a f = (refl, omega arith)
   done_line n next caller by act (reply.Fault place before after) room a f = absurd (fault_of by place before after (call_of act) a)
   done_line n next caller by act (reply.Stopped at) room a f = absurd (no_fault at a.1.before a.1.after a.1.fails)
   done_line n next caller by act (reply.Exhausted last) room a f = absurd (let here = f.0 in let all = a.1.0 in omega (arith, here, all, room))
@@ -94,18 +96,18 @@ true_false : (b : Bool) → b ≡ true → b ≡ false → ⊥
 true_false true a b = cc
 true_false false a b = cc
 
-pub no_refusal : (run : Run) (phases : List (List Order)) (lines : List (List Line)) (left : History) (change : Option Change) → (Rose run.faults_before run.faults → ⊥) → length left + 1 + sum_by (λ orders. length orders) phases ≤ max_place
-    → has_refusal lines ≡ true → IsCarriedOut (record { before = run.faults_before; now = run.faults }) run.start run.finish left change phases lines → ⊥
-no_refusal run phases lines left change calm room refused c =
+pub no_refusal : (run : Run) (config : Fields) (phases : List (List Order)) (lines : List (List Line)) (left : History) (change : Option Change) → (Rose run.faults_before run.faults → ⊥) → length left + 1 + sum_by (λ orders. length orders) phases ≤ max_place
+    → has_refusal lines ≡ true → IsCarriedOut config (record { before = run.faults_before; now = run.faults }) run.start run.finish left change phases lines → ⊥
+no_refusal run config phases lines left change calm room refused c =
     let short = opened_short left change c.opened c.either in
     true_false (has_refusal lines) refused (phases_done (record { before = run.faults_before; now = run.faults }) calm c.opened c.history phases lines (omega (arith, room, short)) c.served)
 
 -- Why a store that was left for a history wasn't opened
 
-module _ (run : Run) (left : History) (change : Option Change) (told : run.Tells) (is : IsLeft run.start left change) (calm : Rose run.faults_before run.faults → ⊥)
-    (same : (kept : Fields) → HasOtherConfig default_fields run.start.directory kept → ⊥) (numbers : IsExhausted run.start.directory → ⊥) where
-  pub must_open : (why : OpenWhy) → MayNotOpen run.Tells default_fields run.start.directory run.faults_before run.faults why → (why ≡ open_why.NoMemory → ⊥) → ⊥
-  must_open (open_why.Damaged name) may memory = kept_undamaged is.now.0 run.start.directory is.now.2 default_fields name (may told)
+module _ (run : Run) (config : Fields) (left : History) (change : Option Change) (told : run.Tells) (is : IsLeft run.start left change) (calm : Rose run.faults_before run.faults → ⊥)
+    (same : (kept : Fields) → HasOtherConfig config run.start.directory kept → ⊥) (numbers : IsExhausted run.start.directory → ⊥) where
+  pub must_open : (why : OpenWhy) → MayNotOpen run.Tells config run.start.directory run.faults_before run.faults why → (why ≡ open_why.NoMemory → ⊥) → ⊥
+  must_open (open_why.Damaged name) may memory = kept_undamaged is.now.0 run.start.directory is.now.2 config name (may told)
   must_open (open_why.OtherConfig kept) may memory = same kept (may told)
   must_open (open_why.Fault before after) may memory = calm may.2
   must_open (open_why.Exhausted last) may memory = numbers (may.1 told)
@@ -129,19 +131,36 @@ same_phases r x y a b = let both : Ok x ≡ Ok y = sym a ∙ b in cc
 -- ---- the named parts
 
 module _ (run : Run) where
-  abbrev Complete : ℕ → Type 0
-  Complete n = IsRun run.words → (run.SourceRose → ⊥) → (run.SinkRose → ⊥) → (Rose run.faults_before run.faults → ⊥)
+  -- the words ask for one configuration
+  for_asked : (P : Fields → Type 0) (config : Fields) → Asks run config → P config → (other : Fields) → Asks run other → P other
+  for_asked P config asks p other too = let both : Some config ≡ Some other = sym asks ∙ too in let same : config ≡ other = cc in subst P same p
+
+  asked : {T : Type 0} (config : Fields) → Asks run config → config_of run.words ≡ None → T
+  asked config asks none = let both : Some config ≡ None = sym asks ∙ none in absurd cc
+
+  commanded : {T : Type 0} → IsCommand run → config_of run.words ≡ None → T
+  commanded command none = let both : true ≡ false = sym command ∙ ap is_some none in absurd (true_false true refl both)
+
+  abbrev Shown : ℕ → Fields → Type 0
+  Shown n config = run.Tells → (why : RecoverRefused) → HasReason config run.start.directory why → IfSome run.source (λ bytes. IsOk (script_of bytes) → (n ≡ 0 → ⊥) × (n ≡ 6 → IsOpenFault run config))
+
+  abbrev Complete : ℕ → Fields → Type 0
+  Complete n config = (run.SourceRose → ⊥) → (run.SinkRose → ⊥) → (Rose run.faults_before run.faults → ⊥)
       → IfSome run.source (λ bytes. (phases : List (List Order)) → script_of bytes ≡ Ok phases → OnLeft run (λ left change.
-      ((kept : Fields) → HasOtherConfig default_fields run.start.directory kept → ⊥) → (IsExhausted run.start.directory → ⊥)
+      ((kept : Fields) → HasOtherConfig config run.start.directory kept → ⊥) → (IsExhausted run.start.directory → ⊥)
       → length left + 1 + sum_by (λ orders. length orders) phases ≤ max_place → Contains (0 ∷ 7 ∷ []) n))
+
+  -- neither all answered nor refused
+  other_shown : (n : ℕ) → (n ≡ 0 → ⊥) → (n ≡ 6 → ⊥) → (config : Fields) → Shown n config
+  other_shown n zero six config told why reason = some_now run.source (λ bytes is. (zero, λ z. absurd (six z)))
 
   -- a script's own end with this status
   ok_script : (P : List (List Order) → Type 0) → IfSome run.source (λ bytes. (phases : List (List Order)) × (script_of bytes ≡ Ok phases) × P phases) → (n : ℕ) → Contains script_ends n
-      → (IsRun run.words → IfSome run.source (λ bytes. IsErr (script_of bytes) → Contains (3 ∷ 4 ∷ 5 ∷ 7 ∷ []) n)) × (IsRun run.words → IfSome run.source (λ bytes. IsOk (script_of bytes) → Contains script_ends n))
+      → (IsCommand run → IfSome run.source (λ bytes. IsErr (script_of bytes) → Contains (3 ∷ 4 ∷ 5 ∷ 7 ∷ []) n)) × (IsCommand run → IfSome run.source (λ bytes. IsOk (script_of bytes) → Contains script_ends n))
   ok_script P s n among = ((λ words. some_then run.source s (λ bytes p is. absurd (ok_no_err (script_of bytes) p.0 p.1 is))), (λ words. some_now run.source (λ bytes is. among)))
 
-  not_opened : (why : OpenWhy) (n : ℕ) → IsNotOpened run why → (why ≡ open_why.NoMemory → ⊥) → Complete n
-  not_opened why n not memory words source sink calm = some_now run.source (λ bytes phases is told left change l same numbers room. absurd (must_open run left change told l calm same numbers why not.reason memory))
+  not_opened : (config : Fields) (why : OpenWhy) (n : ℕ) → IsNotOpened run config why → (why ≡ open_why.NoMemory → ⊥) → Complete n config
+  not_opened config why n not memory source sink calm = some_now run.source (λ bytes phases is told left change l same numbers room. absurd (must_open run config left change told l calm same numbers why not.reason memory))
 
   answered_end : EndsWith run status.Answered → Ends run 0
   answered_end e = record {
@@ -154,11 +173,11 @@ module _ (run : Run) where
     no_memory = λ is. absurd (omega (arith, is));
     damaged = λ is. absurd (omega (arith, is));
     other_config = λ is. absurd (omega (arith, is));
-    other_words = λ other. absurd (other e.0);
-    no_script = (ok_script _ e.1.script 0 (0, lit< tt, refl)).0;
-    a_script = (ok_script _ e.1.script 0 (0, lit< tt, refl)).1;
-    shown = λ words told why reason. absurd (e.1.sound told why reason);
-    complete = λ words source sink calm. some_now run.source (λ bytes phases is told left change l same numbers room. (0, lit< tt, refl));
+    other_words = asked e.0 e.1;
+    no_script = (ok_script _ e.2.script 0 (0, lit< tt, refl)).0;
+    a_script = (ok_script _ e.2.script 0 (0, lit< tt, refl)).1;
+    shown = for_asked (Shown 0) e.0 e.1 (λ told why reason. absurd (e.2.sound told why reason));
+    complete = λ config asks source sink calm. some_now run.source (λ bytes phases is told left change l same numbers room. (0, lit< tt, refl));
     known = (0, lit< tt, refl);
   }
 
@@ -174,10 +193,10 @@ module _ (run : Run) where
     damaged = λ is. absurd (omega (arith, is));
     other_config = λ is. absurd (omega (arith, is));
     other_words = λ other. (0, lit< tt, refl);
-    no_script = λ words. absurd (e.0 words);
-    a_script = λ words. absurd (e.0 words);
-    shown = λ words. absurd (e.0 words);
-    complete = λ words. absurd (e.0 words);
+    no_script = λ command. commanded command e.0;
+    a_script = λ command. commanded command e.0;
+    shown = λ config asks. asked config asks e.0;
+    complete = λ config asks. asked config asks e.0;
     known = (1, lit< tt, refl);
   }
 
@@ -192,11 +211,11 @@ module _ (run : Run) where
     no_memory = λ is. absurd (omega (arith, is));
     damaged = λ is. absurd (omega (arith, is));
     other_config = λ is. absurd (omega (arith, is));
-    other_words = λ other. absurd (other e.0);
+    other_words = commanded e.0;
     no_script = λ words. some_now run.source (λ bytes is. (0, lit< tt, refl));
     a_script = λ words. some_then run.source e.2.0 (λ bytes r is. absurd (err_no_ok (script_of bytes) e.1 r is));
-    shown = λ words told why reason. some_now run.source (λ bytes is. ((λ z. absurd (omega (arith, z))), (λ z. absurd (omega (arith, z)))));
-    complete = λ words source sink calm. some_then run.source e.2.0 (λ bytes r phases is. absurd (ok_err (script_of bytes) phases e.1 is r));
+    shown = λ config asks. other_shown 3 (λ z. omega (arith, z)) (λ z. omega (arith, z)) config;
+    complete = λ config asks source sink calm. some_then run.source e.2.0 (λ bytes r phases is. absurd (ok_err (script_of bytes) phases e.1 is r));
     known = (2, lit< tt, refl);
   }
 
@@ -211,11 +230,11 @@ module _ (run : Run) where
     no_memory = λ is. absurd (omega (arith, is));
     damaged = λ is. absurd (omega (arith, is));
     other_config = λ is. absurd (omega (arith, is));
-    other_words = λ other. absurd (other e.0);
+    other_words = commanded e.0;
     no_script = λ words. some_now run.source (λ bytes is. (1, lit< tt, refl));
     a_script = λ words. some_now run.source (λ bytes is. (1, lit< tt, refl));
-    shown = λ words told why reason. some_now run.source (λ bytes is. ((λ z. absurd (omega (arith, z))), (λ z. absurd (omega (arith, z)))));
-    complete = λ words source. absurd (source e.1);
+    shown = λ config asks. other_shown 4 (λ z. omega (arith, z)) (λ z. omega (arith, z)) config;
+    complete = λ config asks source. absurd (source e.1);
     known = (3, lit< tt, refl);
   }
 
@@ -233,14 +252,14 @@ module _ (run : Run) where
     other_words = λ other. (1, lit< tt, refl);
     no_script = λ words. some_now run.source (λ bytes is. (2, lit< tt, refl));
     a_script = λ words. some_now run.source (λ bytes is. (2, lit< tt, refl));
-    shown = λ words told why reason. some_now run.source (λ bytes is. ((λ z. absurd (omega (arith, z))), (λ z. absurd (omega (arith, z)))));
-    complete = λ words source sink. absurd (sink e.0);
+    shown = λ config asks. other_shown 5 (λ z. omega (arith, z)) (λ z. omega (arith, z)) config;
+    complete = λ config asks source sink. absurd (sink e.0);
     known = (4, lit< tt, refl);
   }
 
-  refused_lines_end : IsRun run.words → ends.Answered run true → Ends run 6
-  refused_lines_end words a =
-      let e : IsRun run.words × (ends.Answered run true ⊎ IsOpenFault run) = (words, inl a) in record {
+  refused_lines_end : (config : Fields) → Asks run config → ends.Answered run config true → Ends run 6
+  refused_lines_end config asks a =
+      let e : (config : Fields) × Asks run config × (ends.Answered run config true ⊎ IsOpenFault run config) = (config, asks, inl a) in record {
         answered = λ is. absurd (omega (arith, is));
         bad_words = λ is. absurd (omega (arith, is));
         bad_script = λ is. absurd (omega (arith, is));
@@ -250,17 +269,18 @@ module _ (run : Run) where
         no_memory = λ is. absurd (omega (arith, is));
         damaged = λ is. absurd (omega (arith, is));
         other_config = λ is. absurd (omega (arith, is));
-        other_words = λ other. absurd (other words);
+        other_words = asked config asks;
         no_script = (ok_script _ a.script 6 (3, lit< tt, refl)).0;
         a_script = (ok_script _ a.script 6 (3, lit< tt, refl)).1;
-        shown = λ words told why reason. absurd (a.sound told why reason);
-        complete = λ words source sink calm. some_then run.source a.script (λ bytes s phases is told left change l same numbers room. absurd (no_refusal run phases a.lines left change calm room a.is (subst (λ p. Carries run p a.lines) (same_phases (script_of bytes) s.0 phases s.1 is) s.2 told left change l)));
+        shown = for_asked (Shown 6) config asks (λ told why reason. absurd (a.sound told why reason));
+        complete = for_asked (Complete 6) config asks (λ source sink calm. some_then run.source a.script (λ bytes s phases is told left change l same numbers room.
+            absurd (no_refusal run config phases a.lines left change calm room a.is (subst (λ p. Carries run config p a.lines) (same_phases (script_of bytes) s.0 phases s.1 is) s.2 told left change l))));
         known = (5, lit< tt, refl);
       }
 
-  refused_opening_end : (why : OpenWhy) → IsRun run.words → IsOpenFault run → IsNotOpened run why → (why ≡ open_why.NoMemory → ⊥) → Ends run 6
-  refused_opening_end why words f not memory =
-      let e : IsRun run.words × (ends.Answered run true ⊎ IsOpenFault run) = (words, inr f) in record {
+  refused_opening_end : (why : OpenWhy) (config : Fields) → Asks run config → IsOpenFault run config → IsNotOpened run config why → (why ≡ open_why.NoMemory → ⊥) → Ends run 6
+  refused_opening_end why config asks f not memory =
+      let e : (config : Fields) × Asks run config × (ends.Answered run config true ⊎ IsOpenFault run config) = (config, asks, inr f) in record {
         answered = λ is. absurd (omega (arith, is));
         bad_words = λ is. absurd (omega (arith, is));
         bad_script = λ is. absurd (omega (arith, is));
@@ -270,11 +290,11 @@ module _ (run : Run) where
         no_memory = λ is. absurd (omega (arith, is));
         damaged = λ is. absurd (omega (arith, is));
         other_config = λ is. absurd (omega (arith, is));
-        other_words = λ other. absurd (other words);
+        other_words = asked config asks;
         no_script = (ok_script _ not.script 6 (3, lit< tt, refl)).0;
         a_script = (ok_script _ not.script 6 (3, lit< tt, refl)).1;
-        shown = λ words told w reason. some_now run.source (λ bytes is. ((λ z. absurd (omega (arith, z))), (λ z. f)));
-        complete = not_opened why 6 not memory;
+        shown = for_asked (Shown 6) config asks (λ told w reason. some_now run.source (λ bytes is. ((λ z. absurd (omega (arith, z))), (λ z. f))));
+        complete = for_asked (Complete 6) config asks (not_opened config why 6 not memory);
         known = (5, lit< tt, refl);
       }
 
@@ -289,11 +309,11 @@ module _ (run : Run) where
     no_memory = λ is. e;
     damaged = λ is. absurd (omega (arith, is));
     other_config = λ is. absurd (omega (arith, is));
-    other_words = λ other. absurd (other e.0);
+    other_words = asked e.0 e.1;
     no_script = λ words. some_now run.source (λ bytes is. (3, lit< tt, refl));
     a_script = λ words. some_now run.source (λ bytes is. (4, lit< tt, refl));
-    shown = λ words told why reason. some_now run.source (λ bytes is. ((λ z. absurd (omega (arith, z))), (λ z. absurd (omega (arith, z)))));
-    complete = λ words source sink calm. some_now run.source (λ bytes phases is told left change l same numbers room. (1, lit< tt, refl));
+    shown = λ config asks. other_shown 7 (λ z. omega (arith, z)) (λ z. omega (arith, z)) config;
+    complete = λ config asks source sink calm. some_now run.source (λ bytes phases is told left change l same numbers room. (1, lit< tt, refl));
     known = (6, lit< tt, refl);
   }
 
@@ -308,11 +328,11 @@ module _ (run : Run) where
     no_memory = λ is. absurd (omega (arith, is));
     damaged = λ is. e;
     other_config = λ is. absurd (omega (arith, is));
-    other_words = λ other. absurd (other e.0);
-    no_script = (ok_script _ e.2.0.script 8 (5, lit< tt, refl)).0;
-    a_script = (ok_script _ e.2.0.script 8 (5, lit< tt, refl)).1;
-    shown = λ words told why reason. some_now run.source (λ bytes is. ((λ z. absurd (omega (arith, z))), (λ z. absurd (omega (arith, z)))));
-    complete = not_opened (open_why.Damaged e.1) 8 e.2.0 (damaged_memory e.1);
+    other_words = asked e.0 e.1;
+    no_script = (ok_script _ e.3.0.script 8 (5, lit< tt, refl)).0;
+    a_script = (ok_script _ e.3.0.script 8 (5, lit< tt, refl)).1;
+    shown = λ config asks. other_shown 8 (λ z. omega (arith, z)) (λ z. omega (arith, z)) config;
+    complete = for_asked (Complete 8) e.0 e.1 (not_opened e.0 (open_why.Damaged e.2) 8 e.3.0 (damaged_memory e.2));
     known = (7, lit< tt, refl);
   }
 
@@ -327,11 +347,11 @@ module _ (run : Run) where
     no_memory = λ is. absurd (omega (arith, is));
     damaged = λ is. absurd (omega (arith, is));
     other_config = λ is. e;
-    other_words = λ other. absurd (other e.0);
-    no_script = (ok_script _ e.2.0.script 9 (6, lit< tt, refl)).0;
-    a_script = (ok_script _ e.2.0.script 9 (6, lit< tt, refl)).1;
-    shown = λ words told why reason. some_now run.source (λ bytes is. ((λ z. absurd (omega (arith, z))), (λ z. absurd (omega (arith, z)))));
-    complete = not_opened (open_why.OtherConfig e.1) 9 e.2.0 (config_memory e.1);
+    other_words = asked e.0 e.1;
+    no_script = (ok_script _ e.3.0.script 9 (6, lit< tt, refl)).0;
+    a_script = (ok_script _ e.3.0.script 9 (6, lit< tt, refl)).1;
+    shown = λ config asks. other_shown 9 (λ z. omega (arith, z)) (λ z. omega (arith, z)) config;
+    complete = for_asked (Complete 9) e.0 e.1 (not_opened e.0 (open_why.OtherConfig e.2) 9 e.3.0 (config_memory e.2));
     known = (8, lit< tt, refl);
   }
 
@@ -342,11 +362,11 @@ module _ (run : Run) where
   ends_by_cases status.BadScript e = bad_script_end e
   ends_by_cases status.ReadFault e = read_fault_end e
   ends_by_cases status.WriteFault e = write_fault_end e
-  ends_by_cases status.Refused e = elim e.1 [
-    | inl a ↦ refused_lines_end e.0 a
+  ends_by_cases status.Refused e = elim e.2 [
+    | inl a ↦ refused_lines_end e.0 e.1 a
     | inr f ↦ elim f [
-      | inl fault ↦ refused_opening_end (open_why.Fault fault.0 fault.1) e.0 (inl fault) fault.2.0 (fault_memory fault.0 fault.1)
-      | inr full ↦ refused_opening_end (open_why.Exhausted full.0) e.0 (inr full) full.1.0 (exhausted_memory full.0)
+      | inl fault ↦ refused_opening_end (open_why.Fault fault.0 fault.1) e.0 e.1 (inl fault) fault.2.0 (fault_memory fault.0 fault.1)
+      | inr full ↦ refused_opening_end (open_why.Exhausted full.0) e.0 e.1 (inr full) full.1.0 (exhausted_memory full.0)
     ]
   ]
   ends_by_cases status.NoMemory e = no_memory_end e

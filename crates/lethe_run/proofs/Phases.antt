@@ -5,6 +5,7 @@ use Rattle.std.specs.Io.KnownBytes.{Appends}
 use Rattle.std.proofs.lemmas.List.Folds.{list_any-append}
 use Rattle.std.proofs.lemmas.Grind.{flat_map-append}
 use Rattle.lethe_base.specs.History.{History}
+use Rattle.lethe_base.specs.declared.config.Fields.{Fields}
 use Rattle.lethe_base.specs.Keys.{Bytes}
 use Rattle.lethe_disk.specs.Disk.{Seen, Image}
 use Rattle.lethe_engine.specs.declared.journal.Journal.{Journal}
@@ -15,7 +16,7 @@ use Rattle.lethe_run.specs.declared.reply.Line.{Line}
 use Rattle.lethe_run.specs.Printed.{lines_text}
 use Rattle.lethe_run.specs.Serving.{IsKeptFor, IsOn, GoesOn, IsPhase, IsCarried}
 use Rattle.lethe_run.specs.Transcript.{Faults, IsServed, AreServed, text_of, is_refusal, has_refusal}
-use Rattle.lethe_run.proofs.Images.{goes_still, leaves}
+use Rattle.lethe_run.proofs.Images.{goes_still, leaves, has_config}
 use Rattle.lethe_run.proofs.Serving.{served_later}
 
 -- what was written
@@ -57,13 +58,13 @@ pub refusal_more : (lines : List (List Line)) (more : List Line) → has_refusal
 refusal_more lines more = list_any-append (list_any is_refusal) lines (more ∷ []) ∙ ap (λ b. has_refusal lines || b) (or_false (list_any is_refusal more))
 
 -- the phases so far
-pub record SoFar (faults : Faults) (opened : History) (phases : List (List Order)) (lines : List (List Line)) (start now : Seen) (journal : Journal) : Type 0 where
+pub record SoFar (config : Fields) (faults : Faults) (opened : History) (phases : List (List Order)) (lines : List (List Line)) (start now : Seen) (journal : Journal) : Type 0 where
   pub history : History
   pub served : AreServed faults opened phases lines history
   pub goes : GoesOn opened opened history start now
-  pub stands : IsOn faults opened history now journal
+  pub stands : IsOn config faults opened history now journal
 
-pub so_far_start : (before from : ℕ) (opened : History) (disk : Seen) (journal : Journal) → IsOn (record { before = from; now = before }) opened opened disk journal → SoFar (record { before = from; now = before }) opened [] [] disk disk journal
+pub so_far_start : {config : Fields} (before from : ℕ) (opened : History) (disk : Seen) (journal : Journal) → IsOn config (record { before = from; now = before }) opened opened disk journal → SoFar config (record { before = from; now = before }) opened [] [] disk disk journal
 so_far_start before from opened disk journal on = record { history = opened; served = refl; goes = goes_still (record { before = from; now = before }) opened opened disk journal on; stands = on }
 
 phases_more : (faults : Faults) (start middle h : History) (phases : List (List Order)) (lines : List (List Line)) (orders : List Order) (more : List Line)
@@ -73,9 +74,9 @@ phases_more faults start middle h [] (l ∷ lines) orders more served last = abs
 phases_more faults start middle h (p ∷ phases) [] orders more served last = absurd served
 phases_more faults start middle h (p ∷ phases) (l ∷ lines) orders more served last = (served.0, served.1, phases_more faults served.0 middle h phases lines orders more served.2 last)
 
-pub so_far_more : (from f0 f1 : ℕ) (opened h : History) (phases : List (List Order)) (lines : List (List Line)) (part : List Order) (more : List Line) (start now then : Seen) (journal journal' : Journal) → f0 ≤ f1
-    → (so_far : SoFar (record { before = from; now = f0 }) opened phases lines start now journal) → IsPhase (record { before = from; now = f1 }) opened so_far.history h part more now then journal'
-    → SoFar (record { before = from; now = f1 }) opened (phases ++ part ∷ []) (lines ++ more ∷ []) start then journal'
+pub so_far_more : {config : Fields} (from f0 f1 : ℕ) (opened h : History) (phases : List (List Order)) (lines : List (List Line)) (part : List Order) (more : List Line) (start now then : Seen) (journal journal' : Journal) → f0 ≤ f1
+    → (so_far : SoFar config (record { before = from; now = f0 }) opened phases lines start now journal) → IsPhase config (record { before = from; now = f1 }) opened so_far.history h part more now then journal'
+    → SoFar config (record { before = from; now = f1 }) opened (phases ++ part ∷ []) (lines ++ more ∷ []) start then journal'
 so_far_more from f0 f1 opened h phases lines part more start now then journal journal' le so_far phase = record {
   history = h;
   served = phases_more (record { before = from; now = f1 }) opened so_far.history h phases lines part more (served_later from f0 f1 le opened so_far.history phases lines so_far.served) phase.served;
@@ -87,11 +88,12 @@ so_far_more from f0 f1 opened h phases lines part more start now then journal jo
   stands = phase.stands;
 }
 
-pub carried : (faults : Faults) (opened : History) (phases : List (List Order)) (lines : List (List Line)) (start now : Seen) (journal : Journal) → Image now now.directory → SoFar faults opened phases lines start now journal
-    → IsCarried faults opened phases lines start now
+pub carried : {config : Fields} (faults : Faults) (opened : History) (phases : List (List Order)) (lines : List (List Line)) (start now : Seen) (journal : Journal) → Image now now.directory → SoFar config faults opened phases lines start now journal
+    → IsCarried config faults opened phases lines start now
 carried faults opened phases lines start now journal itself so_far = record {
   history = so_far.history;
   served = so_far.served;
   any_moment = so_far.goes.any_moment;
   leaves = leaves faults opened so_far.history now journal so_far.stands itself;
+  config_is = has_config faults opened so_far.history now journal so_far.stands;
 }

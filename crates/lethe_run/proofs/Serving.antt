@@ -4,12 +4,15 @@ use Rattle.std.specs.Prelude.{filter, filter_map, IsPermutation}
 use Rattle.std.proofs.lemmas.List.Sorted.{IsPermutation-refl}
 use Rattle.std.proofs.lemmas.List.{length-append, take-append-le}
 use Rattle.lethe_base.specs.declared.call.Call.{Call}
+use Rattle.lethe_base.specs.declared.config.Fields.{Fields}
 use Rattle.lethe_base.specs.History.{History, IsLegal, after}
 use Rattle.lethe_base.specs.Read.{Read, Answer, answer}
 use Rattle.lethe_base.specs.Read as answers
 use Rattle.lethe_base.proofs.Histories.{change_at-append}
 use Rattle.lethe_disk.specs.Disk.{Seen}
 use Rattle.lethe_engine.specs.Scans.{listed}
+use Rattle.lethe_engine.specs.Stats.{stat_in}
+use Rattle.lethe_engine.specs.declared.telling.Stat.{Stat}
 use Rattle.lethe_engine.specs.declared.journal.Journal.{Journal}
 use Rattle.lethe_disk.proofs.Going.{goes_then, goes_weaker}
 use Rattle.lethe_script.specs.declared.order.Order.{Order}
@@ -17,10 +20,10 @@ use Rattle.lethe_script.specs.declared.order.Act.{Act}
 use Rattle.lethe_run.specs.declared.reply.Line.{Line}
 use Rattle.lethe_run.specs.declared.reply.Line.TheVariants as line
 use Rattle.lethe_run.specs.declared.reply.Reply.{Reply}
-use Rattle.lethe_run.specs.declared.reply.Reply.TheVariants.{Done, Got, Scanned, Fault, Stopped, Exhausted}
+use Rattle.lethe_run.specs.declared.reply.Reply.TheVariants.{Done, Got, Scanned, Counted, Fault, Stopped, Exhausted}
 use Rattle.lethe_run.specs.Serving.{IsKeptFor, IsOn, GoesOn, IsAnswered, IsPhase}
 use Rattle.lethe_run.proofs.Images.{goes_still}
-use Rattle.lethe_run.specs.Transcript.{Faults, Told, call_of, read_of, IsDoneAt, IsAnswerAt, IsFailedAt, IsFaultOf, Answers, Answered, place_of, places_behind, is_of, Sees, Follows, InTurn, IsServed, AreServed}
+use Rattle.lethe_run.specs.Transcript.{Faults, Told, call_of, read_of, IsDoneAt, IsAnswerAt, IsStatAt, IsFailedAt, IsFaultOf, Answers, Answered, place_of, places_behind, is_of, Sees, Follows, InTurn, IsServed, AreServed}
 
 -- What a line says of a history it says of a longer one, and when the count of faults rises, unless the places were used up: then nothing follows.
 
@@ -42,6 +45,12 @@ read_before : (h more : History) (point : ℕ) (given : Answer) (asked : Option 
 read_before h more point given None a = absurd a
 read_before h more point given (Some read) a = answer_before h more point read given a
 
+stat_before : (h more : History) (point : ℕ) (stat : Stat) → IsStatAt h point stat → IsStatAt (h ++ more) point stat
+stat_before h more point stat a = record {
+  within = omega (arith, a.within, length-append h more);
+  is = a.is ∙ ap (λ l. stat_in (after l)) (sym (take-append-le point h more a.within));
+}
+
 module _ (h more : History) (legal : IsLegal (h ++ more)) (before now later : ℕ) (le : now ≤ later) where
   abbrev failed_before : (place b a : ℕ) → IsFailedAt (told_of h before now) place b a → IsFailedAt (told_of (h ++ more) before later) place b a
   failed_before place b a f = record {
@@ -61,6 +70,7 @@ module _ (h more : History) (legal : IsLegal (h ++ more)) (before now later : �
   answers_before caller act (Done place) a = done_before h more caller place (call_of act) a
   answers_before caller act (Got point held) a = read_before h more point (answers.Found held) (read_of act) a
   answers_before caller act (Scanned point pairs) a = read_before h more point (listed pairs) (read_of act) a
+  answers_before caller act (Counted point stat) a = (a.0, stat_before h more point stat a.1)
   answers_before caller act (Fault place b a) f = fault_before caller place b a (call_of act) f
   answers_before caller act (Stopped at) a = (a.0, record { before = a.1.before; after = a.1.after; fails = failed_before at a.1.before a.1.after a.1.fails })
   answers_before caller act (Exhausted last) a = (a.0, (a.1.0, let few = legal.few in let all = a.1.1 in omega (arith, few, all, length-append h more)))
@@ -84,17 +94,17 @@ in_turn_more n [] m k caller reply t f = (k, subst (λ n. Follows n reply k) t f
 in_turn_more n (line.Answer c r ∷ lines) m k caller reply t f = (t.0, t.1, in_turn_more t.0 lines m k caller reply t.2 f)
 
 -- the lines so far
-pub record IsBuilt (faults : Faults) (opened start : History) (orders : List Order) (lines : List Line) (h : History) (old now : Seen) (journal : Journal) : Type 0 where
+pub record IsBuilt (config : Fields) (faults : Faults) (opened start : History) (orders : List Order) (lines : List Line) (h : History) (old now : Seen) (journal : Journal) : Type 0 where
   pub begins : (added : History) × (h ≡ start ++ added)
   pub answered : Answered (told_of h faults.before faults.now) orders lines
   pub alone : InTurn (length start) lines (length h)
   pub goes : GoesOn opened start h old now
-  pub stands : IsOn faults opened h now journal
+  pub stands : IsOn config faults opened h now journal
 
-pub built_more : (before f0 f1 : ℕ) (opened start h g : History) (orders : List Order) (lines : List Line) (order : Order) (reply : Reply) (old now then : Seen) (journal journal' : Journal) → f0 ≤ f1
-    → IsBuilt (record { before = before; now = f0 }) opened start orders lines h old now journal
-    → IsAnswered (record { before = before; now = f1 }) opened h g order.caller order.act reply now then journal'
-    → IsBuilt (record { before = before; now = f1 }) opened start (orders ++ order ∷ []) (lines ++ line.Answer order.caller reply ∷ []) g old then journal'
+pub built_more : {config : Fields} (before f0 f1 : ℕ) (opened start h g : History) (orders : List Order) (lines : List Line) (order : Order) (reply : Reply) (old now then : Seen) (journal journal' : Journal) → f0 ≤ f1
+    → IsBuilt config (record { before = before; now = f0 }) opened start orders lines h old now journal
+    → IsAnswered config (record { before = before; now = f1 }) opened h g order.caller order.act reply now then journal'
+    → IsBuilt config (record { before = before; now = f1 }) opened start (orders ++ order ∷ []) (lines ++ line.Answer order.caller reply ∷ []) g old then journal'
 built_more before f0 f1 opened start h g orders lines order reply old now then journal journal' le built is =
     let more = is.grows.0 in
     let whole = is.grows.1 in
@@ -113,9 +123,9 @@ built_more before f0 f1 opened start h g orders lines order reply old now then j
     }
 
 -- the same when nothing was answered
-pub built_still : (before f0 f1 : ℕ) (opened start h : History) (orders : List Order) (lines : List Line) (old now then : Seen) (journal journal' : Journal) → f0 ≤ f1
-    → IsBuilt (record { before = before; now = f0 }) opened start orders lines h old now journal → GoesOn opened h h now then → IsOn (record { before = before; now = f1 }) opened h then journal'
-    → IsBuilt (record { before = before; now = f1 }) opened start orders lines h old then journal'
+pub built_still : {config : Fields} (before f0 f1 : ℕ) (opened start h : History) (orders : List Order) (lines : List Line) (old now then : Seen) (journal journal' : Journal) → f0 ≤ f1
+    → IsBuilt config (record { before = before; now = f0 }) opened start orders lines h old now journal → GoesOn opened h h now then → IsOn config (record { before = before; now = f1 }) opened h then journal'
+    → IsBuilt config (record { before = before; now = f1 }) opened start orders lines h old then journal'
 built_still before f0 f1 opened start h orders lines old now then journal journal' le built goes stands = record {
   begins = built.begins;
   answered = subst (λ x. Answered (told_of x before f1) orders lines) (append-nil h) (answered_before h [] (subst IsLegal (sym (append-nil h)) stands.stands.legal) before f0 f1 le orders lines built.answered);
@@ -133,12 +143,14 @@ module _ (caller : ℕ) (p : Line → Bool) where
   picked false seen n m next (Done place) lines le f end rest = rest seen (omega arith)
   picked false seen n m next (Got point held) lines le f end rest = rest seen (omega arith)
   picked false seen n m next (Scanned point pairs) lines le f end rest = rest seen (omega arith)
+  picked false seen n m next (Counted point stat) lines le f end rest = rest seen (omega arith)
   picked false seen n m next (Fault place b a) lines le f end rest = rest seen (omega arith)
   picked false seen n m next (Stopped at) lines le f end rest = rest seen (omega arith)
   picked false seen n m next (Exhausted last) lines le f end rest = rest seen (omega arith)
   picked true seen n m next (Done place) lines le f end rest = (omega arith, omega arith, rest (max seen place) (omega arith))
   picked true seen n m next (Got point held) lines le f end rest = (omega arith, omega arith, rest (max seen point) (omega arith))
   picked true seen n m next (Scanned point pairs) lines le f end rest = (omega arith, omega arith, rest (max seen point) (omega arith))
+  picked true seen n m next (Counted point stat) lines le f end rest = (omega arith, omega arith, rest (max seen point) (omega arith))
   picked true seen n m next (Fault place b a) lines le f end rest = (omega arith, omega arith, rest (max seen place) (omega arith))
   picked true seen n m next (Stopped at) lines le f end rest = (tt, omega arith, rest (max seen 0) (omega arith))
   picked true seen n m next (Exhausted last) lines le f end rest = (tt, omega arith, rest (max seen 0) (omega arith))
@@ -147,6 +159,7 @@ follows_up : (n m : ℕ) (reply : Reply) → Follows n reply m → n ≤ m
 follows_up n m (Done place) f = omega arith
 follows_up n m (Got point held) f = omega arith
 follows_up n m (Scanned point pairs) f = omega arith
+follows_up n m (Counted point stat) f = omega arith
 follows_up n m (Fault place b a) f = omega arith
 follows_up n m (Stopped at) f = omega arith
 follows_up n m (Exhausted last) f = omega arith
@@ -172,6 +185,7 @@ place_next n next m caller (Done place) lines f end rest = place_taken n next m 
 place_next n next m caller (Fault place b a) lines f end rest = place_taken n next m place lines f.0 f.1 end rest
 place_next n next m caller (Got point held) lines f end rest = rest ∙ ap (λ k. places_behind k (m - k)) f.1
 place_next n next m caller (Scanned point pairs) lines f end rest = rest ∙ ap (λ k. places_behind k (m - k)) f.1
+place_next n next m caller (Counted point stat) lines f end rest = rest ∙ ap (λ k. places_behind k (m - k)) f.1
 place_next n next m caller (Stopped at) lines f end rest = rest ∙ ap (λ k. places_behind k (m - k)) f.1
 place_next n next m caller (Exhausted last) lines f end rest = rest ∙ ap (λ k. places_behind k (m - k)) f.1
 
@@ -181,8 +195,8 @@ places_in_turn n m (line.Answer caller reply ∷ lines) t =
     place_next n t.0 m caller reply lines t.1 (in_turn_up t.0 m lines t.2) (places_in_turn t.0 m lines t.2)
 
 -- the lines of a whole phase
-pub phase_of : (faults : Faults) (opened start h : History) (orders : List Order) (lines : List Line) (old now : Seen) (journal : Journal) → IsBuilt faults opened start orders lines h old now journal
-    → IsPhase faults opened start h orders lines old now journal
+pub phase_of : {config : Fields} (faults : Faults) (opened start h : History) (orders : List Order) (lines : List Line) (old now : Seen) (journal : Journal) → IsBuilt config faults opened start orders lines h old now journal
+    → IsPhase config faults opened start h orders lines old now journal
 phase_of faults opened start h orders lines old now journal built = record {
   served = record {
     begins = built.begins;
@@ -196,7 +210,7 @@ phase_of faults opened start h orders lines old now journal built = record {
   stands = built.stands;
 }
 
-pub built_start : (faults : Faults) (opened start : History) (disk : Seen) (journal : Journal) → IsOn faults opened start disk journal → IsBuilt faults opened start [] [] start disk disk journal
+pub built_start : {config : Fields} (faults : Faults) (opened start : History) (disk : Seen) (journal : Journal) → IsOn config faults opened start disk journal → IsBuilt config faults opened start [] [] start disk disk journal
 built_start faults opened start disk journal on = record { begins = ([], sym (append-nil start)); answered = tt; alone = refl; goes = goes_still faults opened start disk journal on; stands = on }
 
 -- the same when the count of faults has risen

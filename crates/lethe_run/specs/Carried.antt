@@ -1,11 +1,14 @@
 -- What a script that was carried out leaves on the disk.
-use Rattle.std.specs.Prelude.{◌≡◌, ◌⊎◌, not, List, ◌++◌, filter, slice_get, Option}
+use Rattle.std.specs.Prelude.{◌≡◌, ◌⊎◌, not, List, ◌++◌, filter, slice_get, Option, None}
 use Rattle.lethe_base.specs.History.{History, Change}
+use Rattle.lethe_base.specs.declared.config.Fields.{Fields}
 use Rattle.lethe_disk.specs.Directory.{Directory}
 use Rattle.lethe_disk.specs.Disk.{Seen}
 use Rattle.lethe_disk.specs.Goes.{Goes}
 use Rattle.lethe_stored.specs.Kept.{IsKept}
 use Rattle.lethe_stored.specs.Left.{IsLeft, IsHistoryOr, IsOutcome, is_done, without_failed}
+use Rattle.lethe_manifest.specs.declared.manifest.Manifest.{Manifest}
+use Rattle.lethe_recover.specs.Loaded.{IsGated}
 use Rattle.lethe_script.specs.declared.order.Order.{Order}
 use Rattle.lethe_run.specs.declared.reply.Line.{Line}
 use Rattle.lethe_run.specs.Transcript.{Faults, AreServed}
@@ -21,17 +24,24 @@ pub record IsCut (opened h g : History) : Type 0 where
   pub is : IsOutcome h outcome
   pub front : (rest : History) × (outcome ≡ g ++ rest)
 
+-- the manifest that counts has the configuration
+pub record HasConfig (config : Fields) (d : Directory) : Type 0 where
+  pub manifest : Manifest
+  pub gated : IsGated d manifest
+  pub is : manifest.config ≡ config
+
 -- kept for what the disk was left for, or for such a front
 abbrev pub IsKeptMeanwhile : History → Option Change → History → History → Directory → Type 0
 IsKeptMeanwhile left change opened h d = (g : History) × (IsHistoryOr left change g ⊎ IsCut opened h g) × IsKept d g
 
 -- On a disk that was left for a history and a change, the lines answer the phases. The history that was opened is the first, or that with
 -- the change carried out; a crash at any moment leaves a disk that is kept for a history between that and the last; and at the end the
--- disk is left for the last one.
-pub record IsCarriedOut (faults : Faults) (start finish : Seen) (left : History) (change : Option Change) (phases : List (List Order)) (lines : List (List Line)) : Type 0 where
+-- disk is left for the last one, and unless a change failed it is of the configuration.
+pub record IsCarriedOut (config : Fields) (faults : Faults) (start finish : Seen) (left : History) (change : Option Change) (phases : List (List Order)) (lines : List (List Line)) : Type 0 where
   pub opened : History
   pub either : IsHistoryOr left change opened
   pub history : History
   pub served : AreServed faults opened phases lines history
   pub any_moment : Goes (IsKeptMeanwhile left change opened history) start finish
   pub leaves : IsLeft finish (without_failed history) (failed_in history)
+  pub config_is : failed_in history ≡ None → HasConfig config finish.directory

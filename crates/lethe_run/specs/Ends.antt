@@ -1,8 +1,7 @@
 -- How a run may end, what it has written then, and what it leaves on the disk.
-use Rattle.std.specs.Prelude.{◌≡◌, ◌⊎◌, ◌≤◌, ◌+◌, ◌-◌, ℕ, Bool, true, false, List, [], ◌∷◌, ◌++◌, length, take, slice_get, sum_by, Option, Some, IfSome, IsOk, IsErr, Ok, Err, Contains, codes}
+use Rattle.std.specs.Prelude.{◌≡◌, ◌⊎◌, ◌≤◌, ◌+◌, ◌-◌, ℕ, Bool, true, false, List, [], ◌∷◌, ◌++◌, length, take, slice_get, sum_by, Option, Some, None, IfSome, IsSome, IsOk, IsErr, Ok, Err, Contains}
 use Rattle.std.specs.Io.KnownBytes.{Appends, Keeps}
 use Rattle.lethe_wire.specs.Causes.{AppendsFront}
-use Rattle.lethe_base.specs.Configuration.{default_fields}
 use Rattle.lethe_base.specs.Counts.{Rose}
 use Rattle.lethe_base.specs.Keys.{Bytes}
 use Rattle.lethe_base.specs.Limits.{max_place}
@@ -24,13 +23,10 @@ use Rattle.lethe_script.specs.declared.order.Order.{Order}
 use Rattle.lethe_script.specs.declared.refused.BadLine.{BadLine}
 use Rattle.lethe_script.specs.Grammar.{script_of}
 use Rattle.lethe_run.specs.declared.reply.Line.{Line}
+use Rattle.lethe_run.specs.Asked.{config_of}
 use Rattle.lethe_run.specs.Carried.{IsCarriedOut}
 use Rattle.lethe_run.specs.Printed.{bad_words, bad_line, open_line}
 use Rattle.lethe_run.specs.Transcript.{text_of, has_refusal}
-
--- the one word `run`
-abbrev pub IsRun : List Bytes → Type 0
-IsRun words = words ≡ codes "run" ∷ []
 
 -- What a run was given, and what it left. Of the source and the sink: what the one had and the other has taken, where they tell it, and
 -- whether their counts of faults rose. Of the disk: what it was and is, where its kind tells it, and its counts of faults.
@@ -49,6 +45,17 @@ pub record Run : Type 1 where
   -- the disk is handed back as it came
   pub Unused : Type 0
 
+-- the words ask for this configuration
+abbrev pub Asks : Run → Fields → Type 0
+Asks run config = config_of run.words ≡ Some config
+
+-- the words are a command, or none
+abbrev pub IsCommand : Run → Type 0
+IsCommand run = IsSome (config_of run.words)
+
+abbrev pub IsNoCommand : Run → Type 0
+IsNoCommand run = config_of run.words ≡ None
+
 -- for each history and change that the disk was left for, where it tells what it holds
 abbrev pub OnLeft : Run → (History → Option Change → Type 0) → Type 0
 OnLeft run P = run.Tells → (left : History) (change : Option Change) → IsLeft run.start left change → P left change
@@ -57,23 +64,23 @@ OnLeft run P = run.Tells → (left : History) (change : Option Change) → IsLef
 abbrev pub OnScript : Run → (List (List Order) → Type 0) → Type 0
 OnScript run P = IfSome run.source (λ bytes. (phases : List (List Order)) × (script_of bytes ≡ Ok phases) × P phases)
 
--- the lines answer these phases, and the disk is left so
-abbrev pub Carries : Run → List (List Order) → List (List Line) → Type 0
-Carries run phases lines = OnLeft run (λ left change. IsCarriedOut (record { before = run.faults_before; now = run.faults }) run.start run.finish left change phases lines)
+-- the lines answer these phases over a store of the configuration, and the disk is left so
+abbrev pub Carries : Run → Fields → List (List Order) → List (List Line) → Type 0
+Carries run config phases lines = OnLeft run (λ left change. IsCarriedOut config (record { before = run.faults_before; now = run.faults }) run.start run.finish left change phases lines)
 
 -- every line of the script was answered, and whether one tells of a change that failed or wasn't made
-pub record Answered (run : Run) (refused : Bool) : Type 0 where
+pub record Answered (run : Run) (config : Fields) (refused : Bool) : Type 0 where
   pub lines : List (List Line)
-  pub script : OnScript run (λ phases. Carries run phases lines)
+  pub script : OnScript run (λ phases. Carries run config phases lines)
   pub written : Appends run.taken_before run.taken (text_of lines)
   pub is : has_refusal lines ≡ refused
   -- the directory shows nothing against it
-  pub sound : run.Tells → (why : RecoverRefused) → HasReason default_fields run.start.directory why → ⊥
+  pub sound : run.Tells → (why : RecoverRefused) → HasReason config run.start.directory why → ⊥
 
 -- the script was carried out up to a phase, in which the sink failed
-pub record StoppedBehind (run : Run) (text : Bytes) : Type 0 where
+pub record StoppedBehind (run : Run) (config : Fields) (text : Bytes) : Type 0 where
   pub lines : List (List Line)
-  pub script : OnScript run (λ phases. (count : ℕ) × Carries run (take count phases) lines)
+  pub script : OnScript run (λ phases. (count : ℕ) × Carries run config (take count phases) lines)
   pub is : text ≡ text_of lines
 
 -- whole phases, and of the next one the first orders
@@ -85,10 +92,10 @@ pub record IsFront (phases front : List (List Order)) : Type 0 where
   pub is : front ≡ take count phases ++ part ∷ []
 
 -- the script was carried out up to an order for which there was no memory
-pub record StoppedInside (run : Run) : Type 0 where
+pub record StoppedInside (run : Run) (config : Fields) : Type 0 where
   pub lines : List (List Line)
   pub script : OnScript run (λ phases. OnLeft run (λ left change. (front : List (List Order)) × IsFront phases front
-      × IsCarriedOut (record { before = run.faults_before; now = run.faults }) run.start run.finish left change front lines))
+      × IsCarriedOut config (record { before = run.faults_before; now = run.faults }) run.start run.finish left change front lines))
   pub written : AppendsFront run.taken_before run.taken (text_of lines)
 
 -- the bytes are no script, and this is their first bad line
@@ -97,33 +104,33 @@ IsNoScript run bad = IfSome run.source (λ bytes. script_of bytes ≡ Err bad) �
 
 -- The store wasn't opened, and this is why. The directory shows damage and another configuration, and then nothing was touched; numbers
 -- run out where the manifest's next number and the device calls reach the last one; and whatever came, each crash leaves what the disk was left for.
-pub record IsNotOpened (run : Run) (why : OpenWhy) : Type 0 where
+pub record IsNotOpened (run : Run) (config : Fields) (why : OpenWhy) : Type 0 where
   pub script : OnScript run (λ phases. Unit {0})
-  pub reason : MayNotOpen run.Tells default_fields run.start.directory run.faults_before run.faults why
+  pub reason : MayNotOpen run.Tells config run.start.directory run.faults_before run.faults why
   pub untouched : run.Tells → IsUntold why ⊎ IsQuiet run.start run.finish
   pub drawn : run.Tells → (last : ℕ) → why ≡ open_why.Exhausted last
       → (manifest : Manifest) × IsGated run.start.directory manifest × (last ≤ manifest.next + (run.finish.moment - run.start.moment))
   pub any_moment : OnLeft run (λ left change. Goes (IsKeptOr left change) run.start run.finish)
 
 -- it wasn't, and this was written
-abbrev pub Refuses : Run → OpenWhy → Type 0
-Refuses run why = IsNotOpened run why × Appends run.taken_before run.taken (open_line default_fields why)
+abbrev pub Refuses : Run → Fields → OpenWhy → Type 0
+Refuses run config why = IsNotOpened run config why × Appends run.taken_before run.taken (open_line config why)
 
 -- what was to be written where the sink failed
 abbrev pub IsAsked : Run → Bytes → Type 0
 IsAsked run text =
-    ((IsRun run.words → ⊥) × (text ≡ bad_words) × run.Unused)
-    ⊎ (IsRun run.words × (bad : BadLine) × IsNoScript run bad × (text ≡ bad_line bad))
-    ⊎ (IsRun run.words × (why : OpenWhy) × IsNotOpened run why × (text ≡ open_line default_fields why))
-    ⊎ (IsRun run.words × StoppedBehind run text)
+    (IsNoCommand run × (text ≡ bad_words) × run.Unused)
+    ⊎ (IsCommand run × (bad : BadLine) × IsNoScript run bad × (text ≡ bad_line bad))
+    ⊎ ((config : Fields) × Asks run config × (why : OpenWhy) × IsNotOpened run config why × (text ≡ open_line config why))
+    ⊎ ((config : Fields) × Asks run config × StoppedBehind run config text)
 
 -- there was no memory before the first order
-abbrev pub IsUnbegun : Run → Type 0
-IsUnbegun run = Keeps run.taken_before run.taken × (run.Unused ⊎ IsNotOpened run open_why.NoMemory)
+abbrev pub IsUnbegun : Run → Fields → Type 0
+IsUnbegun run config = Keeps run.taken_before run.taken × (run.Unused ⊎ IsNotOpened run config open_why.NoMemory)
 
 -- opening met a fault or numbers that ran out
-abbrev pub IsOpenFault : Run → Type 0
-IsOpenFault run = ((before : ℕ) × (after : ℕ) × Refuses run (open_why.Fault before after)) ⊎ ((last : ℕ) × Refuses run (open_why.Exhausted last))
+abbrev pub IsOpenFault : Run → Fields → Type 0
+IsOpenFault run config = ((before : ℕ) × (after : ℕ) × Refuses run config (open_why.Fault before after)) ⊎ ((last : ℕ) × Refuses run config (open_why.Exhausted last))
 
 -- the statuses of a script's end
 abbrev pub script_ends : List ℕ
@@ -131,32 +138,32 @@ script_ends = 0 ∷ 4 ∷ 5 ∷ 6 ∷ 7 ∷ 8 ∷ 9 ∷ []
 
 pub record Ends (run : Run) (status : ℕ) : Type 0 where
   -- each line was answered, and each change is done
-  pub answered : status ≡ 0 → IsRun run.words × Answered run false
+  pub answered : status ≡ 0 → (config : Fields) × Asks run config × Answered run config false
   -- `bad words`
-  pub bad_words : status ≡ 2 → (IsRun run.words → ⊥) × Appends run.taken_before run.taken bad_words × run.Unused
+  pub bad_words : status ≡ 2 → IsNoCommand run × Appends run.taken_before run.taken bad_words × run.Unused
   -- `line N bad WHY`
-  pub bad_script : status ≡ 3 → IsRun run.words × (bad : BadLine) × IsNoScript run bad × Appends run.taken_before run.taken (bad_line bad)
-  pub read_fault : status ≡ 4 → IsRun run.words × run.SourceRose × Keeps run.taken_before run.taken × run.Unused
+  pub bad_script : status ≡ 3 → IsCommand run × (bad : BadLine) × IsNoScript run bad × Appends run.taken_before run.taken (bad_line bad)
+  pub read_fault : status ≡ 4 → IsCommand run × run.SourceRose × Keeps run.taken_before run.taken × run.Unused
   pub write_fault : status ≡ 5 → run.SinkRose × (text : Bytes) × IsAsked run text × AppendsFront run.taken_before run.taken text
   -- each line was answered, and a change failed or wasn't made, or opening met a fault or numbers that ran out
-  pub refused : status ≡ 6 → IsRun run.words × (Answered run true ⊎ IsOpenFault run)
-  pub no_memory : status ≡ 7 → IsRun run.words × (IsUnbegun run ⊎ StoppedInside run)
+  pub refused : status ≡ 6 → (config : Fields) × Asks run config × (Answered run config true ⊎ IsOpenFault run config)
+  pub no_memory : status ≡ 7 → (config : Fields) × Asks run config × (IsUnbegun run config ⊎ StoppedInside run config)
   -- `damaged KIND NO`
-  pub damaged : status ≡ 8 → IsRun run.words × (name : Name) × Refuses run (open_why.Damaged name)
+  pub damaged : status ≡ 8 → (config : Fields) × Asks run config × (name : Name) × Refuses run config (open_why.Damaged name)
   -- `other config kept .. asked ..`
-  pub other_config : status ≡ 9 → IsRun run.words × (kept : Fields) × Refuses run (open_why.OtherConfig kept)
+  pub other_config : status ≡ 9 → (config : Fields) × Asks run config × (kept : Fields) × Refuses run config (open_why.OtherConfig kept)
   -- what ends it otherwise, where the words are no command, where the bytes are no script, and where they are one
-  pub other_words : (IsRun run.words → ⊥) → Contains (2 ∷ 5 ∷ []) status
-  pub no_script : IsRun run.words → IfSome run.source (λ bytes. IsErr (script_of bytes) → Contains (3 ∷ 4 ∷ 5 ∷ 7 ∷ []) status)
-  pub a_script : IsRun run.words → IfSome run.source (λ bytes. IsOk (script_of bytes) → Contains script_ends status)
+  pub other_words : IsNoCommand run → Contains (2 ∷ 5 ∷ []) status
+  pub no_script : IsCommand run → IfSome run.source (λ bytes. IsErr (script_of bytes) → Contains (3 ∷ 4 ∷ 5 ∷ 7 ∷ []) status)
+  pub a_script : IsCommand run → IfSome run.source (λ bytes. IsOk (script_of bytes) → Contains script_ends status)
   -- what the directory shows isn't carried out over
-  pub shown : IsRun run.words → run.Tells → (why : RecoverRefused) → HasReason default_fields run.start.directory why
-      → IfSome run.source (λ bytes. IsOk (script_of bytes) → (status ≡ 0 → ⊥) × (status ≡ 6 → IsOpenFault run))
+  pub shown : (config : Fields) → Asks run config → run.Tells → (why : RecoverRefused) → HasReason config run.start.directory why
+      → IfSome run.source (λ bytes. IsOk (script_of bytes) → (status ≡ 0 → ⊥) × (status ≡ 6 → IsOpenFault run config))
   -- Without a fault a script is answered and each change is done, or there is no memory for it, on a disk that was left for a history and is
   -- of this configuration, where neither numbers nor places run out.
-  pub complete : IsRun run.words → (run.SourceRose → ⊥) → (run.SinkRose → ⊥) → (Rose run.faults_before run.faults → ⊥)
+  pub complete : (config : Fields) → Asks run config → (run.SourceRose → ⊥) → (run.SinkRose → ⊥) → (Rose run.faults_before run.faults → ⊥)
       → IfSome run.source (λ bytes. (phases : List (List Order)) → script_of bytes ≡ Ok phases → OnLeft run (λ left change.
-      ((kept : Fields) → HasOtherConfig default_fields run.start.directory kept → ⊥) → (IsExhausted run.start.directory → ⊥)
+      ((kept : Fields) → HasOtherConfig config run.start.directory kept → ⊥) → (IsExhausted run.start.directory → ⊥)
       → length left + 1 + sum_by (λ orders. length orders) phases ≤ max_place → Contains (0 ∷ 7 ∷ []) status))
   -- there is no other status
   pub known : Contains (0 ∷ 2 ∷ 3 ∷ 4 ∷ 5 ∷ 6 ∷ 7 ∷ 8 ∷ 9 ∷ []) status

@@ -4,6 +4,7 @@ pub mod Carried
 pub mod Ends
 pub mod Status
 pub mod Scans
+pub mod Asked
 pub mod Replies
 pub mod Serving
 pub mod Scripts

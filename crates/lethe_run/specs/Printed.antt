@@ -1,42 +1,37 @@
 -- The text of each line that is printed.
-use Rattle.std.specs.Prelude.{ℕ, Bool, ◌&&◌, not, List, [], ◌∷◌, ◌++◌, length, slice_index, Some, None, nat_le, ◌==◌, codes, if◌then◌else◌}
-use Rattle.std.specs.List.{flat_map, list_all}
+use Rattle.std.specs.Prelude.{ℕ, List, [], ◌∷◌, ◌++◌, length, Some, None, codes}
+use Rattle.std.specs.List.{flat_map}
 use Rattle.std.specs.Fmt.{decimal}
-use Rattle.hex.specs.Hex.{encode_lower}
 use Rattle.lethe_base.specs.Keys.{Bytes}
 use Rattle.lethe_base.specs.declared.config.Fields.{Fields}
 use Rattle.lethe_base.specs.declared.config.Pick.{Pick}
 use Rattle.lethe_base.specs.declared.config.Pick.TheVariants.{So, Sd}
 use Rattle.lethe_base.specs.declared.name.Kind.{Kind}
 use Rattle.lethe_base.specs.declared.name.Kind.TheVariants.{Gate, Manifest, Segment, File, Page}
+use Rattle.lethe_engine.specs.declared.telling.Stat.{Stat}
 use Rattle.lethe_recover.specs.declared.opening.OpenWhy.{OpenWhy}
 use Rattle.lethe_recover.specs.declared.opening.OpenWhy.TheVariants as open_why
 use Rattle.lethe_script.specs.declared.refused.BadLine.{BadLine}
+use Rattle.lethe_script.specs.Spelling.{field_text}
 use Rattle.lethe_script.specs.Words.{why_text}
 use Rattle.lethe_run.specs.declared.reply.Line.{Line}
 use Rattle.lethe_run.specs.declared.reply.Line.TheVariants.{Answer}
 use Rattle.lethe_run.specs.declared.reply.Reply.{Reply}
-use Rattle.lethe_run.specs.declared.reply.Reply.TheVariants.{Done, Got, Scanned, Fault, Stopped, Exhausted}
+use Rattle.lethe_run.specs.declared.reply.Reply.TheVariants.{Done, Got, Scanned, Counted, Fault, Stopped, Exhausted}
 
 -- with its end
 abbrev pub ended : Bytes → Bytes
 ended text = text ++ 10 ∷ []
 
--- a byte that prints and is no space
-abbrev pub is_visible : ℕ → Bool
-is_visible byte = nat_le 33 byte && nat_le byte 126
-
--- whether a key or a value stands for itself in a text: it isn't empty, its bytes are visible, and the first is no `=`
-abbrev pub is_plain : Bytes → Bool
-is_plain bytes = not (length bytes == 0) && not (slice_index bytes 0 == 61) && list_all is_visible bytes
-
--- a key or a value: its bytes, or `=` and their hexadecimal digits
-abbrev pub field_text : Bytes → Bytes
-field_text bytes = if is_plain bytes then bytes else 61 ∷ encode_lower bytes
-
 -- a key, its delete key and its value, with a space before each
 abbrev pub pair_text : Bytes × ℕ × Bytes → Bytes
 pair_text pair = codes " " ++ field_text pair.0 ++ codes " " ++ decimal pair.1 ++ codes " " ++ field_text pair.2
+
+-- what a store tells of itself
+abbrev pub stat_text : Stat → Bytes
+stat_text s =
+    codes "clock " ++ decimal s.clock ++ codes " pins " ++ decimal s.pins ++ codes " pending " ++ decimal s.pending
+    ++ (codes " files " ++ decimal s.files ++ codes " tombs " ++ decimal s.tombs)
 
 -- a reply, without its caller
 abbrev pub reply_text : Reply → Bytes
@@ -44,6 +39,7 @@ reply_text (Done place) = codes "ok " ++ decimal place
 reply_text (Got point None) = codes "at " ++ decimal point ++ codes " none"
 reply_text (Got point (Some pair)) = codes "at " ++ decimal point ++ codes " val " ++ decimal pair.0 ++ codes " " ++ field_text pair.1
 reply_text (Scanned point pairs) = codes "at " ++ decimal point ++ codes " scan " ++ decimal (length pairs) ++ flat_map pair_text pairs
+reply_text (Counted point stat) = codes "at " ++ decimal point ++ codes " stat " ++ stat_text stat
 reply_text (Fault place before after) = codes "fault " ++ decimal place ++ codes " before " ++ decimal before ++ codes " after " ++ decimal after
 reply_text (Stopped at) = codes "stopped " ++ decimal at
 reply_text (Exhausted last) = codes "exhausted " ++ decimal last

@@ -4,6 +4,7 @@ use Rattle.std.specs.Io.KnownBytes.{Appends}
 use Rattle.lethe_wire.specs.Causes.{AppendsFront}
 use Rattle.lethe_base.specs.Keys.{Bytes}
 use Rattle.lethe_base.specs.History.{History}
+use Rattle.lethe_base.specs.declared.config.Fields.{Fields}
 use Rattle.lethe_disk.specs.Disk.{Seen}
 use Rattle.lethe_engine.specs.declared.journal.Journal.{Journal}
 use Rattle.lethe_script.specs.declared.order.Order.{Order}
@@ -17,7 +18,7 @@ use Rattle.lethe_run.specs.Transcript.{text_of, has_refusal}
 -- the lines answer these phases, over each history for which the store stands
 abbrev pub Serves : Type 0 → Seen → Seen → Journal → ℕ → ℕ → List (List Order) → List (List Line) → Type 0
 Serves Tells start finish journal before now phases lines =
-    Tells → (opened : History) → IsOn (record { before = before; now = before }) opened opened start journal → (from : ℕ) → from ≤ before → IsCarried (record { before = from; now = now }) opened phases lines start finish
+    Tells → (config : Fields) (opened : History) → IsOn config (record { before = before; now = before }) opened opened start journal → (from : ℕ) → from ≤ before → IsCarried config (record { before = from; now = now }) opened phases lines start finish
 
 -- all phases were answered
 pub record All (Tells : Type 0) (start finish : Seen) (journal : Journal) (before now : ℕ) (old new : Option Bytes) (phases : List (List Order)) (refused : Bool) : Type 0 where
@@ -36,8 +37,8 @@ pub record Behind (Tells : Type 0) (start finish : Seen) (journal : Journal) (be
 -- some were, and of the next one the first orders
 pub record Inside (Tells : Type 0) (start finish : Seen) (journal : Journal) (before now : ℕ) (old new : Option Bytes) (phases : List (List Order)) : Type 0 where
   pub lines : List (List Line)
-  pub served : Tells → (opened : History) → IsOn (record { before = before; now = before }) opened opened start journal → (from : ℕ) → from ≤ before
-      → (front : List (List Order)) × IsFront phases front × IsCarried (record { before = from; now = now }) opened front lines start finish
+  pub served : Tells → (config : Fields) (opened : History) → IsOn config (record { before = before; now = before }) opened opened start journal → (from : ℕ) → from ≤ before
+      → (front : List (List Order)) × IsFront phases front × IsCarried config (record { before = from; now = now }) opened front lines start finish
   pub written : AppendsFront old new (text_of lines)
 
 abbrev pub ScriptEnds : Type 0 → Seen → Seen → Journal → ℕ → ℕ → Option Bytes → Option Bytes → Type 0 → List (List Order) → Status → Type 0

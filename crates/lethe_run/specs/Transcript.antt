@@ -12,12 +12,14 @@ use Rattle.lethe_base.specs.Read.{Read, Answer, answer}
 use Rattle.lethe_base.specs.Read as answers
 use Rattle.lethe_script.specs.declared.order.Order.{Order}
 use Rattle.lethe_script.specs.declared.order.Act.{Act}
-use Rattle.lethe_script.specs.declared.order.Act.TheVariants.{Put, Get, Scan, Delete}
+use Rattle.lethe_script.specs.declared.order.Act.TheVariants.{Put, Get, Scan, Delete, Stat}
 use Rattle.lethe_run.specs.declared.reply.Line.{Line}
 use Rattle.lethe_run.specs.declared.reply.Line.TheVariants as line
 use Rattle.lethe_run.specs.declared.reply.Reply.{Reply}
-use Rattle.lethe_run.specs.declared.reply.Reply.TheVariants.{Done, Got, Scanned, Fault, Stopped, Exhausted}
+use Rattle.lethe_run.specs.declared.reply.Reply.TheVariants.{Done, Got, Scanned, Counted, Fault, Stopped, Exhausted}
+use Rattle.lethe_engine.specs.declared.telling.Stat as stats
 use Rattle.lethe_engine.specs.Scans.{listed}
+use Rattle.lethe_engine.specs.Stats.{stat_in}
 use Rattle.lethe_run.specs.Printed.{lines_text}
 
 -- what the meaning of a line depends on
@@ -34,6 +36,7 @@ call_of (Put key dkey value) = Some (call.Put key dkey value)
 call_of (Get key) = None
 call_of (Scan lo hi) = None
 call_of (Delete key) = Some (call.Delete key)
+call_of Stat = None
 
 -- the read that an act asks for
 abbrev pub read_of : Act → Option Read
@@ -41,6 +44,7 @@ read_of (Put key dkey value) = None
 read_of (Get key) = Some (answers.Get key)
 read_of (Scan lo hi) = Some (answers.Scan lo hi)
 read_of (Delete key) = None
+read_of Stat = None
 
 -- the change of a caller stands done at a place
 abbrev pub IsDoneAt : History → ℕ → ℕ → Call → Type 0
@@ -50,6 +54,11 @@ IsDoneAt h caller place call = change_at h place ≡ Some (record { caller = cal
 pub record IsAnswerAt (h : History) (point : ℕ) (read : Read) (given : Answer) : Type 0 where
   pub within : point ≤ length h
   pub is : given ≡ answer (after (take point h)) read
+
+-- the store is told as it was behind so many places
+pub record IsStatAt (h : History) (point : ℕ) (stat : stats.Stat) : Type 0 where
+  pub within : point ≤ length h
+  pub is : stat ≡ stat_in (after (take point h))
 
 -- The disk failed in the change at a place, and these are its counts of faults before and after.
 pub record IsFailedAt (told : Told) (place before after : ℕ) : Type 0 where
@@ -81,6 +90,7 @@ abbrev pub Answers : Told → ℕ → Act → Reply → Type 0
 Answers told caller act (Done place) = IsSomeAnd (call_of act) (IsDoneAt told.history caller place)
 Answers told caller act (Got point held) = IsSomeAnd (read_of act) (λ read. IsAnswerAt told.history point read (answers.Found held))
 Answers told caller act (Scanned point pairs) = IsSomeAnd (read_of act) (λ read. IsAnswerAt told.history point read (listed pairs))
+Answers told caller act (Counted point stat) = (act ≡ Stat) × IsStatAt told.history point stat
 Answers told caller act (Fault place before after) = IsSomeAnd (call_of act) (IsFaultOf told caller place before after)
 Answers told caller act (Stopped at) = IsSome (call_of act) × WasStopped told at
 Answers told caller act (Exhausted last) = IsSome (call_of act) × IsUsedUp told last
@@ -101,6 +111,7 @@ abbrev pub place_of : Line → Option ℕ
 place_of (line.Answer caller (Done place)) = Some place
 place_of (line.Answer caller (Got point held)) = None
 place_of (line.Answer caller (Scanned point pairs)) = None
+place_of (line.Answer caller (Counted point stat)) = None
 place_of (line.Answer caller (Fault place before after)) = Some place
 place_of (line.Answer caller (Stopped at)) = None
 place_of (line.Answer caller (Exhausted last)) = None
@@ -119,15 +130,17 @@ abbrev pub shown_by : Reply → ℕ
 shown_by (Done place) = place
 shown_by (Got point held) = point
 shown_by (Scanned point pairs) = point
+shown_by (Counted point stat) = point
 shown_by (Fault place before after) = place
 shown_by (Stopped at) = 0
 shown_by (Exhausted last) = 0
 
--- a change stands above what its caller had seen, and a read isn't below it
+-- a change stands above what its caller had seen, and what is told isn't below it
 abbrev pub IsBehind : ℕ → Reply → Type 0
 IsBehind seen (Done place) = seen < place
 IsBehind seen (Got point held) = seen ≤ point
 IsBehind seen (Scanned point pairs) = seen ≤ point
+IsBehind seen (Counted point stat) = seen ≤ point
 IsBehind seen (Fault place before after) = seen < place
 IsBehind seen (Stopped at) = Unit {0}
 IsBehind seen (Exhausted last) = Unit {0}
@@ -143,6 +156,7 @@ abbrev pub Follows : ℕ → Reply → ℕ → Type 0
 Follows n (Done place) m = (place ≡ suc n) × (m ≡ suc n)
 Follows n (Got point held) m = (point ≡ n) × (m ≡ n)
 Follows n (Scanned point pairs) m = (point ≡ n) × (m ≡ n)
+Follows n (Counted point stat) m = (point ≡ n) × (m ≡ n)
 Follows n (Fault place before after) m = (place ≡ suc n) × (m ≡ suc n)
 Follows n (Stopped at) m = (at ≡ n) × (m ≡ n)
 Follows n (Exhausted last) m = (n ≡ last) × (m ≡ n)
@@ -184,6 +198,7 @@ abbrev pub is_refusal : Line → Bool
 is_refusal (line.Answer caller (Done place)) = false
 is_refusal (line.Answer caller (Got point held)) = false
 is_refusal (line.Answer caller (Scanned point pairs)) = false
+is_refusal (line.Answer caller (Counted point stat)) = false
 is_refusal (line.Answer caller (Fault place before after)) = true
 is_refusal (line.Answer caller (Stopped at)) = true
 is_refusal (line.Answer caller (Exhausted last)) = true

@@ -1,6 +1,7 @@
 //! Answering one order.
 ghost use Rattle.std.specs.Prelude.{◌≡◌, ◌≤◌, ℕ, IfErr, MatchResult};
 ghost use Rattle.lethe_base.specs.History.{History};
+ghost use Rattle.lethe_base.specs.declared.config.Fields.{Fields};
 ghost use Rattle.lethe_engine.specs.Sound.{IsSound};
 ghost use Rattle.lethe_run.specs.Replies.{IsOfChange, reply_of};
 ghost use Rattle.lethe_run.specs.Serving.{IsOn, IsAnswered, GoesOn};
@@ -20,11 +21,11 @@ pub(crate) fn answer<D: Disk>(
 ) -> Result<Reply, NoMemory>
     requires { IsSound D.tells (D.seen engine.old.disk) engine.old.journal }
     ensures sound { IsSound D.tells (D.seen engine.new.disk) engine.new.journal }
-    ensures served { D.tells → (before : ℕ) (opened h : History) (caller : ℕ)
-        → IsOn (record { before = before; now = D.faults engine.old.disk }) opened h (D.seen engine.old.disk) engine.old.journal → before ≤ D.faults engine.old.disk
+    ensures served { D.tells → (config : Fields) (before : ℕ) (opened h : History) (caller : ℕ)
+        → IsOn config (record { before = before; now = D.faults engine.old.disk }) opened h (D.seen engine.old.disk) engine.old.journal → before ≤ D.faults engine.old.disk
         → MatchResult result
-        (λ reply. (g : History) × IsAnswered (record { before = before; now = D.faults engine.new.disk }) opened h g caller act reply (D.seen engine.old.disk) (D.seen engine.new.disk) engine.new.journal)
-        (λ why. GoesOn opened h h (D.seen engine.old.disk) (D.seen engine.new.disk) × IsOn (record { before = before; now = D.faults engine.new.disk }) opened h (D.seen engine.new.disk) engine.new.journal) }
+        (λ reply. (g : History) × IsAnswered config (record { before = before; now = D.faults engine.new.disk }) opened h g caller act reply (D.seen engine.old.disk) (D.seen engine.new.disk) engine.new.journal)
+        (λ why. GoesOn opened h h (D.seen engine.old.disk) (D.seen engine.new.disk) × IsOn config (record { before = before; now = D.faults engine.new.disk }) opened h (D.seen engine.new.disk) engine.new.journal) }
     ensures faults { D.faults engine.old.disk ≤ D.faults engine.new.disk }
 {
     match act {
@@ -44,6 +45,10 @@ pub(crate) fn answer<D: Disk>(
             }),
             Err(why) => Err(why),
         },
+        Act::Stat => Ok(Reply::Counted {
+            point: engine.count(),
+            stat: engine.stat(),
+        }),
     }
 }
 

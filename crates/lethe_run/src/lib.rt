@@ -9,6 +9,7 @@ mod script;
 mod serve;
 mod status;
 mod top;
+mod words;
 
 pub use laws::one_scan;
 pub use top::{Ended, run};

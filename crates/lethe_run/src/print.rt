@@ -3,10 +3,12 @@ ghost use Rattle.std.specs.Prelude.{◌≡◌, ◌++◌, OnOk, IfOk, IsTrue, is_
 ghost use Rattle.lethe_base.specs.Keys.{Bytes};
 ghost use Rattle.std.specs.List.{flat_map, list_all};
 ghost use Rattle.std.specs.String.{string_bytes};
-ghost use Rattle.lethe_run.specs.Printed.{line_text, lines_text, reply_text, field_text, pair_text, is_plain, is_visible, bad_line, open_line, open_fault_line, kind_text, pick_text, config_text};
+ghost use Rattle.lethe_script.specs.Spelling.{field_text, is_plain, is_visible};
+ghost use Rattle.lethe_run.specs.Printed.{line_text, lines_text, reply_text, pair_text, stat_text, bad_line, open_line, open_fault_line, kind_text, pick_text, config_text};
 
 use crate::reply::{Line, Reply};
 use lethe_base::{Fields, Key, Kind, NoMemory, Pick, Value};
+use lethe_engine::Stat;
 use lethe_recover::OpenWhy;
 use lethe_script::BadLine;
 use std::alloc::Global;
@@ -69,6 +71,10 @@ fn push_reply(text: &mut Vec<u8>, alloc: Global, reply: &Reply) -> Result<(), No
             held: Some((dkey, value)),
         } => push_found(text, alloc, *point, *dkey, value)?,
         Reply::Scanned { point, pairs } => push_scanned(text, alloc, *point, pairs.items())?,
+        Reply::Counted { point, stat } => {
+            text.extend_from_slice(format!(in alloc; "at {point} stat ")?.as_bytes())?;
+            push_stat(text, alloc, stat)?;
+        }
         Reply::Fault {
             place,
             before,
@@ -140,6 +146,23 @@ fn push_pair(
     push_field(text, alloc, key.bytes())?;
     text.extend_from_slice(format!(in alloc; " {dkey} ")?.as_bytes())?;
     push_field(text, alloc, value.bytes())
+}
+
+fn push_stat(text: &mut Vec<u8>, alloc: Global, stat: &Stat) -> Result<(), NoMemory>
+    ensures { OnOk result (text.new.items ≡ text.old.items ++ stat_text stat.now) }
+{
+    let Stat {
+        clock,
+        pins,
+        pending,
+        files,
+        tombs,
+    } = stat;
+    text.extend_from_slice(format!(in alloc;
+        "clock {clock} pins {pins} pending {pending}"
+    )?.as_bytes())?;
+    text.extend_from_slice(format!(in alloc; " files {files} tombs {tombs}")?.as_bytes())?;
+    Ok(())
 }
 
 /// Adds a key or a value.

@@ -1,6 +1,7 @@
 //! What the lines of a script are answered.
 
 use lethe_base::{Key, List, Value};
+use lethe_engine::Stat;
 
 /// What one line is answered.
 #[derive(Debug, Drop)]
@@ -18,6 +19,11 @@ pub(crate) enum Reply {
     Scanned {
         point: u64,
         pairs: List<(Key, u64, Value)>,
+    },
+    /// What the store was as a whole behind `point` places.
+    Counted {
+        point: u64,
+        stat: Stat,
     },
     /// The disk failed in a change, which has this place; its count of faults went from `before` to `after`.
     Fault {

@@ -94,7 +94,8 @@ fn is_refusal(line: &Line) -> bool
 {
     let Line::Answer { reply, .. } = line;
     match reply {
-        Reply::Done { .. } | Reply::Got { .. } | Reply::Scanned { .. } => false,
+        Reply::Done { .. } | Reply::Got { .. } | Reply::Scanned { .. } | Reply::Counted { .. } =>
+            false,
         Reply::Fault { .. } | Reply::Stopped { .. } | Reply::Exhausted { .. } => true,
     }
 }

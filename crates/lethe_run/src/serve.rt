@@ -1,6 +1,7 @@
 //! Carrying out the orders of a phase.
 ghost use Rattle.std.specs.Prelude.{◌≡◌, ◌≤◌, ℕ, List, [], ◌++◌, IsTrue};
 ghost use Rattle.lethe_base.specs.History.{History};
+ghost use Rattle.lethe_base.specs.declared.config.Fields.{Fields};
 ghost use Rattle.lethe_engine.specs.Sound.{IsSound};
 ghost use Rattle.lethe_script.specs.declared.order.Order.{Order};
 ghost use Rattle.lethe_run.specs.Serving.{IsOn, IsPhase};
@@ -31,10 +32,10 @@ pub(crate) fn serve_phase<D: Disk>(
 ) -> Served
     requires { IsSound D.tells (D.seen engine.old.disk) engine.old.journal }
     ensures sound { IsSound D.tells (D.seen engine.new.disk) engine.new.journal }
-    ensures served { D.tells → (before : ℕ) (opened start : History)
-        → IsOn (record { before = before; now = D.faults engine.old.disk }) opened start (D.seen engine.old.disk) engine.old.journal → before ≤ D.faults engine.old.disk
+    ensures served { D.tells → (config : Fields) (before : ℕ) (opened start : History)
+        → IsOn config (record { before = before; now = D.faults engine.old.disk }) opened start (D.seen engine.old.disk) engine.old.journal → before ≤ D.faults engine.old.disk
         → (h : History) × (part : List Order) × (rest : List Order) × (orders.items ≡ part ++ rest) × (IsTrue result.whole → rest ≡ [])
-        × IsPhase (record { before = before; now = D.faults engine.new.disk }) opened start h part result.lines.items (D.seen engine.old.disk) (D.seen engine.new.disk) engine.new.journal }
+        × IsPhase config (record { before = before; now = D.faults engine.new.disk }) opened start h part result.lines.items (D.seen engine.old.disk) (D.seen engine.new.disk) engine.new.journal }
     ensures faults { D.faults engine.old.disk ≤ D.faults engine.new.disk }
 {
     let Ok(mut lines) = Vec::with_capacity(alloc, orders.len()) else {

@@ -1,7 +1,6 @@
 //! The top call.
-ghost use Rattle.std.specs.Prelude.{◌≡◌, ◌≤◌, ◌<◌, ◌⊎◌, ◌↔◌, ℕ, Option, None, map, IsTrue, IfErr, IfOk, IfSome, MatchResult, IsErrOf};
+ghost use Rattle.std.specs.Prelude.{◌≡◌, ◌≤◌, ◌<◌, ◌⊎◌, ℕ, Option, map, IfErr, IfOk, IfSome, MatchResult, IsErrOf};
 ghost use Rattle.std.specs.String.{string_bytes};
-ghost use Rattle.lethe_base.specs.Configuration.{default_fields};
 ghost use Rattle.lethe_base.specs.Counts.{Rose};
 ghost use Rattle.lethe_base.specs.History.{History, Change};
 ghost use Rattle.lethe_engine.specs.Opening.{IsResumed, IsUntold};
@@ -13,14 +12,15 @@ ghost use Rattle.lethe_recover.specs.Opening.{MayNotOpen};
 ghost use Rattle.lethe_disk.specs.Quiet.{IsQuiet};
 ghost use Rattle.lethe_recover.specs.declared.refused.RecoverRefused.{RecoverRefused};
 ghost use Rattle.lethe_script.specs.Grammar.{script_of};
-ghost use Rattle.lethe_run.specs.Ends.{Ends, IsRun};
+ghost use Rattle.lethe_run.specs.Ends.{Ends};
 ghost use Rattle.lethe_run.specs.Printed.{bad_line, open_line};
 ghost use Rattle.lethe_run.specs.Status.{EndsWith, Says, IsToldOf, status_for};
 
 use crate::print::{open_refusal, refusal};
 use crate::script::serve_script;
 use crate::status::Status;
-use lethe_base::{Config, Fields, NoMemory};
+use crate::words::config_of;
+use lethe_base::{Config, NoMemory};
 use lethe_disk::Disk;
 use lethe_engine::{Engine, OpenRefused};
 use lethe_recover::OpenWhy;
@@ -36,10 +36,10 @@ pub struct Ended<D: Disk> {
     pub disk: D,
 }
 
-/// Reads the words, and where they are the one word `run`, the whole source; opens the store of the disk, carries out the script over it,
-/// prints a line for each line that asks for something, and gives the disk back.
+/// Reads the words, which are `run` and options, two words for each; then the whole source; opens the store of the disk with the configuration
+/// that the words ask for, carries out the script over it, prints a line for each line that asks for something, and gives the disk back.
 ///
-/// The status is 0 where all was answered and done, 2 for other words, 3 for bytes that are no script, 4 and 5 where the source and the sink
+/// The status is 0 where all was answered and done, 2 for words that are no command, 3 for bytes that are no script, 4 and 5 where the source and the sink
 /// failed, 6 where a change failed or wasn't made, or the store couldn't be opened for a fault of the disk or want of numbers, 7 for want of memory,
 /// 8 for a damaged disk, and 9 for one of another configuration.
 pub fn run<S: Source, K: Sink, D: Disk>(
@@ -93,9 +93,9 @@ fn carry_out<S: Source, K: Sink, D: Disk>(
       Unused = result.1 ≡ disk;
     }) result.0 }
 {
-    if !is_run(words) {
+    let Some(config) = config_of(words) else {
         return (say(sink, b"bad words\n", Status::BadWords), disk);
-    }
+    };
     let bytes = match read_all(alloc, source) {
         Ok(bytes) => bytes,
         Err(ReadRefused::Failed) => return (Status::ReadFault, disk),
@@ -106,19 +106,9 @@ fn carry_out<S: Source, K: Sink, D: Disk>(
         Err(ScriptRefused::Bad(bad)) => return (refuse(alloc, sink, bad), disk),
         Err(ScriptRefused::NoMemory) => return (Status::NoMemory, disk),
     };
-    match open_store(alloc, disk) {
+    match open_store(alloc, disk, &config) {
         Ok(engine) => serve_script(alloc, sink, script.phases, engine),
-        Err(OpenRefused { disk, why }) => (tell(alloc, sink, &why), disk),
-    }
-}
-
-/// The words are the one word `run`.
-fn is_run(words: &[String]) -> bool
-    ensures { IsTrue result ↔ IsRun (map string_bytes words.now) }
-{
-    match words {
-        [word] => word.as_str() == "run",
-        _ => false,
+        Err(OpenRefused { disk, why }) => (tell(alloc, sink, &config, &why), disk),
     }
 }
 
@@ -130,31 +120,20 @@ fn read_all<S: Source>(alloc: Global, source: &mut S) -> Result<Vec<u8>, ReadRef
     read_up_to(alloc, source, MAX_SCRIPT)
 }
 
-/// Opens the store of the default configuration.
-fn open_store<D: Disk>(alloc: Global, disk: D) -> Result<Engine<D>, OpenRefused<D>>
+/// Opens the store of the configuration.
+fn open_store<D: Disk>(alloc: Global, disk: D, config: &Config) -> Result<Engine<D>, OpenRefused<D>>
     ensures sound { IfOk result (λ engine. IsSound D.tells (D.seen engine.disk) engine.journal) }
     ensures resumed { D.tells → (h : History) (change : Option Change) → IsLeft (D.seen disk) h change
-        → IfOk result (λ engine. IsResumed default_fields h change (D.seen engine.disk) engine.journal) }
+        → IfOk result (λ engine. IsResumed config.now h change (D.seen engine.disk) engine.journal) }
     ensures any_moment { D.tells → (h : History) (change : Option Change) → IsLeft (D.seen disk) h change
         → MatchResult result (λ engine. Goes (IsKeptOr h change) (D.seen disk) (D.seen engine.disk)) (λ refused. Goes (IsKeptOr h change) (D.seen disk) (D.seen refused.disk)) }
-    ensures refused { IfErr result (λ refused. MayNotOpen D.tells default_fields (D.seen disk).directory (D.faults disk) (D.faults refused.disk) refused.why) }
-    ensures exact { D.tells → (why : RecoverRefused) → HasReason default_fields (D.seen disk).directory why → IfOk result (λ engine. ⊥) }
+    ensures refused { IfErr result (λ refused. MayNotOpen D.tells config.now (D.seen disk).directory (D.faults disk) (D.faults refused.disk) refused.why) }
+    ensures exact { D.tells → (why : RecoverRefused) → HasReason config.now (D.seen disk).directory why → IfOk result (λ engine. ⊥) }
     ensures untouched { D.tells → IfErr result (λ refused. IsUntold refused.why ⊎ IsQuiet (D.seen disk) (D.seen refused.disk)) }
     ensures drawn { D.tells → IfErr result (λ refused. (last : ℕ) → refused.why ≡ OpenWhy.Exhausted last → (D.seen disk).moment < (D.seen refused.disk).moment) }
     ensures faults { IfOk result (λ engine. D.faults disk ≤ D.faults engine.disk) }
 {
-    let config = default_config();
-    Engine::open(alloc, disk, &config)
-}
-
-/// The default configuration.
-fn default_config() -> Config
-    ensures { result ≡ default_fields }
-{
-    match Config::new(Fields::default()) {
-        Ok(config) => config,
-        Err(_) => unreachable!(),
-    }
+    Engine::open(alloc, disk, config)
 }
 
 /// Writes a text, and answers this status, or that the sink failed.
@@ -177,14 +156,14 @@ fn refuse<K: Sink>(alloc: Global, sink: &mut K, bad: BadLine) -> Status
     }
 }
 
-/// Says why the store wasn't opened.
-fn tell<K: Sink>(alloc: Global, sink: &mut K, why: &OpenWhy) -> Status
-    ensures { IsToldOf (status_for why.now) (open_line default_fields why.now) (K.taken sink.old) (K.taken sink.new) (Rose (K.faults sink.old) (K.faults sink.new)) result }
+/// Says why the store of the configuration wasn't opened.
+fn tell<K: Sink>(alloc: Global, sink: &mut K, config: &Config, why: &OpenWhy) -> Status
+    ensures { IsToldOf (status_for why.now) (open_line config.now why.now) (K.taken sink.old) (K.taken sink.new) (Rose (K.faults sink.old) (K.faults sink.new)) result }
 {
     if let OpenWhy::NoMemory = why {
         return Status::NoMemory;
     }
-    match open_refusal(alloc, &Fields::default(), why) {
+    match open_refusal(alloc, config.fields(), why) {
         Ok(text) => say(sink, text.as_bytes(), Status::of_opening(why)),
         Err(NoMemory) => Status::NoMemory,
     }

@@ -1,5 +1,6 @@
 pub mod Numbers
 pub mod FieldLemmas
+pub mod Digits
 pub mod Lines
 pub mod Counts
 pub mod Spelled

@@ -1,29 +1,41 @@
 -- Lines that are spelled are read as what they spell.
-use Rattle.std.proofs.Common.{◌≡◌, ◌≢◌, ℕ, ◌+◌, ◌-◌, ◌^◌, ◌<◌, ◌≤◌, ◌&&◌, Bool, true, false, not, List, [], ◌∷◌, ◌++◌, length, get_or, take, filter, eqb, ltb, leb, cond, Some, Ok, Err, lit<, lit≤, inl, inr, refl, sym, ap, ◌∙◌, arith, append_assoc}
+use Rattle.std.proofs.Common.{◌≡◌, ◌≢◌, ℕ, suc, ◌+◌, ◌-◌, ◌/◌, ◌%◌, ◌^◌, ◌<◌, ◌≤◌, ◌&&◌, Bool, true, false, not, List, [], ◌∷◌, ◌++◌, length, get_or, take, filter, eqb, ltb, leb, cond, Some, Ok, Err, lit<, lit≤, inl, inr, refl, sym, ap, ◌∙◌, arith, append_assoc}
 use Rattle.std.specs.List.{All, AllByRecursion, list_all, slice_split, join_with_byte, flat_map, cons_option}
 use Rattle.std.specs.Fmt.{decimal}
 use Rattle.std.specs.Str.Lines.{strip_carriage_return}
-use Rattle.std.proofs.lemmas.Bool.{cases_lt, ne_eqb, le-leb, leb-true, lt-ltb, le-ltb}
+use Rattle.std.proofs.lemmas.Bool.Decides.{nat_tests}
+use Rattle.std.proofs.lemmas.List.Sums.{AllPass-from_list_all}
+use mathlib.Core.Bool.{false≢true}
+use Rattle.std.proofs.lemmas.Bool.{not-true, and_parts, cases_lt, ne_eqb, le-leb, leb-true, le-ltb}
 use Rattle.std.proofs.lemmas.Fmt.{decimal_is_IsNumeral, decimal_digit}
 use Rattle.std.proofs.lemmas.Str.Parse.{digit_at}
 use Rattle.std.proofs.lemmas.List.{take_all, get_or_past}
 use Rattle.std.proofs.lemmas.List.Elements.{All-nil, All-head, All-tail, All-cons, All-append, All-weaker, All-get_or, All-from_get_or}
 use Rattle.std.proofs.lemmas.List.Splits.{slice_split_at, slice_split_none}
+use Rattle.hex.specs.Hex.{lower_digits, encode_with, encode_lower}
+use Rattle.hex.proofs.HexLemmas.{decode_of-encode_lower}
 use Rattle.lethe_base.specs.Keys.{Bytes}
+use Rattle.lethe_base.specs.Limits.{IsKey, IsValue}
+use Rattle.lethe_base.specs.Numbers.{IsBytes}
 use Rattle.lethe_script.specs.declared.order.Act.{Act}
-use Rattle.lethe_script.specs.declared.order.Act.TheVariants.{Put, Get, Scan, Delete}
+use Rattle.lethe_script.specs.declared.order.Act.TheVariants.{Put, Get, Scan, Delete, Stat}
 use Rattle.lethe_script.specs.declared.order.Order.{Order}
-use Rattle.lethe_script.specs.declared.refused.Why.TheVariants.{Byte, Key, Value}
+use Rattle.lethe_script.specs.declared.refused.Why.TheVariants.{Byte}
 use Rattle.lethe_base.specs.Results.{◌>>=◌}
-use Rattle.lethe_script.specs.Fields.{is_allowed, is_field, fields, is_plain, caller_of, key_of, number_of, value_of}
-use Rattle.lethe_script.specs.Grammar.{lines, put_fields, put_of, get_of, scan_fields, scan_of, del_of, act_of, caller_and_act, request_of, line_of, order_of, orders_from, script_of}
-use Rattle.lethe_script.specs.Spelling.{IsPrinted, IsPlain, act_fields, spelling, IsWritableAct, IsWritable, IsNumbered}
+use Rattle.lethe_script.specs.Fields.{is_allowed, is_field, fields, caller_of, is_lower_digit, digit_bytes, field_bytes, text_of, key_of, value_of}
+use Rattle.lethe_script.specs.Grammar.{lines, put_fields, put_of, get_of, scan_fields, scan_of, del_of, stat_of, act_of, caller_and_act, request_of, line_of, order_of, orders_from, script_of}
+use Rattle.lethe_script.specs.Spelling.{is_plain, marked, field_text, act_fields, spelling, IsWritableAct, IsWritable, IsNumbered}
 use Rattle.lethe_script.proofs.Numbers.{number_again}
 use Rattle.lethe_script.proofs.Lines.{orders_from-cons, lines_some}
 
 -- a byte of a line
 pub record IsAllowed (byte : ℕ) : Type 0 where
   pub low : 32 ≤ byte
+  pub high : byte ≤ 126
+
+-- a byte that prints and is no space
+pub record IsPrinted (byte : ℕ) : Type 0 where
+  pub low : 33 ≤ byte
   pub high : byte ≤ 126
 
 -- a field as it stands in a line
@@ -81,9 +93,6 @@ no_cr bytes h =
 no_lf : (bytes : Bytes) → All IsAllowed bytes → All (λ byte. eqb byte 10 ≡ false) bytes
 no_lf bytes h = All-weaker IsAllowed (λ byte. eqb byte 10 ≡ false) (λ byte p. ne_eqb byte 10 (λ e. absurd (omega (arith, p.low)))) bytes h
 
-plain_field : {most : ℕ} {bytes : Bytes} → IsPlain most bytes → IsFieldText bytes
-plain_field p = record { some = p.some; printed = p.printed }
-
 decimal_field : (n : ℕ) → n < 2 ^ 64 → IsFieldText (decimal n)
 decimal_field n small =
     let numeral = (decimal_is_IsNumeral n small).0 in
@@ -91,36 +100,6 @@ decimal_field n small =
       some = numeral.0;
       printed = All-from_get_or IsPrinted (decimal n) 0 (λ i lt. let digit = digit_at (decimal n) i numeral.1 lt in record { low = omega (arith, digit.0); high = omega (arith, digit.1) });
     }
-
--- a plain field is read as its bytes
-is_plain_field : (most : ℕ) (bytes : Bytes) → IsPlain most bytes → is_plain most bytes ≡ true
-is_plain_field most bytes p =
-    let some : ltb 0 (length bytes) ≡ true = lt-ltb 0 (length bytes) p.some in
-    let short : leb (length bytes) most ≡ true = le-leb (length bytes) most p.short in
-    let unmarked : eqb (get_or bytes 0 0) 61 ≡ false = ne_eqb (get_or bytes 0 0) 61 p.unmarked in
-    rw (some, short, unmarked) refl
-
-key_again : (key : Bytes) → IsPlain 255 key → key_of key ≡ Ok key
-key_again key p = ap (λ b. cond b (Ok key) (Err Key)) (is_plain_field 255 key p)
-
-value_again : (value : Bytes) → IsPlain 4096 value → value_of value ≡ Ok value
-value_again value p = ap (λ b. cond b (Ok value) (Err Value)) (is_plain_field 4096 value p)
-
-act_again : (act : Act) → IsWritableAct act → act_of (act_fields act) ≡ Ok act
-unfolding act_of put_of put_fields get_of scan_of scan_fields del_of
-act_again (Put key dkey value) w =
-    ap (λ k. k >>= λ k. number_of (decimal dkey) >>= λ d. value_of value >>= λ v. Ok (Put k d v)) (key_again key w.0)
-    ∙ ap (λ d. d >>= λ d. value_of value >>= λ v. Ok (Put key d v)) (number_again (decimal dkey) dkey w.1 refl)
-    ∙ ap (λ v. v >>= λ v. Ok (Put key dkey v)) (value_again value w.2)
-act_again (Get key) w = ap (λ k. k >>= λ k. Ok (Get k)) (key_again key w)
-act_again (Scan lo hi) w =
-    ap (λ l. l >>= λ l. key_of hi >>= λ h. Ok (Scan l h)) (key_again lo w.0)
-    ∙ ap (λ h. h >>= λ h. Ok (Scan lo h)) (key_again hi w.1)
-act_again (Delete key) w = ap (λ k. k >>= λ k. Ok (Delete k)) (key_again key w)
-
-request_again : (act : Act) → IsWritableAct act → request_of (decimal 1 ∷ act_fields act) ≡ Ok (Some (1, act))
-unfolding request_of caller_and_act caller_of
-request_again act w = ap (λ one. request_of (one ∷ act_fields act)) (decimal_digit 1 (lit< tt)) ∙ ap (λ a. (a >>= λ act. Ok (1, act)) >>= λ asked. Ok (Some asked)) (act_again act w)
 
 command_field : (bytes : Bytes) → 0 < length bytes → list_all (λ byte. leb 33 byte && leb byte 126) bytes ≡ true → IsFieldText bytes
 command_field bytes some h = record { some = some; printed = printed bytes h }
@@ -136,11 +115,87 @@ command_field bytes some h = record { some = some; printed = printed bytes h }
         let (low, high) = both (leb 33 byte) (leb byte 126) here in
         All-cons IsPrinted byte bytes (record { low = leb-true 33 byte low; high = leb-true byte 126 high }) (printed bytes after)
 
+-- The digits of bytes
+
+lower_printed : (byte : ℕ) → is_lower_digit byte ≡ true → IsPrinted byte
+lower_printed byte h = record { low = grind (arith, nat_tests); high = grind (arith, nat_tests) }
+
+digits_printed : (digits : Bytes) → list_all is_lower_digit digits ≡ true → All IsPrinted digits
+digits_printed digits h = All-weaker (λ byte. is_lower_digit byte ≡ true) IsPrinted lower_printed digits (AllPass-from_list_all is_lower_digit digits h)
+
+table_lower : (d : ℕ) → d < 16 → is_lower_digit (get_or lower_digits d 0) ≡ true
+table_lower d lt = All-get_or (λ byte. is_lower_digit byte ≡ true) lower_digits d 0 lt (AllPass-from_list_all is_lower_digit lower_digits refl)
+
+encoded_lower : (bytes : Bytes) → IsBytes bytes → list_all is_lower_digit (encode_lower bytes) ≡ true
+unfolding encode_with
+encoded_lower [] h = refl
+encoded_lower (byte ∷ bytes) h =
+    let fits : byte < 256 = h 0 in
+    let high : byte / 16 < 16 = omega arith in
+    let low : byte % 16 < 16 = omega arith in
+    rw (table_lower (byte / 16) high, table_lower (byte % 16) low, encoded_lower bytes (λ i. h (suc i))) refl
+
+-- A key or a value stands in its field
+
+pub marked_again : (bytes : Bytes) → IsBytes bytes → field_bytes (marked bytes) ≡ Some bytes
+marked_again bytes h = rw (encoded_lower bytes h, decode_of-encode_lower bytes h) refl
+
+plain_again : (bytes : Bytes) → is_plain bytes ≡ true → field_bytes bytes ≡ Some bytes
+plain_again [] h = refl
+plain_again (byte ∷ bytes) h =
+    let front = (and_parts _ _ h).0 in
+    let other : eqb byte 61 ≡ false = not-true (eqb byte 61) (and_parts _ _ front).1 in
+    ap (λ b. cond b (digit_bytes bytes) (Some (byte ∷ bytes))) other
+
+text_again : (bytes : Bytes) → IsBytes bytes → field_bytes (field_text bytes) ≡ Some bytes
+text_again bytes h = by_form (is_plain bytes) refl
+  where
+    by_form : (b : Bool) → is_plain bytes ≡ b → field_bytes (cond b bytes (marked bytes)) ≡ Some bytes
+    by_form true is = plain_again bytes is
+    by_form false is = marked_again bytes h
+
+some_bytes : (bytes : Bytes) → is_plain bytes ≡ true → 0 < length bytes
+some_bytes [] h = absurd (false≢true h)
+some_bytes (byte ∷ bytes) h = omega arith
+
+text_field : (bytes : Bytes) → IsBytes bytes → IsFieldText (field_text bytes)
+text_field bytes h = by_form (is_plain bytes) refl
+  where
+    by_form : (b : Bool) → is_plain bytes ≡ b → IsFieldText (cond b bytes (marked bytes))
+    by_form true is = command_field bytes (omega (arith, some_bytes bytes is)) (and_parts _ _ is).1
+    by_form false is = record { some = omega arith; printed = All-cons IsPrinted 61 (encode_lower bytes) (record { low = lit≤ tt; high = lit≤ tt }) (digits_printed (encode_lower bytes) (encoded_lower bytes h)) }
+
+pub key_again : (field key : Bytes) → field_bytes field ≡ Some key → IsKey key → key_of field ≡ Ok key
+unfolding key_of text_of
+key_again field key is k =
+    let short : leb (length key) 255 ≡ true = le-leb (length key) 255 k.short in
+    let some : eqb (length key) 0 ≡ false = ne_eqb (length key) 0 (λ e. absurd (omega (arith, k.some))) in
+    rw (is, short, some) refl
+
+pub value_again : (field value : Bytes) → field_bytes field ≡ Some value → IsValue value → value_of field ≡ Ok value
+unfolding text_of
+value_again field value is v =
+    let short : leb (length value) 4096 ≡ true = le-leb (length value) 4096 v in
+    rw (is, short) refl
+
+act_again : (act : Act) → IsWritableAct act → act_of (act_fields act) ≡ Ok act
+unfolding act_of put_of put_fields get_of scan_of scan_fields del_of stat_of
+act_again (Put key dkey value) w = rw (key_again (field_text key) key (text_again key w.0.1) w.0.0, number_again (decimal dkey) dkey w.1 refl, value_again (field_text value) value (text_again value w.2.1) w.2.0) refl
+act_again (Get key) w = rw (key_again (field_text key) key (text_again key w.1) w.0) refl
+act_again (Scan lo hi) w = rw (key_again (field_text lo) lo (text_again lo w.0.1) w.0.0, key_again (field_text hi) hi (text_again hi w.1.1) w.1.0) refl
+act_again (Delete key) w = rw (key_again (field_text key) key (text_again key w.1) w.0) refl
+act_again Stat w = refl
+
+request_again : (act : Act) → IsWritableAct act → request_of (decimal 1 ∷ act_fields act) ≡ Ok (Some (1, act))
+unfolding request_of caller_and_act caller_of
+request_again act w = ap (λ one. request_of (one ∷ act_fields act)) (decimal_digit 1 (lit< tt)) ∙ ap (λ a. (a >>= λ act. Ok (1, act)) >>= λ asked. Ok (Some asked)) (act_again act w)
+
 act_texts : (act : Act) → IsWritableAct act → AllByRecursion IsFieldText (act_fields act)
-act_texts (Put key dkey value) w = (command_field _ (lit< tt) refl, (plain_field w.0, (decimal_field dkey w.1, (plain_field w.2, tt))))
-act_texts (Get key) w = (command_field _ (lit< tt) refl, (plain_field w, tt))
-act_texts (Scan lo hi) w = (command_field _ (lit< tt) refl, (plain_field w.0, (plain_field w.1, tt)))
-act_texts (Delete key) w = (command_field _ (lit< tt) refl, (plain_field w, tt))
+act_texts (Put key dkey value) w = (command_field _ (lit< tt) refl, (text_field key w.0.1, (decimal_field dkey w.1, (text_field value w.2.1, tt))))
+act_texts (Get key) w = (command_field _ (lit< tt) refl, (text_field key w.1, tt))
+act_texts (Scan lo hi) w = (command_field _ (lit< tt) refl, (text_field lo w.0.1, (text_field hi w.1.1, tt)))
+act_texts (Delete key) w = (command_field _ (lit< tt) refl, (text_field key w.1, tt))
+act_texts Stat w = (command_field _ (lit< tt) refl, tt)
 
 -- the line of an order, without its LF
 abbrev line_text : Order → Bytes

@@ -1,10 +1,13 @@
 -- What the fields of a line are, and what each of them stands for.
-use Rattle.std.specs.Prelude.{ℕ, ◌^◌, Bool, ◌&&◌, not, List, length, filter, Result, Ok, Err, nat_lt, nat_le, ◌==◌, if◌then◌else◌, slice_index, codes}
-use Rattle.std.specs.List.{slice_split}
+use Rattle.std.specs.Prelude.{ℕ, ◌^◌, Bool, ◌&&◌, ◌||◌, not, List, [], ◌∷◌, length, filter, Option, Some, None, ok_or, Result, Ok, Err, nat_lt, nat_le, ◌==◌, if◌then◌else◌, slice_index, codes}
+use Rattle.std.specs.List.{slice_split, list_all}
+use Rattle.std.specs.Result.{result_ok}
 use Rattle.std.specs.Str.{bytes_eq}
 use Rattle.std.specs.Str.Parse.{digits_value}
 use Rattle.std.specs.Fmt.{decimal}
+use Rattle.hex.specs.Hex.{decode_of}
 use Rattle.lethe_base.specs.Keys.{Bytes}
+use Rattle.lethe_base.specs.Results.{◌>>=◌}
 use Rattle.lethe_script.specs.declared.refused.Why.{Why}
 use Rattle.lethe_script.specs.declared.refused.Why.TheVariants.{Caller, Number, Key, Value}
 
@@ -33,12 +36,29 @@ unfoldable pub number_of : Bytes → Result ℕ Why
 number_of field = let n = digits_value 10 field in
     if bytes_eq field (decimal n) && nat_lt n (2 ^ 64) then Ok n else Err Number
 
--- the field has bytes, no more than so many, and doesn't begin with `=`, so it stands for its bytes
-abbrev pub is_plain : ℕ → Bytes → Bool
-is_plain most field = nat_lt 0 (length field) && (nat_le (length field) most && not (slice_index field 0 == 61))
+-- a digit of a hexadecimal number, in lower case
+abbrev pub is_lower_digit : ℕ → Bool
+is_lower_digit byte = (nat_le 48 byte && nat_le byte 57) || (nat_le 97 byte && nat_le byte 102)
 
-abbrev pub key_of : Bytes → Result Bytes Why
-key_of field = if is_plain 255 field then Ok field else Err Key
+-- the bytes of such digits, two for each
+abbrev pub digit_bytes : Bytes → Option Bytes
+digit_bytes digits = if list_all is_lower_digit digits then result_ok (decode_of digits) else None
+
+-- what the field of a key or a value stands for: the bytes of the digits behind `=`, or else its own
+abbrev pub field_bytes : Bytes → Option Bytes
+field_bytes [] = Some []
+field_bytes (first ∷ rest) = if first == 61 then digit_bytes rest else Some (first ∷ rest)
+
+-- its bytes, of which there may be so many
+unfoldable pub text_of : Why → ℕ → Bytes → Result Bytes Why
+text_of why most field = do
+  bytes ← ok_or (field_bytes field) why
+  if nat_le (length bytes) most then Ok bytes else Err why
+
+unfoldable pub key_of : Bytes → Result Bytes Why
+key_of field = do
+  bytes ← text_of Key 255 field
+  if length bytes == 0 then Err Key else Ok bytes
 
 abbrev pub value_of : Bytes → Result Bytes Why
-value_of field = if is_plain 4096 field then Ok field else Err Value
+value_of field = text_of Value 4096 field

@@ -5,7 +5,7 @@ use Rattle.std.specs.Str.{bytes_eq}
 use Rattle.std.specs.Str.Lines.{strip_carriage_return}
 use Rattle.lethe_base.specs.Keys.{Bytes}
 use Rattle.lethe_script.specs.declared.order.Act.{Act}
-use Rattle.lethe_script.specs.declared.order.Act.TheVariants.{Put, Get, Scan, Delete}
+use Rattle.lethe_script.specs.declared.order.Act.TheVariants.{Put, Get, Scan, Delete, Stat}
 use Rattle.lethe_script.specs.declared.order.Order.{Order}
 use Rattle.lethe_script.specs.declared.refused.BadLine.{BadLine}
 use Rattle.lethe_script.specs.declared.refused.Why.{Why}
@@ -50,6 +50,11 @@ del_of (key ∷ []) = do
   Ok (Delete k)
 del_of _ = Err Count
 
+-- behind `stat` there is no field
+unfoldable pub stat_of : List Bytes → Result Act Why
+stat_of [] = Ok Stat
+stat_of _ = Err Count
+
 -- the fields behind the caller
 unfoldable pub act_of : List Bytes → Result Act Why
 act_of [] = Err Command
@@ -57,7 +62,8 @@ act_of (command ∷ rest) =
     if bytes_eq command (codes "put") then put_of rest else
     if bytes_eq command (codes "get") then get_of rest else
     if bytes_eq command (codes "scan") then scan_of rest else
-    if bytes_eq command (codes "del") then del_of rest else Err Command
+    if bytes_eq command (codes "del") then del_of rest else
+    if bytes_eq command (codes "stat") then stat_of rest else Err Command
 
 -- the first field of a line, and those behind it
 unfoldable pub caller_and_act : Bytes → List Bytes → Result (ℕ × Act) Why

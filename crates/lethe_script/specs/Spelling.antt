@@ -1,40 +1,56 @@
 -- How an order is written as a line.
-use Rattle.std.specs.Prelude.{◌≡◌, ◌≢◌, ℕ, ◌+◌, ◌^◌, ◌<◌, ◌≤◌, List, [], ◌∷◌, ◌++◌, length, All, slice_index, codes}
-use Rattle.std.specs.List.{join_with_byte}
+use Rattle.std.specs.Prelude.{◌≡◌, ℕ, ◌+◌, ◌^◌, ◌<◌, Bool, ◌&&◌, not, List, [], ◌∷◌, ◌++◌, length, slice_index, nat_le, ◌==◌, if◌then◌else◌, codes}
+use Rattle.std.specs.List.{join_with_byte, list_all}
 use Rattle.std.specs.Fmt.{decimal}
+use Rattle.hex.specs.Hex.{encode_lower}
 use Rattle.lethe_base.specs.Keys.{Bytes}
+use Rattle.lethe_base.specs.Limits.{IsKey, IsValue}
+use Rattle.lethe_base.specs.Numbers.{IsBytes}
 use Rattle.lethe_script.specs.declared.order.Act.{Act}
-use Rattle.lethe_script.specs.declared.order.Act.TheVariants.{Put, Get, Scan, Delete}
+use Rattle.lethe_script.specs.declared.order.Act.TheVariants.{Put, Get, Scan, Delete, Stat}
 use Rattle.lethe_script.specs.declared.order.Order.{Order}
 
 -- a byte that prints and is no space
-pub record IsPrinted (byte : ℕ) : Type 0 where
-  pub low : 33 ≤ byte
-  pub high : byte ≤ 126
+abbrev pub is_visible : ℕ → Bool
+is_visible byte = nat_le 33 byte && nat_le byte 126
 
--- a field that stands for its bytes
-pub record IsPlain (most : ℕ) (bytes : Bytes) : Type 0 where
-  pub some : 0 < length bytes
-  pub short : length bytes ≤ most
-  pub printed : All IsPrinted bytes
-  pub unmarked : slice_index bytes 0 ≢ 61
+-- whether a key or a value stands for itself in a text: it isn't empty, its bytes are visible, and the first is no `=`
+abbrev pub is_plain : Bytes → Bool
+is_plain bytes = not (length bytes == 0) && not (slice_index bytes 0 == 61) && list_all is_visible bytes
+
+-- with its digits behind `=`
+abbrev pub marked : Bytes → Bytes
+marked bytes = 61 ∷ encode_lower bytes
+
+-- a key or a value: its bytes, or `=` and their hexadecimal digits
+abbrev pub field_text : Bytes → Bytes
+field_text bytes = if is_plain bytes then bytes else marked bytes
 
 -- the command of an act, and the fields behind it
 abbrev pub act_fields : Act → List Bytes
-act_fields (Put key dkey value) = codes "put" ∷ key ∷ decimal dkey ∷ value ∷ []
-act_fields (Get key) = codes "get" ∷ key ∷ []
-act_fields (Scan lo hi) = codes "scan" ∷ lo ∷ hi ∷ []
-act_fields (Delete key) = codes "del" ∷ key ∷ []
+act_fields (Put key dkey value) = codes "put" ∷ field_text key ∷ decimal dkey ∷ field_text value ∷ []
+act_fields (Get key) = codes "get" ∷ field_text key ∷ []
+act_fields (Scan lo hi) = codes "scan" ∷ field_text lo ∷ field_text hi ∷ []
+act_fields (Delete key) = codes "del" ∷ field_text key ∷ []
+act_fields Stat = codes "stat" ∷ []
 
 -- the line of an order, with a space between its fields and the LF that ends it
 abbrev pub spelling : Order → Bytes
 spelling order = join_with_byte 32 (decimal order.caller ∷ act_fields order.act) ++ 10 ∷ []
 
+-- what a key may be, and a value
+abbrev pub IsWritableKey : Bytes → Type 0
+IsWritableKey key = IsKey key × IsBytes key
+
+abbrev pub IsWritableValue : Bytes → Type 0
+IsWritableValue value = IsValue value × IsBytes value
+
 abbrev pub IsWritableAct : Act → Type 0
-IsWritableAct (Put key dkey value) = IsPlain 255 key × (dkey < 2 ^ 64) × IsPlain 4096 value
-IsWritableAct (Get key) = IsPlain 255 key
-IsWritableAct (Scan lo hi) = IsPlain 255 lo × IsPlain 255 hi
-IsWritableAct (Delete key) = IsPlain 255 key
+IsWritableAct (Put key dkey value) = IsWritableKey key × (dkey < 2 ^ 64) × IsWritableValue value
+IsWritableAct (Get key) = IsWritableKey key
+IsWritableAct (Scan lo hi) = IsWritableKey lo × IsWritableKey hi
+IsWritableAct (Delete key) = IsWritableKey key
+IsWritableAct Stat = Unit {0}
 
 -- an order that a line can ask for
 pub record IsWritable (order : Order) : Type 0 where

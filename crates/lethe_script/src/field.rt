@@ -1,9 +1,11 @@
 //! The fields of a line.
-ghost use Rattle.std.specs.Prelude.{◌≡◌, ◌↔◌, map, take, IsTrue, IfOk};
-ghost use Rattle.lethe_script.specs.Fields.{number_of, key_of, value_of, fields, is_comment, caller_of};
+ghost use Rattle.std.specs.Prelude.{◌≡◌, ◌↔◌, ◌∷◌, map, take, IsTrue, IfOk};
+ghost use Rattle.std.specs.List.{list_all};
+ghost use Rattle.lethe_script.specs.Fields.{number_of, text_of, key_of, value_of, fields, is_comment, caller_of, is_lower_digit};
 ghost use Rattle.lethe_script.specs.Reading.{GivesLine, BeginsNumber};
 
 use crate::refused::{LineRefused, Why};
+use hex::FromHexError;
 use lethe_base::{Key, MAX_KEY, MAX_VALUE, Value};
 use std::alloc::{AllocError, Global};
 use std::str;
@@ -40,19 +42,19 @@ pub(crate) fn caller(field: &[u8]) -> Result<u64, LineRefused>
     }
 }
 
-/// A number in decimal digits, without a leading zero.
-pub(crate) fn number(field: &[u8]) -> Result<u64, LineRefused>
-    ensures { GivesLine (λ number. number) result (number_of field.now) }
+/// The number that a field of a line is: decimal digits without a leading zero, below 2^64. Else it is `Why::Number`.
+pub fn read_number(field: &[u8]) -> Result<u64, Why>
+    ensures { result ≡ number_of field.now }
 {
     if !begins_a_number(field) {
-        return Err(LineRefused::Bad(Why::Number));
+        return Err(Why::Number);
     }
     match str::from_utf8(field) {
         Ok(text) => match text.parse::<u64>() {
             Ok(number) => Ok(number),
-            Err(_) => Err(LineRefused::Bad(Why::Number)),
+            Err(_) => Err(Why::Number),
         },
-        Err(_) => Err(LineRefused::Bad(Why::Number)),
+        Err(_) => Err(Why::Number),
     }
 }
 
@@ -63,28 +65,60 @@ fn begins_a_number(field: &[u8]) -> bool
     !field.is_empty() && field[0].is_ascii_digit() && (field[0] != b'0' || field.len() == 1)
 }
 
-/// A key that stands for its bytes.
+/// A key.
+#[tactic(auto, unfolding(crate::specs::Fields::key_of))]
 pub(crate) fn key(alloc: Global, field: &[u8]) -> Result<Key, LineRefused>
     ensures { GivesLine (λ key. key) result (key_of field.now) }
 {
-    if field.is_empty() || field.len() > MAX_KEY || field[0] == b'=' {
-        return Err(LineRefused::Bad(Why::Key));
-    }
-    match Key::new(Vec::from_slice(alloc, field)?) {
+    let bytes = text(alloc, field, MAX_KEY, Why::Key)?;
+    match Key::new(bytes) {
         Ok(key) => Ok(key),
         Err(_) => Err(LineRefused::Bad(Why::Key)),
     }
 }
 
-/// A value that stands for its bytes.
+/// A value.
 pub(crate) fn value(alloc: Global, field: &[u8]) -> Result<Value, LineRefused>
     ensures { GivesLine (λ value. value) result (value_of field.now) }
 {
-    if field.is_empty() || field.len() > MAX_VALUE || field[0] == b'=' {
-        return Err(LineRefused::Bad(Why::Value));
-    }
-    match Value::new(Vec::from_slice(alloc, field)?) {
+    let bytes = text(alloc, field, MAX_VALUE, Why::Value)?;
+    match Value::new(bytes) {
         Ok(value) => Ok(value),
         Err(_) => Err(LineRefused::Bad(Why::Value)),
     }
+}
+
+/// The bytes that a field stands for, at most so many. Memory is taken for no more.
+#[tactic(auto, unfolding(crate::specs::Fields::text_of))]
+fn text(alloc: Global, field: &[u8], most: usize, why: Why) -> Result<Vec<u8>, LineRefused>
+    ensures { GivesLine (λ bytes. bytes.items) result (text_of why most field.now) }
+{
+    match field {
+        [b'=', digits @ ..] => decoded(alloc, digits, most, why),
+        _ if field.len() > most => Err(LineRefused::Bad(why)),
+        _ => Ok(Vec::from_slice(alloc, field)?),
+    }
+}
+
+/// The bytes of the digits behind `=`.
+#[tactic(auto, unfolding(crate::specs::Fields::text_of))]
+fn decoded(alloc: Global, digits: &[u8], most: usize, why: Why) -> Result<Vec<u8>, LineRefused>
+    ensures { GivesLine (λ bytes. bytes.items) result (text_of why most (61 ∷ digits.now)) }
+{
+    if digits.len() / 2 > most || !are_lower_digits(digits) {
+        return Err(LineRefused::Bad(why));
+    }
+    match hex::decode(alloc, digits) {
+        Ok(bytes) => Ok(bytes),
+        Err(FromHexError::OutOfMemory) => Err(LineRefused::NoMemory),
+        Err(_) => Err(LineRefused::Bad(why)),
+    }
+}
+
+fn are_lower_digits(digits: &[u8]) -> bool
+    ensures { result ≡ list_all is_lower_digit digits.now }
+{
+    digits
+        .iter()
+        .all(|digit| matches!(digit, b'0'..=b'9' | b'a'..=b'f'))
 }

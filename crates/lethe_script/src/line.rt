@@ -2,10 +2,10 @@
 ghost use Rattle.std.specs.Prelude.{◌≡◌, map};
 ghost use Rattle.std.specs.List.{list_all};
 ghost use Rattle.lethe_script.specs.Fields.{is_allowed};
-ghost use Rattle.lethe_script.specs.Grammar.{line_of, request_of, caller_and_act, act_of, put_of, put_fields, get_of, scan_of, scan_fields, del_of};
+ghost use Rattle.lethe_script.specs.Grammar.{line_of, request_of, caller_and_act, act_of, put_of, put_fields, get_of, scan_of, scan_fields, del_of, stat_of};
 ghost use Rattle.lethe_script.specs.Reading.{GivesLine};
 
-use crate::field::{caller, fields_of, is_comment, key, number, value};
+use crate::field::{caller, fields_of, is_comment, key, read_number, value};
 use crate::order::Act;
 use crate::refused::{LineRefused, Why};
 use std::alloc::Global;
@@ -63,6 +63,7 @@ fn act(alloc: Global, fields: &[&[u8]]) -> Result<Act, LineRefused>
         [command, rest @ ..] if *command == b"get".as_slice() => get(alloc, rest),
         [command, rest @ ..] if *command == b"scan".as_slice() => scan(alloc, rest),
         [command, rest @ ..] if *command == b"del".as_slice() => delete(alloc, rest),
+        [command, rest @ ..] if *command == b"stat".as_slice() => stat(rest),
         _ => Err(LineRefused::Bad(Why::Command)),
     }
 }
@@ -88,7 +89,7 @@ fn put_fields(
     ensures { GivesLine (λ act. act) result (put_fields key_field.now dkey_field.now value_field.now) }
 {
     let key = key(alloc, key_field)?;
-    let dkey = number(dkey_field)?;
+    let dkey = read_number(dkey_field)?;
     let value = value(alloc, value_field)?;
     Ok(Act::Put { key, dkey, value })
 }
@@ -135,6 +136,17 @@ fn delete(alloc: Global, fields: &[&[u8]]) -> Result<Act, LineRefused>
         [key_field] => Ok(Act::Delete {
             key: key(alloc, key_field)?,
         }),
+        _ => Err(LineRefused::Bad(Why::Count)),
+    }
+}
+
+/// What stands behind `stat`.
+#[tactic(auto, unfolding(crate::specs::Grammar::stat_of))]
+fn stat(fields: &[&[u8]]) -> Result<Act, LineRefused>
+    ensures { GivesLine (λ act. act) result (stat_of (map (λ field. field.now) fields.now)) }
+{
+    match fields {
+        [] => Ok(Act::Stat),
         _ => Err(LineRefused::Bad(Why::Count)),
     }
 }

@@ -13,6 +13,8 @@ pub enum Act {
     Scan { lo: Key, hi: Key },
     /// Remove a key.
     Delete { key: Key },
+    /// Tell of the store as a whole.
+    Stat,
 }
 
 /// What one line asks for, and who asks.

@@ -19,9 +19,9 @@ pub enum Why {
     Count,
     /// A field should be a number: decimal digits without a leading zero, below 2^64.
     Number,
-    /// A field should be a key: from 1 to 255 bytes, of which the first isn't `=`.
+    /// A field should be a key: from 1 to 255 bytes, or `=` and two lower-case hexadecimal digits for each.
     Key,
-    /// A field should be a value: at most 4,096 bytes, of which the first isn't `=`.
+    /// A field should be a value: at most 4,096 bytes, or `=` and two lower-case hexadecimal digits for each.
     Value,
 }
 
@@ -93,5 +93,16 @@ impl From<AllocError> for LineRefused {
 
     fn from(_: AllocError) -> Self {
         LineRefused::NoMemory
+    }
+}
+
+impl From<Why> for LineRefused {
+    ghost use Rattle.std.specs.Prelude.{◌≡◌};
+    ghost use Rattle.lethe_script.specs.declared.refused.LineRefused.TheVariants.{Bad};
+
+    ghost from_gives = { λ why e. e ≡ Bad why };
+
+    fn from(why: Why) -> Self {
+        LineRefused::Bad(why)
     }
 }

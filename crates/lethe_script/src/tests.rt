@@ -38,6 +38,7 @@ fn act_shown(alloc: Global, act: &Act) -> Result<String, Fail> {
             let key = str::from_utf8(key.bytes())?;
             Ok(format!(in alloc; "del {key}")?)
         }
+        Act::Stat => Ok(format!(in alloc; "stat")?),
     }
 }
 
@@ -62,7 +63,7 @@ fn is_refused(alloc: Global, bytes: &[u8], line: u64, word: &[u8]) -> bool {
 #[test]
 fn scripts_are_read(rt: HostRuntime) -> Result<(), Fail> {
     let alloc = rt.alloc();
-    let rows: [(&[u8], &[u8]); 12] = [
+    let rows: [(&[u8], &[u8]); 13] = [
         (b"", b""),
         (b"\n\r\n  \n#\n", b""),
         (
@@ -87,6 +88,7 @@ fn scripts_are_read(rt: HostRuntime) -> Result<(), Fail> {
         (b"1 get 1\n1 del del", b"1:1 get 1;2:1 del del;"),
         (b"#x\n1 get !~\n#1 get a", b"2:1 get !~;"),
         (b"\r\n\n 1 get a\r\n", b"3:1 get a;"),
+        (b"1 stat\n 1   stat ", b"1:1 stat;2:1 stat;"),
     ];
     for (bytes, text) in rows {
         let script = read_script(alloc, bytes)?;
@@ -98,7 +100,7 @@ fn scripts_are_read(rt: HostRuntime) -> Result<(), Fail> {
 
 #[test]
 fn the_first_bad_line_is_answered(rt: HostRuntime) {
-    let rows: [(&[u8], u64, &[u8]); 42] = [
+    let rows: [(&[u8], u64, &[u8]); 46] = [
         (b"1 get\ta\n", 1, b"byte"),
         (b"\t# note\n", 1, b"byte"),
         (b"# \xff\n", 1, b"byte"),
@@ -137,10 +139,14 @@ fn the_first_bad_line_is_answered(rt: HostRuntime) {
         (b"1 put a +1 x\n", 1, b"number"),
         (b"1 put a 1x x\n", 1, b"number"),
         (b"1 put =a 05 =\n", 1, b"key"),
-        (b"1 get =61\n", 1, b"key"),
+        (b"1 get =6\n", 1, b"key"),
+        (b"1 get =6A\n", 1, b"key"),
+        (b"1 get =6g\n", 1, b"key"),
         (b"1 scan a =\n", 1, b"key"),
         (b"1 del =\n", 1, b"key"),
-        (b"1 put a 5 =61\n", 1, b"value"),
+        (b"1 put a 5 =616\n", 1, b"value"),
+        (b"1 put a 5 =6=\n", 1, b"value"),
+        (b"1 stat a\n", 1, b"count"),
     ];
     for (bytes, line, word) in rows {
         assert!(rt;
@@ -154,7 +160,7 @@ fn the_first_bad_line_is_answered(rt: HostRuntime) {
 fn limits_are_met_to_the_byte(rt: HostRuntime) -> Result<(), Fail> {
     let alloc = rt.alloc();
     // Where the line is 0 there is one order.
-    let rows: [(&[u8], u8, usize, &[u8], u64, &[u8]); 13] = [
+    let rows: [(&[u8], u8, usize, &[u8], u64, &[u8]); 18] = [
         (b"", b' ', 16_777_217, b"", 1, b"size"),
         (b"", b'\t', 16_777_216, b"\n", 1, b"size"),
         (b"", b' ', 16_777_215, b"\nx", 2, b"size"),
@@ -165,6 +171,11 @@ fn limits_are_met_to_the_byte(rt: HostRuntime) -> Result<(), Fail> {
         (b"1 scan a ", b'k', 256, b"\n", 1, b"key"),
         (b"1 put a 5 ", b'v', 4096, b"\r\n", 0, b""),
         (b"1 put a 5 ", b'v', 4097, b"\n", 1, b"value"),
+        (b"1 get =", b'6', 510, b"", 0, b""),
+        (b"1 get =", b'6', 511, b"", 1, b"key"),
+        (b"1 get =", b'6', 512, b"", 1, b"key"),
+        (b"1 put a 5 =", b'7', 8192, b"", 0, b""),
+        (b"1 put a 5 =", b'7', 8194, b"", 1, b"value"),
         (b"1 put a 1", b'0', 19, b" x\n", 0, b""),
         (b"1 put a 1", b'0', 20, b" x\n", 1, b"number"),
         (b"#", b'#', 65_536, b"\n1 get a\n2 get a", 3, b"caller"),
@@ -180,6 +191,38 @@ fn limits_are_met_to_the_byte(rt: HostRuntime) -> Result<(), Fail> {
             is_refused(alloc, &bytes, line, word)
         };
         assert!(rt; found, "line {line} after {count}");
+    }
+    Ok(())
+}
+
+/// Each order of the script is a put of this key and this value.
+fn is_put(script: &Script, wanted_key: &[u8], wanted_value: &[u8]) -> bool {
+    for phase in script.phases.items() {
+        for order in phase.items() {
+            let Act::Put { key, value, .. } = &order.act else {
+                return false;
+            };
+            if key.bytes() != wanted_key || value.bytes() != wanted_value {
+                return false;
+            }
+        }
+    }
+    true
+}
+
+#[test]
+fn digits_stand_for_bytes(rt: HostRuntime) -> Result<(), Fail> {
+    let alloc = rt.alloc();
+    let rows: [(&[u8], &[u8], &[u8]); 5] = [
+        (b"1 put =6162 7 =", b"ab", b""),
+        (b"1 put c 8 =00ff", b"c", b"\x00\xff"),
+        (b"1 put =3d 8 =3d3d", b"=", b"=="),
+        (b"1 put =20 8 a=b", b" ", b"a=b"),
+        (b"1 put =0a0d 8 =09\r\n", b"\n\r", b"\t"),
+    ];
+    for (bytes, wanted_key, wanted_value) in rows {
+        let script = read_script(alloc, bytes)?;
+        assert!(rt; is_put(&script, wanted_key, wanted_value), "{bytes:?}");
     }
     Ok(())
 }

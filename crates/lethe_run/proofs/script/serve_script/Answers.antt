@@ -21,7 +21,7 @@ loop-orders-init g c = record {
     [],
     appends_none (g.K.Sink.taken c.args.sink.now),
     refl,
-    λ told opened on from le.
+    λ told config opened on from le.
         let f = g.D.Disk.faults c.args.engine.disk in
         so_far_start f from opened (g.D.Disk.seen c.args.engine.disk) c.args.engine.journal (on_from f from f opened opened (g.D.Disk.seen c.args.engine.disk) c.args.engine.journal le on),
   );

@@ -1,6 +1,7 @@
 use Rattle.std.proofs.Common.{◌≡◌, ◌≤◌, ℕ, List}
 use Rattle.std.specs.Io.KnownBytes.{Appends}
 use Rattle.lethe_base.specs.History.{History}
+use Rattle.lethe_base.specs.declared.config.Fields.{Fields}
 use Rattle.lethe_engine.specs.Sound.{IsSound}
 use Rattle.lethe_run.specs.declared.reply.Line.{Line}
 use Rattle.lethe_run.specs.Serving.{IsOn}
@@ -18,6 +19,6 @@ invariant-loop-orders g l =
       sink : g.K.Sink.faults l.fn.sink ≤ g.K.Sink.faults l.sink;
       faults : g.D.Disk.faults old.disk ≤ g.D.Disk.faults now.disk;
       lines : (lines : List (List Line)) × Appends (g.K.Sink.taken l.fn.sink) (g.K.Sink.taken l.sink) (text_of lines) × (has_refusal lines ≡ l.refused)
-          × (g.D.Disk.tells → (opened : History) → IsOn (record { before = g.D.Disk.faults old.disk; now = g.D.Disk.faults old.disk }) opened opened (g.D.Disk.seen old.disk) old.journal → (from : ℕ) → from ≤ g.D.Disk.faults old.disk
-          → SoFar (record { before = from; now = g.D.Disk.faults now.disk }) opened l.yielded lines (g.D.Disk.seen old.disk) (g.D.Disk.seen now.disk) now.journal);
+          × (g.D.Disk.tells → (config : Fields) (opened : History) → IsOn config (record { before = g.D.Disk.faults old.disk; now = g.D.Disk.faults old.disk }) opened opened (g.D.Disk.seen old.disk) old.journal → (from : ℕ) → from ≤ g.D.Disk.faults old.disk
+          → SoFar config (record { before = from; now = g.D.Disk.faults now.disk }) opened l.yielded lines (g.D.Disk.seen old.disk) (g.D.Disk.seen now.disk) now.journal);
     }

@@ -11,7 +11,7 @@ use Rattle.lethe_run.proofs.Serving.{IsBuilt, built_start, built_more, built_sti
 use Rattle.lethe_run.proofs.serve.serve_phase.Goals as goal
 
 pub returns-in_default-clause-served : goal.returns-in_default-clause-served
-returns-in_default-clause-served g c = λ told before opened start on from.
+returns-in_default-clause-served g c = λ told config before opened start on from.
     let e = c.args.engine.now in
     let disk = g.D.Disk.seen e.disk in (
       start,
@@ -19,7 +19,7 @@ returns-in_default-clause-served g c = λ told before opened start on from.
       c.args.orders.items,
       refl,
       (λ is. absurd (false≢true is)),
-      subst (λ l. IsPhase (record { before = before; now = g.D.Disk.faults e.disk }) opened start start [] l disk disk e.journal) (sym c.new.ensures.items)
+      subst (λ l. IsPhase config (record { before = before; now = g.D.Disk.faults e.disk }) opened start start [] l disk disk e.journal) (sym c.new.ensures.items)
           (phase_of (record { before = before; now = g.D.Disk.faults e.disk }) opened start start [] [] disk disk e.journal (built_start (record { before = before; now = g.D.Disk.faults e.disk }) opened start disk e.journal on)),
     )
 
@@ -29,9 +29,9 @@ loop-order-init g c =
     let disk = g.D.Disk.seen e.disk in
     record {
       sound = c.requires;
-      served = λ told before opened start on from. (
+      served = λ told config before opened start on from. (
         start,
-        subst (λ l. IsBuilt (record { before = before; now = g.D.Disk.faults e.disk }) opened start [] l start disk disk e.journal) (sym c.in-Ok.ensures.items)
+        subst (λ l. IsBuilt config (record { before = before; now = g.D.Disk.faults e.disk }) opened start [] l start disk disk e.journal) (sym c.in-Ok.ensures.items)
             (built_start (record { before = before; now = g.D.Disk.faults e.disk }) opened start disk e.journal on),
       );
       faults = omega arith;
@@ -49,14 +49,14 @@ loop-order-preserved g c =
     let pushed : c.push.new.self.items ≡ c.loop-order.lines.items ++ Answer order.caller reply ∷ [] = search rules in
     record {
       sound = c.answer.ensures.sound;
-      served = λ told before opened start on from.
+      served = λ told config before opened start on from.
           let f0 = g.D.Disk.faults mid.disk in
           let f1 = g.D.Disk.faults new.disk in
-          let so_far = c.loop-order.invariant.served told before opened start on from in
+          let so_far = c.loop-order.invariant.served told config before opened start on from in
           let later = c.loop-order.invariant.faults in
-          let answered = c.in-Ok-answer.ensures.served told before opened so_far.0 order.caller so_far.1.stands (omega (arith, from, later)) in (
+          let answered = c.in-Ok-answer.ensures.served told config before opened so_far.0 order.caller so_far.1.stands (omega (arith, from, later)) in (
             answered.0,
-            subst (λ l. IsBuilt (record { before = before; now = f1 }) opened start (c.loop-order.yielded ++ order ∷ []) l answered.0 (g.D.Disk.seen old.disk) (g.D.Disk.seen new.disk) new.journal) (sym pushed)
+            subst (λ l. IsBuilt config (record { before = before; now = f1 }) opened start (c.loop-order.yielded ++ order ∷ []) l answered.0 (g.D.Disk.seen old.disk) (g.D.Disk.seen new.disk) new.journal) (sym pushed)
                 (built_more before f0 f1 opened start so_far.0 answered.0 c.loop-order.yielded c.loop-order.lines.items order reply (g.D.Disk.seen old.disk) (g.D.Disk.seen mid.disk) (g.D.Disk.seen new.disk) mid.journal new.journal
                 c.answer.ensures.faults so_far.1 answered.1),
           );
@@ -68,14 +68,14 @@ loop-order-preserved g c =
     }
 
 pub returns-in-Err-clause-served : goal.returns-in-Err-clause-served
-returns-in-Err-clause-served g c = λ told before opened start on from.
+returns-in-Err-clause-served g c = λ told config before opened start on from.
     let old = c.args.engine.now in
     let mid = c.loop-order.engine in
     let new = c.answer.new.engine in
     let order = c.in-Some.order in
-    let so_far = c.loop-order.invariant.served told before opened start on from in
+    let so_far = c.loop-order.invariant.served told config before opened start on from in
     let later = c.loop-order.invariant.faults in
-    let still = c.in-Err.ensures.served told before opened so_far.0 order.caller so_far.1.stands (omega (arith, from, later)) in
+    let still = c.in-Err.ensures.served told config before opened so_far.0 order.caller so_far.1.stands (omega (arith, from, later)) in
     let whole : c.args.orders.items ≡ c.loop-order.yielded ++ order ∷ c.next.new.self.rest.items =
     sym c.into_iter-order-iterator.ensures.into_iter_gives.0 ∙ taken_front c.into_iter-order-iterator.result c.loop-order.yielded c.loop-order.order-iterator c.loop-order.yielded_by ∙ ap (λ r. c.loop-order.yielded ++ r) c.in-Some.ensures.steps.0 in (
       so_far.0,
@@ -89,10 +89,10 @@ returns-in-Err-clause-served g c = λ told before opened start on from.
     )
 
 pub returns-clause-served : goal.returns-clause-served
-returns-clause-served g c = λ told before opened start on from.
+returns-clause-served g c = λ told config before opened start on from.
     let old = c.args.engine.now in
     let mid = c.loop-order.engine in
-    let so_far = c.loop-order.invariant.served told before opened start on from in
+    let so_far = c.loop-order.invariant.served told config before opened start on from in
     let gives = c.into_iter-order-iterator.ensures.into_iter_gives in
     let ended = YieldsList-end (YieldsList-from_vec c.args.orders.items gives.0 (gives.1 ∙ search rules)) c.loop-order.yielded c.loop-order.order-iterator c.loop-order.yielded_by c.next.result c.next.new.self c.in-None.is c.next.ensures.steps in
     let whole : c.args.orders.items ≡ c.loop-order.yielded ++ [] = sym ended.0 ∙ map-id c.loop-order.yielded ∙ sym (append-nil c.loop-order.yielded) in (

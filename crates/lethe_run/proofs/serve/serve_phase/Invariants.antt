@@ -1,6 +1,7 @@
 use Rattle.std.proofs.Common.{◌≡◌, ◌≤◌, ℕ, length}
 use Rattle.std.specs.Prelude.{vec_len, vec_capacity}
 use Rattle.lethe_base.specs.History.{History}
+use Rattle.lethe_base.specs.declared.config.Fields.{Fields}
 use Rattle.lethe_engine.specs.Sound.{IsSound}
 use Rattle.lethe_run.specs.Serving.{IsOn}
 use Rattle.lethe_run.proofs.Serving.{IsBuilt}
@@ -13,8 +14,8 @@ invariant-loop-order g l =
     let now = l.engine in
     record {
       sound : IsSound g.D.Disk.tells (g.D.Disk.seen now.disk) now.journal;
-      served : g.D.Disk.tells → (before : ℕ) (opened start : History) → IsOn (record { before = before; now = g.D.Disk.faults old.disk }) opened start (g.D.Disk.seen old.disk) old.journal → before ≤ g.D.Disk.faults old.disk
-          → (h : History) × IsBuilt (record { before = before; now = g.D.Disk.faults now.disk }) opened start l.yielded l.lines.items h (g.D.Disk.seen old.disk) (g.D.Disk.seen now.disk) now.journal;
+      served : g.D.Disk.tells → (config : Fields) (before : ℕ) (opened start : History) → IsOn config (record { before = before; now = g.D.Disk.faults old.disk }) opened start (g.D.Disk.seen old.disk) old.journal → before ≤ g.D.Disk.faults old.disk
+          → (h : History) × IsBuilt config (record { before = before; now = g.D.Disk.faults now.disk }) opened start l.yielded l.lines.items h (g.D.Disk.seen old.disk) (g.D.Disk.seen now.disk) now.journal;
       faults : g.D.Disk.faults old.disk ≤ g.D.Disk.faults now.disk;
       room : length l.fn.orders.items ≤ vec_capacity l.lines;
       len : vec_len l.lines ≡ length l.yielded;

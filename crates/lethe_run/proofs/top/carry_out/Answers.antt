@@ -1,23 +1,23 @@
-use Rattle.std.proofs.Common.{rules, refl, sym, ap, ◌∙◌, subst}
-use mathlib.Core.Bool.{false≢true}
+use Rattle.std.proofs.Common.{refl, sym, ap, ◌∙◌, subst}
 use Rattle.lethe_script.specs.Grammar.{script_of}
 use Rattle.lethe_script.specs.Reading.{FailsScript}
 use Rattle.lethe_run.proofs.Ending.{said_bad_words, said_bad_script, said_not_opened, script_ended, on_script, no_script, drawn_by}
 use Rattle.lethe_run.proofs.top.carry_out.Goals as goal
 
-pub returns-then-not-is_run : goal.returns-then-not-is_run
-returns-then-not-is_run g c = said_bad_words _ c.say.result (λ run. false≢true (sym c.if-not-is_run.true ∙ c.is_run.ensures.1 run)) refl c.say.ensures
+pub returns-in_default : goal.returns-in_default
+returns-in_default g c = said_bad_words _ c.say.result (sym c.in_default.ensures) refl c.say.ensures
 
 pub returns-in-Err-Bad : goal.returns-in-Err-Bad
 returns-in-Err-Bad g c =
     let fails = subst (λ e. FailsScript e (script_of c.deref.result.now)) c.in-Err-Bad.field-0-is c.in-Err-Bad.ensures.script in
-    said_bad_script _ c.refuse.result c.in-Err-Bad.bad (c.is_run.ensures.0 (search rules))
-    (no_script (g.S.Source.left c.args.source.now) c.in-Ok.bytes.items c.in-Err-Bad.bad c.in-Ok.ensures.ok (ap script_of (sym c.deref.ensures.value) ∙ fails), refl) c.refuse.ensures
+    let told = rw c.in-Err-Bad.bad-is at c.refuse.ensures in
+    said_bad_script _ c.refuse.result c.in-Err-Bad.bad
+    (no_script (g.S.Source.left c.args.source.now) c.in-Ok.bytes.items c.in-Err-Bad.bad c.in-Ok.ensures.ok (ap script_of (sym c.deref.ensures.value) ∙ fails), refl) told c.in-Some.config (sym c.in-Some.ensures)
 
 pub returns-in-Ok-open_store : goal.returns-in-Ok-open_store
 returns-in-Ok-open_store g c =
     let e = c.in-Ok-open_store.engine in
-    script_ended _ (c.is_run.ensures.0 (search rules)) c.in-Ok-read_script.script.phases
+    script_ended _ c.in-Some.config (sym c.in-Some.ensures) c.in-Ok-read_script.script.phases
     (λ P p. on_script (g.S.Source.left c.args.source.now) c.in-Ok.bytes.items c.in-Ok-read_script.script.phases P c.in-Ok.ensures.ok (ap script_of (sym c.deref.ensures.value) ∙ c.in-Ok-read_script.ensures.script) p)
     (g.D.Disk.seen e.disk) e.journal (g.D.Disk.faults e.disk) c.in-Ok-open_store.ensures.faults c.in-Ok-open_store.ensures.resumed c.in-Ok-open_store.ensures.any_moment c.in-Ok-open_store.ensures.exact
     c.serve_script.result.0 c.serve_script.ensures.ends
@@ -25,10 +25,10 @@ returns-in-Ok-open_store g c =
 pub returns : goal.returns
 returns g c =
     let refused = c.in-Err.field-0 in
-    said_not_opened _ c.tell.result refused.why (c.is_run.ensures.0 (search rules)) (record {
+    said_not_opened _ c.tell.result refused.why c.in-Some.config (sym c.in-Some.ensures) (record {
       script = on_script (g.S.Source.left c.args.source.now) c.in-Ok.bytes.items c.in-Ok-read_script.script.phases (λ phases. Unit {0}) c.in-Ok.ensures.ok (ap script_of (sym c.deref.ensures.value) ∙ c.in-Ok-read_script.ensures.script) tt;
       reason = c.in-Err.ensures.refused;
       untouched = c.in-Err.ensures.untouched;
-      drawn = λ told. drawn_by g.D.Disk.tells (g.D.Disk.seen c.args.disk) (g.D.Disk.seen refused.disk) (g.D.Disk.faults c.args.disk) (g.D.Disk.faults refused.disk) refused.why c.in-Err.ensures.refused (c.in-Err.ensures.drawn told) told;
+      drawn = λ told. drawn_by g.D.Disk.tells (g.D.Disk.seen c.args.disk) (g.D.Disk.seen refused.disk) (g.D.Disk.faults c.args.disk) (g.D.Disk.faults refused.disk) refused.why c.in-Some.config c.in-Err.ensures.refused (c.in-Err.ensures.drawn told) told;
       any_moment = c.in-Err.ensures.any_moment;
     }) c.tell.ensures

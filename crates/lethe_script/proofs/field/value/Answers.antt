@@ -1,0 +1,6 @@
+use Rattle.std.proofs.Common.{Err, ap}
+use Rattle.lethe_script.proofs.Digits.{value_refused}
+use Rattle.lethe_script.proofs.field.value.Goals as goal
+
+pub returns-in-Err : goal.returns-in-Err
+returns-in-Err c = value_refused c.args.field.now c.in_ok-bytes.bytes.items c.in-Err.field-0 c.in_ok-bytes.ensures (λ is. c.in-Err.ensures.long.0 (ap Err is))
