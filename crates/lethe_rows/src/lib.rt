@@ -14,6 +14,8 @@ mod journal;
 #[cfg(test)]
 mod loads;
 #[cfg(test)]
+mod options;
+#[cfg(test)]
 mod refusals;
 #[cfg(test)]
 mod run;

@@ -5,7 +5,7 @@ use std::test::Fail;
 
 #[test]
 fn bytes_that_are_no_script_are_refused_at_the_first_bad_line(rt: HostRuntime) -> Result<(), Fail> {
-    let rows: [(&[u8], &str); 19] = [
+    let rows: [(&[u8], &str); 21] = [
         (b"1 frob\n", "line 1 bad command\n"),
         (b"1 tick 5\n", "line 1 bad command\n"),
         (b"1\n", "line 1 bad command\n"),
@@ -21,8 +21,10 @@ fn bytes_that_are_no_script_are_refused_at_the_first_bad_line(rt: HostRuntime) -
         ),
         (b"1 put a -1 x\n", "line 1 bad number\n"),
         (b"1 put a + x\n", "line 1 bad number\n"),
-        (b"1 get =61\n", "line 1 bad key\n"),
-        (b"1 put a 1 =\n", "line 1 bad value\n"),
+        (b"1 get =616\n", "line 1 bad key\n"),
+        (b"1 get =\n", "line 1 bad key\n"),
+        (b"1 put a 1 =FF\n", "line 1 bad value\n"),
+        (b"1 stat a\n", "line 1 bad count\n"),
         (b"1\tget a\n", "line 1 bad byte\n"),
         (b"\t# a comment\n", "line 1 bad byte\n"),
         (b"1 get \xff\n", "line 1 bad byte\n"),
@@ -80,13 +82,29 @@ fn a_script_has_a_greatest_size(rt: HostRuntime) -> Result<(), Fail> {
 
 #[test]
 fn other_words_are_refused(rt: HostRuntime) -> Result<(), Fail> {
-    let rows: [&[&str]; 6] = [
+    let rows: [&[&str]; 22] = [
         &[],
         &["load"],
         &["run", "run"],
-        &["run", "--ratio", "1"],
         &["Run"],
         &[""],
+        &["--ratio", "3", "run"],
+        &["run", "--"],
+        &["run", "--ratio"],
+        &["run", "--ratio", "3", "--ratio", "3"],
+        &["run", "--ratio", "3", "--levels"],
+        &["run", "--ratio=3"],
+        &["run", "ratio", "3"],
+        &["run", "--Ratio", "3"],
+        &["run", "--speed", "3"],
+        &["run", "--ratio", ""],
+        &["run", "--ratio", "03"],
+        &["run", "--ratio", "+3"],
+        &["run", "--ratio", "1"],
+        &["run", "--pick", "xd"],
+        &["run", "--threshold", "1099511627777"],
+        &["run", "--page", "1024", "--tile", "64"],
+        &["run", "--buffer", "2049"],
     ];
     for words in rows {
         let printed = run_of(&rt, words, b"1 get a\n".to_vec(rt.alloc())?, &[1], &[])?;

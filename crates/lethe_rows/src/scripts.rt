@@ -5,7 +5,7 @@ use std::test::Fail;
 
 #[test]
 fn scripts_print_their_replies(rt: HostRuntime) -> Result<(), Fail> {
-    let rows: [(&str, &str); 13] = [
+    let rows: [(&str, &str); 16] = [
         ("", ""),
         (
             "1 put a 5 x\n1 get a\n1 get b\n",
@@ -49,6 +49,20 @@ fn scripts_print_their_replies(rt: HostRuntime) -> Result<(), Fail> {
         ),
         // An `=` that isn't first, and a `#` that isn't first.
         ("1 put a=b 1 #\n1 get a=b\n", "1 ok 1\n1 at 1 val 1 #\n"),
+        // Bytes as digits, and what needs them when it is printed.
+        (
+            "1 put =6162 7 =\n1 get ab\n1 put c 8 =00ff\n1 get c\n",
+            "1 ok 1\n1 at 1 val 7 =\n1 ok 2\n1 at 2 val 8 =00ff\n",
+        ),
+        (
+            "1 put =3d 1 a=\n1 put =6120 2 =20\n1 scan =00 =ff\n1 del =6120\n1 get =6120\n",
+            "1 ok 1\n1 ok 2\n1 at 2 scan 2 =3d 1 a= =6120 2 =20\n1 ok 3\n1 at 3 none\n",
+        ),
+        // The store as a whole.
+        (
+            "1 stat\n1 put a 5 x\n1   stat \n",
+            "1 at 0 stat clock 0 pins 0 pending 0 files 0 tombs 0\n1 ok 1\n1 at 1 stat clock 0 pins 0 pending 0 files 0 tombs 0\n",
+        ),
         (
             "1 put user:17 20240 rent\n1 put user:18 20241 alice\n1 del user:17\n1 scan user:0 user:9\n",
             "1 ok 1\n1 ok 2\n1 ok 3\n1 at 3 scan 1 user:18 20241 alice\n",
