@@ -1,8 +1,8 @@
 #!/bin/sh
 # Kills the program with signal 9 at a random moment of 200 runs over one folder, tests/kill.sh [SEED]. Behind each, the store is
 # the map after a front of that run's changes, and after all of them where the run had finished: so nothing is lost that a
-# finished run was answered. A disk whose list of names leaves out a kind of the journal's objects is seen here too: the next run
-# would find no store, or a damaged one.
+# finished run was answered. Tried with wrong bodies: where the disk's list of names leaves out gates or segments, the first kill
+# leaves a store that can't be read.
 . "$(dirname -- "$0")/common.sh"
 python3 - "$program" "$work/store" "${1:-$(od -An -N4 -tu4 /dev/urandom | tr -d ' ')}" <<'END'
 import random

@@ -1,6 +1,7 @@
 #!/bin/sh
-# What one run puts and deletes, the next one reads. A disk whose list of names leaves out gates would begin an empty store in
-# the second run, and one that leaves out segments or manifests would call it damaged.
+# What one run puts and deletes, the next one reads. Tried with wrong bodies: where the disk's list of names leaves out gates, the
+# second run ends with status 6, and where it leaves out segments, with status 8. The journal has no files and pages yet: that the
+# list has each kind of object is a test of lethe_dirdisk.
 . "$(dirname -- "$0")/common.sh"
 store=$work/store
 

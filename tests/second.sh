@@ -1,7 +1,7 @@
 #!/bin/sh
 # While a process has a folder, a second one is refused: while the first waits for its script, and all the time that it
-# carries a long one out. A disk that lets the lock go before it is handed back is seen here: a second process would be let
-# in while the first one still runs.
+# carries a long one out. Tried with a wrong body: where the disk lets the lock go at its first sync, long before it is handed back,
+# a second process is let in while the first one runs.
 . "$(dirname -- "$0")/common.sh"
 store=$work/store
 
