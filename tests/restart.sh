@@ -1,7 +1,6 @@
 #!/bin/sh
 # What one run puts and deletes, the next one reads. Tried with wrong bodies: where the disk's list of names leaves out gates, the
-# second run ends with status 6, and where it leaves out segments, with status 8. The journal has no files and pages yet: that the
-# list has each kind of object is a test of lethe_dirdisk.
+# second run ends with status 6, and where it leaves out segments, with status 8.
 . "$(dirname -- "$0")/common.sh"
 store=$work/store
 
