@@ -25,6 +25,7 @@ ghost use Rattle.lethe_stored.specs.Stored.{Stored, IsCoherent, segment_name, la
 ghost use Rattle.lethe_stored.specs.Encodes.{Encodes, HasParts, Agrees, IsBeside, AreSpare};
 ghost use Rattle.lethe_stored.specs.Steps.{addition};
 ghost use Rattle.lethe_stored.specs.Kept.{IsFor, IsKept};
+ghost use Rattle.lethe_stored.specs.Levels.{AreRising};
 ghost use Rattle.lethe_stored.specs.Meaning.{Means};
 ghost use Rattle.lethe_stored.specs.Examples.{IsNewStore, IsOnePut, the_put};
 
@@ -112,6 +113,11 @@ pub fn freeze_follows()
 pub fn facts_are_of_the_header()
     ensures { (next level : ℕ) (file : StoredFile) → IsFile next file
         → facts.facts_of level file.swept file.header ≡ shapes.facts_of level (file_of file) }
+{}
+
+/// Behind level 0 the files of a level ascend by key and are disjoint.
+pub fn kept_files_rise()
+    ensures { (h : History) (s : Stored) → IsCoherent s → IsFor h s → AreRising s.files }
 {}
 
 /// The 71 bytes of a new store's manifest, its gate and its empty segment are kept for the empty history.
