@@ -1,0 +1,3 @@
+pub mod Tiled
+pub mod Following
+pub mod Erases

@@ -1,0 +1,7 @@
+//! What a flush, an opening and reads make of what is stored: laws that carry steps on layouts over to manifests, segments and
+//! files. The functions do nothing: their contracts are the laws.
+#![tactic(auto)]
+
+mod layouts;
+
+pub use layouts::{erases_are_spelled, pending_is_spelled, stored_follows};
