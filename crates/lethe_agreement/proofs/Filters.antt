@@ -29,6 +29,7 @@ one_filter keys a b p q = same_number_lists a b len each
   where
     len : length a ≡ length b
     len = omega (arith, p.len, q.len)
+
     each : (k : ℕ) → k < length a → get_or a k 0 ≡ get_or b k 0
     each k lt =
         same_from_bits_below 64 (get_or a k 0) (get_or b k 0) (p.each k 0 lt) (q.each k 0 (omega (arith, len)))

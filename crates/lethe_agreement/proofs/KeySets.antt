@@ -1,5 +1,5 @@
 -- Keys that are put in a set of keys.
-use Rattle.std.proofs.Common.{◌≡◌, ℕ, ◌<◌, Bool, true, false, List, [], ◌∷◌, ◌++◌, length, get_or, take, All, IsTrue, ◌↔◌, ◌⊎◌, inl, inr, refl, sym, subst, ◌∙◌}
+use Rattle.std.proofs.Common.{◌≡◌, Bool, true, false, List, [], ◌∷◌, ◌++◌, IsTrue, ◌↔◌, ◌⊎◌, inl, inr, refl, sym, subst, ◌∙◌}
 use Rattle.std.specs.Prelude.{Contains}
 use Rattle.std.specs.BTreeSet.{BTreeSet, Updates, contains}
 use Rattle.std.specs.Cmp.Lexicographic.{nat_list_cmp_total}
@@ -35,9 +35,11 @@ one_more old more s t key before put other = (to (is_eq (key_cmp key other)) ref
     to false e h =
         let was : IsTrue (contains key_cmp s other) = sym (put.2 other e) ∙ (has t other).1 h in
         elim ((before other).0 ((has s other).0 was)) [ inl o ↦ inl o | inr m ↦ inr (Contains-append_left more (key ∷ []) other m) ]
+
     stays : (b : Bool) → is_eq (key_cmp key other) ≡ b → Contains s.keys other → Contains t.keys other
     stays true e h = subst (Contains t.keys) (tie key other e) ((has t key).0 put.1)
     stays false e h = (has t other).0 (put.2 other e ∙ (has s other).1 h)
+
     from : old other ⊎ Contains (more ++ key ∷ []) other → Contains t.keys other
     from (inl o) = stays (is_eq (key_cmp key other)) refl ((before other).1 (inl o))
     from (inr m) =

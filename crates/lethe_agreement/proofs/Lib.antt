@@ -3,3 +3,4 @@ pub mod Lines
 pub mod Tiles
 pub mod KeySets
 pub mod Parts
+pub mod HeaderLines

@@ -1,8 +1,7 @@
 -- A page agrees with one line of its number.
-use Rattle.std.proofs.Common.{◌≡◌, ℕ, Option, List, length, ap, sym, subst, ◌∙◌}
+use Rattle.std.proofs.Common.{◌≡◌, ℕ, Option, List, ap, sym, subst, ◌∙◌}
 use Rattle.sha2.specs.Sha256.{sha256}
 use Rattle.lethe_base.specs.declared.entry.Entry.{Entry}
-use Rattle.lethe_page.specs.Pages.{page_bytes, HasSpelling}
 use Rattle.lethe_page.specs.declared.class.Class.{Class}
 use Rattle.lethe_page.proofs.PageLaws.{same_page}
 use Rattle.lethe_header.specs.declared.header.PageLine.{PageLine}

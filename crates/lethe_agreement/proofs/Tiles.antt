@@ -1,6 +1,6 @@
 -- The pages of a tile, looked at one after the other.
-use Rattle.std.proofs.Common.{◌≡◌, ℕ, zero, suc, ◌<◌, List, [], ◌∷◌, ◌++◌, length, get_or, take, drop, map, All, AllPairs, refl, sym, ap, subst, ◌∙◌, arith, inl, inr}
-use Rattle.std.specs.Prelude.{Contains, ◌↔◌, ◌⊎◌}
+use Rattle.std.proofs.Common.{◌≡◌, ℕ, ◌<◌, List, [], ◌∷◌, ◌++◌, length, get_or, take, drop, map, All, AllPairs, refl, sym, ap, subst, ◌∙◌, arith, inl, inr}
+use Rattle.std.specs.Prelude.{Contains, ◌↔◌}
 use Rattle.std.specs.List.{AllZip}
 use Rattle.std.proofs.lemmas.List.{take-map, drop-map, get_or-map, length-map}
 use Rattle.std.proofs.lemmas.List.Elements.{All-cons, All-head, All-nil, All-tail, All-weaker, Contains-get_or}
@@ -13,7 +13,7 @@ use Rattle.lethe_header.specs.declared.header.PageLine.{PageLine}
 use Rattle.lethe_header.specs.declared.header.TileLine.{TileLine}
 use Rattle.lethe_file.specs.Agreement.{Agrees, FileAgrees, HaveNoCommonKey, IsWithin, TileHolds, TilesHold, entries_in, keys_of}
 use Rattle.lethe_file.proofs.Tiles.{zip_parts}
-use Rattle.lethe_agreement.specs.Soundness.{AreSoundFrom, AreSoundTiles, IsSoundPage, IsSoundTile, taken_with}
+use Rattle.lethe_agreement.specs.Soundness.{AreSoundFrom, AreSoundTiles, IsSoundTile, taken_with}
 
 -- no entry of these has such a key
 abbrev HasNone : (Bytes → Type 0) → List Entry → Type 0
@@ -67,8 +67,10 @@ apart_rest tile taken page pages apart = record {
   where
     none : All (HasNone taken) pages
     none = All-tail (HasNone taken) (entries_in page) pages apart.none
+
     common : All (HaveNoCommonKey (entries_in page)) pages
     common = pairs_head HaveNoCommonKey (entries_in page) pages apart.once
+
     both : All (HasNone (taken_with taken page)) pages
     both k d lt j e below (inl is) = none k d lt j e below is
     both k d lt j e below (inr is) = common_none (entries_in page) (get_or pages k d) (common k d lt) j e below is
@@ -85,12 +87,14 @@ apart_sound : (tile : TileLine) (taken : Bytes → Type 0) (lines : List PageLin
 apart_sound tile taken [] [] agree apart = tt
 apart_sound tile taken [] (page ∷ pages) agree apart = absurd agree
 apart_sound tile taken (line ∷ lines) [] agree apart = absurd agree
-apart_sound tile taken (line ∷ lines) (page ∷ pages) agree apart =
-    (record {
-      agrees = agree.0;
-      within = All-head (All (λ entry. IsWithin tile entry.key)) (entries_in page) (map entries_in pages) apart.within;
-      apart = All-head (HasNone taken) (entries_in page) (map entries_in pages) apart.none;
-    }, apart_sound tile (taken_with taken page) lines pages agree.1 (apart_rest tile taken page (map entries_in pages) apart))
+apart_sound tile taken (line ∷ lines) (page ∷ pages) agree apart = (
+  record {
+    agrees = agree.0;
+    within = All-head (All (λ entry. IsWithin tile entry.key)) (entries_in page) (map entries_in pages) apart.within;
+    apart = All-head (HasNone taken) (entries_in page) (map entries_in pages) apart.none;
+  },
+  apart_sound tile (taken_with taken page) lines pages agree.1 (apart_rest tile taken page (map entries_in pages) apart),
+)
 
 pub sound_tile : (tile : TileLine) (pages : List (List ℕ)) → IsSoundTile tile pages ↔ (AllZip Agrees tile.pages pages × TileHolds tile (map entries_in pages))
 sound_tile tile pages = (to, from)
@@ -99,6 +103,7 @@ sound_tile tile pages = (to, from)
     to sound =
         let parts = sound_apart tile (λ key. ⊥) tile.pages pages sound in
         (parts.0, record { within = parts.1.within; once = parts.1.once })
+
     from : AllZip Agrees tile.pages pages × TileHolds tile (map entries_in pages) → IsSoundTile tile pages
     from (agree, holds) = apart_sound tile (λ key. ⊥) tile.pages pages agree (record { within = holds.within; none = λ k d lt j e below is. is; once = holds.once })
 
@@ -126,15 +131,17 @@ sound_agreeing [] pages none = (subst (AllZip Agrees []) (sym none) tt, ap (map 
 sound_agreeing (tile ∷ tiles) pages sound =
     let n = length tile.pages in
     let here = (sound_tile tile (take n pages)).0 sound.0 in
-    let rest = sound_agreeing tiles (drop n pages) sound.1 in
-    (zip_whole Agrees tile.pages (lines_of tiles) pages here.0 rest.0,
-    (subst (TileHolds tile) (sym (take-map entries_in n pages)) here.1, subst (TilesHold tiles) (sym (drop-map entries_in n pages)) rest.1))
+    let rest = sound_agreeing tiles (drop n pages) sound.1 in (
+      zip_whole Agrees tile.pages (lines_of tiles) pages here.0 rest.0,
+      (subst (TileHolds tile) (sym (take-map entries_in n pages)) here.1, subst (TilesHold tiles) (sym (drop-map entries_in n pages)) rest.1),
+    )
 
 pub sound_file : (tiles : List TileLine) (pages : List (List ℕ)) → FileAgrees tiles pages ↔ AreSoundTiles tiles pages
 sound_file tiles pages = (to, from)
   where
     to : FileAgrees tiles pages → AreSoundTiles tiles pages
     to agree = agreeing_sound tiles pages agree.pages agree.tiles
+
     from : AreSoundTiles tiles pages → FileAgrees tiles pages
     from sound =
         let parts = sound_agreeing tiles pages sound in

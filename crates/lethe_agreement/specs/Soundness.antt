@@ -1,5 +1,5 @@
 -- Which pages a tile may have.
-use Rattle.std.specs.Prelude.{ℕ, length, List, [], ◌∷◌, map, take, drop, ◌≡◌, All, Contains, ◌⊎◌}
+use Rattle.std.specs.Prelude.{ℕ, length, List, [], ◌∷◌, take, drop, ◌≡◌, All, Contains, ◌⊎◌}
 use Rattle.lethe_base.specs.Keys.{Bytes}
 use Rattle.lethe_base.specs.declared.entry.Entry.{Entry}
 use Rattle.lethe_page.specs.Pages.{HasSpelling}

@@ -9,3 +9,6 @@ mod taken;
 pub use laws::sound_pages_agree;
 pub use sound::is_sound;
 pub use taken::TakenKeys;
+
+#[cfg(test)]
+mod tests;

@@ -17,9 +17,10 @@ returns-then-not-is_within-clause-exact c =
     let is : IsSpelled entries bytes = rw c.in-Some.is at c.in_ok-entries.ensures in
     let Within : List Entry → Type 0 = All (λ entry. IsWithin tile entry.key) in
     let Apart : List Entry → Type 0 = All (λ entry. taken entry.key → ⊥) in
-    elim c.then-not-is_within.branch
-    [ then-not-is_within-via-then-not-is_within w ↦ (λ e. absurd cc, λ sound. w.if-not-is_within.ensures.1 (subst Within (sym c.deref.ensures.value) (parts.is_within tile line taken entries bytes is sound)))
-    | then-not-is_within-via-else-not-is_within+then-not-has_none w ↦ (λ e. absurd cc, λ sound. w.if-not-has_none.ensures.1 (subst Apart (sym w.deref-else-not-is_within.ensures.value) (parts.is_apart tile line taken entries bytes is sound))) ]
+    elim c.then-not-is_within.branch [
+      | then-not-is_within-via-then-not-is_within w ↦ (λ e. absurd cc, λ sound. w.if-not-is_within.ensures.1 (subst Within (sym c.deref.ensures.value) (parts.is_within tile line taken entries bytes is sound)))
+      | then-not-is_within-via-else-not-is_within+then-not-has_none w ↦ (λ e. absurd cc, λ sound. w.if-not-has_none.ensures.1 (subst Apart (sym w.deref-else-not-is_within.ensures.value) (parts.is_apart tile line taken entries bytes is sound)))
+    ]
 
 pub returns-clause-exact : goal.returns-clause-exact
 returns-clause-exact c =

@@ -1,4 +1,4 @@
-use Rattle.std.proofs.Common.{◌≡◌, ℕ, length, get_or, refl, subst, sym, arith}
+use Rattle.std.proofs.Common.{◌≡◌, ℕ, length, get_or, refl, subst, arith}
 use Rattle.std.specs.List.{AllWithin}
 use Rattle.std.proofs.lemmas.List.Elements.{All-from_all_within, AllWithin-more, at_read}
 use Rattle.lethe_base.specs.declared.entry.Entry.{Entry}
