@@ -4,3 +4,4 @@ pub mod Tiles
 pub mod KeySets
 pub mod Parts
 pub mod HeaderLines
+pub mod Steps

@@ -12,7 +12,7 @@ use lethe_header::{PageLine, TileLine};
 use std::alloc::Global;
 
 /// Whether the page of these bytes agrees with its line, lies between its tile's keys, and has no key that an earlier page of
-/// the tile has. Where it does, its keys are taken from then on.
+/// the tile has. Where it does, its keys are taken from then on; where there was no memory, some of them may be.
 pub fn is_sound(
     alloc: Global,
     tile: &TileLine,
