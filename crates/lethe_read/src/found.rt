@@ -1,7 +1,9 @@
 //! The pair of a key.
 ghost use Rattle.std.specs.Prelude.{◌≡◌, ◌≤◌, ◌+◌, map, option_and_then, sum_by, All, Any, Option, IfOk, IsErrOf, if◌then◌else◌};
-ghost use Rattle.std.specs.Option.{option_copied};
-ghost use Rattle.lethe_base.specs.Matching.{answer_under};
+ghost use Rattle.std.specs.List.{list_any};
+ghost use Rattle.std.specs.Option.{option_copied, option_or};
+ghost use Rattle.lethe_base.specs.Entries.{entry_of};
+ghost use Rattle.lethe_base.specs.Matching.{answer_under, matches};
 ghost use Rattle.lethe_base.specs.declared.entry.Entry.{Entry};
 ghost use Rattle.lethe_base.specs.declared.name.Name.{Name};
 ghost use Rattle.lethe_disk.specs.Reads.{HasReadCause, IsFault};
@@ -11,7 +13,7 @@ ghost use Rattle.lethe_version.specs.Search.{NamesPage};
 ghost use Rattle.lethe_version.specs.Versions.{IsSound, entries_of, files_of};
 ghost use Rattle.lethe_read.specs.Found.{IsNewestBelow, first_found, frozen_entries, is_buffered};
 
-use lethe_base::{Key, Pending, Value};
+use lethe_base::{Body, Entry, Key, Pending, Value};
 use lethe_disk::{Disk, ReadRefused};
 use lethe_mem::Buffer;
 use lethe_version::Version;
@@ -40,5 +42,60 @@ pub fn get<D: Disk, B: Buffer>(
     ensures cause { HasReadCause (D.port_faults port.old) (D.port_faults port.new) result }
     ensures can_fail { IsFault result → D.ports_fail }
 {
-    Err(ReadRefused::NoMemory)
+    if let Some(entry) = find_buffered(active, frozen, key) {
+        return Ok(held_by(erases, entry.copy()?));
+    }
+    match version.find(alloc, port, key) {
+        Ok(Some(entry)) => Ok(held_by(erases, entry)),
+        Ok(None) => Ok(None),
+        Err(why) => Err(why),
+    }
+}
+
+/// The entry of the key in the active buffer, else in the frozen one.
+fn find_buffered<'a, B: Buffer>(
+    active: &'a B,
+    frozen: Option<&'a B>,
+    key: &Key,
+) -> Option<&'a Entry>
+    ensures { option_copied result ≡ option_or (entry_of key.now (B.entries active.now)) (entry_of key.now (frozen_entries B.entries (option_copied frozen.entry))) }
+{
+    if let Some(entry) = active.find(key) {
+        return Some(entry);
+    }
+    match frozen {
+        Some(frozen) => frozen.find(key),
+        None => None,
+    }
+}
+
+/// What the entry's key has, where the erases are applied.
+fn held_by(erases: &[Pending], entry: Entry) -> Option<(u64, Value)>
+    ensures { result ≡ answer_under erases.now entry }
+{
+    let Entry { seq, body, .. } = entry;
+    match body {
+        Body::Put { dkey, value } => {
+            if is_erased(erases, seq, dkey) {
+                None
+            } else {
+                Some((dkey, value))
+            }
+        }
+        Body::Tomb => None,
+    }
+}
+
+/// Whether one of the erases stands behind the put of that place and delete key, and has the delete key in its range.
+fn is_erased(erases: &[Pending], seq: u64, dkey: u64) -> bool
+    ensures { result ≡ list_any (λ erase. matches erase seq dkey) erases.now }
+{
+    erases.iter().any(|erase| is_match(erase, seq, dkey))
+}
+
+/// Whether the erase stands behind the put of that place and delete key, and has the delete key in its range.
+fn is_match(erase: &Pending, seq: u64, dkey: u64) -> bool
+    ensures { result ≡ matches erase.now seq dkey }
+{
+    seq < erase.seq && erase.range.lo() <= dkey && dkey < erase.range.hi()
 }

@@ -2,6 +2,7 @@
 #![tactic(auto)]
 
 mod found;
+mod part;
 mod scanning;
 
 pub use found::get;
