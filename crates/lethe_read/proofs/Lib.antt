@@ -1,2 +1,3 @@
 pub mod Adding
+pub mod Filed
 pub mod Ranges
