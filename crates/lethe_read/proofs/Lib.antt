@@ -1,3 +1,4 @@
 pub mod Adding
+pub mod Buffered
 pub mod Filed
 pub mod Ranges

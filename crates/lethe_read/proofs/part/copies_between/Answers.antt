@@ -1,6 +1,8 @@
-use Rattle.std.proofs.Common.{◌<◌, sym, ap, ◌∙◌, arith, reverse}
+use Rattle.std.proofs.Common.{◌≡◌, ◌<◌, [], ◌∷◌, ◌++◌, sym, ap, ◌∙◌, arith, reverse}
+use Rattle.std.specs.Global.{Vec}
 use Rattle.std.specs.Option.{option_copied}
 use Rattle.std.proofs.lemmas.List.{reverse-reverse}
+use Rattle.lethe_base.specs.declared.entry.Entry.{Entry}
 use Rattle.lethe_mem.specs.Order.{count_below}
 use Rattle.lethe_read.proofs.Ranges.{from_first, next_in_range, stands_before, all_found}
 use Rattle.lethe_read.proofs.part.copies_between.Goals as goal
@@ -21,7 +23,10 @@ loop-place-preserved g c =
     let before : c.loop-place.place < count_below c.args.hi.now entries = omega (arith, c.first_from-end.ensures, c.loop-place-test.true) in
     record {
       so_far = elim c.match-at.branch [
-        | in-Some+in_ok-copy+in_ok-push w ↦ rw w.entries-is (rw w.in_ok-push.ensures (rw w.in_ok-copy.ensures ?))
+        | in-Some+in_ok-copy+in_ok-push w ↦
+            let more : c.match-at.entries.items ≡ c.loop-place.entries.items ++ w.in-Some.entry.now ∷ [] =
+            ap (λ (v : Vec Entry). v.items) w.entries-is ∙ w.in_ok-push.ensures.items ∙ ap (λ (entry : Entry). c.loop-place.entries.items ++ entry ∷ []) w.in_ok-copy.ensures in
+            rw more (next_in_range c.args.lo.now c.args.hi.now entries c.loop-place.place w.in-Some.entry.now c.loop-place.entries.items (laws.ascending c.args.buffer.now) c.loop-place.invariant.from before (sym w.in-Some.ensures) c.loop-place.invariant.so_far)
         | in_default w ↦ absurd (stands_before c.args.hi.now entries c.loop-place.place before (sym c.at.ensures ∙ ap option_copied w.in_default.is))
       ];
       from = omega (arith, c.loop-place.invariant.from);
