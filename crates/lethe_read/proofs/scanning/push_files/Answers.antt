@@ -9,7 +9,10 @@ pub loop-file-init : goal.loop-file-init
 loop-file-init g c = adds_none g.D.Disk.tells (part_sound g.D.Disk) (part_left g.D.Disk) IsSound entries_of c.args.lo.now c.args.hi.now c.args.parts.now.items
 
 pub loop-file-preserved : goal.loop-file-preserved
-loop-file-preserved g c = ?
+loop-file-preserved g c =
+    adds_next g.D.Disk.tells (part_sound g.D.Disk) (part_left g.D.Disk) IsSound entries_of c.args.lo.now c.args.hi.now (map (λ shared. shared.file.value)) (λ xs ys. map-append (λ shared. shared.file.value) xs ys) c.args.files.now
+    c.loop-file.file-index c.file-item.result c.loop-file-test.true c.file-item.is c.args.parts.now.items c.loop-file.parts.items c.push.new.self.items c.loop-file.invariant
+    (file_added g.D.Disk c.args.lo.now c.args.hi.now c.file-item.result.file.value c.file.result.now c.loop-file.parts.items c.push.new.self.items c.in_ok-cursor.field-0 c.file.ensures c.in_ok-push.ensures.items c.in_ok-cursor.ensures.sound c.in_ok-cursor.ensures.left)
 
 pub returns : goal.returns
 returns g c =
