@@ -7,3 +7,6 @@ mod scanning;
 
 pub use found::get;
 pub use scanning::scan;
+
+#[cfg(test)]
+mod tests;

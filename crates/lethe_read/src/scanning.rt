@@ -1,5 +1,5 @@
 //! The pairs of the keys between two.
-ghost use Rattle.std.specs.Prelude.{◌≡◌, ◌∷◌, [], ◌++◌, true, false, map, flat_map, List, All, IfOk, OnOk, IsErrOf};
+ghost use Rattle.std.specs.Prelude.{◌≡◌, ◌≤◌, ◌∷◌, [], ◌++◌, true, false, map, flat_map, List, All, IfOk, OnOk, IsErrOf};
 ghost use Rattle.std.specs.Option.{option_copied};
 ghost use Rattle.std.specs.Ordering.{is_lt};
 ghost use Rattle.lethe_base.specs.Keys.{key_cmp};
@@ -24,7 +24,7 @@ use lethe_version::{Shared, Version};
 use std::alloc::Global;
 
 /// The keys that were put from `lo` up to `hi` excluded, ascending, with their delete keys and values. Where `lo` isn't below
-/// `hi` there is none, and nothing is fetched.
+/// `hi` there is none.
 pub fn scan<D: Disk, B: Buffer>(
     alloc: Global,
     active: &B,
@@ -38,7 +38,10 @@ pub fn scan<D: Disk, B: Buffer>(
     ensures listed { D.tells → All IsSound (files_of version.now) → IfOk result (λ pairs. (entries : List Entry)
         × AreReadBetween lo.now hi.now (B.entries active.now) (frozen_entries B.entries (option_copied frozen.entry)) (map entries_of (files_of version.now)) entries
         × (by_keys pairs.items ≡ pairs_of (merged entries erases.now true))) }
+
+    // Nothing is fetched where `lo` isn't below `hi`.
     ensures unasked { is_lt (key_cmp lo.now hi.now) ≡ false → D.fetches port.new ≡ D.fetches port.old }
+    ensures later { D.fetches port.old ≤ D.fetches port.new }
     ensures undamaged { D.tells → All IsSound (files_of version.now) → (name : Name) → IsErrOf result (Damaged name) → ⊥ }
     ensures cause { HasReadCause (D.port_faults port.old) (D.port_faults port.new) result }
     ensures can_fail { IsFault result → D.ports_fail }
@@ -118,6 +121,7 @@ fn pairs_from<D: Disk, C: Cursor<D>>(
 ) -> Result<Vec<(Key, u64, Value)>, ReadRefused>
     requires { C.may_ask cursor.old }
     ensures listed { D.tells → C.sound cursor.old → IfOk result (λ pairs. by_keys pairs.items ≡ pairs_of (C.left cursor.old)) }
+    ensures later { D.fetches port.old ≤ D.fetches port.new }
     ensures undamaged { D.tells → C.sound cursor.old → (name : Name) → IsErrOf result (Damaged name) → ⊥ }
     ensures cause { HasReadCause (D.port_faults port.old) (D.port_faults port.new) result }
     ensures can_fail { IsFault result → D.ports_fail }
