@@ -1,8 +1,6 @@
 use super::*;
-use crate::part::{Part, copies_between};
 use lethe_base::{Body, Entry, Key, Pending, Range, Value};
-use lethe_disk::{Cursor, Disk};
-use lethe_file::FileCursor;
+use lethe_disk::Disk;
 use lethe_mem::{Buffer, VecBuffer};
 use lethe_memdisk::MemDisk;
 use lethe_version::Version;
@@ -55,7 +53,21 @@ fn is_value(value: &Value, byte: u8) -> bool {
     value.bytes() == [byte].as_slice()
 }
 
+/// Whether these are the pairs.
+fn are_shown(pairs: &[(Key, u64, Value)], wanted: &[Shown]) -> bool {
+    let mut same = pairs.len() == wanted.len();
+    for (pair, shown) in pairs.iter().zip(wanted) {
+        let (key, dkey, value) = pair;
+        same = same
+            && key.bytes() == shown.0.as_bytes()
+            && *dkey == shown.1
+            && is_value(value, shown.2);
+    }
+    same
+}
+
 const ACTIVE: [Row; 3] = [("b", 7, Some(20)), ("d", 8, None), ("f", 9, Some(90))];
+
 const FROZEN: [Row; 4] = [
     ("a", 1, Some(10)),
     ("b", 2, Some(11)),
@@ -64,7 +76,7 @@ const FROZEN: [Row; 4] = [
 ];
 
 #[test]
-fn a_key_has_what_the_newest_buffer_says(rt: HostRuntime) -> Result<(), Fail> {
+fn a_key_has_what_its_newest_entry_says(rt: HostRuntime) -> Result<(), Fail> {
     let alloc = rt.alloc();
     let mut disk = MemDisk::new(alloc, 0, Vec::new(alloc))?;
     let mut port = disk.port(alloc)?;
@@ -72,7 +84,7 @@ fn a_key_has_what_the_newest_buffer_says(rt: HostRuntime) -> Result<(), Fail> {
     let active = buffer_of(alloc, &ACTIVE)?;
     let frozen = buffer_of(alloc, &FROZEN)?;
     let erases = [erase_of(6, 13, 14)?, erase_of(6, 20, 21)?];
-    let rows: [(&str, Option<(u64, u8)>); 7] = [
+    let rows: [(&str, Option<(u64, u8)>); 6] = [
         ("a", Some((10, 1))),
         // It stands behind the erase of its delete key.
         ("b", Some((20, 7))),
@@ -81,14 +93,10 @@ fn a_key_has_what_the_newest_buffer_says(rt: HostRuntime) -> Result<(), Fail> {
         // It stands before the erase.
         ("e", None),
         ("f", Some((90, 9))),
-        ("", None),
     ];
     for (text, wanted) in rows {
-        if text.is_empty() {
-            continue;
-        }
         let key = key_of(alloc, text)?;
-        let held = get::<MemDisk, VecBuffer>(
+        let held = get(
             alloc,
             &active,
             Some(&frozen),
@@ -99,14 +107,65 @@ fn a_key_has_what_the_newest_buffer_says(rt: HostRuntime) -> Result<(), Fail> {
         )?;
         match (held, wanted) {
             (Some((dkey, value)), Some((wanted, byte))) => {
-                assert!(rt; dkey == wanted && is_value(&value, byte), "{text}")
+                assert!(rt; dkey == wanted && is_value(&value, byte), "{text}");
             }
-            (None, None) => {}
-            _ => return Err("another answer")?,
+            (held, wanted) => assert!(rt; held.is_none() && wanted.is_none(), "{text}"),
         }
     }
     let key = key_of(alloc, "a")?;
-    let held = get::<MemDisk, VecBuffer>(alloc, &active, None, &version, &[], &mut port, &key)?;
+    let held = get(alloc, &active, None, &version, &[], &mut port, &key)?;
     assert!(rt; held.is_none());
+    Ok(())
+}
+
+#[test]
+fn a_scan_lists_the_pairs_of_its_range_in_order(rt: HostRuntime) -> Result<(), Fail> {
+    let alloc = rt.alloc();
+    let mut disk = MemDisk::new(alloc, 0, Vec::new(alloc))?;
+    let mut port = disk.port(alloc)?;
+    let version = Version::<MemDisk>::of(alloc, Vec::new(alloc))?;
+    let active = buffer_of(alloc, &ACTIVE)?;
+    let frozen = buffer_of(alloc, &FROZEN)?;
+    let all: [Shown; 4] = [("a", 10, 1), ("b", 20, 7), ("e", 13, 4), ("f", 90, 9)];
+    let rows: [(&str, &str, &[Shown]); 6] = [
+        ("a", "g", &all),
+        ("a", "f", &all[..3]),
+        ("aa", "ea", &all[1..3]),
+        ("c", "e", &all[..0]),
+        ("f", "f", &all[..0]),
+        ("g", "a", &all[..0]),
+    ];
+    for (lo, hi, wanted) in rows {
+        let lo = key_of(alloc, lo)?;
+        let hi = key_of(alloc, hi)?;
+        let pairs = scan(
+            alloc,
+            &active,
+            Some(&frozen),
+            &version,
+            &[],
+            &mut port,
+            &lo,
+            &hi,
+        )?;
+        assert!(rt; are_shown(&pairs, wanted));
+    }
+    let lo = key_of(alloc, "a")?;
+    let hi = key_of(alloc, "g")?;
+    // Two of the pairs are erased, and a third stands behind its erase.
+    let erases = [erase_of(5, 10, 14)?, erase_of(6, 20, 21)?];
+    let pairs = scan(
+        alloc,
+        &active,
+        Some(&frozen),
+        &version,
+        &erases,
+        &mut port,
+        &lo,
+        &hi,
+    )?;
+    assert!(rt; are_shown(&pairs, &[("b", 20, 7), ("f", 90, 9)]));
+    let pairs = scan(alloc, &active, None, &version, &[], &mut port, &lo, &hi)?;
+    assert!(rt; are_shown(&pairs, &[("b", 20, 7), ("f", 90, 9)]));
     Ok(())
 }
