@@ -88,7 +88,7 @@ struct Store {
     version: Version<MemDisk>,
 }
 
-fn store(alloc: Global) -> Result<Store, Fail> {
+fn store_of(alloc: Global) -> Result<Store, Fail> {
     let active = buffer_of(alloc, &ACTIVE)?;
     let frozen = buffer_of(alloc, &FROZEN)?;
     let version = Version::of(alloc, Vec::new(alloc))?;
@@ -156,7 +156,7 @@ fn a_key_has_what_its_newest_entry_says(rt: HostRuntime) -> Result<(), Fail> {
     let alloc = rt.alloc();
     let mut disk = MemDisk::new(alloc, 0, Vec::new(alloc))?;
     let mut port = disk.port(alloc)?;
-    let store = store(alloc)?;
+    let store = store_of(alloc)?;
     let erases = [erase_of(6, 13, 14)?, erase_of(6, 20, 21)?];
     let rows: [(&str, Option<(u64, u8)>); 6] = [
         ("a", Some((10, 1))),
@@ -182,7 +182,7 @@ fn a_scan_lists_the_pairs_of_its_range_in_order(rt: HostRuntime) -> Result<(), F
     let alloc = rt.alloc();
     let mut disk = MemDisk::new(alloc, 0, Vec::new(alloc))?;
     let mut port = disk.port(alloc)?;
-    let store = store(alloc)?;
+    let store = store_of(alloc)?;
     let all: [Shown; 4] = [("a", 10, 1), ("b", 20, 7), ("e", 13, 4), ("f", 90, 9)];
     let rows: [((&str, &str), &[Shown]); 6] = [
         (("a", "g"), &all),
