@@ -4,7 +4,6 @@ use Rattle.std.specs.List.Sorted.{IsPermutation}
 use Rattle.lethe_base.specs.declared.name.Name.{Name}
 use Rattle.lethe_header.specs.declared.header.Header.{Header}
 use Rattle.lethe_segment.specs.Segments.{segment_bytes}
-use Rattle.lethe_commit.specs.declared.objects.Object.{Object}
 use Rattle.lethe_stored.specs.Files.{StoredFile, objects_of}
 use Rattle.lethe_stored.specs.Stored.{Stored, Segment, IsCoherent, segments_of, segment_name, part_names}
 use Rattle.lethe_version.specs.Order.{is_kept}

@@ -5,7 +5,7 @@ ghost use Rattle.lethe_disk.specs.Directory.{object};
 ghost use Rattle.lethe_disk.specs.Disk.{HasCause};
 ghost use Rattle.lethe_disk.specs.Goes.{Goes};
 ghost use Rattle.lethe_disk.specs.declared.disk.DiskRefused.TheVariants.{NoMemory};
-ghost use Rattle.lethe_header.specs.Headers as headers;
+ghost use Rattle.lethe_header.specs.Headers as header;
 ghost use Rattle.lethe_manifest.specs.Manifests.{HasSpelling};
 ghost use Rattle.lethe_commit.specs.Place.{insert_all};
 ghost use Rattle.lethe_commit.specs.Switch.{IsTakenBack};
@@ -38,7 +38,7 @@ pub fn advance<D: Disk>(
     step: &Step,
 ) -> Result<Version<D>, DiskRefused>
     requires spelled { HasSpelling step.now.manifest }
-    requires headers { All headers.HasSpelling headers.items }
+    requires headers { All header.HasSpelling headers.items }
     requires level { step.now.level < length (levels_of version.now) }
     requires step { D.tells → (s : Stored) × (t : Stored) × IsSettled (D.seen disk.old) s × HasOnly s (D.seen disk.old).directory
         × IsStep s t headers.items step.now }
@@ -63,6 +63,5 @@ pub fn advance<D: Disk>(
     ensures no_memory { D.tells → IsErrOf result NoMemory → IsTakenBack (D.seen disk.old) (D.seen disk.new) }
     ensures cause { HasCause (D.faults disk.old) (D.faults disk.new) result }
 {
-
     Err(DiskRefused::NoMemory)
 }
