@@ -32,7 +32,7 @@ use Rattle.lethe_cover.specs.Steps.{IsCounted, next_place, with_done, recorded, 
 use Rattle.lethe_cover.proofs.Records.{buffer_keyed}
 use Rattle.lethe_cover.proofs.Entered.{put_covers, delete_covers}
 use Rattle.lethe_cover.proofs.Unentered.{blind_covers}
-use Rattle.lethe_stored.specs.Stored.{Stored, IsCoherent, IsStored, records_in, records_of, plain, erase_of, in_order, pending_of, layout_of, count_of, appended}
+use Rattle.lethe_stored.specs.Stored.{Stored, IsCoherent, records_in, records_of, plain, erase_of, in_order, pending_of, layout_of, count_of, appended}
 use Rattle.lethe_stored.specs.Kept.{IsFor, certifies, certificates}
 use Rattle.lethe_stored.proofs.Numbered.{covers_numbered}
 use Rattle.lethe_stored.proofs.Meanings.{plain_place, frozen_are}
@@ -150,35 +150,35 @@ module _ (h : History) (s : Stored) (coherent : IsCoherent s) (stands : IsFor h 
 
 -- Puts and deletes
 
-module _ (h : History) (s : Stored) (stored : IsStored s) (stands : IsFor h s) (few : length h < max_place) (caller : ℕ) where
+module _ (h : History) (s : Stored) (coherent : IsCoherent s) (stands : IsFor h s) (few : length h < max_place) (caller : ℕ) where
   abbrev threshold : ℕ
   threshold = s.manifest.config.threshold
 
   above : last_seq 0 s.active.records < next_place h
-  above = let within = last_within h s stored.coherent stands in omega (arith, within)
+  above = let within = last_within h s coherent stands in omega (arith, within)
 
-  pub put_stored : (key : Bytes) (dkey : ℕ) (value : Bytes) → IsKey key → dkey < 2 ^ 64 → IsValue value → IsStored (appended s (of.Entry (put_entry h (layout_of s) key dkey value)))
-  put_stored key dkey value named fits short = stored_appended s (of.Entry (put_entry h (layout_of s) key dkey value)) stored
-      (record { front = record { place = (omega arith, omega (arith, few)); marked = tt; time = time_fits h s stored.coherent stands key; named = named }; body = (fits, short) }) above
+  pub put_stored : (key : Bytes) (dkey : ℕ) (value : Bytes) → IsKey key → dkey < 2 ^ 64 → IsValue value → IsCoherent (appended s (of.Entry (put_entry h (layout_of s) key dkey value)))
+  put_stored key dkey value named fits short = stored_appended s (of.Entry (put_entry h (layout_of s) key dkey value)) coherent
+      (record { front = record { place = (omega arith, omega (arith, few)); marked = tt; time = time_fits h s coherent stands key; named = named }; body = (fits, short) }) above
 
   pub put_for : (key : Bytes) (dkey : ℕ) (value : Bytes) → IsFor (with_done h caller (Put key dkey value)) (appended s (of.Entry (put_entry h (layout_of s) key dkey value)))
-  put_for key dkey value = recorded_for h s stored.coherent stands caller (Put key dkey value) (of.Entry (put_entry h (layout_of s) key dkey value)) few refl refl refl (λ to e. cc) (λ e. cc) refl
-      (put_covers threshold caller h (layout_of s) stands.covers (counted h s stored.coherent stands) key dkey value).0
+  put_for key dkey value = recorded_for h s coherent stands caller (Put key dkey value) (of.Entry (put_entry h (layout_of s) key dkey value)) few refl refl refl (λ to e. cc) (λ e. cc) refl
+      (put_covers threshold caller h (layout_of s) stands.covers (counted h s coherent stands) key dkey value).0
 
   tomb_time : (key : Bytes) → min s.manifest.clock (unwrap_or (time_of key (layout_of s)) s.manifest.clock) ≤ max_time
-  tomb_time key = let clock = stored.coherent.spelled.clock in omega (arith, clock)
+  tomb_time key = let clock = coherent.spelled.clock in omega (arith, clock)
 
-  pub delete_stored : (key : Bytes) → IsKey key → IsStored (appended s (of.Entry (tomb_entry h (layout_of s) key)))
-  delete_stored key named = stored_appended s (of.Entry (tomb_entry h (layout_of s) key)) stored
+  pub delete_stored : (key : Bytes) → IsKey key → IsCoherent (appended s (of.Entry (tomb_entry h (layout_of s) key)))
+  delete_stored key named = stored_appended s (of.Entry (tomb_entry h (layout_of s) key)) coherent
       (record { front = record { place = (omega arith, omega (arith, few)); marked = refl; time = tomb_time key; named = named }; body = tt }) above
 
   pub delete_for : (key : Bytes) → IsFor (with_done h caller (Delete key)) (appended s (of.Entry (tomb_entry h (layout_of s) key)))
-  delete_for key = recorded_for h s stored.coherent stands caller (Delete key) (of.Entry (tomb_entry h (layout_of s) key)) few refl refl refl (λ to e. cc) (λ e. cc) refl
-      (delete_covers threshold caller h (layout_of s) stands.covers (counted h s stored.coherent stands) key (stored.coherent.spelled.config.threshold.0) stands.clock).0
+  delete_for key = recorded_for h s coherent stands caller (Delete key) (of.Entry (tomb_entry h (layout_of s) key)) few refl refl refl (λ to e. cc) (λ e. cc) refl
+      (delete_covers threshold caller h (layout_of s) stands.covers (counted h s coherent stands) key (coherent.spelled.config.threshold.0) stands.clock).0
 
-  pub blind_stored : IsStored (appended s (of.Blind (next_place h)))
-  blind_stored = stored_appended s (of.Blind (next_place h)) stored (omega arith, omega (arith, few)) above
+  pub blind_stored : IsCoherent (appended s (of.Blind (next_place h)))
+  blind_stored = stored_appended s (of.Blind (next_place h)) coherent (omega arith, omega (arith, few)) above
 
   pub blind_for : (key : Bytes) → ((entry : Entry) → Shows (layout_of s) entry → entry.key ≡ key → ⊥) → IsFor (with_done h caller (Delete key)) (appended s (of.Blind (next_place h)))
-  blind_for key none = recorded_for h s stored.coherent stands caller (Delete key) (of.Blind (next_place h)) few refl refl refl (λ to e. cc) (λ e. cc) refl
-      (blind_covers threshold caller h (layout_of s) stands.covers (counted h s stored.coherent stands) key none).0
+  blind_for key none = recorded_for h s coherent stands caller (Delete key) (of.Blind (next_place h)) few refl refl refl (λ to e. cc) (λ e. cc) refl
+      (blind_covers threshold caller h (layout_of s) stands.covers (counted h s coherent stands) key none).0

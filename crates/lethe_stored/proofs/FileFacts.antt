@@ -30,7 +30,7 @@ use Rattle.lethe_stored.specs.Files.{StoredFile, IsFile, tiles_of, file_of}
 
 -- The entries of a file are those of its pages
 
-entries_are : (tiles : List TileLine) (pages : List (List ℕ)) → length pages ≡ length (lines_of tiles) → flat_map (λ (tile : Tile). flat_map (λ page. page) tile.pages) (tiles_of tiles pages) ≡ flat_map entries_in pages
+pub entries_are : (tiles : List TileLine) (pages : List (List ℕ)) → length pages ≡ length (lines_of tiles) → flat_map (λ (tile : Tile). flat_map (λ page. page) tile.pages) (tiles_of tiles pages) ≡ flat_map entries_in pages
 entries_are [] [] same = refl
 entries_are [] (page ∷ pages) same = absurd (omega arith)
 entries_are (tile ∷ tiles) pages same =
@@ -143,11 +143,11 @@ tombs_are (line ∷ lines) (page ∷ pages) agrees =
 
 -- The two keys
 
-lower_is : (tiles : List TileLine) (pages : List (List ℕ)) → least_key tiles ≡ lower_key (tiles_of tiles pages)
+pub lower_is : (tiles : List TileLine) (pages : List (List ℕ)) → least_key tiles ≡ lower_key (tiles_of tiles pages)
 lower_is [] pages = refl
 lower_is (tile ∷ tiles) pages = refl
 
-upper_is : (before : Bytes) (tiles : List TileLine) (pages : List (List ℕ)) → fold (λ before (tile : TileLine). tile.hi) before tiles ≡ fold (λ before (tile : Tile). tile.hi) before (tiles_of tiles pages)
+pub upper_is : (before : Bytes) (tiles : List TileLine) (pages : List (List ℕ)) → fold (λ before (tile : TileLine). tile.hi) before tiles ≡ fold (λ before (tile : Tile). tile.hi) before (tiles_of tiles pages)
 upper_is before [] pages = refl
 upper_is before (tile ∷ tiles) pages = upper_is tile.hi tiles (drop (length tile.pages) pages)
 

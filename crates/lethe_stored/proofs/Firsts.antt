@@ -29,7 +29,7 @@ use Rattle.lethe_manifest.proofs.Journals.{none_erased, one_segment, none_filed}
 use Rattle.lethe_commit.specs.Switch.{manifest_name, HasGreatest}
 use Rattle.lethe_cover.specs.Steps.{time_of, put_entry}
 use Rattle.lethe_stored.specs.Files.{IsFile, at_level}
-use Rattle.lethe_stored.specs.Stored.{Stored, IsStored, segment_name, in_order, layout_of, appended}
+use Rattle.lethe_stored.specs.Stored.{Stored, IsCoherent, segment_name, in_order, layout_of, appended}
 use Rattle.lethe_stored.specs.Encodes.{Encodes, HasObject}
 use Rattle.lethe_stored.specs.Kept.{IsFor, IsKept}
 use Rattle.lethe_stored.specs.Examples.{small, new_manifest, new_segment, put_manifest, put_segment, IsNewStore, IsOnePut, the_put}
@@ -56,30 +56,27 @@ abbrev pub empty_stored : Fields → ℕ → ℕ → ℕ → Stored
 empty_stored config own next segment = record { manifest = empty_manifest config own next segment; frozen = None; active = record { no = segment; records = [] }; files = [] }
 
 module _ (config : Fields) (own next segment : ℕ) (limits : IsConfig config) (own_below : own < next) (segment_below : segment < next) where
-  pub empty_is_stored : next ≤ max_place → IsStored (empty_stored config own next segment)
+  pub empty_is_stored : next ≤ max_place → IsCoherent (empty_stored config own next segment)
   empty_is_stored few = record {
-    coherent = record {
-      spelled = record {
-        no = own_below;
-        config = limits;
-        clock = omega arith;
-        count = omega arith;
-        next = few;
-        certificate = tt;
-        erases = none_erased;
-        segments = one_segment next segment segment_below;
-        files = none_filed next config.levels;
-      };
-      cites = refl;
-      once = pairs_of_one (segment ∷ []) segment refl;
-      active = tt;
-      frozen = tt;
-      files = refl;
-      each = All-nil (IsFile next);
-      files_once = no_pairs (λ a b. a.header.no ≢ b.header.no);
-      pages_once = no_pairs (λ a b. a.no ≢ b.no);
+    spelled = record {
+      no = own_below;
+      config = limits;
+      clock = omega arith;
+      count = omega arith;
+      next = few;
+      certificate = tt;
+      erases = none_erased;
+      segments = one_segment next segment segment_below;
+      files = none_filed next config.levels;
     };
-    journal = record { one = refl; certificate = refl; erases = refl; files = refl };
+    cites = refl;
+    once = pairs_of_one (segment ∷ []) segment refl;
+    active = tt;
+    frozen = tt;
+    files = refl;
+    each = All-nil (IsFile next);
+    files_once = no_pairs (λ a b. a.header.no ≢ b.header.no);
+    pages_once = no_pairs (λ a b. a.no ≢ b.no);
   }
 
   empty_layout : layout_of (empty_stored config own next segment) ≡ record (new_layout config.levels) { next = next }
@@ -123,7 +120,7 @@ encoded d own next segment records bytes spelling below gate manifest is there s
 pub new_store : (d : Directory) → IsNewStore d → IsKept d []
 new_store d is = inr (record {
   s = empty_stored small 2 3 1;
-  stored = empty_is_stored small 2 3 1 small_limits (omega arith) (omega arith) (omega arith);
+  coherent = empty_is_stored small 2 3 1 small_limits (omega arith) (omega arith) (omega arith);
   encodes = encoded d 2 3 1 [] new_manifest new_segment (omega arith) is.gate is.manifest new_manifest_spelled is.segment new_segment_spelled;
   stands = empty_stands small 2 3 1 small_limits (omega arith) (omega arith);
 })
@@ -142,11 +139,11 @@ the_record_is = ap (λ since. of.Entry (record { seq = 1; key = 97 ∷ []; body 
 
 pub one_put : (caller : ℕ) (d : Directory) → IsOnePut d → IsKept d (the_put caller)
 one_put caller d is =
-    let stored = empty_is_stored small 4 5 3 small_limits (omega arith) (omega arith) (omega arith) in
+    let coherent = empty_is_stored small 4 5 3 small_limits (omega arith) (omega arith) (omega arith) in
     let stands = empty_stands small 4 5 3 small_limits (omega arith) (omega arith) in
     inr (record {
       s = appended empty the_record;
-      stored = subst (λ r. IsStored (appended empty r)) the_record_is (put_stored [] empty stored stands (omega arith) caller (97 ∷ []) 5 (120 ∷ []) (record { some = omega arith; short = omega arith }) (omega arith) (omega arith));
+      coherent = subst (λ r. IsCoherent (appended empty r)) the_record_is (put_stored [] empty coherent stands (omega arith) caller (97 ∷ []) 5 (120 ∷ []) (record { some = omega arith; short = omega arith }) (omega arith) (omega arith));
       encodes = encoded d 4 5 3 (the_record ∷ []) put_manifest put_segment (omega arith) is.gate is.manifest put_manifest_spelled is.segment put_segment_spelled;
-      stands = subst (λ r. IsFor (the_put caller) (appended empty r)) the_record_is (put_for [] empty stored stands (omega arith) caller (97 ∷ []) 5 (120 ∷ []));
+      stands = subst (λ r. IsFor (the_put caller) (appended empty r)) the_record_is (put_for [] empty coherent stands (omega arith) caller (97 ∷ []) 5 (120 ∷ []));
     })

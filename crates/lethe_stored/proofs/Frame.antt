@@ -9,7 +9,7 @@ use Rattle.lethe_disk.specs.Directory.{Directory, object, IsNoneOf, SameBeside}
 use Rattle.lethe_commit.specs.Gates.{gate_name}
 use Rattle.lethe_commit.specs.Switch.{manifest_name}
 use Rattle.lethe_stored.specs.Files.{objects_of}
-use Rattle.lethe_stored.specs.Stored.{Stored, Segment, IsStored, segment_name, part_names, IsCited, IsSpare}
+use Rattle.lethe_stored.specs.Stored.{Stored, Segment, IsCoherent, segment_name, part_names, IsCited, IsSpare}
 use Rattle.lethe_stored.specs.Encodes.{Encodes, HasParts, HasSegment, HasObject, Agrees, IsBeside, AreSpare}
 use Rattle.lethe_stored.specs.Kept.{IsKept}
 use Rattle.lethe_stored.proofs.Lists.{all_from}
@@ -62,7 +62,7 @@ framed s d c e a = record {
 
 pub kept_framed : (h : History) (d c : Directory) → IsKept d h → IsBeside d c → IsKept c h
 kept_framed h d c (inl none) b = inl (b.none none.0, none.1)
-kept_framed h d c (inr k) b = inr (record { s = k.s; stored = k.stored; encodes = framed k.s d c k.encodes (b.agrees k.s k.encodes); stands = k.stands })
+kept_framed h d c (inr k) b = inr (record { s = k.s; coherent = k.coherent; encodes = framed k.s d c k.encodes (b.agrees k.s k.encodes); stands = k.stands })
 
 -- Beside what is cited
 
@@ -73,13 +73,13 @@ besides s d c names e spare same = framed s d c e (record {
 })
 
 -- a name from the next number on is spare
-pub fresh_spare : (s : Stored) (name : Name) → IsStored s → s.manifest.next ≤ name.no → name.kind ≢ kinds.Gate → IsSpare s name
-fresh_spare s name stored fresh other = record {
+pub fresh_spare : (s : Stored) (name : Name) → IsCoherent s → s.manifest.next ≤ name.no → name.kind ≢ kinds.Gate → IsSpare s name
+fresh_spare s name coherent fresh other = record {
   uncited = cited;
   no_gate = λ k lt is. other (ap (λ (n : Name). n.kind) is);
 }
   where
     cited : IsCited s name → ⊥
     cited (inl is) = other (ap (λ (n : Name). n.kind) is)
-    cited (inr (inl is)) = let same = same_no name (manifest_name s.manifest.no) is in omega (arith, same, fresh, stored.coherent.spelled.no)
-    cited (inr (inr part)) = let below = part_below s name stored.coherent part in omega (arith, fresh, below)
+    cited (inr (inl is)) = let same = same_no name (manifest_name s.manifest.no) is in omega (arith, same, fresh, coherent.spelled.no)
+    cited (inr (inr part)) = let below = part_below s name coherent part in omega (arith, fresh, below)

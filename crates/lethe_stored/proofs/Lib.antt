@@ -5,6 +5,7 @@ pub mod Frame
 pub mod Steps
 pub mod Meanings
 pub mod Numbered
+pub mod Leveled
 pub mod Changes
 pub mod Freezing
 pub mod FileFacts

@@ -18,7 +18,7 @@ use Rattle.lethe_segment.specs.declared.record.Record.{Record}
 use Rattle.lethe_segment.specs.declared.record.Record.TheVariants as of
 use Rattle.lethe_segment.specs.Records.{record_seq}
 use Rattle.lethe_segment.specs.Segments.{Ascends}
-use Rattle.lethe_stored.specs.Stored.{Stored, Segment, IsStored, records_in, plain, layout_of}
+use Rattle.lethe_stored.specs.Stored.{Stored, Segment, IsCoherent, records_in, plain, layout_of}
 use Rattle.lethe_stored.specs.Encodes.{Encodes}
 use Rattle.lethe_stored.specs.Kept.{IsFor, IsKept}
 use Rattle.lethe_stored.specs.Meaning.{IsHeld, Means}
@@ -63,7 +63,7 @@ frozen_are s = by s.frozen
     by None = refl
     by (Some older) = refl
 
-module _ (h : History) (s : Stored) (stored : IsStored s) (stands : IsFor h s) where
+module _ (h : History) (s : Stored) (coherent : IsCoherent s) (stands : IsFor h s) where
   abbrev pub l : Layout
   l = layout_of s
 
@@ -79,14 +79,14 @@ module _ (h : History) (s : Stored) (stored : IsStored s) (stands : IsFor h s) w
             let there = buffer_recorded l.active above.0 above.1 in
             let last = newest.last above.0 (shown_held l above.0 (inl (inl above.1))) above.2 in
             let upto = above.3 in
-            let same : entry ≡ above.0 = written_same entry above.0 (one_place 0 s.active.records (Written entry) (Written above.0) stored.coherent.active active there (omega (arith, last, upto))) in
+            let same : entry ≡ above.0 = written_same entry above.0 (one_place 0 s.active.records (Written entry) (Written above.0) coherent.active active there (omega (arith, last, upto))) in
             inl (inl (subst (InBuffer (buffer_of l.active)) (sym same) above.1))
         | inr older ↦
             let above = stands.covers.newer_above.frozen_buffer entry older in
             let there = buffer_recorded (frozen_records l) above.0 above.1 in
             let last = newest.last above.0 (shown_held l above.0 (inl (inr above.1))) above.2 in
             let upto = above.3 in
-            let same : entry ≡ above.0 = written_same entry above.0 (one_place 0 (records_in s.frozen) (Written entry) (Written above.0) stored.coherent.frozen
+            let same : entry ≡ above.0 = written_same entry above.0 (one_place 0 (records_in s.frozen) (Written entry) (Written above.0) coherent.frozen
             (subst (λ rs. Contains rs (Written entry)) (frozen_are s) older) (subst (λ rs. Contains rs (Written above.0)) (frozen_are s) there) (omega (arith, last, upto))) in
             inl (inr (subst (InBuffer (buffer_of (frozen_records l))) (sym same) above.1))
       ]
@@ -102,13 +102,13 @@ module _ (h : History) (s : Stored) (stored : IsStored s) (stands : IsFor h s) w
 
 pub kept_means : (h : History) (d : Directory) → IsKept d h → Means d (record { map = (after h).map; clock = (after h).clock; count = length h })
 kept_means h d (inl none) = inl (none.0, ap (λ (g : History). record { map = (after g).map; clock = (after g).clock; count = length g }) none.1)
-kept_means h d (inr k) = inr (k.s, k.stored, k.encodes, record { map = held_map h k.s k.stored k.stands; clock = sym k.stands.clock; count = sym k.stands.count })
+kept_means h d (inr k) = inr (k.s, k.coherent, k.encodes, record { map = held_map h k.s k.coherent k.stands; clock = sym k.stands.clock; count = sym k.stands.count })
 
 -- of what it holds nothing is overdue
-pub kept_timely : (h : History) (d : Directory) (s : Stored) → IsKept d h → IsStored s → Encodes d s → (entry : Entry) (swept : ℕ) → Holds (layout_of s) entry swept → IsPut entry.body
+pub kept_timely : (h : History) (d : Directory) (s : Stored) → IsKept d h → IsCoherent s → Encodes d s → (entry : Entry) (swept : ℕ) → Holds (layout_of s) entry swept → IsPut entry.body
     → IsOverdue s.manifest.config.threshold h (after h).clock entry.seq → ⊥
-kept_timely h d s (inl none) stored e entry swept held put overdue = none_or_some d s.manifest.no none.0 e.greatest
-kept_timely h d s (inr k) stored e entry swept held put overdue =
-    let same = one_stored d k.s s k.stored.coherent stored.coherent k.encodes e in
+kept_timely h d s (inl none) coherent e entry swept held put overdue = none_or_some d s.manifest.no none.0 e.greatest
+kept_timely h d s (inr k) coherent e entry swept held put overdue =
+    let same = one_stored d k.s s k.coherent coherent k.encodes e in
     let stands : IsFor h s = subst (IsFor h) same k.stands in
     none_overdue s.manifest.config.threshold h (layout_of s) stands.covers entry swept held put (subst (λ t. IsOverdue s.manifest.config.threshold h t entry.seq) (sym stands.clock) overdue)

@@ -18,7 +18,7 @@ use Rattle.lethe_commit.specs.Switch.{manifest_name, HasGreatest, new_names, IsS
 use Rattle.lethe_commit.proofs.Placing.{gate≢manifest, manifest≢gate, gate≢gate}
 use Rattle.lethe_commit.proofs.Exchange.{manifest≢manifest}
 use Rattle.lethe_stored.specs.Files.{objects_of}
-use Rattle.lethe_stored.specs.Stored.{Stored, Segment, IsStored, number_of, segment_name, part_names, IsCited, IsSpare, appended}
+use Rattle.lethe_stored.specs.Stored.{Stored, Segment, IsCoherent, number_of, segment_name, part_names, IsCited, IsSpare, appended}
 use Rattle.lethe_stored.specs.Encodes.{Encodes, HasParts, AreSpare}
 use Rattle.lethe_stored.specs.Kept.{IsFor, IsKept}
 use Rattle.lethe_stored.specs.Steps.{addition}
@@ -28,33 +28,30 @@ use Rattle.lethe_stored.proofs.Frame.{gate≢segment, manifest≢segment, same_n
 -- Appending
 
 -- with one record more it has a spelling, where the record has one and its place is above all others
-pub stored_appended : (s : Stored) (next : Record) → IsStored s → RecordHasSpelling next → last_seq 0 s.active.records < record_seq next → IsStored (appended s next)
-stored_appended s next stored spelled above = record {
-  coherent = record {
-    spelled = stored.coherent.spelled;
-    cites = stored.coherent.cites;
-    once = stored.coherent.once;
-    active = ascends_push 0 s.active.records next stored.coherent.active spelled above;
-    frozen = stored.coherent.frozen;
-    files = stored.coherent.files;
-    each = stored.coherent.each;
-    files_once = stored.coherent.files_once;
-    pages_once = stored.coherent.pages_once;
-  };
-  journal = stored.journal;
+pub stored_appended : (s : Stored) (next : Record) → IsCoherent s → RecordHasSpelling next → last_seq 0 s.active.records < record_seq next → IsCoherent (appended s next)
+stored_appended s next coherent spelled above = record {
+  spelled = coherent.spelled;
+  cites = coherent.cites;
+  once = coherent.once;
+  active = ascends_push 0 s.active.records next coherent.active spelled above;
+  frozen = coherent.frozen;
+  files = coherent.files;
+  each = coherent.each;
+  files_once = coherent.files_once;
+  pages_once = coherent.pages_once;
 }
 
 -- the frozen segment has another number than the active one
-frozen_apart : (s : Stored) (older : Segment) → IsStored s → s.frozen ≡ Some older → older.no ≢ s.active.no
-frozen_apart s older stored is =
-    let two : s.manifest.segments ≡ older.no ∷ s.active.no ∷ [] = stored.coherent.cites ∙ ap (λ o. map number_of (option_to_list o) ++ s.active.no ∷ []) is in
-    let once = subst (AllPairs (λ a b. a ≢ b)) two stored.coherent.once in
+frozen_apart : (s : Stored) (older : Segment) → IsCoherent s → s.frozen ≡ Some older → older.no ≢ s.active.no
+frozen_apart s older coherent is =
+    let two : s.manifest.segments ≡ older.no ∷ s.active.no ∷ [] = coherent.cites ∙ ap (λ o. map number_of (option_to_list o) ++ s.active.no ∷ []) is in
+    let once = subst (AllPairs (λ a b. a ≢ b)) two coherent.once in
     once 0 1 0 (omega arith) (omega arith)
 
 -- all but the active segment is as it was
-pub active_changed : (s : Stored) (d c : Directory) (records : List Record) → IsStored s → Encodes d s → SameBut (segment_name s.active.no) d c → HasRecords (segment_name s.active.no) s.active.no records c
+pub active_changed : (s : Stored) (d c : Directory) (records : List Record) → IsCoherent s → Encodes d s → SameBut (segment_name s.active.no) d c → HasRecords (segment_name s.active.no) s.active.no records c
     → Encodes c (record s { active = record s.active { records = records } })
-active_changed s d c records stored e others has = record {
+active_changed s d c records coherent e others has = record {
   greatest = (
     ap is_some (others (gate_name s.manifest.no) (gate≢segment s.manifest.no s.active.no)) ∙ e.greatest.0,
     λ k lt. others (gate_name k) (gate≢segment k s.active.no) ∙ e.greatest.1 k lt,
@@ -62,22 +59,22 @@ active_changed s d c records stored e others has = record {
   manifest = others (manifest_name s.manifest.no) (manifest≢segment s.manifest.no s.active.no) ∙ e.manifest;
   parts = record {
     active = has;
-    frozen = frozen_moved d c s.frozen (λ older is. others (segment_name older.no) (λ same. frozen_apart s older stored is (same_no (segment_name older.no) (segment_name s.active.no) same))) e.parts.frozen;
+    frozen = frozen_moved d c s.frozen (λ older is. others (segment_name older.no) (λ same. frozen_apart s older coherent is (same_no (segment_name older.no) (segment_name s.active.no) same))) e.parts.frozen;
     files = objects_moved d c (objects_of s.files) (λ named there. others named.0 (object_apart s s.active.no named there)) e.parts.files;
   };
 }
 
-pub append_encodes : (s : Stored) (next : Record) (at : ℕ) (d c : Directory) → IsStored s → Encodes d s → IsAppended (segment_name s.active.no) at (addition s next) d c → Encodes c s ⊎ Encodes c (appended s next)
-append_encodes s next at d c stored e left = elim left.either [
-  | inl old ↦ inl (active_changed s d c s.active.records stored e left.written.others old)
-  | inr both ↦ inr (active_changed s d c (s.active.records ++ next ∷ []) stored e left.written.others both)
+pub append_encodes : (s : Stored) (next : Record) (at : ℕ) (d c : Directory) → IsCoherent s → Encodes d s → IsAppended (segment_name s.active.no) at (addition s next) d c → Encodes c s ⊎ Encodes c (appended s next)
+append_encodes s next at d c coherent e left = elim left.either [
+  | inl old ↦ inl (active_changed s d c s.active.records coherent e left.written.others old)
+  | inr both ↦ inr (active_changed s d c (s.active.records ++ next ∷ []) coherent e left.written.others both)
 ]
 
-pub append_keeps : (h g : History) (s : Stored) (next : Record) (at : ℕ) (d c : Directory) → IsStored s → Encodes d s → IsFor h s → IsStored (appended s next) → IsFor g (appended s next)
+pub append_keeps : (h g : History) (s : Stored) (next : Record) (at : ℕ) (d c : Directory) → IsCoherent s → Encodes d s → IsFor h s → IsCoherent (appended s next) → IsFor g (appended s next)
     → IsAppended (segment_name s.active.no) at (addition s next) d c → IsKept c h ⊎ IsKept c g
-append_keeps h g s next at d c stored e stands longer_stored longer_stands left = elim (append_encodes s next at d c stored e left) [
-  | inl old ↦ inl (inr (record { s = s; stored = stored; encodes = old; stands = stands }))
-  | inr new ↦ inr (inr (record { s = appended s next; stored = longer_stored; encodes = new; stands = longer_stands }))
+append_keeps h g s next at d c coherent e stands longer_coherent longer_stands left = elim (append_encodes s next at d c coherent e left) [
+  | inl old ↦ inl (inr (record { s = s; coherent = coherent; encodes = old; stands = stands }))
+  | inr new ↦ inr (inr (record { s = appended s next; coherent = longer_coherent; encodes = new; stands = longer_stands }))
 ]
 
 -- Switching
@@ -125,11 +122,11 @@ switch_encodes s t d c e parts lt (inr new) = inr (record {
   parts = parts_framed d c t (λ name is. new.others name (part_old t t.manifest.no s.manifest.no name is)) parts;
 })
 
-pub switch_keeps : (h : History) (s t : Stored) (d c : Directory) → IsStored s → Encodes d s → IsFor h s → IsStored t → HasParts d t → IsFor h t → s.manifest.no < t.manifest.no
+pub switch_keeps : (h : History) (s t : Stored) (d c : Directory) → IsCoherent s → Encodes d s → IsFor h s → IsCoherent t → HasParts d t → IsFor h t → s.manifest.no < t.manifest.no
     → IsSwitched t.manifest.no (manifest_bytes t.manifest) (Some s.manifest.no) d c → IsKept c h
 switch_keeps h s t d c s_is e s_for t_is parts t_for lt left = elim (switch_encodes s t d c e parts lt left) [
-  | inl old ↦ inr (record { s = s; stored = s_is; encodes = old; stands = s_for })
-  | inr new ↦ inr (record { s = t; stored = t_is; encodes = new; stands = t_for })
+  | inl old ↦ inr (record { s = s; coherent = s_is; encodes = old; stands = s_for })
+  | inr new ↦ inr (record { s = t; coherent = t_is; encodes = new; stands = t_for })
 ]
 
 -- the first switch, where there is no gate
@@ -150,15 +147,15 @@ first_switch_encodes t d c none parts (inr new) = inr (record {
   parts = parts_framed d c t (λ name is. new.others name (part_new t t.manifest.no name is)) parts;
 })
 
-pub first_switch_keeps : (t : Stored) (d c : Directory) → HasGreatest None d → IsStored t → HasParts d t → IsFor [] t → IsSwitched t.manifest.no (manifest_bytes t.manifest) None d c → IsKept c []
+pub first_switch_keeps : (t : Stored) (d c : Directory) → HasGreatest None d → IsCoherent t → HasParts d t → IsFor [] t → IsSwitched t.manifest.no (manifest_bytes t.manifest) None d c → IsKept c []
 first_switch_keeps t d c none t_is parts t_for left = elim (first_switch_encodes t d c none parts left) [
   | inl still ↦ inl (still, refl)
-  | inr new ↦ inr (record { s = t; stored = t_is; encodes = new; stands = t_for })
+  | inr new ↦ inr (record { s = t; coherent = t_is; encodes = new; stands = t_for })
 ]
 
 -- Clearing and creating
 
-pub clear_keeps : (h : History) (d c : Directory) (names : List Name) → IsKept d h → ((s : Stored) → IsStored s → Encodes d s → AreSpare s names) → IsCleared names d c → IsKept c h
+pub clear_keeps : (h : History) (d c : Directory) (names : List Name) → IsKept d h → ((s : Stored) → IsCoherent s → Encodes d s → AreSpare s names) → IsCleared names d c → IsKept c h
 clear_keeps h d c names (inl none) spare left = inl (
   (λ k. elim (left.either (gate_name k)) [
     | inl gone ↦ gone
@@ -166,7 +163,7 @@ clear_keeps h d c names (inl none) spare left = inl (
   ]),
   none.1,
 )
-clear_keeps h d c names (inr k) spare left = inr (record { s = k.s; stored = k.stored; encodes = besides k.s d c names k.encodes (spare k.s k.stored k.encodes) left.others; stands = k.stands })
+clear_keeps h d c names (inr k) spare left = inr (record { s = k.s; coherent = k.coherent; encodes = besides k.s d c names k.encodes (spare k.s k.coherent k.encodes) left.others; stands = k.stands })
 
 pub one_name : (name other : Name) → Contains (name ∷ []) other → name ≡ other
 one_name name other there = by there.0 there.1 there.2
@@ -175,11 +172,11 @@ one_name name other there = by there.0 there.1 there.2
     by zero lt is = is
     by (suc k) lt is = absurd (omega arith)
 
-pub create_keeps : (h : History) (d c : Directory) (name : Name) → IsKept d h → name.kind ≢ kinds.Gate → ((s : Stored) → IsStored s → Encodes d s → s.manifest.next ≤ name.no) → IsCreated name d c → IsKept c h
+pub create_keeps : (h : History) (d c : Directory) (name : Name) → IsKept d h → name.kind ≢ kinds.Gate → ((s : Stored) → IsCoherent s → Encodes d s → s.manifest.next ≤ name.no) → IsCreated name d c → IsKept c h
 create_keeps h d c name (inl none) other fresh left = inl ((λ k. left.others (gate_name k) (λ is. other (sym (ap (λ (n : Name). n.kind) is))) ∙ none.0 k), none.1)
 create_keeps h d c name (inr k) other fresh left = inr (record {
   s = k.s;
-  stored = k.stored;
-  encodes = besides k.s d c (name ∷ []) k.encodes (λ x there. subst (IsSpare k.s) (one_name name x there) (fresh_spare k.s name k.stored (fresh k.s k.stored k.encodes) other)) (λ x none. left.others x none.0);
+  coherent = k.coherent;
+  encodes = besides k.s d c (name ∷ []) k.encodes (λ x there. subst (IsSpare k.s) (one_name name x there) (fresh_spare k.s name k.coherent (fresh k.s k.coherent k.encodes) other)) (λ x none. left.others x none.0);
   stands = k.stands;
 })

@@ -20,18 +20,16 @@ use Rattle.lethe_page.specs.declared.class.Class.{Class}
 use Rattle.lethe_header.specs.Headers.{header_bytes}
 use Rattle.lethe_header.specs.Headers as headers
 use Rattle.lethe_header.specs.declared.header.Header.{Header}
-use Rattle.lethe_stored.specs.Stored.{IsJournalOnly}
 
 abbrev pub entry_of : Record → Option Entry
 entry_of (of.Entry entry) = Some entry
 entry_of (of.Blind place) = None
 entry_of (of.Erase erase) = None
 
--- a manifest of this number, of a journal alone, is spelled so
+-- a manifest of this number is spelled so
 pub record SpellsManifest (number : ℕ) (bytes : List ℕ) : Type 0 where
   pub manifest : Manifest
   pub spelled : HasSpelling manifest
-  pub journal : IsJournalOnly manifest
   pub own : manifest.no ≡ number
   pub is : bytes ≡ manifest_bytes manifest
 

@@ -21,6 +21,14 @@ pub record StoredFile : Type 0 where
   pub header : Header
   pub pages : List (List ℕ)
 
+-- a file as its readers have it: its header, and the bytes of its pages in the order of the header's lines
+pub record Parts : Type 0 where
+  pub header : Header
+  pub pages : List (List ℕ)
+
+abbrev pub parts_of : StoredFile → Parts
+parts_of file = record { header = file.header; pages = file.pages }
+
 abbrev pub lines_in : StoredFile → List PageLine
 lines_in file = lines_of file.header.tiles
 

@@ -9,7 +9,7 @@ use Rattle.lethe_base.specs.declared.call.Did.{Did}
 use Rattle.lethe_base.specs.declared.call.Did.TheVariants.{Done, Failed}
 use Rattle.lethe_disk.specs.Directory.{Directory}
 use Rattle.lethe_commit.specs.Switch.{HasGreatest}
-use Rattle.lethe_stored.specs.Stored.{Stored, IsStored, layout_of, count_of, certificate_number}
+use Rattle.lethe_stored.specs.Stored.{Stored, IsCoherent, layout_of, count_of, certificate_number}
 use Rattle.lethe_stored.specs.Encodes.{Encodes}
 
 -- a tick that is carried out at the threshold or later prepares a certificate
@@ -38,7 +38,7 @@ pub record IsFor (h : History) (s : Stored) : Type 0 where
 -- the directory encodes what stands for the history
 pub record IsEncoded (d : Directory) (h : History) : Type 0 where
   pub s : Stored
-  pub stored : IsStored s
+  pub coherent : IsCoherent s
   pub encodes : Encodes d s
   pub stands : IsFor h s
 

@@ -1,5 +1,7 @@
 pub mod Files
 pub mod Stored
+pub mod Replayed
+pub mod Levels
 pub mod Encodes
 pub mod Steps
 pub mod Kept

@@ -7,7 +7,7 @@ use Rattle.lethe_base.specs.SameMap.{IsMap}
 use Rattle.lethe_base.specs.declared.entry.Entry.{Entry}
 use Rattle.lethe_disk.specs.Directory.{Directory}
 use Rattle.lethe_commit.specs.Switch.{HasGreatest}
-use Rattle.lethe_stored.specs.Stored.{Stored, IsStored, layout_of, pending_of, count_of}
+use Rattle.lethe_stored.specs.Stored.{Stored, IsCoherent, layout_of, pending_of, count_of}
 use Rattle.lethe_stored.specs.Encodes.{Encodes}
 
 pub record Meaning : Type 0 where
@@ -30,4 +30,4 @@ pub record MeansAs (s : Stored) (meaning : Meaning) : Type 0 where
 
 -- without a gate nothing, and else what the greatest gate commits
 abbrev pub Means : Directory → Meaning → Type 0
-Means d meaning = (HasGreatest None d × (meaning ≡ nothing)) ⊎ ((s : Stored) × IsStored s × Encodes d s × MeansAs s meaning)
+Means d meaning = (HasGreatest None d × (meaning ≡ nothing)) ⊎ ((s : Stored) × IsCoherent s × Encodes d s × MeansAs s meaning)

@@ -61,18 +61,6 @@ pub record IsCoherent (s : Stored) : Type 0 where
   pub files_once : AllPairs (λ a b. a.header.no ≢ b.header.no) s.files
   pub pages_once : AllPairs (λ a b. a.no ≢ b.no) (flat_map lines_in s.files)
 
--- The journal is all that it has: one segment, and no certificate, erase or file.
-pub record IsJournalOnly (m : Manifest) : Type 0 where
-  pub one : length m.segments ≡ 1
-  pub certificate : m.certificate ≡ None
-  pub erases : m.erases ≡ []
-  pub files : m.files ≡ []
-
--- It has a spelling, and is what a store has so far: its journal alone.
-pub record IsStored (s : Stored) : Type 0 where
-  pub coherent : IsCoherent s
-  pub journal : IsJournalOnly s.manifest
-
 -- Names
 
 abbrev pub segment_name : ℕ → Name

@@ -21,10 +21,11 @@ ghost use Rattle.lethe_commit.specs.Clear.{IsCleared};
 ghost use Rattle.lethe_commit.specs.Switch.{HasGreatest, IsSwitched};
 ghost use Rattle.lethe_cover.specs.Steps.{next_place, with_done, put_entry, tomb_entry};
 ghost use Rattle.lethe_stored.specs.Files.{StoredFile, IsFile, file_of};
-ghost use Rattle.lethe_stored.specs.Stored.{Stored, IsCoherent, IsStored, segment_name, layout_of, appended, froze};
+ghost use Rattle.lethe_stored.specs.Stored.{Stored, IsCoherent, segment_name, layout_of, appended, froze};
 ghost use Rattle.lethe_stored.specs.Encodes.{Encodes, HasParts, Agrees, IsBeside, AreSpare};
 ghost use Rattle.lethe_stored.specs.Steps.{addition};
 ghost use Rattle.lethe_stored.specs.Kept.{IsFor, IsKept};
+ghost use Rattle.lethe_stored.specs.Levels.{AreRising};
 ghost use Rattle.lethe_stored.specs.Meaning.{Means};
 ghost use Rattle.lethe_stored.specs.Examples.{IsNewStore, IsOnePut, the_put};
 
@@ -48,56 +49,56 @@ pub fn kept_means_its_history()
 
 /// Of what it holds, nothing was erased a threshold ago.
 pub fn kept_holds_nothing_overdue()
-    ensures { (h : History) (d : Directory) (s : Stored) → IsKept d h → IsStored s → Encodes d s
+    ensures { (h : History) (d : Directory) (s : Stored) → IsKept d h → IsCoherent s → Encodes d s
         → (entry : Entry) (swept : ℕ) → Holds (layout_of s) entry swept → IsPut entry.body
         → IsOverdue s.manifest.config.threshold h (after h).clock entry.seq → ⊥ }
 {}
 
 /// What a crash leaves of an append is kept for the history before, or for the one that the new record stands for.
 pub fn append_keeps()
-    ensures { (h g : History) (s : Stored) (next : Record) (at : ℕ) (d c : Directory) → IsStored s → Encodes d s → IsFor h s
-        → IsStored (appended s next) → IsFor g (appended s next)
+    ensures { (h g : History) (s : Stored) (next : Record) (at : ℕ) (d c : Directory) → IsCoherent s → Encodes d s → IsFor h s
+        → IsCoherent (appended s next) → IsFor g (appended s next)
         → IsAppended (segment_name s.active.no) at (addition s next) d c → IsKept c h ⊎ IsKept c g }
 {}
 
 /// What a crash leaves of a switch is kept for the history that the old manifest and the new one stand for.
 pub fn switch_keeps()
-    ensures later { (h : History) (s t : Stored) (d c : Directory) → IsStored s → Encodes d s → IsFor h s
-        → IsStored t → HasParts d t → IsFor h t → s.manifest.no < t.manifest.no
+    ensures later { (h : History) (s t : Stored) (d c : Directory) → IsCoherent s → Encodes d s → IsFor h s
+        → IsCoherent t → HasParts d t → IsFor h t → s.manifest.no < t.manifest.no
         → IsSwitched t.manifest.no (manifest_bytes t.manifest) (Some s.manifest.no) d c → IsKept c h }
-    ensures first { (t : Stored) (d c : Directory) → HasGreatest None d → IsStored t → HasParts d t → IsFor [] t
+    ensures first { (t : Stored) (d c : Directory) → HasGreatest None d → IsCoherent t → HasParts d t → IsFor [] t
         → IsSwitched t.manifest.no (manifest_bytes t.manifest) None d c → IsKept c [] }
 {}
 
 /// What a crash leaves of a clear is kept for the same, where none of the names is cited.
 pub fn clear_keeps()
     ensures { (h : History) (d c : Directory) (names : List Name) → IsKept d h
-        → ((s : Stored) → IsStored s → Encodes d s → AreSpare s names) → IsCleared names d c → IsKept c h }
+        → ((s : Stored) → IsCoherent s → Encodes d s → AreSpare s names) → IsCleared names d c → IsKept c h }
 {}
 
 /// What a crash leaves of a create is kept for the same, where the name is no gate's and its number hasn't been drawn.
 pub fn create_keeps()
     ensures { (h : History) (d c : Directory) (name : Name) → IsKept d h → name.kind ≢ kinds.Gate
-        → ((s : Stored) → IsStored s → Encodes d s → s.manifest.next ≤ name.no) → IsCreated name d c → IsKept c h }
+        → ((s : Stored) → IsCoherent s → Encodes d s → s.manifest.next ≤ name.no) → IsCreated name d c → IsKept c h }
 {}
 
 /// With the record of a put, what is stored stands for the history with that put.
 pub fn put_follows()
-    ensures { (h : History) (s : Stored) → IsStored s → IsFor h s → length h < max_place
+    ensures { (h : History) (s : Stored) → IsCoherent s → IsFor h s → length h < max_place
         → (caller : ℕ) (key : Bytes) (dkey : ℕ) (value : Bytes) → IsKey key → dkey < 2 ^ 64 → IsValue value
-        → IsStored (appended s (of.Entry (put_entry h (layout_of s) key dkey value)))
+        → IsCoherent (appended s (of.Entry (put_entry h (layout_of s) key dkey value)))
         × IsFor (with_done h caller (Put key dkey value)) (appended s (of.Entry (put_entry h (layout_of s) key dkey value))) }
 {}
 
 /// With a tombstone, what is stored stands for the history with that delete; and with the delete's place alone where reads see no
 /// entry of the key.
 pub fn delete_follows()
-    ensures tombstone { (h : History) (s : Stored) → IsStored s → IsFor h s → length h < max_place → (caller : ℕ) (key : Bytes) → IsKey key
-        → IsStored (appended s (of.Entry (tomb_entry h (layout_of s) key)))
+    ensures tombstone { (h : History) (s : Stored) → IsCoherent s → IsFor h s → length h < max_place → (caller : ℕ) (key : Bytes) → IsKey key
+        → IsCoherent (appended s (of.Entry (tomb_entry h (layout_of s) key)))
         × IsFor (with_done h caller (Delete key)) (appended s (of.Entry (tomb_entry h (layout_of s) key))) }
-    ensures blind { (h : History) (s : Stored) → IsStored s → IsFor h s → length h < max_place → (caller : ℕ) (key : Bytes)
+    ensures blind { (h : History) (s : Stored) → IsCoherent s → IsFor h s → length h < max_place → (caller : ℕ) (key : Bytes)
         → ((entry : Entry) → Shows (layout_of s) entry → entry.key ≡ key → ⊥)
-        → IsStored (appended s (of.Blind (next_place h))) × IsFor (with_done h caller (Delete key)) (appended s (of.Blind (next_place h))) }
+        → IsCoherent (appended s (of.Blind (next_place h))) × IsFor (with_done h caller (Delete key)) (appended s (of.Blind (next_place h))) }
 {}
 
 /// With the active segment frozen and an empty one active, what is stored stands for the same history, where no segment was frozen.
@@ -112,6 +113,11 @@ pub fn freeze_follows()
 pub fn facts_are_of_the_header()
     ensures { (next level : ℕ) (file : StoredFile) → IsFile next file
         → facts.facts_of level file.swept file.header ≡ shapes.facts_of level (file_of file) }
+{}
+
+/// Behind level 0 the files of a level ascend by key and are disjoint.
+pub fn kept_files_rise()
+    ensures { (h : History) (s : Stored) → IsCoherent s → IsFor h s → AreRising s.files }
 {}
 
 /// The 71 bytes of a new store's manifest, its gate and its empty segment are kept for the empty history.
