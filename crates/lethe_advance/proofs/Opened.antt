@@ -7,11 +7,9 @@ use Rattle.std.proofs.lemmas.List.{get_or-map, length-map, map-append}
 use Rattle.std.proofs.lemmas.List.Elements.{All-nil, All-cons, All-map, All-head, All-tail, All-contains, Contains-append_left}
 use Rattle.std.proofs.lemmas.List.Sorted.{IsPermutation-refl, IsPermutation-map, Contains-permutation}
 use Rattle.std.proofs.lemmas.Simd.{map-map}
-use Rattle.lethe_base.specs.declared.name.Name.{Name}
 use Rattle.lethe_base.proofs.Newest.{first_is}
 use Rattle.lethe_disk.specs.Directory.{Directory, object, content}
 use Rattle.lethe_file.specs.Agreement.{Agrees, page_name}
-use Rattle.lethe_header.specs.Facts.{lines_of}
 use Rattle.lethe_header.specs.declared.header.Header.{Header}
 use Rattle.lethe_header.specs.declared.header.PageLine.{PageLine}
 use Rattle.lethe_stored.specs.Encodes.{HasParts, HasObject}

@@ -1,14 +1,12 @@
 -- A switch behind calls that change nothing.
-use Rattle.std.proofs.Common.{◌≡◌, ℕ, List, Option, inl, sym, ◌∙◌, subst, arith}
-use Rattle.lethe_disk.specs.Directory.{Directory, object, IsSame}
+use Rattle.std.proofs.Common.{ℕ, List, Option, inl, sym, ◌∙◌, subst, arith}
+use Rattle.lethe_disk.specs.Directory.{Directory, IsSame}
 use Rattle.lethe_disk.specs.Disk.{Seen, Image}
 use Rattle.lethe_disk.specs.Quiet.{IsQuiet}
 use Rattle.lethe_disk.specs.Runs.{Leads}
 use Rattle.lethe_disk.proofs.Moments.{leads_leads, leads_weaker}
-use Rattle.lethe_commit.specs.Gates.{gate_name}
-use Rattle.lethe_commit.specs.Switch.{manifest_name, HasGreatest, IsFree, IsSwitched, IsUnswitched, IsTakenBack}
+use Rattle.lethe_commit.specs.Switch.{IsFree, IsSwitched, IsUnswitched, IsTakenBack}
 use Rattle.lethe_commit.proofs.Exchange.{itself}
-use Rattle.std.specs.Prelude.{None}
 
 module _ (old mid : Seen) (quiet : IsQuiet old mid) where
   pub image_back : (c : Directory) → Image mid c → Image old c

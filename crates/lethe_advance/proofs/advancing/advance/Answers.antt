@@ -1,9 +1,7 @@
 use Rattle.std.proofs.Common.{Err, map, sym, ap, ◌∙◌, subst, Some}
 use Rattle.lethe_disk.specs.Runs.{Leads}
-use Rattle.lethe_manifest.specs.Manifests.{manifest_bytes}
 use Rattle.lethe_commit.specs.Clear.{ArePresent, IsCleared, remove_all}
 use Rattle.lethe_commit.specs.Place.{name_of}
-use Rattle.lethe_stored.specs.Files.{parts_of}
 use Rattle.lethe_advance.specs.Shown.{AreLevelsWith, parts_by_level}
 use Rattle.lethe_advance.proofs.Leveled.{files_next}
 use Rattle.lethe_advance.proofs.Running.{absent_before, place_moments, free_placed, pages_placed, opened_placed, exchange_moments, present_again, removal_moments, back_again, present_placed, clear_moments, settled_next, kept_next}

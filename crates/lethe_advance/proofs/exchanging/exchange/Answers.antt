@@ -2,7 +2,7 @@ use Rattle.std.proofs.Common.{map, ap, ◌∙◌, subst}
 use Rattle.lethe_manifest.specs.Manifests.{manifest_bytes}
 use Rattle.lethe_commit.specs.Switch.{switched}
 use Rattle.lethe_version.specs.Versions.{levels_of}
-use Rattle.lethe_advance.specs.Shown.{AreLevelsWith, parts_in, parts_by_level}
+use Rattle.lethe_advance.specs.Shown.{AreLevelsWith, parts_in}
 use Rattle.lethe_advance.proofs.Opened.{levels_with}
 use Rattle.lethe_advance.proofs.Quiet.{free_still, quiet_switched, switched_then}
 use Rattle.lethe_advance.proofs.exchanging.exchange.Goals as goal
