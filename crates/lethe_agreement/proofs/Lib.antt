@@ -1,0 +1,5 @@
+pub mod Filters
+pub mod Lines
+pub mod Tiles
+pub mod KeySets
+pub mod Parts
