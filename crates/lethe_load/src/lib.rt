@@ -1,7 +1,9 @@
 //! Reading what the greatest gate of a disk commits: its manifest, the journal's records and the files.
 #![tactic(auto)]
 
+mod listing;
 mod loading;
+mod reading;
 mod recovered;
 mod refused;
 
