@@ -1,2 +1,9 @@
-//! What is stored after a flush and after an opening. The functions do nothing: their contracts are the laws.
+//! What a flush, an opening and reads make of what is stored: laws that carry steps on layouts over to manifests, segments and
+//! files. The functions do nothing: their contracts are the laws.
 #![tactic(auto)]
+
+mod layouts;
+mod steps;
+
+pub use layouts::{erases_are_spelled, pending_is_spelled, stored_follows};
+pub use steps::{flush_follows, nothing_flushes, reopen_follows};
