@@ -7,6 +7,7 @@ use Rattle.std.proofs.lemmas.List.Concat.{flat_map-append}
 use Rattle.std.proofs.lemmas.List.Elements.{All-nil, All-cons, All-head, All-tail, All-map, All-weaker}
 use Rattle.std.proofs.lemmas.List.FromFn.{length-range_with_len, get_or-range_with_len}
 use Rattle.std.proofs.lemmas.List.Folds.{flat_map-map}
+use Rattle.sha2.specs.Sha256.{sha256}
 use Rattle.lethe_base.specs.declared.name.Name.{Name}
 use Rattle.lethe_build.specs.Built.{AreFilesOf, IsFileOf, all_numbers, numbers_of}
 use Rattle.lethe_build.specs.declared.built.Built.{Built}
@@ -24,7 +25,7 @@ use Rattle.lethe_flush.specs.Apart.{IsSpelled, stored_of}
 
 -- what is true of each file that was built of some tiles
 
-pub each_built : {X : Type 0} (R : X → Built → Type 0) (P : Built → Type 0) → ((x : X) (file : Built) → R x file → P file) → (xs : List X) (files : List Built) → AllZip R xs files → All P files
+pub each_built : {X Y : Type 0} (R : X → Y → Type 0) (P : Y → Type 0) → ((x : X) (file : Y) → R x file → P file) → (xs : List X) (files : List Y) → AllZip R xs files → All P files
 each_built R P goes [] [] zipped = All-nil P
 each_built R P goes [] (file ∷ files) zipped = absurd zipped
 each_built R P goes (x ∷ xs) [] zipped = absurd zipped
@@ -33,7 +34,7 @@ each_built R P goes (x ∷ xs) (file ∷ files) zipped = All-cons P file files (
 pub is_spelled : (tiles : _) (file : Built) → IsFileOf tiles file → IsSpelled file
 is_spelled tiles file is = record {
   bytes = is.bytes;
-  digest = is.digest ∙ ap _ is.bytes;
+  digest = is.digest ∙ ap sha256 is.bytes;
   paged = zip_length Agrees (lines_of file.header.tiles) file.pages is.agrees.pages;
 }
 

@@ -4,3 +4,4 @@ pub mod Places
 pub mod Clearness
 pub mod Taking
 pub mod Cutting
+pub mod Making
