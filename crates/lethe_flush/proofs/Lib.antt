@@ -5,3 +5,4 @@ pub mod Clearness
 pub mod Taking
 pub mod Cutting
 pub mod Making
+pub mod Finishing

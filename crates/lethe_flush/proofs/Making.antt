@@ -1,5 +1,5 @@
 -- The files that were built of entries are made of them, as a layout has them.
-use Rattle.std.proofs.Common.{◌≡◌, ◌≢◌, ℕ, suc, ◌+◌, ◌-◌, ◌<◌, ◌≤◌, Bool, true, false, ◌&&◌, IsTrue, List, [], ◌∷◌, ◌++◌, length, get_or, map, take, drop, All, AllPairs, Contains, IsPermutation, Some, refl, sym, ap, ◌∙◌, subst, arith}
+use Rattle.std.proofs.Common.{◌≡◌, ◌≢◌, ℕ, suc, ◌+◌, ◌*◌, ◌-◌, ◌<◌, ◌≤◌, Bool, true, false, ◌&&◌, IsTrue, List, [], ◌∷◌, ◌++◌, length, get_or, map, take, drop, All, AllPairs, Contains, IsPermutation, Some, refl, sym, ap, ◌∙◌, subst, arith}
 use Rattle.std.specs.Prelude.{flat_map, fold, ◌↔◌}
 use Rattle.std.specs.List.{AllZip, range_with_len}
 use Rattle.std.specs.Ordering.{is_le}
@@ -10,23 +10,20 @@ use Rattle.std.proofs.lemmas.List.{take-map, drop-map}
 use Rattle.std.proofs.lemmas.List.Concat.{flat_map-append}
 use Rattle.std.proofs.lemmas.List.Elements.{All-nil, All-cons, All-head, All-tail, All-map, Contains-get_or}
 use Rattle.std.proofs.lemmas.List.Sorted.{Contains-permutation, IsPermutation-append, IsPermutation-refl, IsPermutation-sym}
-use Rattle.lethe_base.specs.Configuration.{IsConfig}
 use Rattle.lethe_base.specs.Entries.{IsAscending}
 use Rattle.lethe_base.specs.Held.{InFiles}
 use Rattle.lethe_base.specs.Keys.{Bytes, key_cmp}
 use Rattle.lethe_base.specs.Layout.{File, Tile, entries_of}
-use Rattle.lethe_base.specs.Limits.{max_place}
 use Rattle.lethe_base.specs.Shapes.{lower_key, upper_key}
-use Rattle.lethe_base.specs.Spelling.{HasSpelling}
 use Rattle.lethe_base.specs.declared.config.Fields.{Fields}
 use Rattle.lethe_base.specs.declared.entry.Entry.{Entry}
-use Rattle.lethe_base.specs.declared.pending.Pending.{Pending}
-use Rattle.lethe_tile.specs.Woven.{joined, IsTile}
-use Rattle.lethe_tile.proofs.Orders.{Across}
+use Rattle.lethe_tile.specs.Woven.{joined, IsCut, IsTile}
+use Rattle.lethe_tile.proofs.Orders.{Across, HasLowerKey, pairs_from_ascending}
+use Rattle.lethe_tile.proofs.Pages.{cut_some}
 use Rattle.lethe_build.specs.Built.{AreFilesOf, IsFileOf, IsToldBy, all_numbers, pages_of}
-use Rattle.lethe_build.specs.Parts.{IsBelow, IsGroup}
+use Rattle.lethe_build.specs.Parts.{IsBelow}
 use Rattle.lethe_build.specs.declared.built.Built.{Built}
-use Rattle.lethe_build.proofs.Groups.{are_groups, below}
+use Rattle.lethe_build.proofs.Groups.{tiles_below}
 use Rattle.lethe_build.proofs.Whole.{key_there, parts_across, parts_all, tile_once}
 use Rattle.lethe_cover.proofs.Lists.{Pairs, all_from, flat_from, flat_in, pairs_from, pairs_to}
 use Rattle.lethe_fade.specs.Spans.{overlaps}
@@ -87,6 +84,17 @@ woven_same page [] (tile ∷ tiles) zipped = absurd zipped
 woven_same page (slice ∷ slices) [] zipped = absurd zipped
 woven_same page (slice ∷ slices) (tile ∷ tiles) zipped =
     IsPermutation-append slice (in_tile tile) (joined slices) (flat_map in_tile tiles) (tile_once page slice tile zipped.0) (woven_same page slices tiles zipped.1)
+
+-- no part of a cut is empty
+
+cut_length : {X : Type 0} (most : ℕ) (parts : List (List X)) → IsCut most parts → 0 < length parts → 0 < most
+cut_length most [] cut some = absurd (omega (arith, some))
+cut_length most (last ∷ []) cut some = omega (arith, cut.0, cut.1)
+cut_length most (part ∷ (next ∷ parts)) cut some = cut_length most (next ∷ parts) cut.1 (omega arith)
+
+cut_each : {X : Type 0} (most : ℕ) (parts : List (List X)) → IsCut most parts → All (λ part. 0 < length part) parts
+cut_each most [] cut = All-nil (λ part. 0 < length part)
+cut_each most (part ∷ parts) cut = cut_some most (part ∷ parts) (cut_length most (part ∷ parts) cut (omega arith)) cut
 
 -- Tiles that ascend
 
@@ -152,14 +160,18 @@ module _ (upto : ℕ) where
         clear_pairs groups files zipped.1 rest pairs.1,
       )
 
-  module _ (fields : Fields) (entries : List Entry) (first : ℕ) (files : List Built) (config : IsConfig fields) (up : IsAscending entries) (each : All HasSpelling entries) (are : AreFilesOf fields entries first files) where
+  module _ (fields : Fields) (entries : List Entry) (first : ℕ) (files : List Built) (up : IsAscending entries) (are : AreFilesOf fields entries first files) where
     same_entries : IsPermutation entries (flat_map entries_of (laid files))
     same_entries =
         subst (IsPermutation entries) (sym (flat_entries are.groups files are.each ∙ ap (flat_map in_tile) are.consecutive))
         (subst (λ es. IsPermutation es (flat_map in_tile are.tiles)) are.woven.consecutive (woven_same fields.page are.woven.slices are.tiles are.woven.each))
 
     groups_some : All IsSome are.groups
-    groups_some k d lt = (are_groups fields entries are.tiles are.groups config up each are.woven are.consecutive are.lengths k d lt).some
+    groups_some = cut_each fields.file are.groups are.lengths
+
+    below : AllPairs IsBelow are.tiles
+    below = tiles_below fields.page are.woven.slices are.tiles are.woven.each (cut_each (fields.page * fields.tile) are.woven.slices are.woven.lengths)
+        (parts_across HasLowerKey are.woven.slices (subst (AllPairs HasLowerKey) (sym are.woven.consecutive) (pairs_from_ascending entries up)))
 
     pub are_made : (next : ℕ) → All (IsFile next) (map (stored_of upto) files) → AreMade entries upto (laid files)
     are_made next is = record {
@@ -171,6 +183,6 @@ module _ (upto : ℕ) where
       tight = tights are.groups files are.each (parts_all IsTight are.groups (subst (All IsTight) (sym are.consecutive) (each_built (IsTile fields.page) IsTight (tile_tight fields.page) are.woven.slices are.tiles are.woven.each)));
       apart = pairs_to (λ file other. IsClearOf (keys_of file) other) (laid files)
           (clear_pairs are.groups files are.each groups_some
-          (pairs_from (Across IsBelow) are.groups (parts_across IsBelow are.groups (subst (AllPairs IsBelow) (sym are.consecutive) (below fields entries are.tiles are.groups config up each are.woven are.consecutive are.lengths)))));
+          (pairs_from (Across IsBelow) are.groups (parts_across IsBelow are.groups (subst (AllPairs IsBelow) (sym are.consecutive) below))));
       swept = All-map (λ (file : File). file.swept ≡ upto) file_of (map (stored_of upto) files) (All-map (λ (file : StoredFile). file.swept ≡ upto) (stored_of upto) files (λ k d lt. refl));
     }
