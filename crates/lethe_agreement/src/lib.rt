@@ -1,0 +1,10 @@
+//! Whether the bytes of pages agree with what their file says of them.
+#![tactic(auto)]
+
+mod laws;
+mod sound;
+mod taken;
+
+pub use laws::sound_pages_agree;
+pub use sound::is_sound;
+pub use taken::TakenKeys;
