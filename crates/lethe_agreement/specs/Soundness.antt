@@ -1,10 +1,18 @@
 -- Which pages a tile may have.
 use Rattle.std.specs.Prelude.{ℕ, length, List, [], ◌∷◌, map, take, drop, ◌≡◌, All, Contains, ◌⊎◌}
 use Rattle.lethe_base.specs.Keys.{Bytes}
+use Rattle.lethe_base.specs.declared.entry.Entry.{Entry}
+use Rattle.lethe_page.specs.Pages.{HasSpelling}
 use Rattle.lethe_header.specs.declared.header.PageLine.{PageLine}
 use Rattle.lethe_header.specs.declared.header.TileLine.{TileLine}
 use Rattle.lethe_file.specs.Agreement.{Agrees, IsWithin, entries_in, keys_of}
+use Rattle.lethe_build.specs.Built.{class_of, spelled}
 use Rattle.lethe_agreement.specs.declared.taken.TakenKeys.{TakenKeys}
+
+-- these entries have a spelling, which is of these bytes
+pub record IsSpelled (entries : List Entry) (bytes : List ℕ) : Type 0 where
+  pub has_spelling : HasSpelling (class_of entries) entries
+  pub are : bytes ≡ spelled entries
 
 -- a key of an earlier page
 abbrev pub IsTaken : TakenKeys → Bytes → Type 0

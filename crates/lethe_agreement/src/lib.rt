@@ -2,6 +2,7 @@
 #![tactic(auto)]
 
 mod laws;
+mod page;
 mod sound;
 mod taken;
 

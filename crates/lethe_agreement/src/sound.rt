@@ -5,6 +5,7 @@ ghost use Rattle.lethe_header.specs.Headers.{IsLine};
 ghost use Rattle.lethe_file.specs.Agreement.{entries_in, keys_of};
 ghost use Rattle.lethe_agreement.specs.Soundness.{IsSoundPage, IsTaken};
 
+use crate::page::{entries_of, is_within, keys_if_agrees};
 use crate::taken::TakenKeys;
 use lethe_base::NoMemory;
 use lethe_header::{PageLine, TileLine};
@@ -23,5 +24,15 @@ pub fn is_sound(
     ensures exact { IfOk result (λ sound. IsTrue sound ↔ IsSoundPage tile.now line.now (IsTaken taken.old) bytes.now) }
     ensures taken { result ≡ Ok true → (key : Bytes) → IsTaken taken.new key ↔ (IsTaken taken.old key ⊎ Contains (keys_of (entries_in bytes.now)) key) }
 {
-    Err(NoMemory)
+    let Some(entries) = entries_of(alloc, bytes)? else {
+        return Ok(false);
+    };
+    if !is_within(tile, &entries) || !taken.has_none(&entries) {
+        return Ok(false);
+    }
+    let Some(keys) = keys_if_agrees(alloc, line, entries, bytes)? else {
+        return Ok(false);
+    };
+    taken.take(keys)?;
+    Ok(true)
 }

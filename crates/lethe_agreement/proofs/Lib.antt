@@ -1,0 +1,4 @@
+pub mod Filters
+pub mod Lines
+pub mod Tiles
+pub mod KeySets
