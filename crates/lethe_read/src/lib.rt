@@ -1,0 +1,8 @@
+//! The reads of a store: the pair of a key, and the pairs between two keys, over its two buffers and its files.
+#![tactic(auto)]
+
+mod found;
+mod scanning;
+
+pub use found::get;
+pub use scanning::scan;
