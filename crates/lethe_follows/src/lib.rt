@@ -3,5 +3,7 @@
 #![tactic(auto)]
 
 mod layouts;
+mod steps;
 
 pub use layouts::{erases_are_spelled, pending_is_spelled, stored_follows};
+pub use steps::{flush_follows, nothing_flushes, reopen_follows};
