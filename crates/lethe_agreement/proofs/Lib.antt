@@ -2,3 +2,4 @@ pub mod Filters
 pub mod Lines
 pub mod Tiles
 pub mod KeySets
+pub mod Parts
