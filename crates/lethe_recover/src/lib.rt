@@ -3,8 +3,12 @@
 
 mod beginning;
 mod cited;
+mod flushing;
+mod journal;
+mod leveled;
 mod opened;
 mod opening;
+mod reopening;
 mod tidying;
 
 pub use beginning::begin;
