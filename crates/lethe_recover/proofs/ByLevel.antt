@@ -57,6 +57,7 @@ module _ {F : Type 0} where
     where
       here : p file ≡ parts_of first
       here = cc
+
       by : (b : Bool) → map p (files_at level (map cited_of stored) files) ≡ map parts_of (filter (λ file. file.level == level) stored)
           → map p (map (λ (pair : Cited × F). pair.1) (cond b ((cited_of first, file) ∷ filter (is_at level) (zip (map cited_of stored) files)) (filter (is_at level) (zip (map cited_of stored) files))))
           ≡ map parts_of (cond b (first ∷ filter (λ file. file.level == level) stored) (filter (λ file. file.level == level) stored))

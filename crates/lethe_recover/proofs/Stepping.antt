@@ -68,7 +68,6 @@ module _ (s : Stored) (coherent : IsCoherent s) (m : Manifest) (same : s.manifes
     (journal : Journal) (is_journal : IsJournalOf s journal) (flushes : both.Flushes) (are : AreFlushesOf journal erases count m.next heads flushes)
     (writable_older : IsWritable m.next flushes.older) (writable_newer : IsWritable flushes.older.next flushes.newer)
     (made : Reopening) (is : IsStepOf m count erases flushes made) (spelled : HasSpelling made.step.manifest) where
-
   abbrev older : List StoredFile
   older = are.older.files
 
@@ -209,11 +208,13 @@ module _ (s : Stored) (coherent : IsCoherent s) (m : Manifest) (same : s.manifes
       let listed : Contains (map segment_name (segment_numbers s)) name = subst (λ l. Contains l name) gone_is there in
       let old : Contains (part_names s) name = Contains-append_left (map segment_name (segment_numbers s)) (map (λ (named : Name × List ℕ). named.0) (objects_of s.files)) name listed in
       let below = part_below s name coherent old in
-      let number = from_map segment_name (segment_numbers s) name listed in
-      (old, λ again. elim (Contains-append_cases (segment_name segment ∷ []) (map (λ (named : Name × List ℕ). named.0) objects_next) name again) [
-        | inl active ↦ let at : segment ≡ name.no = ap (λ (n : Name). n.no) (one (segment_name segment) name active) in omega (arith, below, next_is, low, high, at)
-        | inr object ↦ let named = from_map (λ (named : Name × List ℕ). named.0) objects_next name object in object_apart t number.0 named.0 named.1 (named.2 ∙ sym number.2)
-      ])
+      let number = from_map segment_name (segment_numbers s) name listed in (
+        old,
+        λ again. elim (Contains-append_cases (segment_name segment ∷ []) (map (λ (named : Name × List ℕ). named.0) objects_next) name again) [
+          | inl active ↦ let at : segment ≡ name.no = ap (λ (n : Name). n.no) (one (segment_name segment) name active) in omega (arith, below, next_is, low, high, at)
+          | inr object ↦ let named = from_map (λ (named : Name × List ℕ). named.0) objects_next name object in object_apart t number.0 named.0 named.1 (named.2 ∙ sym number.2)
+        ],
+      )
 
   stays : (name : Name) → Contains (part_names s) name → Contains (part_names t) name ⊎ Contains made.step.gone.items name
   stays name there = elim (Contains-append_cases (map segment_name (segment_numbers s)) (map (λ (named : Name × List ℕ). named.0) (objects_of s.files)) name there) [

@@ -3,12 +3,14 @@
 
 mod beginning;
 mod cited;
+mod failing;
 mod flushing;
 mod journal;
 mod leveled;
 mod opened;
 mod opening;
 mod reopening;
+mod resuming;
 mod tidying;
 
 pub use beginning::begin;
