@@ -1,12 +1,13 @@
-use Rattle.std.proofs.Common.{◌≡◌, ◌⊎◌, None, sym, subst, arith}
-use Rattle.lethe_stored.specs.Kept.{IsKept}
-use Rattle.lethe_stored.specs.Left.{IsKeptOr}
-use Rattle.lethe_recover.specs.Loaded.{HasReason}
+use Rattle.std.proofs.Common.{◌≡◌, ◌≤◌, ◌+◌, ◌⊎◌, ℕ, None, sym, subst, arith}
 use Rattle.std.specs.Prelude.{IfErr, MatchResult}
-use Rattle.lethe_recover.specs.Opening.{IsResumed, MayNotOpen, IsCut, since_start}
 use Rattle.lethe_disk.proofs.Going.{goes_quiet, goes_then, goes_weaker}
 use Rattle.lethe_disk.proofs.Quieting.{quiet_call, quiet_then}
-use Rattle.lethe_recover.proofs.Resumed.{ok_weaker, err_weaker, same_may, from_left}
+use Rattle.lethe_stored.specs.Kept.{IsKept}
+use Rattle.lethe_stored.specs.Left.{IsKeptOr}
+use Rattle.lethe_load.specs.Refused.{HasReason}
+use Rattle.lethe_recover.specs.Opening.{IsNextNumber, IsResumed, MayNotOpen, IsCut, since_start}
+use Rattle.lethe_recover.proofs.Results.{ok_weaker, err_weaker}
+use Rattle.lethe_recover.proofs.Resumed.{same_may, from_left}
 use Rattle.lethe_recover.proofs.opening.open.Goals as goal
 
 pub returns-in-Ok-clause-resumed : goal.returns-in-Ok-clause-resumed
@@ -16,7 +17,7 @@ returns-in-Ok-clause-resumed g c = λ told h change left.
     let config = c.args.config.now in
     let now = left.now in
     let kept : IsKept s1.directory now.0 = subst (λ x. IsKept x now.0) (sym (c.sync.ensures.directory told)) now.2 in
-    ok_weaker c.open_synced.result (IsResumed config now.0 None s2) (IsResumed config h change s2) (c.open_synced.ensures.resumed told now.0 kept) (from_left config h now.0 change now.1 s2)
+    ok_weaker c.open_synced.result (λ opened. IsResumed config now.0 None s2 opened) (λ opened. IsResumed config h change s2 opened) (c.open_synced.ensures.resumed told now.0 kept) (from_left config s2 h now.0 change now.1)
 
 pub returns-in-Ok-clause-any_moment : goal.returns-in-Ok-clause-any_moment
 returns-in-Ok-clause-any_moment g c = λ told h change left.
@@ -70,3 +71,12 @@ returns-in-Ok-clause-exhausted g c = λ told last is.
     let quiet = c.open_synced.ensures.exhausted told last is in
     let later = quiet.any_moment.later in
     (quiet_then s0 s1 s2 (quiet_call c.sync.result s0 s1 (c.sync.ensures.call told) (c.sync.ensures.directory told)) quiet, omega (arith, more, later))
+
+pub returns-in-Ok-clause-numbers : goal.returns-in-Ok-clause-numbers
+returns-in-Ok-clause-numbers g c = λ told.
+    let s0 = g.D.Disk.seen c.args.disk.now in
+    let s1 = g.D.Disk.seen c.sync.new.self in
+    let s2 = g.D.Disk.seen c.open_synced.new.disk in
+    let later = (c.sync.ensures.call told).later in
+    ok_weaker c.open_synced.result (λ opened. (next : ℕ) → IsNextNumber s1.directory next → opened.manifest.next + s1.moment ≤ next + s2.moment) (λ opened. (next : ℕ) → IsNextNumber s0.directory next → opened.manifest.next + s0.moment ≤ next + s2.moment)
+    (c.open_synced.ensures.numbers told) (λ opened bound next is. let here = bound next (subst (λ d. IsNextNumber d next) (sym (c.sync.ensures.directory told)) is) in omega (arith, here, later))
