@@ -1,2 +1,4 @@
 pub mod Newest
 pub mod Results
+pub mod Places
+pub mod Clearness

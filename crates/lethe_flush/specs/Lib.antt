@@ -1,2 +1,3 @@
 pub mod Clear
 pub mod Flushed
+pub mod ByPlace

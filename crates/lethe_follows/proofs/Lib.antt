@@ -1,3 +1,5 @@
 pub mod Tiled
 pub mod Following
 pub mod Erases
+pub mod Filing
+pub mod Stepping

@@ -18,7 +18,7 @@ use Rattle.lethe_stored.proofs.Numbered.{covers_numbered}
 use Rattle.lethe_stored.proofs.Changes.{counted}
 
 -- where the next number is greater
-file_later : (next later : ℕ) (file : StoredFile) → next ≤ later → IsFile next file → IsFile later file
+pub file_later : (next later : ℕ) (file : StoredFile) → next ≤ later → IsFile next file → IsFile later file
 file_later next later file le is = record {
   spelled = is.spelled;
   agrees = is.agrees;
