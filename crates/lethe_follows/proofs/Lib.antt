@@ -3,3 +3,4 @@ pub mod Following
 pub mod Erases
 pub mod Filing
 pub mod Stepping
+pub mod Answering

@@ -1,10 +1,10 @@
 -- What is stored after a flush, and after an opening.
-use Rattle.std.proofs.Common.{◌≡◌, ℕ, ◌+◌, ◌<◌, ◌≤◌, false, IsTrue, List, [], ◌∷◌, ◌++◌, map, length, All, AllPairs, Contains, Option, None, refl, sym, ap, ◌∙◌, subst, arith}
+use Rattle.std.proofs.Common.{◌≡◌, ℕ, ◌+◌, ◌<◌, ◌≤◌, false, List, [], ◌∷◌, ◌++◌, map, length, All, Contains, None, refl, sym, ap, ◌∙◌, subst, arith}
 use Rattle.std.specs.Prelude.{filter_map}
 use Rattle.std.proofs.lemmas.List.Elements.{All-nil}
 use Rattle.lethe_base.specs.Covers.{Covers}
 use Rattle.lethe_base.specs.History.{History}
-use Rattle.lethe_base.specs.Layout.{Layout, File, files_of}
+use Rattle.lethe_base.specs.Layout.{Layout, files_of}
 use Rattle.lethe_base.specs.Shapes.{IsValidShape, shape_of}
 use Rattle.lethe_base.proofs.LayoutLaws.{none_in}
 use Rattle.lethe_cover.specs.Flushes as layouts
@@ -21,7 +21,7 @@ use Rattle.lethe_moves.proofs.Flushing as moves
 use Rattle.lethe_moves.proofs.Orders.{IsOther}
 use Rattle.lethe_stored.specs.Files.{StoredFile, file_of}
 use Rattle.lethe_stored.specs.Kept.{IsFor}
-use Rattle.lethe_stored.specs.Stored.{Stored, IsCoherent, layout_of, count_of, erase_of}
+use Rattle.lethe_stored.specs.Stored.{Stored, IsCoherent, layout_of, count_of}
 use Rattle.lethe_stored.proofs.Lists.{no_pairs, pairs_of_one}
 use Rattle.lethe_stored.proofs.Numbered.{covers_numbered}
 use Rattle.lethe_follows.specs.Filed.{AreNewFiles, flushed, reopened}

@@ -1,5 +1,5 @@
 -- The tiles of a stored file bound its keys.
-use Rattle.std.proofs.Common.{◌≡◌, ◌≢◌, ℕ, ◌<◌, IsTrue, List, [], ◌∷◌, length, take, drop, map, All, AllPairs, Contains, refl, sym, ap, ◌∙◌, subst, arith}
+use Rattle.std.proofs.Common.{◌≡◌, ◌≢◌, ℕ, ◌<◌, IsTrue, List, [], ◌∷◌, length, take, drop, map, All, Contains, refl, ap, subst, arith}
 use Rattle.std.specs.Prelude.{flat_map}
 use Rattle.std.specs.List.{AllZip}
 use Rattle.std.specs.Ordering.{is_le}
@@ -13,7 +13,7 @@ use Rattle.lethe_base.specs.declared.entry.Entry.{Entry}
 use Rattle.lethe_base.proofs.LayoutLaws.{none_in}
 use Rattle.lethe_base.proofs.Newest.{first_is, first_or_rest}
 use Rattle.lethe_cover.proofs.Common.{⊎_elim}
-use Rattle.lethe_cover.proofs.Lists.{Pairs, in_rest, in_map, map_from, flat_from, all_from, pairs_from, pairs_to, pairs_append, pairs_map}
+use Rattle.lethe_cover.proofs.Lists.{Pairs, in_rest, flat_from, all_from, pairs_from, pairs_to, pairs_append}
 use Rattle.lethe_file.specs.Agreement.{Agrees, HaveNoCommonKey, TilesHold, entries_in}
 use Rattle.lethe_file.specs.Agreement as files
 use Rattle.lethe_file.proofs.Orders.{own_key, tiles_rise}

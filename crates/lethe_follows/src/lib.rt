@@ -3,5 +3,9 @@
 #![tactic(auto)]
 
 mod layouts;
+mod reads;
+mod steps;
 
 pub use layouts::{erases_are_spelled, pending_is_spelled, stored_follows};
+pub use reads::read_answers;
+pub use steps::{flush_follows, nothing_flushes, reopen_follows};

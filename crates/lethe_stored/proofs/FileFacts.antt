@@ -39,7 +39,7 @@ entries_are (tile ∷ tiles) pages same =
     (λ i. flat_map-map (λ (entries : List Entry). entries) entries_in (take count pages) i ++ entries_are tiles (drop count pages) left i)
     ∙ sym (flat_map-append entries_in (take count pages) (drop count pages)) ∙ ap (flat_map entries_in) (take-append-drop count pages)
 
-as_many : (lines : List PageLine) (pages : List (List ℕ)) → AllZip Agrees lines pages → length pages ≡ length lines
+pub as_many : (lines : List PageLine) (pages : List (List ℕ)) → AllZip Agrees lines pages → length pages ≡ length lines
 as_many [] [] agrees = refl
 as_many [] (page ∷ pages) agrees = absurd agrees
 as_many (line ∷ lines) [] agrees = absurd agrees

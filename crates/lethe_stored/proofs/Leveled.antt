@@ -1,21 +1,19 @@
 -- The files of each level, which ascend by key behind level 0.
-use Rattle.std.proofs.Common.{◌≡◌, inl, inr, ℕ, zero, suc, ◌+◌, ◌<◌, ◌≤◌, Bool, true, cond, eqb, List, [], ◌∷◌, length, get_or, map, filter, Option, Some, None, refl, sym, ap, ◌∙◌, subst, arith}
-use Rattle.std.specs.Prelude.{All, AllPairs, Contains}
+use Rattle.std.proofs.Common.{◌≡◌, inl, inr, ℕ, zero, suc, ◌+◌, ◌<◌, ◌≤◌, Bool, true, cond, eqb, List, [], ◌∷◌, get_or, map, filter, sym, ap, ◌∙◌, subst, arith}
+use Rattle.std.specs.Prelude.{AllPairs, Contains}
 use Rattle.std.specs.List.{range_with_len}
 use Rattle.std.specs.declared.cmp.Ordering.TheVariants.{Less}
 use Rattle.std.proofs.lemmas.Bool.{cond_both, cases_eq, cases_lt, eqb-true, eq-eqb}
 use Rattle.std.proofs.lemmas.List.Elements.{All-contains, Contains-get_or, All-filter, All-contains_itself, filter_passes}
 use Rattle.lethe_base.specs.History.{History}
 use Rattle.lethe_base.specs.Keys.{key_cmp}
-use Rattle.lethe_base.specs.Shapes.{IsBelow, facts_of, facts_from, upper_key, lower_key}
-use Rattle.lethe_base.specs.declared.shape.FileFacts.{FileFacts}
+use Rattle.lethe_base.specs.Shapes.{IsBelow, facts_of, facts_from, upper_key}
 use Rattle.lethe_base.proofs.LayoutLaws.{none_in}
 use Rattle.lethe_base.proofs.Newest.{first_or_rest, first_is}
 use Rattle.lethe_header.specs.Facts.{least_key, greatest_key}
-use Rattle.lethe_manifest.specs.declared.manifest.Cited.{Cited}
 use Rattle.lethe_manifest.specs.Manifests as manifests
 use Rattle.lethe_cover.proofs.Lists.{Pairs, pairs_from, pairs_to, pairs_unmap}
-use Rattle.lethe_stored.specs.Files.{StoredFile, cited_of, file_of, at_level, levels_of}
+use Rattle.lethe_stored.specs.Files.{StoredFile, cited_of, file_of, at_level}
 use Rattle.lethe_stored.specs.Stored.{Stored, IsCoherent}
 use Rattle.lethe_stored.specs.Kept.{IsFor}
 use Rattle.lethe_stored.specs.Levels.{AreRising}

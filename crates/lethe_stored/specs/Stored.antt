@@ -1,5 +1,5 @@
 -- What the greatest gate of a directory commits, as plain values, and the layout that this is.
-use Rattle.std.specs.Prelude.{◌≡◌, ◌⊎◌, ◌≢◌, ℕ, ◌+◌, ◌<◌, max, List, [], ◌∷◌, ◌++◌, length, map, filter_map, flat_map, option_to_list, All, AllPairs, Contains, Option, Some, None, option_map}
+use Rattle.std.specs.Prelude.{◌≡◌, ◌⊎◌, ◌≢◌, ℕ, ◌+◌, ◌<◌, max, List, [], ◌∷◌, ◌++◌, map, filter_map, flat_map, option_to_list, All, AllPairs, Contains, Option, Some, None, option_map}
 use Rattle.std.specs.Ordering.{nat_cmp}
 use Rattle.std.specs.FinMap as finmap
 use Rattle.lethe_base.specs.declared.name.Kind.TheVariants as kinds
