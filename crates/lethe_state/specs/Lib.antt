@@ -1,0 +1,5 @@
+pub mod Writable
+pub mod Remembered
+pub mod Records
+pub mod Room
+pub mod Made
