@@ -5,3 +5,4 @@ pub mod Replaying
 pub mod Sets
 pub mod PagesInOrder
 pub mod FilesInOrder
+pub mod Risen
