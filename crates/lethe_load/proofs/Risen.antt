@@ -31,7 +31,7 @@ module _ {X : Type 0} (R : X → X → Type 0) (p : X → Bool) where
       AllPairs-filter Passing p xs all i j d lt inside (passes i d (omega (arith, lt, inside))) (passes j d inside)
 
   back : (xs : List X) (P : X → Type 0) → All P (filter p xs) → All (λ x. p x ≡ true → P x) xs
-  back [] P all k d lt = absurd (omega (arith, lt))
+  back [] P all = λ k d lt. absurd (omega (arith, lt))
   back (x ∷ xs) P all = by (p x) refl (back xs P) all
     where
       by : (b : Bool) → p x ≡ b → (All P (filter p xs) → All (λ x. p x ≡ true → P x) xs) → All P (cond b (x ∷ filter p xs) (filter p xs)) → All (λ x. p x ≡ true → P x) (x ∷ xs)
@@ -77,7 +77,7 @@ module _ (files : List StoredFile) (spelled : All (λ file. HasSpelling file.hea
   hi k d = greatest_key (get_or files k d).header.tiles
 
   pub far_apart : ((k : ℕ) (d : StoredFile) → k + 1 < length files → Stand (get_or files k d) (get_or files (k + 1) d)) → AllPairs Stand files
-  far_apart next i zero d lt inside = absurd (omega arith)
+  far_apart next i zero d lt inside = absurd (omega (arith, lt))
   far_apart next i (suc k) d lt inside = λ above same.
       let one : k + 1 ≡ suc k = omega arith in
       let here : k < length files = omega (arith, inside) in
