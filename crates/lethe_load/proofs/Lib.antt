@@ -6,3 +6,4 @@ pub mod Sets
 pub mod PagesInOrder
 pub mod FilesInOrder
 pub mod Risen
+pub mod Agreeing
