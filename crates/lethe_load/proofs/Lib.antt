@@ -7,3 +7,4 @@ pub mod PagesInOrder
 pub mod FilesInOrder
 pub mod Risen
 pub mod Agreeing
+pub mod Assembled
