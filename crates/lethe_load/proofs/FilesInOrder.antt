@@ -1,9 +1,14 @@
 -- Files, looked at one after the other.
-use Rattle.std.proofs.Common.{◌≡◌, ◌≢◌, ◌⊎◌, ◌↔◌, inl, inr, ℕ, List, [], ◌∷◌, ◌++◌, map, All, Some, refl, sym, ap, subst, ◌∙◌, arith}
+use Rattle.std.proofs.Common.{◌≡◌, ◌≢◌, ◌⊎◌, ◌↔◌, inl, inr, ℕ, Bool, true, false, List, [], ◌∷◌, ◌++◌, length, map, All, Some, refl, sym, ap, subst, ◌∙◌, arith}
 use Rattle.std.specs.Prelude.{Any, Contains}
-use Rattle.std.specs.BTreeSet.{BTreeSet}
+use Rattle.std.specs.BTreeSet.{BTreeSet, contains}
+use Rattle.std.specs.Ordering.{nat_cmp}
 use Rattle.lethe_base.specs.declared.name.Name.{Name}
 use Rattle.lethe_disk.specs.Directory.{Directory, object}
+use Rattle.lethe_disk.specs.declared.disk.Disk.{Ghosts}
+use Rattle.lethe_file.specs.Agreement.{page_name}
+use Rattle.lethe_file.specs.declared.view.FileView.{FileView}
+use Rattle.lethe_version.specs.Versions.{bytes_of}
 use Rattle.lethe_disk.proofs.Objects.{one_object}
 use Rattle.lethe_header.specs.Facts.{lines_of}
 use Rattle.lethe_header.specs.Headers.{EachFollows, header_bytes}
@@ -18,6 +23,7 @@ use Rattle.lethe_load.specs.Damaged.{IsHeaderOf, IsSoundPage, IsTakenBy, IsSound
 use Rattle.lethe_load.specs.Progress.{ArePages, AreFiles, IsBadPage, IsBadHeader}
 use Rattle.lethe_load.specs.declared.numbers.PageNumbers.{PageNumbers}
 use Rattle.lethe_header.proofs.Follows.{follows_none}
+use Rattle.lethe_load.proofs.Sets.{has}
 use Rattle.lethe_load.proofs.PagesInOrder.{Item, any_of, any_is, any_left, any_last, any_push_cases}
 
 -- what is cited has one header
@@ -106,3 +112,31 @@ module _ (d : Directory) (before : List Cited) (numbers : PageNumbers) (known : 
 
   pub bad_page : (name : Name) (header : Header) → IsHeaderOf d cited header → (Contains known.keys cited.no → ⊥) → IsBadPage d numbers.next before (placed_lines header) name → HasBadPage d numbers.next before cited name
   bad_page name header is fresh bad = record { once = first_cited fresh; header = header; is = is; sound = bad.0; item = bad.1; first = bad.2; named = bad.3 }
+
+none_in : (keys : List ℕ) (number : ℕ) → keys ≡ [] → Contains keys number → ⊥
+none_in keys number none there = let lt = there.1 in absurd (omega (arith, lt, ap length none))
+
+pub files_start : (d : Directory) (numbers : PageNumbers) (known : BTreeSet ℕ) → numbers.taken.keys ≡ [] → known.keys ≡ [] → AreFiles d [] numbers known
+files_start d numbers known none fresh = record {
+  pages = λ number. (λ held. absurd (none_in numbers.taken.keys number none held), λ by. absurd (omega (arith, by.2)));
+  files = λ number. (λ held. absurd (none_in known.keys number fresh held), λ any. absurd (omega (arith, any.2)));
+}
+
+-- a number is known, or it isn't
+pub known_or_not : (known : BTreeSet ℕ) (number : ℕ) → Contains known.keys number ⊎ (Contains known.keys number → ⊥)
+known_or_not known number = by (contains nat_cmp known number) refl
+  where
+    by : (b : Bool) → contains nat_cmp known number ≡ b → Contains known.keys number ⊎ (Contains known.keys number → ⊥)
+    by true is = inl ((has known number).0 is)
+    by false is = inr (λ there. let yes = (has known number).1 there in cc)
+
+-- What is read of a file
+
+abbrev pub Own : {D Page Port : Type 0} {disk : Ghosts D Page Port} → Cited → FileView D Page Port disk → Type 0
+Own cited file = file.header.no ≡ cited.no
+
+abbrev pub Headed : {D Page Port : Type 0} {disk : Ghosts D Page Port} → Directory → Cited → FileView D Page Port disk → Type 0
+Headed d cited file = IsHeaderOf d cited file.header
+
+abbrev pub Paged : {D Page Port : Type 0} {disk : Ghosts D Page Port} → Directory → Cited → FileView D Page Port disk → Type 0
+Paged d cited file = map Some (bytes_of file) ≡ map (λ line. object d (page_name line.no)) (lines_of file.header.tiles)

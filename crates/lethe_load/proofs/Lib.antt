@@ -5,3 +5,6 @@ pub mod Replaying
 pub mod Sets
 pub mod PagesInOrder
 pub mod FilesInOrder
+pub mod Risen
+pub mod Agreeing
+pub mod Assembled

@@ -5,6 +5,7 @@ use Rattle.std.specs.declared.cmp.Ordering.TheVariants.{Less}
 use Rattle.lethe_base.specs.Keys.{Bytes, key_cmp}
 use Rattle.lethe_base.specs.declared.name.Name.{Name}
 use Rattle.lethe_disk.specs.Directory.{Directory, object}
+use Rattle.lethe_header.specs.Facts.{least_key, greatest_key}
 use Rattle.lethe_header.specs.Headers.{EachFollows}
 use Rattle.lethe_header.specs.declared.header.Header.{Header}
 use Rattle.lethe_header.specs.declared.header.PageLine.{PageLine}
@@ -61,3 +62,7 @@ IsBadHeader d known cited name = (name ≡ file_name cited.no) × ((header : Hea
 -- it is the first object of the file that isn't sound, whatever files were looked at before
 abbrev pub IsBadInFile : Directory → PageNumbers → BTreeSet ℕ → Cited → Name → Type 0
 IsBadInFile d numbers known cited name = (before : List Cited) → AreFiles d before numbers known → HasBadHeader d before cited name ⊎ HasBadPage d numbers.next before cited name
+
+-- a file may stand before the next one: behind level 0 it ends below it, where they are of one level
+abbrev pub MayStand : ℕ → ℕ → Header → Header → Type 0
+MayStand level next_level header next = 0 < next_level → level ≡ next_level → key_cmp (greatest_key header.tiles) (least_key next.tiles) ≡ Less

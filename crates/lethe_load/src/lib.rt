@@ -5,6 +5,7 @@ mod files;
 mod listing;
 mod loading;
 mod numbers;
+mod ordering;
 mod pages;
 mod reading;
 mod recovered;
