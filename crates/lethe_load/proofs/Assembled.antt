@@ -59,14 +59,14 @@ module _ (d : Directory) (next : ℕ) where
   abbrev Disjoint : Cited → Cited → Type 0
   Disjoint a b = (x y : Header) → IsHeaderOf d a x → IsHeaderOf d b y → (n : ℕ) → Contains (numbers x) n → Contains (numbers y) n → ⊥
 
-  disjoint : (cited : List Cited) → EachFollows (IsSoundFile d next) cited → AllPairs Disjoint cited
+  pub disjoint : (cited : List Cited) → EachFollows (IsSoundFile d next) cited → AllPairs Disjoint cited
   disjoint = pairs_of (IsSoundFile d next) Disjoint (λ before c sound. all_from (λ other. Disjoint other c) before (λ other here x y is_x is_y n in_x in_y.
       let one : y ≡ sound.header = one_header d c y sound.header is_y sound.is in
       let any = item_of sound.header n (subst (λ h. Contains (numbers h) n) one in_y) in
       let page = (follows_of (IsSoundPage d next (IsTakenBy d before)) (placed_lines sound.header) any.1 sound.pages (any.0, any.2, any.3)).1 in
       page.once (any_of (λ (o : Cited). (h : Header) × IsHeaderOf d o h × Contains (numbers h) any.1.1.no) before other here (x, is_x, subst (Contains (numbers x)) (sym any.4) in_x))))
 
-  once_cited : (cited : List Cited) → EachFollows (IsSoundFile d next) cited → AllPairs (λ a b. a.no ≢ b.no) cited
+  pub once_cited : (cited : List Cited) → EachFollows (IsSoundFile d next) cited → AllPairs (λ a b. a.no ≢ b.no) cited
   once_cited = pairs_of (IsSoundFile d next) (λ a b. a.no ≢ b.no) (λ before c sound. sound.once)
 
   -- the lines of a sound file

@@ -8,3 +8,5 @@ pub mod FilesInOrder
 pub mod Risen
 pub mod Agreeing
 pub mod Assembled
+pub mod Whole
+pub mod Gated
