@@ -10,3 +10,4 @@ pub mod Agreeing
 pub mod Assembled
 pub mod Whole
 pub mod Gated
+pub mod Firsts
