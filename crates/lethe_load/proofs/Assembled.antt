@@ -41,7 +41,7 @@ pairs_unmap R f xs all i j d lt inside =
 
 -- Lines
 
-lines_placed : (tiles : List TileLine) → map (λ item. item.1) (placed_in tiles) ≡ lines_of tiles
+pub lines_placed : (tiles : List TileLine) → map (λ item. item.1) (placed_in tiles) ≡ lines_of tiles
 lines_placed [] = refl
 lines_placed (tile ∷ tiles) =
     map-append (λ (item : Item). item.1) (map (λ l. (tile, l)) tile.pages) (placed_in tiles)
@@ -51,12 +51,12 @@ lines_placed (tile ∷ tiles) =
     same [] = refl
     same (l ∷ ls) = ap (λ x. l ∷ x) (same ls)
 
-abbrev numbers : Header → List ℕ
+abbrev pub numbers : Header → List ℕ
 numbers header = map (λ line. line.no) (lines_of header.tiles)
 
 module _ (d : Directory) (next : ℕ) where
   -- of two files that are cited one behind the other
-  abbrev Disjoint : Cited → Cited → Type 0
+  abbrev pub Disjoint : Cited → Cited → Type 0
   Disjoint a b = (x y : Header) → IsHeaderOf d a x → IsHeaderOf d b y → (n : ℕ) → Contains (numbers x) n → Contains (numbers y) n → ⊥
 
   pub disjoint : (cited : List Cited) → EachFollows (IsSoundFile d next) cited → AllPairs Disjoint cited

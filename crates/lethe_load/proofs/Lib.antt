@@ -11,3 +11,5 @@ pub mod Assembled
 pub mod Whole
 pub mod Gated
 pub mod Firsts
+pub mod Encoded
+pub mod Exact

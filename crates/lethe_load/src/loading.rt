@@ -51,7 +51,7 @@ pub fn load<D: Disk>(
     ensures quiet { D.tells → IsQuiet (D.seen disk.old) (D.seen disk.new) }
     ensures faults { D.faults disk.old ≤ D.faults disk.new }
 {
-    Err(RecoverRefused::NoMemory)
+    load_greatest(alloc, disk, config)
 }
 
 fn load_greatest<D: Disk>(

@@ -3,7 +3,6 @@ use Rattle.std.proofs.lemmas.Bool.{cases_lt}
 use Rattle.std.proofs.lemmas.List.{get_or_default}
 use Rattle.lethe_header.specs.declared.header.Header.{Header}
 use Rattle.lethe_manifest.specs.declared.manifest.Cited.{Cited}
-use Rattle.lethe_load.proofs.Firsts.{one_file}
 use Rattle.lethe_load.proofs.Risen.{moved, risen, standing}
 use Rattle.lethe_load.proofs.ordering.are_rising.Goals as goal
 
