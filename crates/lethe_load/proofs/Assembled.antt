@@ -1,13 +1,11 @@
 -- What was read, put together as what is stored.
-use Rattle.std.proofs.Common.{◌≡◌, ◌≢◌, ◌<◌, ◌⊎◌, inl, inr, ℕ, List, [], ◌∷◌, ◌++◌, length, map, get_or, All, AllPairs, Some, None, refl, sym, ap, subst, ◌∙◌, arith}
-use Rattle.std.specs.Prelude.{Contains, Any, zip, flat_map}
+use Rattle.std.proofs.Common.{◌≡◌, ◌≢◌, ◌<◌, inl, inr, ℕ, List, [], ◌∷◌, ◌++◌, map, get_or, All, AllPairs, Some, refl, sym, ap, subst, ◌∙◌, arith}
+use Rattle.std.specs.Prelude.{Contains, zip, flat_map}
 use Rattle.std.specs.List.{AllZip}
 use Rattle.std.proofs.lemmas.List.{map-append, get_or-map, length-map}
 use Rattle.std.proofs.lemmas.List.Elements.{All-nil, All-cons, All-head, All-tail, All-append, All-contains, All-map}
 use Rattle.std.proofs.lemmas.List.Kept.{AllPairs-cons}
 use Rattle.std.proofs.lemmas.Simd.{map-map}
-use Rattle.sha2.specs.Sha256.{sha256}
-use Rattle.lethe_base.specs.declared.name.Name.{Name}
 use Rattle.lethe_base.proofs.Newest.{first_or_rest}
 use Rattle.lethe_disk.specs.Directory.{Directory, object}
 use Rattle.lethe_header.specs.Facts.{lines_of}
@@ -15,14 +13,13 @@ use Rattle.lethe_header.specs.Headers.{EachFollows, header_bytes}
 use Rattle.lethe_header.specs.declared.header.Header.{Header}
 use Rattle.lethe_header.specs.declared.header.PageLine.{PageLine}
 use Rattle.lethe_header.specs.declared.header.TileLine.{TileLine}
-use Rattle.lethe_header.proofs.Follows.{follows_at}
 use Rattle.lethe_file.specs.Agreement.{page_name}
 use Rattle.lethe_file.proofs.Unique.{pairs_join}
 use Rattle.lethe_tile.proofs.Orders.{pairs_nil, pairs_head, pairs_tail}
 use Rattle.lethe_manifest.specs.declared.manifest.Cited.{Cited}
 use Rattle.lethe_stored.specs.Files.{StoredFile, Parts, IsFile, cited_of, parts_of, lines_in, file_name, objects_in, objects_of}
 use Rattle.lethe_stored.specs.Encodes.{HasObject}
-use Rattle.lethe_stored.proofs.Lists.{in_map, from_flat, in_flat, later_in, all_from}
+use Rattle.lethe_stored.proofs.Lists.{in_map, from_flat, later_in, all_from}
 use Rattle.lethe_load.specs.Damaged.{IsHeaderOf, IsSoundPage, IsSoundFile, IsTakenBy, placed_in, placed_lines}
 use Rattle.lethe_load.proofs.PagesInOrder.{Item, any_of, follows_of}
 use Rattle.lethe_load.proofs.FilesInOrder.{one_header, item_of}
@@ -170,9 +167,9 @@ module _ (d : Directory) (next : ℕ) where
         pairs_join (λ (a : PageLine) (b : PageLine). a.no ≢ b.no) (lines_of (header f).tiles) (flat_map lines_in (built cited files)) (once_lines (IsTakenBy d first.0) (header f).tiles each)
         (pages_once cited files heads.1 (All-tail Sound c cited sound) (pairs_tail Disjoint c cited apart))
         (all_from (λ (a : PageLine). All (λ (b : PageLine). a.no ≢ b.no) (flat_map lines_in (built cited files))) (lines_of (header f).tiles) (λ a in_a.
-            all_from (λ (b : PageLine). a.no ≢ b.no) (flat_map lines_in (built cited files)) (λ b in_b same.
-                let file = from_flat lines_in (built cited files) b in_b in
-                let found = built_of cited files file.0 heads.1 file.1 in
-                let clash = All-contains (Disjoint c) cited found.0 (pairs_head Disjoint c cited apart) found.1 in
-                clash (header f) file.0.header heads.0 found.2 a.no (in_map (λ (l : PageLine). l.no) (lines_of (header f).tiles) a in_a)
-                (subst (Contains (numbers file.0.header)) (sym same) (in_map (λ (l : PageLine). l.no) (lines_of file.0.header.tiles) b file.2)))))
+        all_from (λ (b : PageLine). a.no ≢ b.no) (flat_map lines_in (built cited files)) (λ b in_b same.
+        let file = from_flat lines_in (built cited files) b in_b in
+        let found = built_of cited files file.0 heads.1 file.1 in
+        let clash = All-contains (Disjoint c) cited found.0 (pairs_head Disjoint c cited apart) found.1 in
+        clash (header f) file.0.header heads.0 found.2 a.no (in_map (λ (l : PageLine). l.no) (lines_of (header f).tiles) a in_a)
+        (subst (Contains (numbers file.0.header)) (sym same) (in_map (λ (l : PageLine). l.no) (lines_of file.0.header.tiles) b file.2)))))

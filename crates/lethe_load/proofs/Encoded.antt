@@ -1,12 +1,11 @@
 -- Of what a directory encodes, each object is sound.
-use Rattle.std.proofs.Common.{◌≡◌, ◌≢◌, ◌<◌, ◌⊎◌, inl, inr, ℕ, suc, List, [], ◌∷◌, ◌++◌, length, map, get_or, take, drop, All, AllPairs, Option, Some, None, refl, sym, ap, subst, ◌∙◌, arith}
-use Rattle.std.specs.Prelude.{Any, Contains, IfSome, flat_map, option_to_list, zip}
+use Rattle.std.proofs.Common.{◌≡◌, ◌≢◌, ◌<◌, ℕ, List, [], ◌∷◌, ◌++◌, length, map, get_or, take, drop, All, AllPairs, Option, Some, None, refl, sym, subst, ◌∙◌, arith}
+use Rattle.std.specs.Prelude.{Contains, IfSome, flat_map, option_to_list, zip}
 use Rattle.std.specs.List.{AllZip}
-use Rattle.std.specs.declared.cmp.Ordering.TheVariants.{Less, Equal}
+use Rattle.std.specs.declared.cmp.Ordering.TheVariants.{Less}
 use Rattle.std.proofs.lemmas.List.{take-map, drop-map}
 use Rattle.std.proofs.lemmas.List.Elements.{All-nil, All-cons, All-head, All-tail, All-append, All-contains, Contains-get_or}
 use Rattle.std.proofs.lemmas.List.Kept.{AllPairs-cons}
-use Rattle.sha2.specs.Sha256.{sha256}
 use Rattle.lethe_base.specs.Keys.{Bytes, key_cmp}
 use Rattle.lethe_base.specs.declared.entry.Entry.{Entry}
 use Rattle.lethe_base.specs.declared.name.Name.{Name}
@@ -15,7 +14,7 @@ use Rattle.lethe_disk.proofs.Objects.{one_object}
 use Rattle.lethe_segment.specs.declared.record.Record.{Record}
 use Rattle.lethe_segment.specs.Segments.{Ascends}
 use Rattle.lethe_header.specs.Facts.{lines_of}
-use Rattle.lethe_header.specs.Headers.{EachFollows, TileFollows, header_bytes}
+use Rattle.lethe_header.specs.Headers.{EachFollows, header_bytes}
 use Rattle.lethe_header.specs.declared.header.Header.{Header}
 use Rattle.lethe_header.specs.declared.header.PageLine.{PageLine}
 use Rattle.lethe_header.specs.declared.header.TileLine.{TileLine}
@@ -25,12 +24,11 @@ use Rattle.lethe_file.proofs.Tiles.{zip_parts}
 use Rattle.lethe_file.proofs.Unique.{pairs_join}
 use Rattle.lethe_tile.proofs.Orders.{Across, all_left, all_right, pairs_nil, pairs_head, pairs_tail, pairs_append}
 use Rattle.lethe_manifest.specs.declared.manifest.Cited.{Cited}
-use Rattle.lethe_manifest.specs.declared.manifest.Manifest.{Manifest}
 use Rattle.lethe_stored.specs.Files.{StoredFile, IsFile, cited_of, lines_in, file_name, objects_in, objects_of}
 use Rattle.lethe_stored.specs.Stored.{Stored, Segment, IsCoherent, number_of, records_in}
 use Rattle.lethe_stored.specs.Encodes.{Encodes, HasObject, HasSegment}
 use Rattle.lethe_stored.proofs.Lists.{in_map, from_map, in_flat, from_flat, all_from}
-use Rattle.lethe_load.specs.Damaged.{IsReplayed, IsSoundSegment, IsHeaderOf, IsSoundPage, IsTakenBy, IsSoundFile, placed_in, placed_lines}
+use Rattle.lethe_load.specs.Damaged.{IsReplayed, IsSoundSegment, IsHeaderOf, IsSoundPage, IsTakenBy, IsSoundFile, placed_in}
 use Rattle.lethe_load.proofs.PagesInOrder.{Item, no_common}
 use Rattle.lethe_load.proofs.FilesInOrder.{one_header}
 use Rattle.lethe_load.proofs.Agreeing.{Fits, Apart}
@@ -72,9 +70,9 @@ module _ (d : Directory) where
   from_one tile first page here (line ∷ lines) (p ∷ pages) at apart =
       All-cons (Apart d (tile, first)) (tile, line) (map (λ l. (tile, l)) lines)
       (λ x y is_x is_y.
-          let one : page ≡ x = one_object (object d (page_name first.no)) page x here is_x in
-          let two : p ≡ y = one_object (object d (page_name line.no)) p y at.0 is_y in
-          subst (λ b. HaveNoCommonKey (entries_in x) (entries_in b)) two (subst (λ b. HaveNoCommonKey (entries_in b) (entries_in p)) one (All-head (HaveNoCommonKey (entries_in page)) (entries_in p) (map entries_in pages) apart)))
+      let one : page ≡ x = one_object (object d (page_name first.no)) page x here is_x in
+      let two : p ≡ y = one_object (object d (page_name line.no)) p y at.0 is_y in
+      subst (λ b. HaveNoCommonKey (entries_in x) (entries_in b)) two (subst (λ b. HaveNoCommonKey (entries_in b) (entries_in p)) one (All-head (HaveNoCommonKey (entries_in page)) (entries_in p) (map entries_in pages) apart)))
       (from_one tile first page here lines pages at.1 (All-tail (HaveNoCommonKey (entries_in page)) (entries_in p) (map entries_in pages) apart))
 
   own_apart : (tile : TileLine) (lines : List PageLine) (pages : List (List ℕ)) → AllZip At lines pages → AllPairs HaveNoCommonKey (map entries_in pages) → AllPairs (Apart d) (map (λ line. (tile, line)) lines)
@@ -117,12 +115,12 @@ module _ (d : Directory) where
       pairs_join (Apart d) own (placed_in tiles) (own_apart tile tile.pages (take n pages) ats.0 (subst (AllPairs HaveNoCommonKey) (take-map entries_in n pages) hold.0.once))
       (apart_each tiles (drop n pages) ats.1 (subst (TilesHold tiles) (drop-map entries_in n pages) hold.1) rest_fit (pairs_tail IsUnder tile tiles rise))
       (all_from (λ a. All (Apart d a) (placed_in tiles)) own (λ a in_a. all_from (Apart d a) (placed_in tiles) (λ b in_b.
-          let line = from_map (λ (l : PageLine). (tile, l)) tile.pages a in_a in
-          let found = from_flat (λ (t : TileLine). map (λ l. (t, l)) t.pages) tiles b in_b in
-          let other = from_map (λ (l : PageLine). (found.0, l)) found.0.pages b found.2 in
-          let one = All-contains (IsUnder tile) tiles found.0 under found.1 in
-          let two : IsUnder a.0 b.0 = subst (λ (x : Item). IsUnder a.0 x.0) other.2 (subst (λ (x : Item). IsUnder x.0 found.0) line.2 one) in
-          apart_tiles a b (All-contains (Fits d) own a own_fit in_a) (All-contains (Fits d) (placed_in tiles) b rest_fit in_b) two)))
+      let line = from_map (λ (l : PageLine). (tile, l)) tile.pages a in_a in
+      let found = from_flat (λ (t : TileLine). map (λ l. (t, l)) t.pages) tiles b in_b in
+      let other = from_map (λ (l : PageLine). (found.0, l)) found.0.pages b found.2 in
+      let one = All-contains (IsUnder tile) tiles found.0 under found.1 in
+      let two : IsUnder a.0 b.0 = subst (λ (x : Item). IsUnder a.0 x.0) other.2 (subst (λ (x : Item). IsUnder x.0 found.0) line.2 one) in
+      apart_tiles a b (All-contains (Fits d) own a own_fit in_a) (All-contains (Fits d) (placed_in tiles) b rest_fit in_b) two)))
 
   sound_pages : (next : ℕ) (taken : ℕ → Type 0) (tiles : List TileLine) → All (Fits d) (placed_in tiles) → AllPairs (Apart d) (placed_in tiles) → AllPairs (λ a b. a.no ≢ b.no) (lines_of tiles) → All (λ line. line.no < next) (lines_of tiles)
       → ((line : PageLine) → Contains (lines_of tiles) line → taken line.no → ⊥) → EachFollows (IsSoundPage d next taken) (placed_in tiles)
@@ -178,10 +176,10 @@ module _ (d : Directory) where
         let parts = pairs_append (λ (a : PageLine) (b : PageLine). a.no ≢ b.no) (lines_in file) (flat_map lines_in files) pairs in
         let rest = lines_pairs files parts.1 in (
           AllPairs-cons (λ f g. Across (λ (a : PageLine) (b : PageLine). a.no ≢ b.no) (lines_in f) (lines_in g)) file files
-          (all_from (λ g. Across (λ (a : PageLine) (b : PageLine). a.no ≢ b.no) (lines_in file) (lines_in g)) files (λ g in_g.
+              (all_from (λ g. Across (λ (a : PageLine) (b : PageLine). a.no ≢ b.no) (lines_in file) (lines_in g)) files (λ g in_g.
               all_from (λ (a : PageLine). All (λ (b : PageLine). a.no ≢ b.no) (lines_in g)) (lines_in file) (λ a in_a. all_from (λ (b : PageLine). a.no ≢ b.no) (lines_in g) (λ b in_b.
-                  All-contains (λ (b : PageLine). a.no ≢ b.no) (flat_map lines_in files) b (All-contains (λ (a : PageLine). All (λ (b : PageLine). a.no ≢ b.no) (flat_map lines_in files)) (lines_in file) a parts.2 in_a) (in_flat lines_in files g b in_g in_b)))))
-          rest.0,
+              All-contains (λ (b : PageLine). a.no ≢ b.no) (flat_map lines_in files) b (All-contains (λ (a : PageLine). All (λ (b : PageLine). a.no ≢ b.no) (flat_map lines_in files)) (lines_in file) a parts.2 in_a) (in_flat lines_in files g b in_g in_b)))))
+              rest.0,
           All-cons (λ f. AllPairs (λ (a : PageLine) (b : PageLine). a.no ≢ b.no) (lines_in f)) file files parts.0 rest.1,
         )
 
@@ -217,6 +215,6 @@ module _ (d : Directory) where
           pages = sound_pages s.manifest.next (IsTakenBy d before) file.header.tiles fits (apart_each file.header.tiles file.pages at is_file.agrees.tiles fits rise)
               (All-contains (λ f. AllPairs (λ (a : PageLine) (b : PageLine). a.no ≢ b.no) (lines_in f)) s.files file (lines_pairs s.files coherent.pages_once).1 found.1) is_file.below
               (λ line in_line by.
-                  let clash = All-contains (λ (other : Cited). Disjoint d s.manifest.next other cited) before by.1 apart (by.0, by.2, by.3) in
-                  clash by.4.0 file.header by.4.1 own line.no by.4.2 (in_map (λ (l : PageLine). l.no) (lines_in file) line in_line));
+              let clash = All-contains (λ (other : Cited). Disjoint d s.manifest.next other cited) before by.1 apart (by.0, by.2, by.3) in
+              clash by.4.0 file.header by.4.1 own line.no by.4.2 (in_map (λ (l : PageLine). l.no) (lines_in file) line in_line));
         }

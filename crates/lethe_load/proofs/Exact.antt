@@ -6,7 +6,6 @@ use Rattle.lethe_base.specs.declared.config.Fields.{Fields}
 use Rattle.lethe_base.specs.declared.name.Name.{Name}
 use Rattle.lethe_disk.specs.Directory.{Directory}
 use Rattle.lethe_header.specs.Headers.{EachFollows}
-use Rattle.lethe_manifest.specs.declared.manifest.Cited.{Cited}
 use Rattle.lethe_manifest.specs.declared.manifest.Manifest.{Manifest}
 use Rattle.lethe_commit.specs.Switch.{HasGreatest, manifest_name}
 use Rattle.lethe_stored.specs.Levels.{AreRising}

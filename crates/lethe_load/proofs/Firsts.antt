@@ -1,6 +1,6 @@
 -- The first item that is bad is one.
-use Rattle.std.proofs.Common.{◌≡◌, ◌≢◌, ◌<◌, ◌⊎◌, inl, inr, ℕ, List, [], ◌∷◌, ◌++◌, length, map, All, AllPairs, refl, sym, ap, subst, ◌∙◌, arith, length-append}
-use Rattle.std.specs.Prelude.{Any, Contains}
+use Rattle.std.proofs.Common.{◌≡◌, ◌≢◌, ◌⊎◌, inl, inr, ℕ, List, [], ◌∷◌, ◌++◌, All, AllPairs, refl, sym, ap, subst, ◌∙◌, arith}
+use Rattle.std.specs.Prelude.{Contains}
 use Rattle.std.proofs.lemmas.List.Elements.{All-head, All-contains, Contains-append_right}
 use Rattle.lethe_base.specs.declared.name.Name.{Name}
 use Rattle.lethe_disk.specs.Directory.{Directory}
@@ -8,10 +8,9 @@ use Rattle.lethe_file.specs.Agreement.{page_name}
 use Rattle.lethe_header.specs.Headers.{EachFollows}
 use Rattle.lethe_header.specs.declared.header.Header.{Header}
 use Rattle.lethe_manifest.specs.declared.manifest.Cited.{Cited}
-use Rattle.lethe_stored.specs.Files.{file_name}
 use Rattle.lethe_stored.specs.Stored.{segment_name}
 use Rattle.lethe_tile.proofs.Orders.{pairs_append}
-use Rattle.lethe_load.specs.Damaged.{IsFirstBad, IsSoundSegment, IsDamagedSegment, IsHeaderOf, IsSoundPage, IsTakenBy, IsSoundFile, HasBadHeader, HasBadPage, IsDamagedFile, placed_lines}
+use Rattle.lethe_load.specs.Damaged.{IsFirstBad, IsSoundSegment, IsDamagedSegment, IsSoundPage, IsTakenBy, IsSoundFile, HasBadHeader, HasBadPage, IsDamagedFile, placed_lines}
 use Rattle.lethe_load.proofs.FilesInOrder.{one_header}
 
 -- Splits

@@ -1,5 +1,5 @@
 -- What was read is all that a directory encodes.
-use Rattle.std.proofs.Common.{◌≡◌, ◌≢◌, ◌<◌, ◌≤◌, ℕ, suc, List, [], ◌∷◌, ◌++◌, length, map, All, AllPairs, Option, Some, None, refl, sym, ap, subst, ◌∙◌, arith}
+use Rattle.std.proofs.Common.{◌≡◌, ◌≢◌, ℕ, suc, List, [], ◌∷◌, ◌++◌, length, map, AllPairs, Option, Some, None, refl, sym, ap, subst, ◌∙◌, arith}
 use Rattle.std.specs.Prelude.{Contains, IfSome, option_to_list}
 use Rattle.std.specs.List.{AllZip}
 use Rattle.lethe_disk.specs.Directory.{Directory, object}
@@ -18,7 +18,7 @@ use Rattle.lethe_stored.proofs.Lists.{all_from}
 use Rattle.lethe_header.specs.Facts.{lines_of}
 use Rattle.lethe_file.specs.Agreement.{page_name}
 use Rattle.lethe_load.specs.Damaged.{IsHeaderOf, IsGated, IsSpelled, IsReplayed, IsSoundSegment, IsSoundFile}
-use Rattle.lethe_load.specs.Loaded.{Read, read_of}
+use Rattle.lethe_load.specs.Loaded.{read_of}
 use Rattle.lethe_load.proofs.PagesInOrder.{follows_of}
 use Rattle.lethe_load.proofs.Agreeing.{pairs_of}
 use Rattle.lethe_load.proofs.Assembled.{pairs_unmap, disjoint, once_cited, built, cited_again, parts_again, headers_again, objects_there, each_file, pages_once}

@@ -111,13 +111,7 @@ fn load_gated<D: Disk>(
         });
     }
     let segments = load_segments(alloc, disk, listing, manifest.segments.items())?;
-    let files = load_files(
-        alloc,
-        disk,
-        listing,
-        manifest.next,
-        manifest.files.items(),
-    )?;
+    let files = load_files(alloc, disk, listing, manifest.next, manifest.files.items())?;
     if !are_rising(manifest.files.items(), &files) {
         let name = Name {
             kind: Kind::Manifest,

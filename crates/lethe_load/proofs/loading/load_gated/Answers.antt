@@ -1,11 +1,9 @@
-use Rattle.std.proofs.Common.{◌≡◌, inl, inr, List, length, map, refl, sym, ap, subst, ◌∙◌}
+use Rattle.std.proofs.Common.{inl, inr, length, map, refl, sym, ap, subst, ◌∙◌}
 use Rattle.std.specs.List.{AllZip}
-use Rattle.lethe_disk.specs.Directory.{Directory}
 use Rattle.lethe_disk.proofs.Quieting.{quiet_then}
 use Rattle.lethe_header.specs.Headers.{EachFollows}
 use Rattle.lethe_manifest.specs.declared.manifest.Manifest.{Manifest}
 use Rattle.lethe_commit.specs.Switch.{manifest_name}
-use Rattle.lethe_stored.specs.Files.{cited_of}
 use Rattle.lethe_version.specs.Versions.{bytes_of}
 use Rattle.lethe_load.specs.Damaged.{IsSoundSegment, IsDamagedSegment, IsDamagedFile}
 use Rattle.lethe_load.specs.Refused.{MayRefuse}
@@ -24,10 +22,10 @@ returns-in_err-segments-clause-refused g c =
     err_moved c.from_residual-in_err-segments.result c.in_err-segments.field-0.0 (MayRefuse g.D.Disk.tells c.args.config.now d c.args.listing.now.faults now) c.from_residual-in_err-segments.ensures.1
     (refuses_so g.D.Disk.tells (IsDamagedSegment first c.items.result.now) c.args.config.now d c.args.listing.now.faults now c.in_err-segments.field-0.0
     (λ told name bad. inr (
-        m,
-        gated_of d c.args.number m (c.requires.greatest told) (c.in_ok-manifest.ensures.found told),
-        c.is_same.ensures.0 c.if-not-is_same.false,
-        inl (subst (λ l. IsDamagedSegment d l name) c.items.ensures (subst (λ e. IsDamagedSegment e c.items.result.now name) (c.load_manifest.ensures.quiet told).directory bad)),
+      m,
+      gated_of d c.args.number m (c.requires.greatest told) (c.in_ok-manifest.ensures.found told),
+      c.is_same.ensures.0 c.if-not-is_same.false,
+      inl (subst (λ l. IsDamagedSegment d l name) c.items.ensures (subst (λ e. IsDamagedSegment e c.items.result.now name) (c.load_manifest.ensures.quiet told).directory bad)),
     )) c.in_err-segments.ensures.refused)
 
 pub returns-in_err-segments-clause-quiet : goal.returns-in_err-segments-clause-quiet
@@ -43,17 +41,17 @@ returns-in_err-files-clause-refused g c =
     err_moved c.from_residual-in_err-files.result c.in_err-files.field-0.0 (MayRefuse g.D.Disk.tells c.args.config.now d c.args.listing.now.faults now) c.from_residual-in_err-files.ensures.1
     (refuses_so g.D.Disk.tells (IsDamagedFile second m.next c.items-2.result.now) c.args.config.now d c.args.listing.now.faults now c.in_err-files.field-0.0
     (λ told name bad.
-        let one = (c.load_manifest.ensures.quiet told).directory in
-        let two = (c.load_segments.ensures.quiet told).directory in
-        inr (
-          m,
-          gated_of d c.args.number m (c.requires.greatest told) (c.in_ok-manifest.ensures.found told),
-          c.is_same.ensures.0 c.if-not-is_same.false,
-          inr (inl (
-            subst (EachFollows (IsSoundSegment d)) c.items.ensures (subst (λ e. EachFollows (IsSoundSegment e) c.items.result.now) one (c.in_ok-segments.ensures.sound told)),
-            subst (λ l. IsDamagedFile d m.next l name) c.items-2.ensures (subst (λ e. IsDamagedFile e m.next c.items-2.result.now name) (two ∙ one) bad),
-          )),
-        )) c.in_err-files.ensures.refused)
+    let one = (c.load_manifest.ensures.quiet told).directory in
+    let two = (c.load_segments.ensures.quiet told).directory in
+    inr (
+      m,
+      gated_of d c.args.number m (c.requires.greatest told) (c.in_ok-manifest.ensures.found told),
+      c.is_same.ensures.0 c.if-not-is_same.false,
+      inr (inl (
+        subst (EachFollows (IsSoundSegment d)) c.items.ensures (subst (λ e. EachFollows (IsSoundSegment e) c.items.result.now) one (c.in_ok-segments.ensures.sound told)),
+        subst (λ l. IsDamagedFile d m.next l name) c.items-2.ensures (subst (λ e. IsDamagedFile e m.next c.items-2.result.now name) (two ∙ one) bad),
+      )),
+    )) c.in_err-files.ensures.refused)
 
 pub returns-in_err-files-clause-quiet : goal.returns-in_err-files-clause-quiet
 returns-in_err-files-clause-quiet g c = λ told.
@@ -72,8 +70,8 @@ returns-then-not-are_rising-clause-refused g c = λ told.
     let m = c.in_ok-manifest.manifest in
     let spelled = c.in_ok-manifest.ensures.found told in
     let w = whole_read d first second c.args.number m (c.load_manifest.ensures.quiet told).directory (c.load_segments.ensures.quiet told).directory (c.requires.greatest told) spelled
-        c.items.result.now c.in_ok-segments.segments c.items.ensures (c.in_ok-segments.ensures.found told) (c.in_ok-segments.ensures.sound told)
-        (λ file. file.header) bytes_of c.items-2.result.now c.in_ok-files.files.items c.items-2.ensures (c.in_ok-files.ensures.headers told) (c.in_ok-files.ensures.pages told) (c.in_ok-files.ensures.sound told) in
+    c.items.result.now c.in_ok-segments.segments c.items.ensures (c.in_ok-segments.ensures.found told) (c.in_ok-segments.ensures.sound told)
+    (λ file. file.header) bytes_of c.items-2.result.now c.in_ok-files.files.items c.items-2.ensures (c.in_ok-files.ensures.headers told) (c.in_ok-files.ensures.pages told) (c.in_ok-files.ensures.sound told) in
     let cites = sym w.coherent.files ∙ ap (λ (x : Manifest). x.files) w.manifest ∙ sym c.items-3.ensures in
     let heads = w.headers ∙ ap (map (λ file. file.header)) (sym c.deref.ensures.value) in
     inr (
@@ -103,14 +101,17 @@ returns-clause-quiet g c = λ told.
 pub returns-clause-spelled : goal.returns-clause-spelled
 returns-clause-spelled g c =
     let m = c.in_ok-manifest.manifest in
-    inr (m, record {
-      manifest = refl;
-      spelled = c.in_ok-manifest.ensures.spelled;
-      config_is = c.is_same.ensures.0 c.if-not-is_same.false;
-      segments = c.in_ok-segments.ensures.count ∙ ap length c.items.ensures;
-      ascends = c.in_ok-segments.ensures.ascends;
-      files = parts_spelled (λ file. file.header) bytes_of (λ file. file.spelled) m.files c.in_ok-files.files.items (subst (λ l. AllZip Own l c.in_ok-files.files.items) c.items-2.ensures c.in_ok-files.ensures.own);
-    })
+    inr (
+      m,
+      record {
+        manifest = refl;
+        spelled = c.in_ok-manifest.ensures.spelled;
+        config_is = c.is_same.ensures.0 c.if-not-is_same.false;
+        segments = c.in_ok-segments.ensures.count ∙ ap length c.items.ensures;
+        ascends = c.in_ok-segments.ensures.ascends;
+        files = parts_spelled (λ file. file.header) bytes_of (λ file. file.spelled) m.files c.in_ok-files.files.items (subst (λ l. AllZip Own l c.in_ok-files.files.items) c.items-2.ensures c.in_ok-files.ensures.own);
+      },
+    )
 
 pub returns-clause-found : goal.returns-clause-found
 returns-clause-found g c = λ told.
@@ -119,8 +120,8 @@ returns-clause-found g c = λ told.
     let second = (g.D.Disk.seen c.load_segments.new.disk).directory in
     let m = c.in_ok-manifest.manifest in
     let w = whole_read d first second c.args.number m (c.load_manifest.ensures.quiet told).directory (c.load_segments.ensures.quiet told).directory (c.requires.greatest told) (c.in_ok-manifest.ensures.found told)
-        c.items.result.now c.in_ok-segments.segments c.items.ensures (c.in_ok-segments.ensures.found told) (c.in_ok-segments.ensures.sound told)
-        (λ file. file.header) bytes_of c.items-2.result.now c.in_ok-files.files.items c.items-2.ensures (c.in_ok-files.ensures.headers told) (c.in_ok-files.ensures.pages told) (c.in_ok-files.ensures.sound told) in
+    c.items.result.now c.in_ok-segments.segments c.items.ensures (c.in_ok-segments.ensures.found told) (c.in_ok-segments.ensures.sound told)
+    (λ file. file.header) bytes_of c.items-2.result.now c.in_ok-files.files.items c.items-2.ensures (c.in_ok-files.ensures.headers told) (c.in_ok-files.ensures.pages told) (c.in_ok-files.ensures.sound told) in
     let cites = sym w.coherent.files ∙ ap (λ (x : Manifest). x.files) w.manifest ∙ sym c.items-3.ensures in
     let heads = w.headers ∙ ap (map (λ file. file.header)) (sym c.deref.ensures.value) in
     record {
