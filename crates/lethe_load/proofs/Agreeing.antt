@@ -1,5 +1,5 @@
 -- Files whose pages are sound agree with their headers.
-use Rattle.std.proofs.Common.{◌≡◌, ◌≢◌, ◌<◌, ℕ, suc, List, [], ◌∷◌, ◌++◌, length, map, get_or, take, drop, All, AllPairs, Some, refl, sym, ap, subst, ◌∙◌, arith}
+use Rattle.std.proofs.Common.{◌≡◌, ℕ, List, [], ◌∷◌, length, map, get_or, take, drop, All, AllPairs, Some, refl, sym, ap, subst, arith}
 use Rattle.std.specs.Prelude.{Contains, Option}
 use Rattle.std.specs.List.{AllZip}
 use Rattle.std.proofs.lemmas.List.{get_or-take, length-take, take-map, drop-map}
@@ -13,7 +13,7 @@ use Rattle.lethe_header.specs.Headers.{EachFollows}
 use Rattle.lethe_header.specs.declared.header.PageLine.{PageLine}
 use Rattle.lethe_header.specs.declared.header.TileLine.{TileLine}
 use Rattle.lethe_header.proofs.Follows.{follows_at}
-use Rattle.lethe_file.specs.Agreement.{Agrees, FileAgrees, HaveNoCommonKey, IsWithin, TileHolds, TilesHold, entries_in, page_name}
+use Rattle.lethe_file.specs.Agreement.{Agrees, FileAgrees, HaveNoCommonKey, IsWithin, TilesHold, entries_in, page_name}
 use Rattle.lethe_file.proofs.Tiles.{zip_parts}
 use Rattle.lethe_tile.proofs.Orders.{all_left, all_right, pairs_nil, pairs_head, pairs_tail, pairs_append}
 use Rattle.lethe_stored.proofs.Lists.{later_in, in_map, from_flat, in_flat, all_from}

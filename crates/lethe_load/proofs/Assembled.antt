@@ -1,13 +1,11 @@
 -- What was read, put together as what is stored.
-use Rattle.std.proofs.Common.{◌≡◌, ◌≢◌, ◌<◌, ◌⊎◌, inl, inr, ℕ, List, [], ◌∷◌, ◌++◌, length, map, get_or, All, AllPairs, Some, None, refl, sym, ap, subst, ◌∙◌, arith}
-use Rattle.std.specs.Prelude.{Contains, Any, zip, flat_map}
+use Rattle.std.proofs.Common.{◌≡◌, ◌≢◌, ◌<◌, inl, inr, ℕ, List, [], ◌∷◌, ◌++◌, map, get_or, All, AllPairs, Some, refl, sym, ap, subst, ◌∙◌, arith}
+use Rattle.std.specs.Prelude.{Contains, zip, flat_map}
 use Rattle.std.specs.List.{AllZip}
 use Rattle.std.proofs.lemmas.List.{map-append, get_or-map, length-map}
 use Rattle.std.proofs.lemmas.List.Elements.{All-nil, All-cons, All-head, All-tail, All-append, All-contains, All-map}
 use Rattle.std.proofs.lemmas.List.Kept.{AllPairs-cons}
 use Rattle.std.proofs.lemmas.Simd.{map-map}
-use Rattle.sha2.specs.Sha256.{sha256}
-use Rattle.lethe_base.specs.declared.name.Name.{Name}
 use Rattle.lethe_base.proofs.Newest.{first_or_rest}
 use Rattle.lethe_disk.specs.Directory.{Directory, object}
 use Rattle.lethe_header.specs.Facts.{lines_of}
@@ -15,14 +13,13 @@ use Rattle.lethe_header.specs.Headers.{EachFollows, header_bytes}
 use Rattle.lethe_header.specs.declared.header.Header.{Header}
 use Rattle.lethe_header.specs.declared.header.PageLine.{PageLine}
 use Rattle.lethe_header.specs.declared.header.TileLine.{TileLine}
-use Rattle.lethe_header.proofs.Follows.{follows_at}
 use Rattle.lethe_file.specs.Agreement.{page_name}
 use Rattle.lethe_file.proofs.Unique.{pairs_join}
 use Rattle.lethe_tile.proofs.Orders.{pairs_nil, pairs_head, pairs_tail}
 use Rattle.lethe_manifest.specs.declared.manifest.Cited.{Cited}
 use Rattle.lethe_stored.specs.Files.{StoredFile, Parts, IsFile, cited_of, parts_of, lines_in, file_name, objects_in, objects_of}
 use Rattle.lethe_stored.specs.Encodes.{HasObject}
-use Rattle.lethe_stored.proofs.Lists.{in_map, from_flat, in_flat, later_in, all_from}
+use Rattle.lethe_stored.proofs.Lists.{in_map, from_flat, later_in, all_from}
 use Rattle.lethe_load.specs.Damaged.{IsHeaderOf, IsSoundPage, IsSoundFile, IsTakenBy, placed_in, placed_lines}
 use Rattle.lethe_load.proofs.PagesInOrder.{Item, any_of, follows_of}
 use Rattle.lethe_load.proofs.FilesInOrder.{one_header, item_of}
@@ -41,7 +38,7 @@ pairs_unmap R f xs all i j d lt inside =
 
 -- Lines
 
-lines_placed : (tiles : List TileLine) → map (λ item. item.1) (placed_in tiles) ≡ lines_of tiles
+pub lines_placed : (tiles : List TileLine) → map (λ item. item.1) (placed_in tiles) ≡ lines_of tiles
 lines_placed [] = refl
 lines_placed (tile ∷ tiles) =
     map-append (λ (item : Item). item.1) (map (λ l. (tile, l)) tile.pages) (placed_in tiles)
@@ -51,22 +48,22 @@ lines_placed (tile ∷ tiles) =
     same [] = refl
     same (l ∷ ls) = ap (λ x. l ∷ x) (same ls)
 
-abbrev numbers : Header → List ℕ
+abbrev pub numbers : Header → List ℕ
 numbers header = map (λ line. line.no) (lines_of header.tiles)
 
 module _ (d : Directory) (next : ℕ) where
   -- of two files that are cited one behind the other
-  abbrev Disjoint : Cited → Cited → Type 0
+  abbrev pub Disjoint : Cited → Cited → Type 0
   Disjoint a b = (x y : Header) → IsHeaderOf d a x → IsHeaderOf d b y → (n : ℕ) → Contains (numbers x) n → Contains (numbers y) n → ⊥
 
-  disjoint : (cited : List Cited) → EachFollows (IsSoundFile d next) cited → AllPairs Disjoint cited
+  pub disjoint : (cited : List Cited) → EachFollows (IsSoundFile d next) cited → AllPairs Disjoint cited
   disjoint = pairs_of (IsSoundFile d next) Disjoint (λ before c sound. all_from (λ other. Disjoint other c) before (λ other here x y is_x is_y n in_x in_y.
       let one : y ≡ sound.header = one_header d c y sound.header is_y sound.is in
       let any = item_of sound.header n (subst (λ h. Contains (numbers h) n) one in_y) in
       let page = (follows_of (IsSoundPage d next (IsTakenBy d before)) (placed_lines sound.header) any.1 sound.pages (any.0, any.2, any.3)).1 in
       page.once (any_of (λ (o : Cited). (h : Header) × IsHeaderOf d o h × Contains (numbers h) any.1.1.no) before other here (x, is_x, subst (Contains (numbers x)) (sym any.4) in_x))))
 
-  once_cited : (cited : List Cited) → EachFollows (IsSoundFile d next) cited → AllPairs (λ a b. a.no ≢ b.no) cited
+  pub once_cited : (cited : List Cited) → EachFollows (IsSoundFile d next) cited → AllPairs (λ a b. a.no ≢ b.no) cited
   once_cited = pairs_of (IsSoundFile d next) (λ a b. a.no ≢ b.no) (λ before c sound. sound.once)
 
   -- the lines of a sound file
@@ -170,9 +167,9 @@ module _ (d : Directory) (next : ℕ) where
         pairs_join (λ (a : PageLine) (b : PageLine). a.no ≢ b.no) (lines_of (header f).tiles) (flat_map lines_in (built cited files)) (once_lines (IsTakenBy d first.0) (header f).tiles each)
         (pages_once cited files heads.1 (All-tail Sound c cited sound) (pairs_tail Disjoint c cited apart))
         (all_from (λ (a : PageLine). All (λ (b : PageLine). a.no ≢ b.no) (flat_map lines_in (built cited files))) (lines_of (header f).tiles) (λ a in_a.
-            all_from (λ (b : PageLine). a.no ≢ b.no) (flat_map lines_in (built cited files)) (λ b in_b same.
-                let file = from_flat lines_in (built cited files) b in_b in
-                let found = built_of cited files file.0 heads.1 file.1 in
-                let clash = All-contains (Disjoint c) cited found.0 (pairs_head Disjoint c cited apart) found.1 in
-                clash (header f) file.0.header heads.0 found.2 a.no (in_map (λ (l : PageLine). l.no) (lines_of (header f).tiles) a in_a)
-                (subst (Contains (numbers file.0.header)) (sym same) (in_map (λ (l : PageLine). l.no) (lines_of file.0.header.tiles) b file.2)))))
+        all_from (λ (b : PageLine). a.no ≢ b.no) (flat_map lines_in (built cited files)) (λ b in_b same.
+        let file = from_flat lines_in (built cited files) b in_b in
+        let found = built_of cited files file.0 heads.1 file.1 in
+        let clash = All-contains (Disjoint c) cited found.0 (pairs_head Disjoint c cited apart) found.1 in
+        clash (header f) file.0.header heads.0 found.2 a.no (in_map (λ (l : PageLine). l.no) (lines_of (header f).tiles) a in_a)
+        (subst (Contains (numbers file.0.header)) (sym same) (in_map (λ (l : PageLine). l.no) (lines_of file.0.header.tiles) b file.2)))))

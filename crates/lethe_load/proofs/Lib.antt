@@ -8,3 +8,8 @@ pub mod FilesInOrder
 pub mod Risen
 pub mod Agreeing
 pub mod Assembled
+pub mod Whole
+pub mod Gated
+pub mod Firsts
+pub mod Encoded
+pub mod Exact
