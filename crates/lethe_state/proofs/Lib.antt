@@ -4,3 +4,4 @@ pub mod Recording
 pub mod Stepping
 pub mod Shared
 pub mod FreezeStep
+pub mod FlushStep
