@@ -102,11 +102,7 @@ impl State {
     }
 
     /// The step that writes what a flush made.
-    fn flush_step(
-        &self,
-        alloc: Global,
-        flushed: Flushed,
-    ) -> Result<(Vec<Header>, Step), NoMemory>
+    fn flush_step(&self, alloc: Global, flushed: Flushed) -> Result<(Vec<Header>, Step), NoMemory>
         requires segments { length self.now.manifest.segments ≡ 2 }
         requires numbers { flushed.next < max_place }
         ensures is { IfOk result (λ made. IsFlushStep self.now flushed made.0.items made.1) }
