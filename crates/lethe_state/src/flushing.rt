@@ -84,7 +84,8 @@ impl State {
         requires spelled { All entries.HasSpelling frozen.now.entries }
         requires numbers { self.now.manifest.next + most_numbers (length frozen.now.entries) < max_place }
         ensures made { IfOk result (λ made. (flushed : Flushed) × (files : prelude.List StoredFile)
-            × IsFlushOf frozen.now.entries self.now.pending alone self.now.count self.now.manifest.next flushed files × IsFlushStep self.now flushed made.0.items made.1) }
+            × IsFlushOf frozen.now.entries self.now.pending alone self.now.count self.now.manifest.next flushed files
+            × (self.now.manifest.next ≤ flushed.next) × IsFlushStep self.now flushed made.0.items made.1) }
         ensures headers { IfOk result (λ made. All headers.HasSpelling made.0.items) }
         ensures step { IfOk result (λ made. IsStepFrom 1 self.now made.1) }
     {
@@ -101,11 +102,7 @@ impl State {
     }
 
     /// The step that writes what a flush made.
-    fn flush_step(
-        &self,
-        alloc: Global,
-        flushed: Flushed,
-    ) -> Result<(Vec<Header>, Step), NoMemory>
+    fn flush_step(&self, alloc: Global, flushed: Flushed) -> Result<(Vec<Header>, Step), NoMemory>
         requires segments { length self.now.manifest.segments ≡ 2 }
         requires numbers { flushed.next < max_place }
         ensures is { IfOk result (λ made. IsFlushStep self.now flushed made.0.items made.1) }
