@@ -1,0 +1,4 @@
+pub mod Names
+pub mod Orders
+pub mod Refusals
+pub mod Replaying

@@ -1,0 +1,3 @@
+pub mod Loaded
+pub mod Damaged
+pub mod Refused
