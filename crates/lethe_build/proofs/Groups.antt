@@ -133,7 +133,7 @@ module _ (fields : Fields) (entries : List Entry) (tiles : List layout.Tile) (gr
   whole : All IsWhole tiles
   whole = tiles_whole fields config woven.slices tiles woven.each are_slices
 
-  below : AllPairs IsBelow tiles
+  pub below : AllPairs IsBelow tiles
   below = tiles_below fields.page woven.slices tiles woven.each some (parts_across HasLowerKey woven.slices (subst (AllPairs HasLowerKey) (sym woven.consecutive) (pairs_from_ascending entries up)))
 
   pub are_groups : All IsGroup groups
