@@ -1,4 +1,2 @@
-pub mod Loaded
-pub mod Settled
-pub mod Rewritten
+pub mod New
 pub mod Opening
