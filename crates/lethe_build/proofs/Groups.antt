@@ -68,7 +68,7 @@ below_all page slice tile (s ∷ ss) (t ∷ ts) is some zip each across =
     (below_one page slice s tile t is zip.0 some (All-head (λ s. 0 < length s) s ss each) (All-head (Across HasLowerKey slice) s ss across))
     (below_all page slice tile ss ts is some zip.1 (All-tail (λ s. 0 < length s) s ss each) (All-tail (Across HasLowerKey slice) s ss across))
 
-tiles_below : (page : ℕ) (slices : List (List Entry)) (tiles : List layout.Tile) → AllZip (IsTile page) slices tiles → All (λ s. 0 < length s) slices → AllPairs (Across HasLowerKey) slices → AllPairs IsBelow tiles
+pub tiles_below : (page : ℕ) (slices : List (List Entry)) (tiles : List layout.Tile) → AllZip (IsTile page) slices tiles → All (λ s. 0 < length s) slices → AllPairs (Across HasLowerKey) slices → AllPairs IsBelow tiles
 tiles_below page [] [] zip each order = pairs_nil IsBelow
 tiles_below page [] (t ∷ ts) zip each order = absurd zip
 tiles_below page (s ∷ ss) [] zip each order = absurd zip
@@ -133,7 +133,7 @@ module _ (fields : Fields) (entries : List Entry) (tiles : List layout.Tile) (gr
   whole : All IsWhole tiles
   whole = tiles_whole fields config woven.slices tiles woven.each are_slices
 
-  pub below : AllPairs IsBelow tiles
+  below : AllPairs IsBelow tiles
   below = tiles_below fields.page woven.slices tiles woven.each some (parts_across HasLowerKey woven.slices (subst (AllPairs HasLowerKey) (sym woven.consecutive) (pairs_from_ascending entries up)))
 
   pub are_groups : All IsGroup groups

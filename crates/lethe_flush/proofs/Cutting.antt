@@ -7,6 +7,8 @@ use Rattle.std.proofs.lemmas.List.Concat.{flat_map-append}
 use Rattle.std.proofs.lemmas.List.Elements.{All-nil, All-cons, All-head, All-tail, All-map, All-weaker}
 use Rattle.std.proofs.lemmas.List.FromFn.{length-range_with_len, get_or-range_with_len}
 use Rattle.std.proofs.lemmas.List.Folds.{flat_map-map}
+use Rattle.sha2.specs.Sha256.{sha256}
+use Rattle.lethe_base.specs.Layout.{Tile}
 use Rattle.lethe_base.specs.declared.name.Name.{Name}
 use Rattle.lethe_build.specs.Built.{AreFilesOf, IsFileOf, all_numbers, numbers_of}
 use Rattle.lethe_build.specs.declared.built.Built.{Built}
@@ -14,8 +16,9 @@ use Rattle.lethe_build.proofs.TileLines.{zip_length}
 use Rattle.std.proofs.lemmas.List.Elements.{Contains-append_cases}
 use Rattle.lethe_cover.proofs.Common.{Contains-append_left, Contains-append_right}
 use Rattle.lethe_cover.proofs.Lists.{Pairs, all_from, flat_from, flat_in, in_map, in_rest, map_from, pairs_append, pairs_from, pairs_map, pairs_parts, pairs_to, pairs_unmap}
-use Rattle.lethe_file.specs.Agreement.{Agrees, page_name}
+use Rattle.lethe_file.specs.Agreement.{Agrees, FileAgrees, page_name}
 use Rattle.lethe_follows.specs.Filed.{AreNewFiles}
+use Rattle.lethe_header.specs.Headers as headers
 use Rattle.lethe_header.specs.Facts.{lines_of}
 use Rattle.lethe_header.specs.declared.header.PageLine.{PageLine}
 use Rattle.lethe_moves.proofs.Common.{All-contains, first_is}
@@ -24,7 +27,7 @@ use Rattle.lethe_flush.specs.Apart.{IsSpelled, stored_of}
 
 -- what is true of each file that was built of some tiles
 
-pub each_built : {X : Type 0} (R : X → Built → Type 0) (P : Built → Type 0) → ((x : X) (file : Built) → R x file → P file) → (xs : List X) (files : List Built) → AllZip R xs files → All P files
+pub each_built : {X Y : Type 0} (R : X → Y → Type 0) (P : Y → Type 0) → ((x : X) (file : Y) → R x file → P file) → (xs : List X) (files : List Y) → AllZip R xs files → All P files
 each_built R P goes [] [] zipped = All-nil P
 each_built R P goes [] (file ∷ files) zipped = absurd zipped
 each_built R P goes (x ∷ xs) [] zipped = absurd zipped
@@ -33,9 +36,14 @@ each_built R P goes (x ∷ xs) (file ∷ files) zipped = All-cons P file files (
 pub is_spelled : (tiles : _) (file : Built) → IsFileOf tiles file → IsSpelled file
 is_spelled tiles file is = record {
   bytes = is.bytes;
-  digest = is.digest ∙ ap _ is.bytes;
+  digest = is.digest ∙ ap sha256 is.bytes;
   paged = zip_length Agrees (lines_of file.header.tiles) file.pages is.agrees.pages;
 }
+
+-- its header has a spelling, and its pages agree with it
+record Stands (file : Built) : Type 0 where
+  spelled : headers.HasSpelling file.header
+  agrees : FileAgrees file.header.tiles file.pages
 
 -- Numbers
 
@@ -160,11 +168,11 @@ module _ (upto : ℕ) where
     each_stored : (P : StoredFile → Type 0) → ((file : Built) → Contains files file → P (stored_of upto file)) → All P made
     each_stored P each = All-map P (stored_of upto) files (all_from (λ file. P (stored_of upto file)) files each)
 
-    pub are_files : ((file : Built) → Contains files file → (tiles : _) × IsFileOf tiles file) → All (IsFile last) made
-    are_files built = each_stored (IsFile last) (λ file there.
-        let is = (built file there).1 in
+    pub are_files : (groups : List (List Tile)) → AllZip IsFileOf groups files → All (IsFile last) made
+    are_files groups zipped = each_stored (IsFile last) (λ file there.
+        let is = All-contains Stands files file (each_built IsFileOf Stands (λ tiles file is. record { spelled = is.has_spelling; agrees = is.agrees }) groups files zipped) there in
         record {
-          spelled = is.has_spelling;
+          spelled = is.spelled;
           agrees = is.agrees;
           below = all_from (λ line. line.no < last) (lines_built file) (λ line inside. (within file there line.no (line_in file line inside)).1);
         })

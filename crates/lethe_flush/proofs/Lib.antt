@@ -4,3 +4,5 @@ pub mod Places
 pub mod Clearness
 pub mod Taking
 pub mod Cutting
+pub mod Making
+pub mod Finishing

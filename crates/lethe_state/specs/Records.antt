@@ -1,5 +1,5 @@
 -- The records of changes, and what they make of a state.
-use Rattle.std.specs.Prelude.{◌≡◌, ◌⊎◌, ◌<◌, ℕ, ◌+◌, min, List, Any, IsSome, Option, Some, None, unwrap_or, option_and_then}
+use Rattle.std.specs.Prelude.{◌≡◌, ◌⊎◌, ◌<◌, ℕ, ◌+◌, min, List, map, flat_map, Any, IsSome, Option, Some, None, unwrap_or, option_and_then}
 use Rattle.std.specs.Option.{option_or}
 use Rattle.lethe_base.specs.Keys.{Bytes}
 use Rattle.lethe_base.specs.Limits.{max_place}
@@ -12,6 +12,7 @@ use Rattle.lethe_header.specs.declared.header.Header.{Header}
 use Rattle.lethe_mem.specs.Buffered.{Buffered}
 use Rattle.lethe_segment.specs.declared.record.Record.{Record}
 use Rattle.lethe_segment.specs.declared.record.Record.TheVariants as of
+use Rattle.lethe_stored.specs.Files.{Parts}
 use Rattle.lethe_version.specs.Probing.{bound}
 use Rattle.lethe_state.specs.declared.state.State.{State}
 
@@ -43,6 +44,10 @@ tomb_record state key = of.Entry (record { seq = state.count + 1; key = key; bod
 -- the entry of a key in the frozen buffer, if there is one
 abbrev pub frozen_entry : Bytes → Option Buffered → Option Entry
 frozen_entry key frozen = option_and_then (λ buffer. entry_of key buffer.entries) frozen
+
+-- the headers of files by level
+abbrev pub headers_in : List (List Parts) → List Header
+headers_in levels = map (λ parts. parts.header) (flat_map (λ files. files) levels)
 
 -- a buffer has an entry of the key, or a page of a file may have one by its tile's fence and its filter
 abbrev pub MayBeHeld : State → List Header → Bytes → Type 0

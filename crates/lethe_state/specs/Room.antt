@@ -3,6 +3,8 @@ use Rattle.std.specs.Prelude.{◌≡◌, ◌≢◌, ◌⊎◌, ◌↔◌, ◌<�
 use Rattle.lethe_base.specs.Layout.{files_of}
 use Rattle.lethe_base.specs.Limits.{max_place}
 use Rattle.lethe_build.specs.Built.{most_numbers}
+use Rattle.lethe_manifest.specs.Manifests.{HasSpelling}
+use Rattle.lethe_manifest.specs.declared.manifest.Manifest.{Manifest}
 use Rattle.lethe_mem.specs.Buffered.{Buffered}
 use Rattle.lethe_merge.specs.Merge.{merged}
 use Rattle.lethe_moves.specs.Files.{IsClearOf}
@@ -11,6 +13,7 @@ use Rattle.lethe_moves.specs.Made.{AreMade}
 use Rattle.lethe_follows.specs.Filed.{flushed, AreNewFiles}
 use Rattle.lethe_stored.specs.Files.{StoredFile, file_of}
 use Rattle.lethe_stored.specs.Stored.{Stored, pending_of, count_of, layout_of, froze}
+use Rattle.lethe_advance.specs.declared.step.Step.{Step}
 use Rattle.lethe_state.specs.declared.state.State.{State}
 
 -- the active segment has fewer records than a buffer may have
@@ -51,3 +54,27 @@ IsShortToFreeze state = max_place ≤ state.manifest.next + 1
 
 abbrev pub IsShortToFlush : State → Type 0
 IsShortToFlush state = max_place ≤ state.manifest.next + most_numbers (frozen_len state.frozen)
+
+-- On any disk: the step's manifest has a spelling, cites so many segments and keeps the configuration. Each number that was drawn is one of an
+-- object or the manifest's, and files come in level 0.
+pub record IsStepFrom (segments : ℕ) (state : State) (step : Step) : Type 0 where
+  pub spelled : HasSpelling step.manifest
+  pub segments_are : length step.manifest.segments ≡ segments
+  pub config : step.manifest.config ≡ state.manifest.config
+  pub level : step.level ≡ 0
+  pub numbers : step.manifest.next ≤ state.manifest.next + length step.objects.items + 1
+
+-- the active buffer is the frozen one, and an empty one is active, under this manifest
+pub record IsFrozenWith (manifest : Manifest) (old new : State) : Type 0 where
+  pub manifest_is : new.manifest ≡ manifest
+  pub count : new.count ≡ old.count
+  pub pending : new.pending ≡ old.pending
+  pub active : new.active.entries ≡ []
+  pub records : new.records ≡ 0
+  pub end_is : new.end ≡ 11
+  pub frozen : new.frozen ≡ Some old.active
+  pub stopped : new.stopped ≡ old.stopped
+
+-- the frozen buffer is gone, under this manifest
+abbrev pub unfrozen : Manifest → State → State
+unfrozen manifest state = record state { manifest = manifest; frozen = None }

@@ -1,17 +1,22 @@
 //! What a store remembers of itself.
 ghost use Rattle.std.specs.Prelude as prelude;
-ghost use Rattle.std.specs.Prelude.{◌≡◌, [], None, IfOk, length};
+ghost use Rattle.std.specs.Prelude.{◌≡◌, ◌↔◌, ◌<◌, [], None, IsTrue, IfErr, IfOk, OnOk, length};
+ghost use Rattle.lethe_base.specs.Limits.{max_place};
 ghost use Rattle.lethe_manifest.specs.Manifests.{HasSpelling};
 ghost use Rattle.lethe_stored.specs.Files.{Parts};
 ghost use Rattle.lethe_stored.specs.Levels.{HasFiles};
 ghost use Rattle.lethe_stored.specs.Stored.{Stored, IsCoherent, pending_of};
+ghost use Rattle.lethe_state.specs.Records.{MayRefuse};
 ghost use Rattle.lethe_state.specs.Remembered.{Remembers, IsCurrent};
 ghost use Rattle.lethe_state.specs.Writable.{IsWritable};
 
-use lethe_base::{List, NoMemory, Pending};
+use lethe_base::{List, MAX_PLACE, NoMemory, Pending, Refused};
 use lethe_manifest::Manifest;
 use lethe_mem::VecBuffer;
 use std::alloc::Global;
+
+/// The place of the closed gate byte of a segment that has no record.
+pub(crate) const FIRST_GATE: u64 = 11;
 
 /// What a store remembers of itself, beside its files.
 #[derive(Debug, Drop)]
@@ -44,6 +49,36 @@ impl State {
         ensures remembers { (s : Stored) (levels : prelude.List (prelude.List Parts)) → IsCoherent s → HasFiles s levels → s.manifest ≡ manifest → s.frozen ≡ None
             → s.active.records ≡ [] → s.manifest.erases ≡ pending_of s → IfOk result (λ state. Remembers s state levels × IsCurrent s state) }
     {
-        Err(NoMemory)
+        let pending = List::of(manifest.erases.items().to_vec(alloc)?);
+        Ok(State {
+            count: manifest.count,
+            manifest,
+            pending,
+            active: VecBuffer::new(alloc),
+            records: 0,
+            end: FIRST_GATE,
+            frozen: None,
+            stopped: None,
+        })
+    }
+
+    /// Whether the next change has a place.
+    pub fn may_change(&self) -> Result<(), Refused>
+        requires { IsWritable self.now }
+        ensures refused { IfErr result (MayRefuse self.now) }
+        ensures fits { OnOk result ((self.now.stopped ≡ None) × (self.now.count < max_place)) }
+    {
+        match self.stopped {
+            Some(at) => Err(Refused::Stopped { at }),
+            None if self.count >= MAX_PLACE => Err(Refused::Exhausted { last: MAX_PLACE }),
+            None => Ok(()),
+        }
+    }
+
+    /// Whether the active segment takes one more record.
+    pub fn has_room(&self) -> bool
+        ensures { IsTrue result ↔ (self.now.records < self.now.manifest.config.buffer) }
+    {
+        self.records < self.manifest.config.fields().buffer
     }
 }
