@@ -1,2 +1,4 @@
 pub mod New
+pub mod There
+pub mod Cited
 pub mod Opening
