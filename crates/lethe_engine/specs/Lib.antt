@@ -1,9 +1,8 @@
-pub mod Timely
-pub mod Journals
-pub mod Replayed
 pub mod Sound
 pub mod StandsFor
 pub mod Changes
-pub mod Scans
+pub mod Deletes
+pub mod Work
+pub mod Reads
 pub mod Stats
 pub mod Opening
