@@ -3,6 +3,8 @@ pub mod StandsFor
 pub mod Changes
 pub mod Deletes
 pub mod Work
+pub mod Steps
 pub mod Reads
+pub mod Capped
 pub mod Stats
 pub mod Opening

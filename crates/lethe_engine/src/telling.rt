@@ -1,15 +1,19 @@
 //! What a store tells of itself as a whole.
-ghost use Rattle.std.specs.Prelude.{◌≡◌};
+ghost use Rattle.std.specs.Prelude.{◌≡◌, length, sum_by};
 ghost use Rattle.lethe_base.specs.History.{History, after};
 ghost use Rattle.lethe_base.specs.Shapes.{shape_of};
 ghost use Rattle.lethe_base.specs.declared.config.Fields.{Fields};
+ghost use Rattle.lethe_header.specs.Facts.{lines_of, tombs_in};
 ghost use Rattle.lethe_stored.specs.Stored.{Stored, layout_of};
 ghost use Rattle.lethe_advance.specs.Shown.{parts_by_level};
 ghost use Rattle.lethe_state.specs.Remembered.{Remembers};
+ghost use Rattle.lethe_engine.specs.Capped.{capped};
 ghost use Rattle.lethe_engine.specs.StandsFor.{StandsFor};
 
 use crate::Engine;
 use lethe_disk::Disk;
+use lethe_header::{Header, PageLine};
+use lethe_page::Class;
 use lethe_version::Shared;
 
 /// What a store tells of itself as a whole. A count that would pass 2^64 - 1 stays there.
@@ -54,12 +58,39 @@ impl<D: Disk> Engine<D> {
     }
 }
 
-/// How many files there are, and how many tombstones they have.
+/// How many files these are, and how many tombstones they have.
 fn counts_of<D: Disk>(files: &[Shared<D>]) -> (u64, u64)
+    ensures files { result.0 ≡ length files.now }
+    ensures tombs { result.1 ≡ capped (sum_by (λ shared. tombs_in (lines_of shared.file.value.header.tiles)) files.now) }
 {
     let mut tombs: u64 = 0;
     for file in files {
-        tombs = tombs.saturating_add(file.file().header().tombs());
+        tombs = tombs.saturating_add(tombs_of(file.file().header()));
     }
     (files.len() as u64, tombs)
+}
+
+/// How many tombstones the file of this header has.
+fn tombs_of(header: &Header) -> u64
+    ensures { result ≡ capped (tombs_in (lines_of header.now.tiles)) }
+{
+    let mut tombs: u64 = 0;
+    for tile in header.tiles.items() {
+        tombs = tombs.saturating_add(tombs_on(tile.pages.items()));
+    }
+    tombs
+}
+
+/// How many tombstones the pages of these lines have.
+fn tombs_on(lines: &[PageLine]) -> u64
+    ensures { result ≡ capped (tombs_in lines.now) }
+{
+    let mut tombs: u64 = 0;
+    for line in lines {
+        tombs = tombs.saturating_add(match line.class {
+            Class::Puts => 0,
+            Class::Tombs => line.entries as u64,
+        });
+    }
+    tombs
 }
