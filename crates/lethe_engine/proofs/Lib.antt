@@ -6,3 +6,4 @@ pub mod Stepping
 pub mod Hindered
 pub mod Answering
 pub mod Counting
+pub mod Opened
