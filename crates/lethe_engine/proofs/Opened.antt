@@ -16,10 +16,12 @@ use Rattle.lethe_stored.specs.Kept.{IsFor}
 use Rattle.lethe_stored.specs.Left.{IsHistoryOr}
 use Rattle.lethe_stored.specs.Stored.{Stored, segment_name}
 use Rattle.lethe_advance.specs.Settled.{IsSettled, HasOnly}
-use Rattle.lethe_state.specs.Remembered.{IsCurrent, Remembers}
+use Rattle.lethe_manifest.specs.declared.manifest.Manifest.{Manifest}
+use Rattle.lethe_state.specs.Remembered.{IsCurrent, IsFresh, Remembers}
+use Rattle.lethe_state.specs.Room.{frozen_len}
 use Rattle.lethe_state.specs.declared.state.State.{State}
 use Rattle.lethe_engine.specs.Opening.{IsResumed, IsUntold}
-use Rattle.lethe_engine.specs.Sound.{IsRunning}
+use Rattle.lethe_engine.specs.Sound.{IsRunning, IsSmall}
 use Rattle.lethe_engine.proofs.Standing.{open_stands}
 
 pub opened_running : (disk : Seen) (s : Stored) (state : State) → IsSettled disk s → HasOnly s disk.directory → s.active.records ≡ [] → EndsAt disk (segment_name s.active.no) s.active.no [] 11 → state.end ≡ 11 → IsCurrent s state
@@ -48,3 +50,11 @@ untouched_by Tells config old new before now (OtherConfig kept) told may quiet f
 untouched_by Tells config old new before now (Fault told_before told_now) told may quiet full = inl tt
 untouched_by Tells config old new before now (Exhausted last) told may quiet full = inr (full last refl)
 untouched_by Tells config old new before now NoMemory told may quiet full = inl tt
+
+-- a state without entries is small
+pub small_fresh : (manifest : Manifest) (state : State) → IsFresh manifest state → IsSmall state
+small_fresh manifest state is = record {
+  active = let none : length state.active.entries ≡ 0 = ap length is.active in omega (arith, none);
+  records = let none = is.records in omega (arith, none);
+  frozen = let none : frozen_len state.frozen ≡ 0 = ap frozen_len is.frozen in omega (arith, none);
+}
