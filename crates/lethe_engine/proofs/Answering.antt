@@ -1,76 +1,156 @@
--- What a store answers, and what it is when it was opened.
-use Rattle.std.proofs.Common.{◌≡◌, ◌⊎◌, inl, inr, ℕ, List, Option, refl, sym, ap, ◌∙◌, subst}
-use Rattle.std.specs.Prelude.{filter}
-use Rattle.std.specs.FinMap as finmap
+-- What reads answer over what is remembered.
+use Rattle.std.proofs.Common.{◌≡◌, ◌⊎◌, ℕ, Err, true, List, [], ◌∷◌, ◌++◌, map, All, Any, Contains, IsTrue, Option, Some, None, option_and_then, refl, sym, ap, ◌∙◌, subst}
+use Rattle.std.specs.Prelude.{◌↔◌, IsErrOf, flat_map}
+use Rattle.std.proofs.lemmas.List.{map-append, map-id}
+use Rattle.std.proofs.lemmas.List.Elements.{All-contains}
+use Rattle.std.proofs.lemmas.Simd.{map-map}
+use Rattle.lethe_base.specs.Entries.{IsAscending}
+use Rattle.lethe_base.specs.History.{History, Pair, after}
 use Rattle.lethe_base.specs.Keys.{Bytes}
-use Rattle.lethe_base.specs.Entries.{shown}
-use Rattle.lethe_base.specs.History.{History, Change, Pair, after}
+use Rattle.lethe_base.specs.Matching.{answer_under}
 use Rattle.lethe_base.specs.Read.{Get, Scan, Found, Listed, answer, is_between}
 use Rattle.lethe_base.specs.declared.config.Fields.{Fields}
+use Rattle.lethe_base.specs.declared.entry.Entry.{Entry}
+use Rattle.lethe_base.specs.declared.name.Name.{Name}
+use Rattle.lethe_base.specs.declared.pending.Pending.{Pending}
+use Rattle.lethe_base.specs.declared.refused.Refused.{Refused}
+use Rattle.lethe_base.specs.declared.refused.Refused.TheVariants.{ReadFault, Damaged, NoMemory}
 use Rattle.lethe_disk.specs.Disk.{Seen}
-use Rattle.lethe_mem.proofs.PairsLemmas.{get-pairs_of}
-use Rattle.lethe_commit.specs.Append.{EndsAt}
-use Rattle.lethe_stored.specs.Stored.{segment_name}
-use Rattle.lethe_recover.specs.Opening as recover
-use Rattle.lethe_recover.specs.declared.opening.Opened.{Opened}
-use Rattle.lethe_engine.specs.declared.journal.Journal.{Journal}
-use Rattle.lethe_recover.specs.declared.opening.OpenWhy.{OpenWhy}
-use Rattle.lethe_recover.specs.declared.opening.OpenWhy.TheVariants.{Damaged, OtherConfig, Fault, Exhausted, NoMemory}
-use Rattle.lethe_recover.specs.declared.refused.RecoverRefused.{RecoverRefused}
-use Rattle.lethe_recover.specs.declared.refused.RecoverRefused.TheVariants as recover_why
-use Rattle.lethe_recover.specs.Loaded.{HasReason}
-use Rattle.lethe_recover.specs.Opening.{MayNotOpen}
-use Rattle.lethe_disk.specs.Quiet.{IsQuiet}
-use Rattle.lethe_engine.specs.Opening.{IsOf, IsResumed, IsUntold}
-use Rattle.lethe_engine.specs.Replayed.{AreNewestOf}
-use Rattle.lethe_engine.specs.Scans.{by_keys, listed, pairs_between}
+use Rattle.lethe_disk.specs.declared.cursor.ReadRefused.{ReadRefused}
+use Rattle.lethe_disk.specs.declared.cursor.ReadRefused.TheVariants as disk
+use Rattle.lethe_disk.specs.declared.disk.Disk.{Ghosts}
+use Rattle.lethe_file.specs.Agreement.{FileAgrees}
+use Rattle.lethe_cover.proofs.Lists.{in_map}
+use Rattle.lethe_mem.specs.Buffered.{Buffered}
+use Rattle.lethe_mem.specs.Pairs.{pairs_of}
+use Rattle.lethe_merge.specs.Merge.{merged}
+use Rattle.lethe_stored.specs.Files.{IsFile, Parts}
+use Rattle.lethe_stored.specs.Kept.{IsFor}
+use Rattle.lethe_stored.specs.Left.{without_failed}
+use Rattle.lethe_stored.specs.Replayed.{AreNewestOf}
+use Rattle.lethe_stored.specs.Stored.{Stored, Segment, layout_of, records_in}
+use Rattle.lethe_moves.proofs.Scanning.{scanned as between}
+use Rattle.lethe_stored.proofs.Lists.{all_from}
+use Rattle.lethe_version.specs.Newest.{IsNewestIn}
+use Rattle.lethe_version.specs.Versions.{IsSound, entries_of, files_of, levels_of}
+use Rattle.lethe_version.specs.declared.version.Version.{Version}
+use Rattle.lethe_follows.specs.Holders.{IsHeldBy, IsPaged, pages_in, pages_of}
+use Rattle.lethe_follows.proofs.Answering.{get_answers, shown_between}
+use Rattle.lethe_flush.proofs.Newest.{newest_none}
+use Rattle.lethe_advance.specs.Shown.{parts_by_level, parts_in}
+use Rattle.lethe_read.specs.Between.{AreReadBetween, by_keys}
+use Rattle.lethe_read.specs.Found.{IsNewestBelow, first_found, frozen_entries}
+use Rattle.lethe_state.proofs.Leveled.{parts_from}
+use Rattle.lethe_state.specs.Remembered.{IsFrozenIn, Remembers}
+use Rattle.lethe_state.specs.declared.state.State.{State}
+use Rattle.lethe_engine.specs.Reads.{IsReadRefusal, listed, told_as}
 use Rattle.lethe_engine.specs.StandsFor.{StandsFor}
-use Rattle.lethe_engine.proofs.Maps.{entries-map_of}
-use Rattle.lethe_engine.proofs.Shown.{newest_map}
-use Rattle.lethe_engine.proofs.Standings.{open_held}
+use Rattle.lethe_engine.proofs.Histories.{after_without}
 
-module _ (config : Fields) (h : History) (disk : Seen) (journal : Journal) (stands : StandsFor config h disk journal) where
-  pub got : (key : Bytes) (held : Option Pair) → held ≡ shown key journal.buffer.entries → answer (after h) (Get key) ≡ Found held
-  got key held is = ap Found (ap (λ m. finmap.get m key) (sym stands.map) ∙ get-pairs_of key journal.buffer.entries journal.buffer.ascending ∙ sym is)
+-- The files as readers have them
 
-  pub scanned : (lo hi : Bytes) (pairs : List (Bytes × ℕ × Bytes)) → by_keys pairs ≡ pairs_between lo hi journal.buffer.entries → answer (after h) (Scan lo hi) ≡ listed pairs
-  scanned lo hi pairs is = ap Listed (ap (λ m. filter (λ e. is_between lo hi e.0) (finmap.entries m)) (sym stands.map)
-      ∙ ap (filter (λ e. is_between lo hi e.0)) (entries-map_of journal.buffer.entries journal.buffer.ascending) ∙ sym is)
+flat-map : {X Y Z : Type 0} (g : Y → Z) (f : X → Y) (levels : List (List X)) → map g (flat_map (λ files. files) (map (map f) levels)) ≡ map (λ x. g (f x)) (flat_map (λ files. files) levels)
+flat-map g f [] = refl
+flat-map g f (files ∷ levels) =
+    map-append g (map f files) (flat_map (λ files. files) (map (map f) levels))
+    ∙ (λ i. map-map g f files i ++ flat-map g f levels i)
+    ∙ sym (map-append (λ x. g (f x)) files (flat_map (λ files. files) levels))
 
--- what was opened
-pub resumed : (config : Fields) (h : History) (change : Option Change) (disk : Seen) (opened : Opened) (journal : Journal) → recover.IsResumed config h change disk opened
-    → AreNewestOf opened.records journal.buffer.entries → IsOf opened journal → IsResumed config h change disk journal
-resumed config h change disk opened journal is newest of =
-    let s = is.is.s in
-    let told = is.is.told in
-    let fresh : AreNewestOf s.active.records journal.buffer.entries = subst (λ r. AreNewestOf r journal.buffer.entries) told.records newest in
-    record {
-      history = is.history;
-      either = is.either;
-      runs = of.runs;
-      stands = record {
-        legal = is.stands.legal;
-        count = of.count ∙ told.count ∙ is.stands.count;
-        map = newest_map is.history s is.is.settled.stored is.stands journal.buffer.entries journal.buffer.ascending fresh;
-        clock = of.clock ∙ told.clock ∙ is.stands.clock;
-        held = open_held config is.history disk journal of.runs (record {
-          stored = s;
-          settled = is.is.settled;
-          only = is.is.only;
-          stands = is.stands;
-          config_is = is.is.config_is;
-          segment = of.segment ∙ told.segment;
-          ends = subst (EndsAt disk (segment_name s.active.no) s.active.no s.active.records) (sym of.end_is) is.is.ends;
-          newest = fresh;
-        });
-      };
-    }
+-- The buffers
 
--- damage, another configuration and numbers that ran out leave the disk as it was
-pub untouched_by : (Tells : Type 0) (config : Fields) (old new : Seen) (before now : ℕ) (why : OpenWhy) → Tells → MayNotOpen Tells config old.directory before now why
-    → ((reason : RecoverRefused) → HasReason config old.directory reason → IsQuiet old new) → ((last : ℕ) → why ≡ Exhausted last → IsQuiet old new) → IsUntold why ⊎ IsQuiet old new
-untouched_by Tells config old new before now (Damaged name) told may quiet full = inr (quiet (recover_why.Damaged name) (may told))
-untouched_by Tells config old new before now (OtherConfig kept) told may quiet full = inr (quiet (recover_why.OtherConfig kept) (may told))
-untouched_by Tells config old new before now (Fault told_before told_now) told may quiet full = inl tt
-untouched_by Tells config old new before now (Exhausted last) told may quiet full = inr (full last refl)
-untouched_by Tells config old new before now NoMemory told may quiet full = inl tt
+frozen_newest : (o : Option Segment) (frozen : Option Buffered) → IsFrozenIn o frozen → AreNewestOf (records_in o) (frozen_entries (λ (buffer : Buffered). buffer.entries) frozen)
+frozen_newest None None is = newest_none [] refl
+frozen_newest (Some segment) (Some buffer) is = is
+frozen_newest None (Some buffer) is = absurd is
+frozen_newest (Some segment) None is = absurd is
+
+frozen_ascends : (frozen : Option Buffered) → IsAscending (frozen_entries (λ (buffer : Buffered). buffer.entries) frozen)
+frozen_ascends None = refl
+frozen_ascends (Some buffer) = buffer.ascending
+
+flat-parts : {D Page Port : Type 0} {kind : Ghosts D Page Port} (version : Version D Page Port kind) → flat_map (λ files. files) (parts_by_level version) ≡ map parts_in (files_of version)
+flat-parts version = sym (map-id (flat_map (λ files. files) (parts_by_level version))) ∙ flat-map (λ (p : Parts). p) parts_in (levels_of version)
+
+module _ {D Page Port : Type 0} {kind : Ghosts D Page Port} (version : Version D Page Port kind) (s : Stored) (state : State) (remembers : Remembers s state (parts_by_level version)) where
+  abbrev frozen : List Entry
+  frozen = frozen_entries (λ (buffer : Buffered). buffer.entries) state.frozen
+
+  held_by : IsHeldBy s state.active.entries frozen (parts_by_level version)
+  held_by = record {
+    active_ascends = state.active.ascending;
+    frozen_ascends = frozen_ascends state.frozen;
+    active_newest = remembers.active;
+    frozen_newest = frozen_newest s.frozen state.frozen remembers.frozen;
+    files = remembers.files;
+  }
+
+  pages_are : pages_in (parts_by_level version) ≡ map entries_of (files_of version)
+  pages_are = flat-map pages_of parts_in (levels_of version)
+
+  -- each file's pages agree with its header
+  pub files_sound : All IsSound (files_of version)
+  files_sound = all_from IsSound (files_of version) (λ file there.
+      let among : Contains (flat_map (λ files. files) (parts_by_level version)) (parts_in file) = subst (λ (all : List Parts). Contains all (parts_in file)) (sym (flat-parts version)) (in_map parts_in (files_of version) file there) in
+      let from = parts_from s remembers.coherent (parts_by_level version) remembers.files (parts_in file) among in
+      subst (λ (parts : Parts). FileAgrees parts.header.tiles parts.pages) from.2 (All-contains (IsFile s.manifest.next) s.files from.0 (remembers.coherent).each from.1).agrees)
+
+  module _ (h : History) (stands : IsFor h s) where
+    pub got : (key : Bytes) (held : Option Pair) (filed : Option Entry) → IsNewestBelow key state.active.entries frozen (map entries_of (files_of version)) filed
+        → held ≡ option_and_then (answer_under state.pending) (first_found key state.active.entries frozen filed) → Found held ≡ answer (after h) (Get key)
+    got key held filed newest is = ap Found (is
+        ∙ ap (λ erases. option_and_then (answer_under erases) (first_found key state.active.entries frozen filed)) remembers.pending
+        ∙ get_answers s remembers.coherent state.active.entries frozen (parts_by_level version) held_by h stands key filed (λ none. subst (λ pages. IsNewestIn key pages filed) (sym pages_are) (newest none)))
+
+    pub scanned : (lo hi : Bytes) (pairs : List (Bytes × ℕ × Bytes)) (entries : List Entry) → AreReadBetween lo hi state.active.entries frozen (map entries_of (files_of version)) entries
+        → by_keys pairs ≡ pairs_of (merged entries state.pending true) → listed pairs ≡ answer (after h) (Scan lo hi)
+    scanned lo hi pairs entries all is = ap Listed (is ∙ ap (λ erases. pairs_of (merged entries erases true)) remembers.pending)
+        ∙ ap Listed (between s.manifest.config.threshold h (layout_of s) stands.covers lo hi entries (shown_between s remembers.coherent state.active.entries frozen (parts_by_level version) held_by lo hi entries (λ entry. among entry)))
+      where
+        among : (entry : Entry) → Contains entries entry ↔ (((Contains state.active.entries entry ⊎ Contains frozen entry) ⊎ IsPaged (parts_by_level version) entry) × IsTrue (is_between lo hi entry.key))
+        among entry = subst (λ pages. Contains entries entry ↔ (((Contains state.active.entries entry ⊎ Contains frozen entry) ⊎ Any (λ file. Any (λ page. Contains page entry) file) pages) × IsTrue (is_between lo hi entry.key))) (sym pages_are) (all entry)
+
+-- Over what a store stands for
+
+-- what the two reads gave, by the frozen buffer and the erases
+abbrev pub IsGot : State → Option Buffered → List Pending → List (List (List Entry)) → Bytes → Option Pair → Type 0
+IsGot state older erases files key held = (filed : Option Entry) × IsNewestBelow key state.active.entries (frozen_entries (λ (buffer : Buffered). buffer.entries) older) files filed
+    × (held ≡ option_and_then (answer_under erases) (first_found key state.active.entries (frozen_entries (λ (buffer : Buffered). buffer.entries) older) filed))
+
+abbrev pub IsScanned : State → Option Buffered → List Pending → List (List (List Entry)) → Bytes → Bytes → List (Bytes × ℕ × Bytes) → Type 0
+IsScanned state older erases files lo hi pairs = (entries : List Entry) × AreReadBetween lo hi state.active.entries (frozen_entries (λ (buffer : Buffered). buffer.entries) older) files entries
+    × (by_keys pairs ≡ pairs_of (merged entries erases true))
+
+module _ {D Page Port : Type 0} {kind : Ghosts D Page Port} (version : Version D Page Port kind) (config : Fields) (h : History) (seen : Seen) (state : State) (stands : StandsFor config h seen state (parts_by_level version)) where
+  pub stored_sound : All IsSound (files_of version)
+  stored_sound = files_sound version stands.stored state stands.remembers
+
+  module _ (older : Option Buffered) (erases : List Pending) (older_is : older ≡ state.frozen) (erases_are : erases ≡ state.pending) where
+    pub found : (key : Bytes) (held : Option Pair) → IsGot state older erases (map entries_of (files_of version)) key held → answer (after h) (Get key) ≡ Found held
+    found key held given =
+        let is = subst (λ o. IsGot state o state.pending (map entries_of (files_of version)) key held) older_is (subst (λ l. IsGot state older l (map entries_of (files_of version)) key held) erases_are given) in
+        ap (λ st. answer st (Get key)) (sym (after_without h)) ∙ sym (got version stands.stored state stands.remembers (without_failed h) stands.stands key held is.0 is.1 is.2)
+
+    pub listed_between : (lo hi : Bytes) (pairs : List (Bytes × ℕ × Bytes)) → IsScanned state older erases (map entries_of (files_of version)) lo hi pairs → answer (after h) (Scan lo hi) ≡ listed pairs
+    listed_between lo hi pairs given =
+        let is = subst (λ o. IsScanned state o state.pending (map entries_of (files_of version)) lo hi pairs) older_is (subst (λ l. IsScanned state older l (map entries_of (files_of version)) lo hi pairs) erases_are given) in
+        ap (λ st. answer st (Scan lo hi)) (sym (after_without h)) ∙ sym (scanned version stands.stored state stands.remembers (without_failed h) stands.stands lo hi pairs is.0 is.1 is.2)
+
+-- Refusals
+
+pub damage_told : (why : ReadRefused) (name : Name) → told_as why ≡ Damaged name → why ≡ disk.Damaged name
+damage_told (disk.Damaged other) name e = let same : other ≡ name = cc in ap disk.Damaged same
+damage_told (disk.ReadFault before behind) name e = absurd (let clash : ReadFault before behind ≡ Damaged name = e in cc)
+damage_told disk.NoMemory name e = absurd (let clash : NoMemory ≡ Damaged name = e in cc)
+
+pub fault_told : (why : ReadRefused) (before behind : ℕ) → told_as why ≡ ReadFault before behind → why ≡ disk.ReadFault before behind
+fault_told (disk.ReadFault b a) before behind e = let first : b ≡ before = cc in let last : a ≡ behind = cc in (λ i. disk.ReadFault (first i) (last i))
+fault_told (disk.Damaged other) before behind e = absurd (let clash : Damaged other ≡ ReadFault before behind = e in cc)
+fault_told disk.NoMemory before behind e = absurd (let clash : NoMemory ≡ ReadFault before behind = e in cc)
+
+pub told_reads : (why : ReadRefused) → IsReadRefusal (told_as why)
+told_reads (disk.ReadFault before behind) = tt
+told_reads (disk.Damaged name) = tt
+told_reads disk.NoMemory = tt
+
+pub err_told : {T : Type 0} {why other : Refused} → IsErrOf {T = T} (Err why) other → why ≡ other
+err_told is = cc
