@@ -15,7 +15,7 @@ ghost use Rattle.lethe_flush.specs.Flushed.{IsFlushOf};
 ghost use Rattle.lethe_flush.specs.declared.flushed.Flushed.{Flushed};
 ghost use Rattle.lethe_state.specs.Made.{IsFlushStep, flushing_manifest};
 ghost use Rattle.lethe_state.specs.Remembered.{Remembers, IsCurrent};
-ghost use Rattle.lethe_state.specs.Room.{IsFlushed, IsShortToFlush, IsStepFrom, unfrozen};
+ghost use Rattle.lethe_state.specs.Room.{IsFlushed, IsShortToFlush, IsStepFrom, frozen_len, unfrozen};
 ghost use Rattle.lethe_state.specs.Writable.{IsWritable};
 
 use crate::State;
@@ -49,6 +49,7 @@ impl State {
         ensures refused { IfErr result (λ why. (why ≡ refused.Exhausted max_place) ⊎ (why ≡ refused.NoMemory)) }
         ensures headers { IfOk result (λ made. All headers.HasSpelling made.0.items) }
         ensures step { IfOk result (λ made. IsStepFrom 1 self.now made.1) }
+        ensures few { IfOk result (λ made. length made.1.objects.items ≤ most_numbers (frozen_len self.now.frozen)) }
         ensures flushes { (s : Stored) → Remembers s self.now (parts_by_level version.now) → IsCurrent s self.now
             → IfOk result (λ made. (t : Stored) × IsFlushed s t × IsStep s t made.0.items made.1) }
     {
@@ -88,6 +89,7 @@ impl State {
             × (self.now.manifest.next ≤ flushed.next) × IsFlushStep self.now flushed made.0.items made.1) }
         ensures headers { IfOk result (λ made. All headers.HasSpelling made.0.items) }
         ensures step { IfOk result (λ made. IsStepFrom 1 self.now made.1) }
+        ensures few { IfOk result (λ made. length made.1.objects.items ≤ most_numbers (length frozen.now.entries)) }
     {
         let flushed = flush_of(
             alloc,

@@ -5,6 +5,8 @@ use Rattle.lethe_advance.specs.Shown.{parts_by_level, parts_in}
 use Rattle.lethe_flush.specs.Clear.{IsClearOf}
 use Rattle.lethe_moves.specs.Flushes.{span_of}
 use Rattle.lethe_version.specs.Versions.{files_of, levels_of}
+use Rattle.lethe_build.specs.Built.{most_numbers}
+use Rattle.lethe_state.specs.Room.{frozen_len}
 use Rattle.lethe_state.proofs.FlushStep.{flush_steps}
 use Rattle.lethe_state.proofs.Leveled.{headers_same}
 use Rattle.lethe_state.proofs.state.State.flushing.Goals as goal
@@ -17,3 +19,6 @@ returns-in-Ok-clause-flushes g c = λ s is current.
     let clear = subst IsAlone (append-nil headers ∙ sym (headers_same parts_in (levels_of c.args.version.now))) c.is_clear-alone.ensures in
     let made = c.in-Ok.ensures.made in
     flush_steps s c.args.self.now (parts_by_level c.args.version.now) is current c.in-Some.frozen c.in-Some.is c.is_clear-alone.result clear made.0 made.1 made.2 made.3 _ _ made.4 c.in-Ok.ensures.step.spelled
+
+pub returns-in-Ok-clause-few : goal.returns-in-Ok-clause-few
+returns-in-Ok-clause-few g c = subst (λ frozen. length c.in-Ok.made.1.objects.items ≤ most_numbers (frozen_len frozen)) (sym c.in-Some.is) c.in-Ok.ensures.few
