@@ -45,7 +45,7 @@ impl State {
     ) -> Result<(Vec<Header>, Step), Refused>
         requires writable { IsWritable self.now }
         requires frozen { IsSome self.now.frozen }
-        ensures exhausted { IsErrOf result (refused.Exhausted max_place) → IsShortToFlush self.now }
+        ensures exhausted { IsErrOf result (refused.Exhausted max_place) ↔ IsShortToFlush self.now }
         ensures refused { IfErr result (λ why. (why ≡ refused.Exhausted max_place) ⊎ (why ≡ refused.NoMemory)) }
         ensures headers { IfOk result (λ made. All headers.HasSpelling made.0.items) }
         ensures step { IfOk result (λ made. IsStepFrom 1 self.now made.1) }

@@ -1,4 +1,4 @@
-use Rattle.std.proofs.Common.{◌<◌, append-nil, IsTrue, List, map, length, All, sym, ◌∙◌, subst}
+use Rattle.std.proofs.Common.{◌<◌, ◌≤◌, append-nil, IsTrue, List, map, length, All, sym, ◌∙◌, subst}
 use Rattle.std.specs.Prelude.{◌↔◌}
 use Rattle.lethe_header.specs.declared.header.Header.{Header}
 use Rattle.lethe_advance.specs.Shown.{parts_by_level, parts_in}
