@@ -53,9 +53,7 @@ impl State {
         ensures flushes { (s : Stored) → Remembers s self.now (parts_by_level version.now) → IsCurrent s self.now
             → IfOk result (λ made. (t : Stored) × IsFlushed s t × IsStep s t made.0.items made.1) }
     {
-        let Some(frozen) = &self.frozen else {
-            return Err(Refused::NoMemory);
-        };
+        let frozen = self.frozen.as_ref().unwrap();
         if self.is_short_for(frozen) {
             return Err(Refused::Exhausted { last: MAX_PLACE });
         }
