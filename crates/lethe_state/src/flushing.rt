@@ -45,7 +45,7 @@ impl State {
     ) -> Result<(Vec<Header>, Step), Refused>
         requires writable { IsWritable self.now }
         requires frozen { IsSome self.now.frozen }
-        ensures exhausted { IsErrOf result (refused.Exhausted max_place) → IsShortToFlush self.now }
+        ensures exhausted { IsErrOf result (refused.Exhausted max_place) ↔ IsShortToFlush self.now }
         ensures refused { IfErr result (λ why. (why ≡ refused.Exhausted max_place) ⊎ (why ≡ refused.NoMemory)) }
         ensures headers { IfOk result (λ made. All headers.HasSpelling made.0.items) }
         ensures step { IfOk result (λ made. IsStepFrom 1 self.now made.1) }
@@ -53,9 +53,7 @@ impl State {
         ensures flushes { (s : Stored) → Remembers s self.now (parts_by_level version.now) → IsCurrent s self.now
             → IfOk result (λ made. (t : Stored) × IsFlushed s t × IsStep s t made.0.items made.1) }
     {
-        let Some(frozen) = &self.frozen else {
-            return Err(Refused::NoMemory);
-        };
+        let frozen = self.frozen.as_ref().unwrap();
         if self.is_short_for(frozen) {
             return Err(Refused::Exhausted { last: MAX_PLACE });
         }
