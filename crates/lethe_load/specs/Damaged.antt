@@ -61,9 +61,9 @@ IsReplayed d number records = Ascends 0 records × HasRecords (segment_name numb
 abbrev pub IsSoundSegment : Directory → List ℕ → ℕ → Type 0
 IsSoundSegment d before number = (Contains before number → ⊥) × ((records : List Record) × IsReplayed d number records)
 
--- the first segment that isn't sound
-abbrev pub IsDamagedSegment : Directory → Manifest → Name → Type 0
-IsDamagedSegment d m name = (before : List ℕ) × (number : ℕ) × IsFirstBad (IsSoundSegment d) m.segments before number × (name ≡ segment_name number)
+-- of these segments the first that isn't sound
+abbrev pub IsDamagedSegment : Directory → List ℕ → Name → Type 0
+IsDamagedSegment d segments name = (before : List ℕ) × (number : ℕ) × IsFirstBad (IsSoundSegment d) segments before number × (name ≡ segment_name number)
 
 -- Files
 
@@ -74,9 +74,12 @@ pub record IsHeaderOf (d : Directory) (cited : Cited) (header : Header) : Type 0
   pub there : object d (file_name cited.no) ≡ Some (header_bytes header)
   pub digest : sha256 (header_bytes header) ≡ cited.digest
 
--- the lines of a header, each with its tile
+-- the lines of some tiles, each with its tile
+abbrev pub placed_in : List TileLine → List (TileLine × PageLine)
+placed_in tiles = flat_map (λ tile. map (λ line. (tile, line)) tile.pages) tiles
+
 abbrev pub placed_lines : Header → List (TileLine × PageLine)
-placed_lines header = flat_map (λ tile. map (λ line. (tile, line)) tile.pages) header.tiles
+placed_lines header = placed_in header.tiles
 
 -- The page of a line, behind those before it in its file: it is there, its number is below the next and is cited for the first time, and it
 -- agrees with its line, its tile and the pages before.
@@ -116,15 +119,14 @@ pub record HasBadPage (d : Directory) (next : ℕ) (before : List Cited) (cited 
   pub first : IsFirstBad (IsSoundPage d next (IsTakenBy d before)) (placed_lines header) sound item
   pub named : name ≡ page_name item.1.no
 
--- all segments are sound, and this is the first object of a file that isn't
-pub record IsDamagedFile (d : Directory) (m : Manifest) (name : Name) : Type 0 where
-  pub segments : EachFollows (IsSoundSegment d) m.segments
+-- of these files the first that isn't sound, and of its objects the first that isn't
+pub record IsDamagedFile (d : Directory) (next : ℕ) (files : List Cited) (name : Name) : Type 0 where
   pub before : List Cited
   pub cited : Cited
   pub behind : List Cited
-  pub split : m.files ≡ before ++ cited ∷ behind
-  pub good : EachFollows (IsSoundFile d m.next) before
-  pub bad : HasBadHeader d before cited name ⊎ HasBadPage d m.next before cited name
+  pub split : files ≡ before ++ cited ∷ behind
+  pub good : EachFollows (IsSoundFile d next) before
+  pub bad : HasBadHeader d before cited name ⊎ HasBadPage d next before cited name
 
 -- all of it is there, but the files of a level behind level 0 are out of order
 pub record IsDisordered (d : Directory) (m : Manifest) (name : Name) : Type 0 where
@@ -137,9 +139,9 @@ pub record IsDisordered (d : Directory) (m : Manifest) (name : Name) : Type 0 wh
 
 -- All
 
--- what a manifest cites is damaged
+-- of what a manifest cites: a segment, or, where all segments are sound, a file, or the order of the files
 abbrev pub IsDamagedPart : Directory → Manifest → Name → Type 0
-IsDamagedPart d m name = IsDamagedSegment d m name ⊎ (IsDamagedFile d m name ⊎ IsDisordered d m name)
+IsDamagedPart d m name = IsDamagedSegment d m.segments name ⊎ ((EachFollows (IsSoundSegment d) m.segments × IsDamagedFile d m.next m.files name) ⊎ IsDisordered d m name)
 
 -- the first object that is damaged, of the manifest of the greatest gate and what this cites; the latter is looked at in a manifest of the
 -- configuration alone

@@ -1,13 +1,18 @@
 -- Why nothing is read.
-use Rattle.std.specs.Prelude.{◌≡◌, ◌≢◌, ℕ}
+use Rattle.std.specs.Prelude.{◌≡◌, ◌≢◌, ℕ, List, None}
 use Rattle.lethe_base.specs.Counts.{Rose}
 use Rattle.lethe_base.specs.declared.config.Fields.{Fields}
 use Rattle.lethe_base.specs.declared.name.Name.{Name}
-use Rattle.lethe_disk.specs.Directory.{Directory}
+use Rattle.lethe_disk.specs.Directory.{Directory, object}
+use Rattle.lethe_segment.specs.declared.record.Record.{Record}
+use Rattle.lethe_segment.specs.declared.replaying.SegmentRefused.{SegmentRefused}
+use Rattle.lethe_segment.specs.declared.replaying.SegmentRefused.TheVariants as segment
+use Rattle.lethe_commit.specs.Switch.{manifest_name}
+use Rattle.lethe_stored.specs.Stored.{segment_name}
 use Rattle.lethe_manifest.specs.declared.manifest.Manifest.{Manifest}
 use Rattle.lethe_load.specs.declared.refused.RecoverRefused.{RecoverRefused}
 use Rattle.lethe_load.specs.declared.refused.RecoverRefused.TheVariants.{Damaged, Fault, NoMemory, OtherConfig}
-use Rattle.lethe_load.specs.Damaged.{IsGated, IsDamaged}
+use Rattle.lethe_load.specs.Damaged.{IsSpelled, IsGated, IsReplayed, IsSoundSegment, IsDamaged}
 
 -- the manifest that counts has another configuration, and this is it
 pub record HasOtherConfig (config : Fields) (d : Directory) (kept : Fields) : Type 0 where
@@ -43,3 +48,25 @@ MayRefuse Tells config d before now (Damaged name) = Tells → IsDamaged config 
 MayRefuse Tells config d before now (Fault told_before told_now) = IsInterrupted before now (Fault told_before told_now)
 MayRefuse Tells config d before now NoMemory = Unit {0}
 MayRefuse Tells config d before now (OtherConfig kept) = Tells → HasOtherConfig config d kept
+
+-- What is bad of an object.
+
+abbrev pub IsMissing : Directory → Name → Name → Type 0
+IsMissing d name bad = (bad ≡ name) × (object d name ≡ None)
+
+abbrev pub IsUnspelled : Directory → ℕ → Name → Type 0
+IsUnspelled d number bad = (bad ≡ manifest_name number) × ((m : Manifest) → IsSpelled d number m → ⊥)
+
+abbrev pub IsUnreplayed : Directory → ℕ → Name → Type 0
+IsUnreplayed d number bad = (bad ≡ segment_name number) × ((records : List Record) → IsReplayed d number records → ⊥)
+
+-- of a segment behind these
+abbrev pub IsUnsound : Directory → List ℕ → ℕ → Name → Type 0
+IsUnsound d before number bad = (bad ≡ segment_name number) × (IsSoundSegment d before number → ⊥)
+
+-- why a segment of this name isn't read that can't be replayed
+abbrev pub refusal_of : Name → SegmentRefused → RecoverRefused
+refusal_of name (segment.Header at) = Damaged name
+refusal_of name (segment.Record at) = Damaged name
+refusal_of name (segment.Order at) = Damaged name
+refusal_of name segment.NoMemory = NoMemory
