@@ -1,8 +1,8 @@
 -- Files without a key of a range, file by file and level by level; and the ends of lists.
-use Rattle.std.proofs.Common.{◌≡◌, ℕ, suc, ◌+◌, ◌-◌, ◌<◌, ◌≤◌, inl, inr, List, [], ◌∷◌, ◌++◌, length, get_or, map, fold, Some, All, refl, sym, ap, ◌∙◌, subst, arith}
+use Rattle.std.proofs.Common.{◌≡◌, ℕ, suc, ◌+◌, ◌-◌, ◌<◌, ◌≤◌, inl, inr, List, [], ◌∷◌, ◌++◌, length, get_or, take, map, fold, Some, All, refl, sym, ap, ◌∙◌, subst, arith}
 use Rattle.std.specs.Prelude.{flat_map, slice_get}
 use Rattle.std.proofs.lemmas.List.Elements.{All-nil, All-append, All-head, All-tail, All-map}
-use Rattle.std.proofs.lemmas.List.{length-map}
+use Rattle.std.proofs.lemmas.List.{length-map, take_more}
 use Rattle.std.proofs.Math.ListN.{get_or-map}
 use Rattle.std.proofs.lemmas.Bool.{cases_lt}
 use Rattle.std.proofs.lemmas.Option.{slice_get-get_or}
@@ -70,3 +70,6 @@ module _ {F : Type 0} (head : F → Header) (keys span : KeyRange) (same : keys 
 
   pub clear_all : All (λ file. IsClearOf keys (head file)) files → All (IsClearOf keys) more → All_clear
   clear_all left right = subst (λ span. All (IsClearOf span) (map head files ++ more)) same (All-append (IsClearOf keys) (map head files) more (All-map (IsClearOf keys) head files left) right)
+
+pub take_next : {X : Type 0} (xs : List X) (k : ℕ) (x : X) → k < length xs → slice_get xs k ≡ Some x → take (k + 1) xs ≡ take k xs ++ x ∷ []
+take_next xs k x lt is = take_more xs k x lt ∙ ap (λ x. take k xs ++ x ∷ []) (sym (some_is x (get_or xs k x) (sym is ∙ slice_get-get_or xs k x lt)))
