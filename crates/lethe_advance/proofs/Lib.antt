@@ -5,3 +5,5 @@ pub mod Running
 pub mod Standing
 pub mod Lists
 pub mod Leveled
+pub mod Opened
+pub mod Quiet

@@ -1,13 +1,15 @@
 //! Going from what is stored to what is stored next.
-ghost use Rattle.std.specs.Prelude.{◌≡◌, ◌⊎◌, ◌+◌, ◌<◌, ◌≤◌, length, All, Contains, IfOk, OnOk, IsErrOf};
+ghost use Rattle.std.specs.Prelude.{◌≡◌, ◌⊎◌, ◌+◌, ◌<◌, ◌≤◌, length, map, All, Contains, IfOk, OnOk, IsErrOf};
 ghost use Rattle.lethe_base.specs.declared.name.Name.{Name};
 ghost use Rattle.lethe_disk.specs.Directory.{object};
-ghost use Rattle.lethe_disk.specs.Disk.{HasCause};
+ghost use Rattle.lethe_disk.specs.Disk.{HasCause, IsSynced};
 ghost use Rattle.lethe_disk.specs.Goes.{Goes};
+ghost use Rattle.lethe_disk.specs.Runs.{Leads};
 ghost use Rattle.lethe_disk.specs.declared.disk.DiskRefused.TheVariants.{NoMemory};
 ghost use Rattle.lethe_header.specs.Headers as header;
 ghost use Rattle.lethe_manifest.specs.Manifests.{HasSpelling};
-ghost use Rattle.lethe_commit.specs.Place.{insert_all};
+ghost use Rattle.lethe_commit.specs.Clear.{ArePresent, IsCleared, remove_all};
+ghost use Rattle.lethe_commit.specs.Place.{insert_all, name_of};
 ghost use Rattle.lethe_commit.specs.Switch.{IsTakenBack};
 ghost use Rattle.lethe_stored.specs.Stored.{Stored, part_names};
 ghost use Rattle.lethe_stored.specs.Encodes.{Encodes};
@@ -18,6 +20,8 @@ ghost use Rattle.lethe_advance.specs.Shown.{parts_by_level};
 ghost use Rattle.lethe_advance.specs.Steps.{IsStep};
 
 use crate::Step;
+use crate::exchanging::exchange;
+use lethe_commit::{Object, clear, place_all, remove_objects};
 use lethe_disk::{Disk, DiskRefused};
 use lethe_header::Header;
 use lethe_version::Version;
@@ -63,5 +67,29 @@ pub fn advance<D: Disk>(
     ensures no_memory { D.tells → IsErrOf result NoMemory → IsTakenBack (D.seen disk.old) (D.seen disk.new) }
     ensures cause { HasCause (D.faults disk.old) (D.faults disk.new) result }
 {
-    Err(DiskRefused::NoMemory)
+    place_all(disk, &step.objects)?;
+    match exchange(alloc, disk, version, headers, step) {
+        Ok(next) => {
+            clear(disk, &step.gone)?;
+            Ok(next)
+        }
+        Err(DiskRefused::Failed) => Err(DiskRefused::Failed),
+        Err(DiskRefused::NoMemory) => {
+            take_back(disk, &step.objects)?;
+            Err(DiskRefused::NoMemory)
+        }
+    }
+}
+
+// Removes these objects again, and syncs.
+fn take_back<D: Disk>(disk: &mut D, objects: &[Object]) -> Result<(), DiskRefused>
+    requires { D.tells → ArePresent (map name_of objects.now) (D.seen disk.old).directory }
+    ensures any_moment { D.tells → Leads (IsCleared (map name_of objects.now)) (D.seen disk.old) (D.seen disk.new) }
+    ensures done { D.tells → OnOk result ((D.seen disk.new).directory ≡ remove_all (map name_of objects.now) (D.seen disk.old).directory) }
+    ensures synced { D.tells → OnOk result (IsSynced (D.seen disk.new)) }
+    ensures no_memory { IsErrOf result NoMemory → ⊥ }
+    ensures cause { HasCause (D.faults disk.old) (D.faults disk.new) result }
+{
+    remove_objects(disk, objects)?;
+    disk.sync()
 }

@@ -2,6 +2,7 @@
 #![tactic(auto)]
 
 mod advancing;
+mod exchanging;
 mod step;
 
 pub use advancing::advance;
