@@ -17,3 +17,6 @@ pub use beginning::begin;
 pub use opened::Opened;
 pub use opening::{OpenWhy, open};
 pub use tidying::tidy;
+
+#[cfg(test)]
+mod tests;
