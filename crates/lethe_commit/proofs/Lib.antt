@@ -6,3 +6,4 @@ pub mod Placing
 pub mod Greatest
 pub mod Listed
 pub mod Exchange
+pub mod Creations

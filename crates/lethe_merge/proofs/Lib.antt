@@ -6,3 +6,4 @@ pub mod Fills
 pub mod Steps
 pub mod Skips
 pub mod Begins
+pub mod Settles

@@ -107,7 +107,7 @@ unfolding left_of_each
 entry_of-left key es = entry_of-values (left_by_key es) (keyed-left es) key ∙ get-left es key
 
 -- the first of keys in order stands once
-lacks : (e : Entry) (es : List Entry) → IsTrue (below_all key_cmp e.key (by_key es)) → entry_of e.key es ≡ None
+pub lacks : (e : Entry) (es : List Entry) → IsTrue (below_all key_cmp e.key (by_key es)) → entry_of e.key es ≡ None
 lacks e [] h = refl
 lacks e (f ∷ es) h =
     let parts = and_parts (is_lt (key_cmp e.key f.key)) (below_all key_cmp e.key (by_key es)) h in
@@ -157,7 +157,7 @@ module _ (kept : Entry → Option Entry) (keeps : (e : Entry) → IsOfKey e.key 
       by_test true at more = by_here (kept e) (keeps e) at (rest_lacks at more)
       by_test false at more = by_there (kept e) (keeps e) at ∙ more
 
-bared-key : (alone : Bool) (e : Entry) → IsOfKey e.key (bared alone e e.body)
+pub bared-key : (alone : Bool) (e : Entry) → IsOfKey e.key (bared alone e e.body)
 bared-key alone e = by alone e.body
   where
     by : (alone : Bool) (body : Body) → IsOfKey e.key (bared alone e body)

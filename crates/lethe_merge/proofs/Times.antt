@@ -32,7 +32,7 @@ time-more time erases seq dkey i erase within is =
     ∙ sym (earlier-assoc time (time_of_one erase seq dkey) (time_under (drop (i + 1) erases) seq dkey))
 
 -- there is a time exactly where an erase matches
-time-any : (erases : List Pending) (seq dkey : ℕ) → list_any (λ erase. matches erase seq dkey) erases ≡ is_some (time_under erases seq dkey)
+pub time-any : (erases : List Pending) (seq dkey : ℕ) → list_any (λ erase. matches erase seq dkey) erases ≡ is_some (time_under erases seq dkey)
 time-any [] seq dkey = refl
 time-any (erase ∷ erases) seq dkey = by (matches erase seq dkey) (time_under erases seq dkey) (time-any erases seq dkey)
   where

@@ -265,3 +265,57 @@ fn a_refusal_of_a_cursor_is_handed_on(rt: HostRuntime) -> Result<(), Fail> {
     assert_eq!(rt; refused, Some(ReadRefused::NoMemory));
     Ok(())
 }
+
+/// Whether these entries are left of two entries, the first of which has the lower key.
+fn settles(
+    alloc: Global,
+    pair: &[Row; 2],
+    erases: &[Erase],
+    alone: bool,
+    wanted: &[Row],
+) -> Result<bool, Fail> {
+    let first = entry_of(alloc, &pair[0])?;
+    let second = entry_of(alloc, &pair[1])?;
+    if first.key >= second.key {
+        return Ok(false);
+    }
+    let mut entries = Vec::new(alloc);
+    entries.push(first)?;
+    entries.push(second)?;
+    let left = settle(alloc, entries, &erases_of(alloc, erases)?, alone)?;
+    Ok(
+        left.len() == wanted.len()
+            && left
+                .iter()
+                .zip(wanted)
+                .all(|(entry, row)| is_row(entry, row)),
+    )
+}
+
+#[test]
+fn one_list_is_settled(rt: HostRuntime) -> Result<(), Fail> {
+    let alloc = rt.alloc();
+    let pair = [("a", 4, Some(10), None), ("b", 9, Some(30), Some(6))];
+    let erase = (5, 8, 10, 31);
+    let rows: [(&[Erase], bool, &[Row]); 4] = [
+        (&[], false, &pair),
+        (
+            &[erase],
+            false,
+            &[("a", 4, None, Some(8)), ("b", 9, Some(30), Some(6))],
+        ),
+        (
+            &[],
+            true,
+            &[("a", 4, Some(10), None), ("b", 9, Some(30), None)],
+        ),
+        (&[erase], true, &[("b", 9, Some(30), None)]),
+    ];
+    for (place, (erases, alone, wanted)) in rows.into_iter().enumerate() {
+        assert!(rt;
+            settles(alloc, &pair, erases, alone, wanted)?,
+            "row {place}"
+        );
+    }
+    Ok(())
+}
