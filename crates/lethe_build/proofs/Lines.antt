@@ -17,7 +17,7 @@ use Rattle.lethe_file.specs.Agreement.{Agrees, IsFilterOf, entries_in, fence_of,
 use Rattle.lethe_file.specs.Agreement as agreement
 use Rattle.lethe_file.proofs.Pages.{same_entries}
 use Rattle.lethe_build.specs.Built.{class_of, spelled}
-use Rattle.lethe_build.specs.Parts.{IsPage, IsLineOf}
+use Rattle.lethe_build.specs.Parts.{IsLineOf}
 use Rattle.lethe_build.proofs.Fences.{page_fence}
 
 -- ---- the greatest place
@@ -71,19 +71,19 @@ oldest_more entries i d below = ap oldest_of (take_more entries i d below) ∙ o
 -- ---- the line
 
 -- a line whose fields are those of the entries is theirs
-pub is_line_of : (entries : List Entry) (line : PageLine) → IsPage entries → line.no ≤ max_place → line.class ≡ class_of entries → line.entries ≡ length entries → line.max_seq ≡ most_then 0 entries
+pub is_line_of : (entries : List Entry) (line : PageLine) → pages.HasSpelling (class_of entries) entries → line.no ≤ max_place → line.class ≡ class_of entries → line.entries ≡ length entries → line.max_seq ≡ most_then 0 entries
     → line.oldest ≡ oldest_of entries → line.fence ≡ fence_of entries → IsFilterOf (keys_of entries) line.filter → line.digest ≡ sha256 (spelled entries) → IsLineOf entries line
 is_line_of entries line page low class len max_seq oldest fence filter digest =
     let class_is : Class = class_of entries in
-    let fits : pages.HasSpelling line.class entries = subst (λ (c : Class). pages.HasSpelling c entries) (sym class) page.has_spelling in
-    let same : entries_in (spelled entries) ≡ entries = same_entries (class_of entries) entries page.has_spelling in
+    let fits : pages.HasSpelling line.class entries = subst (λ (c : Class). pages.HasSpelling c entries) (sym class) page in
+    let same : entries_in (spelled entries) ≡ entries = same_entries (class_of entries) entries page in
     let bytes : page_bytes line.class entries ≡ spelled entries = ap (λ (c : Class). page_bytes c entries) class in
     record {
       itself = record {
         no = low;
-        some = omega (arith, len, page.has_spelling.some);
-        place = subst IsPlace (sym max_seq) (page_place (class_of entries) entries page.has_spelling);
-        oldest = subst IsTimeOrNone (sym oldest) (page_oldest (class_of entries) entries page.has_spelling.each);
+        some = omega (arith, len, page.some);
+        place = subst IsPlace (sym max_seq) (page_place (class_of entries) entries page);
+        oldest = subst IsTimeOrNone (sym oldest) (page_oldest (class_of entries) entries page.each);
         fence = subst (IsFence line.class) (sym fence) (page_fence line.class entries fits);
         filter = record { len = omega (arith, filter.len, len, length-map entries (λ (e : Entry). e.key)); each = filter.each };
         digest = ap length digest ∙ length-sha256 (spelled entries);

@@ -11,6 +11,7 @@ mod tile;
 
 pub use building::{build, most_numbers};
 pub use built::Built;
+pub use page::line_of;
 
 #[cfg(test)]
 mod tests;

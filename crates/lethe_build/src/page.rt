@@ -2,8 +2,9 @@
 ghost use Rattle.std.specs.Prelude.{◌≡◌, ◌≤◌, ◌<◌, ◌^◌, length, All, IfOk};
 ghost use Rattle.sha2.specs.Sha256.{sha256};
 ghost use Rattle.lethe_base.specs.Limits.{max_place};
-ghost use Rattle.lethe_file.specs.Agreement.{IsFilterOf};
-ghost use Rattle.lethe_build.specs.Built.{spelled};
+ghost use Rattle.lethe_page.specs.Pages.{HasSpelling};
+ghost use Rattle.lethe_file.specs.Agreement.{IsFilterOf, keys_of};
+ghost use Rattle.lethe_build.specs.Built.{class_of, spelled};
 ghost use Rattle.lethe_build.specs.Parts.{IsPage, IsLineOf};
 
 use crate::line::{class_of, fence_of, keys_of, max_seq_of, oldest_of};
@@ -38,6 +39,40 @@ fn are_words(words: &[u64])
     ensures { All (λ word. word < 2 ^ 64) words.now }
 {}
 
+/// The line of the page of these entries, with this number, which is spelled by these bytes; and the keys, taken from the entries.
+pub fn line_of(
+    alloc: Global,
+    no: u64,
+    entries: Vec<Entry>,
+    bytes: &[u8],
+) -> Result<(PageLine, Vec<Key>), NoMemory>
+    requires number { no ≤ max_place }
+    requires page { HasSpelling (class_of entries.items) entries.items }
+    requires bytes { bytes.now ≡ spelled entries.items }
+    ensures number { IfOk result (λ line. line.0.no ≡ no) }
+    ensures line { IfOk result (λ line. IsLineOf entries.items line.0) }
+    ensures keys { IfOk result (λ line. line.1.items ≡ keys_of entries.items) }
+{
+    let class = class_of(&entries);
+    let count = entries.len() as u32;
+    let max_seq = max_seq_of(&entries);
+    let oldest = oldest_of(&entries);
+    let fence = fence_of(&entries);
+    let keys = keys_of(alloc, entries)?;
+    let filter = filter_of(alloc, &keys)?;
+    let line = PageLine {
+        no,
+        class,
+        entries: count,
+        max_seq,
+        oldest,
+        fence,
+        filter,
+        digest: digest_of(bytes),
+    };
+    Ok((line, keys))
+}
+
 /// The line and the bytes of the page of these entries, with this number.
 pub fn build_page(
     alloc: Global,
@@ -51,22 +86,7 @@ pub fn build_page(
     ensures bytes { IfOk result (λ page. page.1 ≡ spelled entries) }
 {
     let entries = entries.into_vec();
-    let class = class_of(&entries);
-    let bytes = write_page(alloc, class, &entries)?;
-    let count = entries.len() as u32;
-    let max_seq = max_seq_of(&entries);
-    let oldest = oldest_of(&entries);
-    let fence = fence_of(&entries);
-    let filter = filter_of(alloc, &keys_of(alloc, entries)?)?;
-    let line = PageLine {
-        no,
-        class,
-        entries: count,
-        max_seq,
-        oldest,
-        fence,
-        filter,
-        digest: digest_of(&bytes),
-    };
+    let bytes = write_page(alloc, class_of(&entries), &entries)?;
+    let (line, _) = line_of(alloc, no, entries, &bytes)?;
     Ok((line, List::of(bytes)))
 }
