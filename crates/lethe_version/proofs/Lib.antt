@@ -6,3 +6,4 @@ pub mod Rising
 pub mod Levels
 pub mod Whole
 pub mod OneNewest
+pub mod Opened

@@ -3,6 +3,7 @@
 
 mod laws;
 mod level;
+mod opening;
 mod probing;
 mod searching;
 mod shared;
@@ -10,6 +11,7 @@ mod sorting;
 mod version;
 
 pub use laws::one_newest;
+pub use opening::open_file;
 pub use shared::Shared;
 pub use version::Version;
 

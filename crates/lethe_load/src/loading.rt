@@ -1,0 +1,49 @@
+//! Reading what the greatest gate commits.
+ghost use Rattle.std.specs.Prelude.{◌≡◌, ◌⊎◌, ◌≤◌, None, IfErr, IfOk, MatchResult};
+ghost use Rattle.lethe_disk.specs.Quiet.{IsQuiet};
+ghost use Rattle.lethe_commit.specs.Switch.{HasGreatest};
+ghost use Rattle.lethe_load.specs.Loaded.{nothing, read_of, shown, IsLoaded, IsSpelledOut};
+ghost use Rattle.lethe_load.specs.Refused.{HasReason, IsInterrupted, MayRefuse};
+ghost use Rattle.lethe_load.specs.declared.refused.RecoverRefused.{RecoverRefused};
+ghost use Rattle.lethe_stored.specs.Encodes.{Encodes};
+ghost use Rattle.lethe_stored.specs.Levels.{AreRising};
+ghost use Rattle.lethe_stored.specs.Stored.{Stored, IsCoherent};
+
+use crate::{RecoverRefused, Recovered};
+use lethe_base::Config;
+use lethe_disk::Disk;
+use std::alloc::Global;
+
+/// Reads the manifest of the greatest gate, the records of the segments that it cites, and its files, whose pages are opened. It changes
+/// nothing. A segment or a header is read once, a page once before it is opened, and none is digested twice.
+///
+/// # Errors
+///
+/// See `RecoverRefused`. The manifest is looked at before its configuration, and this before what it cites.
+pub fn load<D: Disk>(
+    alloc: Global,
+    disk: &mut D,
+    config: &Config,
+) -> Result<Recovered<D>, RecoverRefused>
+    // What is read has a spelling, and the directory encodes it.
+    ensures spelled { IfOk result (λ read. IsSpelledOut config.now (shown read)) }
+    ensures found { D.tells → IfOk result (λ read. IsLoaded config.now (D.seen disk.old).directory (shown read)) }
+
+    // What it encodes is read, unless the disk fails or memory runs out.
+    ensures only { D.tells → (s : Stored) → IsCoherent s → Encodes (D.seen disk.old).directory s → AreRising s.files → s.manifest.config ≡ config.now
+        → MatchResult result (λ read. shown read ≡ read_of s) (IsInterrupted (D.faults disk.old) (D.faults disk.new)) }
+    ensures none { D.tells → HasGreatest None (D.seen disk.old).directory
+        → MatchResult result (λ read. shown read ≡ nothing) (IsInterrupted (D.faults disk.old) (D.faults disk.new)) }
+
+    // A refusal has its reason: in the directory, in the count of faults, or want of memory.
+    ensures refused { IfErr result (MayRefuse D.tells config.now (D.seen disk.old).directory (D.faults disk.old) (D.faults disk.new)) }
+
+    // Where the directory has a reason, it is told, unless the disk fails or memory runs out.
+    ensures exact { D.tells → (why : RecoverRefused) → HasReason config.now (D.seen disk.old).directory why
+        → MatchResult result (λ read. ⊥) (λ told. (told ≡ why) ⊎ IsInterrupted (D.faults disk.old) (D.faults disk.new) told) }
+
+    ensures quiet { D.tells → IsQuiet (D.seen disk.old) (D.seen disk.new) }
+    ensures faults { D.faults disk.old ≤ D.faults disk.new }
+{
+    Err(RecoverRefused::NoMemory)
+}
