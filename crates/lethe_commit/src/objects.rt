@@ -90,8 +90,12 @@ fn create_each<D: Disk>(disk: &mut D, objects: &[Object]) -> Result<(), DiskRefu
     Ok(())
 }
 
-// Removes these objects, each of which stands in the list once, and doesn't sync.
-fn remove_objects<D: Disk>(disk: &mut D, objects: &[Object]) -> Result<(), DiskRefused>
+/// Removes these objects, each of which stands in the list once, and doesn't sync. It takes no memory.
+///
+/// # Errors
+///
+/// `Failed` where the disk failed: then each of these objects may or may not be there.
+pub fn remove_objects<D: Disk>(disk: &mut D, objects: &[Object]) -> Result<(), DiskRefused>
     requires { D.tells → ArePresent (map name_of objects.now) (D.seen disk.old).directory }
     ensures any_moment { D.tells → Leads (IsCleared (map name_of objects.now)) (D.seen disk.old) (D.seen disk.new) }
     ensures done { D.tells → OnOk result ((D.seen disk.new).directory ≡ remove_all (map name_of objects.now) (D.seen disk.old).directory) }

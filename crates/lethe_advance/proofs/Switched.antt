@@ -1,0 +1,146 @@
+-- A directory in which a step is done: the objects are written, the manifest is switched, and what isn't cited any more is removed.
+use Rattle.std.proofs.Common.{◌≡◌, ◌≢◌, ◌⊎◌, inl, inr, List, Some, None, true, false, sym, ap, ◌∙◌, subst}
+use Rattle.std.specs.Prelude.{Contains, IsSome, is_some}
+use Rattle.std.proofs.lemmas.List.Elements.{All-contains}
+use Rattle.lethe_base.specs.declared.name.Kind.TheVariants as kinds
+use Rattle.lethe_base.specs.declared.name.Name.{Name}
+use Rattle.lethe_disk.specs.Directory.{Directory, object}
+use Rattle.lethe_disk.proofs.Objects.{name_cases, object_removed, object_beside_remove}
+use Rattle.lethe_header.specs.declared.header.Header.{Header}
+use Rattle.lethe_manifest.specs.Manifests.{manifest_bytes}
+use Rattle.lethe_commit.specs.Clear.{ArePresent, remove_all}
+use Rattle.lethe_commit.specs.Gates.{gate_name}
+use Rattle.lethe_commit.specs.Place.{name_of}
+use Rattle.lethe_commit.specs.Switch.{manifest_name, IsSwitched, HasNew, placed, switched}
+use Rattle.lethe_commit.proofs.Creations.{object_beside_all}
+use Rattle.lethe_commit.proofs.Exchange.{beside_placed}
+use Rattle.lethe_commit.proofs.Placing.{gate≢manifest}
+use Rattle.lethe_commit.proofs.Removals.{cleared_absent, cleared_others}
+use Rattle.lethe_stored.specs.Stored.{Stored, IsCoherent, IsCited, part_names}
+use Rattle.lethe_stored.specs.Encodes.{Encodes, AreSpare}
+use Rattle.lethe_stored.proofs.Frame.{none_of}
+use Rattle.lethe_stored.proofs.Lists.{from_map}
+use Rattle.lethe_stored.proofs.Parts.{part_kind}
+use Rattle.lethe_stored.proofs.Steps.{switch_encodes}
+use Rattle.lethe_advance.specs.declared.step.Step.{Step}
+use Rattle.lethe_advance.specs.Settled.{HasOnly}
+use Rattle.lethe_advance.specs.Steps.{IsStep, IsUncited}
+use Rattle.lethe_advance.proofs.Names.{is_among, all_present}
+use Rattle.lethe_advance.proofs.Placed.{part_there, written, names, older_below, still, part_stays, next_there, after}
+
+true≢false : true ≡ false → ⊥
+true≢false e = cc
+
+module _ (s t : Stored) (headers : List Header) (step : Step) (coherent : IsCoherent s) (is : IsStep s t headers step) where
+  abbrev pub gone : List Name
+  gone = step.gone.items
+
+  uncited_at : (name : Name) → Contains gone name → IsUncited s t name
+  uncited_at name there = All-contains (IsUncited s t) gone name is.gone there
+
+  pub gone_spare : AreSpare t gone
+  gone_spare name there = record {
+    uncited = uncited;
+    no_gate = λ k lt same. kind.0 (ap (λ (x : Name). x.kind) same);
+  }
+    where
+      out : IsUncited s t name
+      out = uncited_at name there
+
+      kind : (name.kind ≢ kinds.Gate) × (name.kind ≢ kinds.Manifest)
+      kind = part_kind s name out.0
+
+      uncited : IsCited t name → ⊥
+      uncited (inl gate) = kind.0 (ap (λ (x : Name). x.kind) gate)
+      uncited (inr (inl manifest)) = kind.1 (ap (λ (x : Name). x.kind) manifest)
+      uncited (inr (inr part)) = out.1 part
+
+  module _ (d : Directory) (only : HasOnly s d) (e : Encodes d s) where
+    abbrev made : Directory
+    made = after s t headers step coherent is d only e
+
+    -- what a switch leaves
+    pub switch_left : (c : Directory) → IsSwitched t.manifest.no (manifest_bytes t.manifest) (Some s.manifest.no) made c → Encodes c s ⊎ Encodes c t
+    switch_left c left = switch_encodes s t made c (still s t headers step coherent is d only e) (next_there s t headers step coherent is d only e) (older_below s t headers step coherent is) left
+
+    -- and what it leaves where the new gate is there
+    pub switch_new : (c : Directory) → IsSwitched t.manifest.no (manifest_bytes t.manifest) (Some s.manifest.no) made c → HasNew t.manifest.no (manifest_bytes t.manifest) c → Encodes c t
+    switch_new c left new = elim (switch_left c left) [
+      | inl old ↦ absurd (true≢false (sym new.greatest_gate.0 ∙ ap is_some (old.greatest.1 t.manifest.no (older_below s t headers step coherent is))))
+      | inr next ↦ next
+    ]
+
+    module _ (now : Directory) (done : now ≡ switched t.manifest.no (manifest_bytes t.manifest) (Some s.manifest.no) made) where
+      -- an object beside all that was switched
+      beside_all : (name : Name) → name ≢ manifest_name t.manifest.no → name ≢ gate_name t.manifest.no → name ≢ gate_name s.manifest.no → name ≢ manifest_name s.manifest.no → object now name ≡ object made name
+      beside_all name a b x y = ap (λ z. object z name) done ∙ object_beside_remove _ (manifest_name s.manifest.no) name y ∙ object_beside_remove (placed t.manifest.no (manifest_bytes t.manifest) made) (gate_name s.manifest.no) name x
+          ∙ beside_placed t.manifest.no (manifest_bytes t.manifest) made name (a, (b, tt))
+
+      other_kind : (name : Name) → (name.kind ≢ kinds.Gate) × (name.kind ≢ kinds.Manifest) → object now name ≡ object made name
+      other_kind name kind = beside_all name (λ k. kind.1 (ap (λ (x : Name). x.kind) k)) (λ k. kind.0 (ap (λ (x : Name). x.kind) k)) (λ k. kind.0 (ap (λ (x : Name). x.kind) k)) (λ k. kind.1 (ap (λ (x : Name). x.kind) k))
+
+      pub gone_present : ArePresent gone now
+      gone_present = all_present gone now is.gone_once (λ name there.
+          let part = (uncited_at name there).0 in
+          ap is_some (other_kind name (part_kind s name part) ∙ part_stays s t headers step coherent is d only e name part) ∙ part_there d s name e.parts part)
+
+      gate_gone : object now (gate_name s.manifest.no) ≡ None
+      gate_gone = ap (λ z. object z (gate_name s.manifest.no)) done ∙ object_beside_remove _ (manifest_name s.manifest.no) (gate_name s.manifest.no) (gate≢manifest s.manifest.no s.manifest.no)
+          ∙ object_removed (placed t.manifest.no (manifest_bytes t.manifest) made) (gate_name s.manifest.no)
+
+      manifest_gone : object now (manifest_name s.manifest.no) ≡ None
+      manifest_gone = ap (λ z. object z (manifest_name s.manifest.no)) done ∙ object_removed _ (manifest_name s.manifest.no)
+
+      abbrev pub cleared : Directory
+      cleared = remove_all gone now
+
+      pub part_kept : (name : Name) → Contains (part_names t) name → object cleared name ≡ object made name
+      part_kept name part = cleared_others gone now name (none_of gone name (λ there. (uncited_at name there).1 part)) ∙ other_kind name (part_kind t name part)
+
+      module _ (name : Name) (there : IsSome (object cleared name)) where
+        isn't_gone : object cleared name ≡ None → ⊥
+        isn't_gone none = true≢false (sym there ∙ ap is_some none)
+
+        not_gone : Contains gone name → ⊥
+        not_gone among = isn't_gone (cleared_absent gone among.0 name now among.1 (sym among.2))
+
+        there_now : IsSome (object now name)
+        there_now = sym (ap is_some (cleared_others gone now name (none_of gone name not_gone))) ∙ there
+
+        not_gate : name ≢ gate_name s.manifest.no
+        not_gate same = true≢false (sym there_now ∙ ap is_some (ap (object now) same ∙ gate_gone))
+
+        not_manifest : name ≢ manifest_name s.manifest.no
+        not_manifest same = true≢false (sym there_now ∙ ap is_some (ap (object now) same ∙ manifest_gone))
+
+        part_next : Contains (part_names s) name → Contains (part_names t) name
+        part_next part = elim (All-contains (λ n. Contains (part_names t) n ⊎ Contains gone n) (part_names s) name is.stays part) [
+          | inl next ↦ next
+          | inr out ↦ absurd (not_gone out)
+        ]
+
+        from_old : IsSome (object d name) → IsCited t name
+        from_old here = elim (only name here) [
+          | inl gate ↦ absurd (not_gate gate)
+          | inr rest ↦ elim rest [
+            | inl manifest ↦ absurd (not_manifest manifest)
+            | inr part ↦ inr (inr (part_next part))
+          ]
+        ]
+
+        from_made : IsSome (object made name) → IsCited t name
+        from_made here = elim (is_among (names s t headers step coherent is) name) [
+          | inl among ↦
+              let found = from_map name_of (written s t headers step coherent is) name among in
+              inr (inr (subst (Contains (part_names t)) found.2 (All-contains (λ m. Contains (part_names t) m.name) step.objects.items found.0 is.cited found.1)))
+          | inr out ↦ from_old (sym (ap is_some (object_beside_all step.objects.items d name (none_of (names s t headers step coherent is) name out))) ∙ here)
+        ]
+
+        pub only_next : IsCited t name
+        only_next = elim (name_cases name (gate_name t.manifest.no)) [
+          | inl gate ↦ inl gate
+          | inr ne_gate ↦ elim (name_cases name (manifest_name t.manifest.no)) [
+            | inl manifest ↦ inr (inl manifest)
+            | inr ne_manifest ↦ from_made (sym (ap is_some (beside_all name ne_manifest ne_gate not_gate not_manifest)) ∙ there_now)
+          ]
+        ]

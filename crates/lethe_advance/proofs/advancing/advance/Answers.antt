@@ -1,0 +1,309 @@
+use Rattle.std.proofs.Common.{Err, map, sym, ap, ◌∙◌, subst, Some}
+use Rattle.lethe_disk.specs.Runs.{Leads}
+use Rattle.lethe_commit.specs.Clear.{ArePresent, IsCleared, remove_all}
+use Rattle.lethe_commit.specs.Place.{name_of}
+use Rattle.lethe_advance.specs.Shown.{AreLevelsWith, parts_by_level}
+use Rattle.lethe_advance.proofs.Leveled.{files_next}
+use Rattle.lethe_advance.proofs.Running.{absent_before, place_moments, free_placed, pages_placed, opened_placed, exchange_moments, present_again, removal_moments, back_again, present_placed, clear_moments, settled_next, kept_next}
+use Rattle.lethe_advance.proofs.advancing.advance.Goals as goal
+
+pub place_all-requires-after_bounds : goal.place_all-requires-after_bounds
+place_all-requires-after_bounds g c κs within = λ told.
+    let asked = c.requires.step told in
+    let s = asked.0 in
+    let t = asked.1 in
+    let settled = asked.2 in
+    let only = asked.3 in
+    let is = asked.4 in
+    let s0 = g.D.Disk.seen c.args.disk.now in
+    let headers = c.args.headers.items in
+    let step = c.args.step.now in
+    let objects = c.deref.result.now in
+    let same = c.deref.ensures.value in
+    absent_before s t headers step s0 settled only is objects same
+
+pub returns-in_err-place_all-clause-any_moment : goal.returns-in_err-place_all-clause-any_moment
+returns-in_err-place_all-clause-any_moment g c = λ told s t settled only is.
+    let s0 = g.D.Disk.seen c.args.disk.now in
+    let headers = c.args.headers.items in
+    let step = c.args.step.now in
+    let objects = c.deref.result.now in
+    let same = c.deref.ensures.value in
+    let s1 = g.D.Disk.seen c.place_all.new.disk in
+    let placing = c.place_all.ensures.any_moment told in
+    place_moments s t headers step s0 settled only is objects same s1 placing
+
+pub exchange-requires-clause-present : goal.exchange-requires-clause-present
+exchange-requires-clause-present g c κs within = λ told.
+    let asked = c.requires.step told in
+    let s = asked.0 in
+    let t = asked.1 in
+    let settled = asked.2 in
+    let only = asked.3 in
+    let is = asked.4 in
+    let s0 = g.D.Disk.seen c.args.disk.now in
+    let headers = c.args.headers.items in
+    let step = c.args.step.now in
+    let objects = c.deref.result.now in
+    let same = c.deref.ensures.value in
+    let s1 = g.D.Disk.seen c.place_all.new.disk in
+    let placing = c.place_all.ensures.any_moment told in
+    let synced = c.in_ok-place_all.ensures.synced told in
+    let done = c.in_ok-place_all.ensures.done told in
+    pages_placed s t headers step s0 settled only is objects same s1 placing synced done
+
+pub exchange-requires-clause-free : goal.exchange-requires-clause-free
+exchange-requires-clause-free g c κs within = λ told.
+    let asked = c.requires.step told in
+    let s = asked.0 in
+    let t = asked.1 in
+    let settled = asked.2 in
+    let only = asked.3 in
+    let is = asked.4 in
+    let s0 = g.D.Disk.seen c.args.disk.now in
+    let headers = c.args.headers.items in
+    let step = c.args.step.now in
+    let objects = c.deref.result.now in
+    let same = c.deref.ensures.value in
+    let s1 = g.D.Disk.seen c.place_all.new.disk in
+    let placing = c.place_all.ensures.any_moment told in
+    let synced = c.in_ok-place_all.ensures.synced told in
+    let done = c.in_ok-place_all.ensures.done told in
+    (Some s.manifest.no, free_placed s t headers step s0 settled only is objects same s1 placing synced done)
+
+pub clear-requires-after_bounds : goal.clear-requires-after_bounds
+clear-requires-after_bounds g c κs within = λ told.
+    let asked = c.requires.step told in
+    let s = asked.0 in
+    let t = asked.1 in
+    let settled = asked.2 in
+    let only = asked.3 in
+    let is = asked.4 in
+    let s0 = g.D.Disk.seen c.args.disk.now in
+    let headers = c.args.headers.items in
+    let step = c.args.step.now in
+    let objects = c.deref.result.now in
+    let same = c.deref.ensures.value in
+    let s1 = g.D.Disk.seen c.place_all.new.disk in
+    let placing = c.place_all.ensures.any_moment told in
+    let synced = c.in_ok-place_all.ensures.synced told in
+    let done = c.in_ok-place_all.ensures.done told in
+    let s2 = g.D.Disk.seen c.exchange.new.disk in
+    let free = free_placed s t headers step s0 settled only is objects same s1 placing synced done in
+    let exchanging = c.exchange.ensures.any_moment told (Some s.manifest.no) free in
+    let new = c.in-Ok.ensures.new told in
+    let switched_is = c.in-Ok.ensures.done told (Some s.manifest.no) free in
+    let gone = c.deref-in-Ok.result.now in
+    let gone_is = c.deref-in-Ok.ensures.value in
+    present_placed s t headers step s0 settled only is objects same s1 placing synced done s2 exchanging new switched_is gone gone_is
+
+pub returns-in_err-clear-in-Ok-clause-any_moment : goal.returns-in_err-clear-in-Ok-clause-any_moment
+returns-in_err-clear-in-Ok-clause-any_moment g c = λ told s t settled only is.
+    let s0 = g.D.Disk.seen c.args.disk.now in
+    let headers = c.args.headers.items in
+    let step = c.args.step.now in
+    let objects = c.deref.result.now in
+    let same = c.deref.ensures.value in
+    let s1 = g.D.Disk.seen c.place_all.new.disk in
+    let placing = c.place_all.ensures.any_moment told in
+    let synced = c.in_ok-place_all.ensures.synced told in
+    let done = c.in_ok-place_all.ensures.done told in
+    let s2 = g.D.Disk.seen c.exchange.new.disk in
+    let free = free_placed s t headers step s0 settled only is objects same s1 placing synced done in
+    let exchanging = c.exchange.ensures.any_moment told (Some s.manifest.no) free in
+    let new = c.in-Ok.ensures.new told in
+    let switched_is = c.in-Ok.ensures.done told (Some s.manifest.no) free in
+    let gone = c.deref-in-Ok.result.now in
+    let gone_is = c.deref-in-Ok.ensures.value in
+    let s3 = g.D.Disk.seen c.clear.new.disk in
+    let clearing = c.clear.ensures.any_moment told in
+    clear_moments s t headers step s0 settled only is objects same s1 placing synced done s2 exchanging new switched_is gone gone_is s3 clearing
+
+pub take_back-requires-after_bounds : goal.take_back-requires-after_bounds
+take_back-requires-after_bounds g c κs within = λ told.
+    let asked = c.requires.step told in
+    let s = asked.0 in
+    let t = asked.1 in
+    let settled = asked.2 in
+    let only = asked.3 in
+    let is = asked.4 in
+    let s0 = g.D.Disk.seen c.args.disk.now in
+    let headers = c.args.headers.items in
+    let step = c.args.step.now in
+    let objects = c.deref.result.now in
+    let same = c.deref.ensures.value in
+    let s1 = g.D.Disk.seen c.place_all.new.disk in
+    let placing = c.place_all.ensures.any_moment told in
+    let synced = c.in_ok-place_all.ensures.synced told in
+    let done = c.in_ok-place_all.ensures.done told in
+    let s2 = g.D.Disk.seen c.exchange.new.disk in
+    let free = free_placed s t headers step s0 settled only is objects same s1 placing synced done in
+    let exchanging = c.exchange.ensures.any_moment told (Some s.manifest.no) free in
+    let back = c.exchange.ensures.no_memory told (c.in-Err-NoMemory.is ∙ ap (λ e. Err e) c.in-Err-NoMemory.field-0-is) in
+    subst (λ l. ArePresent (map name_of l) s2.directory) (same ∙ sym c.deref-in-Err-NoMemory.ensures.value) (present_again s t headers step s0 settled only is objects same s1 placing synced done s2 exchanging back)
+
+pub returns-in_err-take_back-in-Err-NoMemory-clause-any_moment : goal.returns-in_err-take_back-in-Err-NoMemory-clause-any_moment
+returns-in_err-take_back-in-Err-NoMemory-clause-any_moment g c = λ told s t settled only is.
+    let s0 = g.D.Disk.seen c.args.disk.now in
+    let headers = c.args.headers.items in
+    let step = c.args.step.now in
+    let objects = c.deref.result.now in
+    let same = c.deref.ensures.value in
+    let s1 = g.D.Disk.seen c.place_all.new.disk in
+    let placing = c.place_all.ensures.any_moment told in
+    let synced = c.in_ok-place_all.ensures.synced told in
+    let done = c.in_ok-place_all.ensures.done told in
+    let s2 = g.D.Disk.seen c.exchange.new.disk in
+    let free = free_placed s t headers step s0 settled only is objects same s1 placing synced done in
+    let exchanging = c.exchange.ensures.any_moment told (Some s.manifest.no) free in
+    let back = c.exchange.ensures.no_memory told (c.in-Err-NoMemory.is ∙ ap (λ e. Err e) c.in-Err-NoMemory.field-0-is) in
+    let s3 = g.D.Disk.seen c.take_back.new.disk in
+    let as_placed = c.deref-in-Err-NoMemory.ensures.value ∙ sym same in
+    let removing = subst (λ l. Leads (IsCleared (map name_of l)) s2 s3) as_placed (c.take_back.ensures.any_moment told) in
+    removal_moments s t headers step s0 settled only is objects same s1 placing synced done s2 exchanging back s3 removing
+
+pub returns-in_ok-clear-in-Ok-clause-any_moment : goal.returns-in_ok-clear-in-Ok-clause-any_moment
+returns-in_ok-clear-in-Ok-clause-any_moment g c = λ told s t settled only is.
+    let s0 = g.D.Disk.seen c.args.disk.now in
+    let headers = c.args.headers.items in
+    let step = c.args.step.now in
+    let objects = c.deref.result.now in
+    let same = c.deref.ensures.value in
+    let s1 = g.D.Disk.seen c.place_all.new.disk in
+    let placing = c.place_all.ensures.any_moment told in
+    let synced = c.in_ok-place_all.ensures.synced told in
+    let done = c.in_ok-place_all.ensures.done told in
+    let s2 = g.D.Disk.seen c.exchange.new.disk in
+    let free = free_placed s t headers step s0 settled only is objects same s1 placing synced done in
+    let exchanging = c.exchange.ensures.any_moment told (Some s.manifest.no) free in
+    let new = c.in-Ok.ensures.new told in
+    let switched_is = c.in-Ok.ensures.done told (Some s.manifest.no) free in
+    let gone = c.deref-in-Ok.result.now in
+    let gone_is = c.deref-in-Ok.ensures.value in
+    let s3 = g.D.Disk.seen c.clear.new.disk in
+    let clearing = c.clear.ensures.any_moment told in
+    clear_moments s t headers step s0 settled only is objects same s1 placing synced done s2 exchanging new switched_is gone gone_is s3 clearing
+
+pub returns-in_ok-clear-in-Ok-clause-done : goal.returns-in_ok-clear-in-Ok-clause-done
+returns-in_ok-clear-in-Ok-clause-done g c = λ told s t settled only is.
+    let s0 = g.D.Disk.seen c.args.disk.now in
+    let headers = c.args.headers.items in
+    let step = c.args.step.now in
+    let objects = c.deref.result.now in
+    let same = c.deref.ensures.value in
+    let s1 = g.D.Disk.seen c.place_all.new.disk in
+    let placing = c.place_all.ensures.any_moment told in
+    let synced = c.in_ok-place_all.ensures.synced told in
+    let done = c.in_ok-place_all.ensures.done told in
+    let s2 = g.D.Disk.seen c.exchange.new.disk in
+    let free = free_placed s t headers step s0 settled only is objects same s1 placing synced done in
+    let exchanging = c.exchange.ensures.any_moment told (Some s.manifest.no) free in
+    let new = c.in-Ok.ensures.new told in
+    let switched_is = c.in-Ok.ensures.done told (Some s.manifest.no) free in
+    let gone = c.deref-in-Ok.result.now in
+    let gone_is = c.deref-in-Ok.ensures.value in
+    let s3 = g.D.Disk.seen c.clear.new.disk in
+    let clearing = c.clear.ensures.any_moment told in
+    let here = (g.met.D.Disk g.world.𝓛 g.world.𝓜 g.world.𝓡 ((λ s x. x), (λ x. x), (λ x. x), λ x. x)).itself told c.exchange.new.disk in
+    settled_next s t headers step s0 settled only is objects same s1 placing synced done s2 exchanging new switched_is gone gone_is s3 clearing (c.in_ok-clear-in-Ok.ensures.done told) here (c.in_ok-clear-in-Ok.ensures.synced told)
+
+pub returns-in_ok-clear-in-Ok-clause-kept : goal.returns-in_ok-clear-in-Ok-clause-kept
+returns-in_ok-clear-in-Ok-clause-kept g c = λ told s t settled only is.
+    let s0 = g.D.Disk.seen c.args.disk.now in
+    let headers = c.args.headers.items in
+    let step = c.args.step.now in
+    let objects = c.deref.result.now in
+    let same = c.deref.ensures.value in
+    let s1 = g.D.Disk.seen c.place_all.new.disk in
+    let placing = c.place_all.ensures.any_moment told in
+    let synced = c.in_ok-place_all.ensures.synced told in
+    let done = c.in_ok-place_all.ensures.done told in
+    let s2 = g.D.Disk.seen c.exchange.new.disk in
+    let free = free_placed s t headers step s0 settled only is objects same s1 placing synced done in
+    let exchanging = c.exchange.ensures.any_moment told (Some s.manifest.no) free in
+    let new = c.in-Ok.ensures.new told in
+    let switched_is = c.in-Ok.ensures.done told (Some s.manifest.no) free in
+    let gone = c.deref-in-Ok.result.now in
+    let gone_is = c.deref-in-Ok.ensures.value in
+    let s3 = g.D.Disk.seen c.clear.new.disk in
+    let clearing = c.clear.ensures.any_moment told in
+    kept_next s t headers step s0 settled only is objects same s1 placing synced done s2 exchanging new switched_is gone gone_is s3 clearing (c.in_ok-clear-in-Ok.ensures.done told)
+
+pub returns-in_ok-clear-in-Ok-clause-files : goal.returns-in_ok-clear-in-Ok-clause-files
+returns-in_ok-clear-in-Ok-clause-files g c = λ told s t settled only is has.
+    let s0 = g.D.Disk.seen c.args.disk.now in
+    let headers = c.args.headers.items in
+    let step = c.args.step.now in
+    let objects = c.deref.result.now in
+    let same = c.deref.ensures.value in
+    let s1 = g.D.Disk.seen c.place_all.new.disk in
+    let placing = c.place_all.ensures.any_moment told in
+    let synced = c.in_ok-place_all.ensures.synced told in
+    let done = c.in_ok-place_all.ensures.done told in
+    let old = parts_by_level c.args.version.now in
+    let new = parts_by_level c.in-Ok.next in
+    let made = subst (λ added. AreLevelsWith step.merged.items step.level added old new) (opened_placed s t headers step s0 settled only is objects same s1 placing synced done) (c.in-Ok.ensures.files told) in
+    files_next s t headers step is old new has made
+
+pub returns-in-Err-Failed-clause-any_moment : goal.returns-in-Err-Failed-clause-any_moment
+returns-in-Err-Failed-clause-any_moment g c = λ told s t settled only is.
+    let s0 = g.D.Disk.seen c.args.disk.now in
+    let headers = c.args.headers.items in
+    let step = c.args.step.now in
+    let objects = c.deref.result.now in
+    let same = c.deref.ensures.value in
+    let s1 = g.D.Disk.seen c.place_all.new.disk in
+    let placing = c.place_all.ensures.any_moment told in
+    let synced = c.in_ok-place_all.ensures.synced told in
+    let done = c.in_ok-place_all.ensures.done told in
+    let s2 = g.D.Disk.seen c.exchange.new.disk in
+    let free = free_placed s t headers step s0 settled only is objects same s1 placing synced done in
+    let exchanging = c.exchange.ensures.any_moment told (Some s.manifest.no) free in
+    exchange_moments s t headers step s0 settled only is objects same s1 placing synced done s2 exchanging
+
+pub returns-in_ok-take_back-in-Err-NoMemory-clause-any_moment : goal.returns-in_ok-take_back-in-Err-NoMemory-clause-any_moment
+returns-in_ok-take_back-in-Err-NoMemory-clause-any_moment g c = λ told s t settled only is.
+    let s0 = g.D.Disk.seen c.args.disk.now in
+    let headers = c.args.headers.items in
+    let step = c.args.step.now in
+    let objects = c.deref.result.now in
+    let same = c.deref.ensures.value in
+    let s1 = g.D.Disk.seen c.place_all.new.disk in
+    let placing = c.place_all.ensures.any_moment told in
+    let synced = c.in_ok-place_all.ensures.synced told in
+    let done = c.in_ok-place_all.ensures.done told in
+    let s2 = g.D.Disk.seen c.exchange.new.disk in
+    let free = free_placed s t headers step s0 settled only is objects same s1 placing synced done in
+    let exchanging = c.exchange.ensures.any_moment told (Some s.manifest.no) free in
+    let back = c.exchange.ensures.no_memory told (c.in-Err-NoMemory.is ∙ ap (λ e. Err e) c.in-Err-NoMemory.field-0-is) in
+    let s3 = g.D.Disk.seen c.take_back.new.disk in
+    let as_placed = c.deref-in-Err-NoMemory.ensures.value ∙ sym same in
+    let removing = subst (λ l. Leads (IsCleared (map name_of l)) s2 s3) as_placed (c.take_back.ensures.any_moment told) in
+    removal_moments s t headers step s0 settled only is objects same s1 placing synced done s2 exchanging back s3 removing
+
+pub returns-in_ok-take_back-in-Err-NoMemory-clause-no_memory : goal.returns-in_ok-take_back-in-Err-NoMemory-clause-no_memory
+returns-in_ok-take_back-in-Err-NoMemory-clause-no_memory g c = λ told refused.
+    let asked = c.requires.step told in
+    let s = asked.0 in
+    let t = asked.1 in
+    let settled = asked.2 in
+    let only = asked.3 in
+    let is = asked.4 in
+    let s0 = g.D.Disk.seen c.args.disk.now in
+    let headers = c.args.headers.items in
+    let step = c.args.step.now in
+    let objects = c.deref.result.now in
+    let same = c.deref.ensures.value in
+    let s1 = g.D.Disk.seen c.place_all.new.disk in
+    let placing = c.place_all.ensures.any_moment told in
+    let synced = c.in_ok-place_all.ensures.synced told in
+    let done = c.in_ok-place_all.ensures.done told in
+    let s2 = g.D.Disk.seen c.exchange.new.disk in
+    let free = free_placed s t headers step s0 settled only is objects same s1 placing synced done in
+    let exchanging = c.exchange.ensures.any_moment told (Some s.manifest.no) free in
+    let back = c.exchange.ensures.no_memory told (c.in-Err-NoMemory.is ∙ ap (λ e. Err e) c.in-Err-NoMemory.field-0-is) in
+    let s3 = g.D.Disk.seen c.take_back.new.disk in
+    let as_placed = c.deref-in-Err-NoMemory.ensures.value ∙ sym same in
+    let removed = c.in_ok-take_back-in-Err-NoMemory.ensures.done told ∙ ap (λ l. remove_all (map name_of l) s2.directory) as_placed in
+    let here = (g.met.D.Disk g.world.𝓛 g.world.𝓜 g.world.𝓡 ((λ s x. x), (λ x. x), (λ x. x), λ x. x)).itself told c.args.disk.now in
+    back_again s t headers step s0 settled only is objects same s1 placing synced done s2 exchanging back s3 here removed (c.in_ok-take_back-in-Err-NoMemory.ensures.synced told)

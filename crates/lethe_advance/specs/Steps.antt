@@ -1,0 +1,53 @@
+-- From what is stored to what is stored next.
+use Rattle.std.specs.Prelude.{◌≡◌, ◌≢◌, ◌⊎◌, ◌≤◌, ℕ, List, ◌++◌, map, filter, All, AllPairs, Contains}
+use Rattle.std.specs.List.Sorted.{IsPermutation}
+use Rattle.lethe_base.specs.declared.name.Name.{Name}
+use Rattle.lethe_header.specs.declared.header.Header.{Header}
+use Rattle.lethe_segment.specs.Segments.{segment_bytes}
+use Rattle.lethe_stored.specs.Files.{StoredFile, objects_of}
+use Rattle.lethe_stored.specs.Stored.{Stored, Segment, IsCoherent, segments_of, segment_name, part_names}
+use Rattle.lethe_version.specs.Order.{is_kept}
+use Rattle.lethe_advance.specs.declared.step.Step.{Step}
+
+-- the bytes that a step writes, each under its name
+abbrev pub written_in : Step → List (Name × List ℕ)
+written_in step = map (λ made. (made.name, made.bytes)) step.objects.items
+
+-- the segment is stored already, or is written
+abbrev pub IsSegmentFrom : Stored → Step → Segment → Type 0
+IsSegmentFrom s step segment = Contains (segments_of s) segment ⊎ Contains (written_in step) (segment_name segment.no, segment_bytes segment.no segment.records)
+
+-- the same of a header or a page
+abbrev pub IsObjectFrom : Stored → Step → Name × List ℕ → Type 0
+IsObjectFrom s step named = Contains (objects_of s.files) named ⊎ Contains (written_in step) named
+
+-- it isn't cited any more
+abbrev pub IsUncited : Stored → Stored → Name → Type 0
+IsUncited s t name = Contains (part_names s) name × (Contains (part_names t) name → ⊥)
+
+-- the files that don't go
+abbrev pub kept_files : Stored → Step → List StoredFile
+kept_files s step = filter (λ file. is_kept step.merged.items file.header) s.files
+
+-- Objects are written, files are added in a level, files go, and so do the objects that aren't cited any more.
+pub record IsStep (s t : Stored) (headers : List Header) (step : Step) : Type 0 where
+  pub coherent : IsCoherent t
+  pub config : t.manifest.config ≡ s.manifest.config
+  pub manifest : step.manifest ≡ t.manifest
+  -- the manifest's number and those of the objects have not been drawn
+  pub later : s.manifest.next ≤ t.manifest.no
+  pub fresh : All (λ made. s.manifest.next ≤ made.name.no) step.objects.items
+  pub once : AllPairs (λ made other. made.name ≢ other.name) step.objects.items
+  -- what is cited next is stored already or is written, and all that is written is cited
+  pub segments : All (IsSegmentFrom s step) (segments_of t)
+  pub objects : All (IsObjectFrom s step) (objects_of t.files)
+  pub cited : All (λ made. Contains (part_names t) made.name) step.objects.items
+  -- what was cited is cited next or goes, and nothing else goes
+  pub stays : All (λ name. Contains (part_names t) name ⊎ Contains step.gone.items name) (part_names s)
+  pub gone : All (IsUncited s t) step.gone.items
+  pub gone_once : AllPairs (λ name other. name ≢ other) step.gone.items
+  -- the files of the headers come in the level, and the merged ones go
+  pub added : List StoredFile
+  pub headers_are : headers ≡ map (λ file. file.header) added
+  pub level : All (λ file. file.level ≡ step.level) added
+  pub files : IsPermutation (added ++ kept_files s step) t.files

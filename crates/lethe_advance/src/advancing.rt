@@ -1,0 +1,95 @@
+//! Going from what is stored to what is stored next.
+ghost use Rattle.std.specs.Prelude.{◌≡◌, ◌⊎◌, ◌+◌, ◌<◌, ◌≤◌, length, map, All, Contains, IfOk, OnOk, IsErrOf};
+ghost use Rattle.lethe_base.specs.declared.name.Name.{Name};
+ghost use Rattle.lethe_disk.specs.Directory.{object};
+ghost use Rattle.lethe_disk.specs.Disk.{HasCause, IsSynced};
+ghost use Rattle.lethe_disk.specs.Goes.{Goes};
+ghost use Rattle.lethe_disk.specs.Runs.{Leads};
+ghost use Rattle.lethe_disk.specs.declared.disk.DiskRefused.TheVariants.{NoMemory};
+ghost use Rattle.lethe_header.specs.Headers as header;
+ghost use Rattle.lethe_manifest.specs.Manifests.{HasSpelling};
+ghost use Rattle.lethe_commit.specs.Clear.{ArePresent, IsCleared, remove_all};
+ghost use Rattle.lethe_commit.specs.Place.{insert_all, name_of};
+ghost use Rattle.lethe_commit.specs.Switch.{IsTakenBack};
+ghost use Rattle.lethe_stored.specs.Stored.{Stored, part_names};
+ghost use Rattle.lethe_stored.specs.Encodes.{Encodes};
+ghost use Rattle.lethe_stored.specs.Levels.{HasFiles};
+ghost use Rattle.lethe_version.specs.Versions.{levels_of};
+ghost use Rattle.lethe_advance.specs.Settled.{IsSettled, HasOnly};
+ghost use Rattle.lethe_advance.specs.Shown.{parts_by_level};
+ghost use Rattle.lethe_advance.specs.Steps.{IsStep};
+
+use crate::Step;
+use crate::exchanging::exchange;
+use lethe_commit::{Object, clear, place_all, remove_objects};
+use lethe_disk::{Disk, DiskRefused};
+use lethe_header::Header;
+use lethe_version::Version;
+use std::alloc::Global;
+
+/// Goes from what is stored to what is stored next: writes the objects, opens the files of these headers, whose objects are among those
+/// that are written or stored, and adds them to the version, switches to the manifest, and removes what isn't cited any more.
+///
+/// # Errors
+///
+/// `NoMemory` where there was no memory: then nothing is changed, and what was written is gone again, and synced. `Failed` where the disk
+/// failed: then each crash leaves what was stored, or what is stored next.
+pub fn advance<D: Disk>(
+    alloc: Global,
+    disk: &mut D,
+    version: &Version<D>,
+    headers: Vec<Header>,
+    step: &Step,
+) -> Result<Version<D>, DiskRefused>
+    requires spelled { HasSpelling step.now.manifest }
+    requires headers { All header.HasSpelling headers.items }
+    requires level { step.now.level < length (levels_of version.now) }
+    requires step { D.tells → (s : Stored) × (t : Stored) × IsSettled (D.seen disk.old) s × HasOnly s (D.seen disk.old).directory
+        × IsStep s t headers.items step.now }
+
+    // A crash at any moment of the call leaves what was stored, or what is stored next.
+    ensures any_moment { D.tells → (s : Stored) → (t : Stored) → IsSettled (D.seen disk.old) s → HasOnly s (D.seen disk.old).directory
+        → IsStep s t headers.items step.now → Goes (λ c. Encodes c s ⊎ Encodes c t) (D.seen disk.old) (D.seen disk.new) }
+
+    // Acknowledged: each crash leaves what is stored next, and nothing else.
+    ensures done { D.tells → (s : Stored) → (t : Stored) → IsSettled (D.seen disk.old) s → HasOnly s (D.seen disk.old).directory
+        → IsStep s t headers.items step.now → OnOk result (IsSettled (D.seen disk.new) t × HasOnly t (D.seen disk.new).directory) }
+
+    // What stays is as it was byte for byte, and what was written is there.
+    ensures kept { D.tells → (s : Stored) → (t : Stored) → IsSettled (D.seen disk.old) s → HasOnly s (D.seen disk.old).directory
+        → IsStep s t headers.items step.now → OnOk result ((name : Name) → Contains (part_names t) name
+        → object (D.seen disk.new).directory name ≡ object (insert_all step.now.objects.items (D.seen disk.old).directory) name) }
+
+    ensures files { D.tells → (s : Stored) → (t : Stored) → IsSettled (D.seen disk.old) s → HasOnly s (D.seen disk.old).directory
+        → IsStep s t headers.items step.now → HasFiles s (parts_by_level version.now) → IfOk result (λ next. HasFiles t (parts_by_level next)) }
+    ensures levels { IfOk result (λ next. length (levels_of next) ≡ length (levels_of version.now)) }
+    ensures calls { D.tells → OnOk result ((D.seen disk.old).moment + length step.now.objects.items + 6 ≤ (D.seen disk.new).moment) }
+    ensures no_memory { D.tells → IsErrOf result NoMemory → IsTakenBack (D.seen disk.old) (D.seen disk.new) }
+    ensures cause { HasCause (D.faults disk.old) (D.faults disk.new) result }
+{
+    place_all(disk, &step.objects)?;
+    match exchange(alloc, disk, version, headers, step) {
+        Ok(next) => {
+            clear(disk, &step.gone)?;
+            Ok(next)
+        }
+        Err(DiskRefused::Failed) => Err(DiskRefused::Failed),
+        Err(DiskRefused::NoMemory) => {
+            take_back(disk, &step.objects)?;
+            Err(DiskRefused::NoMemory)
+        }
+    }
+}
+
+// Removes these objects again, and syncs.
+fn take_back<D: Disk>(disk: &mut D, objects: &[Object]) -> Result<(), DiskRefused>
+    requires { D.tells → ArePresent (map name_of objects.now) (D.seen disk.old).directory }
+    ensures any_moment { D.tells → Leads (IsCleared (map name_of objects.now)) (D.seen disk.old) (D.seen disk.new) }
+    ensures done { D.tells → OnOk result ((D.seen disk.new).directory ≡ remove_all (map name_of objects.now) (D.seen disk.old).directory) }
+    ensures synced { D.tells → OnOk result (IsSynced (D.seen disk.new)) }
+    ensures no_memory { IsErrOf result NoMemory → ⊥ }
+    ensures cause { HasCause (D.faults disk.old) (D.faults disk.new) result }
+{
+    remove_objects(disk, objects)?;
+    disk.sync()
+}

@@ -1,0 +1,77 @@
+//! Opening new files and switching to the manifest that cites them.
+ghost use Rattle.std.specs.Prelude.{◌≡◌, ◌+◌, ◌<◌, ◌≤◌, ℕ, Option, length, map, All, IfOk, OnOk, IsErrOf};
+ghost use Rattle.lethe_disk.specs.Disk.{Image, HasCause};
+ghost use Rattle.lethe_disk.specs.Quiet.{IsQuiet};
+ghost use Rattle.lethe_disk.specs.Runs.{Leads};
+ghost use Rattle.lethe_disk.specs.declared.disk.DiskRefused.TheVariants.{NoMemory};
+ghost use Rattle.lethe_header.specs.Headers as header;
+ghost use Rattle.lethe_manifest.specs.Manifests.{manifest_bytes, HasSpelling};
+ghost use Rattle.lethe_commit.specs.Switch.{IsFree, IsSwitched, HasNew, IsTakenBack, switched};
+ghost use Rattle.lethe_version.specs.Versions.{levels_of};
+ghost use Rattle.lethe_advance.specs.Shown.{HasPages, AreLevelsWith, parts_at, parts_in, parts_by_level};
+
+use crate::Step;
+use lethe_commit::switch;
+use lethe_disk::{Disk, DiskRefused};
+use lethe_file::FileView;
+use lethe_header::Header;
+use lethe_version::{Version, open_file};
+use std::alloc::Global;
+
+/// Opens the files of these headers and adds them to the version, and then switches to the manifest.
+///
+/// # Errors
+///
+/// `NoMemory` where there was no memory: then each crash leaves what it could leave before. `Failed` where the disk failed: then the new
+/// manifest may count or not.
+pub fn exchange<D: Disk>(
+    alloc: Global,
+    disk: &mut D,
+    version: &Version<D>,
+    headers: Vec<Header>,
+    step: &Step,
+) -> Result<Version<D>, DiskRefused>
+    requires spelled { HasSpelling step.now.manifest }
+    requires headers { All header.HasSpelling headers.items }
+    requires level { step.now.level < length (levels_of version.now) }
+    requires present { D.tells → All (HasPages (D.seen disk.old).directory) headers.items }
+    requires free { D.tells → (greatest : Option ℕ) × IsFree (D.seen disk.old) step.now.manifest.no greatest }
+
+    // A crash at any moment of the call leaves what a switch may leave.
+    ensures any_moment { D.tells → (greatest : Option ℕ) → IsFree (D.seen disk.old) step.now.manifest.no greatest
+        → Leads (IsSwitched step.now.manifest.no (manifest_bytes step.now.manifest) greatest) (D.seen disk.old) (D.seen disk.new) }
+    ensures done { D.tells → (greatest : Option ℕ) → IsFree (D.seen disk.old) step.now.manifest.no greatest
+        → OnOk result ((D.seen disk.new).directory ≡ switched step.now.manifest.no (manifest_bytes step.now.manifest) greatest (D.seen disk.old).directory) }
+    ensures new { D.tells → OnOk result ((c : _) → Image (D.seen disk.new) c → HasNew step.now.manifest.no (manifest_bytes step.now.manifest) c) }
+
+    ensures files { D.tells → IfOk result (λ next. AreLevelsWith step.now.merged.items step.now.level (map (parts_at (D.seen disk.old).directory) headers.items)
+        (parts_by_level version.now) (parts_by_level next)) }
+    ensures levels { IfOk result (λ next. length (levels_of next) ≡ length (levels_of version.now)) }
+    ensures calls { D.tells → OnOk result ((D.seen disk.old).moment + 5 ≤ (D.seen disk.new).moment) }
+    ensures no_memory { D.tells → IsErrOf result NoMemory → IsTakenBack (D.seen disk.old) (D.seen disk.new) }
+    ensures cause { HasCause (D.faults disk.old) (D.faults disk.new) result }
+{
+    let files = open_files(alloc, disk, headers)?;
+    let next = version.with(alloc, &step.merged, files, step.level)?;
+    switch(alloc, disk, &step.manifest)?;
+    Ok(next)
+}
+
+// Opens the files of these headers.
+fn open_files<D: Disk>(
+    alloc: Global,
+    disk: &mut D,
+    headers: Vec<Header>,
+) -> Result<Vec<FileView<D>>, DiskRefused>
+    requires headers { All header.HasSpelling headers.items }
+    requires present { D.tells → All (HasPages (D.seen disk.old).directory) headers.items }
+    ensures opened { D.tells → IfOk result (λ files. map parts_in files.items ≡ map (parts_at (D.seen disk.old).directory) headers.items) }
+    ensures quiet { D.tells → IsQuiet (D.seen disk.old) (D.seen disk.new) }
+    ensures cause { HasCause (D.faults disk.old) (D.faults disk.new) result }
+{
+    let mut files = Vec::new(alloc);
+    for header in headers {
+        files.push(open_file(alloc, disk, header)?)?;
+    }
+    Ok(files)
+}
