@@ -68,7 +68,7 @@ below_all page slice tile (s ∷ ss) (t ∷ ts) is some zip each across =
     (below_one page slice s tile t is zip.0 some (All-head (λ s. 0 < length s) s ss each) (All-head (Across HasLowerKey slice) s ss across))
     (below_all page slice tile ss ts is some zip.1 (All-tail (λ s. 0 < length s) s ss each) (All-tail (Across HasLowerKey slice) s ss across))
 
-tiles_below : (page : ℕ) (slices : List (List Entry)) (tiles : List layout.Tile) → AllZip (IsTile page) slices tiles → All (λ s. 0 < length s) slices → AllPairs (Across HasLowerKey) slices → AllPairs IsBelow tiles
+pub tiles_below : (page : ℕ) (slices : List (List Entry)) (tiles : List layout.Tile) → AllZip (IsTile page) slices tiles → All (λ s. 0 < length s) slices → AllPairs (Across HasLowerKey) slices → AllPairs IsBelow tiles
 tiles_below page [] [] zip each order = pairs_nil IsBelow
 tiles_below page [] (t ∷ ts) zip each order = absurd zip
 tiles_below page (s ∷ ss) [] zip each order = absurd zip

@@ -170,7 +170,7 @@ between entries lo hi up first last k d inside = (above, below)
 -- ---- a whole tile
 
 -- the tile's pages have its entries, each once
-tile_once : (page : ℕ) (entries : List Entry) (tile : layout.Tile) → IsTile page entries tile → IsPermutation entries (joined tile.pages)
+pub tile_once : (page : ℕ) (entries : List Entry) (tile : layout.Tile) → IsTile page entries tile → IsPermutation entries (joined tile.pages)
 tile_once page entries tile is =
     let tombs = tombs_of entries in
     let puts = puts_of entries in

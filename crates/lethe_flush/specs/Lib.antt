@@ -1,0 +1,4 @@
+pub mod Clear
+pub mod Flushed
+pub mod ByPlace
+pub mod Apart
