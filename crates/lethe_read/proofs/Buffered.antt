@@ -1,0 +1,42 @@
+-- The parts of the buffers.
+use Rattle.std.proofs.Common.{◌≡◌, List, [], ◌∷◌, ◌++◌, All, reverse, sym, ap, subst, ◌∙◌}
+use Rattle.std.specs.Global.{Vec}
+use Rattle.std.specs.Prelude.{flat_map}
+use Rattle.std.proofs.lemmas.List.{append-nil}
+use Rattle.std.proofs.lemmas.List.Elements.{All-cons, All-nil}
+use Rattle.lethe_base.specs.Keys.{Bytes}
+use Rattle.lethe_base.specs.Entries.{IsAscending}
+use Rattle.lethe_base.specs.declared.entry.Entry.{Entry}
+use Rattle.lethe_read.specs.Between.{AreReadBetween}
+use Rattle.lethe_read.specs.Parts.{IsSound, left_in}
+use Rattle.lethe_read.specs.declared.part.Part.{Part}
+use Rattle.lethe_read.specs.declared.part.Part.TheVariants.{Buffered}
+use Rattle.lethe_read.proofs.Adding.{buffers_read}
+use Rattle.lethe_read.proofs.Ranges.{between_ascends, entries_between}
+
+module _ {C : Type 0} (sound : C → Type 0) (left : C → List Entry) (lo hi : Bytes) (active frozen : List Entry) where
+  -- the part holds the entries of a buffer
+  copies_ascend : (es : List Entry) (held : Vec Entry) → IsAscending es → reverse held.items ≡ entries_between lo hi es → IsAscending (reverse held.items)
+  copies_ascend es held ascending is = subst IsAscending (sym is) (between_ascends lo hi es ascending)
+
+  pub one_sound : (parts : List (Part C)) (first : Vec Entry) → IsAscending active → reverse first.items ≡ entries_between lo hi active → parts ≡ Buffered first ∷ [] → All (IsSound sound) parts
+  one_sound parts first ascending is all = subst (All (IsSound sound)) (sym all) (All-cons (IsSound sound) (Buffered first) [] (copies_ascend active first ascending is) (All-nil (IsSound sound)))
+
+  pub two_sound : (parts : List (Part C)) (first second : Vec Entry) → IsAscending active → IsAscending frozen → reverse first.items ≡ entries_between lo hi active → reverse second.items ≡ entries_between lo hi frozen → parts ≡ Buffered first ∷ Buffered second ∷ [] → All (IsSound sound) parts
+  two_sound parts first second ascending too is other all =
+      subst (All (IsSound sound)) (sym all)
+      (All-cons (IsSound sound) (Buffered first) (Buffered second ∷ []) (copies_ascend active first ascending is)
+      (All-cons (IsSound sound) (Buffered second) [] (copies_ascend frozen second too other) (All-nil (IsSound sound))))
+
+  pub one_left : (parts : List (Part C)) (first : Vec Entry) → frozen ≡ [] → reverse first.items ≡ entries_between lo hi active → parts ≡ Buffered first ∷ [] → AreReadBetween lo hi active frozen [] (flat_map (left_in left) parts)
+  one_left parts first none is all =
+      subst (λ (l : List Entry). AreReadBetween lo hi active frozen [] l)
+      (ap (λ (f : List Entry). entries_between lo hi active ++ entries_between lo hi f) none ∙ ap (λ (l : List Entry). l ++ []) (sym is) ∙ sym (ap (flat_map (left_in left)) all))
+      (buffers_read lo hi active frozen)
+
+  pub two_left : (parts : List (Part C)) (first second : Vec Entry) → reverse first.items ≡ entries_between lo hi active → reverse second.items ≡ entries_between lo hi frozen → parts ≡ Buffered first ∷ Buffered second ∷ []
+      → AreReadBetween lo hi active frozen [] (flat_map (left_in left) parts)
+  two_left parts first second is other all =
+      subst (λ (l : List Entry). AreReadBetween lo hi active frozen [] l)
+      (ap (λ (l : List Entry). l ++ entries_between lo hi frozen) (sym is) ∙ ap (λ (l : List Entry). reverse first.items ++ l) (sym other ∙ sym (append-nil (reverse second.items))) ∙ sym (ap (flat_map (left_in left)) all))
+      (buffers_read lo hi active frozen)

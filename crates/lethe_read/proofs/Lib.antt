@@ -1,0 +1,5 @@
+pub mod Adding
+pub mod Buffered
+pub mod Filed
+pub mod Nothing
+pub mod Ranges

@@ -1,0 +1,12 @@
+//! The reads of a store: the pair of a key, and the pairs between two keys, over its two buffers and its files.
+#![tactic(auto)]
+
+mod found;
+mod part;
+mod scanning;
+
+pub use found::get;
+pub use scanning::scan;
+
+#[cfg(test)]
+mod tests;

@@ -1,0 +1,152 @@
+//! The pairs of the keys between two.
+ghost use Rattle.std.specs.Prelude.{◌≡◌, ◌≤◌, ◌∷◌, [], ◌++◌, true, false, map, flat_map, List, All, IfOk, OnOk, IsErrOf};
+ghost use Rattle.std.specs.Option.{option_copied};
+ghost use Rattle.std.specs.Ordering.{is_lt};
+ghost use Rattle.lethe_base.specs.Keys.{key_cmp};
+ghost use Rattle.lethe_base.specs.declared.entry.Entry.{Entry};
+ghost use Rattle.lethe_base.specs.declared.name.Name.{Name};
+ghost use Rattle.lethe_disk.specs.Reads.{HasReadCause, IsFault};
+ghost use Rattle.lethe_disk.specs.declared.cursor.ReadRefused.TheVariants.{Damaged};
+ghost use Rattle.lethe_mem.specs.Pairs.{pairs_of};
+ghost use Rattle.lethe_merge.specs.Merge.{merged};
+ghost use Rattle.lethe_version.specs.Versions.{IsSound, entries_of, files_of};
+ghost use Rattle.lethe_read.specs.Between.{AreReadBetween, by_keys};
+ghost use Rattle.lethe_read.specs.Found.{frozen_entries};
+ghost use Rattle.lethe_read.specs.Parts.{Adds};
+
+use crate::part::{Part, copies_between};
+use lethe_base::{Body, Entry, Key, NoMemory, Pending, Value};
+use lethe_disk::{Cursor, Disk, ReadRefused};
+use lethe_file::FileCursor;
+use lethe_mem::Buffer;
+use lethe_merge::Merger;
+use lethe_version::{Shared, Version};
+use std::alloc::Global;
+
+/// The keys that were put from `lo` up to `hi` excluded, ascending, with their delete keys and values. Where `lo` isn't below
+/// `hi` there is none.
+pub fn scan<D: Disk, B: Buffer>(
+    alloc: Global,
+    active: &B,
+    frozen: Option<&B>,
+    version: &Version<D>,
+    erases: &[Pending],
+    port: &mut D::Port,
+    lo: &Key,
+    hi: &Key,
+) -> Result<Vec<(Key, u64, Value)>, ReadRefused>
+    ensures listed { D.tells → All IsSound (files_of version.now) → IfOk result (λ pairs. (entries : List Entry)
+        × AreReadBetween lo.now hi.now (B.entries active.now) (frozen_entries B.entries (option_copied frozen.entry)) (map entries_of (files_of version.now)) entries
+        × (by_keys pairs.items ≡ pairs_of (merged entries erases.now true))) }
+
+    // Nothing is fetched where `lo` isn't below `hi`.
+    ensures unasked { is_lt (key_cmp lo.now hi.now) ≡ false → D.fetches port.new ≡ D.fetches port.old }
+    ensures later { D.fetches port.old ≤ D.fetches port.new }
+    ensures undamaged { D.tells → All IsSound (files_of version.now) → (name : Name) → IsErrOf result (Damaged name) → ⊥ }
+    ensures cause { HasReadCause (D.port_faults port.old) (D.port_faults port.new) result }
+    ensures can_fail { IsFault result → D.ports_fail }
+{
+    if lo >= hi {
+        return Ok(Vec::new(alloc));
+    }
+    let parts = parts_of::<D, B>(alloc, active, frozen, version, lo, hi)?;
+    let erases = erases.to_vec(alloc)?;
+    let mut merger = Merger::<D, Part<FileCursor<D>>>::new(alloc, parts, erases, true)?;
+    pairs_from::<D, Merger<D, Part<FileCursor<D>>>>(alloc, port, &mut merger)
+}
+
+/// The parts of the store, the newest first, each with its entries of the keys from `lo` up to `hi`, which is excluded.
+fn parts_of<D: Disk, B: Buffer>(
+    alloc: Global,
+    active: &B,
+    frozen: Option<&B>,
+    version: &Version<D>,
+    lo: &Key,
+    hi: &Key,
+) -> Result<Vec<Part<FileCursor<D>>>, NoMemory>
+    ensures again { IfOk result (λ parts. All ⟦<Part<FileCursor<D>> as Cursor<D>>⟧.may_ask parts.items) }
+    ensures sound { D.tells → All IsSound (files_of version.now) → IfOk result (λ parts. All ⟦<Part<FileCursor<D>> as Cursor<D>>⟧.sound parts.items) }
+    ensures left { All IsSound (files_of version.now) → IfOk result (λ parts.
+        AreReadBetween lo.now hi.now (B.entries active.now) (frozen_entries B.entries (option_copied frozen.entry)) (map entries_of (files_of version.now)) (flat_map ⟦<Part<FileCursor<D>> as Cursor<D>>⟧.left parts.items)) }
+{
+    let mut parts = buffered_parts::<D, B>(alloc, active, frozen, lo, hi)?;
+    for level in 0..version.levels() {
+        push_files::<D>(alloc, &mut parts, version.files(level), lo, hi)?;
+    }
+    Ok(parts)
+}
+
+/// The parts of the buffers.
+fn buffered_parts<D: Disk, B: Buffer>(
+    alloc: Global,
+    active: &B,
+    frozen: Option<&B>,
+    lo: &Key,
+    hi: &Key,
+) -> Result<Vec<Part<FileCursor<D>>>, NoMemory>
+    ensures sound { IfOk result (λ parts. All ⟦<Part<FileCursor<D>> as Cursor<D>>⟧.sound parts.items) }
+    ensures left { IfOk result (λ parts.
+        AreReadBetween lo.now hi.now (B.entries active.now) (frozen_entries B.entries (option_copied frozen.entry)) [] (flat_map ⟦<Part<FileCursor<D>> as Cursor<D>>⟧.left parts.items)) }
+{
+    let mut parts = Vec::new(alloc);
+    parts.push(Part::Buffered(copies_between(alloc, active, lo, hi)?))?;
+    if let Some(frozen) = frozen {
+        parts.push(Part::Buffered(copies_between(alloc, frozen, lo, hi)?))?;
+    }
+    Ok(parts)
+}
+
+/// Adds a part for each of the files.
+fn push_files<D: Disk>(
+    alloc: Global,
+    parts: &mut Vec<Part<FileCursor<D>>>,
+    files: &[Shared<D>],
+    lo: &Key,
+    hi: &Key,
+) -> Result<(), NoMemory>
+    ensures { OnOk result (Adds D.tells ⟦<Part<FileCursor<D>> as Cursor<D>>⟧.sound ⟦<Part<FileCursor<D>> as Cursor<D>>⟧.left IsSound entries_of lo.now hi.now
+        (map (λ shared. shared.file.value) files.now) parts.old.items parts.new.items) }
+{
+    for file in files {
+        parts.push(Part::Filed(file.file().cursor(alloc, lo, Some(hi))?))?;
+    }
+    Ok(())
+}
+
+/// The pairs of the puts that a cursor gives.
+fn pairs_from<D: Disk, C: Cursor<D>>(
+    alloc: Global,
+    port: &mut D::Port,
+    cursor: &mut C,
+) -> Result<Vec<(Key, u64, Value)>, ReadRefused>
+    requires { C.may_ask cursor.old }
+    ensures listed { D.tells → C.sound cursor.old → IfOk result (λ pairs. by_keys pairs.items ≡ pairs_of (C.left cursor.old)) }
+    ensures later { D.fetches port.old ≤ D.fetches port.new }
+    ensures undamaged { D.tells → C.sound cursor.old → (name : Name) → IsErrOf result (Damaged name) → ⊥ }
+    ensures cause { HasReadCause (D.port_faults port.old) (D.port_faults port.new) result }
+    ensures can_fail { IsFault result → D.ports_fail }
+{
+    // A cursor on a disk that tells nothing might give entries for ever, so after 2^64 - 1 of them it gives up as one that has no
+    // memory.
+    let before = D::port_faults(port);
+    let mut pairs = Vec::new(alloc);
+    for _turn in 0..u64::MAX {
+        match cursor.next(alloc, port) {
+            Ok(Some(entry)) => push_pair(&mut pairs, entry)?,
+            Ok(None) => return Ok(pairs),
+            Err(why) => return Err(why.since(before)),
+        }
+    }
+    Err(ReadRefused::NoMemory)
+}
+
+/// Adds the pair of an entry that is a put.
+fn push_pair(pairs: &mut Vec<(Key, u64, Value)>, entry: Entry) -> Result<(), NoMemory>
+    ensures { OnOk result (by_keys pairs.new.items ≡ by_keys pairs.old.items ++ pairs_of (entry ∷ [])) }
+{
+    let Entry { key, body, .. } = entry;
+    if let Body::Put { dkey, value } = body {
+        pairs.push((key, dkey, value))?;
+    }
+    Ok(())
+}
