@@ -18,11 +18,12 @@ use Rattle.lethe_commit.specs.Switch.{manifest_name, HasGreatest, IsFree, HasNew
 use Rattle.lethe_commit.proofs.Exchange.{beside_placed}
 use Rattle.lethe_commit.proofs.Listed.{listed}
 use Rattle.lethe_commit.proofs.Removals.{all_absent, cleared_absent}
-use Rattle.lethe_stored.specs.Stored.{Stored, IsStored, segment_name, part_names}
+use Rattle.lethe_stored.specs.Stored.{Stored, IsCoherent, segment_name, part_names}
 use Rattle.lethe_stored.specs.Encodes.{Encodes, HasParts, HasObject}
 use Rattle.lethe_disk.specs.Goes.{Goes}
-use Rattle.lethe_recover.specs.Settled.{IsSettled, HasOnly, IsWhole}
-use Rattle.lethe_recover.specs.Rewritten.{first_manifest, new_stored}
+use Rattle.lethe_advance.specs.Settled.{IsSettled, HasOnly}
+use Rattle.lethe_recover.specs.There.{IsWhole}
+use Rattle.lethe_recover.specs.New.{first_manifest, new_stored}
 use Rattle.lethe_stored.proofs.Frame.{gate≢segment, manifest≢segment}
 use Rattle.std.proofs.lemmas.List.Elements.{All-nil}
 use Rattle.lethe_stored.proofs.Parts.{active_part}
@@ -55,14 +56,14 @@ cleared_none names d c none cleared k = elim (cleared.either (gate_name k)) [
 -- The new store
 
 pub first_spelled : (config : Fields) → IsConfig config → HasSpelling (first_manifest config)
-first_spelled config limits = (empty_is_stored config 2 3 1 limits (omega arith) (omega arith) (omega arith)).coherent.spelled
+first_spelled config limits = (empty_is_stored config 2 3 1 limits (omega arith) (omega arith) (omega arith)).spelled
 
 module _ (config : Fields) (limits : IsConfig config) where
   abbrev pub t : Stored
   t = new_stored config
 
-  pub new_is_stored : IsStored t
-  new_is_stored = empty_is_stored config 2 3 1 limits (omega arith) (omega arith) (omega arith)
+  pub new_is_coherent : IsCoherent t
+  new_is_coherent = empty_is_stored config 2 3 1 limits (omega arith) (omega arith) (omega arith)
 
   abbrev Either : Directory → Type 0
   Either c = HasGreatest None c ⊎ Encodes c t
@@ -123,7 +124,7 @@ module _ (config : Fields) (limits : IsConfig config) where
 
             pub settled_new : Image s3 s3.directory → s3.directory ≡ switched 2 (manifest_bytes (first_manifest config)) None s2.directory → s4.directory ≡ s3.directory → IsSynced s4 → IsSettled s4 t × HasOnly t s4.directory × IsWhole t s4.directory
             settled_new here switched_is cleared_is synced_now = (
-              record { synced = synced_now; stored = new_is_stored; encodes = subst (λ x. Encodes x t) (sym cleared_is) (image_new s3.directory here) },
+              record { synced = synced_now; coherent = new_is_coherent; encodes = subst (λ x. Encodes x t) (sym cleared_is) (image_new s3.directory here) },
               subst (HasOnly t) (sym cleared_is) only,
               ap (λ x. object x (segment_name 1)) (cleared_is ∙ switched_is) ∙ beside_placed 2 (manifest_bytes (first_manifest config)) s2.directory (segment_name 1) ((λ k. manifest≢segment 2 1 (sym k)), ((λ k. gate≢segment 2 1 (sym k)), tt))
                   ∙ ap (λ x. object x (segment_name 1)) done ∙ object_inserted s1.directory (segment_name 1) (segment_bytes 1 []),

@@ -1,28 +1,38 @@
 -- What is listed of a directory beside what is cited.
-use Rattle.std.proofs.Common.{◌≡◌, ◌≢◌, ◌⊎◌, inl, inr, ℕ, Bool, true, false, not, cond, T, List, [], ◌∷◌, map, filter, get_or, Option, Some, None, refl, sym, ap, ◌∙◌, subst, arith}
-use Rattle.std.specs.Prelude.{Contains, IsSome, is_some, ◌||◌, ◌&&◌}
+use Rattle.std.proofs.Common.{◌≡◌, ◌≢◌, ◌⊎◌, inl, inr, ℕ, Bool, true, false, not, cond, T, All, List, [], ◌∷◌, ◌++◌, map, filter, length, Option, Some, None, IsTrue, ◌↔◌, refl, sym, ap, ◌∙◌, subst, arith}
+use Rattle.std.specs.Prelude.{Contains, IsSome, is_some, flat_map, zip, ◌&&◌}
+use Rattle.std.specs.List.{AllZip}
 use Rattle.std.proofs.lemmas.Bool.{cases_Bool}
+use Rattle.std.proofs.lemmas.List.{map-append}
+use Rattle.std.proofs.lemmas.List.Elements.{All-head, All-tail}
+use Rattle.std.proofs.lemmas.Simd.{map-map}
+use Rattle.std.proofs.lemmas.Slice.Zip.{firsts-zip}
+use Rattle.std.specs.BTreeSet.{BTreeSet, contains}
 use Rattle.std.specs.FinMap.{keys, entries, entries_sorted, remove}
 use Rattle.std.specs.FinMap.Entries.{below_all, is_sorted}
-use Rattle.std.specs.Ordering.{is_lt, is_eq}
+use Rattle.std.specs.Ordering.{is_lt}
 use Rattle.std.specs.Cmp.{tied_itself}
-use Rattle.lethe_base.specs.Names.{name_cmp, name_eq, name_eq_ties, name_total}
+use Rattle.lethe_base.specs.Names.{name_cmp, name_total}
 use Rattle.lethe_base.specs.declared.name.Name.{Name}
 use Rattle.lethe_base.proofs.Newest.{first_or_rest, first_is}
 use Rattle.lethe_disk.specs.Directory.{Directory, object}
-use Rattle.lethe_disk.proofs.Objects.{same_name_itself, same_name_true, object_beside_remove}
+use Rattle.lethe_disk.proofs.Objects.{object_beside_remove}
+use Rattle.lethe_file.specs.Agreement.{Agrees, page_name}
+use Rattle.lethe_header.specs.declared.header.Header.{Header}
+use Rattle.lethe_header.specs.declared.header.PageLine.{PageLine}
 use Rattle.lethe_manifest.specs.declared.manifest.Manifest.{Manifest}
 use Rattle.lethe_commit.specs.Clear.{ArePresent, remove_all}
 use Rattle.lethe_commit.specs.Gates.{gate_name}
 use Rattle.lethe_commit.specs.Switch.{manifest_name}
 use Rattle.lethe_commit.proofs.Listed.{listed}
 use Rattle.lethe_commit.proofs.Removals.{all_absent, cleared_absent}
-use Rattle.lethe_stored.specs.Stored.{Stored, IsStored, segment_name, part_names, IsCited}
+use Rattle.lethe_stored.specs.Files.{StoredFile, IsFile, lines_in, objects_in, objects_of, file_name}
+use Rattle.lethe_stored.specs.Stored.{Stored, IsCoherent, segment_name, segment_numbers, part_names, IsCited}
 use Rattle.lethe_stored.specs.Encodes.{Encodes, AreSpare}
-use Rattle.lethe_recover.specs.Settled.{is_cited, HasOnly}
+use Rattle.lethe_advance.specs.Settled.{HasOnly}
 use Rattle.lethe_stored.proofs.Lists.{later_in}
-use Rattle.lethe_stored.proofs.Parts.{active_part}
-use Rattle.lethe_recover.proofs.Narrow.{one_cited, only_part}
+use Rattle.lethe_recover.specs.Cited.{line_name, names_in, names_of}
+use Rattle.lethe_recover.proofs.Sets.{Has}
 
 -- Names that differ from each other
 
@@ -89,46 +99,56 @@ all_present (first ∷ names) d apart there = (
 
 -- What is cited
 
-name_true : (a b : Name) → name_eq a b ≡ true → a ≡ b
-name_true a b e = same_name_true a b (sym (name_eq_ties a b) ∙ e)
+lines_long : (lines : List PageLine) (pages : List (List ℕ)) → AllZip Agrees lines pages → length pages ≡ length lines
+lines_long [] [] agrees = refl
+lines_long [] (page ∷ pages) agrees = absurd agrees
+lines_long (line ∷ lines) [] agrees = absurd agrees
+lines_long (line ∷ lines) (page ∷ pages) agrees = omega (arith, lines_long lines pages agrees.1)
 
-name_is : (a b : Name) → a ≡ b → name_eq a b ≡ true
-name_is a b is = name_eq_ties a b ∙ subst (λ n. is_eq (name_cmp a n) ≡ true) is (same_name_itself a)
+names_of_file : (next : ℕ) (file : StoredFile) → IsFile next file → map (λ (named : Name × List ℕ). named.0) (objects_in file) ≡ names_in file.header
+names_of_file next file is =
+    let pairs = zip (lines_in file) file.pages in
+    ap (λ l. file_name file.header.no ∷ l)
+    (map-map (λ (named : Name × List ℕ). named.0) (λ (page : PageLine × List ℕ). (page_name page.0.no, page.1)) pairs
+    ∙ sym (map-map line_name (λ (page : PageLine × List ℕ). page.0) pairs)
+    ∙ ap (map line_name) (firsts-zip (lines_in file) file.pages (lines_long (lines_in file) file.pages is.agrees.pages)))
 
-or_cases : (a b : Bool) → (a || b) ≡ true → (a ≡ true) ⊎ (b ≡ true)
-or_cases true b e = inl refl
-or_cases false b e = inr e
+names_of_files : (next : ℕ) (files : List StoredFile) → All (IsFile next) files → map (λ (named : Name × List ℕ). named.0) (objects_of files) ≡ flat_map names_in (map (λ file. file.header) files)
+names_of_files next [] each = refl
+names_of_files next (file ∷ files) each =
+    map-append (λ (named : Name × List ℕ). named.0) (objects_in file) (objects_of files)
+    ∙ (λ i. names_of_file next file (All-head (IsFile next) file files each) i ++ names_of_files next files (All-tail (IsFile next) file files each) i)
 
-or_left : (a b : Bool) → a ≡ true → (a || b) ≡ true
-or_left a b e = rw e refl
-
-or_right : (a b : Bool) → b ≡ true → (a || b) ≡ true
-or_right true b e = refl
-or_right false b e = e
-
-module _ (s : Stored) (stored : IsStored s) where
-  abbrev number : ℕ
-  number = s.manifest.no
-
-  abbrev segment : ℕ
-  segment = s.active.no
-
-  cited_true : (name : Name) → IsCited s name → is_cited number segment name ≡ true
-  cited_true name (inl is) = or_left (name_eq name (gate_name number) || name_eq name (manifest_name number)) (name_eq name (segment_name segment)) (or_left (name_eq name (gate_name number)) (name_eq name (manifest_name number)) (name_is name (gate_name number) is))
-  cited_true name (inr (inl is)) = or_left (name_eq name (gate_name number) || name_eq name (manifest_name number)) (name_eq name (segment_name segment)) (or_right (name_eq name (gate_name number)) (name_eq name (manifest_name number)) (name_is name (manifest_name number) is))
-  cited_true name (inr (inr part)) = or_right (name_eq name (gate_name number) || name_eq name (manifest_name number)) (name_eq name (segment_name segment)) (name_is name (segment_name segment) (only_part s name stored part))
-
-  cited_from : (name : Name) → is_cited number segment name ≡ true → IsCited s name
-  cited_from name e = elim (or_cases (name_eq name (gate_name number) || name_eq name (manifest_name number)) (name_eq name (segment_name segment)) e) [
-    | inl first ↦ elim (or_cases (name_eq name (gate_name number)) (name_eq name (manifest_name number)) first) [
-      | inl gate ↦ inl (name_true name (gate_name number) gate)
-      | inr manifest ↦ inr (inl (name_true name (manifest_name number) manifest))
+pub cites_these : (s : Stored) (headers : List Header) → IsCoherent s → headers ≡ map (λ file. file.header) s.files → (name : Name) → Contains (names_of s.manifest headers) name ↔ IsCited s name
+cites_these s headers coherent same name = (to, from)
+  where
+    parts_are : map segment_name s.manifest.segments ++ flat_map names_in headers ≡ part_names s
+    parts_are = λ i. map segment_name (coherent.cites i) ++ (ap (flat_map names_in) same ∙ sym (names_of_files s.manifest.next s.files coherent.each)) i
+    to : Contains (names_of s.manifest headers) name → IsCited s name
+    to there = elim (first_or_rest (gate_name s.manifest.no) (manifest_name s.manifest.no ∷ (map segment_name s.manifest.segments ++ flat_map names_in headers)) name there) [
+      | inl gate ↦ inl (sym gate)
+      | inr more ↦ elim (first_or_rest (manifest_name s.manifest.no) (map segment_name s.manifest.segments ++ flat_map names_in headers) name more) [
+        | inl manifest ↦ inr (inl (sym manifest))
+        | inr part ↦ inr (inr (subst (λ l. Contains l name) parts_are part))
+      ]
     ]
-    | inr here ↦ inr (inr (subst (Contains (part_names s)) (sym (name_true name (segment_name segment) here)) (active_part s)))
-  ]
+    from : IsCited s name → Contains (names_of s.manifest headers) name
+    from (inl gate) = first_is (gate_name s.manifest.no) (manifest_name s.manifest.no ∷ (map segment_name s.manifest.segments ++ flat_map names_in headers)) name (sym gate)
+    from (inr (inl manifest)) = later_in (gate_name s.manifest.no) (manifest_name s.manifest.no ∷ (map segment_name s.manifest.segments ++ flat_map names_in headers)) name (first_is (manifest_name s.manifest.no) (map segment_name s.manifest.segments ++ flat_map names_in headers) name (sym manifest))
+    from (inr (inr part)) = later_in (gate_name s.manifest.no) (manifest_name s.manifest.no ∷ (map segment_name s.manifest.segments ++ flat_map names_in headers)) name
+        (later_in (manifest_name s.manifest.no) (map segment_name s.manifest.segments ++ flat_map names_in headers) name (subst (λ l. Contains l name) (sym parts_are) part))
 
-  abbrev test : Name → Bool
-  test name = not (is_cited number segment name)
+-- a set of these has what is cited
+pub cites_set : (s : Stored) (set : BTreeSet Name) (names : List Name) (m : Manifest) (headers : List Header) → IsCoherent s → s.manifest ≡ m → headers ≡ map (λ file. file.header) s.files → names ≡ names_of m headers → Has set names
+    → (name : Name) → IsTrue (contains name_cmp set name) ↔ IsCited s name
+cites_set s set names m headers coherent same own all has name =
+    let listed_is : names ≡ names_of s.manifest headers = all ∙ ap (λ x. names_of x headers) (sym same) in
+    let is = cites_these s headers coherent own name in
+    (λ there. is.0 (subst (λ l. Contains l name) listed_is ((has name).0 there)), λ cited. (has name).1 (subst (λ l. Contains l name) (sym listed_is) (is.1 cited)))
+
+module _ (s : Stored) (set : BTreeSet Name) (cites : (name : Name) → IsTrue (contains name_cmp set name) ↔ IsCited s name) where
+  abbrev pub test : Name → Bool
+  test name = not (contains name_cmp set name)
 
   not_true : (b : Bool) → not b ≡ true → b ≡ false
   not_true true e = sym e
@@ -147,21 +167,21 @@ module _ (s : Stored) (stored : IsStored s) where
     pub rest_spare : AreSpare s rest
     rest_spare name there =
         let found = contains_filter test (keys d) name there in
-        let out : is_cited number segment name ≡ false = not_true (is_cited number segment name) found.1 in
+        let out : contains name_cmp set name ≡ false = not_true (contains name_cmp set name) found.1 in
         record {
-          uncited = λ cited. true≢false (sym (cited_true name cited) ∙ out);
+          uncited = λ cited. true≢false (sym ((cites name).1 cited) ∙ out);
           no_gate = λ k lt is.
               let here : IsSome (object d (gate_name k)) = subst (λ n. IsSome (object d n)) is ((listed d name).0 found.0) in
               true≢false (sym here ∙ ap is_some (e.greatest.1 k lt));
         }
 
     pub rest_gone : HasOnly s (remove_all rest d)
-    rest_gone name there = elim (cases_Bool (is_cited number segment name)) [
-      | inl is ↦ cited_from name is
+    rest_gone name there = elim (cases_Bool (contains name_cmp set name)) [
+      | inl is ↦ (cites name).0 is
       | inr out ↦ absurd (true≢false (sym there ∙ ap is_some (gone out)))
     ]
       where
-        gone : is_cited number segment name ≡ false → object (remove_all rest d) name ≡ None
+        gone : contains name_cmp set name ≡ false → object (remove_all rest d) name ≡ None
         gone out = by (object d name) refl
           where
             by : (o : Option (List ℕ)) → object d name ≡ o → object (remove_all rest d) name ≡ None
@@ -169,10 +189,3 @@ module _ (s : Stored) (stored : IsStored s) where
             by (Some b) some =
                 let listed_is = in_filter test (keys d) name ((listed d name).1 (ap is_some some)) (ap not out) in
                 cleared_absent rest listed_is.0 name d listed_is.1 (sym listed_is.2)
-
-    -- as it is listed
-    pub rest_is : (m : Manifest) (k : ℕ) (names : List Name) → s.manifest ≡ m → k ≡ get_or m.segments 0 0 → names ≡ keys d → filter (λ name. not (is_cited m.no k name)) names ≡ rest
-    rest_is m k names same first all =
-        let own : m.no ≡ number = ap (λ (x : Manifest). x.no) (sym same) in
-        let cited : k ≡ segment = first ∙ ap (λ (x : Manifest). get_or x.segments 0 0) (sym same) ∙ ap (λ l. get_or l 0 0) (one_cited s stored) in
-        λ i. filter (λ name. not (is_cited (own i) (cited i) name)) (all i)

@@ -1,4 +1,8 @@
-pub mod Loaded
-pub mod Settled
-pub mod Rewritten
+pub mod New
+pub mod There
+pub mod Cited
+pub mod Leveled
+pub mod Journals
+pub mod Flushing
+pub mod Reopening
 pub mod Opening

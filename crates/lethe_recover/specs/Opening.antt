@@ -1,62 +1,75 @@
 -- A store that was opened, and why one wasn't.
-use Rattle.std.specs.Prelude.{◌≡◌, ◌≤◌, ◌+◌, ℕ, length, Option}
+use Rattle.std.specs.Prelude.{◌≡◌, ◌≤◌, ◌⊎◌, ◌+◌, ℕ, [], length, Option, None}
 use Rattle.lethe_base.specs.Counts.{Rose}
-use Rattle.lethe_base.specs.Limits.{max_place, max_time}
+use Rattle.lethe_base.specs.Limits.{max_place}
 use Rattle.lethe_base.specs.History.{History, Change}
 use Rattle.lethe_base.specs.declared.config.Fields.{Fields}
 use Rattle.lethe_disk.specs.Directory.{Directory}
 use Rattle.lethe_disk.specs.Disk.{Seen}
-use Rattle.lethe_segment.specs.Segments.{segment_bytes, Ascends}
-use Rattle.lethe_manifest.specs.declared.manifest.Manifest.{Manifest}
+use Rattle.lethe_disk.specs.declared.disk.Disk.{Ghosts}
+use Rattle.lethe_manifest.specs.Manifests.{HasSpelling}
+use Rattle.lethe_build.specs.Built.{most_numbers}
 use Rattle.lethe_commit.specs.Append.{EndsAt}
-use Rattle.lethe_recover.specs.declared.opening.OpenWhy.{OpenWhy}
-use Rattle.lethe_recover.specs.declared.opening.OpenWhy.TheVariants.{Damaged, OtherConfig, Fault, Exhausted, NoMemory}
-use Rattle.lethe_recover.specs.declared.opening.Opened.{Opened}
-use Rattle.lethe_recover.specs.declared.refused.RecoverRefused.{RecoverRefused}
-use Rattle.lethe_recover.specs.declared.refused.RecoverRefused.TheVariants as recover
-use Rattle.lethe_stored.specs.Stored.{Stored, count_of, segment_name}
+use Rattle.lethe_commit.specs.Switch.{HasGreatest}
+use Rattle.lethe_version.specs.Versions.{levels_of}
+use Rattle.lethe_stored.specs.Stored.{Stored, IsCoherent, pending_of, records_of, segment_name}
+use Rattle.lethe_stored.specs.Encodes.{Encodes}
 use Rattle.lethe_stored.specs.Kept.{IsFor}
 use Rattle.lethe_stored.specs.Left.{IsHistoryOr}
-use Rattle.lethe_recover.specs.Loaded.{IsGated, IsDamaged, HasOtherConfig}
-use Rattle.lethe_recover.specs.Settled.{IsSettled, HasOnly, IsWhole}
+use Rattle.lethe_stored.specs.Levels.{HasFiles}
+use Rattle.lethe_advance.specs.Settled.{IsSettled, HasOnly}
+use Rattle.lethe_advance.specs.Shown.{parts_by_level}
+use Rattle.lethe_load.specs.Damaged.{IsDamaged}
+use Rattle.lethe_load.specs.Refused.{HasOtherConfig}
+use Rattle.lethe_load.specs.declared.refused.RecoverRefused.{RecoverRefused}
+use Rattle.lethe_load.specs.declared.refused.RecoverRefused.TheVariants as refused
+use Rattle.lethe_recover.specs.declared.opening.OpenWhy.{OpenWhy}
+use Rattle.lethe_recover.specs.declared.opening.OpenWhy.TheVariants.{Damaged, OtherConfig, Fault, Exhausted, NoMemory}
+use Rattle.lethe_recover.specs.declared.opened.Opened.{Opened}
 
 -- what is told of an opened store is so
-pub record IsTold (opened : Opened) (s : Stored) : Type 0 where
-  pub clock : opened.clock ≡ s.manifest.clock
-  pub count : opened.count ≡ count_of s
-  pub segment : opened.segment ≡ s.active.no
-  pub end : opened.end + 1 ≡ length (segment_bytes s.active.no s.active.records)
-  pub next : opened.next ≡ s.manifest.next
-  pub records : opened.records ≡ s.active.records
+pub record IsTold {D Page Port : Type 0} {kind : Ghosts D Page Port} (opened : Opened D Page Port kind) (s : Stored) : Type 0 where
+  pub manifest : opened.manifest ≡ s.manifest
+  pub files : HasFiles s (parts_by_level opened.version)
+  -- the journal is one segment without records
+  pub frozen : s.frozen ≡ None
+  pub active : s.active.records ≡ []
+  pub erases : s.manifest.erases ≡ pending_of s
 
--- what is told of a store can be written
-pub record IsSpellable (opened : Opened) : Type 0 where
-  pub clock : opened.clock ≤ max_time
-  pub count : opened.count ≤ max_place
-  pub records : Ascends 0 opened.records
+-- what is told of a store can be written, and it is of the configuration
+pub record IsSpellable {D Page Port : Type 0} {kind : Ghosts D Page Port} (config : Fields) (opened : Opened D Page Port kind) : Type 0 where
+  pub manifest : HasSpelling opened.manifest
+  pub config_is : opened.manifest.config ≡ config
+  pub segments : length opened.manifest.segments ≡ 1
+  pub levels : length (levels_of opened.version) ≡ config.levels + 1
 
 -- The disk has one store of the configuration and nothing else, as it is told.
-pub record IsOpened (config : Fields) (disk : Seen) (opened : Opened) : Type 0 where
+pub record IsOpened {D Page Port : Type 0} {kind : Ghosts D Page Port} (config : Fields) (disk : Seen) (opened : Opened D Page Port kind) : Type 0 where
   pub s : Stored
   pub settled : IsSettled disk s
   pub only : HasOnly s disk.directory
   pub config_is : s.manifest.config ≡ config
   pub told : IsTold opened s
-  -- and the next record can be appended at that end
-  pub ends : EndsAt disk (segment_name s.active.no) s.active.no s.active.records opened.end
+  -- and the first record can be appended behind the segment's head
+  pub ends : EndsAt disk (segment_name s.active.no) s.active.no [] 11
 
 -- And it stands for the history that the disk was left for, or for that with the change carried out.
-pub record IsResumed (config : Fields) (h : History) (change : Option Change) (disk : Seen) (opened : Opened) : Type 0 where
+pub record IsResumed {D Page Port : Type 0} {kind : Ghosts D Page Port} (config : Fields) (h : History) (change : Option Change) (disk : Seen) (opened : Opened D Page Port kind) : Type 0 where
   pub history : History
   pub either : IsHistoryOr h change history
   pub is : IsOpened config disk opened
   pub stands : IsFor history is.s
 
--- the manifest that counts has a next number so great that two more can't be drawn
+-- the next number of what the directory encodes, or of a new store
+abbrev pub IsNextNumber : Directory → ℕ → Type 0
+IsNextNumber d next = (HasGreatest None d × (next ≡ 3)) ⊎ ((s : Stored) × IsCoherent s × Encodes d s × (next ≡ s.manifest.next))
+
+-- The next number is so great that those that the journal's records may need, the segment's and the manifest's can't be drawn.
 pub record IsExhausted (d : Directory) : Type 0 where
-  pub manifest : Manifest
-  pub gated : IsGated d manifest
-  pub last : max_place ≤ manifest.next + 1
+  pub s : Stored
+  pub coherent : IsCoherent s
+  pub encodes : Encodes d s
+  pub last : max_place ≤ s.manifest.next + most_numbers (length (records_of s)) + 1
 
 -- A refusal has its reason: in the directory, in the count of faults, or want of memory.
 abbrev pub MayNotOpen : Type 0 → Fields → Directory → ℕ → ℕ → OpenWhy → Type 0
@@ -74,16 +87,9 @@ IsCut IsFull before now (Fault told_before told_now) = (told_before ≡ before) 
 IsCut IsFull before now (Exhausted last) = (last ≡ max_place) × IsFull
 IsCut IsFull before now NoMemory = Unit {0}
 
--- the store is there, alone, as it is told
-pub record IsThere (disk : Seen) (s : Stored) (opened : Opened) : Type 0 where
-  pub settled : IsSettled disk s
-  pub only : HasOnly s disk.directory
-  pub whole : IsWhole s disk.directory
-  pub told : IsTold opened s
-
 -- the same refusal with the count of faults from an earlier start on
 abbrev pub since_start : ℕ → RecoverRefused → OpenWhy
-since_start before (recover.Damaged name) = Damaged name
-since_start before (recover.Fault told_before now) = Fault before now
-since_start before recover.NoMemory = NoMemory
-since_start before (recover.OtherConfig kept) = OtherConfig kept
+since_start before (refused.Damaged name) = Damaged name
+since_start before (refused.Fault told_before now) = Fault before now
+since_start before refused.NoMemory = NoMemory
+since_start before (refused.OtherConfig kept) = OtherConfig kept

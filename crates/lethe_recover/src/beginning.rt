@@ -6,11 +6,12 @@ ghost use Rattle.lethe_disk.specs.Directory.{object};
 ghost use Rattle.lethe_disk.specs.Disk.{IsSynced, HasCause};
 ghost use Rattle.lethe_manifest.specs.Manifests.{HasSpelling};
 ghost use Rattle.lethe_commit.specs.Switch.{HasGreatest};
-ghost use Rattle.lethe_stored.specs.Stored.{IsStored};
+ghost use Rattle.lethe_stored.specs.Stored.{IsCoherent};
 ghost use Rattle.lethe_stored.specs.Encodes.{Encodes};
 ghost use Rattle.lethe_disk.specs.Goes.{Goes};
-ghost use Rattle.lethe_recover.specs.Settled.{IsSettled, HasOnly, IsWhole};
-ghost use Rattle.lethe_recover.specs.Rewritten.{first_manifest, new_stored};
+ghost use Rattle.lethe_advance.specs.Settled.{IsSettled, HasOnly};
+ghost use Rattle.lethe_recover.specs.New.{first_manifest, new_stored};
+ghost use Rattle.lethe_recover.specs.There.{IsWhole};
 
 use lethe_base::{Config, Kind, List, Name, NoMemory};
 use lethe_commit::{clear, place, switch};
@@ -19,12 +20,12 @@ use lethe_manifest::Manifest;
 use lethe_segment::new_segment;
 use std::alloc::Global;
 
-/// Makes an empty store on a disk that has no gate: what is there is removed, and the store is segment 1, manifest 2 and its gate.
+/// Makes an empty store on a disk that has no gate: what is there is removed, and the store is segment 1, manifest 2 and its gate. It answers this manifest.
 ///
 /// # Errors
 ///
 /// `NoMemory` where there was no memory: then there is no gate. `Failed` where the disk failed: then there is none, or the new store.
-pub fn begin<D: Disk>(alloc: Global, disk: &mut D, config: &Config) -> Result<(), DiskRefused>
+pub fn begin<D: Disk>(alloc: Global, disk: &mut D, config: &Config) -> Result<Manifest, DiskRefused>
     requires none { D.tells → IsSynced (D.seen disk.old) × HasGreatest None (D.seen disk.old).directory }
 
     // A crash at any moment of the call leaves no gate, or the new store.
@@ -33,10 +34,11 @@ pub fn begin<D: Disk>(alloc: Global, disk: &mut D, config: &Config) -> Result<()
     // Acknowledged: each crash leaves the new store, and nothing else.
     ensures done { D.tells → OnOk result (IsSettled (D.seen disk.new) (new_stored config.now) × HasOnly (new_stored config.now) (D.seen disk.new).directory
         × IsWhole (new_stored config.now) (D.seen disk.new).directory) }
+    ensures is { IfOk result (λ manifest. manifest ≡ first_manifest config.now) }
     ensures cause { HasCause (D.faults disk.old) (D.faults disk.new) result }
 
     // What is made has a spelling.
-    ensures stored { IsStored (new_stored config.now) }
+    ensures coherent { IsCoherent (new_stored config.now) }
 {
     let manifest = first_manifest(alloc, config)?;
     let segment = Name {
@@ -46,7 +48,8 @@ pub fn begin<D: Disk>(alloc: Global, disk: &mut D, config: &Config) -> Result<()
     remove_everything(alloc, disk)?;
     place(disk, segment, &new_segment(1))?;
     switch(alloc, disk, &manifest)?;
-    clear(disk, &[])
+    clear(disk, &[])?;
+    Ok(manifest)
 }
 
 // Removes every object, and syncs.

@@ -1,20 +1,17 @@
-//! Opening a disk: what its greatest gate commits is read back and written anew.
+//! Opening a disk: what its greatest gate commits is read back, and the records of its journal are written into files.
 #![tactic(auto)]
 
 mod beginning;
-mod laws;
-mod loading;
+mod cited;
+mod flushing;
+mod journal;
+mod leveled;
+mod opened;
 mod opening;
-mod recovered;
-mod refused;
-mod rewriting;
+mod reopening;
 mod tidying;
 
 pub use beginning::begin;
-pub use laws::kept_has_no_damage;
-pub use loading::load;
-pub use opening::{OpenWhy, Opened, open};
-pub use recovered::Recovered;
-pub use refused::RecoverRefused;
-pub use rewriting::rewrite;
+pub use opened::Opened;
+pub use opening::{OpenWhy, open};
 pub use tidying::tidy;

@@ -1,69 +1,65 @@
 //! Removing what the greatest gate doesn't commit.
-ghost use Rattle.std.specs.Prelude.{◌≡◌, not, filter, IfOk, OnOk};
+ghost use Rattle.std.specs.Prelude.{◌≡◌, not, map, filter, IfOk, OnOk};
+ghost use Rattle.std.specs.BTreeSet.{contains};
+ghost use Rattle.lethe_base.specs.Names.{name_cmp};
 ghost use Rattle.lethe_disk.specs.Disk.{HasCause};
-ghost use Rattle.lethe_manifest.specs.Manifests.{HasSpelling};
+ghost use Rattle.lethe_disk.specs.Goes.{Goes};
 ghost use Rattle.lethe_stored.specs.Stored.{Stored};
 ghost use Rattle.lethe_stored.specs.Encodes.{Encodes};
-ghost use Rattle.lethe_disk.specs.Goes.{Goes};
-ghost use Rattle.lethe_recover.specs.Settled.{IsSettled, HasOnly, is_cited};
+ghost use Rattle.lethe_advance.specs.Settled.{IsSettled, HasOnly};
 
-use lethe_base::{Kind, Name, NoMemory};
+use crate::cited::{cited_names, set_of};
+use lethe_base::{Name, NoMemory};
 use lethe_commit::clear;
 use lethe_disk::{Disk, DiskRefused};
+use lethe_file::FileView;
 use lethe_manifest::Manifest;
 use std::alloc::Global;
+use std::collections::BTreeSet;
 
-/// Removes every object but the greatest gate, its manifest and the segment that this cites, and syncs.
+/// Removes every object but the greatest gate, its manifest and what this cites, and syncs. These are the manifest's files.
 ///
 /// # Errors
 ///
 /// `NoMemory` before any change. `Failed` where the disk failed: then each object that counts for nothing may be there or not.
-pub fn tidy<D: Disk>(alloc: Global, disk: &mut D, manifest: &Manifest) -> Result<(), DiskRefused>
-    requires spelled { HasSpelling manifest.now }
-    requires settled { D.tells → (s : Stored) × IsSettled (D.seen disk.old) s × (s.manifest ≡ manifest.now) }
+pub fn tidy<D: Disk>(
+    alloc: Global,
+    disk: &mut D,
+    manifest: &Manifest,
+    files: &[FileView<D>],
+) -> Result<(), DiskRefused>
+    requires { D.tells → (s : Stored) × IsSettled (D.seen disk.old) s × (s.manifest ≡ manifest.now)
+        × (map (λ file. file.header) files.now ≡ map (λ file. file.header) s.files) }
 
     // A crash at any moment of the call leaves what is stored as it was.
-    ensures any_moment { D.tells → (s : Stored) → IsSettled (D.seen disk.old) s → s.manifest ≡ manifest.now
-        → Goes (λ c. Encodes c s) (D.seen disk.old) (D.seen disk.new) }
+    ensures any_moment { D.tells → (s : Stored) → IsSettled (D.seen disk.old) s → Goes (λ c. Encodes c s) (D.seen disk.old) (D.seen disk.new) }
 
     // Acknowledged: each crash leaves it, and nothing else.
-    ensures done { D.tells → (s : Stored) → IsSettled (D.seen disk.old) s → s.manifest ≡ manifest.now
+    ensures done { D.tells → (s : Stored) → IsSettled (D.seen disk.old) s
         → OnOk result (IsSettled (D.seen disk.new) s × HasOnly s (D.seen disk.new).directory) }
     ensures cause { HasCause (D.faults disk.old) (D.faults disk.new) result }
 {
     let names = disk.names(alloc)?;
-    let segment = manifest.segments.items()[0];
-    let rest = uncited(alloc, &names, manifest.no, segment)?;
+    let cited = set_of(alloc, cited_names(alloc, manifest, files)?)?;
+    let rest = uncited(alloc, &names, &cited)?;
     clear(disk, &rest)
 }
 
-// The names that are neither the gate's nor the manifest's of this number, nor the segment's.
-fn uncited(alloc: Global, names: &[Name], number: u64, segment: u64) -> Result<Vec<Name>, NoMemory>
-    ensures { IfOk result (λ rest. rest.items ≡ filter (λ name. not (is_cited number segment name)) names.now) }
+// The names that aren't in the set.
+fn uncited(alloc: Global, names: &[Name], cited: &BTreeSet<Name>) -> Result<Vec<Name>, NoMemory>
+    ensures { IfOk result (λ rest. rest.items ≡ filter (λ name. not (contains name_cmp cited.now name)) names.now) }
 {
     let mut rest = Vec::new(alloc);
     for name in names {
-        if !is_cited(number, segment, *name) {
+        if !is_in(cited, *name) {
             rest.push(*name)?;
         }
     }
     Ok(rest)
 }
 
-fn is_cited(number: u64, segment: u64, name: Name) -> bool
-    ensures { result ≡ is_cited number segment name }
+fn is_in(cited: &BTreeSet<Name>, name: Name) -> bool
+    ensures { result ≡ contains name_cmp cited.now name }
 {
-    let gate = Name {
-        kind: Kind::Gate,
-        no: number,
-    };
-    let manifest = Name {
-        kind: Kind::Manifest,
-        no: number,
-    };
-    let segment = Name {
-        kind: Kind::Segment,
-        no: segment,
-    };
-    name == gate || name == manifest || name == segment
+    cited.contains(&name)
 }

@@ -1,7 +1,7 @@
 use Rattle.std.proofs.Common.{◌≡◌, None, sym, subst, rules}
 use Rattle.lethe_manifest.specs.declared.manifest.Manifest.{Manifest}
 use Rattle.lethe_manifest.specs.Manifests.{HasSpelling}
-use Rattle.lethe_recover.specs.Rewritten.{first_manifest}
+use Rattle.lethe_recover.specs.New.{first_manifest}
 use Rattle.lethe_recover.proofs.Begun.{first_spelled}
 use Rattle.lethe_recover.proofs.beginning.first_manifest.Goals as goal
 

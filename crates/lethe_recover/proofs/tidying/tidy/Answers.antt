@@ -1,16 +1,18 @@
-use Rattle.std.proofs.Common.{◌≡◌, get_or, sym, ap, subst, ◌∙◌}
+use Rattle.std.proofs.Common.{◌≡◌, filter, sym, ap, subst, ◌∙◌}
+use Rattle.std.specs.Prelude.{map}
 use Rattle.lethe_disk.specs.Directory.{Directory, object, SameBeside}
 use Rattle.lethe_disk.specs.Disk.{Seen, Image, IsSynced}
 use Rattle.lethe_disk.proofs.Moments.{same_synced}
+use Rattle.lethe_disk.proofs.Going.{goes_leads, goes_quiet, goes_then}
+use Rattle.lethe_disk.proofs.Quieting.{quiet_call, on_ok_both}
 use Rattle.lethe_commit.specs.Clear.{ArePresent, IsCleared, remove_all}
 use Rattle.lethe_commit.proofs.Removals.{cleared_others}
 use Rattle.lethe_stored.specs.Stored.{Stored}
 use Rattle.lethe_stored.specs.Encodes.{Encodes, AreSpare}
-use Rattle.lethe_recover.specs.Settled.{IsSettled, HasOnly}
-use Rattle.lethe_disk.proofs.Quieting.{quiet_call, on_ok_both}
-use Rattle.lethe_disk.proofs.Going.{goes_leads, goes_quiet, goes_then}
 use Rattle.lethe_stored.proofs.Frame.{besides}
-use Rattle.lethe_recover.proofs.Uncited.{rest, rest_present, rest_spare, rest_gone, rest_is}
+use Rattle.lethe_stored.proofs.Unique.{one_stored}
+use Rattle.lethe_advance.specs.Settled.{IsSettled, HasOnly}
+use Rattle.lethe_recover.proofs.Uncited.{test, rest, rest_present, rest_spare, rest_gone, cites_set}
 use Rattle.lethe_recover.proofs.tidying.tidy.Goals as goal
 
 -- what is stored is in the one image
@@ -18,40 +20,55 @@ in_image : (disk : Seen) (s : Stored) → IsSettled disk s → (d : Directory) �
 in_image disk s settled d here = subst (λ x. Encodes x s) (sym (settled.synced d here)) settled.encodes
 
 pub returns-in_err-names-clause-any_moment : goal.returns-in_err-names-clause-any_moment
-returns-in_err-names-clause-any_moment g c = λ told s settled same.
+returns-in_err-names-clause-any_moment g c = λ told s settled.
+    let s0 = g.D.Disk.seen c.args.disk.now in
+    let s1 = g.D.Disk.seen c.names.new.self in
+    goes_quiet (λ x. Encodes x s) s0 s1 (quiet_call c.names.result s0 s1 (c.names.ensures.call told) (c.names.ensures.directory told)) (in_image s0 s settled)
+
+pub returns-in_err-cited_names-clause-any_moment : goal.returns-in_err-cited_names-clause-any_moment
+returns-in_err-cited_names-clause-any_moment g c = λ told s settled.
+    let s0 = g.D.Disk.seen c.args.disk.now in
+    let s1 = g.D.Disk.seen c.names.new.self in
+    goes_quiet (λ x. Encodes x s) s0 s1 (quiet_call c.names.result s0 s1 (c.names.ensures.call told) (c.names.ensures.directory told)) (in_image s0 s settled)
+
+pub returns-in_err-cited-clause-any_moment : goal.returns-in_err-cited-clause-any_moment
+returns-in_err-cited-clause-any_moment g c = λ told s settled.
     let s0 = g.D.Disk.seen c.args.disk.now in
     let s1 = g.D.Disk.seen c.names.new.self in
     goes_quiet (λ x. Encodes x s) s0 s1 (quiet_call c.names.result s0 s1 (c.names.ensures.call told) (c.names.ensures.directory told)) (in_image s0 s settled)
 
 pub returns-in_err-rest-clause-any_moment : goal.returns-in_err-rest-clause-any_moment
-returns-in_err-rest-clause-any_moment g c = λ told s settled same.
+returns-in_err-rest-clause-any_moment g c = λ told s settled.
     let s0 = g.D.Disk.seen c.args.disk.now in
     let s1 = g.D.Disk.seen c.names.new.self in
     goes_quiet (λ x. Encodes x s) s0 s1 (quiet_call c.names.result s0 s1 (c.names.ensures.call told) (c.names.ensures.directory told)) (in_image s0 s settled)
 
 pub clear-requires-after_bounds : goal.clear-requires-after_bounds
 clear-requires-after_bounds g c κs within = λ told.
-    let s = (c.requires.settled told).0 in
-    let settled = (c.requires.settled told).1 in
-    let same = (c.requires.settled told).2 in
-    let s0 = g.D.Disk.seen c.args.disk.now in
-    let s1 = g.D.Disk.seen c.names.new.self in
-    let d = s0.directory in
-    let items : c.deref-2.result.now ≡ rest s settled.stored d settled.encodes =
-    c.deref-2.ensures.value ∙ c.in_ok-rest.ensures
-    ∙ rest_is s settled.stored d settled.encodes c.args.manifest.now (get_or c.items.result.now 0 0) c.deref.result.now same (ap (λ l. get_or l 0 0) c.items.ensures) (c.deref.ensures.value ∙ c.in_ok-names.ensures.done told) in
-    subst (λ x. ArePresent c.deref-2.result.now x) (sym (c.names.ensures.directory told)) (subst (λ l. ArePresent l d) (sym items) (rest_present s settled.stored d settled.encodes))
+    let asked = c.requires told in
+    let s = asked.0 in
+    let settled = asked.1 in
+    let d = (g.D.Disk.seen c.args.disk.now).directory in
+    let set = c.in_ok-cited.cited in
+    let cites = cites_set s set c.in_ok-cited_names.field-0.items c.args.manifest.now (map (λ file. file.header) c.args.files.now) settled.coherent asked.2 asked.3 c.in_ok-cited_names.ensures c.in_ok-cited.ensures in
+    let items : c.deref-2.result.now ≡ rest s set cites d settled.encodes =
+    c.deref-2.ensures.value ∙ c.in_ok-rest.ensures ∙ ap (filter (test s set cites)) (c.deref.ensures.value ∙ c.in_ok-names.ensures.done told) in
+    subst (λ x. ArePresent c.deref-2.result.now x) (sym (c.names.ensures.directory told)) (subst (λ l. ArePresent l d) (sym items) (rest_present s set cites d settled.encodes))
 
 pub returns-clause-any_moment : goal.returns-clause-any_moment
-returns-clause-any_moment g c = λ told s settled same.
+returns-clause-any_moment g c = λ told s settled.
+    let asked = c.requires told in
     let s0 = g.D.Disk.seen c.args.disk.now in
     let s1 = g.D.Disk.seen c.names.new.self in
-    let d = s0.directory in
-    let items : c.deref-2.result.now ≡ rest s settled.stored d settled.encodes =
-    c.deref-2.ensures.value ∙ c.in_ok-rest.ensures
-    ∙ rest_is s settled.stored d settled.encodes c.args.manifest.now (get_or c.items.result.now 0 0) c.deref.result.now same (ap (λ l. get_or l 0 0) c.items.ensures) (c.deref.ensures.value ∙ c.in_ok-names.ensures.done told) in
     let s2 = g.D.Disk.seen c.clear.new.disk in
-    let spare : AreSpare s c.deref-2.result.now = subst (AreSpare s) (sym items) (rest_spare s settled.stored d settled.encodes) in
+    let d = s0.directory in
+    let one : asked.0 ≡ s = one_stored d asked.0 s (asked.1).coherent settled.coherent (asked.1).encodes settled.encodes in
+    let set = c.in_ok-cited.cited in
+    let cites = cites_set s set c.in_ok-cited_names.field-0.items c.args.manifest.now (map (λ file. file.header) c.args.files.now) settled.coherent
+    (ap (λ (x : Stored). x.manifest) (sym one) ∙ asked.2) (asked.3 ∙ ap (λ (x : Stored). map (λ file. file.header) x.files) one) c.in_ok-cited_names.ensures c.in_ok-cited.ensures in
+    let items : c.deref-2.result.now ≡ rest s set cites d settled.encodes =
+    c.deref-2.ensures.value ∙ c.in_ok-rest.ensures ∙ ap (filter (test s set cites)) (c.deref.ensures.value ∙ c.in_ok-names.ensures.done told) in
+    let spare : AreSpare s c.deref-2.result.now = subst (AreSpare s) (sym items) (rest_spare s set cites d settled.encodes) in
     let synced = same_synced c.names.result s0 s1 (c.names.ensures.call told) (c.names.ensures.directory told) settled.synced in
     let listed = quiet_call c.names.result s0 s1 (c.names.ensures.call told) (c.names.ensures.directory told) in
     goes_then (λ x. Encodes x s) s0 s1 s2 (goes_quiet (λ x. Encodes x s) s0 s1 listed (in_image s0 s settled))
@@ -59,22 +76,26 @@ returns-clause-any_moment g c = λ told s settled same.
     besides s e x c.deref-2.result.now (subst (λ y. Encodes y s) (sym (synced e here ∙ c.names.ensures.directory told)) settled.encodes) spare cleared.others))
 
 pub returns-clause-done : goal.returns-clause-done
-returns-clause-done g c = λ told s settled same.
+returns-clause-done g c = λ told s settled.
+    let asked = c.requires told in
     let s0 = g.D.Disk.seen c.args.disk.now in
     let s1 = g.D.Disk.seen c.names.new.self in
-    let d = s0.directory in
-    let items : c.deref-2.result.now ≡ rest s settled.stored d settled.encodes =
-    c.deref-2.ensures.value ∙ c.in_ok-rest.ensures
-    ∙ rest_is s settled.stored d settled.encodes c.args.manifest.now (get_or c.items.result.now 0 0) c.deref.result.now same (ap (λ l. get_or l 0 0) c.items.ensures) (c.deref.ensures.value ∙ c.in_ok-names.ensures.done told) in
     let s2 = g.D.Disk.seen c.clear.new.disk in
-    let spare : AreSpare s c.deref-2.result.now = subst (AreSpare s) (sym items) (rest_spare s settled.stored d settled.encodes) in
+    let d = s0.directory in
+    let one : asked.0 ≡ s = one_stored d asked.0 s (asked.1).coherent settled.coherent (asked.1).encodes settled.encodes in
+    let set = c.in_ok-cited.cited in
+    let cites = cites_set s set c.in_ok-cited_names.field-0.items c.args.manifest.now (map (λ file. file.header) c.args.files.now) settled.coherent
+    (ap (λ (x : Stored). x.manifest) (sym one) ∙ asked.2) (asked.3 ∙ ap (λ (x : Stored). map (λ file. file.header) x.files) one) c.in_ok-cited_names.ensures c.in_ok-cited.ensures in
+    let all = rest s set cites d settled.encodes in
+    let items : c.deref-2.result.now ≡ all =
+    c.deref-2.ensures.value ∙ c.in_ok-rest.ensures ∙ ap (filter (test s set cites)) (c.deref.ensures.value ∙ c.in_ok-names.ensures.done told) in
     on_ok_both c.clear.result (s2.directory ≡ remove_all c.deref-2.result.now s1.directory) (IsSynced s2) (IsSettled s2 s × HasOnly s s2.directory) (c.clear.ensures.done told) (c.clear.ensures.synced told) (λ done synced.
-    let gone : s2.directory ≡ remove_all (rest s settled.stored d settled.encodes) d = done ∙ (λ i. remove_all (items i) (c.names.ensures.directory told i)) in
-    let others : SameBeside (rest s settled.stored d settled.encodes) d s2.directory = λ name none. ap (λ x. object x name) gone ∙ cleared_others (rest s settled.stored d settled.encodes) d name none in (
+    let gone : s2.directory ≡ remove_all all d = done ∙ (λ i. remove_all (items i) (c.names.ensures.directory told i)) in
+    let others : SameBeside all d s2.directory = λ name none. ap (λ x. object x name) gone ∙ cleared_others all d name none in (
       record {
         synced = synced;
-        stored = settled.stored;
-        encodes = besides s d s2.directory (rest s settled.stored d settled.encodes) settled.encodes (rest_spare s settled.stored d settled.encodes) others;
+        coherent = settled.coherent;
+        encodes = besides s d s2.directory all settled.encodes (rest_spare s set cites d settled.encodes) others;
       },
-      subst (HasOnly s) (sym gone) (rest_gone s settled.stored d settled.encodes),
+      subst (HasOnly s) (sym gone) (rest_gone s set cites d settled.encodes),
     ))
