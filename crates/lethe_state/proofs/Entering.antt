@@ -1,0 +1,49 @@
+-- The newest entries, where a record is entered.
+use Rattle.std.proofs.Common.{◌≡◌, ◌≤◌, ℕ, Bool, true, false, cond, List, [], ◌∷◌, ◌++◌, All, Contains, Option, Some, None, refl, sym, ap, ◌∙◌, subst}
+use Rattle.std.specs.Prelude.{option_and_then}
+use Rattle.std.proofs.lemmas.List.Elements.{All-contains}
+use Rattle.lethe_base.specs.Keys.{Bytes, same_key}
+use Rattle.lethe_base.specs.Entries.{entry_of, Inserts}
+use Rattle.lethe_base.specs.Spelling.{HasSpelling, IsTimeOrNone}
+use Rattle.lethe_base.specs.declared.entry.Entry.{Entry}
+use Rattle.lethe_cover.proofs.ByKey.{entry_in, own_entry}
+use Rattle.lethe_cover.proofs.Lists.{all_from}
+use Rattle.lethe_segment.specs.Records.{RecordHasSpelling}
+use Rattle.lethe_segment.specs.declared.record.Record.{Record}
+use Rattle.lethe_segment.specs.declared.record.Record.TheVariants as of
+use Rattle.lethe_stored.specs.Replayed.{AreNewestOf}
+use Rattle.lethe_flush.proofs.Newest.{newest_entered, newest_still}
+use Rattle.lethe_state.specs.Records.{Enters, since_of}
+
+-- the time of an entry can be written
+pub time_fits : (key : Bytes) (entries : List Entry) → All HasSpelling entries → IsTimeOrNone (since_of key entries)
+time_fits key entries spelled = by (entry_of key entries) refl
+  where
+    by : (found : Option Entry) → entry_of key entries ≡ found → IsTimeOrNone (option_and_then (λ (entry : Entry). entry.since) found)
+    by None is = tt
+    by (Some entry) is = (All-contains HasSpelling entries entry spelled (entry_in key entries entry is).0).front.time
+
+some_is : (a b : Entry) → Some a ≡ Some b → a ≡ b
+some_is a b is = cc
+
+inserted_spelled : (entry : Entry) (old new : List Entry) → HasSpelling entry → All HasSpelling old → Inserts entry old new → All HasSpelling new
+inserted_spelled entry old new spelled each inserts = all_from HasSpelling new (λ other there.
+    by other (same_key other.key entry.key) (sym (inserts.entries other.key) ∙ own_entry new other inserts.ascending there))
+  where
+    by : (other : Entry) (b : Bool) → cond b (Some entry) (entry_of other.key old) ≡ Some other → HasSpelling other
+    by other true is = subst HasSpelling (some_is entry other is) spelled
+    by other false is = All-contains HasSpelling old other each (entry_in other.key old other is).0
+
+pub entered_spelled : (next : Record) (old new : List Entry) → RecordHasSpelling next → All HasSpelling old → Enters next old new → All HasSpelling new
+entered_spelled (of.Entry entry) old new spelled each inserts = inserted_spelled entry old new spelled each inserts
+entered_spelled (of.Blind place) old new spelled each same = subst (All HasSpelling) (sym same) each
+entered_spelled (of.Erase erase) old new spelled each same = absurd spelled
+
+clash_blind : (place : ℕ) (entry : Entry) → of.Blind place ≡ of.Entry entry → ⊥
+clash_blind place entry is = cc
+
+pub newest_next : (records : List Record) (next : Record) (old new : List Entry) → RecordHasSpelling next → AreNewestOf records old → Enters next old new → AreNewestOf (records ++ next ∷ []) new
+newest_next records (of.Entry entry) old new spelled newest inserts = newest_entered records entry old new newest inserts
+newest_next records (of.Blind place) old new spelled newest same =
+    subst (AreNewestOf (records ++ of.Blind place ∷ [])) (sym same) (newest_still records (of.Blind place) old (clash_blind place) newest)
+newest_next records (of.Erase erase) old new spelled newest same = absurd spelled

@@ -1,0 +1,4 @@
+pub mod Entering
+pub mod Leveled
+pub mod Recording
+pub mod Stepping

@@ -1,0 +1,4 @@
+pub mod Writable
+pub mod Remembered
+pub mod Records
+pub mod Room

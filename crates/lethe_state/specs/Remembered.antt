@@ -1,0 +1,32 @@
+-- What a store remembers of what is stored.
+use Rattle.std.specs.Prelude.{◌≡◌, ◌≤◌, ℕ, List, length, Option, Some, None}
+use Rattle.lethe_mem.specs.Buffered.{Buffered}
+use Rattle.lethe_stored.specs.Files.{Parts}
+use Rattle.lethe_stored.specs.Levels.{HasFiles}
+use Rattle.lethe_stored.specs.Replayed.{AreNewestOf}
+use Rattle.lethe_stored.specs.Stored.{Stored, Segment, IsCoherent, pending_of, count_of}
+use Rattle.lethe_state.specs.declared.state.State.{State}
+
+-- the frozen buffer has the newest entries of the frozen segment, where there is one
+abbrev pub IsFrozenIn : Option Segment → Option Buffered → Type 0
+IsFrozenIn None None = Unit {0}
+IsFrozenIn (Some segment) (Some buffer) = AreNewestOf segment.records buffer.entries
+IsFrozenIn None (Some buffer) = ⊥
+IsFrozenIn (Some segment) None = ⊥
+
+-- the manifest, the erases, the newest entries of the segments, and the files by level as their readers have them
+pub record Remembers (s : Stored) (state : State) (levels : List (List Parts)) : Type 0 where
+  pub coherent : IsCoherent s
+  pub manifest : state.manifest ≡ s.manifest
+  pub pending : state.pending ≡ pending_of s
+  pub active : AreNewestOf s.active.records state.active.entries
+  pub records : state.records ≡ length s.active.records
+  pub frozen : IsFrozenIn s.frozen state.frozen
+  pub files : HasFiles s levels
+  -- all places of what is stored are counted
+  pub counted : count_of s ≤ state.count
+
+-- nothing has failed since
+pub record IsCurrent (s : Stored) (state : State) : Type 0 where
+  pub runs : state.stopped ≡ None
+  pub count : state.count ≡ count_of s

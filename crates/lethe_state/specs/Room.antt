@@ -1,0 +1,80 @@
+-- Freezing, flushing, and making room.
+use Rattle.std.specs.Prelude.{◌≡◌, ◌≢◌, ◌⊎◌, ◌↔◌, ◌<◌, ◌≤◌, ℕ, ◌+◌, Bool, IsTrue, IsSome, List, [], length, map, All, Option, Some, None}
+use Rattle.lethe_base.specs.Layout.{files_of}
+use Rattle.lethe_base.specs.Limits.{max_place}
+use Rattle.lethe_build.specs.Built.{most_numbers}
+use Rattle.lethe_manifest.specs.Manifests.{HasSpelling}
+use Rattle.lethe_manifest.specs.declared.manifest.Manifest.{Manifest}
+use Rattle.lethe_mem.specs.Buffered.{Buffered}
+use Rattle.lethe_merge.specs.Merge.{merged}
+use Rattle.lethe_moves.specs.Files.{IsClearOf}
+use Rattle.lethe_moves.specs.Flushes.{span_of, frozen_entries}
+use Rattle.lethe_moves.specs.Made.{AreMade}
+use Rattle.lethe_follows.specs.Filed.{flushed, AreNewFiles}
+use Rattle.lethe_stored.specs.Files.{StoredFile, file_of}
+use Rattle.lethe_stored.specs.Stored.{Stored, pending_of, count_of, layout_of, froze}
+use Rattle.lethe_advance.specs.declared.step.Step.{Step}
+use Rattle.lethe_state.specs.declared.state.State.{State}
+
+-- the active segment has fewer records than a buffer may have
+abbrev pub HasRoom : Stored → Type 0
+HasRoom s = length s.active.records < s.manifest.config.buffer
+
+-- The active segment was frozen: an empty one has the next number, and the manifest the one behind it.
+abbrev pub IsFrozen : Stored → Stored → Type 0
+IsFrozen s t = t ≡ froze s s.manifest.next (s.manifest.next + 1)
+
+-- The frozen segment was flushed: files of level 0 have what is left of its newest entries, alone exactly where no file overlaps their keys.
+pub record IsFlushed (s t : Stored) : Type 0 where
+  pub made : List StoredFile
+  pub number : ℕ
+  pub is : t ≡ flushed s made number
+  pub new : AreNewFiles s.manifest.next number made
+  pub later : s.manifest.next ≤ number
+  pub alone : Bool
+  pub clear : IsTrue alone ↔ ((frozen_entries (layout_of s) ≢ []) × All (IsClearOf (span_of (frozen_entries (layout_of s)))) (files_of (layout_of s)))
+  pub files : AreMade (merged (frozen_entries (layout_of s)) (pending_of s) alone) (count_of s) (map file_of made)
+
+-- the frozen segment was flushed, if there was one
+abbrev pub IsUnfrozen : Stored → Stored → Type 0
+IsUnfrozen s t = ((s.frozen ≡ None) × (t ≡ s)) ⊎ (IsSome s.frozen × IsFlushed s t)
+
+-- Where there is room nothing was done; else the frozen segment was flushed, if there was one, and the active one was frozen.
+abbrev pub IsRoomMade : Stored → Stored → Type 0
+IsRoomMade s t = (HasRoom s × (t ≡ s)) ⊎ ((HasRoom s → ⊥) × (middle : Stored) × IsUnfrozen s middle × IsFrozen middle t)
+
+-- how many entries the frozen buffer has
+abbrev pub frozen_len : Option Buffered → ℕ
+frozen_len None = 0
+frozen_len (Some buffer) = length buffer.entries
+
+-- numbers run out for a freeze, and for a flush: those of its files' objects and its manifest
+abbrev pub IsShortToFreeze : State → Type 0
+IsShortToFreeze state = max_place ≤ state.manifest.next + 1
+
+abbrev pub IsShortToFlush : State → Type 0
+IsShortToFlush state = max_place ≤ state.manifest.next + most_numbers (frozen_len state.frozen)
+
+-- On any disk: the step's manifest has a spelling, cites so many segments and keeps the configuration. Each number that was drawn is one of an
+-- object or the manifest's, and files come in level 0.
+pub record IsStepFrom (segments : ℕ) (state : State) (step : Step) : Type 0 where
+  pub spelled : HasSpelling step.manifest
+  pub segments_are : length step.manifest.segments ≡ segments
+  pub config : step.manifest.config ≡ state.manifest.config
+  pub level : step.level ≡ 0
+  pub numbers : step.manifest.next ≤ state.manifest.next + length step.objects.items + 1
+
+-- the active buffer is the frozen one, and an empty one is active, under this manifest
+pub record IsFrozenWith (manifest : Manifest) (old new : State) : Type 0 where
+  pub manifest_is : new.manifest ≡ manifest
+  pub count : new.count ≡ old.count
+  pub pending : new.pending ≡ old.pending
+  pub active : new.active.entries ≡ []
+  pub records : new.records ≡ 0
+  pub end_is : new.end ≡ 11
+  pub frozen : new.frozen ≡ Some old.active
+  pub stopped : new.stopped ≡ old.stopped
+
+-- the frozen buffer is gone, under this manifest
+abbrev pub unfrozen : Manifest → State → State
+unfrozen manifest state = record state { manifest = manifest; frozen = None }

@@ -1,0 +1,15 @@
+//! What a store remembers, and what its steps make of that, before anything is written.
+#![tactic(auto)]
+
+mod changing;
+mod flushing;
+mod freezing;
+mod laws;
+mod state;
+
+pub use laws::{
+    delete_is_recorded, entered_is_remembered, flush_is_remembered, flush_stands,
+    flushed_flushes, freeze_is_remembered, halted_is_remembered, like_is_remembered,
+    put_is_recorded, room_stands,
+};
+pub use state::State;
