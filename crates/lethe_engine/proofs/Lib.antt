@@ -1,11 +1,6 @@
-pub mod Maps
-pub mod Ranges
-pub mod NewestEntries
-pub mod Times
-pub mod Recording
-pub mod Standings
-pub mod Prepared
-pub mod Followed
-pub mod Appendable
-pub mod Shown
-pub mod Answering
+pub mod Histories
+pub mod Results
+pub mod Standing
+pub mod StateLaws
+pub mod Stepping
+pub mod Hindered

@@ -1,24 +1,24 @@
 -- What a change of a store comes to.
-use Rattle.std.specs.Prelude.{◌≡◌, ℕ, ◌+◌, List, [], ◌∷◌, ◌++◌, Result, Ok, Err, Option, Some, None}
+use Rattle.std.specs.Prelude.{◌≡◌, ◌≤◌, ◌⊎◌, ℕ, ◌+◌, [], ◌∷◌, ◌++◌, Result, Ok, Err, Option, Some, None}
 use Rattle.std.specs.FinMap as finmap
 use Rattle.lethe_base.specs.Counts.{Rose}
-use Rattle.lethe_base.specs.Entries.{IsAscending}
-use Rattle.lethe_base.specs.History.{History, Change, after}
+use Rattle.lethe_base.specs.History.{History, Change}
+use Rattle.lethe_base.specs.Keys.{Bytes}
+use Rattle.lethe_base.specs.Limits.{max_place}
 use Rattle.lethe_base.specs.declared.call.Call.{Call}
-use Rattle.lethe_base.specs.declared.call.Call.TheVariants.{Tick, Work}
 use Rattle.lethe_base.specs.declared.call.Did.TheVariants.{Done}
-use Rattle.lethe_base.specs.declared.entry.Entry.{Entry}
+use Rattle.lethe_base.specs.declared.entry.Body.TheVariants.{Put}
 use Rattle.lethe_base.specs.declared.refused.Refused.{Refused}
 use Rattle.lethe_base.specs.declared.refused.Refused.TheVariants.{Fault, Stopped, Backwards, Pinned, NothingDue, Cancelled, Exhausted, ReadFault, NoMemory, Damaged}
 use Rattle.lethe_disk.specs.Directory.{Directory}
 use Rattle.lethe_segment.specs.declared.record.Record.{Record}
+use Rattle.lethe_segment.specs.declared.record.Record.TheVariants as of
 use Rattle.lethe_segment.specs.Segments.{segment_bytes}
-use Rattle.lethe_cover.specs.Steps.{with_done, with_failed}
-use Rattle.lethe_stored.specs.Stored.{Stored, IsStored, segment_name, appended}
-use Rattle.lethe_stored.specs.Kept.{IsFor}
-use Rattle.lethe_engine.specs.declared.journal.Journal.{Journal}
-use Rattle.lethe_engine.specs.Journals.{MayRefuse, Enters}
-use Rattle.lethe_engine.specs.StandsFor.{map_of}
+use Rattle.lethe_build.specs.Built.{most_numbers}
+use Rattle.lethe_cover.specs.Steps.{time_of, with_done, with_failed}
+use Rattle.lethe_stored.specs.Stored.{Stored, segment_name, count_of, layout_of}
+use Rattle.lethe_state.specs.Room.{frozen_len}
+use Rattle.lethe_state.specs.declared.state.State.{State}
 
 -- a change that is carried out
 abbrev pub done_by : ℕ → Call → Change
@@ -59,29 +59,28 @@ abbrev pub written_by : ℕ → Call → Result ℕ Refused → Option Change
 written_by caller call (Ok place) = Some (done_by caller call)
 written_by caller call (Err why) = tried_by caller call why
 
--- Why a change was refused, by the counts of faults before and now: an earlier one failed, the places are used up, the disk failed
--- in this call, or there was no memory.
-abbrev pub HasReason : Journal → ℕ → ℕ → Refused → Type 0
-HasReason journal before now (Fault place told_before told_now) = (journal.stopped ≡ None) × (place ≡ journal.count + 1) × (told_before ≡ before) × (told_now ≡ now) × Rose before now
-HasReason journal before now (Stopped at) = MayRefuse journal (Stopped at)
-HasReason journal before now (Exhausted last) = MayRefuse journal (Exhausted last)
-HasReason journal before now NoMemory = Unit {0}
-HasReason journal before now (Backwards clock) = ⊥
-HasReason journal before now (Pinned pin limit) = ⊥
-HasReason journal before now NothingDue = ⊥
-HasReason journal before now (Cancelled begun other) = ⊥
-HasReason journal before now (ReadFault told_before told_now) = ⊥
-HasReason journal before now (Damaged name) = ⊥
+-- numbers run out for the objects of making room: those of the frozen buffer's files, a segment and two manifests
+abbrev pub IsShort : State → Type 0
+IsShort state = max_place ≤ state.manifest.next + most_numbers (frozen_len state.frozen) + 3
+
+-- Why a change or work was refused, by the counts of faults before and now: an earlier one failed, the places or the numbers are used up,
+-- the disk failed in this call, or there was no memory.
+abbrev pub HasReason : State → ℕ → ℕ → Refused → Type 0
+HasReason state before now (Fault place told_before told_now) = (state.stopped ≡ None) × (place ≡ state.count + 1) × (told_before ≡ before) × (told_now ≡ now) × Rose before now
+HasReason state before now (Stopped at) = state.stopped ≡ Some at
+HasReason state before now (Exhausted last) = (state.stopped ≡ None) × (last ≡ max_place) × ((state.count ≡ max_place) ⊎ IsShort state)
+HasReason state before now NoMemory = Unit {0}
+HasReason state before now (Backwards clock) = ⊥
+HasReason state before now (Pinned pin limit) = ⊥
+HasReason state before now NothingDue = ⊥
+HasReason state before now (Cancelled begun other) = ⊥
+HasReason state before now (ReadFault told_before told_now) = ⊥
+HasReason state before now (Damaged name) = ⊥
 
 -- the directory with the record behind those of the active segment
 abbrev pub with_record : Directory → Stored → Record → Directory
 with_record d s next = finmap.insert d (segment_name s.active.no) (segment_bytes s.active.no (s.active.records ++ next ∷ []))
 
--- The record is that of the change: with it what is stored stands for the history with the change, and so do the newest entries.
-pub record IsRecordOf (h : History) (caller : ℕ) (call : Call) (s : Stored) (entries : List Entry) (next : Record) : Type 0 where
-  pub works : call ≡ Work → ⊥
-  pub ticks : (to : ℕ) → call ≡ Tick to → ⊥
-  pub stored : IsStored (appended s next)
-  pub stands : IsFor (with_done h caller call) (appended s next)
-  pub clock : (after (with_done h caller call)).clock ≡ (after h).clock
-  pub map : (new : List Entry) → IsAscending entries → Enters next entries new → map_of entries ≡ (after h).map → map_of new ≡ (after (with_done h caller call)).map
+-- the record of a put at the next place, with the time of the entry of the key in the active segment
+abbrev pub put_over : Stored → Bytes → ℕ → Bytes → Record
+put_over s key dkey value = of.Entry (record { seq = count_of s + 1; key = key; body = Put dkey value; since = time_of key (layout_of s) })

@@ -1,9 +1,10 @@
-pub mod Timely
-pub mod Journals
-pub mod Replayed
 pub mod Sound
 pub mod StandsFor
 pub mod Changes
-pub mod Scans
+pub mod Deletes
+pub mod Work
+pub mod Steps
+pub mod Reads
+pub mod Capped
 pub mod Stats
 pub mod Opening

@@ -1,7 +1,12 @@
 -- What is told of a store as a whole.
-use Rattle.lethe_base.specs.History.{State}
+use Rattle.std.specs.Prelude.{◌≡◌, length, sum_by}
+use Rattle.lethe_base.specs.Shapes.{all_files}
+use Rattle.lethe_base.specs.declared.shape.Shape.{Shape}
+use Rattle.lethe_engine.specs.Capped.{capped}
 use Rattle.lethe_engine.specs.declared.telling.Stat.{Stat}
 
--- in a state: its clock, and that there are neither pins nor erases to carry out nor files
-abbrev pub stat_in : State → Stat
-stat_in s = record { clock = s.clock; pins = 0; pending = 0; files = 0; tombs = 0 }
+-- the erases, the files and their tombstones are counted
+pub record IsStatOf (shape : Shape) (stat : Stat) : Type 0 where
+  pub pending : stat.pending ≡ length shape.erases
+  pub files : stat.files ≡ capped (length (all_files shape))
+  pub tombs : stat.tombs ≡ capped (sum_by (λ file. file.tombs) (all_files shape))

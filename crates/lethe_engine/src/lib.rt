@@ -1,13 +1,11 @@
-//! The store: its journal on a disk, and its newest entries in memory.
+//! The store: its journal, its buffers and its files on a disk.
 #![tactic(auto)]
 
+mod changing;
 mod engine;
-mod journal;
 mod reading;
-mod records;
-mod replaying;
-mod scanning;
 mod telling;
+mod working;
 
 pub use engine::{Engine, OpenRefused};
 pub use telling::Stat;

@@ -1,26 +1,113 @@
-//! What entries show of a key.
-ghost use Rattle.std.specs.Prelude.{◌≡◌, IfOk};
-ghost use Rattle.lethe_base.specs.Entries.{pair_of, shown};
+//! Reads of a store.
+ghost use Rattle.std.specs.Prelude.{◌≡◌, ◌≤◌, ◌+◌, ℕ, IfOk, IfErr, IsErrOf, sum_by, if◌then◌else◌};
+ghost use Rattle.lethe_base.specs.Counts.{Rose};
+ghost use Rattle.lethe_base.specs.History.{History, after};
+ghost use Rattle.lethe_base.specs.Read.{Get, Scan, Found, answer};
+ghost use Rattle.lethe_base.specs.declared.config.Fields.{Fields};
+ghost use Rattle.lethe_base.specs.declared.name.Name.{Name};
+ghost use Rattle.lethe_base.specs.declared.refused.Refused.TheVariants.{ReadFault, Damaged};
+ghost use Rattle.lethe_version.specs.Probing.{bound};
+ghost use Rattle.lethe_version.specs.Versions.{files_of};
+ghost use Rattle.lethe_advance.specs.Shown.{parts_by_level};
+ghost use Rattle.lethe_engine.specs.Reads.{IsReadRefusal, is_buffered, listed, told_as};
+ghost use Rattle.lethe_engine.specs.Sound.{IsSound};
+ghost use Rattle.lethe_engine.specs.StandsFor.{StandsFor};
 
-use lethe_base::{Body, Key, NoMemory, Value};
-use lethe_mem::{Buffer, VecBuffer};
+use crate::Engine;
+use lethe_base::{Key, Refused, Value};
+use lethe_disk::{Disk, ReadRefused};
+use lethe_read::{get, scan};
+use std::alloc::Global;
 
-/// What the entries show of a key.
-pub(crate) fn pair_at(buffer: &VecBuffer, key: &Key) -> Result<Option<(u64, Value)>, NoMemory>
-    ensures { IfOk result (λ held. held ≡ shown key.now buffer.now.entries) }
-{
-    match buffer.find(key) {
-        Some(entry) => pair_by(&entry.body),
-        None => Ok(None),
+impl<D: Disk> Engine<D> {
+    /// What a key has: its delete key and value. Files are asked, through the port, only where no buffer has an entry of the key. It answers on a
+    /// stopped store too.
+    ///
+    /// # Errors
+    ///
+    /// `ReadFault`, `NoMemory`, and on a disk that tells nothing `Damaged`.
+    pub fn get(
+        &self,
+        alloc: Global,
+        port: &mut D::Port,
+        key: &Key,
+    ) -> Result<Option<(u64, Value)>, Refused>
+        ensures answer { D.tells → (config : Fields) (h : History) → StandsFor config h (D.seen self.now.disk) self.now.state (parts_by_level self.now.version)
+            → IfOk result (λ held. answer (after h) (Get key.now) ≡ Found held) }
+
+        // Nothing is fetched where a buffer has the key.
+        ensures fetches { D.fetches port.new ≤ D.fetches port.old
+            + (if is_buffered key.now self.now.state then 0 else sum_by (λ file. bound key.now file.header) (files_of self.now.version)) }
+        ensures later { D.fetches port.old ≤ D.fetches port.new }
+        ensures why { IfErr result IsReadRefusal }
+        ensures undamaged { D.tells → IsSound D.tells (D.seen self.now.disk) self.now.state (parts_by_level self.now.version)
+            → (name : Name) → IsErrOf result (Damaged name) → ⊥ }
+        ensures fault { (before after : ℕ) → IsErrOf result (ReadFault before after)
+            → (before ≡ D.port_faults port.old) × (after ≡ D.port_faults port.new) × Rose before after }
+        ensures can_fail { (before after : ℕ) → IsErrOf result (ReadFault before after) → D.ports_fail }
+        ensures faults { D.port_faults port.old ≤ D.port_faults port.new }
+    {
+        match get(
+            alloc,
+            &self.state.active,
+            self.state.frozen.as_ref(),
+            &self.version,
+            self.state.pending.items(),
+            port,
+            key,
+        ) {
+            Ok(held) => Ok(held),
+            Err(why) => Err(told_as(why)),
+        }
+    }
+
+    /// The keys from `lo` up to `hi` excluded, ascending, with their delete keys and values. Where `lo` isn't below `hi` there is none. It
+    /// answers on a stopped store too.
+    ///
+    /// # Errors
+    ///
+    /// As for `get`.
+    pub fn scan(
+        &self,
+        alloc: Global,
+        port: &mut D::Port,
+        lo: &Key,
+        hi: &Key,
+    ) -> Result<Vec<(Key, u64, Value)>, Refused>
+        ensures answer { D.tells → (config : Fields) (h : History) → StandsFor config h (D.seen self.now.disk) self.now.state (parts_by_level self.now.version)
+            → IfOk result (λ pairs. answer (after h) (Scan lo.now hi.now) ≡ listed pairs.items) }
+        ensures later { D.fetches port.old ≤ D.fetches port.new }
+        ensures why { IfErr result IsReadRefusal }
+        ensures undamaged { D.tells → IsSound D.tells (D.seen self.now.disk) self.now.state (parts_by_level self.now.version)
+            → (name : Name) → IsErrOf result (Damaged name) → ⊥ }
+        ensures fault { (before after : ℕ) → IsErrOf result (ReadFault before after)
+            → (before ≡ D.port_faults port.old) × (after ≡ D.port_faults port.new) × Rose before after }
+        ensures can_fail { (before after : ℕ) → IsErrOf result (ReadFault before after) → D.ports_fail }
+        ensures faults { D.port_faults port.old ≤ D.port_faults port.new }
+    {
+        match scan(
+            alloc,
+            &self.state.active,
+            self.state.frozen.as_ref(),
+            &self.version,
+            self.state.pending.items(),
+            port,
+            lo,
+            hi,
+        ) {
+            Ok(pairs) => Ok(pairs),
+            Err(why) => Err(told_as(why)),
+        }
     }
 }
 
-/// The pair that a body gives its key.
-fn pair_by(body: &Body) -> Result<Option<(u64, Value)>, NoMemory>
-    ensures { IfOk result (λ held. held ≡ pair_of body.now) }
+/// The same refusal, as the store tells it.
+fn told_as(why: ReadRefused) -> Refused
+    ensures { result ≡ told_as why }
 {
-    match body {
-        Body::Put { dkey, value } => Ok(Some((*dkey, value.copy()?))),
-        Body::Tomb => Ok(None),
+    match why {
+        ReadRefused::ReadFault { before, after } => Refused::ReadFault { before, after },
+        ReadRefused::Damaged { name } => Refused::Damaged { name },
+        ReadRefused::NoMemory => Refused::NoMemory,
     }
 }

@@ -1,11 +1,27 @@
 //! What a store tells of itself as a whole.
+ghost use Rattle.std.specs.Prelude.{◌≡◌, length, sum_by};
+ghost use Rattle.lethe_base.specs.History.{History, after};
+ghost use Rattle.lethe_base.specs.Shapes.{shape_of};
+ghost use Rattle.lethe_base.specs.declared.config.Fields.{Fields};
+ghost use Rattle.lethe_header.specs.Facts.{lines_of, tombs_in};
+ghost use Rattle.lethe_stored.specs.Stored.{Stored, layout_of};
+ghost use Rattle.lethe_advance.specs.Shown.{parts_by_level};
+ghost use Rattle.lethe_state.specs.Remembered.{Remembers};
+ghost use Rattle.lethe_engine.specs.Capped.{capped};
+ghost use Rattle.lethe_engine.specs.StandsFor.{StandsFor};
 
-/// What a store tells of itself as a whole. Today a store has neither pins nor erases to carry out nor files, so all counts are 0.
+use crate::Engine;
+use lethe_disk::Disk;
+use lethe_header::{Header, PageLine};
+use lethe_page::Class;
+use lethe_version::Shared;
+
+/// What a store tells of itself as a whole. A count that would pass 2^64 - 1 stays there.
 #[derive(Clone, Copy, Debug, PartialEq, Eq)]
 pub struct Stat {
     /// The time of the last tick.
     pub clock: u64,
-    /// How many pins are held.
+    /// How many pins are held. Today there are none.
     pub pins: u64,
     /// How many erases are still to be carried out on files.
     pub pending: u64,
@@ -13,4 +29,68 @@ pub struct Stat {
     pub files: u64,
     /// How many tombstones the files have.
     pub tombs: u64,
+}
+
+impl<D: Disk> Engine<D> {
+    ghost use Rattle.lethe_engine.specs.Stats.{IsStatOf};
+
+    /// What there is of the store as a whole. It makes no device call and no fetch, and answers on a stopped store too.
+    pub fn stat(&self) -> Stat
+        ensures stat { (config : Fields) (h : History) → StandsFor config h (D.seen self.now.disk) self.now.state (parts_by_level self.now.version)
+            → result.clock ≡ (after h).clock }
+        ensures shape { (s : Stored) → Remembers s self.now.state (parts_by_level self.now.version) → IsStatOf (shape_of (layout_of s)) result }
+        ensures pins { result.pins ≡ 0 }
+    {
+        let mut files: u64 = 0;
+        let mut tombs: u64 = 0;
+        for level in 0..self.version.levels() {
+            let (more, dead) = counts_of(self.version.files(level));
+            files = files.saturating_add(more);
+            tombs = tombs.saturating_add(dead);
+        }
+        Stat {
+            clock: self.state.manifest.clock,
+            pins: 0,
+            pending: self.state.pending.items().len() as u64,
+            files,
+            tombs,
+        }
+    }
+}
+
+/// How many files these are, and how many tombstones they have.
+fn counts_of<D: Disk>(files: &[Shared<D>]) -> (u64, u64)
+    ensures files { result.0 ≡ length files.now }
+    ensures tombs { result.1 ≡ capped (sum_by (λ shared. tombs_in (lines_of shared.file.value.header.tiles)) files.now) }
+{
+    let mut tombs: u64 = 0;
+    for file in files {
+        tombs = tombs.saturating_add(tombs_of(file.file().header()));
+    }
+    (files.len() as u64, tombs)
+}
+
+/// How many tombstones the file of this header has.
+fn tombs_of(header: &Header) -> u64
+    ensures { result ≡ capped (tombs_in (lines_of header.now.tiles)) }
+{
+    let mut tombs: u64 = 0;
+    for tile in header.tiles.items() {
+        tombs = tombs.saturating_add(tombs_on(tile.pages.items()));
+    }
+    tombs
+}
+
+/// How many tombstones the pages of these lines have.
+fn tombs_on(lines: &[PageLine]) -> u64
+    ensures { result ≡ capped (tombs_in lines.now) }
+{
+    let mut tombs: u64 = 0;
+    for line in lines {
+        tombs = tombs.saturating_add(match line.class {
+            Class::Puts => 0,
+            Class::Tombs => line.entries as u64,
+        });
+    }
+    tombs
 }

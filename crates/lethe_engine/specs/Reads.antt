@@ -1,0 +1,40 @@
+-- What reads answer.
+use Rattle.std.specs.Prelude.{◌≡◌, ℕ, List, Bool, is_some, Option, Some, None}
+use Rattle.std.specs.Option.{option_or}
+use Rattle.lethe_base.specs.Entries.{entry_of}
+use Rattle.lethe_base.specs.Keys.{Bytes}
+use Rattle.lethe_base.specs.Read.{Answer, Listed}
+use Rattle.lethe_base.specs.declared.refused.Refused.{Refused}
+use Rattle.lethe_base.specs.declared.refused.Refused.TheVariants.{Fault, Stopped, Backwards, Pinned, NothingDue, Cancelled, Exhausted, ReadFault, NoMemory, Damaged}
+use Rattle.lethe_disk.specs.declared.cursor.ReadRefused.{ReadRefused}
+use Rattle.lethe_disk.specs.declared.cursor.ReadRefused.TheVariants as disk
+use Rattle.lethe_read.specs.Between.{by_keys}
+use Rattle.lethe_state.specs.Records.{frozen_entry}
+use Rattle.lethe_state.specs.declared.state.State.{State}
+
+-- the answer of a scan
+abbrev pub listed : List (Bytes × ℕ × Bytes) → Answer
+listed pairs = Listed (by_keys pairs)
+
+-- one of the two buffers has an entry of the key
+abbrev pub is_buffered : Bytes → State → Bool
+is_buffered key state = is_some (option_or (entry_of key state.active.entries) (frozen_entry key state.frozen))
+
+-- why a read may be refused
+abbrev pub IsReadRefusal : Refused → Type 0
+IsReadRefusal (ReadFault before after) = Unit {0}
+IsReadRefusal NoMemory = Unit {0}
+IsReadRefusal (Damaged name) = Unit {0}
+IsReadRefusal (Fault place before after) = ⊥
+IsReadRefusal (Stopped at) = ⊥
+IsReadRefusal (Backwards clock) = ⊥
+IsReadRefusal (Pinned pin limit) = ⊥
+IsReadRefusal NothingDue = ⊥
+IsReadRefusal (Cancelled begun now) = ⊥
+IsReadRefusal (Exhausted last) = ⊥
+
+-- the same refusal of a read, as the store tells it
+abbrev pub told_as : ReadRefused → Refused
+told_as (disk.ReadFault before after) = ReadFault before after
+told_as (disk.Damaged name) = Damaged name
+told_as disk.NoMemory = NoMemory
