@@ -23,7 +23,7 @@ use Rattle.lethe_run.specs.declared.reply.Reply.{Reply}
 use Rattle.lethe_run.specs.declared.reply.Reply.TheVariants.{Done, Got, Scanned, Counted, Fault, Stopped, Exhausted, ReadFault, Damaged}
 use Rattle.lethe_run.specs.Serving.{IsKeptFor, IsOn, GoesOn, IsAnswered, IsPhase}
 use Rattle.lethe_run.proofs.Images.{goes_still}
-use Rattle.lethe_run.specs.Transcript.{Course, Start, Told, IsShort, course, call_of, read_of, IsDoneAt, IsAnswerAt, IsStatAt, IsFailedAt, IsFaultOf, Answers, Answered, place_of, places_behind, is_of, Sees, Follows, InTurn, IsServed, AreServed}
+use Rattle.lethe_run.specs.Transcript.{Course, Start, Told, IsSince, IsShort, course, call_of, read_of, IsDoneAt, IsAnswerAt, IsStatAt, IsFailedAt, IsFaultOf, Answers, Answered, place_of, places_behind, is_of, Sees, Follows, InTurn, IsServed, AreServed}
 
 -- What a line says of a history it says of a longer one, and when the count of faults rises, unless the places were used up: then nothing follows.
 
@@ -257,6 +257,10 @@ phase_of c opened start h orders lines old now state levels built = record {
 
 pub built_start : {config : Fields} (c : Course) (opened start : History) (disk : Seen) (state : State) (levels : List (List Parts)) → IsOn config c opened start disk state levels → IsBuilt config c opened start [] [] start disk disk state levels
 built_start c opened start disk state levels on = record { begins = ([], sym (append-nil start)); answered = tt; alone = refl; goes = goes_still c opened start disk state levels on; stands = on }
+
+-- counts that haven't fallen since the start don't fall
+pub since_built : (begin : Start) (start opened h : History) (f0 f1 : ℕ) (old now : Seen) → IsSince begin f0 old.moment → f0 ≤ f1 → GoesOn opened start h old now → IsSince begin f1 now.moment
+since_built begin start opened h f0 f1 old now since le goes = (let from = since.0 in omega (arith, from, le), let low = since.1 in let on = goes.any_moment.later in omega (arith, low, on))
 
 -- the same when the counts have risen
 
