@@ -48,7 +48,7 @@ module _ (before g : History) (change : Change) where
       by false e (inr new) = inr (no_work change e, new)
 
 retried_kept : (before : History) (change : Change) (d : Directory) → IsKeptOr before (retried change) d → IsKeptOr before (Some change) d
-retried_kept before change d kept = (kept.0, elim (retried_cases before kept.0 change kept.1) [ | inl old ↦ inl old | inr new ↦ inr new.1 ], kept.2)
+retried_kept before change d kept = (kept.0, elim (retried_cases before kept.0 change kept.1) [ inl old ↦ inl old | inr new ↦ inr new.1 ], kept.2)
 
 -- a store that takes changes has the one image
 kept_open : (h : History) (disk : Seen) (s : Stored) (state : State) → AreDone h → IsRunning disk s state → IsFor (without_failed h) s → (d : Directory) → Image disk d → IsKept d h

@@ -65,7 +65,7 @@ module _ (told : Told) (calm : Rose told.course.before told.course.now → ⊥) 
   done_line n next caller by act (reply.Counted point stat) room a f = (refl, omega arith)
   done_line n next caller by act (reply.Fault place before after) room a f = absurd (fault_of by place before after (call_of act) a)
   done_line n next caller by act (reply.Stopped at) room a f = absurd (no_fault at a.1.before a.1.after a.1.fails)
-  done_line n next caller by act (reply.Exhausted last) room a f = absurd (elim f.0 [ | inl here ↦ (let all = a.1.0 in omega (arith, here, all, room)) | inr few ↦ enough few ])
+  done_line n next caller by act (reply.Exhausted last) room a f = absurd (elim f.0 [ inl here ↦ (let all = a.1.0 in omega (arith, here, all, room)) | inr few ↦ enough few ])
   done_line n next caller by act reply.ReadFault room a f = absurd (ports a.1)
   done_line n next caller by act (reply.Damaged page) room a f = absurd a
 

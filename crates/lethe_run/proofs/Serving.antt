@@ -1,5 +1,5 @@
 -- A script's lines, one after another.
-use Rattle.std.proofs.Common.{◌≡◌, ◌⊎◌, inl, inr, ℕ, suc, ◌-◌, ◌≤◌, Bool, true, false, max, List, [], ◌∷◌, ◌++◌, length, cond, Option, Some, None, IsSomeAnd, refl, sym, ap, ◌∙◌, subst, arith, append_assoc, append-nil}
+use Rattle.std.proofs.Common.{◌≡◌, inl, inr, ℕ, suc, ◌-◌, ◌≤◌, Bool, true, false, max, List, [], ◌∷◌, ◌++◌, length, cond, Option, Some, None, IsSomeAnd, refl, sym, ap, ◌∙◌, subst, arith, append_assoc, append-nil}
 use Rattle.std.specs.Prelude.{filter, filter_map, IsPermutation}
 use Rattle.std.proofs.lemmas.List.Sorted.{IsPermutation-refl}
 use Rattle.std.proofs.lemmas.List.{length-append, take-append-le}
@@ -83,10 +83,16 @@ module _ (h more : History) (legal : IsLegal (h ++ more)) (Ports : Type 0) (begi
   answers_before caller act (Counted point stat) a = (a.0, stat_before h more point stat a.1)
   answers_before caller act (Fault place b a) f = fault_before caller place b a (call_of act) f
   answers_before caller act (Stopped at) a = (a.0, record { before = a.1.before; after = a.1.after; fails = failed_before at a.1.before a.1.after a.1.fails })
-  answers_before caller act (Exhausted last) a = (a.0, (a.1.0, elim a.1.1 [
-    | inl all ↦ inl (let few = legal.few in omega (arith, few, all, length-append h more))
-    | inr few ↦ inr (short_later Ports begin f0 f1 m0 m1 on few)
-  ]))
+  answers_before caller act (Exhausted last) a = (
+    a.0,
+    (
+      a.1.0,
+      elim a.1.1 [
+        | inl all ↦ inl (let few = legal.few in omega (arith, few, all, length-append h more))
+        | inr few ↦ inr (short_later Ports begin f0 f1 m0 m1 on few)
+      ],
+    ),
+  )
   answers_before caller act ReadFault a = a
   answers_before caller act (Damaged page) a = absurd a
 
@@ -117,7 +123,7 @@ module _ (Ports : Type 0) (begin : Start) (f0 f1 m0 m1 : ℕ) (on : m0 ≤ m1) w
   follows_later n m (Counted point stat) f = f
   follows_later n m (Fault place b a) f = f
   follows_later n m (Stopped at) f = f
-  follows_later n m (Exhausted last) f = (elim f.0 [ | inl all ↦ inl all | inr few ↦ inr (short_later Ports begin f0 f1 m0 m1 on few) ], f.1)
+  follows_later n m (Exhausted last) f = (elim f.0 [ inl all ↦ inl all | inr few ↦ inr (short_later Ports begin f0 f1 m0 m1 on few) ], f.1)
   follows_later n m ReadFault f = f
   follows_later n m (Damaged page) f = f
 

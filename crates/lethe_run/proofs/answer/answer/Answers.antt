@@ -1,9 +1,7 @@
-use Rattle.std.proofs.Common.{◌≡◌, ◌≤◌, ◌+◌, List, Err, refl, sym, ap, ◌∙◌, subst, arith}
+use Rattle.std.proofs.Common.{◌≡◌, ◌+◌, Err, refl, sym, ap, ◌∙◌, subst}
 use Rattle.lethe_base.specs.declared.call.Call.TheVariants as calls
-use Rattle.lethe_base.specs.declared.refused.Refused.{Refused}
 use Rattle.lethe_base.specs.History.{History, after}
 use Rattle.lethe_advance.specs.Shown.{parts_by_level}
-use Rattle.lethe_state.specs.Room.{frozen_len}
 use Rattle.lethe_engine.specs.Reads.{IsReadRefusal, listed}
 use Rattle.lethe_base.specs.Read.{answer}
 use Rattle.lethe_base.specs.Read as answers
