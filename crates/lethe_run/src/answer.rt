@@ -16,7 +16,7 @@ use lethe_engine::Engine;
 use lethe_script::Act;
 use std::alloc::Global;
 
-/// Carries out one act; what it reads comes through the port. For want of memory nothing is done.
+/// Carries out one act, and reads through the port. For want of memory there is no reply, and the store stands for the history for which it stood.
 pub(crate) fn answer<D: Disk>(
     engine: &mut Engine<D>,
     alloc: Global,
