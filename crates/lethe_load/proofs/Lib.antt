@@ -6,3 +6,10 @@ pub mod Sets
 pub mod PagesInOrder
 pub mod FilesInOrder
 pub mod Risen
+pub mod Agreeing
+pub mod Assembled
+pub mod Whole
+pub mod Gated
+pub mod Firsts
+pub mod Encoded
+pub mod Exact

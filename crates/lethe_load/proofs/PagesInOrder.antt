@@ -1,7 +1,7 @@
 -- The pages of a file, looked at one after the other.
-use Rattle.std.proofs.Common.{◌≡◌, ◌≢◌, ◌<◌, ◌+◌, ◌⊎◌, ◌↔◌, inl, inr, ℕ, List, [], ◌∷◌, ◌++◌, length, map, get_or, take, drop, All, Some, refl, sym, ap, subst, ◌∙◌, append_assoc, arith}
-use Rattle.std.specs.Prelude.{Any, Contains, flat_map}
-use Rattle.std.specs.declared.cmp.Ordering.TheVariants.{Less, Equal}
+use Rattle.std.proofs.Common.{◌≡◌, ◌≢◌, ◌<◌, ◌+◌, ◌⊎◌, ◌↔◌, inl, inr, ℕ, List, [], ◌∷◌, ◌++◌, length, map, get_or, take, drop, All, Some, sym, ap, subst, ◌∙◌, append_assoc, arith}
+use Rattle.std.specs.Prelude.{Any, Contains}
+use Rattle.std.specs.declared.cmp.Ordering.TheVariants.{Less}
 use Rattle.std.proofs.lemmas.List.{map-append, append-nil, take_more, drop_more, take-append-drop, get_or_default, get_or-take, length-take}
 use Rattle.std.proofs.lemmas.List.Concat.{flat_map-append}
 use Rattle.std.proofs.lemmas.List.Elements.{All-contains, Contains-append_left, Contains-append_right, Contains-append_cases, Contains-push, Contains-push_cases}
@@ -16,11 +16,10 @@ use Rattle.lethe_header.specs.declared.header.TileLine.{TileLine}
 use Rattle.lethe_header.proofs.Follows.{follows_at, follows_one}
 use Rattle.lethe_file.specs.Agreement.{HaveNoCommonKey, IsWithin, entries_in, keys_of, page_name}
 use Rattle.lethe_file.proofs.Orders.{le_less, less_le, own_key, tiles_rise}
-use Rattle.lethe_agreement.specs.Soundness as pages
 use Rattle.lethe_manifest.specs.declared.manifest.Cited.{Cited}
 use Rattle.lethe_stored.proofs.Lists.{in_map, from_map, from_flat, all_from}
-use Rattle.lethe_load.specs.Damaged.{IsFirstBad, IsSoundPage, IsTakenBy, placed_in}
-use Rattle.lethe_load.specs.Progress.{IsFree, IsNextPage, HasKey, ArePages, AreBelow, IsBadPage, IsBadInTile}
+use Rattle.lethe_load.specs.Damaged.{IsSoundPage, IsTakenBy, placed_in}
+use Rattle.lethe_load.specs.Progress.{IsNextPage, HasKey, ArePages, AreBelow, IsBadPage}
 use Rattle.lethe_load.specs.declared.numbers.PageNumbers.{PageNumbers}
 
 abbrev pub Item : Type 0
@@ -73,7 +72,7 @@ Is number item = item.1.no ≡ number
 abbrev pub KeysAre : Directory → (Bytes → Type 0) → List PageLine → Type 0
 KeysAre d taken lines = (key : Bytes) → taken key ↔ Any (HasKey d key) lines
 
-module _ (d : Directory) (before : List Cited) (numbers : PageNumbers) (tile : TileLine) (items : List Item) (lines : List PageLine) (taken : Bytes → Type 0 ) where
+module _ (d : Directory) (before : List Cited) (numbers : PageNumbers) (tile : TileLine) (items : List Item) (lines : List PageLine) (taken : Bytes → Type 0) where
   abbrev placed : PageLine → Item
   placed line = (tile, line)
 
@@ -101,24 +100,27 @@ module _ (d : Directory) (before : List Cited) (numbers : PageNumbers) (tile : T
             let within : All (λ (e : Entry). IsWithin other.0 e.key) (entries_in earlier) = subst (λ (b : List ℕ). All (λ (e : Entry). IsWithin other.0 e.key) (entries_in b)) same good.within in
             let under : key_cmp other.0.hi tile.lo ≡ Less = All-contains (λ (item : Item). key_cmp item.0.hi tile.lo ≡ Less) items other below here in
             no_common (entries_in earlier) (entries_in next.bytes) (λ e f in_e in_f.
-                let hi = (All-contains (λ (e : Entry). IsWithin other.0 e.key) (entries_in earlier) e within in_e).hi in
-                let lo = (All-contains (λ (e : Entry). IsWithin tile e.key) (entries_in next.bytes) f next.sound.within in_f).lo in
-                less_apart e.key f.key (less_le e.key tile.lo f.key (le_less e.key other.0.hi tile.lo hi under) lo))
+            let hi = (All-contains (λ (e : Entry). IsWithin other.0 e.key) (entries_in earlier) e within in_e).hi in
+            let lo = (All-contains (λ (e : Entry). IsWithin tile e.key) (entries_in next.bytes) f next.sound.within in_f).lo in
+            less_apart e.key f.key (less_le e.key tile.lo f.key (le_less e.key other.0.hi tile.lo hi under) lo))
 
         in_own : (other : Item) → (l : PageLine) × Contains lines l × (placed l ≡ other) → Apart d next.bytes other
         in_own other (l, here, is) earlier there =
             let at : object d (page_name l.no) ≡ Some earlier = ap (λ (item : Item). object d (page_name item.1.no)) is ∙ there in
             no_common (entries_in earlier) (entries_in next.bytes) (λ e f in_e in_f same.
-                let key_in : Contains (keys_of (entries_in earlier)) f.key = subst (Contains (keys_of (entries_in earlier))) same (in_map (λ (e : Entry). e.key) (entries_in earlier) e in_e) in
-                All-contains (λ (e : Entry). taken e.key → ⊥) (entries_in next.bytes) f next.sound.apart in_f ((keys f.key).1 (any_of (HasKey d f.key) lines l here (earlier, at, key_in))))
+            let key_in : Contains (keys_of (entries_in earlier)) f.key = subst (Contains (keys_of (entries_in earlier))) same (in_map (λ (e : Entry). e.key) (entries_in earlier) e in_e) in
+            All-contains (λ (e : Entry). taken e.key → ⊥) (entries_in next.bytes) f next.sound.apart in_f ((keys f.key).1 (any_of (HasKey d f.key) lines l here (earlier, at, key_in))))
 
     -- and the other way round
     pub next_sound : IsSoundPage d numbers.next (IsTakenBy d before) all (tile, line) → IsNextPage d numbers taken tile line
     next_sound sound = record {
-      free = (sound.below, λ held. elim ((are.taken line.no).0 held) [
-        | inl by ↦ sound.once by
-        | inr any ↦ All-contains (λ (other : Item). other.1.no ≢ line.no) all any.1 sound.new (any_is (λ (item : Item). item.1.no ≡ line.no) all any) any.4
-      ]);
+      free = (
+        sound.below,
+        λ held. elim ((are.taken line.no).0 held) [
+          | inl by ↦ sound.once by
+          | inr any ↦ All-contains (λ (other : Item). other.1.no ≢ line.no) all any.1 sound.new (any_is (λ (item : Item). item.1.no ≡ line.no) all any) any.4
+        ],
+      );
       bytes = sound.bytes;
       there = sound.there;
       sound = record {

@@ -4,7 +4,7 @@ use Rattle.std.specs.Prelude.{filter, cond, ◌==◌}
 use Rattle.std.specs.Cmp.Lexicographic.{nat_list_cmp_total}
 use Rattle.std.specs.declared.cmp.Ordering.TheVariants.{Less}
 use Rattle.std.proofs.lemmas.Bool.{cases_lt, eqb-true, eq-eqb}
-use Rattle.std.proofs.lemmas.List.{get_or-map, get_or_default, length-map}
+use Rattle.std.proofs.lemmas.List.{get_or-map, length-map}
 use Rattle.std.proofs.lemmas.List.Elements.{All-cons, All-head, All-tail, filter_passes}
 use Rattle.std.proofs.lemmas.List.Kept.{AllPairs-cons, AllPairs-filter}
 use Rattle.lethe_base.specs.Keys.{Bytes, key_cmp}
@@ -31,7 +31,7 @@ module _ {X : Type 0} (R : X → X → Type 0) (p : X → Bool) where
       AllPairs-filter Passing p xs all i j d lt inside (passes i d (omega (arith, lt, inside))) (passes j d inside)
 
   back : (xs : List X) (P : X → Type 0) → All P (filter p xs) → All (λ x. p x ≡ true → P x) xs
-  back [] P all k d lt = absurd (omega (arith, lt))
+  back [] P all = λ k d lt. absurd (omega (arith, lt))
   back (x ∷ xs) P all = by (p x) refl (back xs P) all
     where
       by : (b : Bool) → p x ≡ b → (All P (filter p xs) → All (λ x. p x ≡ true → P x) xs) → All P (cond b (x ∷ filter p xs) (filter p xs)) → All (λ x. p x ≡ true → P x) (x ∷ xs)
@@ -59,9 +59,9 @@ Stand a b = MayStand a.level b.level a.header b.header
 pub rising_pairs : (files : List StoredFile) → AllPairs Stand files → AreRising files
 rising_pairs files all level above =
     pairs_passing Ends (λ file. file.level == level) files (λ i j d lt inside first second.
-        let one : (get_or files i d).level ≡ level = eqb-true _ _ first in
-        let two : (get_or files j d).level ≡ level = eqb-true _ _ second in
-        all i j d lt inside (subst (λ n. 0 < n) (sym two) above) (one ∙ sym two))
+    let one : (get_or files i d).level ≡ level = eqb-true _ _ first in
+    let two : (get_or files j d).level ≡ level = eqb-true _ _ second in
+    all i j d lt inside (subst (λ n. 0 < n) (sym two) above) (one ∙ sym two))
 
 pub pairs_rising : (files : List StoredFile) → AreRising files → AllPairs Stand files
 pairs_rising files rising i j d lt inside above same =
@@ -77,7 +77,7 @@ module _ (files : List StoredFile) (spelled : All (λ file. HasSpelling file.hea
   hi k d = greatest_key (get_or files k d).header.tiles
 
   pub far_apart : ((k : ℕ) (d : StoredFile) → k + 1 < length files → Stand (get_or files k d) (get_or files (k + 1) d)) → AllPairs Stand files
-  far_apart next i zero d lt inside = absurd (omega arith)
+  far_apart next i zero d lt inside = absurd (omega (arith, lt))
   far_apart next i (suc k) d lt inside = λ above same.
       let one : k + 1 ≡ suc k = omega arith in
       let here : k < length files = omega (arith, inside) in
@@ -122,9 +122,9 @@ module _ {F : Type 0} (header : F → Header) (cited : List Cited) (files : List
       (λ k d lt. let f = some files (omega (arith, lt, len_files)) in subst HasSpelling (sym (header_at k d f lt)) (spelled (get_or files k f)))
       (λ i j d lt inside. omega (arith, levels i j (cited_of d) lt (omega (arith, inside, len_cited)), level_at i d (cited_of d) (omega (arith, lt, inside)), level_at j d (cited_of d) inside))
       (λ k d lt.
-          let here : k < length stored = omega (arith, lt) in
-          let f = some files (omega (arith, lt, len_files)) in
-          moved _ _ _ _ _ _ _ _ (sym (level_at k d (cited_of d) here)) (sym (level_at (k + 1) d (cited_of d) lt)) (sym (header_at k d f here)) (sym (header_at (k + 1) d f lt)) (next k (cited_of d) f (omega (arith, lt, len_files)))))
+      let here : k < length stored = omega (arith, lt) in
+      let f = some files (omega (arith, lt, len_files)) in
+      moved _ _ _ _ _ _ _ _ (sym (level_at k d (cited_of d) here)) (sym (level_at (k + 1) d (cited_of d) lt)) (sym (header_at k d f here)) (sym (header_at (k + 1) d f lt)) (next k (cited_of d) f (omega (arith, lt, len_files)))))
     where
       some : (fs : List F) → 0 < length fs → F
       some [] lt = absurd (omega (arith, lt))

@@ -2,6 +2,7 @@
 #![tactic(auto)]
 
 mod files;
+mod laws;
 mod listing;
 mod loading;
 mod numbers;
@@ -11,6 +12,7 @@ mod reading;
 mod recovered;
 mod refused;
 
+pub use laws::kept_has_no_damage;
 pub use loading::load;
 pub use recovered::Recovered;
 pub use refused::RecoverRefused;

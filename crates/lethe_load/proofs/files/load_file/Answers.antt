@@ -1,15 +1,14 @@
-use Rattle.std.proofs.Common.{◌≡◌, ◌≤◌, [], ◌∷◌, ◌++◌, List, inl, inr, map, All, Some, refl, sym, ap, subst, ◌∙◌, arith}
+use Rattle.std.proofs.Common.{[], List, inl, inr, All, sym, ap, subst, ◌∙◌}
 use Rattle.std.specs.Prelude.{IsSome}
 use Rattle.std.specs.FinMap.{keys}
 use Rattle.lethe_disk.specs.Directory.{object}
 use Rattle.lethe_disk.proofs.Quieting.{quiet_then}
 use Rattle.lethe_file.specs.Agreement.{page_name}
 use Rattle.lethe_header.specs.Facts.{lines_of}
-use Rattle.lethe_header.specs.declared.header.Header.{Header}
 use Rattle.lethe_header.specs.declared.header.PageLine.{PageLine}
 use Rattle.lethe_manifest.specs.declared.manifest.Cited.{Cited}
-use Rattle.lethe_load.specs.Damaged.{IsHeaderOf, IsSoundFile, placed_lines}
-use Rattle.lethe_load.specs.Progress.{ArePages, AreFiles, IsBadPage, IsBadHeader, IsBadInFile}
+use Rattle.lethe_load.specs.Damaged.{placed_lines}
+use Rattle.lethe_load.specs.Progress.{ArePages, IsBadPage, IsBadHeader, IsBadInFile}
 use Rattle.lethe_load.specs.Refused.{MayFail}
 use Rattle.lethe_load.proofs.Sets.{one_more}
 use Rattle.lethe_load.proofs.FilesInOrder.{pages_start, file_sound, files_more, bad_header, bad_page, known_or_not}
@@ -38,8 +37,8 @@ returns-in_err-check_pages-clause-refused g c =
     err_moved c.from_residual-in_err-check_pages.result c.in_err-check_pages.field-0.0 (MayFail g.D.Disk.tells (IsBadInFile d numbers c.args.known.now c.args.cited.now) c.args.listing.now.faults now) c.from_residual-in_err-check_pages.ensures.1
     (fails_so g.D.Disk.tells (λ name. (before : List Cited) → ArePages mid before [] numbers → IsBadPage mid numbers.next before (placed_lines header) name) (IsBadInFile d numbers c.args.known.now c.args.cited.now) c.args.listing.now.faults now c.in_err-check_pages.field-0.0
     (λ told name bad before are.
-        let here = subst (λ e. (before : List Cited) → ArePages e before [] numbers → IsBadPage e numbers.next before (placed_lines header) name) (c.load_header.ensures.quiet told).directory bad in
-        inr (bad_page d before numbers c.args.known.now are c.args.cited.now name header (c.in_ok-header.ensures.found told) c.in_ok-header.ensures.new (here before (pages_start d before numbers c.args.known.now are c.args.cited.now))))
+    let here = subst (λ e. (before : List Cited) → ArePages e before [] numbers → IsBadPage e numbers.next before (placed_lines header) name) (c.load_header.ensures.quiet told).directory bad in
+    inr (bad_page d before numbers c.args.known.now are c.args.cited.now name header (c.in_ok-header.ensures.found told) c.in_ok-header.ensures.new (here before (pages_start d before numbers c.args.known.now are c.args.cited.now))))
     c.in_err-check_pages.ensures.refused)
 
 pub returns-in_err-check_pages-clause-quiet : goal.returns-in_err-check_pages-clause-quiet

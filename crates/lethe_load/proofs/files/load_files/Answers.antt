@@ -1,4 +1,4 @@
-use Rattle.std.proofs.Common.{◌≡◌, ◌<◌, ◌+◌, ◌⊎◌, [], ◌∷◌, ◌++◌, length, map, get_or, take, drop, refl, sym, ap, subst, ◌∙◌, arith}
+use Rattle.std.proofs.Common.{◌≡◌, ◌+◌, ◌⊎◌, [], ◌∷◌, ◌++◌, map, get_or, take, drop, refl, sym, ap, subst, ◌∙◌, arith}
 use Rattle.std.proofs.lemmas.List.{take-append-drop, drop_more, get_or_default}
 use Rattle.lethe_disk.specs.Directory.{object}
 use Rattle.lethe_disk.proofs.Quieting.{quiet_itself, quiet_then}
@@ -76,15 +76,15 @@ returns-in_err-view-clause-refused g c =
     err_moved c.from_residual.result c.in_err-view.field-0.0 (MayFail g.D.Disk.tells (IsDamagedFile d c.args.next cited) c.args.listing.now.faults now) c.from_residual.ensures.1
     (fails_so g.D.Disk.tells (IsBadInFile mid c.loop-file.numbers c.loop-file.known item) (IsDamagedFile d c.args.next cited) c.args.listing.now.faults now c.in_err-view.field-0.0
     (λ told name bad.
-        let here = subst (λ e. IsBadInFile e c.loop-file.numbers c.loop-file.known item name) (c.loop-file.invariant.quiet told).directory bad in
-        record {
-          before = take i cited;
-          cited = item;
-          behind = drop (i + 1) cited;
-          split = sym (take-append-drop i cited) ∙ ap (λ l. take i cited ++ l) (drop_more cited i item lt ∙ ap (λ x. x ∷ drop (i + 1) cited) (sym is));
-          good = c.loop-file.invariant.sound told;
-          bad = subst (λ n. HasBadHeader d (take i cited) item name ⊎ HasBadPage d n (take i cited) item name) c.loop-file.invariant.next (here (take i cited) (c.loop-file.invariant.are told));
-        })
+    let here = subst (λ e. IsBadInFile e c.loop-file.numbers c.loop-file.known item name) (c.loop-file.invariant.quiet told).directory bad in
+    record {
+      before = take i cited;
+      cited = item;
+      behind = drop (i + 1) cited;
+      split = sym (take-append-drop i cited) ∙ ap (λ l. take i cited ++ l) (drop_more cited i item lt ∙ ap (λ x. x ∷ drop (i + 1) cited) (sym is));
+      good = c.loop-file.invariant.sound told;
+      bad = subst (λ n. HasBadHeader d (take i cited) item name ⊎ HasBadPage d n (take i cited) item name) c.loop-file.invariant.next (here (take i cited) (c.loop-file.invariant.are told));
+    })
     c.in_err-view.ensures.refused)
 
 pub returns-in_err-view-clause-quiet : goal.returns-in_err-view-clause-quiet

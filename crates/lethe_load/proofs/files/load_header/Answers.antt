@@ -1,7 +1,5 @@
-use Rattle.std.proofs.Common.{◌≡◌, Some, refl, sym, ap, subst, ◌∙◌}
-use Rattle.lethe_disk.specs.Directory.{object}
+use Rattle.std.proofs.Common.{refl, sym, ◌∙◌}
 use Rattle.lethe_disk.proofs.Quieting.{quiet_itself}
-use Rattle.lethe_stored.specs.Files.{file_name}
 use Rattle.lethe_load.proofs.Sets.{has}
 use Rattle.lethe_load.proofs.files.load_header.Goals as goal
 

@@ -1,7 +1,6 @@
-use Rattle.std.proofs.Common.{◌≡◌, ◌<◌, ◌+◌, ◌-◌, ℕ, [], length, get_or, inl, inr, refl, sym, ap, ◌∙◌, arith}
+use Rattle.std.proofs.Common.{◌≡◌, ◌<◌, ◌+◌, ◌-◌, [], length, get_or, inl, inr, refl, sym, ap, ◌∙◌, arith}
 use Rattle.std.proofs.lemmas.Bool.{cases_lt}
 use Rattle.std.proofs.lemmas.List.{get_or_default}
-use Rattle.lethe_header.specs.declared.header.Header.{Header}
 use Rattle.lethe_manifest.specs.declared.manifest.Cited.{Cited}
 use Rattle.lethe_load.proofs.Risen.{moved, risen, standing}
 use Rattle.lethe_load.proofs.ordering.are_rising.Goals as goal
@@ -52,9 +51,9 @@ returns-then-not-may_stand g c = λ stored cs hs. (
       let b = c.index-files-place-in-loop-place.result in
       let stand = standing (λ file. file.header) cited files stored cs hs rising (place - 1) other a (omega (arith, inside, one)) in
       let yes = c.may_stand.ensures.1 (moved (get_or cited (place - 1) other).level (get_or cited (place - 1) other).level (get_or cited ((place - 1) + 1) other).level (get_or cited place other).level
-          (get_or files (place - 1) a).header a.header (get_or files ((place - 1) + 1) a).header b.header refl (ap (λ n. (get_or cited n other).level) one)
-          (ap (λ file. file.header) (sym c.index-files-place.is))
-          (ap (λ file. file.header) (ap (λ n. get_or files n a) one ∙ get_or_default files place a b inside ∙ sym c.index-files-place-in-loop-place.is)) stand) in
+      (get_or files (place - 1) a).header a.header (get_or files ((place - 1) + 1) a).header b.header refl (ap (λ n. (get_or cited n other).level) one)
+      (ap (λ file. file.header) (sym c.index-files-place.is))
+      (ap (λ file. file.header) (ap (λ n. get_or files n a) one ∙ get_or_default files place a b inside ∙ sym c.index-files-place-in-loop-place.is)) stand) in
       let not_so = c.if-not-may_stand.true in
       cc,
 )

@@ -27,14 +27,17 @@ returns-in_err-bytes-clause-refused g c =
     (λ told name bad. (bad.0, λ next. let none = sym next.there ∙ bad.1 in cc)) c.in_err-bytes.ensures.refused)
 
 pub returns-then-not-sound-clause-refused : goal.returns-then-not-sound-clause-refused
-returns-then-not-sound-clause-refused g c = λ told. (refl, λ next.
-    let d = (g.D.Disk.seen c.args.disk.now).directory in
-    let bytes = c.deref.result.now in
-    let there : object d (page_name c.args.line.now.no) ≡ Some bytes = c.in_ok-bytes.ensures.found told ∙ ap Some (sym c.deref.ensures.value) in
-    let same : next.bytes ≡ bytes = one_object (object d (page_name c.args.line.now.no)) next.bytes bytes next.there there in
-    let yes = c.in_ok-sound.ensures.exact.1 (subst (pages.IsSoundPage c.args.tile.now c.args.line.now (IsTaken c.args.taken.now)) same next.sound) in
-    let not_so = c.if-not-sound.true in
-    cc)
+returns-then-not-sound-clause-refused g c = λ told. (
+  refl,
+  λ next.
+      let d = (g.D.Disk.seen c.args.disk.now).directory in
+      let bytes = c.deref.result.now in
+      let there : object d (page_name c.args.line.now.no) ≡ Some bytes = c.in_ok-bytes.ensures.found told ∙ ap Some (sym c.deref.ensures.value) in
+      let same : next.bytes ≡ bytes = one_object (object d (page_name c.args.line.now.no)) next.bytes bytes next.there there in
+      let yes = c.in_ok-sound.ensures.exact.1 (subst (pages.IsSoundPage c.args.tile.now c.args.line.now (IsTaken c.args.taken.now)) same next.sound) in
+      let not_so = c.if-not-sound.true in
+      cc,
+)
 
 pub returns-clause-found : goal.returns-clause-found
 returns-clause-found g c = λ told.

@@ -1,4 +1,4 @@
-use Rattle.std.proofs.Common.{◌≡◌, ◌<◌, ◌+◌, List, [], ◌∷◌, ◌++◌, All, length, map, get_or, take, drop, refl, sym, ap, subst, ◌∙◌, arith}
+use Rattle.std.proofs.Common.{List, [], ◌++◌, All, map, take, refl, sym, ap, subst, ◌∙◌, arith}
 use Rattle.std.specs.Prelude.{IsSome}
 use Rattle.std.specs.FinMap.{keys}
 use Rattle.std.proofs.lemmas.List.{take_all}
@@ -76,10 +76,10 @@ returns-in_err-check_tile-clause-refused g c =
     (fails_so g.D.Disk.tells (IsBadInTile mid c.loop-tile.numbers tile) (λ name. (before : List Cited) → ArePages d before [] c.args.numbers.now → IsBadPage d c.args.numbers.now.next before (placed_in c.args.header.now.tiles) name)
     c.args.listing.now.faults now c.in_err-check_tile.field-0.0
     (λ told name bad before are.
-        let below = tiles_below tiles i tile (subst (EachFollows TileFollows) (sym c.items-tile-items.ensures) c.requires.spelled.tiles) c.loop-tile-test.true c.tile-item.is in
-        let here = subst (λ e. IsBadInTile e c.loop-tile.numbers tile name) (c.loop-tile.invariant.quiet told).directory bad in
-        bad_page_of d c.args.numbers.now.next before c.args.header.now.tiles tiles i tile name c.items-tile-items.ensures c.loop-tile-test.true c.tile-item.is
-        (subst (λ n. IsBadPage d n before (placed_in (take i tiles) ++ map (λ l. (tile, l)) tile.pages) name) c.loop-tile.invariant.next (here before (placed_in (take i tiles)) (c.loop-tile.invariant.pages told before are) below)))
+    let below = tiles_below tiles i tile (subst (EachFollows TileFollows) (sym c.items-tile-items.ensures) c.requires.spelled.tiles) c.loop-tile-test.true c.tile-item.is in
+    let here = subst (λ e. IsBadInTile e c.loop-tile.numbers tile name) (c.loop-tile.invariant.quiet told).directory bad in
+    bad_page_of d c.args.numbers.now.next before c.args.header.now.tiles tiles i tile name c.items-tile-items.ensures c.loop-tile-test.true c.tile-item.is
+    (subst (λ n. IsBadPage d n before (placed_in (take i tiles) ++ map (λ l. (tile, l)) tile.pages) name) c.loop-tile.invariant.next (here before (placed_in (take i tiles)) (c.loop-tile.invariant.pages told before are) below)))
     c.in_err-check_tile.ensures.refused)
 
 pub returns-in_err-check_tile-clause-quiet : goal.returns-in_err-check_tile-clause-quiet

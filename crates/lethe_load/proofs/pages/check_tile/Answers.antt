@@ -1,4 +1,4 @@
-use Rattle.std.proofs.Common.{◌≡◌, ◌<◌, ◌+◌, List, [], ◌∷◌, ◌++◌, All, Some, length, map, get_or, take, drop, refl, sym, ap, subst, ◌∙◌, arith, append-nil}
+use Rattle.std.proofs.Common.{◌≡◌, ◌+◌, [], ◌++◌, All, map, take, drop, refl, sym, ap, subst, ◌∙◌, arith, append-nil}
 use Rattle.std.specs.Prelude.{IsSome, is_some}
 use Rattle.std.specs.FinMap.{keys}
 use Rattle.std.proofs.lemmas.List.{take_all}
@@ -81,19 +81,19 @@ returns-in_err-check_page-clause-refused g c =
     err_moved c.from_residual.result c.in_err-check_page.field-0.0 (MayFail g.D.Disk.tells (IsBadInTile d c.args.numbers.now tile) c.args.listing.now.faults now) c.from_residual.ensures.1
     (fails_so g.D.Disk.tells (λ name. (name ≡ page_name line.no) × (IsNextPage mid c.loop-line.numbers (IsTaken c.loop-line.keys) tile line → ⊥)) (IsBadInTile d c.args.numbers.now tile) c.args.listing.now.faults now c.in_err-check_page.field-0.0
     (λ told name bad before items are below.
-        let so_far = c.loop-line.invariant.pages told before items are below in (
-          items ++ map (λ l. (tile, l)) (take i lines),
-          (tile, line),
-          record {
-            behind = map (λ l. (tile, l)) (drop (i + 1) lines);
-            split = placed_split tile items tile.pages lines i line c.items-line-items.ensures c.loop-line-test.true c.line-item.is;
-            good = subst (λ n. EachFollows (IsSoundPage d n (IsTakenBy d before)) (items ++ map (λ l. (tile, l)) (take i lines))) c.loop-line.invariant.next so_far.good;
-            is = λ sound. bad.1 (subst (λ e. IsNextPage e c.loop-line.numbers (IsTaken c.loop-line.keys) tile line) (sym (c.loop-line.invariant.quiet told).directory)
-                (next_sound d before c.loop-line.numbers tile items (take i lines) (IsTaken c.loop-line.keys) so_far (c.loop-line.invariant.keys told) line
-                (subst (λ n. IsSoundPage d n (IsTakenBy d before) (items ++ map (λ l. (tile, l)) (take i lines)) (tile, line)) (sym c.loop-line.invariant.next) sound)));
-          },
-          bad.0,
-        )) c.in_err-check_page.ensures.refused)
+    let so_far = c.loop-line.invariant.pages told before items are below in (
+      items ++ map (λ l. (tile, l)) (take i lines),
+      (tile, line),
+      record {
+        behind = map (λ l. (tile, l)) (drop (i + 1) lines);
+        split = placed_split tile items tile.pages lines i line c.items-line-items.ensures c.loop-line-test.true c.line-item.is;
+        good = subst (λ n. EachFollows (IsSoundPage d n (IsTakenBy d before)) (items ++ map (λ l. (tile, l)) (take i lines))) c.loop-line.invariant.next so_far.good;
+        is = λ sound. bad.1 (subst (λ e. IsNextPage e c.loop-line.numbers (IsTaken c.loop-line.keys) tile line) (sym (c.loop-line.invariant.quiet told).directory)
+            (next_sound d before c.loop-line.numbers tile items (take i lines) (IsTaken c.loop-line.keys) so_far (c.loop-line.invariant.keys told) line
+            (subst (λ n. IsSoundPage d n (IsTakenBy d before) (items ++ map (λ l. (tile, l)) (take i lines)) (tile, line)) (sym c.loop-line.invariant.next) sound)));
+      },
+      bad.0,
+    )) c.in_err-check_page.ensures.refused)
 
 pub returns-in_err-check_page-clause-quiet : goal.returns-in_err-check_page-clause-quiet
 returns-in_err-check_page-clause-quiet g c = λ told. quiet_then (g.D.Disk.seen c.args.disk.now) (g.D.Disk.seen c.loop-line.disk) (g.D.Disk.seen c.check_page.new.disk) (c.loop-line.invariant.quiet told) (c.check_page.ensures.quiet told)
