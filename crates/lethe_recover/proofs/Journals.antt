@@ -7,7 +7,10 @@ use Rattle.lethe_segment.specs.declared.record.Record.{Record}
 use Rattle.lethe_segment.specs.declared.record.Record.TheVariants as of
 use Rattle.lethe_segment.specs.Records.{record_seq, RecordHasSpelling}
 use Rattle.lethe_segment.specs.Segments.{Ascends, last_seq}
-use Rattle.lethe_stored.specs.Stored.{Stored, Segment, segments_of, records_in}
+use Rattle.lethe_stored.specs.Stored.{Stored, Segment, count_of, segments_of, records_in}
+use Rattle.lethe_manifest.specs.declared.manifest.Manifest.{Manifest}
+use Rattle.lethe_recover.specs.Journals.{IsJournalOf}
+use Rattle.lethe_recover.specs.declared.journal.Journal.{Journal}
 
 -- The last of a list
 
@@ -74,3 +77,11 @@ place_fits (of.Erase erase) spelled = absurd spelled
 pub last_fits : (last : ℕ) (records : List Record) → Ascends last records → last ≤ max_place → last_seq last records ≤ max_place
 last_fits last [] up fits = fits
 last_fits last (r ∷ records) up fits = last_fits (record_seq r) records up.2 (place_fits r up.0)
+
+-- The count
+
+pub count_is : (s : Stored) (m : Manifest) (journal : Journal) → s.manifest ≡ m → IsJournalOf s journal → max (max m.count (last_seq 0 journal.older)) (last_seq 0 journal.newer) ≡ count_of s
+count_is s m journal same is =
+    let moved : max (max m.count (last_seq 0 journal.older)) (last_seq 0 journal.newer) ≡ max (max s.manifest.count (last_seq 0 (records_in s.frozen))) (last_seq 0 s.active.records) =
+    λ i. max (max ((sym same i).count) (last_seq 0 (is.older i))) (last_seq 0 (is.newer i)) in
+    omega (arith, moved)

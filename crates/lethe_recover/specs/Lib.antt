@@ -6,3 +6,4 @@ pub mod Journals
 pub mod Flushing
 pub mod Reopening
 pub mod Opening
+pub mod Resuming

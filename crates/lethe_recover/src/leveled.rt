@@ -60,7 +60,7 @@ fn empty_lists<D: Disk>(alloc: Global, count: usize) -> Result<Vec<Vec<FileView<
     ensures each { IfOk result (λ levels. (level : ℕ) (given : _) → level < count → (slice_index_or levels.items level given).items ≡ []) }
 {
     let mut levels = Vec::new(alloc);
-    for _made in 0..count {
+    for made in 0..count {
         levels.push(Vec::new(alloc))?;
     }
     Ok(levels)

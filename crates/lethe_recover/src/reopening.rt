@@ -59,7 +59,15 @@ pub fn reopening_of<D: Disk>(
     let erases = journal.pending(alloc, manifest.erases.items())?;
     let count = journal.count(manifest.count);
     let config = &manifest.config;
-    let flushes = flush_journal(alloc, version, journal, &erases, count, config, manifest.next)?;
+    let flushes = flush_journal(
+        alloc,
+        version,
+        journal,
+        &erases,
+        count,
+        config,
+        manifest.next,
+    )?;
     step_of(alloc, manifest, count, erases, flushes)
 }
 
