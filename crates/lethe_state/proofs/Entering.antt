@@ -1,19 +1,26 @@
 -- The newest entries, where a record is entered.
-use Rattle.std.proofs.Common.{◌≡◌, ◌≤◌, ℕ, Bool, true, false, cond, List, [], ◌∷◌, ◌++◌, All, Contains, Option, Some, None, refl, sym, ap, ◌∙◌, subst}
-use Rattle.std.specs.Prelude.{option_and_then}
+use Rattle.std.proofs.Common.{◌≡◌, ◌<◌, ℕ, length, arith, Bool, true, false, cond, List, [], ◌∷◌, ◌++◌, All, Option, Some, None, refl, sym, ap, ◌∙◌, subst}
+use Rattle.std.specs.Prelude.{option_and_then, IfSome}
 use Rattle.std.proofs.lemmas.List.Elements.{All-contains}
 use Rattle.lethe_base.specs.Keys.{Bytes, same_key}
+use Rattle.lethe_base.specs.Limits.{max_place}
 use Rattle.lethe_base.specs.Entries.{entry_of, Inserts}
 use Rattle.lethe_base.specs.Spelling.{HasSpelling, IsTimeOrNone}
 use Rattle.lethe_base.specs.declared.entry.Entry.{Entry}
 use Rattle.lethe_cover.proofs.ByKey.{entry_in, own_entry}
 use Rattle.lethe_cover.proofs.Lists.{all_from}
+use Rattle.lethe_manifest.specs.Manifests as manifests
+use Rattle.lethe_manifest.specs.Manifests.{AreErases}
+use Rattle.lethe_manifest.specs.declared.manifest.Manifest.{Manifest}
+use Rattle.lethe_mem.specs.Buffered.{Buffered}
 use Rattle.lethe_segment.specs.Records.{RecordHasSpelling}
 use Rattle.lethe_segment.specs.declared.record.Record.{Record}
 use Rattle.lethe_segment.specs.declared.record.Record.TheVariants as of
 use Rattle.lethe_stored.specs.Replayed.{AreNewestOf}
 use Rattle.lethe_flush.proofs.Newest.{newest_entered, newest_still}
-use Rattle.lethe_state.specs.Records.{Enters, since_of}
+use Rattle.lethe_state.specs.Records.{Enters, IsNext, since_of}
+use Rattle.lethe_state.specs.Writable.{IsWritable, segments_for}
+use Rattle.lethe_state.specs.declared.state.State.{State}
 
 -- the time of an entry can be written
 pub time_fits : (key : Bytes) (entries : List Entry) → All HasSpelling entries → IsTimeOrNone (since_of key entries)
@@ -47,3 +54,17 @@ newest_next records (of.Entry entry) old new spelled newest inserts = newest_ent
 newest_next records (of.Blind place) old new spelled newest same =
     subst (AreNewestOf (records ++ of.Blind place ∷ [])) (sym same) (newest_still records (of.Blind place) old (clash_blind place) newest)
 newest_next records (of.Erase erase) old new spelled newest same = absurd spelled
+
+pub entered_writable : (next : Record) (end : ℕ) (old new : State) → IsWritable old → old.count < max_place → RecordHasSpelling next → IsNext next end old new → IsWritable new
+entered_writable next end old new is fits spelled step =
+    let counts = step.count in
+    let records = step.records in
+    let before = is.records in record {
+      manifest = subst manifests.HasSpelling (sym step.manifest) is.manifest;
+      segments = ap (λ (m : Manifest). length m.segments) step.manifest ∙ is.segments ∙ ap segments_for (sym step.frozen);
+      pending = subst AreErases (sym step.pending) is.pending;
+      active = entered_spelled next old.active.entries new.active.entries spelled is.active step.active;
+      frozen = subst (λ frozen. IfSome frozen (λ (buffer : Buffered). All HasSpelling buffer.entries)) (sym step.frozen) is.frozen;
+      count = omega (arith, counts, fits);
+      records = omega (arith, counts, records, before);
+    }

@@ -2,3 +2,6 @@ pub mod Entering
 pub mod Leveled
 pub mod Recording
 pub mod Stepping
+pub mod Shared
+pub mod FreezeStep
+pub mod FlushStep

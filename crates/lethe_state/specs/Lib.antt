@@ -2,3 +2,4 @@ pub mod Writable
 pub mod Remembered
 pub mod Records
 pub mod Room
+pub mod Made

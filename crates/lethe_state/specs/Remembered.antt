@@ -1,5 +1,6 @@
 -- What a store remembers of what is stored.
-use Rattle.std.specs.Prelude.{◌≡◌, ◌≤◌, ℕ, List, length, Option, Some, None}
+use Rattle.std.specs.Prelude.{◌≡◌, ◌≤◌, List, [], length, Option, Some, None}
+use Rattle.lethe_manifest.specs.declared.manifest.Manifest.{Manifest}
 use Rattle.lethe_mem.specs.Buffered.{Buffered}
 use Rattle.lethe_stored.specs.Files.{Parts}
 use Rattle.lethe_stored.specs.Levels.{HasFiles}
@@ -30,3 +31,11 @@ pub record Remembers (s : Stored) (state : State) (levels : List (List Parts)) :
 pub record IsCurrent (s : Stored) (state : State) : Type 0 where
   pub runs : state.stopped ≡ None
   pub count : state.count ≡ count_of s
+
+-- on any disk: under this manifest nothing is in memory and nothing has failed
+pub record IsFresh (manifest : Manifest) (state : State) : Type 0 where
+  pub manifest_is : state.manifest ≡ manifest
+  pub active : state.active.entries ≡ []
+  pub records : state.records ≡ 0
+  pub frozen : state.frozen ≡ None
+  pub stopped : state.stopped ≡ None

@@ -1,23 +1,36 @@
 //! Flushing the frozen segment.
-ghost use Rattle.std.specs.Prelude.{◌≡◌, ◌⊎◌, All, IfErr, IfOk, IsErrOf, IsSome, length};
+ghost use Rattle.std.specs.Prelude as prelude;
+ghost use Rattle.std.specs.Prelude.{◌≡◌, ◌⊎◌, ◌↔◌, ℕ, ◌+◌, ◌<◌, ◌≤◌, ◌^◌, All, IfErr, IfOk, IsErrOf, IsSome, IsTrue, length};
 ghost use Rattle.lethe_base.specs.Limits.{max_place};
+ghost use Rattle.lethe_base.specs.Spelling as entries;
 ghost use Rattle.lethe_base.specs.declared.refused.Refused.TheVariants as refused;
+ghost use Rattle.lethe_build.specs.Built.{most_numbers};
 ghost use Rattle.lethe_header.specs.Headers as headers;
 ghost use Rattle.lethe_manifest.specs.Manifests.{HasSpelling};
+ghost use Rattle.lethe_stored.specs.Files.{StoredFile};
 ghost use Rattle.lethe_stored.specs.Stored.{Stored};
 ghost use Rattle.lethe_advance.specs.Shown.{parts_by_level};
 ghost use Rattle.lethe_advance.specs.Steps.{IsStep};
+ghost use Rattle.lethe_flush.specs.Flushed.{IsFlushOf};
+ghost use Rattle.lethe_flush.specs.declared.flushed.Flushed.{Flushed};
+ghost use Rattle.lethe_state.specs.Made.{IsFlushStep, flushing_manifest};
 ghost use Rattle.lethe_state.specs.Remembered.{Remembers, IsCurrent};
-ghost use Rattle.lethe_state.specs.Room.{IsFlushed, IsShortToFlush, IsStepFrom, unfrozen};
+ghost use Rattle.lethe_state.specs.Room.{IsFlushed, IsShortToFlush, IsStepFrom, frozen_len, unfrozen};
 ghost use Rattle.lethe_state.specs.Writable.{IsWritable};
 
 use crate::State;
 use lethe_advance::Step;
-use lethe_base::{MAX_PLACE, Refused};
+use lethe_base::{Kind, List, MAX_PLACE, Name, NoMemory, Refused};
 use lethe_disk::Disk;
+use lethe_flush::{Flushed, flush_of, is_clear};
 use lethe_header::Header;
+use lethe_manifest::{Cited, Manifest};
+use lethe_mem::{Buffer, VecBuffer};
 use lethe_version::Version;
 use std::alloc::Global;
+
+/// The most files of a manifest.
+const MAX_FILES: usize = 0xffff_ffff;
 
 impl State {
     /// The headers of the files that the frozen buffer becomes, and the step that flushes it.
@@ -32,14 +45,120 @@ impl State {
     ) -> Result<(Vec<Header>, Step), Refused>
         requires writable { IsWritable self.now }
         requires frozen { IsSome self.now.frozen }
-        ensures exhausted { IsErrOf result (refused.Exhausted max_place) → IsShortToFlush self.now }
+        ensures exhausted { IsErrOf result (refused.Exhausted max_place) ↔ IsShortToFlush self.now }
         ensures refused { IfErr result (λ why. (why ≡ refused.Exhausted max_place) ⊎ (why ≡ refused.NoMemory)) }
         ensures headers { IfOk result (λ made. All headers.HasSpelling made.0.items) }
         ensures step { IfOk result (λ made. IsStepFrom 1 self.now made.1) }
+        ensures few { IfOk result (λ made. length made.1.objects.items ≤ most_numbers (frozen_len self.now.frozen)) }
         ensures flushes { (s : Stored) → Remembers s self.now (parts_by_level version.now) → IsCurrent s self.now
             → IfOk result (λ made. (t : Stored) × IsFlushed s t × IsStep s t made.0.items made.1) }
     {
-        Err(Refused::NoMemory)
+        let frozen = self.frozen.as_ref().unwrap();
+        if self.is_short_for(frozen) {
+            return Err(Refused::Exhausted { last: MAX_PLACE });
+        }
+        let alone = is_clear(frozen, version, &[]);
+        match self.flush_frozen(alloc, frozen, alone) {
+            Ok(made) => Ok(made),
+            Err(NoMemory) => Err(Refused::NoMemory),
+        }
+    }
+
+    /// Whether numbers have run out for the most objects that the buffer's files could have, and a manifest.
+    fn is_short_for(&self, buffer: &VecBuffer) -> bool
+        ensures { IsTrue result ↔ (max_place ≤ self.now.manifest.next + most_numbers (length buffer.now.entries)) }
+    {
+        let most = (buffer.len() as u64).saturating_mul(2);
+        MAX_PLACE <= self.manifest.next.saturating_add(most)
+    }
+
+    fn flush_frozen(
+        &self,
+        alloc: Global,
+        frozen: &VecBuffer,
+        alone: bool,
+    ) -> Result<(Vec<Header>, Step), NoMemory>
+        requires writable { IsWritable self.now }
+        requires segments { length self.now.manifest.segments ≡ 2 }
+        requires spelled { All entries.HasSpelling frozen.now.entries }
+        requires numbers { self.now.manifest.next + most_numbers (length frozen.now.entries) < max_place }
+        ensures made { IfOk result (λ made. (flushed : Flushed) × (files : prelude.List StoredFile)
+            × IsFlushOf frozen.now.entries self.now.pending alone self.now.count self.now.manifest.next flushed files
+            × (self.now.manifest.next ≤ flushed.next) × IsFlushStep self.now flushed made.0.items made.1) }
+        ensures headers { IfOk result (λ made. All headers.HasSpelling made.0.items) }
+        ensures step { IfOk result (λ made. IsStepFrom 1 self.now made.1) }
+        ensures few { IfOk result (λ made. length made.1.objects.items ≤ most_numbers (length frozen.now.entries)) }
+    {
+        let flushed = flush_of(
+            alloc,
+            frozen,
+            self.pending.items(),
+            alone,
+            self.count,
+            &self.manifest.config,
+            self.manifest.next,
+        )?;
+        self.flush_step(alloc, flushed)
+    }
+
+    /// The step that writes what a flush made.
+    fn flush_step(&self, alloc: Global, flushed: Flushed) -> Result<(Vec<Header>, Step), NoMemory>
+        requires segments { length self.now.manifest.segments ≡ 2 }
+        requires numbers { flushed.next < max_place }
+        ensures is { IfOk result (λ made. IsFlushStep self.now flushed made.0.items made.1) }
+        ensures few { IfOk result (λ made. length made.1.manifest.files < 2 ^ 32) }
+    {
+        let Flushed {
+            headers,
+            objects,
+            cited,
+            next,
+        } = flushed;
+        let manifest = self.flushing_manifest(alloc, cited, next)?;
+        let mut gone = Vec::new(alloc);
+        gone.push(Name {
+            kind: Kind::Segment,
+            no: self.manifest.segments.items()[0],
+        })?;
+        let step = Step {
+            objects,
+            level: 0,
+            merged: Vec::new(alloc),
+            manifest,
+            gone,
+        };
+        Ok((headers, step))
+    }
+
+    /// The manifest of this number that cites these files and no frozen segment.
+    fn flushing_manifest(
+        &self,
+        alloc: Global,
+        cited: Vec<Cited>,
+        number: u64,
+    ) -> Result<Manifest, NoMemory>
+        requires segments { length self.now.manifest.segments ≡ 2 }
+        requires numbers { number < max_place }
+        ensures is { IfOk result (λ manifest. manifest ≡ flushing_manifest self.now cited.items number) }
+        ensures few { IfOk result (λ manifest. length manifest.files < 2 ^ 32) }
+    {
+        let mut files = cited;
+        files.extend_from_slice(self.manifest.files.items())?;
+        if files.len() > MAX_FILES {
+            return Err(NoMemory);
+        }
+        let segments = &self.manifest.segments.items()[1..];
+        Ok(Manifest {
+            no: number,
+            config: self.manifest.config,
+            clock: self.manifest.clock,
+            count: self.count,
+            next: number + 1,
+            certificate: self.manifest.certificate,
+            erases: List::of(self.pending.items().to_vec(alloc)?),
+            segments: List::of(segments.to_vec(alloc)?),
+            files: List::of(files),
+        })
     }
 
     /// Forgets the frozen buffer, under the step's manifest.

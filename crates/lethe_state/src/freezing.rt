@@ -1,21 +1,25 @@
 //! Freezing the active segment.
 ghost use Rattle.std.specs.Prelude as prelude;
-ghost use Rattle.std.specs.Prelude.{◌≡◌, ◌↔◌, ◌⊎◌, ◌+◌, [], None, IfErr, IfOk, IsErrOf, length};
+ghost use Rattle.std.specs.Prelude.{◌≡◌, ◌↔◌, ◌⊎◌, ◌+◌, ◌<◌, [], ◌∷◌, None, IfErr, IfOk, IsErrOf, length};
 ghost use Rattle.lethe_base.specs.Limits.{max_place};
 ghost use Rattle.lethe_base.specs.declared.refused.Refused.TheVariants as refused;
 ghost use Rattle.lethe_manifest.specs.Manifests.{HasSpelling};
 ghost use Rattle.lethe_stored.specs.Files.{Parts};
 ghost use Rattle.lethe_stored.specs.Stored.{Stored, froze};
 ghost use Rattle.lethe_advance.specs.Steps.{IsStep};
+ghost use Rattle.lethe_state.specs.Made.{empty_segment, freezing_manifest};
 ghost use Rattle.lethe_state.specs.Remembered.{Remembers, IsCurrent};
-ghost use Rattle.lethe_state.specs.Room.{IsFrozen, IsFrozenWith, IsShortToFreeze, IsStepFrom};
+ghost use Rattle.lethe_state.specs.Room.{IsFrozenWith, IsShortToFreeze, IsStepFrom};
 ghost use Rattle.lethe_state.specs.Writable.{IsWritable};
 
 use crate::State;
 use crate::state::FIRST_GATE;
 use lethe_advance::Step;
-use lethe_base::{MAX_PLACE, Refused};
+use lethe_base::{Kind, List, MAX_PLACE, Name, NoMemory, Refused};
+use lethe_commit::Object;
+use lethe_manifest::Manifest;
 use lethe_mem::VecBuffer;
+use lethe_segment::new_segment;
 use std::alloc::Global;
 
 impl State {
@@ -36,7 +40,50 @@ impl State {
         if MAX_PLACE <= self.manifest.next + 1 {
             return Err(Refused::Exhausted { last: MAX_PLACE });
         }
-        Err(Refused::NoMemory)
+        match self.freeze_step(alloc) {
+            Ok(step) => Ok(step),
+            Err(NoMemory) => Err(Refused::NoMemory),
+        }
+    }
+
+    fn freeze_step(&self, alloc: Global) -> Result<Step, NoMemory>
+        requires { self.now.manifest.next + 1 < max_place }
+        ensures objects { IfOk result (λ step. step.objects.items ≡ empty_segment self.now.manifest.next ∷ []) }
+        ensures level { IfOk result (λ step. step.level ≡ 0) }
+        ensures merged { IfOk result (λ step. step.merged.items ≡ []) }
+        ensures manifest { IfOk result (λ step. step.manifest ≡ freezing_manifest self.now) }
+        ensures gone { IfOk result (λ step. step.gone.items ≡ []) }
+    {
+        let mut objects = Vec::new(alloc);
+        objects.push(segment_object(alloc, self.manifest.next)?)?;
+        Ok(Step {
+            objects,
+            level: 0,
+            merged: Vec::new(alloc),
+            manifest: self.freezing_manifest(alloc)?,
+            gone: Vec::new(alloc),
+        })
+    }
+
+    /// The manifest that cites an empty segment behind the active one.
+    fn freezing_manifest(&self, alloc: Global) -> Result<Manifest, NoMemory>
+        requires { self.now.manifest.next + 1 < max_place }
+        ensures { IfOk result (λ manifest. manifest ≡ freezing_manifest self.now) }
+    {
+        let segment = self.manifest.next;
+        let mut segments = self.manifest.segments.items().to_vec(alloc)?;
+        segments.push(segment)?;
+        Ok(Manifest {
+            no: segment + 1,
+            config: self.manifest.config,
+            clock: self.manifest.clock,
+            count: self.count,
+            next: segment + 2,
+            certificate: self.manifest.certificate,
+            erases: List::of(self.manifest.erases.items().to_vec(alloc)?),
+            segments: List::of(segments),
+            files: List::of(self.manifest.files.items().to_vec(alloc)?),
+        })
     }
 
     /// Freezes the active buffer, under the step's manifest. It takes no memory.
@@ -54,4 +101,18 @@ impl State {
         self.records = 0;
         self.end = FIRST_GATE;
     }
+}
+
+/// A segment of that number without a record.
+fn segment_object(alloc: Global, number: u64) -> Result<Object, NoMemory>
+    ensures { IfOk result (λ made. made ≡ empty_segment number) }
+{
+    let bytes = new_segment(number).to_vec(alloc)?;
+    Ok(Object {
+        name: Name {
+            kind: Kind::Segment,
+            no: number,
+        },
+        bytes: List::of(bytes),
+    })
 }

@@ -7,7 +7,7 @@ ghost use Rattle.lethe_stored.specs.Files.{Parts};
 ghost use Rattle.lethe_stored.specs.Levels.{HasFiles};
 ghost use Rattle.lethe_stored.specs.Stored.{Stored, IsCoherent, pending_of};
 ghost use Rattle.lethe_state.specs.Records.{MayRefuse};
-ghost use Rattle.lethe_state.specs.Remembered.{Remembers, IsCurrent};
+ghost use Rattle.lethe_state.specs.Remembered.{IsCurrent, IsFresh, Remembers};
 ghost use Rattle.lethe_state.specs.Writable.{IsWritable};
 
 use lethe_base::{List, MAX_PLACE, NoMemory, Pending, Refused};
@@ -46,6 +46,7 @@ impl State {
         requires segments { length manifest.segments ≡ 1 }
         ensures writable { IfOk result IsWritable }
         ensures end { IfOk result (λ state. state.end ≡ 11) }
+        ensures fresh { IfOk result (IsFresh manifest) }
         ensures remembers { (s : Stored) (levels : prelude.List (prelude.List Parts)) → IsCoherent s → HasFiles s levels → s.manifest ≡ manifest → s.frozen ≡ None
             → s.active.records ≡ [] → s.manifest.erases ≡ pending_of s → IfOk result (λ state. Remembers s state levels × IsCurrent s state) }
     {

@@ -1,0 +1,146 @@
+-- The step of a freeze.
+use Rattle.std.proofs.Common.{◌≡◌, ◌≢◌, ◌⊎◌, ◌≤◌, ◌<◌, ◌+◌, inl, inr, ℕ, List, [], ◌∷◌, ◌++◌, length, map, All, AllPairs, Contains, None, refl, sym, ap, ◌∙◌, subst, arith}
+use Rattle.std.specs.Prelude.{option_to_list}
+use Rattle.std.specs.List.Sorted.{IsPermutation}
+use Rattle.std.proofs.lemmas.List.{length_push}
+use Rattle.std.proofs.lemmas.List.Elements.{All-append, All-weaker, All-cons, All-nil, Contains-append_cases, Contains-append_right, Contains-push}
+use Rattle.std.proofs.lemmas.List.Sorted.{IsPermutation-refl}
+use Rattle.lethe_base.specs.Limits.{max_place}
+use Rattle.lethe_base.specs.declared.name.Name.{Name}
+use Rattle.lethe_base.proofs.Newest.{first_is}
+use Rattle.lethe_commit.specs.declared.objects.Object.{Object}
+use Rattle.lethe_cover.proofs.Lists.{all_from, map_from, only_in}
+use Rattle.lethe_manifest.specs.Manifests.{HasSpelling, IsFile}
+use Rattle.lethe_manifest.specs.declared.manifest.Cited.{Cited}
+use Rattle.lethe_manifest.specs.declared.manifest.Manifest.{Manifest}
+use Rattle.lethe_segment.specs.Segments.{segment_bytes}
+use Rattle.lethe_stored.specs.Files.{Parts, StoredFile, objects_of}
+use Rattle.lethe_stored.specs.Stored.{Stored, froze, number_of, part_names, segment_name, segment_numbers}
+use Rattle.lethe_stored.proofs.Freezing.{froze_coherent}
+use Rattle.lethe_stored.proofs.Parts.{active_part, frozen_part}
+use Rattle.lethe_advance.specs.Steps.{IsObjectFrom, IsSegmentFrom, IsStep, IsUncited, written_in}
+use Rattle.lethe_advance.specs.declared.step.Step.{Step}
+use Rattle.lethe_state.specs.Made.{empty_segment, freezing_manifest}
+use Rattle.lethe_state.specs.Remembered.{IsCurrent, Remembers}
+use Rattle.lethe_state.specs.Room.{IsStepFrom}
+use Rattle.lethe_state.specs.Writable.{IsWritable, segments_for}
+use Rattle.lethe_state.specs.declared.state.State.{State}
+use Rattle.lethe_state.proofs.Shared.{all_kept, one_all, one_once}
+
+-- On any disk
+
+later_file : (next later levels : ℕ) (file : Cited) → next ≤ later → IsFile next levels file → IsFile later levels file
+later_file next later levels file le is = let below = is.no in record { level = is.level; no = omega (arith, le, below); swept = is.swept; digest = is.digest }
+
+pub later_files : (next later levels : ℕ) (files : List Cited) → next ≤ later → All (IsFile next levels) files → All (IsFile later levels) files
+later_files next later levels files le = All-weaker (IsFile next levels) (IsFile later levels) (λ file is. later_file next later levels file le is) files
+
+freezing_spelled : (state : State) → IsWritable state → state.frozen ≡ None → state.manifest.next + 1 < max_place → HasSpelling (freezing_manifest state)
+freezing_spelled state is none fits =
+    let next = state.manifest.next in
+    let segments = state.manifest.segments in
+    let one : length segments ≡ 1 = is.segments ∙ ap segments_for none in
+    let longer = length_push segments next in record {
+      no = omega arith;
+      config = (is.manifest).config;
+      clock = (is.manifest).clock;
+      count = is.count;
+      next = omega (arith, fits);
+      certificate = (is.manifest).certificate;
+      erases = (is.manifest).erases;
+      segments = record {
+        some = omega (arith, longer);
+        few = omega (arith, longer, one);
+        below = All-append (λ k. k < next + 1 + 1) segments (next ∷ [])
+            (All-weaker (λ k. k < next) (λ k. k < next + 1 + 1) (λ k lt. omega (arith, lt)) segments ((is.manifest).segments).below)
+            (All-cons (λ k. k < next + 1 + 1) next [] (omega arith) (All-nil (λ k. k < next + 1 + 1)));
+      };
+      files = record {
+        few = ((is.manifest).files).few;
+        each = later_files next (next + 1 + 1) state.manifest.config.levels state.manifest.files (omega arith) ((is.manifest).files).each;
+        ascending = ((is.manifest).files).ascending;
+      };
+    }
+
+pub freeze_from : (state : State) (step : Step) → IsWritable state → state.frozen ≡ None → state.manifest.next + 1 < max_place → step.objects.items ≡ empty_segment state.manifest.next ∷ []
+    → step.level ≡ 0 → step.manifest ≡ freezing_manifest state → IsStepFrom 2 state step
+freeze_from state step is none fits objects level manifest =
+    let one : length state.manifest.segments ≡ 1 = is.segments ∙ ap segments_for none in
+    let longer = length_push state.manifest.segments state.manifest.next in
+    let written : length step.objects.items ≡ 1 = ap length objects in
+    let last : step.manifest.next ≡ state.manifest.next + 1 + 1 = ap (λ (m : Manifest). m.next) manifest in record {
+      spelled = subst HasSpelling (sym manifest) (freezing_spelled state is none fits);
+      segments_are = ap (λ (m : Manifest). length m.segments) manifest ∙ omega (arith, one, longer);
+      config = ap (λ (m : Manifest). m.config) manifest;
+      level = level;
+      numbers = omega (arith, written, last);
+    }
+
+-- On a disk that tells
+
+module _ (s : Stored) (state : State) (levels : List (List Parts)) (is : Remembers s state levels) (current : IsCurrent s state) (none : s.frozen ≡ None) (step : Step)
+    (objects : step.objects.items ≡ empty_segment state.manifest.next ∷ []) (merged : step.merged.items ≡ []) (manifest : step.manifest ≡ freezing_manifest state)
+    (gone : step.gone.items ≡ []) (spelled : HasSpelling step.manifest) where
+  abbrev n : ℕ
+  n = s.manifest.next
+
+  abbrev t : Stored
+  t = froze s n (n + 1)
+
+  abbrev names : List Name
+  names = map (λ named. named.0) (objects_of s.files)
+
+  numbers : segment_numbers s ≡ s.active.no ∷ []
+  numbers = ap (λ (o : _). map number_of (option_to_list o) ++ s.active.no ∷ []) none
+
+  segments : state.manifest.segments ≡ s.active.no ∷ []
+  segments = ap (λ m. m.segments) is.manifest ∙ (is.coherent).cites ∙ numbers
+
+  manifest_is : step.manifest ≡ t.manifest
+  manifest_is = manifest ∙ (λ i. record (is.manifest i) {
+    no = (is.manifest i).next + 1;
+    count = current.count i;
+    next = (is.manifest i).next + 1 + 1;
+    segments = segments i ++ (is.manifest i).next ∷ [];
+  })
+
+  object_is : step.objects.items ≡ empty_segment n ∷ []
+  object_is = objects ∙ ap (λ m. empty_segment m.next ∷ []) is.manifest
+
+  le : n ≤ n
+  le = omega arith
+
+  stays : (name : Name) → Contains (part_names s) name → Contains (part_names t) name
+  stays name there = elim (Contains-append_cases (map segment_name (segment_numbers s)) names name there) [
+    | inl segment ↦
+        let found = map_from segment_name (segment_numbers s) name segment in
+        let same = only_in s.active.no found.0 (subst (λ l. Contains l found.0) numbers found.1) in
+        subst (Contains (part_names t)) (ap segment_name same ∙ found.2) (frozen_part t s.active refl)
+    | inr object ↦ Contains-append_right (map segment_name (segment_numbers t)) names name object
+  ]
+
+  written : Contains (written_in step) (segment_name n, segment_bytes n [])
+  written =
+      let new : Name × List ℕ = (segment_name n, segment_bytes n []) in
+      let named : Object → Name × List ℕ = λ made. (made.name, made.bytes) in
+      subst (λ (objects : List Object). Contains (map named objects) new) (sym object_is) (first_is new [] new refl)
+
+  pub freeze_is_step : IsStep s t [] step
+  freeze_is_step = record {
+    coherent = froze_coherent s is.coherent n (n + 1) le (omega arith) (subst HasSpelling manifest_is spelled);
+    config = refl;
+    manifest = manifest_is;
+    later = omega arith;
+    fresh = one_all (λ (made : Object). n ≤ made.name.no) (empty_segment n) step.objects.items object_is le;
+    once = one_once (λ (made other : Object). made.name ≢ other.name) (empty_segment n) step.objects.items object_is;
+    segments = All-cons (IsSegmentFrom s step) s.active (t.active ∷ []) (inl (Contains-push (option_to_list s.frozen) s.active)) (All-cons (IsSegmentFrom s step) t.active [] (inr written) (All-nil (IsSegmentFrom s step)));
+    objects = all_from (IsObjectFrom s step) (objects_of s.files) (λ named there. inl there);
+    cited = one_all (λ (made : Object). Contains (part_names t) made.name) (empty_segment n) step.objects.items object_is (active_part t);
+    stays = all_from (λ name. Contains (part_names t) name ⊎ Contains step.gone.items name) (part_names s) (λ name there. inl (stays name there));
+    gone = subst (All (IsUncited s t)) (sym gone) (All-nil (IsUncited s t));
+    gone_once = subst (AllPairs (λ (name other : Name). name ≢ other)) (sym gone) (λ i j d before within. absurd (omega arith));
+    added = [];
+    headers_are = refl;
+    level = All-nil (λ (file : StoredFile). file.level ≡ step.level);
+    files = subst (λ files. IsPermutation files s.files) (sym (all_kept s step merged)) (IsPermutation-refl s.files);
+  }

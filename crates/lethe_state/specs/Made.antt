@@ -1,0 +1,44 @@
+-- What the steps are made of.
+use Rattle.std.specs.Prelude.{◌≡◌, ℕ, ◌+◌, List, [], ◌∷◌, ◌++◌, drop, slice_index}
+use Rattle.lethe_header.specs.declared.header.Header.{Header}
+use Rattle.lethe_manifest.specs.declared.manifest.Cited.{Cited}
+use Rattle.lethe_manifest.specs.declared.manifest.Manifest.{Manifest}
+use Rattle.lethe_segment.specs.Segments.{segment_bytes}
+use Rattle.lethe_commit.specs.declared.objects.Object.{Object}
+use Rattle.lethe_stored.specs.Stored.{segment_name}
+use Rattle.lethe_advance.specs.declared.step.Step.{Step}
+use Rattle.lethe_flush.specs.declared.flushed.Flushed.{Flushed}
+use Rattle.lethe_state.specs.declared.state.State.{State}
+
+-- a segment without a record
+abbrev pub empty_segment : ℕ → Object
+empty_segment number = record { name = segment_name number; bytes = segment_bytes number [] }
+
+-- the manifest that cites an empty segment behind the others
+abbrev pub freezing_manifest : State → Manifest
+freezing_manifest state = record state.manifest {
+  no = state.manifest.next + 1;
+  count = state.count;
+  next = state.manifest.next + 1 + 1;
+  segments = state.manifest.segments ++ state.manifest.next ∷ [];
+}
+
+-- the manifest of this number without the first segment, which cites these files in front of the others and has the pending erases
+abbrev pub flushing_manifest : State → List Cited → ℕ → Manifest
+flushing_manifest state cited number = record state.manifest {
+  no = number;
+  count = state.count;
+  next = number + 1;
+  erases = state.pending;
+  segments = drop 1 state.manifest.segments;
+  files = cited ++ state.manifest.files;
+}
+
+-- the step writes the objects and cites the files, and the first segment goes
+pub record IsFlushStep (state : State) (flushed : Flushed) (headers : List Header) (step : Step) : Type 0 where
+  pub headers_are : headers ≡ flushed.headers.items
+  pub objects : step.objects.items ≡ flushed.objects.items
+  pub level : step.level ≡ 0
+  pub merged : step.merged.items ≡ []
+  pub manifest : step.manifest ≡ flushing_manifest state flushed.cited.items flushed.next
+  pub gone : step.gone.items ≡ segment_name (slice_index state.manifest.segments 0) ∷ []
