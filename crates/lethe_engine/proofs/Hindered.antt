@@ -21,8 +21,8 @@ use Rattle.lethe_engine.specs.Sound.{IsRunning, IsSmall, IsSound}
 use Rattle.lethe_engine.specs.StandsFor.{StandsFor, retried}
 use Rattle.lethe_engine.specs.Steps.{IsHindered}
 use Rattle.lethe_engine.proofs.Standing.{left_at_end, moments_or, open_stands, stands_done, stands_for, stands_running, stopped_stands}
-use Rattle.lethe_engine.proofs.StateLaws.{halted_is_remembered}
-use Rattle.lethe_engine.proofs.Stepping.{running_back}
+use Rattle.lethe_engine.proofs.Likes.{halted_remembered}
+use Rattle.lethe_engine.proofs.Carried.{running_back}
 
 pub runs_not : (at : ℕ) → Some at ≡ None → ⊥
 runs_not at e = cc
@@ -48,7 +48,7 @@ sound_halted Tells start finish state levels fits sound = record {
   writable = writable_halted state fits sound.writable;
   small = small_halted state sound.small;
   count = sound.count;
-  held = λ told. let held = sound.held told in (held.0, halted_is_remembered held.0 state levels held.1, λ runs. absurd (runs_not (state.count + 1) runs));
+  held = λ told. let held = sound.held told in (held.0, halted_remembered held.0 state levels held.1, λ runs. absurd (runs_not (state.count + 1) runs));
 }
 
 pub sound_back : (Tells : Type 0) (start finish : Seen) (state : State) (levels : List (List Parts)) → (Tells → (s : Stored) → IsRunning start s state → IsRunning finish s state) → IsSound Tells start state levels → IsSound Tells finish state levels
@@ -104,7 +104,7 @@ module _ (Tells : Type 0) (old new : State) (start finish : Seen) (before now : 
     halted_stands fits goes here caller call b a =
         let change : Change = record { caller = caller; call = call; did = Failed b a } in
         stopped_stands config h change b a finish stands.stored (halted old) levels stands.legal (stands_done config h start old levels stands runs) (subst (λ n. n < max_place) stands.count fits)
-        refl (ap (λ n. n + 1) stands.count) (ap (λ n. Some (n + 1)) stands.count) (halted_is_remembered stands.stored old levels stands.remembers) stands.config_is
+        refl (ap (λ n. n + 1) stands.count) (ap (λ n. Some (n + 1)) stands.count) (halted_remembered stands.stored old levels stands.remembers) stands.config_is
         (stands_for config h start old levels stands runs) (left_at_end h (retried change) start finish here (moments_or h (retried change) start finish goes))
 
     pub back_stands : (Tells → (s : Stored) → IsRunning start s old → IsRunning finish s old) → Tells → StandsFor config h finish old levels

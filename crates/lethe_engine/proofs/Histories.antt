@@ -9,14 +9,15 @@ use Rattle.lethe_base.proofs.Histories.{change_at_cases, clock_before-append, cl
 use Rattle.lethe_stored.specs.Left.{is_done, without_failed}
 
 -- what failed changes nothing
+one_more : (s : State) (change : Change) (h : History) (did : Did) → change.did ≡ did → ((st : State) → fold changed st (without_failed h) ≡ fold changed st h)
+    → fold changed s (cond (is_done change.did) (change ∷ without_failed h) (without_failed h)) ≡ fold changed (changed s change) h
+one_more s change h Done is rest = ap (λ d. fold changed s (cond (is_done d) (change ∷ without_failed h) (without_failed h))) is ∙ rest (changed s change)
+one_more s change h (Failed before behind) is rest = ap (λ d. fold changed s (cond (is_done d) (change ∷ without_failed h) (without_failed h))) is ∙ rest s
+    ∙ ap (λ st. fold changed st h) (sym (ap (λ d. outcome d change.call s) is))
+
 after_from : (s : State) (h : History) → fold changed s (without_failed h) ≡ fold changed s h
 after_from s [] = refl
-after_from s (change ∷ h) = by change.did refl
-  where
-    by : (did : Did) → change.did ≡ did → fold changed s (cond (is_done change.did) (change ∷ without_failed h) (without_failed h)) ≡ fold changed (changed s change) h
-    by Done is = ap (λ d. fold changed s (cond (is_done d) (change ∷ without_failed h) (without_failed h))) is ∙ after_from (changed s change) h
-    by (Failed before behind) is = ap (λ d. fold changed s (cond (is_done d) (change ∷ without_failed h) (without_failed h))) is ∙ after_from s h
-        ∙ ap (λ st. fold changed st h) (sym (ap (λ d. outcome d change.call s) is))
+after_from s (change ∷ h) = one_more s change h change.did refl (λ st. after_from st h)
 
 pub after_without : (h : History) → after (without_failed h) ≡ after h
 after_without h = after_from _ h

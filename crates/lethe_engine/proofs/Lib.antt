@@ -1,6 +1,12 @@
 pub mod Histories
 pub mod Results
 pub mod Standing
-pub mod StateLaws
-pub mod Stepping
+pub mod Likes
+pub mod Carried
 pub mod Hindered
+pub mod Answering
+pub mod Counting
+pub mod Opened
+pub mod Stepped
+pub mod Next
+pub mod Recorded

@@ -1,13 +1,12 @@
 -- What stands where the disk is in the store's hands.
-use Rattle.std.proofs.Common.{◌≡◌, ◌<◌, inl, inr, ℕ, ◌+◌, List, [], ◌∷◌, ◌++◌, length, Option, Some, None, refl, sym, ap, ◌∙◌, subst}
+use Rattle.std.proofs.Common.{◌≡◌, ◌<◌, inl, inr, ℕ, ◌+◌, List, [], ◌∷◌, ◌++◌, length, Option, Some, None, refl, sym, ap, ◌∙◌, subst, arith}
 use Rattle.std.proofs.lemmas.List.{length_push}
-use Rattle.std.specs.Prelude.{◌≤◌}
 use Rattle.lethe_base.specs.History.{History, Change, AreDone, IsLegal}
 use Rattle.lethe_base.specs.Limits.{max_place}
 use Rattle.lethe_base.specs.declared.call.Did.TheVariants.{Failed}
 use Rattle.lethe_base.specs.declared.config.Fields.{Fields}
 use Rattle.lethe_disk.specs.Directory.{Directory}
-use Rattle.lethe_disk.specs.Disk.{Seen, Image}
+use Rattle.lethe_disk.specs.Disk.{Seen, Image, IsIdle}
 use Rattle.lethe_disk.specs.Goes.{Goes}
 use Rattle.lethe_disk.proofs.Going.{goes_quiet, goes_weaker}
 use Rattle.lethe_disk.proofs.Quieting.{quiet_itself}
@@ -16,9 +15,10 @@ use Rattle.lethe_stored.specs.Files.{Parts}
 use Rattle.lethe_stored.specs.Kept.{IsFor, IsKept}
 use Rattle.lethe_stored.specs.Left.{IsLeft, IsKeptOr, IsHistoryOr, without_failed}
 use Rattle.lethe_stored.specs.Stored.{Stored}
+use Rattle.lethe_advance.specs.Settled.{HasOnly}
 use Rattle.lethe_state.specs.Remembered.{Remembers}
 use Rattle.lethe_state.specs.declared.state.State.{State}
-use Rattle.lethe_engine.specs.Sound.{IsRunning}
+use Rattle.lethe_engine.specs.Sound.{IsRunning, IsSound}
 use Rattle.lethe_engine.specs.StandsFor.{IsOpenOrStopped, StandsFor, retried}
 use Rattle.lethe_engine.proofs.Histories.{all_done, last_failed, legal_failed}
 
@@ -110,4 +110,63 @@ stopped_stands config h change before behind disk s state levels legal done few 
     failed = failed;
     left = left;
   });
+}
+
+-- A disk that wasn't touched
+
+module _ (old new : Seen) (idle : IsIdle old new) where
+  idle_image : (c : Directory) → Image new c → Image old c
+  idle_image c here = (idle.left old.moment c).0 (subst (λ m. new.left m c) idle.moment here)
+
+  pub idle_running : (s : Stored) (state : State) → IsRunning old s state → IsRunning new s state
+  idle_running s state running = record {
+    settled = record {
+      synced = λ c here. running.settled.synced c (idle_image c here) ∙ sym idle.directory;
+      coherent = running.settled.coherent;
+      encodes = subst (λ d. Encodes d s) (sym idle.directory) running.settled.encodes;
+    };
+    only = subst (HasOnly s) (sym idle.directory) running.only;
+    ends = record {
+      ascends = running.ends.ascends;
+      spelled = λ c here. running.ends.spelled c (idle_image c here);
+      place = running.ends.place;
+    };
+    current = running.current;
+  }
+
+  idle_left : (h : History) (change : Option Change) → IsLeft old h change → IsLeft new h change
+  idle_left h change left = record { now = subst (IsKeptOr h change) (sym idle.directory) left.now; images = λ c here. left.images c (idle_image c here) }
+
+  idle_held : (h : History) (s : Stored) (state : State) (stopped : Option ℕ) → IsOpenOrStopped old h s state stopped → IsOpenOrStopped new h s state stopped
+  idle_held h s state None held = (held.0, idle_running s state held.1)
+  idle_held h s state (Some at) held = record {
+    before = held.before;
+    change = held.change;
+    history = held.history;
+    place = held.place;
+    legal = held.legal;
+    done = held.done;
+    faults_before = held.faults_before;
+    faults = held.faults;
+    failed = held.failed;
+    left = idle_left held.before (retried held.change) held.left;
+  }
+
+pub idle_stands : (config : Fields) (h : History) (old new : Seen) (state : State) (levels : List (List Parts)) → IsIdle old new → StandsFor config h old state levels → StandsFor config h new state levels
+idle_stands config h old new state levels idle stands = record {
+  legal = stands.legal;
+  count = stands.count;
+  stored = stands.stored;
+  remembers = stands.remembers;
+  config_is = stands.config_is;
+  stands = stands.stands;
+  held = idle_held old new idle h stands.stored state state.stopped stands.held;
+}
+
+pub idle_sound : (Tells : Type 0) (old new : Seen) (state : State) (levels : List (List Parts)) → (Tells → IsIdle old new) → IsSound Tells old state levels → IsSound Tells new state levels
+idle_sound Tells old new state levels idle sound = record {
+  writable = sound.writable;
+  small = sound.small;
+  count = sound.count;
+  held = λ told. let held = sound.held told in (held.0, held.1, λ runs. idle_running old new (idle told) held.0 state (held.2 runs));
 }

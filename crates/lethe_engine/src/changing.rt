@@ -48,12 +48,12 @@ impl<D: Disk> Engine<D> {
         // Acknowledged: room was made, and the record is behind the others in the active segment.
         ensures written { D.tells → (s : Stored) → Remembers s self.old.state (parts_by_level self.old.version) → IsRunning (D.seen self.old.disk) s self.old.state
             → OnOk result ((t : Stored) × IsRoomMade s t × Remembers (appended t (put_over t key dkey value)) self.new.state (parts_by_level self.new.version)
-                × IsRunning (D.seen self.new.disk) (appended t (put_over t key dkey value)) self.new.state) }
+            × IsRunning (D.seen self.new.disk) (appended t (put_over t key dkey value)) self.new.state) }
 
         // Where there was room, the active segment is the one object that changes.
         ensures room { D.tells → (s : Stored) → Remembers s self.old.state (parts_by_level self.old.version) → IsRunning (D.seen self.old.disk) s self.old.state → HasRoom s
             → OnOk result (((D.seen self.new.disk).directory ≡ with_record (D.seen self.old.disk).directory s (put_over s key dkey value))
-                × ((D.seen self.new.disk).moment ≡ (D.seen self.old.disk).moment + 4)) }
+            × ((D.seen self.new.disk).moment ≡ (D.seen self.old.disk).moment + 4)) }
 
         // A crash at any moment of the call leaves what is kept for the history, or for it with the change where this was written.
         ensures any_moment { D.tells → (config : Fields) (h : History) → StandsFor config h (D.seen self.old.disk) self.old.state (parts_by_level self.old.version)
@@ -91,12 +91,12 @@ impl<D: Disk> Engine<D> {
         // Acknowledged: room was made, and the record is behind the others in the active segment.
         ensures written { D.tells → (s : Stored) → Remembers s self.old.state (parts_by_level self.old.version) → IsRunning (D.seen self.old.disk) s self.old.state
             → OnOk result ((t : Stored) × (next : Record) × IsRoomMade s t × IsDeleteOver t (headers_in (parts_by_level self.new.version)) key next
-                × Remembers (appended t next) self.new.state (parts_by_level self.new.version) × IsRunning (D.seen self.new.disk) (appended t next) self.new.state) }
+            × Remembers (appended t next) self.new.state (parts_by_level self.new.version) × IsRunning (D.seen self.new.disk) (appended t next) self.new.state) }
 
         // Where there was room, the active segment is the one object that changes.
         ensures room { D.tells → (s : Stored) → Remembers s self.old.state (parts_by_level self.old.version) → IsRunning (D.seen self.old.disk) s self.old.state → HasRoom s
             → OnOk result ((next : Record) × IsDeleteOver s (headers_in (parts_by_level self.old.version)) key next
-                × ((D.seen self.new.disk).directory ≡ with_record (D.seen self.old.disk).directory s next) × ((D.seen self.new.disk).moment ≡ (D.seen self.old.disk).moment + 4)) }
+            × ((D.seen self.new.disk).directory ≡ with_record (D.seen self.old.disk).directory s next) × ((D.seen self.new.disk).moment ≡ (D.seen self.old.disk).moment + 4)) }
 
         // A crash at any moment of the call leaves what is kept for the history, or for it with the change where this was written.
         ensures any_moment { D.tells → (config : Fields) (h : History) → StandsFor config h (D.seen self.old.disk) self.old.state (parts_by_level self.old.version)

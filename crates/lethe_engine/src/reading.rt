@@ -9,7 +9,7 @@ ghost use Rattle.lethe_base.specs.declared.refused.Refused.TheVariants.{ReadFaul
 ghost use Rattle.lethe_version.specs.Probing.{bound};
 ghost use Rattle.lethe_version.specs.Versions.{files_of};
 ghost use Rattle.lethe_advance.specs.Shown.{parts_by_level};
-ghost use Rattle.lethe_engine.specs.Reads.{IsReadRefusal, is_buffered, listed, told_as};
+ghost use Rattle.lethe_engine.specs.Reads.{IsReadRefusal, is_in_memory, listed, told_as};
 ghost use Rattle.lethe_engine.specs.Sound.{IsSound};
 ghost use Rattle.lethe_engine.specs.StandsFor.{StandsFor};
 
@@ -37,7 +37,7 @@ impl<D: Disk> Engine<D> {
 
         // Nothing is fetched where a buffer has the key.
         ensures fetches { D.fetches port.new ≤ D.fetches port.old
-            + (if is_buffered key.now self.now.state then 0 else sum_by (λ file. bound key.now file.header) (files_of self.now.version)) }
+            + (if is_in_memory key.now self.now.state then 0 else sum_by (λ file. bound key.now file.header) (files_of self.now.version)) }
         ensures later { D.fetches port.old ≤ D.fetches port.new }
         ensures why { IfErr result IsReadRefusal }
         ensures undamaged { D.tells → IsSound D.tells (D.seen self.now.disk) self.now.state (parts_by_level self.now.version)

@@ -75,7 +75,8 @@ fn tombs_of(header: &Header) -> u64
     ensures { result ≡ capped (tombs_in (lines_of header.now.tiles)) }
 {
     let mut tombs: u64 = 0;
-    for tile in header.tiles.items() {
+    let tiles = header.tiles.items();
+    for tile in tiles {
         tombs = tombs.saturating_add(tombs_on(tile.pages.items()));
     }
     tombs

@@ -1,6 +1,6 @@
 -- What reads answer over what is remembered.
-use Rattle.std.proofs.Common.{◌≡◌, ◌⊎◌, ℕ, true, List, [], ◌∷◌, ◌++◌, map, All, Any, Contains, IsTrue, Option, Some, None, option_and_then, refl, sym, ap, ◌∙◌, subst}
-use Rattle.std.specs.Prelude.{◌↔◌, flat_map}
+use Rattle.std.proofs.Common.{◌≡◌, ◌⊎◌, ℕ, Err, true, List, [], ◌∷◌, ◌++◌, map, All, Any, Contains, IsTrue, Option, Some, None, option_and_then, refl, sym, ap, ◌∙◌, subst}
+use Rattle.std.specs.Prelude.{◌↔◌, IsErrOf, flat_map}
 use Rattle.std.proofs.lemmas.List.{map-append, map-id}
 use Rattle.std.proofs.lemmas.List.Elements.{All-contains}
 use Rattle.std.proofs.lemmas.Simd.{map-map}
@@ -12,6 +12,8 @@ use Rattle.lethe_base.specs.Read.{Get, Scan, Found, Listed, answer, is_between}
 use Rattle.lethe_base.specs.declared.config.Fields.{Fields}
 use Rattle.lethe_base.specs.declared.entry.Entry.{Entry}
 use Rattle.lethe_base.specs.declared.name.Name.{Name}
+use Rattle.lethe_base.specs.declared.pending.Pending.{Pending}
+use Rattle.lethe_base.specs.declared.refused.Refused.{Refused}
 use Rattle.lethe_base.specs.declared.refused.Refused.TheVariants.{ReadFault, Damaged, NoMemory}
 use Rattle.lethe_disk.specs.Disk.{Seen}
 use Rattle.lethe_disk.specs.declared.cursor.ReadRefused.{ReadRefused}
@@ -63,7 +65,7 @@ frozen_newest None (Some buffer) is = absurd is
 frozen_newest (Some segment) None is = absurd is
 
 frozen_ascends : (frozen : Option Buffered) → IsAscending (frozen_entries (λ (buffer : Buffered). buffer.entries) frozen)
-frozen_ascends None = tt
+frozen_ascends None = refl
 frozen_ascends (Some buffer) = buffer.ascending
 
 flat-parts : {D Page Port : Type 0} {kind : Ghosts D Page Port} (version : Version D Page Port kind) → flat_map (λ files. files) (parts_by_level version) ≡ map parts_in (files_of version)
@@ -109,14 +111,29 @@ module _ {D Page Port : Type 0} {kind : Ghosts D Page Port} (version : Version D
 
 -- Over what a store stands for
 
-module _ {D Page Port : Type 0} {kind : Ghosts D Page Port} (version : Version D Page Port kind) (config : Fields) (h : History) (seen : Seen) (state : State) (stands : StandsFor config h seen state (parts_by_level version)) where
-  pub found : (key : Bytes) (held : Option Pair) (filed : Option Entry) → IsNewestBelow key state.active.entries (frozen_entries (λ (buffer : Buffered). buffer.entries) state.frozen) (map entries_of (files_of version)) filed
-      → held ≡ option_and_then (answer_under state.pending) (first_found key state.active.entries (frozen_entries (λ (buffer : Buffered). buffer.entries) state.frozen) filed) → answer (after h) (Get key) ≡ Found held
-  found key held filed newest is = ap (λ st. answer st (Get key)) (sym (after_without h)) ∙ sym (got version stands.stored state stands.remembers (without_failed h) stands.stands key held filed newest is)
+-- what the two reads gave, by the frozen buffer and the erases
+abbrev pub IsGot : State → Option Buffered → List Pending → List (List (List Entry)) → Bytes → Option Pair → Type 0
+IsGot state older erases files key held = (filed : Option Entry) × IsNewestBelow key state.active.entries (frozen_entries (λ (buffer : Buffered). buffer.entries) older) files filed
+    × (held ≡ option_and_then (answer_under erases) (first_found key state.active.entries (frozen_entries (λ (buffer : Buffered). buffer.entries) older) filed))
 
-  pub shown_to : (lo hi : Bytes) (pairs : List (Bytes × ℕ × Bytes)) (entries : List Entry) → AreReadBetween lo hi state.active.entries (frozen_entries (λ (buffer : Buffered). buffer.entries) state.frozen) (map entries_of (files_of version)) entries
-      → by_keys pairs ≡ pairs_of (merged entries state.pending true) → answer (after h) (Scan lo hi) ≡ listed pairs
-  shown_to lo hi pairs entries all is = ap (λ st. answer st (Scan lo hi)) (sym (after_without h)) ∙ sym (scanned version stands.stored state stands.remembers (without_failed h) stands.stands lo hi pairs entries all is)
+abbrev pub IsScanned : State → Option Buffered → List Pending → List (List (List Entry)) → Bytes → Bytes → List (Bytes × ℕ × Bytes) → Type 0
+IsScanned state older erases files lo hi pairs = (entries : List Entry) × AreReadBetween lo hi state.active.entries (frozen_entries (λ (buffer : Buffered). buffer.entries) older) files entries
+    × (by_keys pairs ≡ pairs_of (merged entries erases true))
+
+module _ {D Page Port : Type 0} {kind : Ghosts D Page Port} (version : Version D Page Port kind) (config : Fields) (h : History) (seen : Seen) (state : State) (stands : StandsFor config h seen state (parts_by_level version)) where
+  pub stored_sound : All IsSound (files_of version)
+  stored_sound = files_sound version stands.stored state stands.remembers
+
+  module _ (older : Option Buffered) (erases : List Pending) (older_is : older ≡ state.frozen) (erases_are : erases ≡ state.pending) where
+    pub found : (key : Bytes) (held : Option Pair) → IsGot state older erases (map entries_of (files_of version)) key held → answer (after h) (Get key) ≡ Found held
+    found key held given =
+        let is = subst (λ o. IsGot state o state.pending (map entries_of (files_of version)) key held) older_is (subst (λ l. IsGot state older l (map entries_of (files_of version)) key held) erases_are given) in
+        ap (λ st. answer st (Get key)) (sym (after_without h)) ∙ sym (got version stands.stored state stands.remembers (without_failed h) stands.stands key held is.0 is.1 is.2)
+
+    pub listed_between : (lo hi : Bytes) (pairs : List (Bytes × ℕ × Bytes)) → IsScanned state older erases (map entries_of (files_of version)) lo hi pairs → answer (after h) (Scan lo hi) ≡ listed pairs
+    listed_between lo hi pairs given =
+        let is = subst (λ o. IsScanned state o state.pending (map entries_of (files_of version)) lo hi pairs) older_is (subst (λ l. IsScanned state older l (map entries_of (files_of version)) lo hi pairs) erases_are given) in
+        ap (λ st. answer st (Scan lo hi)) (sym (after_without h)) ∙ sym (scanned version stands.stored state stands.remembers (without_failed h) stands.stands lo hi pairs is.0 is.1 is.2)
 
 -- Refusals
 
@@ -134,3 +151,6 @@ pub told_reads : (why : ReadRefused) → IsReadRefusal (told_as why)
 told_reads (disk.ReadFault before behind) = tt
 told_reads (disk.Damaged name) = tt
 told_reads disk.NoMemory = tt
+
+pub err_told : {T : Type 0} {why other : Refused} → IsErrOf {T = T} (Err why) other → why ≡ other
+err_told is = cc

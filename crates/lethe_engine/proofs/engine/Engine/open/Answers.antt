@@ -1,0 +1,45 @@
+use Rattle.std.proofs.Common.{◌≡◌, ℕ, ◌≤◌, ◌+◌, length, ap, Err, refl, sym, ◌∙◌, subst, arith}
+use Rattle.std.proofs.lemmas.List.{length-map}
+use Rattle.lethe_manifest.specs.declared.manifest.Manifest.{Manifest}
+use Rattle.lethe_version.specs.Versions.{levels_of}
+use Rattle.lethe_advance.specs.Shown.{parts_by_level, parts_in}
+use Rattle.lethe_engine.proofs.Opened.{opened_running, resumed, small_fresh, untouched_by}
+use Rattle.lethe_engine.proofs.engine.Engine.open.Goals as goal
+
+pub returns-in-Ok-opened-clause-sound : goal.returns-in-Ok-opened-clause-sound
+returns-in-Ok-opened-clause-sound g c =
+    let fresh = c.in-Ok-opened.ensures.fresh in
+    let told = c.in-Ok.ensures.spelled in
+    let version = c.in-Ok.field-0.version in
+    record {
+      writable = c.in-Ok-opened.ensures.writable;
+      small = small_fresh c.in-Ok.field-0.manifest c.in-Ok-opened.state fresh;
+      count = length-map (levels_of version) _ ∙ told.levels ∙ ap (λ fields. fields.levels + 1) (sym told.config_is ∙ ap (λ (m : Manifest). m.config) (sym fresh.manifest_is));
+      held = λ tells.
+          let is = c.in-Ok.ensures.opened tells in
+          let remembers = c.in-Ok-opened.ensures.remembers is.s (parts_by_level version) is.settled.coherent is.told.files (sym is.told.manifest) is.told.frozen is.told.active is.told.erases in
+          (is.s, remembers.0, λ runs. opened_running (g.D.Disk.seen c.open.new.disk) is.s c.in-Ok-opened.state is.settled is.only is.told.active is.ends c.in-Ok-opened.ensures.end remembers.1);
+    }
+
+pub returns-in-Ok-opened-clause-runs : goal.returns-in-Ok-opened-clause-runs
+returns-in-Ok-opened-clause-runs g c = c.in-Ok-opened.ensures.fresh.stopped
+
+pub returns-in-Ok-opened-clause-resumed : goal.returns-in-Ok-opened-clause-resumed
+returns-in-Ok-opened-clause-resumed g c = λ tells h change left.
+    let seen = g.D.Disk.seen c.open.new.disk in
+    let state = c.in-Ok-opened.state in
+    let levels = parts_by_level c.in-Ok.field-0.version in
+    let again = c.in-Ok.ensures.resumed tells h change left in
+    let is = again.is in
+    let remembers = c.in-Ok-opened.ensures.remembers is.s levels is.settled.coherent is.told.files (sym is.told.manifest) is.told.frozen is.told.active is.told.erases in
+    resumed c.args.config.now h again.history change seen is.s state levels again.either (opened_running seen is.s state is.settled is.only is.told.active is.ends c.in-Ok-opened.ensures.end remembers.1) remembers.0 is.config_is again.stands
+
+pub returns-in-Ok-opened-clause-numbers : goal.returns-in-Ok-opened-clause-numbers
+returns-in-Ok-opened-clause-numbers g c = λ told next is.
+    let next_is : c.in-Ok-opened.state.manifest.next ≡ c.in-Ok.field-0.manifest.next = ap (λ (m : Manifest). m.next) c.in-Ok-opened.ensures.fresh.manifest_is in
+    omega (arith, next_is, c.in-Ok.ensures.numbers told next is)
+
+pub returns-in-Err-clause-untouched : goal.returns-in-Err-clause-untouched
+returns-in-Err-clause-untouched g c = λ told.
+    untouched_by g.D.Disk.tells c.args.config.now (g.D.Disk.seen c.args.disk) (g.D.Disk.seen c.open.new.disk) (g.D.Disk.faults c.args.disk) (g.D.Disk.faults c.open.new.disk) c.in-Err.why told
+    c.in-Err.ensures.refused (λ reason is. c.open.ensures.untouched told reason is) (λ last is. (c.in-Err.ensures.exhausted told last (ap Err is)).0)
