@@ -35,7 +35,7 @@ use Rattle.lethe_run.specs.Printed.{bad_words, bad_line, open_line}
 use Rattle.lethe_run.specs.Scripts.{Serves, All, ScriptEnds}
 use Rattle.lethe_run.specs.Serving.{IsKeptFor, IsOn, IsCarried}
 use Rattle.lethe_run.specs.Status.{EndsWith, Says, IsToldOf, status_for}
-use Rattle.lethe_run.specs.Transcript.{Start, course, text_of}
+use Rattle.lethe_run.specs.Transcript.{Start, text_of}
 
 -- what stands behind the limit changes nothing
 past_limit : (bytes more : Bytes) → 16777216 < length bytes → script_of (bytes ++ more) ≡ script_of bytes
@@ -135,13 +135,15 @@ module _ (run : Run) (config : Fields) (asks : Asks run config) (phases : List (
   begin_at next = record { faults = run.faults_before; next = next; moment = run.start.moment }
 
   on : run.Tells → (h : History) (change : Option Change) → (r : IsResumed config h change mid state levels) → run.start.moment ≤ mid.moment → (next : ℕ) → IsNextNumber run.start.directory next
-      → IsOn config (course run.PortsFail (begin_at next) counted mid.moment) r.history r.history mid state levels
+      → IsOn config run.PortsFail (begin_at next) counted r.history r.history mid state levels
   on told h change r later next is = record {
     begins = ([], sym (append-nil r.history));
     done = (subst (IsOpenOrStopped mid r.history r.stands.stored state) r.runs r.stands.held).0;
     stands = r.stands;
     stopped = λ at is. absurd (none_some at r.runs is);
-    drawn = let drawn = numbers told next is in omega (arith, drawn, later);
+    faults_since = up;
+    moment_since = later;
+    drawn = numbers told next is;
   }
 
   carried_out : (left : History) (change : Option Change) (r : IsResumed config left change mid state levels) (next : ℕ) (front : List (List Order)) (lines : List (List Line)) → Goes (IsKeptOr left change) run.start mid
@@ -163,7 +165,7 @@ module _ (run : Run) (config : Fields) (asks : Asks run config) (phases : List (
   carries front lines served = λ told left change is next drawn.
       let r = resumed told left change is in
       let opening = moments told left change is in
-      carried_out left change r next front lines opening (served told config (begin_at next) r.history (on told left change r opening.later next drawn) (up, opening.later))
+      carried_out left change r next front lines opening (served told config (begin_at next) r.history (on told left change r opening.later next drawn))
 
   all : (refused : Bool) → All run.Tells run.PortsFail mid run.finish state levels counted run.faults run.taken_before run.taken phases refused → ends.Answered run config refused
   all refused a = record { lines = a.lines; script = script (λ p. Carries run config p a.lines) (carries phases a.lines a.served); written = a.written; is = a.is; sound = sound }
@@ -194,7 +196,7 @@ module _ (run : Run) (config : Fields) (asks : Asks run config) (phases : List (
       inner = λ told left change is next drawn.
           let r = resumed told left change is in
           let opening = moments told left change is in
-          let c = e.served told config (begin_at next) r.history (on told left change r opening.later next drawn) (up, opening.later) in
+          let c = e.served told config (begin_at next) r.history (on told left change r opening.later next drawn) in
           (c.0, c.1, carried_out left change r next c.0 e.lines opening c.2)
   script_ended BadWords e = absurd e
   script_ended BadScript e = absurd e

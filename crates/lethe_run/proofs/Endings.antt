@@ -17,7 +17,7 @@ use Rattle.lethe_run.specs.declared.status.Status.{Status}
 use Rattle.lethe_run.specs.declared.status.Status.TheVariants.{Answered, BadWords, BadScript, ReadFault, WriteFault, Refused, NoMemory, Damaged, OtherConfig}
 use Rattle.lethe_run.specs.Scripts.{All, Behind, Inside, Serves, ScriptEnds, IsCutBy}
 use Rattle.lethe_run.specs.Serving.{IsKeptFor, IsOn, IsPhase, IsCarried}
-use Rattle.lethe_run.specs.Transcript.{Start, IsSince, course, text_of, has_refusal}
+use Rattle.lethe_run.specs.Transcript.{Start, course, text_of, has_refusal}
 use Rattle.lethe_run.proofs.Phases.{SoFar, so_far_start, so_far_more, carried}
 use Rattle.lethe_run.proofs.Steps.{on_later}
 
@@ -38,43 +38,40 @@ part_whole orders items part rest is parts none = sym (append-nil part) ∙ ap (
 
 -- what serving a phase gave
 abbrev pub Phase : Type 0 → Type 0 → Seen → Seen → State → State → List (List Parts) → List (List Parts) → ℕ → ℕ → List Order → Bool → List Line → Type 0
-Phase Tells Ports now then state state' levels levels' f0 f1 orders whole more = Tells → (config : Fields) (begin : Start) (opened start : History) → IsOn config (course Ports begin f0 now.moment) opened start now state levels → IsSince begin f0 now.moment
-    → (h : History) × (part : List Order) × (rest : List Order) × (orders ≡ part ++ rest) × ((whole ≡ true) → rest ≡ []) × IsPhase config (course Ports begin f1 then.moment) opened start h part more now then state' levels'
+Phase Tells Ports now then state state' levels levels' f0 f1 orders whole more = Tells → (config : Fields) (begin : Start) (opened start : History) → IsOn config Ports begin f0 opened start now state levels
+    → (h : History) × (part : List Order) × (rest : List Order) × (orders ≡ part ++ rest) × ((whole ≡ true) → rest ≡ []) × IsPhase config Ports begin f1 opened start h part more now then state' levels'
 
 -- what the phases before gave
 abbrev pub Before : Type 0 → Type 0 → Seen → Seen → State → State → List (List Parts) → List (List Parts) → ℕ → ℕ → List (List Order) → List (List Line) → Type 0
-Before Tells Ports start now first state levels0 levels before f0 yielded lines = Tells → (config : Fields) (begin : Start) (opened : History) → IsOn config (course Ports begin before start.moment) opened opened start first levels0 → IsSince begin before start.moment
-    → SoFar config (course Ports begin f0 now.moment) opened yielded lines start now state levels
+Before Tells Ports start now first state levels0 levels before f0 yielded lines = Tells → (config : Fields) (begin : Start) (opened : History) → IsOn config Ports begin before opened opened start first levels0
+    → SoFar config Ports begin f0 opened yielded lines start now state levels
 
 module _ (Tells Ports : Type 0) (start now then : Seen) (first state state' : State) (levels0 levels levels' : List (List Parts)) (before f0 f1 : ℕ) (up : before ≤ f0) (later : f0 ≤ f1) (itself : Tells → Image then then.directory)
     (phases yielded rest : List (List Order)) (orders : List Order) (are : phases ≡ yielded ++ orders ∷ rest) (lines : List (List Line)) (more : List Line) (whole : Bool)
     (so_far : Before Tells Ports start now first state levels0 levels before f0 yielded lines) (phase : Phase Tells Ports now then state state' levels levels' f0 f1 orders whole more) where
-  since_then : {config : Fields} (begin : Start) (opened : History) → IsSince begin before start.moment → SoFar config (course Ports begin f0 now.moment) opened yielded lines start now state levels → IsSince begin f0 now.moment
-  since_then begin opened since prior = (let from = since.0 in omega (arith, from, up), let low = since.1 in let goes = prior.goes.any_moment.later in omega (arith, low, goes))
-
   pub next_so_far : whole ≡ true → Before Tells Ports start then first state' levels0 levels' before f1 (yielded ++ orders ∷ []) (lines ++ more ∷ [])
-  next_so_far is told config begin opened on since =
-      let prior = so_far told config begin opened on since in
-      let next = phase told config begin opened prior.history prior.stands (since_then begin opened since prior) in
-      subst (λ p. SoFar config (course Ports begin f1 then.moment) opened (yielded ++ p ∷ []) (lines ++ more ∷ []) start then state' levels') (part_whole orders orders next.1 next.2 refl next.3 (next.4 is))
+  next_so_far is told config begin opened on =
+      let prior = so_far told config begin opened on in
+      let next = phase told config begin opened prior.history prior.stands in
+      subst (λ p. SoFar config Ports begin f1 opened (yielded ++ p ∷ []) (lines ++ more ∷ []) start then state' levels') (part_whole orders orders next.1 next.2 refl next.3 (next.4 is))
       (so_far_more Ports begin f0 f1 opened next.0 yielded lines next.1 more start now then state state' levels levels' later prior next.5)
 
   pub behind : (old new : Option Bytes) → whole ≡ true → AppendsFront old new (text_of (lines ++ more ∷ [])) → Behind Tells Ports start then first levels0 before f1 old new phases
   behind old new is written = record {
     lines = lines ++ more ∷ [];
     count = suc (length yielded);
-    served = λ told config begin opened on since.
+    served = λ told config begin opened on.
         subst (λ p. IsCarried config (course Ports begin f1 then.moment) opened p (lines ++ more ∷ []) start then) (sym (ap (take (suc (length yielded))) are ∙ take_more yielded orders rest))
-        (carried (course Ports begin f1 then.moment) opened (yielded ++ orders ∷ []) (lines ++ more ∷ []) start then state' levels' (itself told) (next_so_far is told config begin opened on since));
+        (carried Ports begin f1 opened (yielded ++ orders ∷ []) (lines ++ more ∷ []) start then state' levels' (itself told) (next_so_far is told config begin opened on));
     written = written;
   }
 
   pub inside : (old new : Option Bytes) → AppendsFront old new (text_of (lines ++ more ∷ [])) → Inside Tells Ports start then first levels0 before f1 old new phases
   inside old new written = record {
     lines = lines ++ more ∷ [];
-    served = λ told config begin opened on since.
-        let prior = so_far told config begin opened on since in
-        let next = phase told config begin opened prior.history prior.stands (since_then begin opened since prior) in (
+    served = λ told config begin opened on.
+        let prior = so_far told config begin opened on in
+        let next = phase told config begin opened prior.history prior.stands in (
           yielded ++ next.1 ∷ [],
           inr (record {
             count = length yielded;
@@ -83,7 +80,7 @@ module _ (Tells Ports : Type 0) (start now then : Seen) (first state state' : St
             there = ap (λ p. slice_get p (length yielded)) are ∙ get_behind yielded orders rest ∙ ap Some next.3;
             is = ap (λ l. l ++ next.1 ∷ []) (sym (ap (take (length yielded)) are ∙ take_front yielded (orders ∷ rest)));
           }),
-          carried (course Ports begin f1 then.moment) opened (yielded ++ next.1 ∷ []) (lines ++ more ∷ []) start then state' levels' (itself told)
+          carried Ports begin f1 opened (yielded ++ next.1 ∷ []) (lines ++ more ∷ []) start then state' levels' (itself told)
               (so_far_more Ports begin f0 f1 opened next.0 yielded lines next.1 more start now then state state' levels levels' later prior next.5),
         );
     written = written;
@@ -106,13 +103,13 @@ pub all_ends : (Tells Ports : Type 0) (start then : Seen) (first state' : State)
     → Before Tells Ports start then first state' levels0 levels' before f1 phases lines → Appends old new (text_of lines) → has_refusal lines ≡ refused → ScriptEnds Tells Ports start then first levels0 before f1 old new SinkRose phases (cond refused Refused Answered)
 all_ends Tells Ports start then first state' levels0 levels' before f1 itself phases lines old new SinkRose true so_far written is = record {
   lines = lines;
-  served = λ told config begin opened on since. carried (course Ports begin f1 then.moment) opened phases lines start then state' levels' (itself told) (so_far told config begin opened on since);
+  served = λ told config begin opened on. carried Ports begin f1 opened phases lines start then state' levels' (itself told) (so_far told config begin opened on);
   written = written;
   is = is;
 }
 all_ends Tells Ports start then first state' levels0 levels' before f1 itself phases lines old new SinkRose false so_far written is = record {
   lines = lines;
-  served = λ told config begin opened on since. carried (course Ports begin f1 then.moment) opened phases lines start then state' levels' (itself told) (so_far told config begin opened on since);
+  served = λ told config begin opened on. carried Ports begin f1 opened phases lines start then state' levels' (itself told) (so_far told config begin opened on);
   written = written;
   is = is;
 }
@@ -121,17 +118,13 @@ all_ends Tells Ports start then first state' levels0 levels' before f1 itself ph
 
 module _ (Tells Ports : Type 0) (start mid : Seen) (state : State) (levels : List (List Parts)) (before : ℕ) (idle : Tells → IsIdle start mid)
     (stands : Tells → (config : Fields) (h : History) → StandsFor config h start state levels → StandsFor config h mid state levels) where
-  on_idle : Tells → (config : Fields) (begin : Start) (opened : History) → IsSince begin before start.moment → IsOn config (course Ports begin before start.moment) opened opened start state levels → IsOn config (course Ports begin before mid.moment) opened opened mid state levels
-  on_idle told config begin opened since on =
+  on_idle : Tells → (config : Fields) (begin : Start) (opened : History) → IsOn config Ports begin before opened opened start state levels → IsOn config Ports begin before opened opened mid state levels
+  on_idle told config begin opened on =
       let same = (idle told).moment in
-      let low = since.1 in
-      on_later Ports begin before before opened opened start mid state state levels levels (omega arith) low (omega (arith, same)) (omega (arith, same)) refl (stands told config opened on.stands) on
-
-  since_idle : Tells → (begin : Start) → IsSince begin before start.moment → IsSince begin before mid.moment
-  since_idle told begin since = (since.0, let same = (idle told).moment in let low = since.1 in omega (arith, same, low))
+      on_later Ports begin before before opened opened start mid state state levels levels (omega arith) (omega (arith, same)) (omega (arith, same)) refl (stands told config opened on.stands) on
 
   module _ (finish : Seen) (now : ℕ) where
-    longer_moments : Tells → {config : Fields} (begin : Start) (opened : History) (phases : List (List Order)) (lines : List (List Line)) → IsOn config (course Ports begin before start.moment) opened opened start state levels
+    longer_moments : Tells → {config : Fields} (begin : Start) (opened : History) (phases : List (List Order)) (lines : List (List Line)) → IsOn config Ports begin before opened opened start state levels
         → IsCarried config (course Ports begin now finish.moment) opened phases lines mid finish → IsCarried config (course Ports begin now finish.moment) opened phases lines start finish
     longer_moments told begin opened phases lines on c = record {
       history = c.history;
@@ -149,7 +142,7 @@ module _ (Tells Ports : Type 0) (start mid : Seen) (state : State) (levels : Lis
         }
 
     serves_idle : (phases : List (List Order)) (lines : List (List Line)) → Serves Tells Ports mid finish state levels before now phases lines → Serves Tells Ports start finish state levels before now phases lines
-    serves_idle phases lines served told config begin opened on since = longer_moments told begin opened phases lines on (served told config begin opened (on_idle told config begin opened since on) (since_idle told begin since))
+    serves_idle phases lines served told config begin opened on = longer_moments told begin opened phases lines on (served told config begin opened (on_idle told config begin opened on))
 
     all_idle : (old new : Option Bytes) (phases : List (List Order)) (refused : Bool) → All Tells Ports mid finish state levels before now old new phases refused → All Tells Ports start finish state levels before now old new phases refused
     all_idle old new phases refused a = record { lines = a.lines; served = serves_idle phases a.lines a.served; written = a.written; is = a.is }
@@ -160,8 +153,8 @@ module _ (Tells Ports : Type 0) (start mid : Seen) (state : State) (levels : Lis
     ends_idle old new SinkRose phases WriteFault e = (e.0, record { lines = e.1.lines; count = e.1.count; served = serves_idle (take e.1.count phases) e.1.lines e.1.served; written = e.1.written })
     ends_idle old new SinkRose phases NoMemory e = record {
       lines = e.lines;
-      served = λ told config begin opened on since.
-          let c = e.served told config begin opened (on_idle told config begin opened since on) (since_idle told begin since) in
+      served = λ told config begin opened on.
+          let c = e.served told config begin opened (on_idle told config begin opened on) in
           (c.0, c.1, longer_moments told begin opened c.0 e.lines on c.2);
       written = e.written;
     }
@@ -175,11 +168,11 @@ module _ (Tells Ports : Type 0) (start mid : Seen) (state : State) (levels : Lis
   pub none_served : (Tells → Image mid mid.directory) → (old : Option Bytes) (phases : List (List Order)) → AppendsFront old old [] → Inside Tells Ports start mid state levels before before old old phases
   none_served itself old phases none = record {
     lines = [];
-    served = λ told config begin opened on since. (
+    served = λ told config begin opened on. (
       [],
       inl refl,
       longer_moments mid before told begin opened [] [] on
-          (carried (course Ports begin before mid.moment) opened [] [] mid mid state levels (itself told) (so_far_start (course Ports begin before mid.moment) opened mid state levels (on_idle told config begin opened since on))),
+          (carried Ports begin before opened [] [] mid mid state levels (itself told) (so_far_start Ports begin before opened mid state levels (on_idle told config begin opened on))),
     );
     written = none;
   }

@@ -17,8 +17,9 @@ use Rattle.lethe_stored.specs.Left.{IsLeft, IsHistoryOr, IsKeptOr, as_done, is_w
 use Rattle.lethe_stored.specs.Stored.{Stored}
 use Rattle.lethe_disk.proofs.Going.{goes_quiet}
 use Rattle.lethe_disk.proofs.Quieting.{quiet_itself}
+use Rattle.lethe_load.proofs.Gated.{encodes_gated}
 use Rattle.lethe_run.specs.Carried.{HasConfig, IsCut, failed_in}
-use Rattle.lethe_run.specs.Transcript.{Course}
+use Rattle.lethe_run.specs.Transcript.{Start}
 use Rattle.lethe_run.specs.Serving.{IsKeptFor, IsOn, GoesOn}
 use Rattle.lethe_run.proofs.Cuts.{cut_itself, cut_longer, cut_failed, all_done, none_failed, last_failed, split_last, snoc_front}
 
@@ -59,7 +60,7 @@ kept_open h disk s state done running stands d here = inr (record {
   stands = subst (λ g. IsFor g s) (all_done h done) stands;
 })
 
-module _ {config : Fields} (course : Course) (opened h : History) (disk : Seen) (state : State) (levels : List (List Parts)) (on : IsOn config course opened h disk state levels) where
+module _ {config : Fields} (Ports : Type 0) (begin : Start) (faults : ℕ) (opened h : History) (disk : Seen) (state : State) (levels : List (List Parts)) (on : IsOn config Ports begin faults opened h disk state levels) where
   kept_cut : (stopped : Option ℕ) → IsOpenOrStopped disk h on.stands.stored state stopped → (d : Directory) → Image disk d → IsKeptFor opened h d
   kept_cut None now d here = (h, cut_itself opened h now.0 on.begins, kept_open h disk on.stands.stored state now.0 now.1 on.stands.stands d here)
   kept_cut (Some at) now d here =
@@ -97,10 +98,7 @@ module _ {config : Fields} (course : Course) (opened h : History) (disk : Seen) 
   config_by : (stopped : Option ℕ) → IsOpenOrStopped disk h on.stands.stored state stopped → failed_in h ≡ None → HasConfig config disk.directory
   config_by None now none = record {
     manifest = on.stands.stored.manifest;
-    gated = record {
-      greatest = now.1.settled.encodes.greatest;
-      is = record { spelled = now.1.settled.coherent.spelled; own = refl; there = now.1.settled.encodes.manifest };
-    };
+    gated = encodes_gated disk.directory on.stands.stored now.1.settled.coherent now.1.settled.encodes;
     is = on.stands.config_is;
   }
   config_by (Some at) now none =

@@ -59,14 +59,14 @@ pub refusal_more : (lines : List (List Line)) (more : List Line) → has_refusal
 refusal_more lines more = list_any-append (list_any is_refusal) lines (more ∷ []) ∙ ap (λ b. has_refusal lines || b) (or_false (list_any is_refusal more))
 
 -- the phases so far
-pub record SoFar (config : Fields) (c : Course) (opened : History) (phases : List (List Order)) (lines : List (List Line)) (start now : Seen) (state : State) (levels : List (List Parts)) : Type 0 where
+pub record SoFar (config : Fields) (Ports : Type 0) (begin : Start) (faults : ℕ) (opened : History) (phases : List (List Order)) (lines : List (List Line)) (start now : Seen) (state : State) (levels : List (List Parts)) : Type 0 where
   pub history : History
-  pub served : AreServed c opened phases lines history
+  pub served : AreServed (course Ports begin faults now.moment) opened phases lines history
   pub goes : GoesOn opened opened history start now
-  pub stands : IsOn config c opened history now state levels
+  pub stands : IsOn config Ports begin faults opened history now state levels
 
-pub so_far_start : {config : Fields} (c : Course) (opened : History) (disk : Seen) (state : State) (levels : List (List Parts)) → IsOn config c opened opened disk state levels → SoFar config c opened [] [] disk disk state levels
-so_far_start c opened disk state levels on = record { history = opened; served = refl; goes = goes_still c opened opened disk state levels on; stands = on }
+pub so_far_start : {config : Fields} (Ports : Type 0) (begin : Start) (faults : ℕ) (opened : History) (disk : Seen) (state : State) (levels : List (List Parts)) → IsOn config Ports begin faults opened opened disk state levels → SoFar config Ports begin faults opened [] [] disk disk state levels
+so_far_start Ports begin faults opened disk state levels on = record { history = opened; served = refl; goes = goes_still Ports begin faults opened opened disk state levels on; stands = on }
 
 phases_more : (c : Course) (start middle h : History) (phases : List (List Order)) (lines : List (List Line)) (orders : List Order) (more : List Line)
     → AreServed c start phases lines middle → IsServed c middle orders more h → AreServed c start (phases ++ orders ∷ []) (lines ++ more ∷ []) h
@@ -76,8 +76,8 @@ phases_more c start middle h (p ∷ phases) [] orders more served last = absurd 
 phases_more c start middle h (p ∷ phases) (l ∷ lines) orders more served last = (served.0, served.1, phases_more c served.0 middle h phases lines orders more served.2 last)
 
 pub so_far_more : {config : Fields} (Ports : Type 0) (begin : Start) (f0 f1 : ℕ) (opened h : History) (phases : List (List Order)) (lines : List (List Line)) (part : List Order) (more : List Line) (start now then : Seen) (state state' : State) (levels levels' : List (List Parts)) → f0 ≤ f1
-    → (so_far : SoFar config (course Ports begin f0 now.moment) opened phases lines start now state levels) → IsPhase config (course Ports begin f1 then.moment) opened so_far.history h part more now then state' levels'
-    → SoFar config (course Ports begin f1 then.moment) opened (phases ++ part ∷ []) (lines ++ more ∷ []) start then state' levels'
+    → (so_far : SoFar config Ports begin f0 opened phases lines start now state levels) → IsPhase config Ports begin f1 opened so_far.history h part more now then state' levels'
+    → SoFar config Ports begin f1 opened (phases ++ part ∷ []) (lines ++ more ∷ []) start then state' levels'
 so_far_more Ports begin f0 f1 opened h phases lines part more start now then state state' levels levels' le so_far phase = record {
   history = h;
   served = phases_more (course Ports begin f1 then.moment) opened so_far.history h phases lines part more
@@ -90,12 +90,12 @@ so_far_more Ports begin f0 f1 opened h phases lines part more start now then sta
   stands = phase.stands;
 }
 
-pub carried : {config : Fields} (c : Course) (opened : History) (phases : List (List Order)) (lines : List (List Line)) (start now : Seen) (state : State) (levels : List (List Parts)) → Image now now.directory → SoFar config c opened phases lines start now state levels
-    → IsCarried config c opened phases lines start now
-carried c opened phases lines start now state levels itself so_far = record {
+pub carried : {config : Fields} (Ports : Type 0) (begin : Start) (faults : ℕ) (opened : History) (phases : List (List Order)) (lines : List (List Line)) (start now : Seen) (state : State) (levels : List (List Parts)) → Image now now.directory → SoFar config Ports begin faults opened phases lines start now state levels
+    → IsCarried config (course Ports begin faults now.moment) opened phases lines start now
+carried Ports begin faults opened phases lines start now state levels itself so_far = record {
   history = so_far.history;
   served = so_far.served;
   any_moment = so_far.goes.any_moment;
-  leaves = leaves c opened so_far.history now state levels so_far.stands itself;
-  config_is = has_config c opened so_far.history now state levels so_far.stands;
+  leaves = leaves Ports begin faults opened so_far.history now state levels so_far.stands itself;
+  config_is = has_config Ports begin faults opened so_far.history now state levels so_far.stands;
 }

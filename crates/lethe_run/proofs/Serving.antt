@@ -23,7 +23,7 @@ use Rattle.lethe_run.specs.declared.reply.Reply.{Reply}
 use Rattle.lethe_run.specs.declared.reply.Reply.TheVariants.{Done, Got, Scanned, Counted, Fault, Stopped, Exhausted, ReadFault, Damaged}
 use Rattle.lethe_run.specs.Serving.{IsKeptFor, IsOn, GoesOn, IsAnswered, IsPhase}
 use Rattle.lethe_run.proofs.Images.{goes_still}
-use Rattle.lethe_run.specs.Transcript.{Course, Start, Told, IsSince, IsShort, course, call_of, read_of, IsDoneAt, IsAnswerAt, IsStatAt, IsFailedAt, IsFaultOf, Answers, Answered, place_of, places_behind, is_of, Sees, Follows, InTurn, IsServed, AreServed}
+use Rattle.lethe_run.specs.Transcript.{Course, Start, Told, IsShort, course, call_of, read_of, IsDoneAt, IsAnswerAt, IsStatAt, IsFailedAt, IsFaultOf, Answers, Answered, place_of, places_behind, is_of, Sees, Follows, InTurn, IsServed, AreServed}
 
 -- What a line says of a history it says of a longer one, and when the count of faults rises, unless the places were used up: then nothing follows.
 
@@ -132,20 +132,20 @@ module _ (Ports : Type 0) (begin : Start) (f0 f1 m0 m1 : ℕ) (on : m0 ≤ m1) w
   in_turn_later n m (line.Answer caller reply ∷ lines) t = (t.0, follows_later n t.0 reply t.1, in_turn_later t.0 m lines t.2)
 
 -- the lines so far
-pub record IsBuilt (config : Fields) (now_is : Course) (opened start : History) (orders : List Order) (lines : List Line) (h : History) (old now : Seen) (state : State) (levels : List (List Parts)) : Type 0 where
+pub record IsBuilt (config : Fields) (Ports : Type 0) (begin : Start) (faults : ℕ) (opened start : History) (orders : List Order) (lines : List Line) (h : History) (old now : Seen) (state : State) (levels : List (List Parts)) : Type 0 where
   pub begins : (added : History) × (h ≡ start ++ added)
-  pub answered : Answered (told_of h now_is) orders lines
-  pub alone : InTurn now_is (length start) lines (length h)
+  pub answered : Answered (told_of h (course Ports begin faults now.moment)) orders lines
+  pub alone : InTurn (course Ports begin faults now.moment) (length start) lines (length h)
   pub goes : GoesOn opened start h old now
-  pub stands : IsOn config now_is opened h now state levels
+  pub stands : IsOn config Ports begin faults opened h now state levels
 
 module _ {config : Fields} (Ports : Type 0) (begin : Start) (f0 f1 : ℕ) (le : f0 ≤ f1) (opened start h : History) (orders : List Order) (lines : List Line) (old now then : Seen) (state state' : State) (levels levels' : List (List Parts))
-    (built : IsBuilt config (course Ports begin f0 now.moment) opened start orders lines h old now state levels) where
+    (built : IsBuilt config Ports begin f0 opened start orders lines h old now state levels) where
   abbrev Then : Course
   Then = course Ports begin f1 then.moment
 
-  pub built_more : (g : History) (order : Order) (reply : Reply) → IsAnswered config Then opened h g order.caller order.act reply now then state' levels'
-      → IsBuilt config Then opened start (orders ++ order ∷ []) (lines ++ line.Answer order.caller reply ∷ []) g old then state' levels'
+  pub built_more : (g : History) (order : Order) (reply : Reply) → IsAnswered config Ports begin f1 opened h g order.caller order.act reply now then state' levels'
+      → IsBuilt config Ports begin f1 opened start (orders ++ order ∷ []) (lines ++ line.Answer order.caller reply ∷ []) g old then state' levels'
   built_more g order reply is =
       let more = is.grows.0 in
       let whole = is.grows.1 in
@@ -165,7 +165,7 @@ module _ {config : Fields} (Ports : Type 0) (begin : Start) (f0 f1 : ℕ) (le : 
       }
 
   -- the same when nothing was answered
-  pub built_still : GoesOn opened h h now then → IsOn config Then opened h then state' levels' → IsBuilt config Then opened start orders lines h old then state' levels'
+  pub built_still : GoesOn opened h h now then → IsOn config Ports begin f1 opened h then state' levels' → IsBuilt config Ports begin f1 opened start orders lines h old then state' levels'
   built_still goes stands =
       let on = goes.any_moment.later in
       record {
@@ -246,27 +246,23 @@ module _ (c : Course) where
       place_next n t.0 m caller reply lines t.1 (in_turn_up t.0 m lines t.2) (places_in_turn t.0 m lines t.2)
 
 -- the lines of a whole phase
-pub phase_of : {config : Fields} (c : Course) (opened start h : History) (orders : List Order) (lines : List Line) (old now : Seen) (state : State) (levels : List (List Parts)) → IsBuilt config c opened start orders lines h old now state levels
-    → IsPhase config c opened start h orders lines old now state levels
-phase_of c opened start h orders lines old now state levels built = record {
+pub phase_of : {config : Fields} (Ports : Type 0) (begin : Start) (faults : ℕ) (opened start h : History) (orders : List Order) (lines : List Line) (old now : Seen) (state : State) (levels : List (List Parts)) → IsBuilt config Ports begin faults opened start orders lines h old now state levels
+    → IsPhase config Ports begin faults opened start h orders lines old now state levels
+phase_of Ports begin faults opened start h orders lines old now state levels built = record {
   served = record {
     begins = built.begins;
     legal = built.stands.stands.legal;
     answered = built.answered;
-    once = subst (λ l. IsPermutation (places_behind (length start) (length h - length start)) l) (sym (places_in_turn c (length start) (length h) lines built.alone)) (IsPermutation-refl (places_behind (length start) (length h - length start)));
-    seen = λ caller. sees_in_turn c (is_of caller) (length start) (length start) (length h) lines (omega arith) built.alone;
+    once = subst (λ l. IsPermutation (places_behind (length start) (length h - length start)) l) (sym (places_in_turn (course Ports begin faults now.moment) (length start) (length h) lines built.alone)) (IsPermutation-refl (places_behind (length start) (length h - length start)));
+    seen = λ caller. sees_in_turn (course Ports begin faults now.moment) (is_of caller) (length start) (length start) (length h) lines (omega arith) built.alone;
     alone = built.alone;
   };
   goes = built.goes;
   stands = built.stands;
 }
 
-pub built_start : {config : Fields} (c : Course) (opened start : History) (disk : Seen) (state : State) (levels : List (List Parts)) → IsOn config c opened start disk state levels → IsBuilt config c opened start [] [] start disk disk state levels
-built_start c opened start disk state levels on = record { begins = ([], sym (append-nil start)); answered = tt; alone = refl; goes = goes_still c opened start disk state levels on; stands = on }
-
--- counts that haven't fallen since the start don't fall
-pub since_built : (begin : Start) (start opened h : History) (f0 f1 : ℕ) (old now : Seen) → IsSince begin f0 old.moment → f0 ≤ f1 → GoesOn opened start h old now → IsSince begin f1 now.moment
-since_built begin start opened h f0 f1 old now since le goes = (let from = since.0 in omega (arith, from, le), let low = since.1 in let on = goes.any_moment.later in omega (arith, low, on))
+pub built_start : {config : Fields} (Ports : Type 0) (begin : Start) (faults : ℕ) (opened start : History) (disk : Seen) (state : State) (levels : List (List Parts)) → IsOn config Ports begin faults opened start disk state levels → IsBuilt config Ports begin faults opened start [] [] start disk disk state levels
+built_start Ports begin faults opened start disk state levels on = record { begins = ([], sym (append-nil start)); answered = tt; alone = refl; goes = goes_still Ports begin faults opened start disk state levels on; stands = on }
 
 -- the same when the counts have risen
 

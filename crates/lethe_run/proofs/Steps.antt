@@ -37,7 +37,7 @@ use Rattle.lethe_run.specs.declared.reply.Reply.{Reply}
 use Rattle.lethe_run.specs.declared.reply.Reply.TheVariants as reply
 use Rattle.lethe_run.specs.Replies.{reply_of, unread_of}
 use Rattle.lethe_run.specs.Serving.{IsKeptFor, IsOn, GoesOn, IsAnswered}
-use Rattle.lethe_run.specs.Transcript.{Course, Start, Told, IsSince, IsShort, course, IsFailedAt, IsFaultOf, WasStopped, Answers, Follows, call_of, read_of, IsAnswerAt, IsStatAt}
+use Rattle.lethe_run.specs.Transcript.{Course, Start, Told, IsShort, course, IsFailedAt, IsFaultOf, WasStopped, Answers, Follows, call_of, read_of, IsAnswerAt, IsStatAt}
 use Rattle.lethe_run.proofs.Cuts.{cut_itself, cut_longer, cut_done, cut_failed}
 use Rattle.lethe_run.proofs.Images.{goes_still}
 
@@ -86,42 +86,50 @@ asked : (act : Act) (call : Call) → call_of act ≡ Some call → IsSome (call
 asked act call is = subst IsSome (sym is) refl
 
 -- what comes of an act
-abbrev pub Outcome : Fields → Course → History → History → ℕ → Act → Result Reply NoMemory → Seen → Seen → State → List (List Parts) → Type 0
-Outcome config now opened h caller act result old new state' levels' = MatchResult result
-    (λ reply. (g : History) × IsAnswered config now opened h g caller act reply old new state' levels')
-    (λ why. GoesOn opened h h old new × IsOn config now opened h new state' levels')
+abbrev pub Outcome : Fields → Type 0 → Start → ℕ → History → History → ℕ → Act → Result Reply NoMemory → Seen → Seen → State → List (List Parts) → Type 0
+Outcome config Ports begin faults opened h caller act result old new state' levels' = MatchResult result
+    (λ reply. (g : History) × IsAnswered config Ports begin faults opened h g caller act reply old new state' levels')
+    (λ why. GoesOn opened h h old new × IsOn config Ports begin faults opened h new state' levels')
 
 -- A change
 
 -- nothing but counts has changed
-pub on_later : {config : Fields} (Ports : Type 0) (begin : Start) (f0 f1 : ℕ) (opened h : History) (old new : Seen) (state state' : State) (levels levels' : List (List Parts)) → f0 ≤ f1 → begin.moment ≤ old.moment → old.moment ≤ new.moment
+pub on_later : {config : Fields} (Ports : Type 0) (begin : Start) (f0 f1 : ℕ) (opened h : History) (old new : Seen) (state state' : State) (levels levels' : List (List Parts)) → f0 ≤ f1 → old.moment ≤ new.moment
     → state'.manifest.next + old.moment ≤ state.manifest.next + new.moment → state'.stopped ≡ state.stopped → StandsFor config h new state' levels'
-    → IsOn config (course Ports begin f0 old.moment) opened h old state levels → IsOn config (course Ports begin f1 new.moment) opened h new state' levels'
-on_later Ports begin f0 f1 opened h old new state state' levels levels' le low goes numbers same stands on = record {
+    → IsOn config Ports begin f0 opened h old state levels → IsOn config Ports begin f1 opened h new state' levels'
+on_later Ports begin f0 f1 opened h old new state state' levels levels' le goes numbers same stands on = record {
   begins = on.begins;
   done = on.done;
   stands = stands;
   stopped = λ at is. stopped_later Ports begin h f0 old.moment f1 new.moment at le (on.stopped at (sym same ∙ is));
-  drawn = let drawn = on.drawn in omega (arith, drawn, low, goes, numbers);
+  faults_since = let low = on.faults_since in omega (arith, low, le);
+  moment_since = let low = on.moment_since in omega (arith, low, goes);
+  drawn = let drawn = on.drawn in omega (arith, drawn, goes, numbers);
 }
 
 module _ {config : Fields} (Ports : Type 0) (begin : Start) (f0 f1 : ℕ) (opened h : History) (caller : ℕ) (act : Act) (call : Call) (is : call_of act ≡ Some call) (works : call ≡ Work → ⊥) (old new : Seen) (state state' : State) (levels levels' : List (List Parts))
-    (on : IsOn config (course Ports begin f0 old.moment) opened h old state levels) (since : IsSince begin f0 old.moment) (later : f0 ≤ f1)
+    (on : IsOn config Ports begin f0 opened h old state levels) (later : f0 ≤ f1)
     (numbers : state'.manifest.next + old.moment ≤ state.manifest.next + new.moment) (small : frozen_len state.frozen ≤ 16384) where
   abbrev Now : Course
   Now = course Ports begin f1 new.moment
 
   abbrev Still : Type 0
-  Still = GoesOn opened h h old new × IsOn config Now opened h new state' levels'
+  Still = GoesOn opened h h old new × IsOn config Ports begin f1 opened h new state' levels'
 
-  drawn : old.moment ≤ new.moment → state'.manifest.next ≤ Now.next + Now.calls
-  drawn goes = let before = on.drawn in let low = since.1 in omega (arith, before, low, goes, numbers)
+  faults_since : begin.faults ≤ f1
+  faults_since = let low = on.faults_since in omega (arith, low, later)
+
+  moment_since : old.moment ≤ new.moment → begin.moment ≤ new.moment
+  moment_since goes = let low = on.moment_since in omega (arith, low, goes)
+
+  drawn : old.moment ≤ new.moment → state'.manifest.next + begin.moment ≤ begin.next + new.moment
+  drawn goes = let before = on.drawn in omega (arith, before, goes, numbers)
 
   short : old.moment ≤ new.moment → changing.IsShort state → IsShort Now
-  short goes few = let before = on.drawn in let low = since.1 in omega (arith, before, low, goes, few, small)
+  short goes few = let before = on.drawn in let low = on.moment_since in omega (arith, before, low, goes, few, small)
 
   -- it wasn't begun
-  not_made : (r : Reply) → Still → Answers (told_of h Now) caller act r → Follows Now (length h) r (length h) → (g : History) × IsAnswered config Now opened h g caller act r old new state' levels'
+  not_made : (r : Reply) → Still → Answers (told_of h Now) caller act r → Follows Now (length h) r (length h) → (g : History) × IsAnswered config Ports begin f1 opened h g caller act r old new state' levels'
   not_made r still what follows = (h, record { grows = ([], sym (append-nil h)); answers = what; follows = follows; goes = still.0; stands = still.1 })
 
   module _ (done : AreDone h) where
@@ -129,7 +137,7 @@ module _ {config : Fields} (Ports : Type 0) (begin : Start) (f0 f1 : ℕ) (opene
     legal = on.stands.legal
 
     made : (place : ℕ) → place ≡ state.count + 1 → StandsFor config (with_done h caller call) new state' levels' → Goes (IsKeptOr h (Some (done_by caller call))) old new
-        → (g : History) × IsAnswered config Now opened h g caller act (reply.Done place) old new state' levels'
+        → (g : History) × IsAnswered config Ports begin f1 opened h g caller act (reply.Done place) old new state' levels'
     made place place_is stands run =
         let change = done_by caller call in
         let g : History = with_done h caller call in
@@ -153,13 +161,15 @@ module _ {config : Fields} (Ports : Type 0) (begin : Start) (f0 f1 : ℕ) (opene
               done = on.done;
               stands = stands;
               stopped = λ n stop. absurd (done_runs g new stands.stored state' n g_done (subst (IsOpenOrStopped new g stands.stored state') stop stands.held));
+              faults_since = faults_since;
+              moment_since = moment_since run.later;
               drawn = drawn run.later;
             };
           },
         )
 
     failed : (place b a : ℕ) → place ≡ state.count + 1 → b ≡ f0 → a ≡ f1 → Rose f0 f1 → StandsFor config (with_failed h caller call b a) new state' levels' → Goes (IsKeptOr h (Some (done_by caller call))) old new
-        → (g : History) × IsAnswered config Now opened h g caller act (reply.Fault place b a) old new state' levels'
+        → (g : History) × IsAnswered config Ports begin f1 opened h g caller act (reply.Fault place b a) old new state' levels'
     failed place b a place_is b_is a_is rose stands run =
         let change : Change = record { caller = caller; call = call; did = Failed b a } in
         let g : History = with_failed h caller call b a in
@@ -169,7 +179,7 @@ module _ {config : Fields} (Ports : Type 0) (begin : Start) (f0 f1 : ℕ) (opene
           is = ap (change_at g) at ∙ change_at-push h change;
           failed = refl;
           rose = subst (λ n. Rose n a) (sym b_is) (subst (Rose f0) (sym a_is) rose);
-          from = let from = since.0 in omega (arith, from, b_is);
+          from = let from = on.faults_since in omega (arith, from, b_is);
           upto = omega (arith, a_is);
         } in
         let cut = cut_failed opened h change legal done works on.begins in (
@@ -193,6 +203,8 @@ module _ {config : Fields} (Ports : Type 0) (begin : Start) (f0 f1 : ℕ) (opene
                   let held = subst (IsOpenOrStopped new g stands.stored state') stop stands.held in
                   let n_is : n ≡ place = held.place ∙ longer h change ∙ sym at in
                   subst (WasStopped (told_of g Now)) (sym n_is) (record { before = b; after = a; fails = fails });
+              faults_since = faults_since;
+              moment_since = moment_since run.later;
               drawn = drawn run.later;
             };
           },
@@ -207,12 +219,14 @@ module _ {config : Fields} (Ports : Type 0) (begin : Start) (f0 f1 : ℕ) (opene
         done = on.done;
         stands = stands;
         stopped = λ n stop. absurd (done_runs h new stands.stored state' n done (subst (IsOpenOrStopped new h stands.stored state') stop stands.held));
+        faults_since = faults_since;
+        moment_since = moment_since run.later;
         drawn = drawn run.later;
       },
     )
 
     exhausted : (last : ℕ) → StandsFor config h new state' levels' → Goes (IsKeptOr h None) old new → last ≡ max_place → (state.count ≡ max_place) ⊎ changing.IsShort state
-        → (g : History) × IsAnswered config Now opened h g caller act (reply.Exhausted last) old new state' levels'
+        → (g : History) × IsAnswered config Ports begin f1 opened h g caller act (reply.Exhausted last) old new state' levels'
     exhausted last stands run last_is (inl full) =
         let all : length h ≡ max_place = sym on.stands.count ∙ full in
         not_made (reply.Exhausted last) (unmade stands run) (asked act call is, (last_is, inl all)) (inl (all ∙ sym last_is), refl)
@@ -222,7 +236,7 @@ module _ {config : Fields} (Ports : Type 0) (begin : Start) (f0 f1 : ℕ) (opene
   none_some at a b = let clash : None ≡ Some at = sym a ∙ b in cc
 
   open_made : (result : Result ℕ Refused) → AreDone h → state.stopped ≡ None → StandsFor config (answered_to h caller call result) new state' levels' → ((place : ℕ) → result ≡ Ok place → place ≡ state.count + 1)
-      → ((why : Refused) → result ≡ Err why → HasReason state f0 f1 why) → Goes (IsKeptOr h (written_by caller call result)) old new → Outcome config Now opened h caller act (reply_of result) old new state' levels'
+      → ((why : Refused) → result ≡ Err why → HasReason state f0 f1 why) → Goes (IsKeptOr h (written_by caller call result)) old new → Outcome config Ports begin f1 opened h caller act (reply_of result) old new state' levels'
   open_made (Ok place) done runs stands place_is why run = made done place (place_is place refl) stands run
   open_made (Err (refused.Fault place b a)) done runs stands place_is why run = let reason = why (refused.Fault place b a) refl in failed done place b a reason.1 reason.2 reason.3 reason.4 stands run
   open_made (Err (refused.Stopped at)) done runs stands place_is why run = absurd (none_some at runs (why (refused.Stopped at) refl))
@@ -238,35 +252,38 @@ module _ {config : Fields} (Ports : Type 0) (begin : Start) (f0 f1 : ℕ) (opene
   -- a change over a store that takes changes, or over one that was stopped
   pub changes : (result : Result ℕ Refused) → StandsFor config (answered_to h caller call result) new state' levels' → ((place : ℕ) → result ≡ Ok place → place ≡ state.count + 1)
       → ((why : Refused) → result ≡ Err why → HasReason state f0 f1 why) → (state.stopped ≡ None → Goes (IsKeptOr h (written_by caller call result)) old new)
-      → ((at : ℕ) → state.stopped ≡ Some at → (result ≡ Err (refused.Stopped at)) × Still) → Outcome config Now opened h caller act (reply_of result) old new state' levels'
+      → ((at : ℕ) → state.stopped ≡ Some at → (result ≡ Err (refused.Stopped at)) × Still) → Outcome config Ports begin f1 opened h caller act (reply_of result) old new state' levels'
   changes result stands place_is why run stop = by state.stopped refl
     where
-      by : (stopped : Option ℕ) → state.stopped ≡ stopped → Outcome config Now opened h caller act (reply_of result) old new state' levels'
+      by : (stopped : Option ℕ) → state.stopped ≡ stopped → Outcome config Ports begin f1 opened h caller act (reply_of result) old new state' levels'
       by None runs = let now = subst (IsOpenOrStopped old h on.stands.stored state) runs on.stands.held in open_made result now.0 runs stands place_is why (run runs)
       by (Some at) stopped =
           let told = stop at stopped in
           let held = subst (IsOpenOrStopped old h on.stands.stored state) stopped on.stands.held in
-          subst (λ r. Outcome config Now opened h caller act (reply_of r) old new state' levels') (sym told.0)
+          subst (λ r. Outcome config Ports begin f1 opened h caller act (reply_of r) old new state' levels') (sym told.0)
           (not_made (reply.Stopped at) told.1 (asked act call is, stopped_later Ports begin h f0 old.moment f1 new.moment at later (on.stopped at stopped)) (held.place, refl))
 
 -- What only looks at the store
 
-module _ {config : Fields} (now : Course) (opened h : History) (caller : ℕ) (act : Act) (disk : Seen) (state : State) (levels : List (List Parts)) (on : IsOn config now opened h disk state levels) where
+module _ {config : Fields} (Ports : Type 0) (begin : Start) (faults : ℕ) (opened h : History) (caller : ℕ) (act : Act) (disk : Seen) (state : State) (levels : List (List Parts)) (on : IsOn config Ports begin faults opened h disk state levels) where
+  abbrev Here : Course
+  Here = course Ports begin faults disk.moment
+
   pub read_answer : (read : Read) (point : ℕ) (given : Answer) → point ≡ state.count → answer (after h) read ≡ given → IsAnswerAt h point read given
   read_answer read point given at is = let all = at ∙ on.stands.count in record { within = omega (arith, all); is = sym is ∙ ap (λ l. answer (after l) read) (sym (take_all point h (omega (arith, all)))) }
 
   pub stat_answer : (point : ℕ) (stat : Stat) → point ≡ state.count → stat.clock ≡ (after h).clock → IsStatAt h point stat
   stat_answer point stat at is = let all = at ∙ on.stands.count in record { within = omega (arith, all); is = is ∙ ap (λ l. (after l).clock) (sym (take_all point h (omega (arith, all)))) }
 
-  pub reads : (r : Reply) → Answers (told_of h now) caller act r → Follows now (length h) r (length h) → (g : History) × IsAnswered config now opened h g caller act r disk disk state levels
-  reads r what follows = (h, record { grows = ([], sym (append-nil h)); answers = what; follows = follows; goes = goes_still now opened h disk state levels on; stands = on })
+  pub reads : (r : Reply) → Answers (told_of h Here) caller act r → Follows Here (length h) r (length h) → (g : History) × IsAnswered config Ports begin faults opened h g caller act r disk disk state levels
+  reads r what follows = (h, record { grows = ([], sym (append-nil h)); answers = what; follows = follows; goes = goes_still Ports begin faults opened h disk state levels on; stands = on })
 
   -- a read that is refused
-  pub unread : IsSome (read_of act) → (why : Refused) → IsReadRefusal why → ((before behind : ℕ) → why ≡ refused.ReadFault before behind → now.PortsFail) → ((name : Name) → why ≡ refused.Damaged name → ⊥)
-      → Outcome config now opened h caller act (unread_of why) disk disk state levels
+  pub unread : IsSome (read_of act) → (why : Refused) → IsReadRefusal why → ((before behind : ℕ) → why ≡ refused.ReadFault before behind → Ports) → ((name : Name) → why ≡ refused.Damaged name → ⊥)
+      → Outcome config Ports begin faults opened h caller act (unread_of why) disk disk state levels
   unread is (refused.ReadFault before behind) reason fails sound = reads reply.ReadFault (is, fails before behind refl) refl
   unread is (refused.Damaged name) reason fails sound = absurd (sound name refl)
-  unread is refused.NoMemory reason fails sound = (goes_still now opened h disk state levels on, on)
+  unread is refused.NoMemory reason fails sound = (goes_still Ports begin faults opened h disk state levels on, on)
   unread is (refused.Fault place before behind) reason fails sound = absurd reason
   unread is (refused.Stopped at) reason fails sound = absurd reason
   unread is (refused.Exhausted last) reason fails sound = absurd reason

@@ -45,10 +45,6 @@ pub record Start : Type 0 where
 abbrev pub course : Type 0 → Start → ℕ → ℕ → Course
 course PortsFail start faults moment = record { before = start.faults; now = faults; next = start.next; calls = moment - start.moment; PortsFail = PortsFail }
 
--- neither count has fallen since
-abbrev pub IsSince : Start → ℕ → ℕ → Type 0
-IsSince start faults moment = (start.faults ≤ faults) × (start.moment ≤ moment)
-
 -- what the meaning of a line depends on
 pub record Told : Type 1 where
   -- the whole history

@@ -6,7 +6,7 @@ ghost use Rattle.lethe_advance.specs.Shown.{parts_by_level};
 ghost use Rattle.lethe_engine.specs.Sound.{IsSound};
 ghost use Rattle.lethe_script.specs.declared.order.Order.{Order};
 ghost use Rattle.lethe_run.specs.Serving.{IsOn, IsPhase};
-ghost use Rattle.lethe_run.specs.Transcript.{Start, IsSince, course};
+ghost use Rattle.lethe_run.specs.Transcript.{Start};
 
 use crate::answer::answer;
 use crate::reply::Line;
@@ -36,9 +36,9 @@ pub(crate) fn serve_phase<D: Disk>(
     requires { IsSound D.tells (D.seen engine.old.disk) engine.old.state (parts_by_level engine.old.version) }
     ensures sound { IsSound D.tells (D.seen engine.new.disk) engine.new.state (parts_by_level engine.new.version) }
     ensures served { D.tells → (config : Fields) (begin : Start) (opened start : History)
-        → IsOn config (course D.ports_fail begin (D.faults engine.old.disk) (D.seen engine.old.disk).moment) opened start (D.seen engine.old.disk) engine.old.state (parts_by_level engine.old.version) → IsSince begin (D.faults engine.old.disk) (D.seen engine.old.disk).moment
+        → IsOn config D.ports_fail begin (D.faults engine.old.disk) opened start (D.seen engine.old.disk) engine.old.state (parts_by_level engine.old.version)
         → (h : History) × (part : List Order) × (rest : List Order) × (orders.items ≡ part ++ rest) × (IsTrue result.whole → rest ≡ [])
-        × IsPhase config (course D.ports_fail begin (D.faults engine.new.disk) (D.seen engine.new.disk).moment) opened start h part result.lines.items (D.seen engine.old.disk) (D.seen engine.new.disk) engine.new.state (parts_by_level engine.new.version) }
+        × IsPhase config D.ports_fail begin (D.faults engine.new.disk) opened start h part result.lines.items (D.seen engine.old.disk) (D.seen engine.new.disk) engine.new.state (parts_by_level engine.new.version) }
     ensures faults { D.faults engine.old.disk ≤ D.faults engine.new.disk }
 {
     let Ok(mut lines) = Vec::with_capacity(alloc, orders.len()) else {

@@ -6,7 +6,7 @@ use Rattle.std.proofs.lemmas.Iterator.Adapters.{YieldsList-from_vec}
 use Rattle.lethe_base.specs.Counts.{Rose}
 use Rattle.lethe_advance.specs.Shown.{parts_by_level}
 use Rattle.lethe_run.specs.Scripts.{ScriptEnds}
-use Rattle.lethe_run.specs.Transcript.{course, is_refusal}
+use Rattle.lethe_run.specs.Transcript.{is_refusal}
 use Rattle.lethe_run.proofs.Endings.{Phase, Before, next_so_far, cut_ends, all_ends}
 use Rattle.lethe_run.proofs.Phases.{so_far_start, appends_none, whole_text, front_text, refusal_more}
 use Rattle.lethe_run.proofs.Runs.{taken_front}
@@ -23,7 +23,7 @@ loop-orders-init g c =
         [],
         appends_none (g.K.Sink.taken c.args.sink.now),
         refl,
-        λ told config begin opened on since. so_far_start (course g.D.Disk.ports_fail begin (g.D.Disk.faults e.disk) (g.D.Disk.seen e.disk).moment) opened (g.D.Disk.seen e.disk) e.state (parts_by_level e.version) on,
+        λ told config begin opened on. so_far_start g.D.Disk.ports_fail begin (g.D.Disk.faults e.disk) opened (g.D.Disk.seen e.disk) e.state (parts_by_level e.version) on,
       );
     }
 

@@ -3,28 +3,28 @@ use Rattle.lethe_run.specs.declared.reply.Line.TheVariants.{Answer}
 use mathlib.Core.Bool.{false≢true}
 use Rattle.lethe_advance.specs.Shown.{parts_by_level}
 use Rattle.lethe_run.specs.Serving.{IsPhase}
-use Rattle.lethe_run.specs.Transcript.{course}
 use Rattle.std.specs.Prelude.{is_ok, vec_len}
 use Rattle.std.proofs.lemmas.List.{length_push, map-id}
 use Rattle.std.proofs.lemmas.Iterator.Consumers.{YieldsList-end}
 use Rattle.std.proofs.lemmas.Iterator.Adapters.{YieldsList-from_vec}
 use Rattle.lethe_run.proofs.Runs.{taken_front}
-use Rattle.lethe_run.proofs.Serving.{IsBuilt, built_start, built_more, built_still, phase_of, since_built}
+use Rattle.lethe_run.proofs.Serving.{IsBuilt, built_start, built_more, built_still, phase_of}
 use Rattle.lethe_run.proofs.serve.serve_phase.Goals as goal
 
 pub returns-in_default-clause-served : goal.returns-in_default-clause-served
-returns-in_default-clause-served g c = λ told config begin opened start on since.
+returns-in_default-clause-served g c = λ told config begin opened start on.
     let e = c.args.engine.now in
     let disk = g.D.Disk.seen e.disk in
     let levels = parts_by_level e.version in
-    let now = course g.D.Disk.ports_fail begin (g.D.Disk.faults e.disk) disk.moment in (
+    let Ports = g.D.Disk.ports_fail in
+    let faults = g.D.Disk.faults e.disk in (
       start,
       [],
       c.args.orders.items,
       refl,
       (λ is. absurd (false≢true is)),
-      subst (λ l. IsPhase config now opened start start [] l disk disk e.state levels) (sym c.new.ensures.items)
-          (phase_of now opened start start [] [] disk disk e.state levels (built_start now opened start disk e.state levels on)),
+      subst (λ l. IsPhase config Ports begin faults opened start start [] l disk disk e.state levels) (sym c.new.ensures.items)
+          (phase_of Ports begin faults opened start start [] [] disk disk e.state levels (built_start Ports begin faults opened start disk e.state levels on)),
     )
 
 pub loop-order-init : goal.loop-order-init
@@ -34,10 +34,11 @@ loop-order-init g c =
     let levels = parts_by_level e.version in
     record {
       sound = c.requires;
-      served = λ told config begin opened start on since.
-          let now = course g.D.Disk.ports_fail begin (g.D.Disk.faults e.disk) disk.moment in (
+      served = λ told config begin opened start on.
+          let Ports = g.D.Disk.ports_fail in
+          let faults = g.D.Disk.faults e.disk in (
             start,
-            subst (λ l. IsBuilt config now opened start [] l start disk disk e.state levels) (sym c.in-Ok.ensures.items) (built_start now opened start disk e.state levels on),
+            subst (λ l. IsBuilt config Ports begin faults opened start [] l start disk disk e.state levels) (sym c.in-Ok.ensures.items) (built_start Ports begin faults opened start disk e.state levels on),
           );
       faults = omega arith;
       room = search rules;
@@ -54,17 +55,17 @@ loop-order-preserved g c =
     let pushed : c.push.new.self.items ≡ c.loop-order.lines.items ++ Answer order.caller reply ∷ [] = search rules in
     record {
       sound = c.answer.ensures.sound;
-      served = λ told config begin opened start on since.
+      served = λ told config begin opened start on.
           let f0 = g.D.Disk.faults mid.disk in
           let f1 = g.D.Disk.faults new.disk in
           let s0 = g.D.Disk.seen old.disk in
           let s1 = g.D.Disk.seen mid.disk in
           let s2 = g.D.Disk.seen new.disk in
           let Ports = g.D.Disk.ports_fail in
-          let so_far = c.loop-order.invariant.served told config begin opened start on since in
-          let answered = c.in-Ok-answer.ensures.served told config begin opened so_far.0 order.caller so_far.1.stands (since_built begin start opened so_far.0 (g.D.Disk.faults old.disk) f0 s0 s1 since c.loop-order.invariant.faults so_far.1.goes) in (
+          let so_far = c.loop-order.invariant.served told config begin opened start on in
+          let answered = c.in-Ok-answer.ensures.served told config begin opened so_far.0 order.caller so_far.1.stands in (
             answered.0,
-            subst (λ l. IsBuilt config (course Ports begin f1 s2.moment) opened start (c.loop-order.yielded ++ order ∷ []) l answered.0 s0 s2 new.state (parts_by_level new.version)) (sym pushed)
+            subst (λ l. IsBuilt config Ports begin f1 opened start (c.loop-order.yielded ++ order ∷ []) l answered.0 s0 s2 new.state (parts_by_level new.version)) (sym pushed)
                 (built_more Ports begin f0 f1 c.answer.ensures.faults opened start so_far.0 c.loop-order.yielded c.loop-order.lines.items s0 s1 s2 mid.state new.state (parts_by_level mid.version) (parts_by_level new.version) so_far.1 answered.0 order reply answered.1),
           );
       faults = let a = c.loop-order.invariant.faults in let b = c.answer.ensures.faults in omega (arith, a, b);
@@ -75,7 +76,7 @@ loop-order-preserved g c =
     }
 
 pub returns-in-Err-clause-served : goal.returns-in-Err-clause-served
-returns-in-Err-clause-served g c = λ told config begin opened start on since.
+returns-in-Err-clause-served g c = λ told config begin opened start on.
     let old = c.args.engine.now in
     let mid = c.loop-order.engine in
     let new = c.answer.new.engine in
@@ -86,8 +87,8 @@ returns-in-Err-clause-served g c = λ told config begin opened start on since.
     let s1 = g.D.Disk.seen mid.disk in
     let s2 = g.D.Disk.seen new.disk in
     let Ports = g.D.Disk.ports_fail in
-    let so_far = c.loop-order.invariant.served told config begin opened start on since in
-    let still = c.in-Err.ensures.served told config begin opened so_far.0 order.caller so_far.1.stands (since_built begin start opened so_far.0 (g.D.Disk.faults old.disk) f0 s0 s1 since c.loop-order.invariant.faults so_far.1.goes) in
+    let so_far = c.loop-order.invariant.served told config begin opened start on in
+    let still = c.in-Err.ensures.served told config begin opened so_far.0 order.caller so_far.1.stands in
     let whole : c.args.orders.items ≡ c.loop-order.yielded ++ order ∷ c.next.new.self.rest.items =
     sym c.into_iter-order-iterator.ensures.into_iter_gives.0 ∙ taken_front c.into_iter-order-iterator.result c.loop-order.yielded c.loop-order.order-iterator c.loop-order.yielded_by ∙ ap (λ r. c.loop-order.yielded ++ r) c.in-Some.ensures.steps.0 in (
       so_far.0,
@@ -95,15 +96,15 @@ returns-in-Err-clause-served g c = λ told config begin opened start on since.
       order ∷ c.next.new.self.rest.items,
       whole,
       (λ is. absurd (false≢true is)),
-      phase_of (course Ports begin f1 s2.moment) opened start so_far.0 c.loop-order.yielded c.loop-order.lines.items s0 s2 new.state (parts_by_level new.version)
+      phase_of Ports begin f1 opened start so_far.0 c.loop-order.yielded c.loop-order.lines.items s0 s2 new.state (parts_by_level new.version)
           (built_still Ports begin f0 f1 c.answer.ensures.faults opened start so_far.0 c.loop-order.yielded c.loop-order.lines.items s0 s1 s2 mid.state new.state (parts_by_level mid.version) (parts_by_level new.version) so_far.1 still.0 still.1),
     )
 
 pub returns-clause-served : goal.returns-clause-served
-returns-clause-served g c = λ told config begin opened start on since.
+returns-clause-served g c = λ told config begin opened start on.
     let old = c.args.engine.now in
     let mid = c.loop-order.engine in
-    let so_far = c.loop-order.invariant.served told config begin opened start on since in
+    let so_far = c.loop-order.invariant.served told config begin opened start on in
     let gives = c.into_iter-order-iterator.ensures.into_iter_gives in
     let ended = YieldsList-end (YieldsList-from_vec c.args.orders.items gives.0 (gives.1 ∙ search rules)) c.loop-order.yielded c.loop-order.order-iterator c.loop-order.yielded_by c.next.result c.next.new.self c.in-None.is c.next.ensures.steps in
     let whole : c.args.orders.items ≡ c.loop-order.yielded ++ [] = sym ended.0 ∙ map-id c.loop-order.yielded ∙ sym (append-nil c.loop-order.yielded) in (
@@ -112,5 +113,5 @@ returns-clause-served g c = λ told config begin opened start on since.
       [],
       whole,
       (λ is. refl),
-      phase_of (course g.D.Disk.ports_fail begin (g.D.Disk.faults mid.disk) (g.D.Disk.seen mid.disk).moment) opened start so_far.0 c.loop-order.yielded c.loop-order.lines.items (g.D.Disk.seen old.disk) (g.D.Disk.seen mid.disk) mid.state (parts_by_level mid.version) so_far.1,
+      phase_of g.D.Disk.ports_fail begin (g.D.Disk.faults mid.disk) opened start so_far.0 c.loop-order.yielded c.loop-order.lines.items (g.D.Disk.seen old.disk) (g.D.Disk.seen mid.disk) mid.state (parts_by_level mid.version) so_far.1,
     )
