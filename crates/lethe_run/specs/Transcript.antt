@@ -106,7 +106,7 @@ pub record WasStopped (told : Told) (at : ℕ) : Type 0 where
 abbrev pub most_of_a_change : ℕ
 most_of_a_change = most_numbers (greatest_of Buffer) + 3
 
--- Numbers of objects run out: where each device call has drawn one, those of one more change pass the last.
+-- Numbers of objects run out: where each device call since the start has drawn one, those of one more change reach the last.
 abbrev pub IsShort : Course → Type 0
 IsShort course = max_place ≤ course.next + course.calls + most_of_a_change
 
