@@ -22,7 +22,7 @@ use Rattle.lethe_engine.specs.StandsFor.{StandsFor, retried}
 use Rattle.lethe_engine.specs.Steps.{IsHindered}
 use Rattle.lethe_engine.proofs.Standing.{left_at_end, moments_or, open_stands, stands_done, stands_for, stands_running, stopped_stands}
 use Rattle.lethe_engine.proofs.Likes.{halted_remembered}
-use Rattle.lethe_engine.proofs.Stepping.{running_back}
+use Rattle.lethe_engine.proofs.Carried.{running_back}
 
 pub runs_not : (at : ℕ) → Some at ≡ None → ⊥
 runs_not at e = cc

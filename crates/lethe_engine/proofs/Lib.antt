@@ -2,8 +2,11 @@ pub mod Histories
 pub mod Results
 pub mod Standing
 pub mod Likes
-pub mod Stepping
+pub mod Carried
 pub mod Hindered
 pub mod Answering
 pub mod Counting
 pub mod Opened
+pub mod Stepped
+pub mod Next
+pub mod Recorded

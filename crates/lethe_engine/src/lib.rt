@@ -4,6 +4,7 @@
 mod changing;
 mod engine;
 mod reading;
+mod stepping;
 mod telling;
 mod working;
 

@@ -59,7 +59,12 @@ impl<D: Disk> Engine<D> {
         if self.state.frozen.is_some() || self.state.records == 0 {
             return Ok(false);
         }
-        Err(Refused::NoMemory)
+        self.state.may_change()?;
+        let before = self.disk.faults();
+        match self.freeze_now(alloc, before) {
+            Ok(()) => Ok(true),
+            Err(why) => Err(why),
+        }
     }
 
     /// Flushes the frozen buffer: files of level 0 take the place of its segment. It answers whether there was anything to do. Flushing has a place in
@@ -101,6 +106,11 @@ impl<D: Disk> Engine<D> {
         if self.state.frozen.is_none() {
             return Ok(false);
         }
-        Err(Refused::NoMemory)
+        self.state.may_change()?;
+        let before = self.disk.faults();
+        match self.flush_now(alloc, before) {
+            Ok(()) => Ok(true),
+            Err(why) => Err(why),
+        }
     }
 }

@@ -7,17 +7,20 @@ use Rattle.lethe_base.specs.Keys.{Bytes}
 use Rattle.lethe_base.specs.History.{History, Change}
 use Rattle.lethe_base.specs.declared.config.Fields.{Fields}
 use Rattle.lethe_disk.specs.Disk.{Seen}
-use Rattle.lethe_engine.specs.declared.journal.Journal.{Journal}
+use Rattle.lethe_state.specs.declared.state.State.{State}
 use Rattle.lethe_engine.specs.Opening.{IsResumed}
-use Rattle.lethe_engine.proofs.Standings.{held_open}
+use Rattle.lethe_engine.specs.StandsFor.{IsOpenOrStopped}
 use Rattle.lethe_disk.specs.Goes.{Goes}
+use Rattle.lethe_build.specs.Built.{most_numbers}
+use Rattle.lethe_stored.specs.Encodes.{Encodes}
+use Rattle.lethe_stored.specs.Files.{Parts}
 use Rattle.lethe_stored.specs.Left.{IsLeft, IsKeptOr}
-use Rattle.lethe_manifest.specs.declared.manifest.Manifest.{Manifest}
-use Rattle.lethe_recover.specs.Loaded.{HasReason, IsGated}
-use Rattle.lethe_recover.specs.Opening.{MayNotOpen}
+use Rattle.lethe_stored.specs.Stored.{Stored, IsCoherent, records_of}
+use Rattle.lethe_load.specs.Refused.{HasReason}
+use Rattle.lethe_load.specs.declared.refused.RecoverRefused.{RecoverRefused}
+use Rattle.lethe_recover.specs.Opening.{MayNotOpen, IsNextNumber}
 use Rattle.lethe_recover.specs.declared.opening.OpenWhy.{OpenWhy}
 use Rattle.lethe_recover.specs.declared.opening.OpenWhy.TheVariants as open_why
-use Rattle.lethe_recover.specs.declared.refused.RecoverRefused.{RecoverRefused}
 use Rattle.lethe_disk.proofs.Going.{goes_then, goes_weaker}
 use Rattle.lethe_script.specs.declared.order.Order.{Order}
 use Rattle.lethe_script.specs.declared.refused.BadLine.{BadLine}
@@ -27,12 +30,12 @@ use Rattle.lethe_run.specs.declared.status.Status.{Status}
 use Rattle.lethe_run.specs.declared.status.Status.TheVariants.{Answered, BadWords, BadScript, ReadFault, WriteFault, Refused, NoMemory, Damaged, OtherConfig}
 use Rattle.lethe_run.specs.Carried.{IsKeptMeanwhile, IsCarriedOut}
 use Rattle.lethe_run.specs.Ends as ends
-use Rattle.lethe_run.specs.Ends.{Run, Asks, IsCommand, IsNoCommand, OnLeft, OnScript, Carries, IsFront, IsNoScript, IsNotOpened, Refuses, IsAsked, IsUnbegun, IsOpenFault, StoppedBehind, StoppedInside}
+use Rattle.lethe_run.specs.Ends.{Run, Asks, IsCommand, IsNoCommand, OnLeft, OnScript, Carries, IsBegun, course_of, IsNoScript, IsNotOpened, Refuses, IsAsked, IsUnbegun, IsOpenFault, StoppedBehind, StoppedInside}
 use Rattle.lethe_run.specs.Printed.{bad_words, bad_line, open_line}
 use Rattle.lethe_run.specs.Scripts.{Serves, All, ScriptEnds}
 use Rattle.lethe_run.specs.Serving.{IsKeptFor, IsOn, IsCarried}
 use Rattle.lethe_run.specs.Status.{EndsWith, Says, IsToldOf, status_for}
-use Rattle.lethe_run.specs.Transcript.{text_of}
+use Rattle.lethe_run.specs.Transcript.{Start, text_of}
 
 -- what stands behind the limit changes nothing
 past_limit : (bytes more : Bytes) → 16777216 < length bytes → script_of (bytes ++ more) ≡ script_of bytes
@@ -120,25 +123,33 @@ said_not_opened run end why config asks not (inr silent) = subst (EndsWith run) 
 
 -- A script that was carried out
 
-module _ (run : Run) (config : Fields) (asks : Asks run config) (phases : List (List Order)) (script : (P : List (List Order) → Type 0) → P phases → OnScript run P) (mid : Seen) (journal : Journal) (counted : ℕ) (up : run.faults_before ≤ counted)
-    (resumed : run.Tells → (h : History) (change : Option Change) → IsLeft run.start h change → IsResumed config h change mid journal)
+module _ (run : Run) (config : Fields) (asks : Asks run config) (phases : List (List Order)) (script : (P : List (List Order) → Type 0) → P phases → OnScript run P) (mid : Seen) (state : State) (levels : List (List Parts)) (counted : ℕ) (up : run.faults_before ≤ counted)
+    (resumed : run.Tells → (h : History) (change : Option Change) → IsLeft run.start h change → IsResumed config h change mid state levels)
     (moments : run.Tells → (h : History) (change : Option Change) → IsLeft run.start h change → Goes (IsKeptOr h change) run.start mid)
+    (numbers : run.Tells → (next : ℕ) → IsNextNumber run.start.directory next → state.manifest.next + run.start.moment ≤ next + mid.moment)
     (sound : run.Tells → (why : RecoverRefused) → HasReason config run.start.directory why → ⊥) where
-  none_some : (at : ℕ) → journal.stopped ≡ None → journal.stopped ≡ Some at → ⊥
+  none_some : (at : ℕ) → state.stopped ≡ None → state.stopped ≡ Some at → ⊥
   none_some at a b = let clash : None ≡ Some at = sym a ∙ b in cc
 
-  on : (h : History) (change : Option Change) → (r : IsResumed config h change mid journal) → IsOn config (record { before = counted; now = counted }) r.history r.history mid journal
-  on h change r = record {
+  abbrev begin_at : ℕ → Start
+  begin_at next = record { faults = run.faults_before; next = next; moment = run.start.moment }
+
+  on : run.Tells → (h : History) (change : Option Change) → (r : IsResumed config h change mid state levels) → run.start.moment ≤ mid.moment → (next : ℕ) → IsNextNumber run.start.directory next
+      → IsOn config run.PortsFail (begin_at next) counted r.history r.history mid state levels
+  on told h change r later next is = record {
     begins = ([], sym (append-nil r.history));
-    done = (held_open config r.history mid journal r.runs r.stands.held).stands.done;
+    done = (subst (IsOpenOrStopped mid r.history r.stands.stored state) r.runs r.stands.held).0;
     stands = r.stands;
     stopped = λ at is. absurd (none_some at r.runs is);
+    faults_since = up;
+    moment_since = later;
+    drawn = numbers told next is;
   }
 
-  carried_out : (left : History) (change : Option Change) (r : IsResumed config left change mid journal) (front : List (List Order)) (lines : List (List Line)) → Goes (IsKeptOr left change) run.start mid
-      → IsCarried config (record { before = run.faults_before; now = run.faults }) r.history front lines mid run.finish
-      → IsCarriedOut config (record { before = run.faults_before; now = run.faults }) run.start run.finish left change front lines
-  carried_out left change r front lines opening c = record {
+  carried_out : (left : History) (change : Option Change) (r : IsResumed config left change mid state levels) (next : ℕ) (front : List (List Order)) (lines : List (List Line)) → Goes (IsKeptOr left change) run.start mid
+      → IsCarried config (course_of run next) r.history front lines mid run.finish
+      → IsCarriedOut config (course_of run next) run.start run.finish left change front lines
+  carried_out left change r next front lines opening c = record {
     opened = r.history;
     either = r.either;
     history = c.history;
@@ -150,15 +161,16 @@ module _ (run : Run) (config : Fields) (asks : Asks run config) (phases : List (
     config_is = c.config_is;
   }
 
-  carries : (front : List (List Order)) (lines : List (List Line)) → Serves run.Tells mid run.finish journal counted run.faults front lines → Carries run config front lines
-  carries front lines served = λ told left change is.
+  carries : (front : List (List Order)) (lines : List (List Line)) → Serves run.Tells run.PortsFail mid run.finish state levels counted run.faults front lines → Carries run config front lines
+  carries front lines served = λ told left change is next drawn.
       let r = resumed told left change is in
-      carried_out left change r front lines (moments told left change is) (served told config r.history (on left change r) run.faults_before up)
+      let opening = moments told left change is in
+      carried_out left change r next front lines opening (served told config (begin_at next) r.history (on told left change r opening.later next drawn))
 
-  all : (refused : Bool) → All run.Tells mid run.finish journal counted run.faults run.taken_before run.taken phases refused → ends.Answered run config refused
+  all : (refused : Bool) → All run.Tells run.PortsFail mid run.finish state levels counted run.faults run.taken_before run.taken phases refused → ends.Answered run config refused
   all refused a = record { lines = a.lines; script = script (λ p. Carries run config p a.lines) (carries phases a.lines a.served); written = a.written; is = a.is; sound = sound }
 
-  pub script_ended : (status : Status) → ScriptEnds run.Tells mid run.finish journal counted run.faults run.taken_before run.taken run.SinkRose phases status → EndsWith run status
+  pub script_ended : (status : Status) → ScriptEnds run.Tells run.PortsFail mid run.finish state levels counted run.faults run.taken_before run.taken run.SinkRose phases status → EndsWith run status
   script_ended Answered e = (config, asks, all false e)
   script_ended Refused e = (config, asks, inl (all true e))
   script_ended WriteFault e = (
@@ -178,26 +190,27 @@ module _ (run : Run) (config : Fields) (asks : Asks run config) (phases : List (
   script_ended NoMemory e = (config, asks, inr (record { lines = e.lines; script = script (λ p. Inner p) inner; written = e.written }))
     where
       Inner : List (List Order) → Type 0
-      Inner p = OnLeft run (λ left change. (front : List (List Order)) × IsFront p front × IsCarriedOut config (record { before = run.faults_before; now = run.faults }) run.start run.finish left change front e.lines)
+      Inner p = OnLeft run (λ left change. (next : ℕ) → IsNextNumber run.start.directory next → (front : List (List Order)) × IsBegun p front × IsCarriedOut config (course_of run next) run.start run.finish left change front e.lines)
 
       inner : Inner phases
-      inner = λ told left change is.
+      inner = λ told left change is next drawn.
           let r = resumed told left change is in
-          let c = e.served told config r.history (on left change r) run.faults_before up in
-          (c.0, c.1, carried_out left change r c.0 e.lines (moments told left change is) c.2)
+          let opening = moments told left change is in
+          let c = e.served told config (begin_at next) r.history (on told left change r opening.later next drawn) in
+          (c.0, c.1, carried_out left change r next c.0 e.lines opening c.2)
   script_ended BadWords e = absurd e
   script_ended BadScript e = absurd e
   script_ended ReadFault e = absurd e
   script_ended Damaged e = absurd e
   script_ended OtherConfig e = absurd e
 
--- where numbers ran out, the manifest's next number and the device calls reach the last one
+-- where numbers ran out, the manifest's next number, what the records may need and the device calls reach the last one
 pub drawn_by : (Tells : Type 0) (start finish : Seen) (before now : ℕ) (why : OpenWhy) (config : Fields) → MayNotOpen Tells config start.directory before now why → ((last : ℕ) → why ≡ open_why.Exhausted last → start.moment < finish.moment) → Tells → (last : ℕ) → why ≡ open_why.Exhausted last
-    → (manifest : Manifest) × IsGated start.directory manifest × (last ≤ manifest.next + (finish.moment - start.moment))
+    → (s : Stored) × IsCoherent s × Encodes start.directory s × (last ≤ s.manifest.next + most_numbers (length (records_of s)) + (finish.moment - start.moment))
 drawn_by Tells start finish before now why config may later told last is =
     let full = subst (MayNotOpen Tells config start.directory before now) is may in
     let e = full.1 told in
     let more = later last is in
     let all = full.0 in
     let next = e.last in
-    (e.manifest, e.gated, omega (arith, all, next, more))
+    (e.s, e.coherent, e.encodes, omega (arith, all, next, more))

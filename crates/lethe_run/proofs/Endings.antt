@@ -1,20 +1,25 @@
 -- How a script ends, by what became of its phases.
-use Rattle.std.proofs.Common.{◌≡◌, ◌≤◌, ℕ, suc, Bool, true, false, cond, List, [], ◌∷◌, ◌++◌, length, take, slice_get, Option, Some, refl, sym, ap, ◌∙◌, subst, arith, append-nil}
+use Rattle.std.proofs.Common.{◌≡◌, ◌≤◌, inl, inr, ℕ, suc, Bool, true, false, cond, List, [], ◌∷◌, ◌++◌, length, take, slice_get, Option, Some, refl, sym, ap, ◌∙◌, subst, arith, append-nil}
 use Rattle.std.specs.Io.KnownBytes.{Appends}
 use Rattle.lethe_base.specs.Keys.{Bytes}
 use Rattle.lethe_base.specs.History.{History}
 use Rattle.lethe_base.specs.declared.config.Fields.{Fields}
-use Rattle.lethe_disk.specs.Disk.{Seen, Image}
-use Rattle.lethe_engine.specs.declared.journal.Journal.{Journal}
+use Rattle.lethe_disk.specs.Disk.{Seen, Image, IsIdle}
+use Rattle.lethe_disk.specs.Goes.{Goes}
+use Rattle.lethe_disk.proofs.Going.{goes_then}
+use Rattle.lethe_engine.specs.StandsFor.{StandsFor}
+use Rattle.lethe_state.specs.declared.state.State.{State}
+use Rattle.lethe_stored.specs.Files.{Parts}
 use Rattle.lethe_script.specs.declared.order.Order.{Order}
 use Rattle.lethe_wire.specs.Causes.{AppendsFront}
 use Rattle.lethe_run.specs.declared.reply.Line.{Line}
 use Rattle.lethe_run.specs.declared.status.Status.{Status}
 use Rattle.lethe_run.specs.declared.status.Status.TheVariants.{Answered, BadWords, BadScript, ReadFault, WriteFault, Refused, NoMemory, Damaged, OtherConfig}
-use Rattle.lethe_run.specs.Scripts.{Behind, Inside, ScriptEnds, IsCutBy}
-use Rattle.lethe_run.specs.Serving.{IsOn, IsPhase, IsCarried}
-use Rattle.lethe_run.specs.Transcript.{text_of, has_refusal}
-use Rattle.lethe_run.proofs.Phases.{SoFar, so_far_more, carried}
+use Rattle.lethe_run.specs.Scripts.{All, Behind, Inside, Serves, ScriptEnds, IsCutBy}
+use Rattle.lethe_run.specs.Serving.{IsKeptFor, IsOn, IsPhase, IsCarried}
+use Rattle.lethe_run.specs.Transcript.{Start, course, text_of, has_refusal}
+use Rattle.lethe_run.proofs.Phases.{SoFar, so_far_start, so_far_more, carried}
+use Rattle.lethe_run.proofs.Steps.{on_later}
 
 get_behind : {X : Type 0} (front : List X) (x : X) (rest : List X) → slice_get (front ++ x ∷ rest) (length front) ≡ Some x
 get_behind [] x rest = refl
@@ -32,57 +37,57 @@ pub part_whole : (orders items part rest : List Order) → items ≡ orders → 
 part_whole orders items part rest is parts none = sym (append-nil part) ∙ ap (λ l. part ++ l) (sym none) ∙ sym parts ∙ is
 
 -- what serving a phase gave
-abbrev pub Phase : Type 0 → Seen → Seen → Journal → Journal → ℕ → ℕ → List Order → Bool → List Line → Type 0
-Phase Tells now then journal journal' f0 f1 orders whole more = Tells → (config : Fields) (from : ℕ) (opened start : History) → IsOn config (record { before = from; now = f0 }) opened start now journal → from ≤ f0
-    → (h : History) × (part : List Order) × (rest : List Order) × (orders ≡ part ++ rest) × ((whole ≡ true) → rest ≡ []) × IsPhase config (record { before = from; now = f1 }) opened start h part more now then journal'
+abbrev pub Phase : Type 0 → Type 0 → Seen → Seen → State → State → List (List Parts) → List (List Parts) → ℕ → ℕ → List Order → Bool → List Line → Type 0
+Phase Tells Ports now then state state' levels levels' f0 f1 orders whole more = Tells → (config : Fields) (begin : Start) (opened start : History) → IsOn config Ports begin f0 opened start now state levels
+    → (h : History) × (part : List Order) × (rest : List Order) × (orders ≡ part ++ rest) × ((whole ≡ true) → rest ≡ []) × IsPhase config Ports begin f1 opened start h part more now then state' levels'
 
 -- what the phases before gave
-abbrev pub Before : Type 0 → Seen → Seen → Journal → Journal → ℕ → ℕ → List (List Order) → List (List Line) → Type 0
-Before Tells start now first journal before f0 yielded lines = Tells → (config : Fields) (opened : History) → IsOn config (record { before = before; now = before }) opened opened start first → (from : ℕ) → from ≤ before
-    → SoFar config (record { before = from; now = f0 }) opened yielded lines start now journal
+abbrev pub Before : Type 0 → Type 0 → Seen → Seen → State → State → List (List Parts) → List (List Parts) → ℕ → ℕ → List (List Order) → List (List Line) → Type 0
+Before Tells Ports start now first state levels0 levels before f0 yielded lines = Tells → (config : Fields) (begin : Start) (opened : History) → IsOn config Ports begin before opened opened start first levels0
+    → SoFar config Ports begin f0 opened yielded lines start now state levels
 
-module _ (Tells : Type 0) (start now then : Seen) (first journal journal' : Journal) (before f0 f1 : ℕ) (up : before ≤ f0) (later : f0 ≤ f1) (itself : Tells → Image then then.directory)
+module _ (Tells Ports : Type 0) (start now then : Seen) (first state state' : State) (levels0 levels levels' : List (List Parts)) (before f0 f1 : ℕ) (up : before ≤ f0) (later : f0 ≤ f1) (itself : Tells → Image then then.directory)
     (phases yielded rest : List (List Order)) (orders : List Order) (are : phases ≡ yielded ++ orders ∷ rest) (lines : List (List Line)) (more : List Line) (whole : Bool)
-    (so_far : Before Tells start now first journal before f0 yielded lines) (phase : Phase Tells now then journal journal' f0 f1 orders whole more) where
-  pub next_so_far : whole ≡ true → Before Tells start then first journal' before f1 (yielded ++ orders ∷ []) (lines ++ more ∷ [])
-  next_so_far is told config opened on from le =
-      let prior = so_far told config opened on from le in
-      let next = phase told config from opened prior.history prior.stands (omega (arith, le, up)) in
-      subst (λ p. SoFar config (record { before = from; now = f1 }) opened (yielded ++ p ∷ []) (lines ++ more ∷ []) start then journal') (part_whole orders orders next.1 next.2 refl next.3 (next.4 is))
-      (so_far_more from f0 f1 opened next.0 yielded lines next.1 more start now then journal journal' later prior next.5)
+    (so_far : Before Tells Ports start now first state levels0 levels before f0 yielded lines) (phase : Phase Tells Ports now then state state' levels levels' f0 f1 orders whole more) where
+  pub next_so_far : whole ≡ true → Before Tells Ports start then first state' levels0 levels' before f1 (yielded ++ orders ∷ []) (lines ++ more ∷ [])
+  next_so_far is told config begin opened on =
+      let prior = so_far told config begin opened on in
+      let next = phase told config begin opened prior.history prior.stands in
+      subst (λ p. SoFar config Ports begin f1 opened (yielded ++ p ∷ []) (lines ++ more ∷ []) start then state' levels') (part_whole orders orders next.1 next.2 refl next.3 (next.4 is))
+      (so_far_more Ports begin f0 f1 opened next.0 yielded lines next.1 more start now then state state' levels levels' later prior next.5)
 
-  pub behind : (old new : Option Bytes) → whole ≡ true → AppendsFront old new (text_of (lines ++ more ∷ [])) → Behind Tells start then first before f1 old new phases
+  pub behind : (old new : Option Bytes) → whole ≡ true → AppendsFront old new (text_of (lines ++ more ∷ [])) → Behind Tells Ports start then first levels0 before f1 old new phases
   behind old new is written = record {
     lines = lines ++ more ∷ [];
     count = suc (length yielded);
-    served = λ told config opened on from le.
-        subst (λ p. IsCarried config (record { before = from; now = f1 }) opened p (lines ++ more ∷ []) start then) (sym (ap (take (suc (length yielded))) are ∙ take_more yielded orders rest))
-        (carried (record { before = from; now = f1 }) opened (yielded ++ orders ∷ []) (lines ++ more ∷ []) start then journal' (itself told) (next_so_far is told config opened on from le));
+    served = λ told config begin opened on.
+        subst (λ p. IsCarried config (course Ports begin f1 then.moment) opened p (lines ++ more ∷ []) start then) (sym (ap (take (suc (length yielded))) are ∙ take_more yielded orders rest))
+        (carried Ports begin f1 opened (yielded ++ orders ∷ []) (lines ++ more ∷ []) start then state' levels' (itself told) (next_so_far is told config begin opened on));
     written = written;
   }
 
-  pub inside : (old new : Option Bytes) → AppendsFront old new (text_of (lines ++ more ∷ [])) → Inside Tells start then first before f1 old new phases
+  pub inside : (old new : Option Bytes) → AppendsFront old new (text_of (lines ++ more ∷ [])) → Inside Tells Ports start then first levels0 before f1 old new phases
   inside old new written = record {
     lines = lines ++ more ∷ [];
-    served = λ told config opened on from le.
-        let prior = so_far told config opened on from le in
-        let next = phase told config from opened prior.history prior.stands (omega (arith, le, up)) in (
+    served = λ told config begin opened on.
+        let prior = so_far told config begin opened on in
+        let next = phase told config begin opened prior.history prior.stands in (
           yielded ++ next.1 ∷ [],
-          record {
+          inr (record {
             count = length yielded;
             part = next.1;
             rest = next.2;
             there = ap (λ p. slice_get p (length yielded)) are ∙ get_behind yielded orders rest ∙ ap Some next.3;
             is = ap (λ l. l ++ next.1 ∷ []) (sym (ap (take (length yielded)) are ∙ take_front yielded (orders ∷ rest)));
-          },
-          carried (record { before = from; now = f1 }) opened (yielded ++ next.1 ∷ []) (lines ++ more ∷ []) start then journal' (itself told)
-              (so_far_more from f0 f1 opened next.0 yielded lines next.1 more start now then journal journal' later prior next.5),
+          }),
+          carried Ports begin f1 opened (yielded ++ next.1 ∷ []) (lines ++ more ∷ []) start then state' levels' (itself told)
+              (so_far_more Ports begin f0 f1 opened next.0 yielded lines next.1 more start now then state state' levels levels' later prior next.5),
         );
     written = written;
   }
 
   pub cut_ends : (old new : Option Bytes) (Rose SinkRose : Type 0) (status : Status) → (Rose → SinkRose) → AppendsFront old new (text_of (lines ++ more ∷ [])) → IsCutBy (whole ≡ true) Rose status
-      → ScriptEnds Tells start then first before f1 old new SinkRose phases status
+      → ScriptEnds Tells Ports start then first levels0 before f1 old new SinkRose phases status
   cut_ends old new Rose SinkRose NoMemory rose written cut = inside old new written
   cut_ends old new Rose SinkRose WriteFault rose written cut = (rose cut.1, behind old new cut.0 written)
   cut_ends old new Rose SinkRose Answered rose written cut = absurd cut
@@ -94,17 +99,80 @@ module _ (Tells : Type 0) (start now then : Seen) (first journal journal' : Jour
   cut_ends old new Rose SinkRose OtherConfig rose written cut = absurd cut
 
 -- all were answered
-pub all_ends : (Tells : Type 0) (start then : Seen) (first journal' : Journal) (before f1 : ℕ) (itself : Tells → Image then then.directory) (phases : List (List Order)) (lines : List (List Line)) (old new : Option Bytes) (SinkRose : Type 0) (refused : Bool)
-    → Before Tells start then first journal' before f1 phases lines → Appends old new (text_of lines) → has_refusal lines ≡ refused → ScriptEnds Tells start then first before f1 old new SinkRose phases (cond refused Refused Answered)
-all_ends Tells start then first journal' before f1 itself phases lines old new SinkRose true so_far written is = record {
+pub all_ends : (Tells Ports : Type 0) (start then : Seen) (first state' : State) (levels0 levels' : List (List Parts)) (before f1 : ℕ) (itself : Tells → Image then then.directory) (phases : List (List Order)) (lines : List (List Line)) (old new : Option Bytes) (SinkRose : Type 0) (refused : Bool)
+    → Before Tells Ports start then first state' levels0 levels' before f1 phases lines → Appends old new (text_of lines) → has_refusal lines ≡ refused → ScriptEnds Tells Ports start then first levels0 before f1 old new SinkRose phases (cond refused Refused Answered)
+all_ends Tells Ports start then first state' levels0 levels' before f1 itself phases lines old new SinkRose true so_far written is = record {
   lines = lines;
-  served = λ told config opened on from le. carried (record { before = from; now = f1 }) opened phases lines start then journal' (itself told) (so_far told config opened on from le);
+  served = λ told config begin opened on. carried Ports begin f1 opened phases lines start then state' levels' (itself told) (so_far told config begin opened on);
   written = written;
   is = is;
 }
-all_ends Tells start then first journal' before f1 itself phases lines old new SinkRose false so_far written is = record {
+all_ends Tells Ports start then first state' levels0 levels' before f1 itself phases lines old new SinkRose false so_far written is = record {
   lines = lines;
-  served = λ told config opened on from le. carried (record { before = from; now = f1 }) opened phases lines start then journal' (itself told) (so_far told config opened on from le);
+  served = λ told config begin opened on. carried Ports begin f1 opened phases lines start then state' levels' (itself told) (so_far told config begin opened on);
   written = written;
   is = is;
 }
+
+-- Making a port is nothing on the disk
+
+module _ (Tells Ports : Type 0) (start mid : Seen) (state : State) (levels : List (List Parts)) (before : ℕ) (idle : Tells → IsIdle start mid)
+    (stands : Tells → (config : Fields) (h : History) → StandsFor config h start state levels → StandsFor config h mid state levels) where
+  on_idle : Tells → (config : Fields) (begin : Start) (opened : History) → IsOn config Ports begin before opened opened start state levels → IsOn config Ports begin before opened opened mid state levels
+  on_idle told config begin opened on =
+      let same = (idle told).moment in
+      on_later Ports begin before before opened opened start mid state state levels levels (omega arith) (omega (arith, same)) (omega (arith, same)) refl (stands told config opened on.stands) on
+
+  module _ (finish : Seen) (now : ℕ) where
+    longer_moments : Tells → {config : Fields} (begin : Start) (opened : History) (phases : List (List Order)) (lines : List (List Line)) → IsOn config Ports begin before opened opened start state levels
+        → IsCarried config (course Ports begin now finish.moment) opened phases lines mid finish → IsCarried config (course Ports begin now finish.moment) opened phases lines start finish
+    longer_moments told begin opened phases lines on c = record {
+      history = c.history;
+      served = c.served;
+      any_moment = goes_then (IsKeptFor opened c.history) start mid finish (first c.history c.any_moment) c.any_moment;
+      leaves = c.leaves;
+      config_is = c.config_is;
+    }
+      where
+        first : (h : History) → Goes (IsKeptFor opened h) mid finish → Goes (IsKeptFor opened h) start mid
+        first h goes = record {
+          later = let same = (idle told).moment in omega (arith, same);
+          past = λ m c le. (idle told).left m c;
+          each = λ m c low high left. goes.each mid.moment c (omega arith) goes.later ((goes.past mid.moment c (omega arith)).1 (subst (λ n. mid.left n c) (let same = (idle told).moment in omega (arith, same, low, high)) left));
+        }
+
+    serves_idle : (phases : List (List Order)) (lines : List (List Line)) → Serves Tells Ports mid finish state levels before now phases lines → Serves Tells Ports start finish state levels before now phases lines
+    serves_idle phases lines served told config begin opened on = longer_moments told begin opened phases lines on (served told config begin opened (on_idle told config begin opened on))
+
+    all_idle : (old new : Option Bytes) (phases : List (List Order)) (refused : Bool) → All Tells Ports mid finish state levels before now old new phases refused → All Tells Ports start finish state levels before now old new phases refused
+    all_idle old new phases refused a = record { lines = a.lines; served = serves_idle phases a.lines a.served; written = a.written; is = a.is }
+
+    pub ends_idle : (old new : Option Bytes) (SinkRose : Type 0) (phases : List (List Order)) (status : Status) → ScriptEnds Tells Ports mid finish state levels before now old new SinkRose phases status → ScriptEnds Tells Ports start finish state levels before now old new SinkRose phases status
+    ends_idle old new SinkRose phases Answered e = all_idle old new phases false e
+    ends_idle old new SinkRose phases Refused e = all_idle old new phases true e
+    ends_idle old new SinkRose phases WriteFault e = (e.0, record { lines = e.1.lines; count = e.1.count; served = serves_idle (take e.1.count phases) e.1.lines e.1.served; written = e.1.written })
+    ends_idle old new SinkRose phases NoMemory e = record {
+      lines = e.lines;
+      served = λ told config begin opened on.
+          let c = e.served told config begin opened (on_idle told config begin opened on) in
+          (c.0, c.1, longer_moments told begin opened c.0 e.lines on c.2);
+      written = e.written;
+    }
+    ends_idle old new SinkRose phases BadWords e = absurd e
+    ends_idle old new SinkRose phases BadScript e = absurd e
+    ends_idle old new SinkRose phases ReadFault e = absurd e
+    ends_idle old new SinkRose phases Damaged e = absurd e
+    ends_idle old new SinkRose phases OtherConfig e = absurd e
+
+  -- where there was no memory for it, nothing is served
+  pub none_served : (Tells → Image mid mid.directory) → (old : Option Bytes) (phases : List (List Order)) → AppendsFront old old [] → Inside Tells Ports start mid state levels before before old old phases
+  none_served itself old phases none = record {
+    lines = [];
+    served = λ told config begin opened on. (
+      [],
+      inl refl,
+      longer_moments mid before told begin opened [] [] on
+          (carried Ports begin before opened [] [] mid mid state levels (itself told) (so_far_start Ports begin before opened mid state levels (on_idle told config begin opened on))),
+    );
+    written = none;
+  }

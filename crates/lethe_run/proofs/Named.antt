@@ -1,5 +1,5 @@
 -- The named parts of a run's end, by its cases.
-use Rattle.std.proofs.Common.{◌≡◌, ◌⊎◌, ◌≤◌, ◌<◌, ℕ, ◌+◌, Bool, true, false, ◌||◌, List, [], ◌∷◌, length, Option, Some, None, IfSome, Result, Ok, Err, IsSomeAnd, inl, inr, refl, sym, ap, ◌∙◌, subst, arith, lit<}
+use Rattle.std.proofs.Common.{◌≡◌, ◌⊎◌, ◌≤◌, ◌<◌, ℕ, ◌+◌, ◌-◌, Bool, true, false, ◌||◌, List, [], ◌∷◌, length, Option, Some, None, IfSome, Result, Ok, Err, IsSomeAnd, inl, inr, refl, sym, ap, ◌∙◌, subst, arith, lit<}
 use Rattle.std.specs.Prelude.{IsOk, IsErr, Contains, sum_by, is_some}
 use Rattle.std.specs.List.{list_any}
 use Rattle.lethe_base.specs.Counts.{Rose}
@@ -8,9 +8,11 @@ use Rattle.lethe_base.specs.History.{History, Change}
 use Rattle.lethe_base.specs.declared.call.Call.{Call}
 use Rattle.lethe_base.specs.declared.config.Fields.{Fields}
 use Rattle.lethe_stored.specs.Left.{IsLeft, IsHistoryOr, as_done}
-use Rattle.lethe_recover.specs.Loaded.{HasReason, HasOtherConfig}
-use Rattle.lethe_recover.specs.declared.refused.RecoverRefused.{RecoverRefused}
-use Rattle.lethe_recover.specs.Opening.{MayNotOpen, IsExhausted}
+use Rattle.lethe_stored.specs.Kept.{IsKept}
+use Rattle.lethe_disk.specs.Directory.{Directory}
+use Rattle.lethe_load.specs.Refused.{HasReason, HasOtherConfig}
+use Rattle.lethe_load.specs.declared.refused.RecoverRefused.{RecoverRefused}
+use Rattle.lethe_recover.specs.Opening.{MayNotOpen, IsExhausted, IsNextNumber}
 use Rattle.lethe_recover.specs.declared.opening.OpenWhy.{OpenWhy}
 use Rattle.lethe_recover.specs.declared.opening.OpenWhy.TheVariants as open_why
 use Rattle.lethe_script.specs.declared.order.Order.{Order}
@@ -25,13 +27,13 @@ use Rattle.lethe_run.specs.declared.status.Status.TheVariants as status
 use Rattle.lethe_run.specs.Asked.{config_of}
 use Rattle.lethe_run.specs.Carried.{IsCarriedOut}
 use Rattle.lethe_run.specs.Ends as ends
-use Rattle.lethe_run.specs.Ends.{Run, Ends, Asks, IsCommand, OnLeft, IsNotOpened, IsOpenFault, script_ends}
+use Rattle.lethe_run.specs.Ends.{Run, Ends, Asks, IsCommand, OnLeft, IsNotOpened, IsOpenFault, course_of, script_ends}
 use Rattle.lethe_run.specs.Status.{EndsWith, code_of}
-use Rattle.lethe_run.specs.Transcript.{Faults, Told, call_of, Answers, Answered, IsFailedAt, IsFaultOf, Follows, InTurn, AreServed, is_refusal, has_refusal}
+use Rattle.lethe_run.specs.Transcript.{Course, Told, IsShort, most_of_a_change, call_of, Answers, Answered, IsFailedAt, IsFaultOf, Follows, InTurn, AreServed, is_refusal, has_refusal}
 use Rattle.std.proofs.lemmas.List.{length_push}
 use Rattle.std.proofs.lemmas.List.Sums.{sum_by-cons}
 use Rattle.lethe_base.specs.declared.name.Name.{Name}
-use Rattle.lethe_recover.proofs.Exact.{kept_undamaged}
+use Rattle.lethe_load.proofs.Exact.{kept_undamaged}
 use Rattle.lethe_run.specs.Ends.{OnScript, Carries, Refuses, IsUnbegun}
 use Rattle.lethe_run.proofs.Ending.{some_then, some_now}
 
@@ -48,7 +50,7 @@ ok_err r x y a b = let clash : Ok x ≡ Err y = sym a ∙ b in cc
 
 -- Where no count rose and there are places, each change is done
 
-module _ (told : Told) (calm : Rose told.before told.now → ⊥) where
+module _ (told : Told) (calm : Rose told.course.before told.course.now → ⊥) (ports : told.course.PortsFail → ⊥) (enough : IsShort told.course → ⊥) where
   no_fault : (place before after : ℕ) → IsFailedAt told place before after → ⊥
   no_fault place before after f = calm (let rose = f.rose in let from = f.from in let upto = f.upto in omega (arith, rose, from, upto))
 
@@ -56,16 +58,18 @@ module _ (told : Told) (calm : Rose told.before told.now → ⊥) where
   fault_of caller place before after None f = f
   fault_of caller place before after (Some call) f = no_fault place before after f.fails
 
-  done_line : (n next : ℕ) (caller by : ℕ) (act : Act) (r : Reply) → n < max_place → Answers told by act r → Follows n r next → (is_refusal (line.Answer caller r) ≡ false) × (next ≤ n + 1)
+  done_line : (n next : ℕ) (caller by : ℕ) (act : Act) (r : Reply) → n < max_place → Answers told by act r → Follows told.course n r next → (is_refusal (line.Answer caller r) ≡ false) × (next ≤ n + 1)
   done_line n next caller by act (reply.Done place) room a f = (refl, omega arith)
   done_line n next caller by act (reply.Got point held) room a f = (refl, omega arith)
   done_line n next caller by act (reply.Scanned point pairs) room a f = (refl, omega arith)
   done_line n next caller by act (reply.Counted point stat) room a f = (refl, omega arith)
   done_line n next caller by act (reply.Fault place before after) room a f = absurd (fault_of by place before after (call_of act) a)
   done_line n next caller by act (reply.Stopped at) room a f = absurd (no_fault at a.1.before a.1.after a.1.fails)
-  done_line n next caller by act (reply.Exhausted last) room a f = absurd (let here = f.0 in let all = a.1.0 in omega (arith, here, all, room))
+  done_line n next caller by act (reply.Exhausted last) room a f = absurd (elim f.0 [ inl here ↦ (let all = a.1.0 in omega (arith, here, all, room)) | inr few ↦ enough few ])
+  done_line n next caller by act reply.ReadFault room a f = absurd (ports a.1)
+  done_line n next caller by act (reply.Damaged page) room a f = absurd a
 
-  done_lines : (n m : ℕ) (orders : List Order) (lines : List Line) → n + length orders ≤ max_place → Answered told orders lines → InTurn n lines m → (list_any is_refusal lines ≡ false) × (m ≤ n + length orders)
+  done_lines : (n m : ℕ) (orders : List Order) (lines : List Line) → n + length orders ≤ max_place → Answered told orders lines → InTurn told.course n lines m → (list_any is_refusal lines ≡ false) × (m ≤ n + length orders)
   done_lines n m [] [] room a t = (refl, omega (arith, t))
   done_lines n m [] (l ∷ lines) room a t = absurd a
   done_lines n m (order ∷ orders) [] room a t = absurd a
@@ -76,16 +80,16 @@ module _ (told : Told) (calm : Rose told.before told.now → ⊥) where
       let upto = rest.1 in
       (ap (λ b. b || list_any is_refusal lines) first.0 ∙ rest.0, omega (arith, step, upto))
 
-phases_done : (faults : Faults) → (Rose faults.before faults.now → ⊥) → (start h : History) (phases : List (List Order)) (lines : List (List Line)) → length start + sum_by (λ orders. length orders) phases ≤ max_place
-    → AreServed faults start phases lines h → has_refusal lines ≡ false
-phases_done faults calm start h [] [] room served = refl
-phases_done faults calm start h [] (l ∷ lines) room served = absurd served
-phases_done faults calm start h (p ∷ phases) [] room served = absurd served
-phases_done faults calm start h (p ∷ phases) (l ∷ lines) room served =
+phases_done : (c : Course) → (Rose c.before c.now → ⊥) → (c.PortsFail → ⊥) → (IsShort c → ⊥) → (start h : History) (phases : List (List Order)) (lines : List (List Line)) → length start + sum_by (λ orders. length orders) phases ≤ max_place
+    → AreServed c start phases lines h → has_refusal lines ≡ false
+phases_done c calm ports enough start h [] [] room served = refl
+phases_done c calm ports enough start h [] (l ∷ lines) room served = absurd served
+phases_done c calm ports enough start h (p ∷ phases) [] room served = absurd served
+phases_done c calm ports enough start h (p ∷ phases) (l ∷ lines) room served =
     let size = sum_by-cons (λ (orders : List Order). length orders) p phases in
-    let first = done_lines (record { history = served.0; before = faults.before; now = faults.now }) calm (length start) (length served.0) p l (omega (arith, room, size)) served.1.answered served.1.alone in
+    let first = done_lines (record { history = served.0; course = c }) calm ports enough (length start) (length served.0) p l (omega (arith, room, size)) served.1.answered served.1.alone in
     let upto = first.1 in
-    ap (λ b. b || has_refusal lines) first.0 ∙ phases_done faults calm served.0 h phases lines (omega (arith, room, size, upto)) served.2
+    ap (λ b. b || has_refusal lines) first.0 ∙ phases_done c calm ports enough served.0 h phases lines (omega (arith, room, size, upto)) served.2
 
 opened_short : (left : History) (change : Option Change) (opened : History) → IsHistoryOr left change opened → length opened ≤ length left + 1
 opened_short left None opened is = let same = ap length is in omega (arith, same)
@@ -96,11 +100,12 @@ true_false : (b : Bool) → b ≡ true → b ≡ false → ⊥
 true_false true a b = cc
 true_false false a b = cc
 
-pub no_refusal : (run : Run) (config : Fields) (phases : List (List Order)) (lines : List (List Line)) (left : History) (change : Option Change) → (Rose run.faults_before run.faults → ⊥) → length left + 1 + sum_by (λ orders. length orders) phases ≤ max_place
-    → has_refusal lines ≡ true → IsCarriedOut config (record { before = run.faults_before; now = run.faults }) run.start run.finish left change phases lines → ⊥
-no_refusal run config phases lines left change calm room refused c =
+pub no_refusal : (run : Run) (config : Fields) (phases : List (List Order)) (lines : List (List Line)) (left : History) (change : Option Change) → (Rose run.faults_before run.faults → ⊥) → (run.PortsFail → ⊥)
+    → (next : ℕ) → next + (run.finish.moment - run.start.moment) + most_of_a_change < max_place → length left + 1 + sum_by (λ orders. length orders) phases ≤ max_place
+    → has_refusal lines ≡ true → IsCarriedOut config (course_of run next) run.start run.finish left change phases lines → ⊥
+no_refusal run config phases lines left change calm ports next few room refused c =
     let short = opened_short left change c.opened c.either in
-    true_false (has_refusal lines) refused (phases_done (record { before = run.faults_before; now = run.faults }) calm c.opened c.history phases lines (omega (arith, room, short)) c.served)
+    true_false (has_refusal lines) refused (phases_done (course_of run next) calm ports (λ none. omega (arith, none, few)) c.opened c.history phases lines (omega (arith, room, short)) c.served)
 
 -- Why a store that was left for a history wasn't opened
 
@@ -125,6 +130,11 @@ fault_memory before after e = cc
 exhausted_memory : (last : ℕ) → open_why.Exhausted last ≡ open_why.NoMemory → ⊥
 exhausted_memory last e = cc
 
+-- what is kept for a history has a next number
+has_next : (h : History) (d : Directory) → IsKept d h → (next : ℕ) × IsNextNumber d next
+has_next h d (inl none) = (3, inl (none.0, refl))
+has_next h d (inr kept) = (kept.s.manifest.next, inr (kept.s, kept.coherent, kept.encodes, refl))
+
 same_phases : {T E : Type 0} (r : Result T E) (x y : T) → r ≡ Ok x → r ≡ Ok y → x ≡ y
 same_phases r x y a b = let both : Ok x ≡ Ok y = sym a ∙ b in cc
 
@@ -145,9 +155,10 @@ module _ (run : Run) where
   Shown n config = run.Tells → (why : RecoverRefused) → HasReason config run.start.directory why → IfSome run.source (λ bytes. IsOk (script_of bytes) → (n ≡ 0 → ⊥) × (n ≡ 6 → IsOpenFault run config))
 
   abbrev Complete : ℕ → Fields → Type 0
-  Complete n config = (run.SourceRose → ⊥) → (run.SinkRose → ⊥) → (Rose run.faults_before run.faults → ⊥)
+  Complete n config = (run.SourceRose → ⊥) → (run.SinkRose → ⊥) → (Rose run.faults_before run.faults → ⊥) → (run.PortsFail → ⊥)
       → IfSome run.source (λ bytes. (phases : List (List Order)) → script_of bytes ≡ Ok phases → OnLeft run (λ left change.
       ((kept : Fields) → HasOtherConfig config run.start.directory kept → ⊥) → (IsExhausted run.start.directory → ⊥)
+      → ((next : ℕ) → IsNextNumber run.start.directory next → next + (run.finish.moment - run.start.moment) + most_of_a_change < max_place)
       → length left + 1 + sum_by (λ orders. length orders) phases ≤ max_place → Contains (0 ∷ 7 ∷ []) n))
 
   -- neither all answered nor refused
@@ -160,7 +171,7 @@ module _ (run : Run) where
   ok_script P s n among = ((λ words. some_then run.source s (λ bytes p is. absurd (ok_no_err (script_of bytes) p.0 p.1 is))), (λ words. some_now run.source (λ bytes is. among)))
 
   not_opened : (config : Fields) (why : OpenWhy) (n : ℕ) → IsNotOpened run config why → (why ≡ open_why.NoMemory → ⊥) → Complete n config
-  not_opened config why n not memory source sink calm = some_now run.source (λ bytes phases is told left change l same numbers room. absurd (must_open run config left change told l calm same numbers why not.reason memory))
+  not_opened config why n not memory source sink calm ports = some_now run.source (λ bytes phases is told left change l same numbers few room. absurd (must_open run config left change told l calm same numbers why not.reason memory))
 
   answered_end : EndsWith run status.Answered → Ends run 0
   answered_end e = record {
@@ -177,7 +188,7 @@ module _ (run : Run) where
     no_script = (ok_script _ e.2.script 0 (0, lit< tt, refl)).0;
     a_script = (ok_script _ e.2.script 0 (0, lit< tt, refl)).1;
     shown = for_asked (Shown 0) e.0 e.1 (λ told why reason. absurd (e.2.sound told why reason));
-    complete = λ config asks source sink calm. some_now run.source (λ bytes phases is told left change l same numbers room. (0, lit< tt, refl));
+    complete = λ config asks source sink calm ports. some_now run.source (λ bytes phases is told left change l same numbers few room. (0, lit< tt, refl));
     known = (0, lit< tt, refl);
   }
 
@@ -215,7 +226,7 @@ module _ (run : Run) where
     no_script = λ words. some_now run.source (λ bytes is. (0, lit< tt, refl));
     a_script = λ words. some_then run.source e.2.0 (λ bytes r is. absurd (err_no_ok (script_of bytes) e.1 r is));
     shown = λ config asks. other_shown 3 (λ z. omega (arith, z)) (λ z. omega (arith, z)) config;
-    complete = λ config asks source sink calm. some_then run.source e.2.0 (λ bytes r phases is. absurd (ok_err (script_of bytes) phases e.1 is r));
+    complete = λ config asks source sink calm ports. some_then run.source e.2.0 (λ bytes r phases is. absurd (ok_err (script_of bytes) phases e.1 is r));
     known = (2, lit< tt, refl);
   }
 
@@ -273,8 +284,9 @@ module _ (run : Run) where
         no_script = (ok_script _ a.script 6 (3, lit< tt, refl)).0;
         a_script = (ok_script _ a.script 6 (3, lit< tt, refl)).1;
         shown = for_asked (Shown 6) config asks (λ told why reason. absurd (a.sound told why reason));
-        complete = for_asked (Complete 6) config asks (λ source sink calm. some_then run.source a.script (λ bytes s phases is told left change l same numbers room.
-            absurd (no_refusal run config phases a.lines left change calm room a.is (subst (λ p. Carries run config p a.lines) (same_phases (script_of bytes) s.0 phases s.1 is) s.2 told left change l))));
+        complete = for_asked (Complete 6) config asks (λ source sink calm ports. some_then run.source a.script (λ bytes s phases is told left change l same numbers few room.
+            let next = has_next l.now.0 run.start.directory l.now.2 in
+            absurd (no_refusal run config phases a.lines left change calm ports next.0 (few next.0 next.1) room a.is (subst (λ p. Carries run config p a.lines) (same_phases (script_of bytes) s.0 phases s.1 is) s.2 told left change l next.0 next.1))));
         known = (5, lit< tt, refl);
       }
 
@@ -313,7 +325,7 @@ module _ (run : Run) where
     no_script = λ words. some_now run.source (λ bytes is. (3, lit< tt, refl));
     a_script = λ words. some_now run.source (λ bytes is. (4, lit< tt, refl));
     shown = λ config asks. other_shown 7 (λ z. omega (arith, z)) (λ z. omega (arith, z)) config;
-    complete = λ config asks source sink calm. some_now run.source (λ bytes phases is told left change l same numbers room. (1, lit< tt, refl));
+    complete = λ config asks source sink calm ports. some_now run.source (λ bytes phases is told left change l same numbers few room. (1, lit< tt, refl));
     known = (6, lit< tt, refl);
   }
 

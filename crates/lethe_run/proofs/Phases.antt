@@ -8,14 +8,15 @@ use Rattle.lethe_base.specs.History.{History}
 use Rattle.lethe_base.specs.declared.config.Fields.{Fields}
 use Rattle.lethe_base.specs.Keys.{Bytes}
 use Rattle.lethe_disk.specs.Disk.{Seen, Image}
-use Rattle.lethe_engine.specs.declared.journal.Journal.{Journal}
+use Rattle.lethe_state.specs.declared.state.State.{State}
+use Rattle.lethe_stored.specs.Files.{Parts}
 use Rattle.lethe_disk.proofs.Going.{goes_then, goes_weaker}
 use Rattle.lethe_script.specs.declared.order.Order.{Order}
 use Rattle.lethe_wire.specs.Causes.{AppendsFront}
 use Rattle.lethe_run.specs.declared.reply.Line.{Line}
 use Rattle.lethe_run.specs.Printed.{lines_text}
 use Rattle.lethe_run.specs.Serving.{IsKeptFor, IsOn, GoesOn, IsPhase, IsCarried}
-use Rattle.lethe_run.specs.Transcript.{Faults, IsServed, AreServed, text_of, is_refusal, has_refusal}
+use Rattle.lethe_run.specs.Transcript.{Course, Start, course, IsServed, AreServed, text_of, is_refusal, has_refusal}
 use Rattle.lethe_run.proofs.Images.{goes_still, leaves, has_config}
 use Rattle.lethe_run.proofs.Serving.{served_later}
 
@@ -58,28 +59,29 @@ pub refusal_more : (lines : List (List Line)) (more : List Line) → has_refusal
 refusal_more lines more = list_any-append (list_any is_refusal) lines (more ∷ []) ∙ ap (λ b. has_refusal lines || b) (or_false (list_any is_refusal more))
 
 -- the phases so far
-pub record SoFar (config : Fields) (faults : Faults) (opened : History) (phases : List (List Order)) (lines : List (List Line)) (start now : Seen) (journal : Journal) : Type 0 where
+pub record SoFar (config : Fields) (Ports : Type 0) (begin : Start) (faults : ℕ) (opened : History) (phases : List (List Order)) (lines : List (List Line)) (start now : Seen) (state : State) (levels : List (List Parts)) : Type 0 where
   pub history : History
-  pub served : AreServed faults opened phases lines history
+  pub served : AreServed (course Ports begin faults now.moment) opened phases lines history
   pub goes : GoesOn opened opened history start now
-  pub stands : IsOn config faults opened history now journal
+  pub stands : IsOn config Ports begin faults opened history now state levels
 
-pub so_far_start : {config : Fields} (before from : ℕ) (opened : History) (disk : Seen) (journal : Journal) → IsOn config (record { before = from; now = before }) opened opened disk journal → SoFar config (record { before = from; now = before }) opened [] [] disk disk journal
-so_far_start before from opened disk journal on = record { history = opened; served = refl; goes = goes_still (record { before = from; now = before }) opened opened disk journal on; stands = on }
+pub so_far_start : {config : Fields} (Ports : Type 0) (begin : Start) (faults : ℕ) (opened : History) (disk : Seen) (state : State) (levels : List (List Parts)) → IsOn config Ports begin faults opened opened disk state levels → SoFar config Ports begin faults opened [] [] disk disk state levels
+so_far_start Ports begin faults opened disk state levels on = record { history = opened; served = refl; goes = goes_still Ports begin faults opened opened disk state levels on; stands = on }
 
-phases_more : (faults : Faults) (start middle h : History) (phases : List (List Order)) (lines : List (List Line)) (orders : List Order) (more : List Line)
-    → AreServed faults start phases lines middle → IsServed faults middle orders more h → AreServed faults start (phases ++ orders ∷ []) (lines ++ more ∷ []) h
-phases_more faults start middle h [] [] orders more served last = (h, subst (λ s. IsServed faults s orders more h) served last, refl)
-phases_more faults start middle h [] (l ∷ lines) orders more served last = absurd served
-phases_more faults start middle h (p ∷ phases) [] orders more served last = absurd served
-phases_more faults start middle h (p ∷ phases) (l ∷ lines) orders more served last = (served.0, served.1, phases_more faults served.0 middle h phases lines orders more served.2 last)
+phases_more : (c : Course) (start middle h : History) (phases : List (List Order)) (lines : List (List Line)) (orders : List Order) (more : List Line)
+    → AreServed c start phases lines middle → IsServed c middle orders more h → AreServed c start (phases ++ orders ∷ []) (lines ++ more ∷ []) h
+phases_more c start middle h [] [] orders more served last = (h, subst (λ s. IsServed c s orders more h) served last, refl)
+phases_more c start middle h [] (l ∷ lines) orders more served last = absurd served
+phases_more c start middle h (p ∷ phases) [] orders more served last = absurd served
+phases_more c start middle h (p ∷ phases) (l ∷ lines) orders more served last = (served.0, served.1, phases_more c served.0 middle h phases lines orders more served.2 last)
 
-pub so_far_more : {config : Fields} (from f0 f1 : ℕ) (opened h : History) (phases : List (List Order)) (lines : List (List Line)) (part : List Order) (more : List Line) (start now then : Seen) (journal journal' : Journal) → f0 ≤ f1
-    → (so_far : SoFar config (record { before = from; now = f0 }) opened phases lines start now journal) → IsPhase config (record { before = from; now = f1 }) opened so_far.history h part more now then journal'
-    → SoFar config (record { before = from; now = f1 }) opened (phases ++ part ∷ []) (lines ++ more ∷ []) start then journal'
-so_far_more from f0 f1 opened h phases lines part more start now then journal journal' le so_far phase = record {
+pub so_far_more : {config : Fields} (Ports : Type 0) (begin : Start) (f0 f1 : ℕ) (opened h : History) (phases : List (List Order)) (lines : List (List Line)) (part : List Order) (more : List Line) (start now then : Seen) (state state' : State) (levels levels' : List (List Parts)) → f0 ≤ f1
+    → (so_far : SoFar config Ports begin f0 opened phases lines start now state levels) → IsPhase config Ports begin f1 opened so_far.history h part more now then state' levels'
+    → SoFar config Ports begin f1 opened (phases ++ part ∷ []) (lines ++ more ∷ []) start then state' levels'
+so_far_more Ports begin f0 f1 opened h phases lines part more start now then state state' levels levels' le so_far phase = record {
   history = h;
-  served = phases_more (record { before = from; now = f1 }) opened so_far.history h phases lines part more (served_later from f0 f1 le opened so_far.history phases lines so_far.served) phase.served;
+  served = phases_more (course Ports begin f1 then.moment) opened so_far.history h phases lines part more
+      (served_later Ports begin f0 f1 now.moment then.moment le phase.goes.any_moment.later opened so_far.history phases lines so_far.served) phase.served;
   goes = record {
     kept = λ k cut. phase.goes.kept k (so_far.goes.kept k cut);
     any_moment = goes_then (IsKeptFor opened h) start now then
@@ -88,12 +90,12 @@ so_far_more from f0 f1 opened h phases lines part more start now then journal jo
   stands = phase.stands;
 }
 
-pub carried : {config : Fields} (faults : Faults) (opened : History) (phases : List (List Order)) (lines : List (List Line)) (start now : Seen) (journal : Journal) → Image now now.directory → SoFar config faults opened phases lines start now journal
-    → IsCarried config faults opened phases lines start now
-carried faults opened phases lines start now journal itself so_far = record {
+pub carried : {config : Fields} (Ports : Type 0) (begin : Start) (faults : ℕ) (opened : History) (phases : List (List Order)) (lines : List (List Line)) (start now : Seen) (state : State) (levels : List (List Parts)) → Image now now.directory → SoFar config Ports begin faults opened phases lines start now state levels
+    → IsCarried config (course Ports begin faults now.moment) opened phases lines start now
+carried Ports begin faults opened phases lines start now state levels itself so_far = record {
   history = so_far.history;
   served = so_far.served;
   any_moment = so_far.goes.any_moment;
-  leaves = leaves faults opened so_far.history now journal so_far.stands itself;
-  config_is = has_config faults opened so_far.history now journal so_far.stands;
+  leaves = leaves Ports begin faults opened so_far.history now state levels so_far.stands itself;
+  config_is = has_config Ports begin faults opened so_far.history now state levels so_far.stands;
 }

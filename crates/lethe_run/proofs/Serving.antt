@@ -1,5 +1,5 @@
 -- A script's lines, one after another.
-use Rattle.std.proofs.Common.{◌≡◌, ℕ, suc, ◌-◌, ◌≤◌, Bool, true, false, max, List, [], ◌∷◌, ◌++◌, length, cond, Option, Some, None, IsSomeAnd, refl, sym, ap, ◌∙◌, subst, arith, append_assoc, append-nil}
+use Rattle.std.proofs.Common.{◌≡◌, inl, inr, ℕ, suc, ◌-◌, ◌≤◌, Bool, true, false, max, List, [], ◌∷◌, ◌++◌, length, cond, Option, Some, None, IsSomeAnd, refl, sym, ap, ◌∙◌, subst, arith, append_assoc, append-nil}
 use Rattle.std.specs.Prelude.{filter, filter_map, IsPermutation}
 use Rattle.std.proofs.lemmas.List.Sorted.{IsPermutation-refl}
 use Rattle.std.proofs.lemmas.List.{length-append, take-append-le}
@@ -10,25 +10,25 @@ use Rattle.lethe_base.specs.Read.{Read, Answer, answer}
 use Rattle.lethe_base.specs.Read as answers
 use Rattle.lethe_base.proofs.Histories.{change_at-append}
 use Rattle.lethe_disk.specs.Disk.{Seen}
-use Rattle.lethe_engine.specs.Scans.{listed}
-use Rattle.lethe_engine.specs.Stats.{stat_in}
+use Rattle.lethe_engine.specs.Reads.{listed}
 use Rattle.lethe_engine.specs.declared.telling.Stat.{Stat}
-use Rattle.lethe_engine.specs.declared.journal.Journal.{Journal}
+use Rattle.lethe_state.specs.declared.state.State.{State}
+use Rattle.lethe_stored.specs.Files.{Parts}
 use Rattle.lethe_disk.proofs.Going.{goes_then, goes_weaker}
 use Rattle.lethe_script.specs.declared.order.Order.{Order}
 use Rattle.lethe_script.specs.declared.order.Act.{Act}
 use Rattle.lethe_run.specs.declared.reply.Line.{Line}
 use Rattle.lethe_run.specs.declared.reply.Line.TheVariants as line
 use Rattle.lethe_run.specs.declared.reply.Reply.{Reply}
-use Rattle.lethe_run.specs.declared.reply.Reply.TheVariants.{Done, Got, Scanned, Counted, Fault, Stopped, Exhausted}
+use Rattle.lethe_run.specs.declared.reply.Reply.TheVariants.{Done, Got, Scanned, Counted, Fault, Stopped, Exhausted, ReadFault, Damaged}
 use Rattle.lethe_run.specs.Serving.{IsKeptFor, IsOn, GoesOn, IsAnswered, IsPhase}
 use Rattle.lethe_run.proofs.Images.{goes_still}
-use Rattle.lethe_run.specs.Transcript.{Faults, Told, call_of, read_of, IsDoneAt, IsAnswerAt, IsStatAt, IsFailedAt, IsFaultOf, Answers, Answered, place_of, places_behind, is_of, Sees, Follows, InTurn, IsServed, AreServed}
+use Rattle.lethe_run.specs.Transcript.{Course, Start, Told, IsShort, course, call_of, read_of, IsDoneAt, IsAnswerAt, IsStatAt, IsFailedAt, IsFaultOf, Answers, Answered, place_of, places_behind, is_of, Sees, Follows, InTurn, IsServed, AreServed}
 
 -- What a line says of a history it says of a longer one, and when the count of faults rises, unless the places were used up: then nothing follows.
 
-abbrev told_of : History → ℕ → ℕ → Told
-told_of h before now = record { history = h; before = before; now = now }
+abbrev told_of : History → Course → Told
+told_of h c = record { history = h; course = c }
 
 answer_before : (h more : History) (point : ℕ) (read : Read) (given : Answer) → IsAnswerAt h point read given → IsAnswerAt (h ++ more) point read given
 answer_before h more point read given a = record {
@@ -48,11 +48,21 @@ read_before h more point given (Some read) a = answer_before h more point read g
 stat_before : (h more : History) (point : ℕ) (stat : Stat) → IsStatAt h point stat → IsStatAt (h ++ more) point stat
 stat_before h more point stat a = record {
   within = omega (arith, a.within, length-append h more);
-  is = a.is ∙ ap (λ l. stat_in (after l)) (sym (take-append-le point h more a.within));
+  is = a.is ∙ ap (λ l. (after l).clock) (sym (take-append-le point h more a.within));
 }
 
-module _ (h more : History) (legal : IsLegal (h ++ more)) (before now later : ℕ) (le : now ≤ later) where
-  abbrev failed_before : (place b a : ℕ) → IsFailedAt (told_of h before now) place b a → IsFailedAt (told_of (h ++ more) before later) place b a
+-- numbers that ran out have run out when more device calls were made
+short_later : (Ports : Type 0) (begin : Start) (f0 f1 m0 m1 : ℕ) → m0 ≤ m1 → IsShort (course Ports begin f0 m0) → IsShort (course Ports begin f1 m1)
+short_later Ports begin f0 f1 m0 m1 le few = omega (arith, few, le)
+
+module _ (h more : History) (legal : IsLegal (h ++ more)) (Ports : Type 0) (begin : Start) (f0 f1 m0 m1 : ℕ) (le : f0 ≤ f1) (on : m0 ≤ m1) where
+  abbrev First : Course
+  First = course Ports begin f0 m0
+
+  abbrev Last : Course
+  Last = course Ports begin f1 m1
+
+  abbrev failed_before : (place b a : ℕ) → IsFailedAt (told_of h First) place b a → IsFailedAt (told_of (h ++ more) Last) place b a
   failed_before place b a f = record {
     change = f.change;
     is = change_at-append h more place f.change f.is;
@@ -62,20 +72,31 @@ module _ (h more : History) (legal : IsLegal (h ++ more)) (before now later : �
     upto = let upto = f.upto in omega (arith, upto, le);
   }
 
-  fault_before : (caller place b a : ℕ) (asked : Option Call) → IsSomeAnd asked (IsFaultOf (told_of h before now) caller place b a) → IsSomeAnd asked (IsFaultOf (told_of (h ++ more) before later) caller place b a)
+  fault_before : (caller place b a : ℕ) (asked : Option Call) → IsSomeAnd asked (IsFaultOf (told_of h First) caller place b a) → IsSomeAnd asked (IsFaultOf (told_of (h ++ more) Last) caller place b a)
   fault_before caller place b a None f = absurd f
   fault_before caller place b a (Some call) f = record { fails = failed_before place b a f.fails; who = f.who; what = f.what }
 
-  answers_before : (caller : ℕ) (act : Act) (reply : Reply) → Answers (told_of h before now) caller act reply → Answers (told_of (h ++ more) before later) caller act reply
+  answers_before : (caller : ℕ) (act : Act) (reply : Reply) → Answers (told_of h First) caller act reply → Answers (told_of (h ++ more) Last) caller act reply
   answers_before caller act (Done place) a = done_before h more caller place (call_of act) a
   answers_before caller act (Got point held) a = read_before h more point (answers.Found held) (read_of act) a
   answers_before caller act (Scanned point pairs) a = read_before h more point (listed pairs) (read_of act) a
   answers_before caller act (Counted point stat) a = (a.0, stat_before h more point stat a.1)
   answers_before caller act (Fault place b a) f = fault_before caller place b a (call_of act) f
   answers_before caller act (Stopped at) a = (a.0, record { before = a.1.before; after = a.1.after; fails = failed_before at a.1.before a.1.after a.1.fails })
-  answers_before caller act (Exhausted last) a = (a.0, (a.1.0, let few = legal.few in let all = a.1.1 in omega (arith, few, all, length-append h more)))
+  answers_before caller act (Exhausted last) a = (
+    a.0,
+    (
+      a.1.0,
+      elim a.1.1 [
+        | inl all ↦ inl (let few = legal.few in omega (arith, few, all, length-append h more))
+        | inr few ↦ inr (short_later Ports begin f0 f1 m0 m1 on few)
+      ],
+    ),
+  )
+  answers_before caller act ReadFault a = a
+  answers_before caller act (Damaged page) a = absurd a
 
-  answered_before : (orders : List Order) (lines : List Line) → Answered (told_of h before now) orders lines → Answered (told_of (h ++ more) before later) orders lines
+  answered_before : (orders : List Order) (lines : List Line) → Answered (told_of h First) orders lines → Answered (told_of (h ++ more) Last) orders lines
   answered_before [] [] a = tt
   answered_before [] (line ∷ lines) a = absurd a
   answered_before (order ∷ orders) [] a = absurd a
@@ -89,56 +110,77 @@ answered_more told [] (l ∷ lines) order reply a what = absurd a
 answered_more told (o ∷ orders) [] order reply a what = absurd a
 answered_more told (o ∷ orders) (line.Answer caller r ∷ lines) order reply a what = (a.0, a.1, answered_more told orders lines order reply a.2 what)
 
-in_turn_more : (n : ℕ) (lines : List Line) (m k caller : ℕ) (reply : Reply) → InTurn n lines m → Follows m reply k → InTurn n (lines ++ line.Answer caller reply ∷ []) k
-in_turn_more n [] m k caller reply t f = (k, subst (λ n. Follows n reply k) t f, refl)
-in_turn_more n (line.Answer c r ∷ lines) m k caller reply t f = (t.0, t.1, in_turn_more t.0 lines m k caller reply t.2 f)
+in_turn_more : (c : Course) (n : ℕ) (lines : List Line) (m k caller : ℕ) (reply : Reply) → InTurn c n lines m → Follows c m reply k → InTurn c n (lines ++ line.Answer caller reply ∷ []) k
+in_turn_more c n [] m k caller reply t f = (k, subst (λ n. Follows c n reply k) t f, refl)
+in_turn_more c n (line.Answer other r ∷ lines) m k caller reply t f = (t.0, t.1, in_turn_more c t.0 lines m k caller reply t.2 f)
+
+-- lines in turn stay so
+module _ (Ports : Type 0) (begin : Start) (f0 f1 m0 m1 : ℕ) (on : m0 ≤ m1) where
+  follows_later : (n m : ℕ) (reply : Reply) → Follows (course Ports begin f0 m0) n reply m → Follows (course Ports begin f1 m1) n reply m
+  follows_later n m (Done place) f = f
+  follows_later n m (Got point held) f = f
+  follows_later n m (Scanned point pairs) f = f
+  follows_later n m (Counted point stat) f = f
+  follows_later n m (Fault place b a) f = f
+  follows_later n m (Stopped at) f = f
+  follows_later n m (Exhausted last) f = (elim f.0 [ inl all ↦ inl all | inr few ↦ inr (short_later Ports begin f0 f1 m0 m1 on few) ], f.1)
+  follows_later n m ReadFault f = f
+  follows_later n m (Damaged page) f = f
+
+  in_turn_later : (n m : ℕ) (lines : List Line) → InTurn (course Ports begin f0 m0) n lines m → InTurn (course Ports begin f1 m1) n lines m
+  in_turn_later n m [] t = t
+  in_turn_later n m (line.Answer caller reply ∷ lines) t = (t.0, follows_later n t.0 reply t.1, in_turn_later t.0 m lines t.2)
 
 -- the lines so far
-pub record IsBuilt (config : Fields) (faults : Faults) (opened start : History) (orders : List Order) (lines : List Line) (h : History) (old now : Seen) (journal : Journal) : Type 0 where
+pub record IsBuilt (config : Fields) (Ports : Type 0) (begin : Start) (faults : ℕ) (opened start : History) (orders : List Order) (lines : List Line) (h : History) (old now : Seen) (state : State) (levels : List (List Parts)) : Type 0 where
   pub begins : (added : History) × (h ≡ start ++ added)
-  pub answered : Answered (told_of h faults.before faults.now) orders lines
-  pub alone : InTurn (length start) lines (length h)
+  pub answered : Answered (told_of h (course Ports begin faults now.moment)) orders lines
+  pub alone : InTurn (course Ports begin faults now.moment) (length start) lines (length h)
   pub goes : GoesOn opened start h old now
-  pub stands : IsOn config faults opened h now journal
+  pub stands : IsOn config Ports begin faults opened h now state levels
 
-pub built_more : {config : Fields} (before f0 f1 : ℕ) (opened start h g : History) (orders : List Order) (lines : List Line) (order : Order) (reply : Reply) (old now then : Seen) (journal journal' : Journal) → f0 ≤ f1
-    → IsBuilt config (record { before = before; now = f0 }) opened start orders lines h old now journal
-    → IsAnswered config (record { before = before; now = f1 }) opened h g order.caller order.act reply now then journal'
-    → IsBuilt config (record { before = before; now = f1 }) opened start (orders ++ order ∷ []) (lines ++ line.Answer order.caller reply ∷ []) g old then journal'
-built_more before f0 f1 opened start h g orders lines order reply old now then journal journal' le built is =
-    let more = is.grows.0 in
-    let whole = is.grows.1 in
-    let legal = is.stands.stands.legal in
-    record {
-      begins = (built.begins.0 ++ more, whole ∙ ap (λ l. l ++ more) built.begins.1 ∙ append_assoc start built.begins.0 more);
-      answered = answered_more (told_of g before f1) orders lines order reply
-          (subst (λ x. Answered (told_of x before f1) orders lines) (sym whole) (answered_before h more (subst IsLegal whole legal) before f0 f1 le orders lines built.answered)) is.answers;
-      alone = in_turn_more (length start) lines (length h) (length g) order.caller reply built.alone is.follows;
-      goes = record {
-        kept = λ k cut. is.goes.kept k (built.goes.kept k cut);
-        any_moment = goes_then (IsKeptFor opened g) old now then
-            (goes_weaker (IsKeptFor opened h) (IsKeptFor opened g) old now (λ d kept. (kept.0, is.goes.kept kept.0 kept.1, kept.2)) built.goes.any_moment) is.goes.any_moment;
-      };
-      stands = is.stands;
-    }
+module _ {config : Fields} (Ports : Type 0) (begin : Start) (f0 f1 : ℕ) (le : f0 ≤ f1) (opened start h : History) (orders : List Order) (lines : List Line) (old now then : Seen) (state state' : State) (levels levels' : List (List Parts))
+    (built : IsBuilt config Ports begin f0 opened start orders lines h old now state levels) where
+  abbrev Then : Course
+  Then = course Ports begin f1 then.moment
 
--- the same when nothing was answered
-pub built_still : {config : Fields} (before f0 f1 : ℕ) (opened start h : History) (orders : List Order) (lines : List Line) (old now then : Seen) (journal journal' : Journal) → f0 ≤ f1
-    → IsBuilt config (record { before = before; now = f0 }) opened start orders lines h old now journal → GoesOn opened h h now then → IsOn config (record { before = before; now = f1 }) opened h then journal'
-    → IsBuilt config (record { before = before; now = f1 }) opened start orders lines h old then journal'
-built_still before f0 f1 opened start h orders lines old now then journal journal' le built goes stands = record {
-  begins = built.begins;
-  answered = subst (λ x. Answered (told_of x before f1) orders lines) (append-nil h) (answered_before h [] (subst IsLegal (sym (append-nil h)) stands.stands.legal) before f0 f1 le orders lines built.answered);
-  alone = built.alone;
-  goes = record { kept = built.goes.kept; any_moment = goes_then (IsKeptFor opened h) old now then built.goes.any_moment goes.any_moment };
-  stands = stands;
-}
+  pub built_more : (g : History) (order : Order) (reply : Reply) → IsAnswered config Ports begin f1 opened h g order.caller order.act reply now then state' levels'
+      → IsBuilt config Ports begin f1 opened start (orders ++ order ∷ []) (lines ++ line.Answer order.caller reply ∷ []) g old then state' levels'
+  built_more g order reply is =
+      let more = is.grows.0 in
+      let whole = is.grows.1 in
+      let legal = is.stands.stands.legal in
+      let on = is.goes.any_moment.later in
+      record {
+        begins = (built.begins.0 ++ more, whole ∙ ap (λ l. l ++ more) built.begins.1 ∙ append_assoc start built.begins.0 more);
+        answered = answered_more (told_of g Then) orders lines order reply
+            (subst (λ x. Answered (told_of x Then) orders lines) (sym whole) (answered_before h more (subst IsLegal whole legal) Ports begin f0 f1 now.moment then.moment le on orders lines built.answered)) is.answers;
+        alone = in_turn_more Then (length start) lines (length h) (length g) order.caller reply (in_turn_later Ports begin f0 f1 now.moment then.moment on (length start) (length h) lines built.alone) is.follows;
+        goes = record {
+          kept = λ k cut. is.goes.kept k (built.goes.kept k cut);
+          any_moment = goes_then (IsKeptFor opened g) old now then
+              (goes_weaker (IsKeptFor opened h) (IsKeptFor opened g) old now (λ d kept. (kept.0, is.goes.kept kept.0 kept.1, kept.2)) built.goes.any_moment) is.goes.any_moment;
+        };
+        stands = is.stands;
+      }
+
+  -- the same when nothing was answered
+  pub built_still : GoesOn opened h h now then → IsOn config Ports begin f1 opened h then state' levels' → IsBuilt config Ports begin f1 opened start orders lines h old then state' levels'
+  built_still goes stands =
+      let on = goes.any_moment.later in
+      record {
+        begins = built.begins;
+        answered = subst (λ x. Answered (told_of x Then) orders lines) (append-nil h) (answered_before h [] (subst IsLegal (sym (append-nil h)) stands.stands.legal) Ports begin f0 f1 now.moment then.moment le on orders lines built.answered);
+        alone = in_turn_later Ports begin f0 f1 now.moment then.moment on (length start) (length h) lines built.alone;
+        goes = record { kept = built.goes.kept; any_moment = goes_then (IsKeptFor opened h) old now then built.goes.any_moment goes.any_moment };
+        stands = stands;
+      }
 
 -- ---- what follows from lines in turn
 
-module _ (caller : ℕ) (p : Line → Bool) where
+module _ (c : Course) (caller : ℕ) (p : Line → Bool) where
   -- whoever they are, the lines that a test picks see all that stood before
-  picked : (b : Bool) (seen n m next : ℕ) (reply : Reply) (lines : List Line) → seen ≤ n → Follows n reply next → next ≤ m
+  picked : (b : Bool) (seen n m next : ℕ) (reply : Reply) (lines : List Line) → seen ≤ n → Follows c n reply next → next ≤ m
       → ((seen : ℕ) → seen ≤ next → Sees seen m (filter p lines)) → Sees seen m (cond b (line.Answer caller reply ∷ filter p lines) (filter p lines))
   picked false seen n m next (Done place) lines le f end rest = rest seen (omega arith)
   picked false seen n m next (Got point held) lines le f end rest = rest seen (omega arith)
@@ -146,87 +188,97 @@ module _ (caller : ℕ) (p : Line → Bool) where
   picked false seen n m next (Counted point stat) lines le f end rest = rest seen (omega arith)
   picked false seen n m next (Fault place b a) lines le f end rest = rest seen (omega arith)
   picked false seen n m next (Stopped at) lines le f end rest = rest seen (omega arith)
-  picked false seen n m next (Exhausted last) lines le f end rest = rest seen (omega arith)
+  picked false seen n m next (Exhausted last) lines le f end rest = let same = f.1 in rest seen (omega (arith, same))
+  picked false seen n m next ReadFault lines le f end rest = rest seen (omega arith)
+  picked false seen n m next (Damaged page) lines le f end rest = rest seen (omega arith)
   picked true seen n m next (Done place) lines le f end rest = (omega arith, omega arith, rest (max seen place) (omega arith))
   picked true seen n m next (Got point held) lines le f end rest = (omega arith, omega arith, rest (max seen point) (omega arith))
   picked true seen n m next (Scanned point pairs) lines le f end rest = (omega arith, omega arith, rest (max seen point) (omega arith))
   picked true seen n m next (Counted point stat) lines le f end rest = (omega arith, omega arith, rest (max seen point) (omega arith))
   picked true seen n m next (Fault place b a) lines le f end rest = (omega arith, omega arith, rest (max seen place) (omega arith))
   picked true seen n m next (Stopped at) lines le f end rest = (tt, omega arith, rest (max seen 0) (omega arith))
-  picked true seen n m next (Exhausted last) lines le f end rest = (tt, omega arith, rest (max seen 0) (omega arith))
+  picked true seen n m next (Exhausted last) lines le f end rest = let same = f.1 in (tt, omega (arith, same), rest (max seen 0) (omega (arith, same)))
+  picked true seen n m next ReadFault lines le f end rest = (tt, omega arith, rest (max seen 0) (omega arith))
+  picked true seen n m next (Damaged page) lines le f end rest = (tt, omega arith, rest (max seen 0) (omega arith))
 
-follows_up : (n m : ℕ) (reply : Reply) → Follows n reply m → n ≤ m
-follows_up n m (Done place) f = omega arith
-follows_up n m (Got point held) f = omega arith
-follows_up n m (Scanned point pairs) f = omega arith
-follows_up n m (Counted point stat) f = omega arith
-follows_up n m (Fault place b a) f = omega arith
-follows_up n m (Stopped at) f = omega arith
-follows_up n m (Exhausted last) f = omega arith
+module _ (c : Course) where
+  follows_up : (n m : ℕ) (reply : Reply) → Follows c n reply m → n ≤ m
+  follows_up n m (Done place) f = omega arith
+  follows_up n m (Got point held) f = omega arith
+  follows_up n m (Scanned point pairs) f = omega arith
+  follows_up n m (Counted point stat) f = omega arith
+  follows_up n m (Fault place b a) f = omega arith
+  follows_up n m (Stopped at) f = omega arith
+  follows_up n m (Exhausted last) f = let same = f.1 in omega (arith, same)
+  follows_up n m ReadFault f = omega arith
+  follows_up n m (Damaged page) f = omega arith
 
-in_turn_up : (n m : ℕ) (lines : List Line) → InTurn n lines m → n ≤ m
-in_turn_up n m [] t = omega arith
-in_turn_up n m (line.Answer caller reply ∷ lines) t = omega (arith, follows_up n t.0 reply t.1, in_turn_up t.0 m lines t.2)
+  in_turn_up : (n m : ℕ) (lines : List Line) → InTurn c n lines m → n ≤ m
+  in_turn_up n m [] t = omega arith
+  in_turn_up n m (line.Answer caller reply ∷ lines) t = omega (arith, follows_up n t.0 reply t.1, in_turn_up t.0 m lines t.2)
 
-sees_in_turn : (p : Line → Bool) (seen n m : ℕ) (lines : List Line) → seen ≤ n → InTurn n lines m → Sees seen m (filter p lines)
-sees_in_turn p seen n m [] le t = tt
-sees_in_turn p seen n m (line.Answer caller reply ∷ lines) le t =
-    picked caller p (p (line.Answer caller reply)) seen n m t.0 reply lines le t.1 (in_turn_up t.0 m lines t.2) (λ seen le. sees_in_turn p seen t.0 m lines le t.2)
+  sees_in_turn : (p : Line → Bool) (seen n m : ℕ) (lines : List Line) → seen ≤ n → InTurn c n lines m → Sees seen m (filter p lines)
+  sees_in_turn p seen n m [] le t = tt
+  sees_in_turn p seen n m (line.Answer caller reply ∷ lines) le t =
+      picked c caller p (p (line.Answer caller reply)) seen n m t.0 reply lines le t.1 (in_turn_up t.0 m lines t.2) (λ seen le. sees_in_turn p seen t.0 m lines le t.2)
 
-place_taken : (n next m place : ℕ) (lines : List Line) → (place ≡ suc n) → (next ≡ suc n) → next ≤ m → filter_map place_of lines ≡ places_behind next (m - next) → place ∷ filter_map place_of lines ≡ places_behind n (m - n)
-place_taken n next m place lines at step end rest =
-    let more : m - n ≡ suc (m - suc n) = omega (arith, step, end) in
-    let behind : filter_map place_of lines ≡ places_behind (suc n) (m - suc n) = rest ∙ ap (λ k. places_behind k (m - k)) step in
-    ap (λ k. k ∷ filter_map place_of lines) at ∙ ap (λ l. suc n ∷ l) behind ∙ ap (places_behind n) (sym more)
+  place_taken : (n next m place : ℕ) (lines : List Line) → (place ≡ suc n) → (next ≡ suc n) → next ≤ m → filter_map place_of lines ≡ places_behind next (m - next) → place ∷ filter_map place_of lines ≡ places_behind n (m - n)
+  place_taken n next m place lines at step end rest =
+      let more : m - n ≡ suc (m - suc n) = omega (arith, step, end) in
+      let behind : filter_map place_of lines ≡ places_behind (suc n) (m - suc n) = rest ∙ ap (λ k. places_behind k (m - k)) step in
+      ap (λ k. k ∷ filter_map place_of lines) at ∙ ap (λ l. suc n ∷ l) behind ∙ ap (places_behind n) (sym more)
 
-place_next : (n next m : ℕ) (caller : ℕ) (reply : Reply) (lines : List Line) → Follows n reply next → next ≤ m → filter_map place_of lines ≡ places_behind next (m - next)
-    → filter_map place_of (line.Answer caller reply ∷ lines) ≡ places_behind n (m - n)
-place_next n next m caller (Done place) lines f end rest = place_taken n next m place lines f.0 f.1 end rest
-place_next n next m caller (Fault place b a) lines f end rest = place_taken n next m place lines f.0 f.1 end rest
-place_next n next m caller (Got point held) lines f end rest = rest ∙ ap (λ k. places_behind k (m - k)) f.1
-place_next n next m caller (Scanned point pairs) lines f end rest = rest ∙ ap (λ k. places_behind k (m - k)) f.1
-place_next n next m caller (Counted point stat) lines f end rest = rest ∙ ap (λ k. places_behind k (m - k)) f.1
-place_next n next m caller (Stopped at) lines f end rest = rest ∙ ap (λ k. places_behind k (m - k)) f.1
-place_next n next m caller (Exhausted last) lines f end rest = rest ∙ ap (λ k. places_behind k (m - k)) f.1
+  place_next : (n next m : ℕ) (caller : ℕ) (reply : Reply) (lines : List Line) → Follows c n reply next → next ≤ m → filter_map place_of lines ≡ places_behind next (m - next)
+      → filter_map place_of (line.Answer caller reply ∷ lines) ≡ places_behind n (m - n)
+  place_next n next m caller (Done place) lines f end rest = place_taken n next m place lines f.0 f.1 end rest
+  place_next n next m caller (Fault place b a) lines f end rest = place_taken n next m place lines f.0 f.1 end rest
+  place_next n next m caller (Got point held) lines f end rest = rest ∙ ap (λ k. places_behind k (m - k)) f.1
+  place_next n next m caller (Scanned point pairs) lines f end rest = rest ∙ ap (λ k. places_behind k (m - k)) f.1
+  place_next n next m caller (Counted point stat) lines f end rest = rest ∙ ap (λ k. places_behind k (m - k)) f.1
+  place_next n next m caller (Stopped at) lines f end rest = rest ∙ ap (λ k. places_behind k (m - k)) f.1
+  place_next n next m caller (Exhausted last) lines f end rest = rest ∙ ap (λ k. places_behind k (m - k)) f.1
+  place_next n next m caller ReadFault lines f end rest = rest ∙ ap (λ k. places_behind k (m - k)) f
+  place_next n next m caller (Damaged page) lines f end rest = rest ∙ ap (λ k. places_behind k (m - k)) f
 
-places_in_turn : (n m : ℕ) (lines : List Line) → InTurn n lines m → filter_map place_of lines ≡ places_behind n (m - n)
-places_in_turn n m [] t = let none : m - n ≡ 0 = omega arith in ap (places_behind n) (sym none)
-places_in_turn n m (line.Answer caller reply ∷ lines) t =
-    place_next n t.0 m caller reply lines t.1 (in_turn_up t.0 m lines t.2) (places_in_turn t.0 m lines t.2)
+  places_in_turn : (n m : ℕ) (lines : List Line) → InTurn c n lines m → filter_map place_of lines ≡ places_behind n (m - n)
+  places_in_turn n m [] t = let none : m - n ≡ 0 = omega arith in ap (places_behind n) (sym none)
+  places_in_turn n m (line.Answer caller reply ∷ lines) t =
+      place_next n t.0 m caller reply lines t.1 (in_turn_up t.0 m lines t.2) (places_in_turn t.0 m lines t.2)
 
 -- the lines of a whole phase
-pub phase_of : {config : Fields} (faults : Faults) (opened start h : History) (orders : List Order) (lines : List Line) (old now : Seen) (journal : Journal) → IsBuilt config faults opened start orders lines h old now journal
-    → IsPhase config faults opened start h orders lines old now journal
-phase_of faults opened start h orders lines old now journal built = record {
+pub phase_of : {config : Fields} (Ports : Type 0) (begin : Start) (faults : ℕ) (opened start h : History) (orders : List Order) (lines : List Line) (old now : Seen) (state : State) (levels : List (List Parts)) → IsBuilt config Ports begin faults opened start orders lines h old now state levels
+    → IsPhase config Ports begin faults opened start h orders lines old now state levels
+phase_of Ports begin faults opened start h orders lines old now state levels built = record {
   served = record {
     begins = built.begins;
     legal = built.stands.stands.legal;
     answered = built.answered;
-    once = subst (λ l. IsPermutation (places_behind (length start) (length h - length start)) l) (sym (places_in_turn (length start) (length h) lines built.alone)) (IsPermutation-refl (places_behind (length start) (length h - length start)));
-    seen = λ caller. sees_in_turn (is_of caller) (length start) (length start) (length h) lines (omega arith) built.alone;
+    once = subst (λ l. IsPermutation (places_behind (length start) (length h - length start)) l) (sym (places_in_turn (course Ports begin faults now.moment) (length start) (length h) lines built.alone)) (IsPermutation-refl (places_behind (length start) (length h - length start)));
+    seen = λ caller. sees_in_turn (course Ports begin faults now.moment) (is_of caller) (length start) (length start) (length h) lines (omega arith) built.alone;
     alone = built.alone;
   };
   goes = built.goes;
   stands = built.stands;
 }
 
-pub built_start : {config : Fields} (faults : Faults) (opened start : History) (disk : Seen) (journal : Journal) → IsOn config faults opened start disk journal → IsBuilt config faults opened start [] [] start disk disk journal
-built_start faults opened start disk journal on = record { begins = ([], sym (append-nil start)); answered = tt; alone = refl; goes = goes_still faults opened start disk journal on; stands = on }
+pub built_start : {config : Fields} (Ports : Type 0) (begin : Start) (faults : ℕ) (opened start : History) (disk : Seen) (state : State) (levels : List (List Parts)) → IsOn config Ports begin faults opened start disk state levels → IsBuilt config Ports begin faults opened start [] [] start disk disk state levels
+built_start Ports begin faults opened start disk state levels on = record { begins = ([], sym (append-nil start)); answered = tt; alone = refl; goes = goes_still Ports begin faults opened start disk state levels on; stands = on }
 
--- the same when the count of faults has risen
+-- the same when the counts have risen
 
-phase_later : (from f0 f1 : ℕ) → f0 ≤ f1 → (start h : History) (orders : List Order) (lines : List Line) → IsServed (record { before = from; now = f0 }) start orders lines h → IsServed (record { before = from; now = f1 }) start orders lines h
-phase_later from f0 f1 le start h orders lines served = record {
-  begins = served.begins;
-  legal = served.legal;
-  answered = subst (λ x. Answered (told_of x from f1) orders lines) (append-nil h) (answered_before h [] (subst IsLegal (sym (append-nil h)) served.legal) from f0 f1 le orders lines served.answered);
-  once = served.once;
-  seen = served.seen;
-  alone = served.alone;
-}
+module _ (Ports : Type 0) (begin : Start) (f0 f1 m0 m1 : ℕ) (le : f0 ≤ f1) (on : m0 ≤ m1) where
+  phase_later : (start h : History) (orders : List Order) (lines : List Line) → IsServed (course Ports begin f0 m0) start orders lines h → IsServed (course Ports begin f1 m1) start orders lines h
+  phase_later start h orders lines served = record {
+    begins = served.begins;
+    legal = served.legal;
+    answered = subst (λ x. Answered (told_of x (course Ports begin f1 m1)) orders lines) (append-nil h) (answered_before h [] (subst IsLegal (sym (append-nil h)) served.legal) Ports begin f0 f1 m0 m1 le on orders lines served.answered);
+    once = served.once;
+    seen = served.seen;
+    alone = in_turn_later Ports begin f0 f1 m0 m1 on (length start) (length h) lines served.alone;
+  }
 
-pub served_later : (from f0 f1 : ℕ) → f0 ≤ f1 → (start h : History) (phases : List (List Order)) (lines : List (List Line)) → AreServed (record { before = from; now = f0 }) start phases lines h → AreServed (record { before = from; now = f1 }) start phases lines h
-served_later from f0 f1 le start h [] [] served = served
-served_later from f0 f1 le start h [] (l ∷ lines) served = absurd served
-served_later from f0 f1 le start h (p ∷ phases) [] served = absurd served
-served_later from f0 f1 le start h (p ∷ phases) (l ∷ lines) served = (served.0, phase_later from f0 f1 le start served.0 p l served.1, served_later from f0 f1 le served.0 h phases lines served.2)
+  pub served_later : (start h : History) (phases : List (List Order)) (lines : List (List Line)) → AreServed (course Ports begin f0 m0) start phases lines h → AreServed (course Ports begin f1 m1) start phases lines h
+  served_later start h [] [] served = served
+  served_later start h [] (l ∷ lines) served = absurd served
+  served_later start h (p ∷ phases) [] served = absurd served
+  served_later start h (p ∷ phases) (l ∷ lines) served = (served.0, phase_later start served.0 p l served.1, served_later served.0 h phases lines served.2)

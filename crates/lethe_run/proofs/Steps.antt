@@ -1,42 +1,45 @@
 -- One order is answered.
-use Rattle.std.proofs.Common.{◌≡◌, inl, inr, ◌≤◌, ℕ, suc, ◌+◌, [], ◌∷◌, ◌++◌, length, Option, Some, None, Result, Ok, Err, IsSomeAnd, refl, sym, ap, ◌∙◌, subst, arith, add-one, append_assoc, append-nil}
+use Rattle.std.proofs.Common.{◌≡◌, ◌⊎◌, inl, inr, ◌≤◌, ℕ, suc, ◌+◌, List, [], ◌∷◌, ◌++◌, length, Option, Some, None, Result, Ok, Err, IsSomeAnd, refl, sym, ap, ◌∙◌, subst, arith, add-one, append_assoc, append-nil}
 use Rattle.std.specs.Prelude.{IsSome, IfOk, IfErr, MatchResult}
 use Rattle.std.proofs.lemmas.List.{length-append, take_all}
 use Rattle.lethe_base.specs.Keys.{Bytes}
 use Rattle.lethe_base.specs.Counts.{Rose}
-use Rattle.lethe_base.specs.Limits.{max_place}
 use Rattle.lethe_base.specs.History.{History, Change, change_at, AreDone, IsLegal, after}
+use Rattle.lethe_base.specs.Limits.{max_place}
 use Rattle.lethe_base.specs.Read.{Read, Answer, answer}
 use Rattle.lethe_base.specs.declared.call.Call.{Call}
 use Rattle.lethe_base.specs.declared.config.Fields.{Fields}
 use Rattle.lethe_base.specs.declared.call.Call.TheVariants.{Put, Delete, Work}
 use Rattle.lethe_base.specs.declared.call.Did.TheVariants.{Done, Failed}
 use Rattle.lethe_base.specs.declared.memory.NoMemory.{NoMemory}
+use Rattle.lethe_base.specs.declared.name.Name.{Name}
 use Rattle.lethe_base.specs.declared.refused.Refused.{Refused}
 use Rattle.lethe_base.specs.declared.refused.Refused.TheVariants as refused
 use Rattle.lethe_base.proofs.Histories.{change_at-push, done_push}
 use Rattle.lethe_cover.specs.Steps.{with_done, with_failed}
 use Rattle.lethe_disk.specs.Disk.{Seen}
-use Rattle.lethe_engine.specs.declared.journal.Journal.{Journal}
+use Rattle.lethe_state.specs.Room.{frozen_len}
+use Rattle.lethe_state.specs.declared.state.State.{State}
 use Rattle.lethe_engine.specs.Changes.{HasReason, done_by, answered_to, written_by}
+use Rattle.lethe_engine.specs.Changes as changing
+use Rattle.lethe_engine.specs.Reads.{IsReadRefusal}
 use Rattle.lethe_engine.specs.declared.telling.Stat.{Stat}
-use Rattle.lethe_engine.specs.Stats.{stat_in}
-use Rattle.lethe_engine.specs.StandsFor.{IsOpen, IsOpenOrStopped, StandsFor}
+use Rattle.lethe_engine.specs.Sound.{IsSound}
+use Rattle.lethe_engine.specs.StandsFor.{IsOpenOrStopped, StandsFor}
 use Rattle.lethe_disk.specs.Goes.{Goes}
+use Rattle.lethe_stored.specs.Files.{Parts}
 use Rattle.lethe_stored.specs.Kept.{IsKept}
 use Rattle.lethe_stored.specs.Left.{IsKeptOr}
+use Rattle.lethe_stored.specs.Stored.{Stored}
 use Rattle.lethe_disk.proofs.Going.{goes_weaker}
 use Rattle.lethe_script.specs.declared.order.Act.{Act}
 use Rattle.lethe_run.specs.declared.reply.Reply.{Reply}
 use Rattle.lethe_run.specs.declared.reply.Reply.TheVariants as reply
-use Rattle.lethe_run.specs.Replies.{reply_of}
+use Rattle.lethe_run.specs.Replies.{reply_of, unread_of}
 use Rattle.lethe_run.specs.Serving.{IsKeptFor, IsOn, GoesOn, IsAnswered}
-use Rattle.lethe_run.specs.Transcript.{Faults, IsFailedAt, IsFaultOf, WasStopped, Answers, Follows, call_of, IsAnswerAt, IsStatAt}
+use Rattle.lethe_run.specs.Transcript.{Course, Start, Told, IsShort, course, IsFailedAt, IsFaultOf, WasStopped, Answers, Follows, call_of, read_of, IsAnswerAt, IsStatAt}
 use Rattle.lethe_run.proofs.Cuts.{cut_itself, cut_longer, cut_done, cut_failed}
 use Rattle.lethe_run.proofs.Images.{goes_still}
-
-abbrev counts : ℕ → ℕ → Faults
-counts before now = record { before = before; now = now }
 
 -- what is known of a result
 pub ok_of : {T E : Type 0} (P : T → Type 0) (r : Result T E) → IfOk r P → (x : T) → r ≡ Ok x → P x
@@ -52,22 +55,26 @@ pub delete_works : (key : Bytes) → Delete key ≡ Work → ⊥
 delete_works key e = cc
 
 -- a store whose changes are done wasn't stopped
-done_runs : (config : Fields) (h : History) (disk : Seen) (journal : Journal) (at : ℕ) → AreDone h → IsOpenOrStopped config h disk journal (Some at) → ⊥
-done_runs config h disk journal at done now = clash now.faults_before now.faults (sym (done (suc (length now.before)) now.change (ap (λ x. change_at x (suc (length now.before))) now.history ∙ change_at-push now.before now.change)) ∙ now.failed)
+done_runs : (h : History) (disk : Seen) (s : Stored) (state : State) (at : ℕ) → AreDone h → IsOpenOrStopped disk h s state (Some at) → ⊥
+done_runs h disk s state at done now = clash now.faults_before now.faults (sym (done (suc (length now.before)) now.change (ap (λ x. change_at x (suc (length now.before))) now.history ∙ change_at-push now.before now.change)) ∙ now.failed)
   where
     clash : (before after : ℕ) → Done ≡ Failed before after → ⊥
     clash before after e = cc
 
+-- a frozen buffer is none or no greater than a configuration lets it be
+pub few_frozen : (Tells : Type 0) (disk : Seen) (state : State) (levels : List (List Parts)) → IsSound Tells disk state levels → frozen_len state.frozen ≤ 16384
+few_frozen Tells disk state levels sound = let few = sound.small.frozen in let most = sound.writable.manifest.config.buffer.1 in omega (arith, few, most)
+
+abbrev told_of : History → Course → Told
+told_of h c = record { history = h; course = c }
+
 -- a failed change stays one when the count of faults rises
-stopped_later : (h : History) (before now later at : ℕ) → now ≤ later → WasStopped (record { history = h; before = before; now = now }) at → WasStopped (record { history = h; before = before; now = later }) at
-stopped_later h before now later at le was = record {
+stopped_later : (Ports : Type 0) (begin : Start) (h : History) (now moment later behind at : ℕ) → now ≤ later → WasStopped (told_of h (course Ports begin now moment)) at → WasStopped (told_of h (course Ports begin later behind)) at
+stopped_later Ports begin h now moment later behind at le was = record {
   before = was.before;
   after = was.after;
   fails = record { change = was.fails.change; is = was.fails.is; failed = was.fails.failed; rose = was.fails.rose; from = was.fails.from; upto = let upto = was.fails.upto in omega (arith, upto, le) };
 }
-
-pub on_later : {config : Fields} (before now later : ℕ) (opened h : History) (disk : Seen) (journal : Journal) → now ≤ later → IsOn config (counts before now) opened h disk journal → IsOn config (counts before later) opened h disk journal
-on_later before now later opened h disk journal le on = record { begins = on.begins; done = on.done; stands = on.stands; stopped = λ at is. stopped_later h before now later at le (on.stopped at is) }
 
 longer : (h : History) (change : Change) → length (h ++ change ∷ []) ≡ suc (length h)
 longer h change = omega (arith, length-append h (change ∷ []))
@@ -79,35 +86,62 @@ asked : (act : Act) (call : Call) → call_of act ≡ Some call → IsSome (call
 asked act call is = subst IsSome (sym is) refl
 
 -- what comes of an act
-abbrev pub Outcome : Fields → ℕ → ℕ → History → History → ℕ → Act → Result Reply NoMemory → Seen → Seen → Journal → Type 0
-Outcome config before now opened h caller act result old new journal' = MatchResult result
-    (λ reply. (g : History) × IsAnswered config (counts before now) opened h g caller act reply old new journal')
-    (λ why. GoesOn opened h h old new × IsOn config (counts before now) opened h new journal')
+abbrev pub Outcome : Fields → Type 0 → Start → ℕ → History → History → ℕ → Act → Result Reply NoMemory → Seen → Seen → State → List (List Parts) → Type 0
+Outcome config Ports begin faults opened h caller act result old new state' levels' = MatchResult result
+    (λ reply. (g : History) × IsAnswered config Ports begin faults opened h g caller act reply old new state' levels')
+    (λ why. GoesOn opened h h old new × IsOn config Ports begin faults opened h new state' levels')
 
 -- A change
 
-module _ {config : Fields} (before f0 f1 : ℕ) (opened h : History) (caller : ℕ) (act : Act) (call : Call) (is : call_of act ≡ Some call) (works : call ≡ Work → ⊥) (old new : Seen) (journal journal' : Journal)
-    (on : IsOn config (counts before f0) opened h old journal) (from : before ≤ f0) (later : f0 ≤ f1) where
+-- nothing but counts has changed
+pub on_later : {config : Fields} (Ports : Type 0) (begin : Start) (f0 f1 : ℕ) (opened h : History) (old new : Seen) (state state' : State) (levels levels' : List (List Parts)) → f0 ≤ f1 → old.moment ≤ new.moment
+    → state'.manifest.next + old.moment ≤ state.manifest.next + new.moment → state'.stopped ≡ state.stopped → StandsFor config h new state' levels'
+    → IsOn config Ports begin f0 opened h old state levels → IsOn config Ports begin f1 opened h new state' levels'
+on_later Ports begin f0 f1 opened h old new state state' levels levels' le goes numbers same stands on = record {
+  begins = on.begins;
+  done = on.done;
+  stands = stands;
+  stopped = λ at is. stopped_later Ports begin h f0 old.moment f1 new.moment at le (on.stopped at (sym same ∙ is));
+  faults_since = let low = on.faults_since in omega (arith, low, le);
+  moment_since = let low = on.moment_since in omega (arith, low, goes);
+  drawn = let drawn = on.drawn in omega (arith, drawn, goes, numbers);
+}
+
+module _ {config : Fields} (Ports : Type 0) (begin : Start) (f0 f1 : ℕ) (opened h : History) (caller : ℕ) (act : Act) (call : Call) (is : call_of act ≡ Some call) (works : call ≡ Work → ⊥) (old new : Seen) (state state' : State) (levels levels' : List (List Parts))
+    (on : IsOn config Ports begin f0 opened h old state levels) (later : f0 ≤ f1)
+    (numbers : state'.manifest.next + old.moment ≤ state.manifest.next + new.moment) (small : frozen_len state.frozen ≤ 16384) where
+  abbrev Now : Course
+  Now = course Ports begin f1 new.moment
+
   abbrev Still : Type 0
-  Still = GoesOn opened h h old new × IsOn config (counts before f1) opened h new journal'
+  Still = GoesOn opened h h old new × IsOn config Ports begin f1 opened h new state' levels'
+
+  faults_since : begin.faults ≤ f1
+  faults_since = let low = on.faults_since in omega (arith, low, later)
+
+  moment_since : old.moment ≤ new.moment → begin.moment ≤ new.moment
+  moment_since goes = let low = on.moment_since in omega (arith, low, goes)
+
+  drawn : old.moment ≤ new.moment → state'.manifest.next + begin.moment ≤ begin.next + new.moment
+  drawn goes = let before = on.drawn in omega (arith, before, goes, numbers)
+
+  short : old.moment ≤ new.moment → changing.IsShort state → IsShort Now
+  short goes few = let before = on.drawn in let low = on.moment_since in omega (arith, before, low, goes, few, small)
 
   -- it wasn't begun
-  not_made : (r : Reply) → Still → Answers (record { history = h; before = before; now = f1 }) caller act r → Follows (length h) r (length h) → (g : History) × IsAnswered config (counts before f1) opened h g caller act r old new journal'
+  not_made : (r : Reply) → Still → Answers (told_of h Now) caller act r → Follows Now (length h) r (length h) → (g : History) × IsAnswered config Ports begin f1 opened h g caller act r old new state' levels'
   not_made r still what follows = (h, record { grows = ([], sym (append-nil h)); answers = what; follows = follows; goes = still.0; stands = still.1 })
 
-  module _ (now : IsOpen config h old journal) where
+  module _ (done : AreDone h) where
     legal : IsLegal h
     legal = on.stands.legal
 
-    done : AreDone h
-    done = now.stands.done
-
-    made : (place : ℕ) → place ≡ journal.count + 1 → StandsFor config (with_done h caller call) new journal' → Goes (IsKeptOr h (Some (done_by caller call))) old new
-        → (g : History) × IsAnswered config (counts before f1) opened h g caller act (reply.Done place) old new journal'
+    made : (place : ℕ) → place ≡ state.count + 1 → StandsFor config (with_done h caller call) new state' levels' → Goes (IsKeptOr h (Some (done_by caller call))) old new
+        → (g : History) × IsAnswered config Ports begin f1 opened h g caller act (reply.Done place) old new state' levels'
     made place place_is stands run =
         let change = done_by caller call in
         let g : History = with_done h caller call in
-        let at : place ≡ suc (length h) = place_is ∙ add-one journal.count ∙ ap suc on.stands.count in
+        let at : place ≡ suc (length h) = place_is ∙ add-one state.count ∙ ap suc on.stands.count in
         let g_done : AreDone g = done_push h change done refl in
         let cut = cut_done opened h change done refl on.begins in (
           g,
@@ -126,30 +160,33 @@ module _ {config : Fields} (before f0 f1 : ℕ) (opened h : History) (caller : �
               begins = begins_on opened h change on.begins;
               done = on.done;
               stands = stands;
-              stopped = λ n stop. absurd (done_runs config g new journal' n g_done (subst (IsOpenOrStopped config g new journal') stop stands.held));
+              stopped = λ n stop. absurd (done_runs g new stands.stored state' n g_done (subst (IsOpenOrStopped new g stands.stored state') stop stands.held));
+              faults_since = faults_since;
+              moment_since = moment_since run.later;
+              drawn = drawn run.later;
             };
           },
         )
 
-    failed : (place b a : ℕ) → place ≡ journal.count + 1 → b ≡ f0 → a ≡ f1 → Rose f0 f1 → StandsFor config (with_failed h caller call b a) new journal' → Goes (IsKeptOr h (Some (done_by caller call))) old new
-        → (g : History) × IsAnswered config (counts before f1) opened h g caller act (reply.Fault place b a) old new journal'
+    failed : (place b a : ℕ) → place ≡ state.count + 1 → b ≡ f0 → a ≡ f1 → Rose f0 f1 → StandsFor config (with_failed h caller call b a) new state' levels' → Goes (IsKeptOr h (Some (done_by caller call))) old new
+        → (g : History) × IsAnswered config Ports begin f1 opened h g caller act (reply.Fault place b a) old new state' levels'
     failed place b a place_is b_is a_is rose stands run =
         let change : Change = record { caller = caller; call = call; did = Failed b a } in
         let g : History = with_failed h caller call b a in
-        let at : place ≡ suc (length h) = place_is ∙ add-one journal.count ∙ ap suc on.stands.count in
-        let fails : IsFailedAt (record { history = g; before = before; now = f1 }) place b a = record {
+        let at : place ≡ suc (length h) = place_is ∙ add-one state.count ∙ ap suc on.stands.count in
+        let fails : IsFailedAt (told_of g Now) place b a = record {
           change = change;
           is = ap (change_at g) at ∙ change_at-push h change;
           failed = refl;
           rose = subst (λ n. Rose n a) (sym b_is) (subst (Rose f0) (sym a_is) rose);
-          from = omega (arith, from, b_is);
+          from = let from = on.faults_since in omega (arith, from, b_is);
           upto = omega (arith, a_is);
         } in
         let cut = cut_failed opened h change legal done works on.begins in (
           g,
           record {
             grows = (change ∷ [], refl);
-            answers = subst (λ asks. IsSomeAnd asks (IsFaultOf (record { history = g; before = before; now = f1 }) caller place b a)) (sym is) (record { fails = fails; who = refl; what = refl });
+            answers = subst (λ asks. IsSomeAnd asks (IsFaultOf (told_of g Now) caller place b a)) (sym is) (record { fails = fails; who = refl; what = refl });
             follows = (at, longer h change);
             goes = record {
               kept = cut_longer opened h (change ∷ []) legal done;
@@ -163,72 +200,94 @@ module _ {config : Fields} (before f0 f1 : ℕ) (opened h : History) (caller : �
               done = on.done;
               stands = stands;
               stopped = λ n stop.
-                  let held = subst (IsOpenOrStopped config g new journal') stop stands.held in
+                  let held = subst (IsOpenOrStopped new g stands.stored state') stop stands.held in
                   let n_is : n ≡ place = held.place ∙ longer h change ∙ sym at in
-                  subst (WasStopped (record { history = g; before = before; now = f1 })) (sym n_is) (record { before = b; after = a; fails = fails });
+                  subst (WasStopped (told_of g Now)) (sym n_is) (record { before = b; after = a; fails = fails });
+              faults_since = faults_since;
+              moment_since = moment_since run.later;
+              drawn = drawn run.later;
             };
           },
         )
 
-    no_memory : StandsFor config h new journal' → Goes (IsKeptOr h None) old new → GoesOn opened h h old new × IsOn config (counts before f1) opened h new journal'
-    no_memory stands run = (
+    -- what was done for it stands for the same history
+    unmade : StandsFor config h new state' levels' → Goes (IsKeptOr h None) old new → Still
+    unmade stands run = (
       record { kept = λ k cut. cut; any_moment = goes_weaker (IsKeptOr h None) (IsKeptFor opened h) old new (λ d kept. (h, cut_itself opened h done on.begins, subst (IsKept d) kept.1 kept.2)) run },
-      record { begins = on.begins; done = on.done; stands = stands; stopped = λ n stop. absurd (done_runs config h new journal' n done (subst (IsOpenOrStopped config h new journal') stop stands.held)) },
+      record {
+        begins = on.begins;
+        done = on.done;
+        stands = stands;
+        stopped = λ n stop. absurd (done_runs h new stands.stored state' n done (subst (IsOpenOrStopped new h stands.stored state') stop stands.held));
+        faults_since = faults_since;
+        moment_since = moment_since run.later;
+        drawn = drawn run.later;
+      },
     )
 
-  none_some : (at : ℕ) → journal.stopped ≡ None → journal.stopped ≡ Some at → ⊥
+    exhausted : (last : ℕ) → StandsFor config h new state' levels' → Goes (IsKeptOr h None) old new → last ≡ max_place → (state.count ≡ max_place) ⊎ changing.IsShort state
+        → (g : History) × IsAnswered config Ports begin f1 opened h g caller act (reply.Exhausted last) old new state' levels'
+    exhausted last stands run last_is (inl full) =
+        let all : length h ≡ max_place = sym on.stands.count ∙ full in
+        not_made (reply.Exhausted last) (unmade stands run) (asked act call is, (last_is, inl all)) (inl (all ∙ sym last_is), refl)
+    exhausted last stands run last_is (inr few) = not_made (reply.Exhausted last) (unmade stands run) (asked act call is, (last_is, inr (short run.later few))) (inr (short run.later few), refl)
+
+  none_some : (at : ℕ) → state.stopped ≡ None → state.stopped ≡ Some at → ⊥
   none_some at a b = let clash : None ≡ Some at = sym a ∙ b in cc
 
-  open_made : (result : Result ℕ Refused) → IsOpen config h old journal → journal.stopped ≡ None → StandsFor config (answered_to h caller call result) new journal' → ((place : ℕ) → result ≡ Ok place → place ≡ journal.count + 1)
-      → ((why : Refused) → result ≡ Err why → HasReason journal f0 f1 why) → Goes (IsKeptOr h (written_by caller call result)) old new → (journal.count ≡ max_place → Still) → Outcome config before f1 opened h caller act (reply_of result) old new journal'
-  open_made (Ok place) now runs stands place_is why run full = made now place (place_is place refl) stands run
-  open_made (Err (refused.Fault place b a)) now runs stands place_is why run full = let reason = why (refused.Fault place b a) refl in failed now place b a reason.1 reason.2 reason.3 reason.4 stands run
-  open_made (Err (refused.Stopped at)) now runs stands place_is why run full = absurd (none_some at runs (why (refused.Stopped at) refl))
-  open_made (Err (refused.Exhausted last)) now runs stands place_is why run full =
-      let reason = why (refused.Exhausted last) refl in
-      let all : length h ≡ max_place = sym on.stands.count ∙ reason.1 in
-      not_made (reply.Exhausted last) (full reason.1) (asked act call is, (reason.2, all)) (all ∙ sym reason.2, refl)
-  open_made (Err refused.NoMemory) now runs stands place_is why run full = no_memory now stands run
-  open_made (Err (refused.Backwards clock)) now runs stands place_is why run full = absurd (why (refused.Backwards clock) refl)
-  open_made (Err (refused.Pinned pin limit)) now runs stands place_is why run full = absurd (why (refused.Pinned pin limit) refl)
-  open_made (Err refused.NothingDue) now runs stands place_is why run full = absurd (why refused.NothingDue refl)
-  open_made (Err (refused.Cancelled begun other)) now runs stands place_is why run full = absurd (why (refused.Cancelled begun other) refl)
-  open_made (Err (refused.ReadFault b a)) now runs stands place_is why run full = absurd (why (refused.ReadFault b a) refl)
-  open_made (Err (refused.Damaged name)) now runs stands place_is why run full = absurd (why (refused.Damaged name) refl)
+  open_made : (result : Result ℕ Refused) → AreDone h → state.stopped ≡ None → StandsFor config (answered_to h caller call result) new state' levels' → ((place : ℕ) → result ≡ Ok place → place ≡ state.count + 1)
+      → ((why : Refused) → result ≡ Err why → HasReason state f0 f1 why) → Goes (IsKeptOr h (written_by caller call result)) old new → Outcome config Ports begin f1 opened h caller act (reply_of result) old new state' levels'
+  open_made (Ok place) done runs stands place_is why run = made done place (place_is place refl) stands run
+  open_made (Err (refused.Fault place b a)) done runs stands place_is why run = let reason = why (refused.Fault place b a) refl in failed done place b a reason.1 reason.2 reason.3 reason.4 stands run
+  open_made (Err (refused.Stopped at)) done runs stands place_is why run = absurd (none_some at runs (why (refused.Stopped at) refl))
+  open_made (Err (refused.Exhausted last)) done runs stands place_is why run = let reason = why (refused.Exhausted last) refl in exhausted done last stands run reason.1 reason.2
+  open_made (Err refused.NoMemory) done runs stands place_is why run = unmade done stands run
+  open_made (Err (refused.Backwards clock)) done runs stands place_is why run = absurd (why (refused.Backwards clock) refl)
+  open_made (Err (refused.Pinned pin limit)) done runs stands place_is why run = absurd (why (refused.Pinned pin limit) refl)
+  open_made (Err refused.NothingDue) done runs stands place_is why run = absurd (why refused.NothingDue refl)
+  open_made (Err (refused.Cancelled begun other)) done runs stands place_is why run = absurd (why (refused.Cancelled begun other) refl)
+  open_made (Err (refused.ReadFault b a)) done runs stands place_is why run = absurd (why (refused.ReadFault b a) refl)
+  open_made (Err (refused.Damaged name)) done runs stands place_is why run = absurd (why (refused.Damaged name) refl)
 
   -- a change over a store that takes changes, or over one that was stopped
-  pub changes : (result : Result ℕ Refused) → StandsFor config (answered_to h caller call result) new journal' → ((place : ℕ) → result ≡ Ok place → place ≡ journal.count + 1)
-      → ((why : Refused) → result ≡ Err why → HasReason journal f0 f1 why) → (IsOpen config h old journal → Goes (IsKeptOr h (written_by caller call result)) old new)
-      → ((at : ℕ) → journal.stopped ≡ Some at → (result ≡ Err (refused.Stopped at)) × Still) → (journal.stopped ≡ None → journal.count ≡ max_place → Still) → Outcome config before f1 opened h caller act (reply_of result) old new journal'
-  changes result stands place_is why run stop full = by journal.stopped refl
+  pub changes : (result : Result ℕ Refused) → StandsFor config (answered_to h caller call result) new state' levels' → ((place : ℕ) → result ≡ Ok place → place ≡ state.count + 1)
+      → ((why : Refused) → result ≡ Err why → HasReason state f0 f1 why) → (state.stopped ≡ None → Goes (IsKeptOr h (written_by caller call result)) old new)
+      → ((at : ℕ) → state.stopped ≡ Some at → (result ≡ Err (refused.Stopped at)) × Still) → Outcome config Ports begin f1 opened h caller act (reply_of result) old new state' levels'
+  changes result stands place_is why run stop = by state.stopped refl
     where
-      by : (stopped : Option ℕ) → journal.stopped ≡ stopped → Outcome config before f1 opened h caller act (reply_of result) old new journal'
-      by None runs = let now = subst (IsOpenOrStopped config h old journal) runs on.stands.held in open_made result now runs stands place_is why (run now) (full runs)
+      by : (stopped : Option ℕ) → state.stopped ≡ stopped → Outcome config Ports begin f1 opened h caller act (reply_of result) old new state' levels'
+      by None runs = let now = subst (IsOpenOrStopped old h on.stands.stored state) runs on.stands.held in open_made result now.0 runs stands place_is why (run runs)
       by (Some at) stopped =
           let told = stop at stopped in
-          let held = subst (IsOpenOrStopped config h old journal) stopped on.stands.held in
-          subst (λ r. Outcome config before f1 opened h caller act (reply_of r) old new journal') (sym told.0)
-          (not_made (reply.Stopped at) told.1 (asked act call is, stopped_later h before f0 f1 at later (on.stopped at stopped)) (held.place, refl))
+          let held = subst (IsOpenOrStopped old h on.stands.stored state) stopped on.stands.held in
+          subst (λ r. Outcome config Ports begin f1 opened h caller act (reply_of r) old new state' levels') (sym told.0)
+          (not_made (reply.Stopped at) told.1 (asked act call is, stopped_later Ports begin h f0 old.moment f1 new.moment at later (on.stopped at stopped)) (held.place, refl))
 
 -- What only looks at the store
 
-module _ {config : Fields} (before now : ℕ) (opened h : History) (caller : ℕ) (act : Act) (disk : Seen) (journal : Journal) (on : IsOn config (counts before now) opened h disk journal) where
-  pub read_answer : (read : Read) (point : ℕ) (given : Answer) → point ≡ journal.count → answer (after h) read ≡ given → IsAnswerAt h point read given
+module _ {config : Fields} (Ports : Type 0) (begin : Start) (faults : ℕ) (opened h : History) (caller : ℕ) (act : Act) (disk : Seen) (state : State) (levels : List (List Parts)) (on : IsOn config Ports begin faults opened h disk state levels) where
+  abbrev Here : Course
+  Here = course Ports begin faults disk.moment
+
+  pub read_answer : (read : Read) (point : ℕ) (given : Answer) → point ≡ state.count → answer (after h) read ≡ given → IsAnswerAt h point read given
   read_answer read point given at is = let all = at ∙ on.stands.count in record { within = omega (arith, all); is = sym is ∙ ap (λ l. answer (after l) read) (sym (take_all point h (omega (arith, all)))) }
 
-  pub stat_answer : (point : ℕ) (stat : Stat) → point ≡ journal.count → stat ≡ stat_in (after h) → IsStatAt h point stat
-  stat_answer point stat at is = let all = at ∙ on.stands.count in record { within = omega (arith, all); is = is ∙ ap (λ l. stat_in (after l)) (sym (take_all point h (omega (arith, all)))) }
+  pub stat_answer : (point : ℕ) (stat : Stat) → point ≡ state.count → stat.clock ≡ (after h).clock → IsStatAt h point stat
+  stat_answer point stat at is = let all = at ∙ on.stands.count in record { within = omega (arith, all); is = is ∙ ap (λ l. (after l).clock) (sym (take_all point h (omega (arith, all)))) }
 
-  pub reads : (r : Reply) → Answers (record { history = h; before = before; now = now }) caller act r → Follows (length h) r (length h) → (g : History) × IsAnswered config (counts before now) opened h g caller act r disk disk journal
-  reads r what follows = (h, record { grows = ([], sym (append-nil h)); answers = what; follows = follows; goes = goes_still (counts before now) opened h disk journal on; stands = on })
+  pub reads : (r : Reply) → Answers (told_of h Here) caller act r → Follows Here (length h) r (length h) → (g : History) × IsAnswered config Ports begin faults opened h g caller act r disk disk state levels
+  reads r what follows = (h, record { grows = ([], sym (append-nil h)); answers = what; follows = follows; goes = goes_still Ports begin faults opened h disk state levels on; stands = on })
 
--- at the start, whatever was counted before
-pub on_from : {config : Fields} (before from now : ℕ) (opened h : History) (disk : Seen) (journal : Journal) → from ≤ before → IsOn config (counts before now) opened h disk journal → IsOn config (counts from now) opened h disk journal
-on_from before from now opened h disk journal le on = record {
-  begins = on.begins;
-  done = on.done;
-  stands = on.stands;
-  stopped = λ at is.
-      let was = on.stopped at is in
-      record { before = was.before; after = was.after; fails = record { change = was.fails.change; is = was.fails.is; failed = was.fails.failed; rose = was.fails.rose; from = (let low = was.fails.from in omega (arith, low, le)); upto = was.fails.upto } };
-}
+  -- a read that is refused
+  pub unread : IsSome (read_of act) → (why : Refused) → IsReadRefusal why → ((before behind : ℕ) → why ≡ refused.ReadFault before behind → Ports) → ((name : Name) → why ≡ refused.Damaged name → ⊥)
+      → Outcome config Ports begin faults opened h caller act (unread_of why) disk disk state levels
+  unread is (refused.ReadFault before behind) reason fails sound = reads reply.ReadFault (is, fails before behind refl) refl
+  unread is (refused.Damaged name) reason fails sound = absurd (sound name refl)
+  unread is refused.NoMemory reason fails sound = (goes_still Ports begin faults opened h disk state levels on, on)
+  unread is (refused.Fault place before behind) reason fails sound = absurd reason
+  unread is (refused.Stopped at) reason fails sound = absurd reason
+  unread is (refused.Exhausted last) reason fails sound = absurd reason
+  unread is (refused.Backwards clock) reason fails sound = absurd reason
+  unread is (refused.Pinned pin limit) reason fails sound = absurd reason
+  unread is refused.NothingDue reason fails sound = absurd reason
+  unread is (refused.Cancelled begun other) reason fails sound = absurd reason

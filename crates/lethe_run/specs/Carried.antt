@@ -8,10 +8,10 @@ use Rattle.lethe_disk.specs.Goes.{Goes}
 use Rattle.lethe_stored.specs.Kept.{IsKept}
 use Rattle.lethe_stored.specs.Left.{IsLeft, IsHistoryOr, IsOutcome, is_done, without_failed}
 use Rattle.lethe_manifest.specs.declared.manifest.Manifest.{Manifest}
-use Rattle.lethe_recover.specs.Loaded.{IsGated}
+use Rattle.lethe_load.specs.Damaged.{IsGated}
 use Rattle.lethe_script.specs.declared.order.Order.{Order}
 use Rattle.lethe_run.specs.declared.reply.Line.{Line}
-use Rattle.lethe_run.specs.Transcript.{Faults, AreServed}
+use Rattle.lethe_run.specs.Transcript.{Course, AreServed}
 
 -- the change that failed, if one did
 abbrev pub failed_in : History → Option Change
@@ -37,11 +37,11 @@ IsKeptMeanwhile left change opened h d = (g : History) × (IsHistoryOr left chan
 -- On a disk that was left for a history and a change, the lines answer the phases. The history that was opened is the first, or that with
 -- the change carried out; a crash at any moment leaves a disk that is kept for a history between that and the last; and at the end the
 -- disk is left for the last one, and unless a change failed it is of the configuration.
-pub record IsCarriedOut (config : Fields) (faults : Faults) (start finish : Seen) (left : History) (change : Option Change) (phases : List (List Order)) (lines : List (List Line)) : Type 0 where
+pub record IsCarriedOut (config : Fields) (course : Course) (start finish : Seen) (left : History) (change : Option Change) (phases : List (List Order)) (lines : List (List Line)) : Type 0 where
   pub opened : History
   pub either : IsHistoryOr left change opened
   pub history : History
-  pub served : AreServed faults opened phases lines history
+  pub served : AreServed course opened phases lines history
   pub any_moment : Goes (IsKeptMeanwhile left change opened history) start finish
   pub leaves : IsLeft finish (without_failed history) (failed_in history)
   pub config_is : failed_in history ≡ None → HasConfig config finish.directory

@@ -1,5 +1,5 @@
 -- How a run may end, what it has written then, and what it leaves on the disk.
-use Rattle.std.specs.Prelude.{◌≡◌, ◌⊎◌, ◌≤◌, ◌+◌, ◌-◌, ℕ, Bool, true, false, List, [], ◌∷◌, ◌++◌, length, take, slice_get, sum_by, Option, Some, None, IfSome, IsSome, IsOk, IsErr, Ok, Err, Contains}
+use Rattle.std.specs.Prelude.{◌≡◌, ◌⊎◌, ◌≤◌, ◌<◌, ◌+◌, ◌-◌, ℕ, Bool, true, false, List, [], ◌∷◌, ◌++◌, length, take, slice_get, sum_by, Option, Some, None, IfSome, IsSome, IsOk, IsErr, Ok, Err, Contains}
 use Rattle.std.specs.Io.KnownBytes.{Appends, Keeps}
 use Rattle.lethe_wire.specs.Causes.{AppendsFront}
 use Rattle.lethe_base.specs.Counts.{Rose}
@@ -10,15 +10,17 @@ use Rattle.lethe_base.specs.declared.config.Fields.{Fields}
 use Rattle.lethe_base.specs.declared.name.Name.{Name}
 use Rattle.lethe_disk.specs.Disk.{Seen}
 use Rattle.lethe_engine.specs.Opening.{IsUntold}
-use Rattle.lethe_manifest.specs.declared.manifest.Manifest.{Manifest}
+use Rattle.lethe_build.specs.Built.{most_numbers}
 use Rattle.lethe_disk.specs.Goes.{Goes}
 use Rattle.lethe_stored.specs.Left.{IsLeft, IsKeptOr}
-use Rattle.lethe_recover.specs.Loaded.{IsGated, HasReason, HasOtherConfig}
-use Rattle.lethe_recover.specs.Opening.{MayNotOpen, IsExhausted}
+use Rattle.lethe_stored.specs.Stored.{Stored, IsCoherent, records_of}
+use Rattle.lethe_stored.specs.Encodes.{Encodes}
+use Rattle.lethe_load.specs.Refused.{HasReason, HasOtherConfig}
+use Rattle.lethe_load.specs.declared.refused.RecoverRefused.{RecoverRefused}
+use Rattle.lethe_recover.specs.Opening.{MayNotOpen, IsExhausted, IsNextNumber}
 use Rattle.lethe_disk.specs.Quiet.{IsQuiet}
 use Rattle.lethe_recover.specs.declared.opening.OpenWhy.{OpenWhy}
 use Rattle.lethe_recover.specs.declared.opening.OpenWhy.TheVariants as open_why
-use Rattle.lethe_recover.specs.declared.refused.RecoverRefused.{RecoverRefused}
 use Rattle.lethe_script.specs.declared.order.Order.{Order}
 use Rattle.lethe_script.specs.declared.refused.BadLine.{BadLine}
 use Rattle.lethe_script.specs.Grammar.{script_of}
@@ -26,10 +28,10 @@ use Rattle.lethe_run.specs.declared.reply.Line.{Line}
 use Rattle.lethe_run.specs.Asked.{config_of}
 use Rattle.lethe_run.specs.Carried.{IsCarriedOut}
 use Rattle.lethe_run.specs.Printed.{bad_words, bad_line, open_line}
-use Rattle.lethe_run.specs.Transcript.{text_of, has_refusal}
+use Rattle.lethe_run.specs.Transcript.{Course, course, most_of_a_change, text_of, has_refusal}
 
 -- What a run was given, and what it left. Of the source and the sink: what the one had and the other has taken, where they tell it, and
--- whether their counts of faults rose. Of the disk: what it was and is, where its kind tells it, and its counts of faults.
+-- whether their counts of faults rose. Of the disk: what it was and is, where its kind tells it, its counts of faults, and whether its ports can fail.
 pub record Run : Type 1 where
   pub words : List Bytes
   pub source : Option Bytes
@@ -42,6 +44,7 @@ pub record Run : Type 1 where
   pub finish : Seen
   pub faults_before : ℕ
   pub faults : ℕ
+  pub PortsFail : Type 0
   -- the disk is handed back as it came
   pub Unused : Type 0
 
@@ -64,11 +67,15 @@ OnLeft run P = run.Tells → (left : History) (change : Option Change) → IsLef
 abbrev pub OnScript : Run → (List (List Order) → Type 0) → Type 0
 OnScript run P = IfSome run.source (λ bytes. (phases : List (List Order)) × (script_of bytes ≡ Ok phases) × P phases)
 
+-- what is known of the run's disk, on which this number was the next
+abbrev pub course_of : Run → ℕ → Course
+course_of run next = course run.PortsFail (record { faults = run.faults_before; next = next; moment = run.start.moment }) run.faults run.finish.moment
+
 -- the lines answer these phases over a store of the configuration, and the disk is left so
 abbrev pub Carries : Run → Fields → List (List Order) → List (List Line) → Type 0
-Carries run config phases lines = OnLeft run (λ left change. IsCarriedOut config (record { before = run.faults_before; now = run.faults }) run.start run.finish left change phases lines)
+Carries run config phases lines = OnLeft run (λ left change. (next : ℕ) → IsNextNumber run.start.directory next → IsCarriedOut config (course_of run next) run.start run.finish left change phases lines)
 
--- every line of the script was answered, and whether one tells of a change that failed or wasn't made
+-- every line of the script was answered, and whether one tells of a change that failed or wasn't made, or of a read that wasn't answered
 pub record Answered (run : Run) (config : Fields) (refused : Bool) : Type 0 where
   pub lines : List (List Line)
   pub script : OnScript run (λ phases. Carries run config phases lines)
@@ -91,11 +98,15 @@ pub record IsFront (phases front : List (List Order)) : Type 0 where
   pub there : slice_get phases count ≡ Some (part ++ rest)
   pub is : front ≡ take count phases ++ part ∷ []
 
--- the script was carried out up to an order for which there was no memory
+-- none, or such a front
+abbrev pub IsBegun : List (List Order) → List (List Order) → Type 0
+IsBegun phases front = (front ≡ []) ⊎ IsFront phases front
+
+-- the script was carried out up to an order for which there was no memory, or none of it was
 pub record StoppedInside (run : Run) (config : Fields) : Type 0 where
   pub lines : List (List Line)
-  pub script : OnScript run (λ phases. OnLeft run (λ left change. (front : List (List Order)) × IsFront phases front
-      × IsCarriedOut config (record { before = run.faults_before; now = run.faults }) run.start run.finish left change front lines))
+  pub script : OnScript run (λ phases. OnLeft run (λ left change. (next : ℕ) → IsNextNumber run.start.directory next → (front : List (List Order)) × IsBegun phases front
+      × IsCarriedOut config (course_of run next) run.start run.finish left change front lines))
   pub written : AppendsFront run.taken_before run.taken (text_of lines)
 
 -- the bytes are no script, and this is their first bad line
@@ -103,13 +114,13 @@ abbrev pub IsNoScript : Run → BadLine → Type 0
 IsNoScript run bad = IfSome run.source (λ bytes. script_of bytes ≡ Err bad) × run.Unused
 
 -- The store wasn't opened, and this is why. The directory shows damage and another configuration, and then nothing was touched; numbers
--- run out where the manifest's next number and the device calls reach the last one; and whatever came, each crash leaves what the disk was left for.
+-- run out where the manifest's next number, what the records may need and the device calls reach the last one; and whatever came, each crash leaves what the disk was left for.
 pub record IsNotOpened (run : Run) (config : Fields) (why : OpenWhy) : Type 0 where
   pub script : OnScript run (λ phases. Unit {0})
   pub reason : MayNotOpen run.Tells config run.start.directory run.faults_before run.faults why
   pub untouched : run.Tells → IsUntold why ⊎ IsQuiet run.start run.finish
   pub drawn : run.Tells → (last : ℕ) → why ≡ open_why.Exhausted last
-      → (manifest : Manifest) × IsGated run.start.directory manifest × (last ≤ manifest.next + (run.finish.moment - run.start.moment))
+      → (s : Stored) × IsCoherent s × Encodes run.start.directory s × (last ≤ s.manifest.next + most_numbers (length (records_of s)) + (run.finish.moment - run.start.moment))
   pub any_moment : OnLeft run (λ left change. Goes (IsKeptOr left change) run.start run.finish)
 
 -- it wasn't, and this was written
@@ -137,7 +148,7 @@ abbrev pub script_ends : List ℕ
 script_ends = 0 ∷ 4 ∷ 5 ∷ 6 ∷ 7 ∷ 8 ∷ 9 ∷ []
 
 pub record Ends (run : Run) (status : ℕ) : Type 0 where
-  -- each line was answered, and each change is done
+  -- each line was answered, each change is done, and each read was answered
   pub answered : status ≡ 0 → (config : Fields) × Asks run config × Answered run config false
   -- `bad words`
   pub bad_words : status ≡ 2 → IsNoCommand run × Appends run.taken_before run.taken bad_words × run.Unused
@@ -145,7 +156,7 @@ pub record Ends (run : Run) (status : ℕ) : Type 0 where
   pub bad_script : status ≡ 3 → IsCommand run × (bad : BadLine) × IsNoScript run bad × Appends run.taken_before run.taken (bad_line bad)
   pub read_fault : status ≡ 4 → IsCommand run × run.SourceRose × Keeps run.taken_before run.taken × run.Unused
   pub write_fault : status ≡ 5 → run.SinkRose × (text : Bytes) × IsAsked run text × AppendsFront run.taken_before run.taken text
-  -- each line was answered, and a change failed or wasn't made, or opening met a fault or numbers that ran out
+  -- each line was answered, and a change failed or wasn't made or a read wasn't answered, or opening met a fault or numbers that ran out
   pub refused : status ≡ 6 → (config : Fields) × Asks run config × (Answered run config true ⊎ IsOpenFault run config)
   pub no_memory : status ≡ 7 → (config : Fields) × Asks run config × (IsUnbegun run config ⊎ StoppedInside run config)
   -- `damaged KIND NO`
@@ -159,11 +170,12 @@ pub record Ends (run : Run) (status : ℕ) : Type 0 where
   -- what the directory shows isn't carried out over
   pub shown : (config : Fields) → Asks run config → run.Tells → (why : RecoverRefused) → HasReason config run.start.directory why
       → IfSome run.source (λ bytes. IsOk (script_of bytes) → (status ≡ 0 → ⊥) × (status ≡ 6 → IsOpenFault run config))
-  -- Without a fault a script is answered and each change is done, or there is no memory for it, on a disk that was left for a history and is
-  -- of this configuration, where neither numbers nor places run out.
-  pub complete : (config : Fields) → Asks run config → (run.SourceRose → ⊥) → (run.SinkRose → ⊥) → (Rose run.faults_before run.faults → ⊥)
+  -- Without a fault, and where ports can't fail, a script is answered and each change is done, or there is no memory for it, on a disk that was left
+  -- for a history and is of this configuration, where neither numbers nor places run out.
+  pub complete : (config : Fields) → Asks run config → (run.SourceRose → ⊥) → (run.SinkRose → ⊥) → (Rose run.faults_before run.faults → ⊥) → (run.PortsFail → ⊥)
       → IfSome run.source (λ bytes. (phases : List (List Order)) → script_of bytes ≡ Ok phases → OnLeft run (λ left change.
       ((kept : Fields) → HasOtherConfig config run.start.directory kept → ⊥) → (IsExhausted run.start.directory → ⊥)
+      → ((next : ℕ) → IsNextNumber run.start.directory next → next + (run.finish.moment - run.start.moment) + most_of_a_change < max_place)
       → length left + 1 + sum_by (λ orders. length orders) phases ≤ max_place → Contains (0 ∷ 7 ∷ []) status))
   -- there is no other status
   pub known : Contains (0 ∷ 2 ∷ 3 ∷ 4 ∷ 5 ∷ 6 ∷ 7 ∷ 8 ∷ 9 ∷ []) status

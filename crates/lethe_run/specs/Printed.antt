@@ -17,7 +17,7 @@ use Rattle.lethe_script.specs.Words.{why_text}
 use Rattle.lethe_run.specs.declared.reply.Line.{Line}
 use Rattle.lethe_run.specs.declared.reply.Line.TheVariants.{Answer}
 use Rattle.lethe_run.specs.declared.reply.Reply.{Reply}
-use Rattle.lethe_run.specs.declared.reply.Reply.TheVariants.{Done, Got, Scanned, Counted, Fault, Stopped, Exhausted}
+use Rattle.lethe_run.specs.declared.reply.Reply.TheVariants.{Done, Got, Scanned, Counted, Fault, Stopped, Exhausted, ReadFault, Damaged}
 
 -- with its end
 abbrev pub ended : Bytes → Bytes
@@ -43,6 +43,8 @@ reply_text (Counted point stat) = codes "at " ++ decimal point ++ codes " stat "
 reply_text (Fault place before after) = codes "fault " ++ decimal place ++ codes " before " ++ decimal before ++ codes " after " ++ decimal after
 reply_text (Stopped at) = codes "stopped " ++ decimal at
 reply_text (Exhausted last) = codes "exhausted " ++ decimal last
+reply_text ReadFault = codes "readfault"
+reply_text (Damaged page) = codes "damaged page " ++ decimal page
 
 abbrev pub line_text : Line → Bytes
 line_text (Answer caller reply) = ended (decimal caller ++ codes " " ++ reply_text reply)

@@ -1,10 +1,10 @@
--- The reply to a change.
+-- The replies to changes, and to reads that are refused.
 use Rattle.std.specs.Prelude.{ℕ, Result, Ok, Err}
 use Rattle.lethe_base.specs.declared.memory.NoMemory.{NoMemory}
 use Rattle.lethe_base.specs.declared.refused.Refused.{Refused}
 use Rattle.lethe_base.specs.declared.refused.Refused.TheVariants as refused
 use Rattle.lethe_run.specs.declared.reply.Reply.{Reply}
-use Rattle.lethe_run.specs.declared.reply.Reply.TheVariants.{Done, Fault, Stopped, Exhausted}
+use Rattle.lethe_run.specs.declared.reply.Reply.TheVariants.{Done, Fault, Stopped, Exhausted, ReadFault, Damaged}
 
 -- the refusals that a change may be answered
 abbrev pub IsOfChange : Refused → Type 0
@@ -35,3 +35,16 @@ refusal_of (refused.Damaged name) = Err (record {})
 abbrev pub reply_of : Result ℕ Refused → Result Reply NoMemory
 reply_of (Ok place) = Ok (Done place)
 reply_of (Err why) = refusal_of why
+
+-- the reply to a refusal of a read; none where there was no memory
+abbrev pub unread_of : Refused → Result Reply NoMemory
+unread_of (refused.ReadFault before after) = Ok ReadFault
+unread_of (refused.Damaged name) = Ok (Damaged name.no)
+unread_of refused.NoMemory = Err (record {})
+unread_of (refused.Fault place before after) = Err (record {})
+unread_of (refused.Stopped at) = Err (record {})
+unread_of (refused.Exhausted last) = Err (record {})
+unread_of (refused.Backwards clock) = Err (record {})
+unread_of (refused.Pinned pin limit) = Err (record {})
+unread_of refused.NothingDue = Err (record {})
+unread_of (refused.Cancelled begun now) = Err (record {})

@@ -1,12 +1,15 @@
 -- Which lines may answer a script, and which text they print. The history is read off the lines: no other change is in it.
-use Rattle.std.specs.Prelude.{◌≡◌, ℕ, zero, suc, ◌-◌, ◌<◌, ◌≤◌, Bool, true, false, max, List, [], ◌∷◌, ◌++◌, length, take, filter, filter_map, Option, Some, None, IsSome, IsSomeAnd, IsPermutation, ◌==◌}
+use Rattle.std.specs.Prelude.{◌≡◌, ◌⊎◌, ℕ, zero, suc, ◌+◌, ◌-◌, ◌<◌, ◌≤◌, Bool, true, false, max, List, [], ◌∷◌, ◌++◌, length, take, filter, filter_map, Option, Some, None, IsSome, IsSomeAnd, IsPermutation, ◌==◌}
 use Rattle.std.specs.List.{flat_map, list_any}
 use Rattle.lethe_base.specs.declared.call.Call.{Call}
 use Rattle.lethe_base.specs.declared.call.Call.TheVariants as call
 use Rattle.lethe_base.specs.declared.call.Did.TheVariants as did
 use Rattle.lethe_base.specs.Keys.{Bytes}
 use Rattle.lethe_base.specs.Counts.{Rose}
+use Rattle.lethe_base.specs.Configuration.{greatest_of}
 use Rattle.lethe_base.specs.Limits.{max_place}
+use Rattle.lethe_base.specs.declared.config.Field.TheVariants.{Buffer}
+use Rattle.lethe_build.specs.Built.{most_numbers}
 use Rattle.lethe_base.specs.History.{History, Change, change_at, after, IsLegal}
 use Rattle.lethe_base.specs.Read.{Read, Answer, answer}
 use Rattle.lethe_base.specs.Read as answers
@@ -16,19 +19,37 @@ use Rattle.lethe_script.specs.declared.order.Act.TheVariants.{Put, Get, Scan, De
 use Rattle.lethe_run.specs.declared.reply.Line.{Line}
 use Rattle.lethe_run.specs.declared.reply.Line.TheVariants as line
 use Rattle.lethe_run.specs.declared.reply.Reply.{Reply}
-use Rattle.lethe_run.specs.declared.reply.Reply.TheVariants.{Done, Got, Scanned, Counted, Fault, Stopped, Exhausted}
+use Rattle.lethe_run.specs.declared.reply.Reply.TheVariants.{Done, Got, Scanned, Counted, Fault, Stopped, Exhausted, ReadFault, Damaged}
 use Rattle.lethe_engine.specs.declared.telling.Stat as stats
-use Rattle.lethe_engine.specs.Scans.{listed}
-use Rattle.lethe_engine.specs.Stats.{stat_in}
+use Rattle.lethe_engine.specs.Reads.{listed}
 use Rattle.lethe_run.specs.Printed.{lines_text}
 
--- what the meaning of a line depends on
-pub record Told : Type 0 where
-  -- the whole history
-  pub history : History
-  -- the disk's counts of faults, at the start and now
+-- What is known of a run's disk.
+pub record Course : Type 1 where
+  -- its counts of faults, at the start and now
   pub before : ℕ
   pub now : ℕ
+  -- the number of the next object at the start, and the device calls since
+  pub next : ℕ
+  pub calls : ℕ
+  -- its ports can fail
+  pub PortsFail : Type 0
+
+-- how a run found its disk: the count of faults, the number of the next object, and the moment
+pub record Start : Type 0 where
+  pub faults : ℕ
+  pub next : ℕ
+  pub moment : ℕ
+
+-- from there up to a count of faults and a moment
+abbrev pub course : Type 0 → Start → ℕ → ℕ → Course
+course PortsFail start faults moment = record { before = start.faults; now = faults; next = start.next; calls = moment - start.moment; PortsFail = PortsFail }
+
+-- what the meaning of a line depends on
+pub record Told : Type 1 where
+  -- the whole history
+  pub history : History
+  pub course : Course
 
 -- the change that an act asks for
 abbrev pub call_of : Act → Option Call
@@ -55,10 +76,10 @@ pub record IsAnswerAt (h : History) (point : ℕ) (read : Read) (given : Answer)
   pub within : point ≤ length h
   pub is : given ≡ answer (after (take point h)) read
 
--- the store is told as it was behind so many places
+-- the clock is told as it was behind so many places
 pub record IsStatAt (h : History) (point : ℕ) (stat : stats.Stat) : Type 0 where
   pub within : point ≤ length h
-  pub is : stat ≡ stat_in (after (take point h))
+  pub is : stat.clock ≡ (after (take point h)).clock
 
 -- The disk failed in the change at a place, and these are its counts of faults before and after.
 pub record IsFailedAt (told : Told) (place before after : ℕ) : Type 0 where
@@ -66,8 +87,8 @@ pub record IsFailedAt (told : Told) (place before after : ℕ) : Type 0 where
   pub is : change_at told.history place ≡ Some change
   pub failed : change.did ≡ did.Failed before after
   pub rose : Rose before after
-  pub from : told.before ≤ before
-  pub upto : after ≤ told.now
+  pub from : told.course.before ≤ before
+  pub upto : after ≤ told.course.now
 
 -- it was this change of the caller
 pub record IsFaultOf (told : Told) (caller place before after : ℕ) (call : Call) : Type 0 where
@@ -81,11 +102,20 @@ pub record WasStopped (told : Told) (at : ℕ) : Type 0 where
   pub after : ℕ
   pub fails : IsFailedAt told at before after
 
--- all places are used up
-abbrev pub IsUsedUp : Told → ℕ → Type 0
-IsUsedUp told last = (last ≡ max_place) × (length told.history ≡ max_place)
+-- a change draws at most so many numbers of objects: those of the files of a full buffer, of a segment and of two manifests
+abbrev pub most_of_a_change : ℕ
+most_of_a_change = most_numbers (greatest_of Buffer) + 3
 
--- what a reply means: a change stands at its place, done or failed, or isn't made, and a read is a map's at its printed point
+-- Numbers of objects run out: where each device call since the start has drawn one, those of one more change reach the last.
+abbrev pub IsShort : Course → Type 0
+IsShort course = max_place ≤ course.next + course.calls + most_of_a_change
+
+-- all places are used up, or the numbers of objects
+abbrev pub IsUsedUp : Told → ℕ → Type 0
+IsUsedUp told last = (last ≡ max_place) × ((length told.history ≡ max_place) ⊎ IsShort told.course)
+
+-- What a reply means: a change stands at its place, done or failed, or isn't made; a read is a map's at its printed point, or isn't answered.
+-- A disk that tells what it holds has no damaged page.
 abbrev pub Answers : Told → ℕ → Act → Reply → Type 0
 Answers told caller act (Done place) = IsSomeAnd (call_of act) (IsDoneAt told.history caller place)
 Answers told caller act (Got point held) = IsSomeAnd (read_of act) (λ read. IsAnswerAt told.history point read (answers.Found held))
@@ -94,6 +124,8 @@ Answers told caller act (Counted point stat) = (act ≡ Stat) × IsStatAt told.h
 Answers told caller act (Fault place before after) = IsSomeAnd (call_of act) (IsFaultOf told caller place before after)
 Answers told caller act (Stopped at) = IsSome (call_of act) × WasStopped told at
 Answers told caller act (Exhausted last) = IsSome (call_of act) × IsUsedUp told last
+Answers told caller act ReadFault = IsSome (read_of act) × told.course.PortsFail
+Answers told caller act (Damaged page) = ⊥
 
 -- the lines of a phase
 abbrev pub Lines : Type 0
@@ -115,6 +147,8 @@ place_of (line.Answer caller (Counted point stat)) = None
 place_of (line.Answer caller (Fault place before after)) = Some place
 place_of (line.Answer caller (Stopped at)) = None
 place_of (line.Answer caller (Exhausted last)) = None
+place_of (line.Answer caller ReadFault) = None
+place_of (line.Answer caller (Damaged page)) = None
 
 -- so many places, the first of them behind n
 abbrev pub places_behind : ℕ → ℕ → List ℕ
@@ -125,7 +159,7 @@ places_behind n (suc more) = suc n ∷ places_behind (suc n) more
 abbrev pub is_of : ℕ → Line → Bool
 is_of caller (line.Answer other reply) = other == caller
 
--- all places up to this one stood when the reply was made; a change that isn't made shows none
+-- all places up to this one stood when the reply was made; what isn't made or answered shows none
 abbrev pub shown_by : Reply → ℕ
 shown_by (Done place) = place
 shown_by (Got point held) = point
@@ -134,6 +168,8 @@ shown_by (Counted point stat) = point
 shown_by (Fault place before after) = place
 shown_by (Stopped at) = 0
 shown_by (Exhausted last) = 0
+shown_by ReadFault = 0
+shown_by (Damaged page) = 0
 
 -- a change stands above what its caller had seen, and what is told isn't below it
 abbrev pub IsBehind : ℕ → Reply → Type 0
@@ -144,56 +180,55 @@ IsBehind seen (Counted point stat) = seen ≤ point
 IsBehind seen (Fault place before after) = seen < place
 IsBehind seen (Stopped at) = Unit {0}
 IsBehind seen (Exhausted last) = Unit {0}
+IsBehind seen ReadFault = Unit {0}
+IsBehind seen (Damaged page) = Unit {0}
 
 -- The lines of one caller, who has seen so many places before them, in a phase at whose end so many stand.
 abbrev pub Sees : ℕ → ℕ → List Line → Type 0
 Sees seen end [] = Unit {0}
 Sees seen end (line.Answer caller reply ∷ lines) = IsBehind seen reply × (shown_by reply ≤ end) × Sees (max seen (shown_by reply)) end lines
 
--- With n places before it, a change takes the next place, done or failed, and a read is made at n. What isn't made says which place is the last.
--- Then there are m.
-abbrev pub Follows : ℕ → Reply → ℕ → Type 0
-Follows n (Done place) m = (place ≡ suc n) × (m ≡ suc n)
-Follows n (Got point held) m = (point ≡ n) × (m ≡ n)
-Follows n (Scanned point pairs) m = (point ≡ n) × (m ≡ n)
-Follows n (Counted point stat) m = (point ≡ n) × (m ≡ n)
-Follows n (Fault place before after) m = (place ≡ suc n) × (m ≡ suc n)
-Follows n (Stopped at) m = (at ≡ n) × (m ≡ n)
-Follows n (Exhausted last) m = (n ≡ last) × (m ≡ n)
+-- With n places before it, a change takes the next place, done or failed, and a read is made at n. What isn't made says which place is the last,
+-- unless it is for want of numbers. Then there are m.
+abbrev pub Follows : Course → ℕ → Reply → ℕ → Type 0
+Follows course n (Done place) m = (place ≡ suc n) × (m ≡ suc n)
+Follows course n (Got point held) m = (point ≡ n) × (m ≡ n)
+Follows course n (Scanned point pairs) m = (point ≡ n) × (m ≡ n)
+Follows course n (Counted point stat) m = (point ≡ n) × (m ≡ n)
+Follows course n (Fault place before after) m = (place ≡ suc n) × (m ≡ suc n)
+Follows course n (Stopped at) m = (at ≡ n) × (m ≡ n)
+Follows course n (Exhausted last) m = ((n ≡ last) ⊎ IsShort course) × (m ≡ n)
+Follows course n ReadFault m = m ≡ n
+Follows course n (Damaged page) m = m ≡ n
 
 -- the lines follow one another so
-abbrev pub InTurn : ℕ → List Line → ℕ → Type 0
-InTurn n [] m = m ≡ n
-InTurn n (line.Answer caller reply ∷ lines) m = (next : ℕ) × Follows n reply next × InTurn next lines m
-
--- the disk's counts of faults, at the start of a run and now
-pub record Faults : Type 0 where
-  pub before : ℕ
-  pub now : ℕ
+abbrev pub InTurn : Course → ℕ → List Line → ℕ → Type 0
+InTurn course n [] m = m ≡ n
+InTurn course n (line.Answer caller reply ∷ lines) m = (next : ℕ) × Follows course n reply next × InTurn course next lines m
 
 -- From the history `start` on, the orders of one phase may be answered by these lines, and then the history is h.
-pub record IsServed (faults : Faults) (start : History) (orders : List Order) (lines : List Line) (h : History) : Type 0 where
+pub record IsServed (course : Course) (start : History) (orders : List Order) (lines : List Line) (h : History) : Type 0 where
   pub begins : (added : History) × (h ≡ start ++ added)
   pub legal : IsLegal h
-  pub answered : Answered (record { history = h; before = faults.before; now = faults.now }) orders lines
+  pub answered : Answered (record { history = h; course = course }) orders lines
   -- the changes that were added are those that the lines answer, each once
   pub once : IsPermutation (places_behind (length start) (length h - length start)) (filter_map place_of lines)
   pub seen : (caller : ℕ) → Sees (length start) (length h) (filter (is_of caller) lines)
   -- there is one caller, so each line is answered at the place at which it stands
-  pub alone : InTurn (length start) lines (length h)
+  pub alone : InTurn course (length start) lines (length h)
 
 -- phase after phase
-abbrev pub AreServed : Faults → History → List (List Order) → List (List Line) → History → Type 0
-AreServed faults start [] [] h = h ≡ start
-AreServed faults start (orders ∷ phases) (lines ∷ more) h = (middle : History) × IsServed faults start orders lines middle × AreServed faults middle phases more h
-AreServed faults start [] (lines ∷ more) h = ⊥
-AreServed faults start (orders ∷ phases) [] h = ⊥
+abbrev pub AreServed : Course → History → List (List Order) → List (List Line) → History → Type 0
+AreServed course start [] [] h = h ≡ start
+AreServed course start (orders ∷ phases) (lines ∷ more) h = (middle : History) × IsServed course start orders lines middle × AreServed course middle phases more h
+AreServed course start [] (lines ∷ more) h = ⊥
+AreServed course start (orders ∷ phases) [] h = ⊥
 
 -- the text of all phases
 abbrev pub text_of : List (List Line) → Bytes
 text_of lines = flat_map lines_text lines
 
--- a change that wasn't made or failed
+-- a change that wasn't made or failed, or a read that wasn't answered
 abbrev pub is_refusal : Line → Bool
 is_refusal (line.Answer caller (Done place)) = false
 is_refusal (line.Answer caller (Got point held)) = false
@@ -202,6 +237,8 @@ is_refusal (line.Answer caller (Counted point stat)) = false
 is_refusal (line.Answer caller (Fault place before after)) = true
 is_refusal (line.Answer caller (Stopped at)) = true
 is_refusal (line.Answer caller (Exhausted last)) = true
+is_refusal (line.Answer caller ReadFault) = true
+is_refusal (line.Answer caller (Damaged page)) = true
 
 abbrev pub has_refusal : List (List Line) → Bool
 has_refusal lines = list_any (list_any is_refusal) lines

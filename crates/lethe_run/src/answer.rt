@@ -2,9 +2,12 @@
 ghost use Rattle.std.specs.Prelude.{◌≡◌, ◌≤◌, ℕ, IfErr, MatchResult};
 ghost use Rattle.lethe_base.specs.History.{History};
 ghost use Rattle.lethe_base.specs.declared.config.Fields.{Fields};
+ghost use Rattle.lethe_advance.specs.Shown.{parts_by_level};
+ghost use Rattle.lethe_engine.specs.Reads.{IsReadRefusal};
 ghost use Rattle.lethe_engine.specs.Sound.{IsSound};
-ghost use Rattle.lethe_run.specs.Replies.{IsOfChange, reply_of};
+ghost use Rattle.lethe_run.specs.Replies.{IsOfChange, reply_of, unread_of};
 ghost use Rattle.lethe_run.specs.Serving.{IsOn, IsAnswered, GoesOn};
+ghost use Rattle.lethe_run.specs.Transcript.{Start};
 
 use crate::reply::Reply;
 use lethe_base::{List, NoMemory, Refused};
@@ -13,37 +16,38 @@ use lethe_engine::Engine;
 use lethe_script::Act;
 use std::alloc::Global;
 
-/// Carries out one act. For want of memory nothing is done.
+/// Carries out one act, and reads through the port. For want of memory there is no reply, and the store stands for the history for which it stood.
 pub(crate) fn answer<D: Disk>(
     engine: &mut Engine<D>,
     alloc: Global,
+    port: &mut D::Port,
     act: Act,
 ) -> Result<Reply, NoMemory>
-    requires { IsSound D.tells (D.seen engine.old.disk) engine.old.journal }
-    ensures sound { IsSound D.tells (D.seen engine.new.disk) engine.new.journal }
-    ensures served { D.tells → (config : Fields) (before : ℕ) (opened h : History) (caller : ℕ)
-        → IsOn config (record { before = before; now = D.faults engine.old.disk }) opened h (D.seen engine.old.disk) engine.old.journal → before ≤ D.faults engine.old.disk
+    requires { IsSound D.tells (D.seen engine.old.disk) engine.old.state (parts_by_level engine.old.version) }
+    ensures sound { IsSound D.tells (D.seen engine.new.disk) engine.new.state (parts_by_level engine.new.version) }
+    ensures served { D.tells → (config : Fields) (begin : Start) (opened h : History) (caller : ℕ)
+        → IsOn config D.ports_fail begin (D.faults engine.old.disk) opened h (D.seen engine.old.disk) engine.old.state (parts_by_level engine.old.version)
         → MatchResult result
-        (λ reply. (g : History) × IsAnswered config (record { before = before; now = D.faults engine.new.disk }) opened h g caller act reply (D.seen engine.old.disk) (D.seen engine.new.disk) engine.new.journal)
-        (λ why. GoesOn opened h h (D.seen engine.old.disk) (D.seen engine.new.disk) × IsOn config (record { before = before; now = D.faults engine.new.disk }) opened h (D.seen engine.new.disk) engine.new.journal) }
+        (λ reply. (g : History) × IsAnswered config D.ports_fail begin (D.faults engine.new.disk) opened h g caller act reply (D.seen engine.old.disk) (D.seen engine.new.disk) engine.new.state (parts_by_level engine.new.version))
+        (λ why. GoesOn opened h h (D.seen engine.old.disk) (D.seen engine.new.disk) × IsOn config D.ports_fail begin (D.faults engine.new.disk) opened h (D.seen engine.new.disk) engine.new.state (parts_by_level engine.new.version)) }
     ensures faults { D.faults engine.old.disk ≤ D.faults engine.new.disk }
 {
     match act {
         Act::Put { key, dkey, value } => changed(engine.put(alloc, key, dkey, value)),
         Act::Delete { key } => changed(engine.delete(alloc, key)),
-        Act::Get { key } => match engine.get(&key) {
+        Act::Get { key } => match engine.get(alloc, port, &key) {
             Ok(held) => Ok(Reply::Got {
                 point: engine.count(),
                 held,
             }),
-            Err(why) => Err(why),
+            Err(why) => unread(why),
         },
-        Act::Scan { lo, hi } => match engine.scan(alloc, &lo, &hi) {
+        Act::Scan { lo, hi } => match engine.scan(alloc, port, &lo, &hi) {
             Ok(pairs) => Ok(Reply::Scanned {
                 point: engine.count(),
                 pairs: List::of(pairs),
             }),
-            Err(why) => Err(why),
+            Err(why) => unread(why),
         },
         Act::Stat => Ok(Reply::Counted {
             point: engine.count(),
@@ -74,5 +78,18 @@ fn changed(answer: Result<u64, Refused>) -> Result<Reply, NoMemory>
         Err(Refused::Exhausted { last }) => Ok(Reply::Exhausted { last }),
         Err(Refused::NoMemory) => Err(NoMemory),
         Err(_) => unreachable!(),
+    }
+}
+
+/// The reply to a read that was refused.
+fn unread(why: Refused) -> Result<Reply, NoMemory>
+    requires { IsReadRefusal why }
+    ensures { result ≡ unread_of why }
+{
+    match why {
+        Refused::ReadFault { .. } => Ok(Reply::ReadFault),
+        Refused::Damaged { name } => Ok(Reply::Damaged { no: name.no }),
+        Refused::NoMemory => Err(NoMemory),
+        _ => unreachable!(),
     }
 }

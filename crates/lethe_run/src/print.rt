@@ -90,6 +90,10 @@ fn push_reply(text: &mut Vec<u8>, alloc: Global, reply: &Reply) -> Result<(), No
         Reply::Exhausted { last } => {
             text.extend_from_slice(format!(in alloc; "exhausted {last}")?.as_bytes())?;
         }
+        Reply::ReadFault => text.extend_from_slice(b"readfault")?,
+        Reply::Damaged { no } => {
+            text.extend_from_slice(format!(in alloc; "damaged page {no}")?.as_bytes())?;
+        }
     }
     Ok(())
 }

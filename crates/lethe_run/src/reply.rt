@@ -35,9 +35,15 @@ pub(crate) enum Reply {
     Stopped {
         at: u64,
     },
-    /// A change isn't made, since the places up to the last one are used up.
+    /// A change isn't made, since the places up to the last one are used up, or the numbers of objects are.
     Exhausted {
         last: u64,
+    },
+    /// A read isn't answered, since a fetch of a page failed.
+    ReadFault,
+    /// A read isn't answered, since the page of this number is damaged.
+    Damaged {
+        no: u64,
     },
 }
 

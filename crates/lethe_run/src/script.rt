@@ -4,6 +4,7 @@ ghost use Rattle.std.specs.Io.KnownBytes.{Appends};
 ghost use Rattle.lethe_wire.specs.Causes.{AppendsFront};
 ghost use Rattle.std.specs.List.{list_any};
 ghost use Rattle.lethe_base.specs.Counts.{Rose};
+ghost use Rattle.lethe_advance.specs.Shown.{parts_by_level};
 ghost use Rattle.lethe_engine.specs.Sound.{IsSound};
 ghost use Rattle.lethe_run.specs.Scripts.{ScriptEnds, IsCutBy};
 ghost use Rattle.lethe_run.specs.Printed.{lines_text};
@@ -13,28 +14,47 @@ use crate::print::{Spelled, spell};
 use crate::reply::{Line, Reply};
 use crate::serve::{Served, serve_phase};
 use crate::status::Status;
-use lethe_base::List;
+use lethe_base::{List, NoMemory};
 use lethe_disk::Disk;
 use lethe_engine::Engine;
 use lethe_script::Order;
 use lethe_wire::{Sink, write_all};
 use std::alloc::Global;
 
-/// Carries out the phases over a store, and prints the lines of each when it has ended. It gives the disk back.
+/// Carries out the phases over a store, with a port for its reads, and prints the lines of each when it has ended. It gives the disk back.
 pub(crate) fn serve_script<K: Sink, D: Disk>(
     alloc: Global,
     sink: &mut K,
     phases: List<List<Order>>,
     mut engine: Engine<D>,
 ) -> (Status, D)
-    requires { IsSound D.tells (D.seen engine.disk) engine.journal }
-    ensures ends { ScriptEnds D.tells (D.seen engine.disk) (D.seen result.1) engine.journal (D.faults engine.disk) (D.faults result.1) (K.taken sink.old) (K.taken sink.new)
-        (Rose (K.faults sink.old) (K.faults sink.new)) phases result.0 }
+    requires { IsSound D.tells (D.seen engine.disk) engine.state (parts_by_level engine.version) }
+    ensures ends { ScriptEnds D.tells D.ports_fail (D.seen engine.disk) (D.seen result.1) engine.state (parts_by_level engine.version) (D.faults engine.disk) (D.faults result.1)
+        (K.taken sink.old) (K.taken sink.new) (Rose (K.faults sink.old) (K.faults sink.new)) phases result.0 }
+    ensures faults { D.faults engine.disk ≤ D.faults result.1 }
+{
+    match engine.new_port(alloc) {
+        Ok(port) => serve_phases(alloc, sink, phases, engine, port),
+        Err(NoMemory) => (Status::NoMemory, engine.into_disk()),
+    }
+}
+
+/// Carries out the phases, and reads through the port.
+fn serve_phases<K: Sink, D: Disk>(
+    alloc: Global,
+    sink: &mut K,
+    phases: List<List<Order>>,
+    mut engine: Engine<D>,
+    mut port: D::Port,
+) -> (Status, D)
+    requires { IsSound D.tells (D.seen engine.disk) engine.state (parts_by_level engine.version) }
+    ensures ends { ScriptEnds D.tells D.ports_fail (D.seen engine.disk) (D.seen result.1) engine.state (parts_by_level engine.version) (D.faults engine.disk) (D.faults result.1)
+        (K.taken sink.old) (K.taken sink.new) (Rose (K.faults sink.old) (K.faults sink.new)) phases result.0 }
     ensures faults { D.faults engine.disk ≤ D.faults result.1 }
 {
     let mut refused = false;
     for orders in phases.into_vec() {
-        let served = serve_phase(&mut engine, alloc, orders.into_vec());
+        let served = serve_phase(&mut engine, alloc, &mut port, orders.into_vec());
         refused = has_refusal(refused, &served.lines);
         if let Err(status) = print_phase(alloc, sink, &served) {
             return (status, engine.into_disk());
@@ -75,7 +95,7 @@ fn status_of(refused: bool) -> Status
     }
 }
 
-/// Whether one of the lines, or one before, tells of a change that failed or wasn't made.
+/// Whether one of the lines, or one before, tells of a change that failed or wasn't made, or of a read that wasn't answered.
 fn has_refusal(before: bool, lines: &[Line]) -> bool
     ensures { result ≡ (before || list_any is_refusal lines.now) }
 {
@@ -96,6 +116,10 @@ fn is_refusal(line: &Line) -> bool
     match reply {
         Reply::Done { .. } | Reply::Got { .. } | Reply::Scanned { .. } | Reply::Counted { .. } =>
             false,
-        Reply::Fault { .. } | Reply::Stopped { .. } | Reply::Exhausted { .. } => true,
+        Reply::Fault { .. }
+        | Reply::Stopped { .. }
+        | Reply::Exhausted { .. }
+        | Reply::ReadFault
+        | Reply::Damaged { .. } => true,
     }
 }

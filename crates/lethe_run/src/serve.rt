@@ -1,10 +1,12 @@
 //! Carrying out the orders of a phase.
-ghost use Rattle.std.specs.Prelude.{◌≡◌, ◌≤◌, ℕ, List, [], ◌++◌, IsTrue};
+ghost use Rattle.std.specs.Prelude.{◌≡◌, ◌≤◌, List, [], ◌++◌, IsTrue};
 ghost use Rattle.lethe_base.specs.History.{History};
 ghost use Rattle.lethe_base.specs.declared.config.Fields.{Fields};
+ghost use Rattle.lethe_advance.specs.Shown.{parts_by_level};
 ghost use Rattle.lethe_engine.specs.Sound.{IsSound};
 ghost use Rattle.lethe_script.specs.declared.order.Order.{Order};
 ghost use Rattle.lethe_run.specs.Serving.{IsOn, IsPhase};
+ghost use Rattle.lethe_run.specs.Transcript.{Start};
 
 use crate::answer::answer;
 use crate::reply::Line;
@@ -28,14 +30,15 @@ pub(crate) struct Served {
 pub(crate) fn serve_phase<D: Disk>(
     engine: &mut Engine<D>,
     alloc: Global,
+    port: &mut D::Port,
     orders: Vec<Order>,
 ) -> Served
-    requires { IsSound D.tells (D.seen engine.old.disk) engine.old.journal }
-    ensures sound { IsSound D.tells (D.seen engine.new.disk) engine.new.journal }
-    ensures served { D.tells → (config : Fields) (before : ℕ) (opened start : History)
-        → IsOn config (record { before = before; now = D.faults engine.old.disk }) opened start (D.seen engine.old.disk) engine.old.journal → before ≤ D.faults engine.old.disk
+    requires { IsSound D.tells (D.seen engine.old.disk) engine.old.state (parts_by_level engine.old.version) }
+    ensures sound { IsSound D.tells (D.seen engine.new.disk) engine.new.state (parts_by_level engine.new.version) }
+    ensures served { D.tells → (config : Fields) (begin : Start) (opened start : History)
+        → IsOn config D.ports_fail begin (D.faults engine.old.disk) opened start (D.seen engine.old.disk) engine.old.state (parts_by_level engine.old.version)
         → (h : History) × (part : List Order) × (rest : List Order) × (orders.items ≡ part ++ rest) × (IsTrue result.whole → rest ≡ [])
-        × IsPhase config (record { before = before; now = D.faults engine.new.disk }) opened start h part result.lines.items (D.seen engine.old.disk) (D.seen engine.new.disk) engine.new.journal }
+        × IsPhase config D.ports_fail begin (D.faults engine.new.disk) opened start h part result.lines.items (D.seen engine.old.disk) (D.seen engine.new.disk) engine.new.state (parts_by_level engine.new.version) }
     ensures faults { D.faults engine.old.disk ≤ D.faults engine.new.disk }
 {
     let Ok(mut lines) = Vec::with_capacity(alloc, orders.len()) else {
@@ -46,7 +49,7 @@ pub(crate) fn serve_phase<D: Disk>(
     };
     for order in orders {
         let Order { caller, act, .. } = order;
-        match answer(engine, alloc, act) {
+        match answer(engine, alloc, port, act) {
             Ok(reply) => lines.push(Line::Answer { caller, reply }).unwrap(),
             Err(NoMemory) => {
                 return Served {

@@ -7,7 +7,7 @@ use lethe_recover::OpenWhy;
 /// How a run ended.
 #[derive(Clone, Copy, Debug, PartialEq, Eq)]
 pub(crate) enum Status {
-    /// Each line of the script was answered, and each change is done.
+    /// Each line of the script was answered, each change is done, and each read was answered.
     Answered,
     /// The words are no command.
     BadWords,
@@ -17,7 +17,7 @@ pub(crate) enum Status {
     ReadFault,
     /// The sink failed.
     WriteFault,
-    /// Each line was answered, and a change failed or wasn't made; or the disk failed, or numbers ran out, when the store was opened.
+    /// Each line was answered, and a change failed or wasn't made, or a read wasn't answered; or the disk failed, or numbers ran out, when the store was opened.
     Refused,
     /// There was no memory.
     NoMemory,

@@ -1,5 +1,5 @@
 //! The top call.
-ghost use Rattle.std.specs.Prelude.{◌≡◌, ◌≤◌, ◌<◌, ◌⊎◌, ℕ, Option, map, IfErr, IfOk, IfSome, MatchResult, IsErrOf};
+ghost use Rattle.std.specs.Prelude.{◌≡◌, ◌≤◌, ◌<◌, ◌+◌, ◌⊎◌, ℕ, Option, map, IfErr, IfOk, IfSome, MatchResult, IsErrOf};
 ghost use Rattle.std.specs.String.{string_bytes};
 ghost use Rattle.lethe_base.specs.Counts.{Rose};
 ghost use Rattle.lethe_base.specs.History.{History, Change};
@@ -7,10 +7,11 @@ ghost use Rattle.lethe_engine.specs.Opening.{IsResumed, IsUntold};
 ghost use Rattle.lethe_engine.specs.Sound.{IsSound};
 ghost use Rattle.lethe_disk.specs.Goes.{Goes};
 ghost use Rattle.lethe_stored.specs.Left.{IsLeft, IsKeptOr};
-ghost use Rattle.lethe_recover.specs.Loaded.{HasReason};
-ghost use Rattle.lethe_recover.specs.Opening.{MayNotOpen};
+ghost use Rattle.lethe_load.specs.Refused.{HasReason};
+ghost use Rattle.lethe_load.specs.declared.refused.RecoverRefused.{RecoverRefused};
+ghost use Rattle.lethe_advance.specs.Shown.{parts_by_level};
+ghost use Rattle.lethe_recover.specs.Opening.{MayNotOpen, IsNextNumber};
 ghost use Rattle.lethe_disk.specs.Quiet.{IsQuiet};
-ghost use Rattle.lethe_recover.specs.declared.refused.RecoverRefused.{RecoverRefused};
 ghost use Rattle.lethe_script.specs.Grammar.{script_of};
 ghost use Rattle.lethe_run.specs.Ends.{Ends};
 ghost use Rattle.lethe_run.specs.Printed.{bad_line, open_line};
@@ -40,8 +41,8 @@ pub struct Ended<D: Disk> {
 /// that the words ask for, carries out the script over it, prints a line for each line that asks for something, and gives the disk back.
 ///
 /// The status is 0 where all was answered and done, 2 for words that are no command, 3 for bytes that are no script, 4 and 5 where the source and the sink
-/// failed, 6 where a change failed or wasn't made, or the store couldn't be opened for a fault of the disk or want of numbers, 7 for want of memory,
-/// 8 for a damaged disk, and 9 for one of another configuration.
+/// failed, 6 where a change failed or wasn't made, a read wasn't answered, or the store couldn't be opened for a fault of the disk or want of numbers, 7 for
+/// want of memory, 8 for a damaged disk, and 9 for one of another configuration.
 pub fn run<S: Source, K: Sink, D: Disk>(
     alloc: Global,
     words: &[String],
@@ -61,6 +62,7 @@ pub fn run<S: Source, K: Sink, D: Disk>(
       finish = D.seen result.disk;
       faults_before = D.faults disk;
       faults = D.faults result.disk;
+      PortsFail = D.ports_fail;
       Unused = result.disk ≡ disk;
     }) result.status }
 {
@@ -90,6 +92,7 @@ fn carry_out<S: Source, K: Sink, D: Disk>(
       finish = D.seen result.1;
       faults_before = D.faults disk;
       faults = D.faults result.1;
+      PortsFail = D.ports_fail;
       Unused = result.1 ≡ disk;
     }) result.0 }
 {
@@ -122,15 +125,17 @@ fn read_all<S: Source>(alloc: Global, source: &mut S) -> Result<Vec<u8>, ReadRef
 
 /// Opens the store of the configuration.
 fn open_store<D: Disk>(alloc: Global, disk: D, config: &Config) -> Result<Engine<D>, OpenRefused<D>>
-    ensures sound { IfOk result (λ engine. IsSound D.tells (D.seen engine.disk) engine.journal) }
+    ensures sound { IfOk result (λ engine. IsSound D.tells (D.seen engine.disk) engine.state (parts_by_level engine.version)) }
     ensures resumed { D.tells → (h : History) (change : Option Change) → IsLeft (D.seen disk) h change
-        → IfOk result (λ engine. IsResumed config.now h change (D.seen engine.disk) engine.journal) }
+        → IfOk result (λ engine. IsResumed config.now h change (D.seen engine.disk) engine.state (parts_by_level engine.version)) }
     ensures any_moment { D.tells → (h : History) (change : Option Change) → IsLeft (D.seen disk) h change
         → MatchResult result (λ engine. Goes (IsKeptOr h change) (D.seen disk) (D.seen engine.disk)) (λ refused. Goes (IsKeptOr h change) (D.seen disk) (D.seen refused.disk)) }
     ensures refused { IfErr result (λ refused. MayNotOpen D.tells config.now (D.seen disk).directory (D.faults disk) (D.faults refused.disk) refused.why) }
     ensures exact { D.tells → (why : RecoverRefused) → HasReason config.now (D.seen disk).directory why → IfOk result (λ engine. ⊥) }
     ensures untouched { D.tells → IfErr result (λ refused. IsUntold refused.why ⊎ IsQuiet (D.seen disk) (D.seen refused.disk)) }
     ensures drawn { D.tells → IfErr result (λ refused. (last : ℕ) → refused.why ≡ OpenWhy.Exhausted last → (D.seen disk).moment < (D.seen refused.disk).moment) }
+    ensures numbers { D.tells → IfOk result (λ engine. (next : ℕ) → IsNextNumber (D.seen disk).directory next
+        → engine.state.manifest.next + (D.seen disk).moment ≤ next + (D.seen engine.disk).moment) }
     ensures faults { IfOk result (λ engine. D.faults disk ≤ D.faults engine.disk) }
 {
     Engine::open(alloc, disk, config)

@@ -1,95 +1,53 @@
-use Rattle.std.proofs.Common.{rules, ◌≡◌, ◌||◌, ◌++◌, ◌∷◌, [], refl, sym, ap, ◌∙◌, subst, arith}
-use Rattle.std.specs.List.{list_any}
-use Rattle.std.proofs.lemmas.List.{map-id}
-use Rattle.std.proofs.lemmas.Iterator.Consumers.{YieldsList-end}
-use Rattle.std.proofs.lemmas.Iterator.Adapters.{YieldsList-from_vec}
+use Rattle.std.proofs.Common.{[], sym, subst}
 use Rattle.lethe_base.specs.Counts.{Rose}
-use Rattle.lethe_run.specs.Scripts.{ScriptEnds}
-use Rattle.lethe_run.specs.Transcript.{is_refusal}
-use Rattle.lethe_run.proofs.Endings.{Phase, Before, next_so_far, cut_ends, all_ends}
-use Rattle.lethe_run.proofs.Phases.{so_far_start, appends_none, whole_text, front_text, refusal_more}
-use Rattle.lethe_run.proofs.Runs.{taken_front}
-use Rattle.lethe_run.proofs.Steps.{on_from}
+use Rattle.lethe_base.specs.History.{History}
+use Rattle.lethe_base.specs.declared.config.Fields.{Fields}
+use Rattle.lethe_advance.specs.Shown.{parts_by_level}
+use Rattle.lethe_engine.specs.StandsFor.{StandsFor}
+use Rattle.lethe_run.specs.Scripts.{ScriptEnds, Inside}
+use Rattle.lethe_run.proofs.Endings.{ends_idle, none_served}
+use Rattle.lethe_run.proofs.Phases.{appends_none, front_whole}
 use Rattle.lethe_run.proofs.script.serve_script.Goals as goal
 
-pub loop-orders-init : goal.loop-orders-init
-loop-orders-init g c = record {
-  sound = c.requires;
-  sink = omega arith;
-  faults = omega arith;
-  lines = (
-    [],
-    appends_none (g.K.Sink.taken c.args.sink.now),
-    refl,
-    λ told config opened on from le.
-        let f = g.D.Disk.faults c.args.engine.disk in
-        so_far_start f from opened (g.D.Disk.seen c.args.engine.disk) c.args.engine.journal (on_from f from f opened opened (g.D.Disk.seen c.args.engine.disk) c.args.engine.journal le on),
-  );
-}
-
-pub loop-orders-preserved : goal.loop-orders-preserved
-loop-orders-preserved g c =
+pub returns-in-Ok-clause-ends : goal.returns-in-Ok-clause-ends
+returns-in-Ok-clause-ends g c =
     let old = c.args.engine in
-    let mid = c.loop-orders.engine in
-    let new = c.serve_phase-served.new.engine in
-    let so_far = c.loop-orders.invariant.lines in
-    let more = c.serve_phase-served.result.lines.items in
-    let laws = g.met.D.Disk g.world.𝓛 g.world.𝓜 g.world.𝓡 ((λ s x. x), (λ x. x), (λ x. x), λ x. x) in
-    let phase : Phase g.D.Disk.tells (g.D.Disk.seen mid.disk) (g.D.Disk.seen new.disk) mid.journal new.journal (g.D.Disk.faults mid.disk) (g.D.Disk.faults new.disk) c.in-Some.orders c.serve_phase-served.result.whole more =
-    subst (λ o. Phase g.D.Disk.tells (g.D.Disk.seen mid.disk) (g.D.Disk.seen new.disk) mid.journal new.journal (g.D.Disk.faults mid.disk) (g.D.Disk.faults new.disk) o c.serve_phase-served.result.whole more) c.into_vec.ensures c.serve_phase-served.ensures.served in
-    record {
-      sound = c.serve_phase-served.ensures.sound;
-      sink = let a = c.loop-orders.invariant.sink in let b = c.print_phase.ensures.faults in omega (arith, a, b);
-      faults = let a = c.loop-orders.invariant.faults in let b = c.serve_phase-served.ensures.faults in omega (arith, a, b);
-      lines = (
-        so_far.0 ++ more ∷ [],
-        whole_text (g.K.Sink.taken c.args.sink.now) (g.K.Sink.taken c.loop-orders.sink) (g.K.Sink.taken c.print_phase.new.sink) so_far.0 more so_far.1 c.in_default.ensures.ok.1,
-        refusal_more so_far.0 more ∙ ap (λ b. b || list_any is_refusal more) so_far.2 ∙ sym (search rules),
-        next_so_far g.D.Disk.tells (g.D.Disk.seen old.disk) (g.D.Disk.seen mid.disk) (g.D.Disk.seen new.disk) old.journal mid.journal new.journal (g.D.Disk.faults old.disk) (g.D.Disk.faults mid.disk) (g.D.Disk.faults new.disk)
-            c.loop-orders.invariant.faults c.serve_phase-served.ensures.faults (λ told. laws.itself told new.disk) (c.loop-orders.yielded ++ c.in-Some.orders ∷ []) c.loop-orders.yielded [] c.in-Some.orders refl so_far.0 more
-            c.serve_phase-served.result.whole so_far.3 phase c.in_default.ensures.ok.0,
-      );
-    }
+    let new = c.new_port.new.self in
+    let result = c.serve_phases.result in
+    let Tells = g.D.Disk.tells in
+    let Ports = g.D.Disk.ports_fail in
+    let s0 = g.D.Disk.seen old.disk in
+    let s1 = g.D.Disk.seen new.disk in
+    let s2 = g.D.Disk.seen result.1 in
+    let l0 = parts_by_level old.version in
+    let f0 = g.D.Disk.faults old.disk in
+    let f2 = g.D.Disk.faults result.1 in
+    let t0 = g.K.Sink.taken c.args.sink.now in
+    let t1 = g.K.Sink.taken c.serve_phases.new.sink in
+    let rose = Rose (g.K.Sink.faults c.args.sink.now) (g.K.Sink.faults c.serve_phases.new.sink) in
+    let same = c.new_port.ensures.same in
+    let stands : Tells → (config : Fields) (h : History) → StandsFor config h s0 old.state l0 → StandsFor config h s1 old.state l0 =
+    λ told config h on. subst (λ st. StandsFor config h s1 st l0) same.0 (subst (λ v. StandsFor config h s1 new.state (parts_by_level v)) same.1 (c.new_port.ensures.stands told config h on)) in
+    ends_idle Tells Ports s0 s1 old.state l0 f0 c.new_port.ensures.idle stands s2 f2 t0 t1 rose c.args.phases result.0
+    (subst (λ f. ScriptEnds Tells Ports s1 s2 old.state l0 f f2 t0 t1 rose c.args.phases result.0) c.new_port.ensures.faults
+    (subst (λ st. ScriptEnds Tells Ports s1 s2 st l0 (g.D.Disk.faults new.disk) f2 t0 t1 rose c.args.phases result.0) same.0
+    (subst (λ v. ScriptEnds Tells Ports s1 s2 new.state (parts_by_level v) (g.D.Disk.faults new.disk) f2 t0 t1 rose c.args.phases result.0) same.1 c.serve_phases.ensures.ends)))
 
 pub returns-in-Err-clause-ends : goal.returns-in-Err-clause-ends
 returns-in-Err-clause-ends g c =
     let old = c.args.engine in
-    let mid = c.loop-orders.engine in
-    let new = c.serve_phase-served.new.engine in
-    let so_far = c.loop-orders.invariant.lines in
-    let more = c.serve_phase-served.result.lines.items in
-    let laws = g.met.D.Disk g.world.𝓛 g.world.𝓜 g.world.𝓡 ((λ s x. x), (λ x. x), (λ x. x), λ x. x) in
-    let phase : Phase g.D.Disk.tells (g.D.Disk.seen mid.disk) (g.D.Disk.seen new.disk) mid.journal new.journal (g.D.Disk.faults mid.disk) (g.D.Disk.faults new.disk) c.in-Some.orders c.serve_phase-served.result.whole more =
-    subst (λ o. Phase g.D.Disk.tells (g.D.Disk.seen mid.disk) (g.D.Disk.seen new.disk) mid.journal new.journal (g.D.Disk.faults mid.disk) (g.D.Disk.faults new.disk) o c.serve_phase-served.result.whole more) c.into_vec.ensures c.serve_phase-served.ensures.served in
-    let s0 = g.K.Sink.faults c.args.sink.now in
-    let s1 = g.K.Sink.faults c.loop-orders.sink in
-    let s2 = g.K.Sink.faults c.print_phase.new.sink in
-    let low = c.loop-orders.invariant.sink in
-    let rest = c.next.new.self.rest.items in
-    let are : c.args.phases ≡ c.loop-orders.yielded ++ c.in-Some.orders ∷ rest =
-    sym c.into_vec-orders-items.ensures ∙ sym c.into_iter-orders-iterator.ensures.into_iter_gives.0 ∙ taken_front c.into_iter-orders-iterator.result c.loop-orders.yielded c.loop-orders.orders-iterator c.loop-orders.yielded_by ∙ ap (λ r. c.loop-orders.yielded ++ r) c.in-Some.ensures.steps.0 in
-    subst (λ d. ScriptEnds g.D.Disk.tells (g.D.Disk.seen old.disk) (g.D.Disk.seen d) old.journal (g.D.Disk.faults old.disk) (g.D.Disk.faults d) (g.K.Sink.taken c.args.sink.now) (g.K.Sink.taken c.print_phase.new.sink) (Rose s0 s2) c.args.phases c.in-Err.status) (sym c.into_disk.ensures)
-    (cut_ends g.D.Disk.tells (g.D.Disk.seen old.disk) (g.D.Disk.seen mid.disk) (g.D.Disk.seen new.disk) old.journal mid.journal new.journal (g.D.Disk.faults old.disk) (g.D.Disk.faults mid.disk) (g.D.Disk.faults new.disk)
-    c.loop-orders.invariant.faults c.serve_phase-served.ensures.faults (λ told. laws.itself told new.disk) c.args.phases c.loop-orders.yielded rest c.in-Some.orders are so_far.0 more
-    c.serve_phase-served.result.whole so_far.3 phase (g.K.Sink.taken c.args.sink.now) (g.K.Sink.taken c.print_phase.new.sink) (Rose s1 s2) (Rose s0 s2) c.in-Err.status (λ rose. omega (arith, rose, low))
-    (front_text (g.K.Sink.taken c.args.sink.now) (g.K.Sink.taken c.loop-orders.sink) (g.K.Sink.taken c.print_phase.new.sink) so_far.0 more so_far.1 c.print_phase.ensures.front) c.in-Err.ensures.err)
-
-pub returns-clause-ends : goal.returns-clause-ends
-returns-clause-ends g c =
-    let old = c.args.engine in
-    let mid = c.loop-orders.engine in
-    let so_far = c.loop-orders.invariant.lines in
-    let laws = g.met.D.Disk g.world.𝓛 g.world.𝓜 g.world.𝓡 ((λ s x. x), (λ x. x), (λ x. x), λ x. x) in
-    let gives = c.into_iter-orders-iterator.ensures.into_iter_gives in
-    let ended = YieldsList-end (YieldsList-from_vec c.into_vec-orders-items.result.items gives.0 (gives.1 ∙ search rules)) c.loop-orders.yielded c.loop-orders.orders-iterator c.loop-orders.yielded_by c.next.result c.next.new.self c.in-None.is c.next.ensures.steps in
-    let whole : c.loop-orders.yielded ≡ c.args.phases = sym (map-id c.loop-orders.yielded) ∙ ended.0 ∙ c.into_vec-orders-items.ensures in
-    let s0 = g.K.Sink.faults c.args.sink.now in
-    let s1 = g.K.Sink.faults c.loop-orders.sink in
+    let new = c.new_port.new.self in
+    let Tells = g.D.Disk.tells in
+    let Ports = g.D.Disk.ports_fail in
+    let s0 = g.D.Disk.seen old.disk in
+    let s1 = g.D.Disk.seen new.disk in
+    let l0 = parts_by_level old.version in
     let f0 = g.D.Disk.faults old.disk in
-    let f1 = g.D.Disk.faults mid.disk in
     let t0 = g.K.Sink.taken c.args.sink.now in
-    let t1 = g.K.Sink.taken c.loop-orders.sink in
-    subst (λ d. ScriptEnds g.D.Disk.tells (g.D.Disk.seen old.disk) (g.D.Disk.seen d) old.journal f0 (g.D.Disk.faults d) t0 t1 (Rose s0 s1) c.args.phases c.status_of.result) (sym c.into_disk-2.ensures)
-    (subst (λ st. ScriptEnds g.D.Disk.tells (g.D.Disk.seen old.disk) (g.D.Disk.seen mid.disk) old.journal f0 f1 t0 t1 (Rose s0 s1) c.args.phases st) (sym c.status_of.ensures)
-    (all_ends g.D.Disk.tells (g.D.Disk.seen old.disk) (g.D.Disk.seen mid.disk) old.journal mid.journal f0 f1 (λ told. laws.itself told mid.disk) c.args.phases so_far.0 t0 t1 (Rose s0 s1) c.loop-orders.refused
-    (subst (λ p. Before g.D.Disk.tells (g.D.Disk.seen old.disk) (g.D.Disk.seen mid.disk) old.journal mid.journal f0 f1 p so_far.0) whole so_far.3) so_far.1 so_far.2))
+    let same = c.new_port.ensures.same in
+    let laws = g.met.D.Disk g.world.𝓛 g.world.𝓜 g.world.𝓡 ((λ s x. x), (λ x. x), (λ x. x), λ x. x) in
+    let stands : Tells → (config : Fields) (h : History) → StandsFor config h s0 old.state l0 → StandsFor config h s1 old.state l0 =
+    λ told config h on. subst (λ st. StandsFor config h s1 st l0) same.0 (subst (λ v. StandsFor config h s1 new.state (parts_by_level v)) same.1 (c.new_port.ensures.stands told config h on)) in
+    subst (λ d. Inside Tells Ports s0 (g.D.Disk.seen d) old.state l0 f0 (g.D.Disk.faults d) t0 t0 c.args.phases) (sym c.into_disk.ensures)
+    (subst (λ f. Inside Tells Ports s0 s1 old.state l0 f0 f t0 t0 c.args.phases) (sym c.new_port.ensures.faults)
+    (none_served Tells Ports s0 s1 old.state l0 f0 c.new_port.ensures.idle stands (λ told. laws.itself told new.disk) t0 c.args.phases (front_whole t0 t0 [] (appends_none t0))))

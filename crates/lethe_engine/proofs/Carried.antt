@@ -104,10 +104,10 @@ module _ (s t : Stored) (headers : List Header) (step : Step) (is : IsStep s t h
       let empty : object new.directory (segment_name t.active.no) ≡ Some (segment_bytes t.active.no []) = subst (λ records. object new.directory (segment_name t.active.no) ≡ Some (segment_bytes t.active.no records)) none there in
       subst (λ records. EndsAt new (segment_name t.active.no) t.active.no records 11) (sym none) (ends_empty new t t.active.no settled empty)
     where
-      placed : Contains (map (λ (made : Object). (made.name, made.bytes)) step.objects.items) (segment_name t.active.no, segment_bytes t.active.no t.active.records)
+      placed : Contains {X = Name × List ℕ} (map (λ (made : Object). (made.name, made.bytes)) step.objects.items) (segment_name t.active.no, segment_bytes t.active.no t.active.records)
           → object (insert_all step.objects.items old.directory) (segment_name t.active.no) ≡ Some (segment_bytes t.active.no t.active.records)
       placed there =
-          let made = from_map (λ (m : Object). (m.name, m.bytes)) step.objects.items (segment_name t.active.no, segment_bytes t.active.no t.active.records) there in
+          let made = from_map {Y = Name × List ℕ} (λ (m : Object). (m.name, m.bytes)) step.objects.items (segment_name t.active.no, segment_bytes t.active.no t.active.records) there in
           let inside = object_contained step.objects.items old.directory made.0 made.1 (written_absent s t headers step coherent is old.directory only) in
           let name : made.0.name ≡ segment_name t.active.no = ap (λ (p : Name × List ℕ). p.0) made.2 in
           let bytes : made.0.bytes ≡ segment_bytes t.active.no t.active.records = ap (λ (p : Name × List ℕ). p.1) made.2 in
