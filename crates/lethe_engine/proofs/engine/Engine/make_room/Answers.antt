@@ -1,0 +1,1 @@
+use Rattle.lethe_engine.proofs.engine.Engine.make_room.Goals as goal
