@@ -21,9 +21,11 @@ use Rattle.lethe_engine.proofs.engine.Engine.record.Goals as goal
 
 pub append-requires-after_bounds : goal.append-requires-after_bounds
 append-requires-after_bounds g c κs within = λ told.
-    let held = c.requires.sound.held told in
-    (addition held.0 c.args.next, prepared_ready (g.D.Disk.seen c.args.self.now.disk) held.0 c.args.self.now.state c.prepare.new.self (parts_by_level c.args.self.now.version) c.prepare.ensures.same held.1 (held.2 c.requires.runs) c.args.next c.requires.spelled c.requires.place c.active_number-no.result c.active_number-no.ensures
-    c.deref.result.now (c.deref.ensures.value ∙ c.in-Ok.ensures.body))
+    let held = c.requires.sound.held told in (
+      addition held.0 c.args.next,
+      prepared_ready (g.D.Disk.seen c.args.self.now.disk) held.0 c.args.self.now.state c.prepare.new.self (parts_by_level c.args.self.now.version) c.prepare.ensures.same held.1 (held.2 c.requires.runs) c.args.next c.requires.spelled c.requires.place c.active_number-no.result c.active_number-no.ensures
+          c.deref.result.now (c.deref.ensures.value ∙ c.in-Ok.ensures.body),
+    )
 
 pub returns-in_default-clause-sound : goal.returns-in_default-clause-sound
 returns-in_default-clause-sound g c = like_sound g.D.Disk.tells (g.D.Disk.seen c.args.self.now.disk) (g.D.Disk.seen c.args.self.now.disk) c.args.self.now.state c.prepare.new.self (parts_by_level c.args.self.now.version) c.prepare.ensures.same (λ told s running. running) c.prepare.ensures.writable c.requires.sound
