@@ -1,5 +1,5 @@
 -- The records of changes, by what is stored.
-use Rattle.std.proofs.Common.{◌≡◌, ◌⊎◌, inl, inr, ◌+◌, ℕ, min, List, [], map, Option, Some, None, refl, sym, ap, ◌∙◌, subst, option_and_then}
+use Rattle.std.proofs.Common.{◌≡◌, inl, inr, ◌+◌, ℕ, min, List, map, Option, Some, None, sym, ap, ◌∙◌, subst, option_and_then}
 use Rattle.std.specs.Prelude.{IsSome, unwrap_or}
 use Rattle.std.specs.FinMap as finmap
 use Rattle.std.specs.Option.{option_or}

@@ -1,5 +1,5 @@
 -- The record of a change is appended.
-use Rattle.std.proofs.Common.{◌≡◌, ◌<◌, ◌≤◌, ◌⊎◌, inl, inr, ℕ, ◌+◌, ◌-◌, max, List, [], ◌∷◌, ◌++◌, map, length, cond, Option, Some, None, refl, sym, ap, ◌∙◌, subst, arith}
+use Rattle.std.proofs.Common.{◌≡◌, ◌<◌, inl, inr, ℕ, ◌+◌, ◌-◌, List, [], ◌∷◌, ◌++◌, map, length, cond, Option, Some, None, refl, sym, ap, ◌∙◌, subst, arith}
 use Rattle.std.specs.Prelude.{Contains, IsSome, false, option_to_list, slice_index}
 use Rattle.std.specs.FinMap.{insert}
 use Rattle.lethe_base.specs.History.{History, Change}
@@ -22,10 +22,10 @@ use Rattle.lethe_cover.specs.Steps.{with_done, with_failed}
 use Rattle.lethe_commit.specs.Append.{EndsAt, IsReady, IsAppended, IsUntouched, longer}
 use Rattle.lethe_stored.specs.Encodes.{Encodes}
 use Rattle.lethe_stored.specs.Files.{Parts}
-use Rattle.lethe_stored.specs.Kept.{IsFor, IsKept}
+use Rattle.lethe_stored.specs.Kept.{IsFor}
 use Rattle.lethe_stored.specs.Left.{IsLeft, IsKeptOr, is_work}
 use Rattle.lethe_stored.specs.Steps.{addition}
-use Rattle.lethe_stored.specs.Stored.{Stored, Segment, IsCoherent, number_of, segment_name, segment_numbers, part_names, appended, count_of}
+use Rattle.lethe_stored.specs.Stored.{Stored, Segment, IsCoherent, number_of, segment_name, part_names, appended}
 use Rattle.lethe_stored.proofs.Parts.{active_part}
 use Rattle.lethe_stored.proofs.Steps.{append_keeps, active_changed, stored_appended}
 use Rattle.lethe_advance.specs.Settled.{HasOnly}
@@ -37,10 +37,10 @@ use Rattle.lethe_state.specs.Remembered.{IsCurrent, Remembers}
 use Rattle.lethe_state.specs.declared.state.State.{State}
 use Rattle.lethe_engine.specs.Changes.{done_by, with_record}
 use Rattle.lethe_engine.specs.Sound.{IsRunning}
-use Rattle.lethe_engine.specs.StandsFor.{StandsFor, retried}
+use Rattle.lethe_engine.specs.StandsFor.{StandsFor}
 use Rattle.lethe_engine.proofs.Carried.{running_back}
 use Rattle.lethe_engine.proofs.Likes.{like_remembered, like_running}
-use Rattle.lethe_engine.proofs.Standing.{left_at_end, stands_done, stands_for, stands_running, stopped_stands}
+use Rattle.lethe_engine.proofs.Standing.{left_at_end, stands_done, stands_for, stopped_stands}
 
 -- the last of the manifest's segments is the active one
 last_number : (o : Option Segment) (number : ℕ) → slice_index (map number_of (option_to_list o) ++ number ∷ []) (length (map number_of (option_to_list o) ++ number ∷ []) - 1) ≡ number

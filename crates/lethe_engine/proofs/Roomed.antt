@@ -1,21 +1,20 @@
 -- Room for a record.
-use Rattle.std.proofs.Common.{◌≡◌, ◌<◌, ◌≤◌, ◌⊎◌, inl, inr, ℕ, ◌+◌, List, length, Option, Some, None, Result, Ok, Err, refl, sym, ap, ◌∙◌, subst, arith}
+use Rattle.std.proofs.Common.{◌≡◌, ◌<◌, inr, ℕ, ◌+◌, List, Option, Some, None, Result, Ok, Err, refl, sym, ap, ◌∙◌, arith}
 use Rattle.std.specs.Prelude.{IfErr, IsErrOf, IsSome}
 use Rattle.lethe_base.specs.History.{History}
 use Rattle.lethe_base.specs.Limits.{max_place}
 use Rattle.lethe_base.specs.declared.call.Call.{Call}
 use Rattle.lethe_base.specs.declared.refused.Refused.{Refused}
 use Rattle.lethe_base.specs.declared.refused.Refused.TheVariants.{Fault, Stopped, Backwards, Pinned, NothingDue, Cancelled, Exhausted, ReadFault, NoMemory, Damaged}
-use Rattle.lethe_build.specs.Built.{most_numbers}
 use Rattle.lethe_manifest.specs.declared.manifest.Manifest.{Manifest}
 use Rattle.lethe_mem.specs.Buffered.{Buffered}
 use Rattle.lethe_stored.specs.Files.{Parts}
 use Rattle.lethe_stored.specs.Stored.{Stored, Segment}
 use Rattle.lethe_state.specs.Records.{MayRefuse}
 use Rattle.lethe_state.specs.Remembered.{IsFrozenIn, Remembers}
-use Rattle.lethe_state.specs.Room.{HasRoom, IsShortToFreeze, frozen_len}
+use Rattle.lethe_state.specs.Room.{HasRoom, IsShortToFreeze}
 use Rattle.lethe_state.specs.declared.state.State.{State}
-use Rattle.lethe_engine.specs.Changes.{HasReason, IsShort, refused_to}
+use Rattle.lethe_engine.specs.Changes.{HasReason, refused_to}
 use Rattle.lethe_engine.specs.Steps.{IsUnfrozenAfter}
 
 -- a call that wasn't begun is in no history

@@ -1,22 +1,18 @@
-use Rattle.std.proofs.Common.{rules, ◌≡◌, ◌<◌, ◌≤◌, ◌+◌, ℕ, Err, length, refl, sym, ap, ◌∙◌, subst, arith}
-use Rattle.std.specs.Prelude.{IfErr, OnOk}
+use Rattle.std.proofs.Common.{rules, ◌≡◌, ◌<◌, ◌+◌, Err, length, refl, sym, ap, ◌∙◌, subst}
+use Rattle.std.specs.Prelude.{IfErr}
 use Rattle.lethe_base.specs.Limits.{max_place}
 use Rattle.lethe_base.specs.declared.call.Call.TheVariants as call
-use Rattle.lethe_base.specs.History.{History}
-use Rattle.lethe_disk.specs.Directory.{Directory}
 use Rattle.lethe_disk.proofs.Going.{goes_then}
 use Rattle.lethe_disk.proofs.Quieting.{on_ok, on_ok_both}
 use Rattle.lethe_segment.specs.declared.record.Record.{Record}
-use Rattle.lethe_cover.specs.Steps.{with_done}
-use Rattle.lethe_stored.specs.Kept.{IsFor}
 use Rattle.lethe_stored.specs.Left.{IsKeptOr}
-use Rattle.lethe_stored.specs.Stored.{Stored, IsCoherent, appended}
+use Rattle.lethe_stored.specs.Stored.{Stored, appended}
 use Rattle.lethe_advance.specs.Shown.{parts_by_level}
 use Rattle.lethe_state.specs.Records.{headers_in}
 use Rattle.lethe_state.specs.Remembered.{Remembers}
 use Rattle.lethe_state.specs.Room.{IsRoomMade}
 use Rattle.lethe_state.proofs.Recording.{delete_recorded}
-use Rattle.lethe_engine.specs.Changes.{HasReason, answered_to, put_over, with_record, written_by}
+use Rattle.lethe_engine.specs.Changes.{HasReason, answered_to, with_record, written_by}
 use Rattle.lethe_engine.specs.Deletes.{IsDeleteOver}
 use Rattle.lethe_engine.specs.Sound.{IsRunning}
 use Rattle.lethe_engine.specs.StandsFor.{StandsFor}

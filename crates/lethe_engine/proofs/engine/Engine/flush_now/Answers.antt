@@ -1,20 +1,17 @@
-use Rattle.std.proofs.Common.{rules, ◌≡◌, ◌+◌, Err, refl, sym, ap, ◌∙◌, subst}
+use Rattle.std.proofs.Common.{rules, ◌≡◌, ◌+◌, Err, sym, ap, ◌∙◌, subst}
 use Rattle.lethe_base.specs.declared.config.Fields.{Fields}
-use Rattle.lethe_stored.specs.Stored.{Stored, froze}
 use Rattle.lethe_advance.specs.Shown.{parts_by_level}
-use Rattle.lethe_advance.specs.Steps.{IsStep}
-use Rattle.lethe_state.specs.Remembered.{Remembers}
-use Rattle.lethe_state.specs.Room.{IsFlushed, IsFrozenWith, unfrozen}
+use Rattle.lethe_state.specs.Room.{IsFlushed, unfrozen}
 use Rattle.lethe_state.specs.declared.state.State.{State}
 use Rattle.lethe_state.proofs.Stepping.{flush_for}
 use Rattle.lethe_engine.specs.Changes.{refused_to}
-use Rattle.lethe_engine.specs.Sound.{IsRunning, IsSmall, IsSound}
+use Rattle.lethe_engine.specs.Sound.{IsSmall, IsSound}
 use Rattle.lethe_engine.specs.StandsFor.{StandsFor}
 use Rattle.lethe_engine.specs.Work.{stepped_to}
 use Rattle.lethe_engine.proofs.Hindered.{hindered_sound, hindered_stands}
-use Rattle.lethe_engine.proofs.Next.{frozen_for, next_done, next_moments, next_sound, next_stands, refused_before}
+use Rattle.lethe_engine.proofs.Next.{next_done, next_moments, next_sound, next_stands, refused_before}
 use Rattle.lethe_engine.proofs.Standing.{stands_moments}
-use Rattle.lethe_engine.proofs.Stepped.{flushed_remembers, flushed_running, frozen_remembers, frozen_running, not_frozen, small_frozen, small_unfrozen}
+use Rattle.lethe_engine.proofs.Stepped.{flushed_remembers, flushed_running, small_unfrozen}
 use Rattle.lethe_engine.proofs.engine.Engine.flush_now.Goals as goal
 
 pub returns-in_err-headers-clause-stands : goal.returns-in_err-headers-clause-stands

@@ -1,6 +1,5 @@
-use Rattle.std.proofs.Common.{◌≡◌, ◌<◌, ◌≤◌, ◌+◌, ℕ, Err, None, length, sym, ap, ◌∙◌, subst, arith}
+use Rattle.std.proofs.Common.{◌≡◌, ◌<◌, ◌+◌, Err, None, length, sym, ap, ◌∙◌, subst, arith}
 use Rattle.lethe_base.specs.Limits.{max_place}
-use Rattle.lethe_base.specs.declared.config.Fields.{Fields}
 use Rattle.lethe_commit.specs.Append.{EndsAt, longer}
 use Rattle.lethe_commit.proofs.Placing.{refused_at_once}
 use Rattle.lethe_manifest.specs.declared.manifest.Manifest.{Manifest}
@@ -8,9 +7,8 @@ use Rattle.lethe_stored.specs.Steps.{addition}
 use Rattle.lethe_cover.specs.Steps.{with_done, with_failed}
 use Rattle.lethe_stored.specs.Stored.{appended, segment_name}
 use Rattle.lethe_advance.specs.Shown.{parts_by_level}
-use Rattle.lethe_state.specs.Records.{halted}
 use Rattle.lethe_state.specs.declared.state.State.{State}
-use Rattle.lethe_engine.specs.Sound.{IsRunning, IsSound}
+use Rattle.lethe_engine.specs.Sound.{IsSound}
 use Rattle.lethe_engine.specs.StandsFor.{StandsFor}
 use Rattle.lethe_engine.proofs.Carried.{running_back}
 use Rattle.lethe_engine.proofs.Hindered.{like_sound, like_stands, sound_halted}

@@ -1,4 +1,4 @@
-use Rattle.std.proofs.Common.{rules, ◌⊎◌, inr}
+use Rattle.std.proofs.Common.{rules, inr}
 use Rattle.std.specs.Prelude.{IsSome}
 use Rattle.lethe_disk.proofs.Quieting.{on_ok}
 use Rattle.lethe_stored.specs.Stored.{Stored}
