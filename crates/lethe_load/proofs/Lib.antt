@@ -2,3 +2,14 @@ pub mod Names
 pub mod Orders
 pub mod Refusals
 pub mod Replaying
+pub mod Sets
+pub mod PagesInOrder
+pub mod FilesInOrder
+pub mod Risen
+pub mod Agreeing
+pub mod Assembled
+pub mod Whole
+pub mod Gated
+pub mod Firsts
+pub mod Encoded
+pub mod Exact

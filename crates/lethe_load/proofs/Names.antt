@@ -6,7 +6,6 @@ use Rattle.std.specs.FinMap.{keys, entries, entries_sorted}
 use Rattle.std.specs.FinMap.Entries.{below_all, is_sorted}
 use Rattle.std.specs.List.Sorted.{IsBinarySearchResult, IsSearchInRange}
 use Rattle.std.specs.Ordering.{is_lt, ordering_reverse}
-use Rattle.std.specs.declared.cmp.Ordering.{Ordering}
 use Rattle.std.specs.declared.cmp.Ordering.TheVariants.{Less, Equal, Greater}
 use Rattle.std.proofs.lemmas.Bool.{and_parts, cases_lt}
 use Rattle.std.proofs.lemmas.List.Elements.{All-nil, All-cons}

@@ -1,7 +1,7 @@
 -- Items that may each stand behind those before it, looked at one after the other.
-use Rattle.std.proofs.Common.{◌≡◌, ℕ, ◌+◌, ◌<◌, List, [], ◌∷◌, ◌++◌, length, get_or, take, drop, refl, sym, ap, subst, ◌∙◌}
+use Rattle.std.proofs.Common.{◌≡◌, ℕ, ◌+◌, ◌<◌, ◌≤◌, List, [], ◌∷◌, ◌++◌, length, get_or, take, drop, sym, ap, subst, ◌∙◌}
 use Rattle.std.specs.List.{AllZip}
-use Rattle.std.proofs.lemmas.List.{take-append-drop, drop_more, take_more}
+use Rattle.std.proofs.lemmas.List.{take-append-drop, drop_more, take_more, take_all}
 use Rattle.lethe_header.specs.Headers.{EachFollows}
 use Rattle.lethe_header.proofs.Follows.{follows_one}
 use Rattle.lethe_load.specs.Damaged.{IsFirstBad}
@@ -31,3 +31,9 @@ zip_pushed R (a ∷ xs) (b ∷ ys) x y all r = (all.0, zip_pushed R xs ys x y al
 pub zip_more : {A B : Type 0} (R : A → B → Type 0) (items : List A) (i : ℕ) (item : A) (old new : List B) (other : B) → i < length items → item ≡ get_or items i item → new ≡ old ++ other ∷ [] → AllZip R (take i items) old → R item other → AllZip R (take (i + 1) items) new
 zip_more R items i item old new other lt is pushed all r =
     subst (λ l. AllZip R l new) (sym (taken_more items i item lt is)) (subst (AllZip R (take i items ++ item ∷ [])) (sym pushed) (zip_pushed R (take i items) old item other all r))
+
+pub zip_none : {A B : Type 0} (R : A → B → Type 0) (ys : List B) → ys ≡ [] → AllZip R [] ys
+zip_none R ys none = subst (AllZip R []) (sym none) tt
+
+pub zip_all : {A B : Type 0} (R : A → B → Type 0) (xs : List A) (i : ℕ) (ys : List B) → length xs ≤ i → AllZip R (take i xs) ys → AllZip R xs ys
+zip_all R xs i ys le all = subst (λ l. AllZip R l ys) (take_all i xs le) all

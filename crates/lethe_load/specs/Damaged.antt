@@ -74,9 +74,12 @@ pub record IsHeaderOf (d : Directory) (cited : Cited) (header : Header) : Type 0
   pub there : object d (file_name cited.no) ≡ Some (header_bytes header)
   pub digest : sha256 (header_bytes header) ≡ cited.digest
 
--- the lines of a header, each with its tile
+-- the lines of some tiles, each with its tile
+abbrev pub placed_in : List TileLine → List (TileLine × PageLine)
+placed_in tiles = flat_map (λ tile. map (λ line. (tile, line)) tile.pages) tiles
+
 abbrev pub placed_lines : Header → List (TileLine × PageLine)
-placed_lines header = flat_map (λ tile. map (λ line. (tile, line)) tile.pages) header.tiles
+placed_lines header = placed_in header.tiles
 
 -- The page of a line, behind those before it in its file: it is there, its number is below the next and is cited for the first time, and it
 -- agrees with its line, its tile and the pages before.

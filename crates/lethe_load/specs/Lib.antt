@@ -1,3 +1,4 @@
 pub mod Loaded
 pub mod Damaged
 pub mod Refused
+pub mod Progress

@@ -1,5 +1,5 @@
 -- What is read of a disk, and what of it a directory encodes.
-use Rattle.std.specs.Prelude.{◌≡◌, ◌⊎◌, ℕ, List, [], length, map, All, Option, Some, None}
+use Rattle.std.specs.Prelude.{◌≡◌, ◌⊎◌, List, [], length, map, All, Option, Some, None}
 use Rattle.std.specs.List.{AllZip}
 use Rattle.lethe_base.specs.declared.config.Fields.{Fields}
 use Rattle.lethe_disk.specs.Directory.{Directory}

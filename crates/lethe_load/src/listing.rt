@@ -30,12 +30,20 @@ impl Listing {
         requires { why ≡ Failed → Rose self.now.faults (D.faults disk.now) }
         ensures { IsInterrupted self.now.faults (D.faults disk.now) result }
     {
-        match why {
-            DiskRefused::Failed => RecoverRefused::Fault {
-                before: self.faults,
-                after: disk.faults(),
-            },
-            DiskRefused::NoMemory => RecoverRefused::NoMemory,
-        }
+        interrupted(disk, self.faults, why)
+    }
+}
+
+/// Why reading stopped where the disk refused a call, with the count of faults before.
+pub fn interrupted<D: Disk>(disk: &D, before: u64, why: DiskRefused) -> RecoverRefused
+    requires { why ≡ Failed → Rose before (D.faults disk.now) }
+    ensures { IsInterrupted before (D.faults disk.now) result }
+{
+    match why {
+        DiskRefused::Failed => RecoverRefused::Fault {
+            before,
+            after: disk.faults(),
+        },
+        DiskRefused::NoMemory => RecoverRefused::NoMemory,
     }
 }

@@ -1,16 +1,22 @@
 //! Reading what the greatest gate commits.
-ghost use Rattle.std.specs.Prelude.{◌≡◌, ◌⊎◌, ◌≤◌, None, IfErr, IfOk, MatchResult};
+ghost use Rattle.std.specs.Prelude.{◌≡◌, ◌⊎◌, ◌↔◌, ◌≤◌, IsTrue, Some, None, IfErr, IfOk, MatchResult};
+ghost use Rattle.std.specs.FinMap.{keys};
 ghost use Rattle.lethe_disk.specs.Quiet.{IsQuiet};
 ghost use Rattle.lethe_commit.specs.Switch.{HasGreatest};
-ghost use Rattle.lethe_load.specs.Loaded.{nothing, read_of, shown, IsLoaded, IsSpelledOut};
+ghost use Rattle.lethe_load.specs.Loaded.{nothing, read_of, shown, IsLoaded, IsRead, IsSpelledOut};
 ghost use Rattle.lethe_load.specs.Refused.{HasReason, IsInterrupted, MayRefuse};
 ghost use Rattle.lethe_load.specs.declared.refused.RecoverRefused.{RecoverRefused};
 ghost use Rattle.lethe_stored.specs.Encodes.{Encodes};
 ghost use Rattle.lethe_stored.specs.Levels.{AreRising};
 ghost use Rattle.lethe_stored.specs.Stored.{Stored, IsCoherent};
 
+use crate::files::load_files;
+use crate::listing::{Listing, interrupted};
+use crate::ordering::are_rising;
+use crate::reading::{load_manifest, load_segments};
 use crate::{RecoverRefused, Recovered};
-use lethe_base::Config;
+use lethe_base::{Config, Kind, List, Name};
+use lethe_commit::choose;
 use lethe_disk::Disk;
 use std::alloc::Global;
 
@@ -45,5 +51,77 @@ pub fn load<D: Disk>(
     ensures quiet { D.tells → IsQuiet (D.seen disk.old) (D.seen disk.new) }
     ensures faults { D.faults disk.old ≤ D.faults disk.new }
 {
-    Err(RecoverRefused::NoMemory)
+    load_greatest(alloc, disk, config)
+}
+
+fn load_greatest<D: Disk>(
+    alloc: Global,
+    disk: &mut D,
+    config: &Config,
+) -> Result<Recovered<D>, RecoverRefused>
+    ensures spelled { IfOk result (λ read. IsSpelledOut config.now (shown read)) }
+    ensures found { D.tells → IfOk result (λ read. IsLoaded config.now (D.seen disk.old).directory (shown read)) }
+    ensures refused { IfErr result (MayRefuse D.tells config.now (D.seen disk.old).directory (D.faults disk.old) (D.faults disk.new)) }
+    ensures quiet { D.tells → IsQuiet (D.seen disk.old) (D.seen disk.new) }
+    ensures faults { D.faults disk.old ≤ D.faults disk.new }
+{
+    let faults = disk.faults();
+    let names = match disk.names(alloc) {
+        Ok(names) => names,
+        Err(why) => return Err(interrupted(disk, faults, why)),
+    };
+    let listing = Listing { faults, names };
+    match choose(&listing.names) {
+        None => Ok(Recovered {
+            manifest: None,
+            segments: List::of(Vec::new(alloc)),
+            files: Vec::new(alloc),
+        }),
+        Some(number) => load_gated(alloc, disk, &listing, number, config),
+    }
+}
+
+fn is_same(kept: &Config, config: &Config) -> bool
+    ensures { IsTrue result ↔ (kept.now ≡ config.now) }
+{
+    kept == config
+}
+
+// Loads what the gate of this number commits, the greatest.
+fn load_gated<D: Disk>(
+    alloc: Global,
+    disk: &mut D,
+    listing: &Listing,
+    number: u64,
+    config: &Config,
+) -> Result<Recovered<D>, RecoverRefused>
+    requires since { listing.now.faults ≤ D.faults disk.old }
+    requires listed { D.tells → listing.now.names.items ≡ keys (D.seen disk.old).directory }
+    requires greatest { D.tells → HasGreatest (Some number) (D.seen disk.old).directory }
+    ensures spelled { IfOk result (λ read. IsSpelledOut config.now (shown read)) }
+    ensures found { D.tells → IfOk result (λ read. IsRead config.now (D.seen disk.old).directory (shown read)) }
+    ensures refused { IfErr result (MayRefuse D.tells config.now (D.seen disk.old).directory listing.now.faults (D.faults disk.new)) }
+    ensures quiet { D.tells → IsQuiet (D.seen disk.old) (D.seen disk.new) }
+    ensures faults { D.faults disk.old ≤ D.faults disk.new }
+{
+    let manifest = load_manifest(alloc, disk, listing, number)?;
+    if !is_same(&manifest.config, config) {
+        return Err(RecoverRefused::OtherConfig {
+            kept: manifest.config,
+        });
+    }
+    let segments = load_segments(alloc, disk, listing, manifest.segments.items())?;
+    let files = load_files(alloc, disk, listing, manifest.next, manifest.files.items())?;
+    if !are_rising(manifest.files.items(), &files) {
+        let name = Name {
+            kind: Kind::Manifest,
+            no: number,
+        };
+        return Err(RecoverRefused::Damaged { name });
+    }
+    Ok(Recovered {
+        manifest: Some(manifest),
+        segments,
+        files,
+    })
 }

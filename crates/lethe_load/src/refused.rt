@@ -27,3 +27,11 @@ impl<T: Drop> From<AllocFailed<T>> for RecoverRefused {
         RecoverRefused::NoMemory
     }
 }
+
+impl From<lethe_base::NoMemory> for RecoverRefused {
+    ghost from_gives = { λ _ why. why ≡ refused.NoMemory };
+
+    fn from(_: lethe_base::NoMemory) -> Self {
+        RecoverRefused::NoMemory
+    }
+}

@@ -1,10 +1,9 @@
-use Rattle.std.proofs.Common.{◌≡◌, ◌<◌, ◌+◌, [], ◌∷◌, ◌++◌, All, length, get_or, take, refl, sym, ap, subst, ◌∙◌, arith, length-append}
+use Rattle.std.proofs.Common.{◌≡◌, ◌<◌, ◌+◌, [], ◌∷◌, ◌++◌, All, length, get_or, take, sym, ap, subst, ◌∙◌, arith, length-append}
 use Rattle.std.specs.FinMap.{keys}
 use Rattle.std.specs.List.{AllZip}
-use Rattle.std.proofs.lemmas.List.{get_or_default, take_all}
+use Rattle.std.proofs.lemmas.List.{get_or_default}
 use Rattle.std.proofs.lemmas.List.Elements.{All-nil, All-push}
 use Rattle.lethe_disk.proofs.Quieting.{quiet_itself, quiet_then}
-use Rattle.lethe_header.specs.Headers.{EachFollows}
 use Rattle.lethe_header.proofs.Follows.{follows_none}
 use Rattle.lethe_segment.specs.Segments.{Ascends}
 use Rattle.lethe_load.specs.Damaged.{IsReplayed, IsSoundSegment, IsDamagedSegment}

@@ -1,4 +1,4 @@
-use Rattle.std.proofs.Common.{◌≡◌, IsTrue, ◌↔◌, sym, subst, ◌∙◌}
+use Rattle.std.proofs.Common.{IsTrue, ◌↔◌, sym, subst, ◌∙◌}
 use Rattle.std.specs.Prelude.{IsSome}
 use Rattle.lethe_disk.specs.Directory.{object}
 use Rattle.lethe_load.proofs.Names.{found_listed}
