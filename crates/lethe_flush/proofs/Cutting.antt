@@ -1,28 +1,26 @@
 -- The files that were built of entries, as they are stored: their objects have numbers of their own, and as a layout has them they are made of the entries.
-use Rattle.std.proofs.Common.{◌≡◌, ◌≢◌, ◌⊎◌, inl, inr, ℕ, zero, suc, ◌+◌, ◌-◌, ◌<◌, ◌≤◌, Bool, true, false, ◌&&◌, IsTrue, List, [], ◌∷◌, ◌++◌, length, get_or, map, take, drop, All, AllPairs, Contains, IsPermutation, Some, refl, sym, ap, ◌∙◌, subst, append_assoc, append-nil, length-append, arith}
-use Rattle.std.specs.Prelude.{flat_map, fold, slice_get}
+use Rattle.std.proofs.Common.{◌≡◌, ◌≢◌, inl, inr, ℕ, zero, suc, ◌+◌, ◌<◌, ◌≤◌, List, [], ◌∷◌, length, map, All, AllPairs, Contains, refl, sym, ap, ◌∙◌, subst, arith}
+use Rattle.std.specs.Prelude.{flat_map}
 use Rattle.std.specs.List.{AllZip, range_with_len, zip}
-use Rattle.std.proofs.lemmas.List.{length-map, map-append}
-use Rattle.std.proofs.lemmas.List.Concat.{flat_map-append}
-use Rattle.std.proofs.lemmas.List.Elements.{All-nil, All-cons, All-head, All-tail, All-map, All-weaker}
+use Rattle.std.proofs.lemmas.List.Elements.{All-nil, All-cons, All-head, All-tail, All-map}
 use Rattle.std.proofs.lemmas.List.FromFn.{length-range_with_len, get_or-range_with_len}
 use Rattle.std.proofs.lemmas.List.Folds.{flat_map-map}
 use Rattle.sha2.specs.Sha256.{sha256}
 use Rattle.lethe_base.specs.Layout.{Tile}
 use Rattle.lethe_base.specs.declared.name.Name.{Name}
-use Rattle.lethe_build.specs.Built.{AreFilesOf, IsFileOf, all_numbers, numbers_of}
+use Rattle.lethe_build.specs.Built.{IsFileOf, all_numbers, numbers_of}
 use Rattle.lethe_build.specs.declared.built.Built.{Built}
 use Rattle.lethe_build.proofs.TileLines.{zip_length}
 use Rattle.std.proofs.lemmas.List.Elements.{Contains-append_cases}
 use Rattle.lethe_cover.proofs.Common.{Contains-append_left, Contains-append_right}
-use Rattle.lethe_cover.proofs.Lists.{Pairs, all_from, flat_from, flat_in, in_map, in_rest, map_from, pairs_append, pairs_from, pairs_map, pairs_parts, pairs_to, pairs_unmap}
+use Rattle.lethe_cover.proofs.Lists.{Pairs, all_from, flat_from, flat_in, in_map, pairs_append, pairs_map, pairs_parts, pairs_to, pairs_unmap}
 use Rattle.lethe_file.specs.Agreement.{Agrees, FileAgrees, page_name}
 use Rattle.lethe_follows.specs.Filed.{AreNewFiles}
 use Rattle.lethe_header.specs.Headers as headers
 use Rattle.lethe_header.specs.Facts.{lines_of}
 use Rattle.lethe_header.specs.declared.header.PageLine.{PageLine}
 use Rattle.lethe_moves.proofs.Common.{All-contains, first_is}
-use Rattle.lethe_stored.specs.Files.{StoredFile, IsFile, file_name, lines_in, objects_in, objects_of}
+use Rattle.lethe_stored.specs.Files.{StoredFile, IsFile, lines_in, objects_in, objects_of}
 use Rattle.lethe_flush.specs.Apart.{IsSpelled, stored_of}
 
 -- what is true of each file that was built of some tiles

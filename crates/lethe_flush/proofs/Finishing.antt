@@ -1,7 +1,6 @@
 -- What a flush promises of files that were built and taken apart.
-use Rattle.std.proofs.Common.{◌≡◌, ◌≢◌, ℕ, get_or, ◌+◌, ◌<◌, ◌≤◌, Bool, List, length, map, All, AllPairs, IsPermutation, refl, sym, ap, ◌∙◌, subst, arith}
-use Rattle.std.specs.List.{AllZip}
-use Rattle.std.proofs.lemmas.List.Elements.{All-map, All-weaker}
+use Rattle.std.proofs.Common.{◌≡◌, ◌≢◌, ℕ, get_or, ◌+◌, ◌≤◌, Bool, List, length, map, All, AllPairs, IsPermutation, refl, sym, subst, arith}
+use Rattle.std.proofs.lemmas.List.Elements.{All-map}
 use Rattle.std.proofs.lemmas.List.Sorted.{IsPermutation-refl}
 use Rattle.sha2.proofs.Facts256.{length-sha256}
 use Rattle.lethe_base.specs.Entries.{IsAscending}
@@ -17,7 +16,6 @@ use Rattle.lethe_cover.proofs.Lists.{pairs_to, pairs_unmap}
 use Rattle.lethe_cover.proofs.Lists as lists
 use Rattle.lethe_header.specs.Headers as headers
 use Rattle.lethe_header.specs.Headers.{header_bytes}
-use Rattle.lethe_header.specs.declared.header.Header.{Header}
 use Rattle.lethe_manifest.specs.Manifests as manifests
 use Rattle.lethe_manifest.specs.declared.manifest.Cited.{Cited}
 use Rattle.lethe_merge.specs.Merge.{merged}

@@ -1,7 +1,7 @@
 -- The files that were built of entries are made of them, as a layout has them.
-use Rattle.std.proofs.Common.{◌≡◌, ◌≢◌, ℕ, suc, ◌+◌, ◌*◌, ◌-◌, ◌<◌, ◌≤◌, Bool, true, false, ◌&&◌, IsTrue, List, [], ◌∷◌, ◌++◌, length, get_or, map, take, drop, All, AllPairs, Contains, IsPermutation, Some, refl, sym, ap, ◌∙◌, subst, arith}
-use Rattle.std.specs.Prelude.{flat_map, fold, ◌↔◌}
-use Rattle.std.specs.List.{AllZip, range_with_len}
+use Rattle.std.proofs.Common.{◌≡◌, ℕ, ◌*◌, ◌-◌, ◌<◌, Bool, true, false, ◌&&◌, List, [], ◌∷◌, ◌++◌, length, get_or, map, take, drop, All, AllPairs, Contains, IsPermutation, refl, sym, ap, ◌∙◌, subst, arith}
+use Rattle.std.specs.Prelude.{flat_map}
+use Rattle.std.specs.List.{AllZip}
 use Rattle.std.specs.Ordering.{is_le}
 use Rattle.std.specs.declared.cmp.Ordering.{Ordering}
 use Rattle.std.specs.declared.cmp.Ordering.TheVariants.{Less, Greater}
@@ -11,7 +11,6 @@ use Rattle.std.proofs.lemmas.List.Concat.{flat_map-append}
 use Rattle.std.proofs.lemmas.List.Elements.{All-nil, All-cons, All-head, All-tail, All-map, Contains-get_or}
 use Rattle.std.proofs.lemmas.List.Sorted.{Contains-permutation, IsPermutation-append, IsPermutation-refl, IsPermutation-sym}
 use Rattle.lethe_base.specs.Entries.{IsAscending}
-use Rattle.lethe_base.specs.Held.{InFiles}
 use Rattle.lethe_base.specs.Keys.{Bytes, key_cmp}
 use Rattle.lethe_base.specs.Layout.{File, Tile, entries_of}
 use Rattle.lethe_base.specs.Shapes.{lower_key, upper_key}
@@ -20,7 +19,7 @@ use Rattle.lethe_base.specs.declared.entry.Entry.{Entry}
 use Rattle.lethe_tile.specs.Woven.{joined, IsCut, IsTile}
 use Rattle.lethe_tile.proofs.Orders.{Across, HasLowerKey, pairs_from_ascending}
 use Rattle.lethe_tile.proofs.Pages.{cut_some}
-use Rattle.lethe_build.specs.Built.{AreFilesOf, IsFileOf, IsToldBy, all_numbers, pages_of}
+use Rattle.lethe_build.specs.Built.{AreFilesOf, IsFileOf, IsToldBy, pages_of}
 use Rattle.lethe_build.specs.Parts.{IsBelow}
 use Rattle.lethe_build.specs.declared.built.Built.{Built}
 use Rattle.lethe_build.proofs.Groups.{tiles_below}
@@ -28,13 +27,11 @@ use Rattle.lethe_build.proofs.Whole.{key_there, parts_across, parts_all, tile_on
 use Rattle.lethe_cover.proofs.Lists.{Pairs, all_from, flat_from, flat_in, pairs_from, pairs_to}
 use Rattle.lethe_fade.specs.Spans.{overlaps}
 use Rattle.lethe_file.specs.Agreement.{entries_in}
-use Rattle.lethe_follows.specs.Filed.{AreNewFiles}
 use Rattle.lethe_follows.proofs.Tiled.{file_tiled}
 use Rattle.lethe_header.specs.declared.header.TileLine.{TileLine}
 use Rattle.lethe_mem.proofs.Places.{turned}
-use Rattle.lethe_moves.proofs.Common.{All-contains, first_is, first_or_rest, ⊎_elim, none_in}
+use Rattle.lethe_moves.proofs.Common.{first_is, first_or_rest, ⊎_elim, none_in}
 use Rattle.lethe_moves.specs.Files.{IsClearOf, IsTight, IsTiled, keys_of}
-use Rattle.lethe_moves.specs.Files as moves
 use Rattle.lethe_moves.specs.Made.{AreMade}
 use Rattle.lethe_stored.specs.Files.{StoredFile, IsFile, file_of, tiles_of}
 use Rattle.lethe_flush.specs.Apart.{stored_of}
@@ -154,8 +151,7 @@ module _ (upto : ℕ) where
   clear_pairs (group ∷ groups) [] zipped each pairs = absurd zipped
   clear_pairs (group ∷ groups) (file ∷ files) zipped each pairs =
       let some = All-head IsSome group groups each in
-      let rest = All-tail IsSome group groups each in
-      (
+      let rest = All-tail IsSome group groups each in (
         (λ other there. subst (λ tiles. AreClear tiles other.tiles) (sym (stored_tiles upto group file zipped.0)) (clear_behind group some groups files zipped.1 rest (all_from (Across IsBelow group) groups pairs.0) other there)),
         clear_pairs groups files zipped.1 rest pairs.1,
       )

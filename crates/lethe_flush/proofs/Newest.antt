@@ -1,5 +1,5 @@
 -- The newest entries of records: where a record more comes behind them, how many they are, what they are spelled as, and which list they are.
-use Rattle.std.proofs.Common.{◌≡◌, ◌≤◌, ◌+◌, ℕ, Bool, true, false, cond, List, [], ◌∷◌, ◌++◌, map, fold, filter_map, length, is_some, Some, All, Contains, refl, sym, ap, ◌∙◌, subst, arith}
+use Rattle.std.proofs.Common.{◌≡◌, ◌≤◌, ◌+◌, ℕ, Bool, true, false, cond, List, [], ◌∷◌, ◌++◌, map, fold, filter_map, length, is_some, Some, All, refl, sym, ap, ◌∙◌, subst, arith}
 use Rattle.std.proofs.lemmas.List.{map-append, length-map}
 use Rattle.std.specs.Cmp.Lexicographic.{nat_list_cmp_total}
 use Rattle.std.specs.FinMap as finmap
@@ -57,8 +57,8 @@ inserts_few entry old new ascends inserts =
       few,
       ap length same,
       length-put key_cmp nat_list_cmp_total entry.key entry (by_key old) sorted,
-      length-map new (λ (e : Entry). (e.key, e)),
-      length-map old (λ (e : Entry). (e.key, e)),
+      length-map {B = Bytes × Entry} new (λ (e : Entry). (e.key, e)),
+      length-map {B = Bytes × Entry} old (λ (e : Entry). (e.key, e)),
     )
   where
     by : (b : Bool) (n : ℕ) → cond b n (n + 1) ≤ n + 1

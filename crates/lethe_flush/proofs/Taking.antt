@@ -8,13 +8,11 @@ use Rattle.std.proofs.lemmas.List.FromFn.{length-range_with_len}
 use Rattle.lethe_base.specs.declared.name.Name.{Name}
 use Rattle.lethe_build.specs.Built.{numbers_of}
 use Rattle.lethe_build.specs.declared.built.Built.{Built}
-use Rattle.lethe_commit.specs.declared.objects.Object.{Object}
 use Rattle.lethe_file.specs.Agreement.{page_name}
 use Rattle.lethe_header.specs.Facts.{lines_of}
-use Rattle.lethe_header.specs.Headers.{header_bytes}
 use Rattle.lethe_header.specs.declared.header.PageLine.{PageLine}
 use Rattle.lethe_manifest.specs.declared.manifest.Cited.{Cited}
-use Rattle.lethe_stored.specs.Files.{StoredFile, cited_of, file_name, objects_in, objects_of}
+use Rattle.lethe_stored.specs.Files.{StoredFile, cited_of, file_name, objects_in}
 use Rattle.lethe_flush.specs.Apart.{IsOf, IsSpelled, numbered, stored_of}
 use Rattle.lethe_flush.specs.Flushed.{named_of}
 use Rattle.lethe_flush.specs.declared.flushed.Flushed.{Flushed}

@@ -15,3 +15,6 @@ pub use flushing::flush_of;
 pub use laws::{flush_is_one, newest_are_frozen};
 pub use pending::pending_of;
 pub use replaying::newest_of;
+
+#[cfg(test)]
+mod tests;

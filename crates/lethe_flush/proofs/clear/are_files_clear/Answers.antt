@@ -1,4 +1,4 @@
-use Rattle.std.proofs.Common.{sym, ap, ◌∙◌, subst, arith, refl}
+use Rattle.std.proofs.Common.{sym, ◌∙◌, arith, refl}
 use Rattle.lethe_version.specs.Versions.{levels_of}
 use Rattle.lethe_flush.specs.Clear.{IsClearOf}
 use Rattle.lethe_flush.proofs.Clearness.{level_more, level_of_all, all_levels}

@@ -1,4 +1,4 @@
-use Rattle.std.proofs.Common.{sym, ap, ◌∙◌, ◌≡◌, subst, refl}
+use Rattle.std.proofs.Common.{◌≡◌}
 use Rattle.lethe_fade.specs.Spans.{KeyRange}
 use Rattle.lethe_moves.specs.Flushes.{span_of}
 use Rattle.lethe_version.specs.Versions.{files_of}

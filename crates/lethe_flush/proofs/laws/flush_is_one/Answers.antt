@@ -1,7 +1,6 @@
-use Rattle.std.proofs.Common.{map, get_or, All, AllPairs, ◌≢◌, ◌<◌, ◌≤◌, arith}
+use Rattle.std.proofs.Common.{map, get_or, All, ◌≢◌, ◌<◌, ◌≤◌, arith}
 use Rattle.std.proofs.lemmas.List.Elements.{All-map, All-weaker}
 use Rattle.lethe_base.specs.Layout.{File, files_of}
-use Rattle.lethe_moves.specs.Files.{IsClearOf}
 use Rattle.lethe_cover.proofs.Lists.{pairs_from, pairs_map, pairs_to}
 use Rattle.lethe_stored.specs.Files.{StoredFile, file_of}
 use Rattle.lethe_flush.proofs.laws.flush_is_one.Goals as goal

@@ -1,7 +1,6 @@
-use Rattle.std.proofs.Common.{sym, ap, ◌∙◌, map}
+use Rattle.std.proofs.Common.{sym, ap, ◌∙◌}
 use Rattle.std.specs.FinMap as finmap
 use Rattle.lethe_base.specs.Layout.{buffer_of, frozen_records}
-use Rattle.lethe_stored.specs.Stored.{plain}
 use Rattle.lethe_flush.proofs.Newest.{newest_values}
 use Rattle.lethe_flush.proofs.laws.newest_are_frozen.Goals as goal
 

@@ -1,6 +1,4 @@
-use Rattle.std.proofs.Common.{◌≡◌, List, [], map, ap, ◌∙◌, filter_map, rules, ℕ}
-use Rattle.std.proofs.lemmas.Iterator.{items_from_collect}
-use Rattle.std.proofs.lemmas.Iterator.Consumers.{YieldsList-from_rest}
+use Rattle.std.proofs.Common.{◌≡◌, [], map, ap, ◌∙◌, filter_map, rules, ℕ}
 use Rattle.lethe_base.specs.declared.pending.Pending.{Pending}
 use Rattle.lethe_stored.specs.Stored.{erase_of}
 use Rattle.lethe_flush.specs.ByPlace.{with_erases}

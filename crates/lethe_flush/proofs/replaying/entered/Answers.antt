@@ -1,6 +1,5 @@
 use Rattle.std.proofs.Common.{subst, sym, ap, length, ◌∷◌, [], ◌++◌, arith, length-append}
 use Rattle.lethe_base.specs.Entries.{Inserts}
-use Rattle.lethe_segment.specs.declared.record.Record.TheVariants as of
 use Rattle.lethe_stored.specs.Replayed.{AreNewestOf}
 use Rattle.lethe_flush.proofs.Newest.{newest_none, newest_entered, newest_still, inserts_few}
 use Rattle.lethe_flush.proofs.replaying.entered.Goals as goal
