@@ -54,8 +54,7 @@ module _ {C F : Type 0} (tells : Type 0) (sound : C → Type 0) (left : C → Li
     sound_too = λ told agree all. subst (All sound) (sym is) (All-append sound old (part ∷ []) all (All-cons sound part [] (sounds told (All-head agrees file [] agree)) (All-nil sound)));
     besides = λ agree entry.
         let next = (between (All-head agrees file [] agree)).each entry in
-        let both : flat_map left new ≡ flat_map left old ++ left part = ap (flat_map left) is ∙ flat_map-append left old (part ∷ []) ∙ ap (λ l. flat_map left old ++ l) (append-nil (left part)) in
-        (
+        let both : flat_map left new ≡ flat_map left old ++ left part = ap (flat_map left) is ∙ flat_map-append left old (part ∷ []) ∙ ap (λ l. flat_map left old ++ l) (append-nil (left part)) in (
           λ has. ⊎_elim (λ before. inl before) (λ here. inr ((0, entries_of file, omega arith, refl, (next.0 here).0), (next.0 here).1))
               (Contains-append_cases (flat_map left old) (left part) entry (subst (λ l. Contains l entry) both has)),
           λ either. subst (λ l. Contains l entry) (sym both) (⊎_elim (λ before. Contains-append_left (flat_map left old) (left part) entry before)
@@ -69,8 +68,7 @@ module _ {C F : Type 0} (tells : Type 0) (sound : C → Type 0) (left : C → Li
     besides = λ agree entry.
         let one = first.besides (all_left agrees xs ys agree) entry in
         let two = second.besides (all_right agrees xs ys agree) entry in
-        let joins : map entries_of (xs ++ ys) ≡ map entries_of xs ++ map entries_of ys = map-append entries_of xs ys in
-        (
+        let joins : map entries_of (xs ++ ys) ≡ map entries_of xs ++ map entries_of ys = map-append entries_of xs ys in (
           λ has. ⊎_elim
               (λ before. ⊎_elim (λ earlier. inl earlier) (λ here. inr (subst (Any (Has entry)) (sym joins) (Any-left (Has entry) (map entries_of xs) (map entries_of ys) here.0), here.1)) (one.0 before))
               (λ here. inr (subst (Any (Has entry)) (sym joins) (Any-right (Has entry) (map entries_of xs) (map entries_of ys) here.0), here.1))
@@ -102,8 +100,7 @@ module _ {C F : Type 0} (tells : Type 0) (sound : C → Type 0) (left : C → Li
       → AreReadBetween lo hi active frozen (map entries_of files) (flat_map left b)
   all_read active frozen files a b first adds agree entry =
       let buffers = first entry in
-      let more = adds.besides agree entry in
-      (
+      let more = adds.besides agree entry in (
         λ has. ⊎_elim (λ before. let both = buffers.0 before in (⊎_elim (λ here. inl here) (λ none. absurd (none_of (Has entry) none)) both.0, both.1))
             (λ here. (inr here.0, here.1)) (more.0 has),
         λ both. more.1 (⊎_elim (λ here. inl (buffers.1 (inl here, both.1))) (λ here. inr (here, both.1)) both.0),
@@ -112,8 +109,7 @@ module _ {C F : Type 0} (tells : Type 0) (sound : C → Type 0) (left : C → Li
 -- the entries of the buffers
 pub buffers_read : (lo hi : Bytes) (active frozen : List Entry) → AreReadBetween lo hi active frozen [] (entries_between lo hi active ++ entries_between lo hi frozen)
 buffers_read lo hi active frozen entry =
-    let within = λ (e : Entry). is_between lo hi e.key in
-    (
+    let within = λ (e : Entry). is_between lo hi e.key in (
       λ has. ⊎_elim (λ first. let both = from_filter within active entry first in (inl (inl both.0), both.1)) (λ second. let both = from_filter within frozen entry second in (inl (inr both.0), both.1))
           (Contains-append_cases (entries_between lo hi active) (entries_between lo hi frozen) entry has),
       λ both. ⊎_elim

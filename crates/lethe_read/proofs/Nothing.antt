@@ -26,9 +26,9 @@ pub nothing_read : (lo hi : Bytes) (active frozen : List Entry) (files : List (L
 nothing_read lo hi active frozen files ends entry = (
   λ has. absurd (omega (arith, has.1)),
   λ both. absurd (
-  let before : key_cmp lo hi ≡ Less = ends_behind lo hi entry.key (key_cmp lo entry.key) refl both.1 in
-  let clash : false ≡ true = sym (ap is_ge before) ∙ ends in
-  cc),
+      let before : key_cmp lo hi ≡ Less = ends_behind lo hi entry.key (key_cmp lo entry.key) refl both.1 in
+      let clash : false ≡ true = sym (ap is_ge before) ∙ ends in
+      cc),
 )
 
 pub nothing_merged : (erases : List Pending) → pairs_of (merged [] erases true) ≡ []

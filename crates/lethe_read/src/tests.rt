@@ -1,8 +1,6 @@
 use super::*;
-use crate::part::{Part, copies_between};
 use lethe_base::{Body, Entry, Key, Pending, Range, Value};
-use lethe_disk::{Cursor, Disk};
-use lethe_file::FileCursor;
+use lethe_disk::Disk;
 use lethe_mem::{Buffer, VecBuffer};
 use lethe_memdisk::MemDisk;
 use lethe_version::Version;
@@ -19,24 +17,29 @@ fn key_of(alloc: Global, text: &str) -> Result<Key, Fail> {
     Ok(Key::new(text.as_bytes().to_vec(alloc)?)?)
 }
 
+fn entry_of(alloc: Global, row: &Row) -> Result<Entry, Fail> {
+    let (key, seq, dkey) = *row;
+    let body = match dkey {
+        Some(dkey) => Body::Put {
+            dkey,
+            value: Value::new([seq].as_slice().to_vec(alloc)?)?,
+        },
+        None => Body::Tomb,
+    };
+    Ok(Entry {
+        seq: seq as u64,
+        key: key_of(alloc, key)?,
+        body,
+        since: None,
+    })
+}
+
 fn buffer_of(alloc: Global, rows: &[Row]) -> Result<VecBuffer, Fail> {
     let mut buffer = VecBuffer::new(alloc);
     for row in rows {
-        let (key, seq, dkey) = *row;
-        let body = match dkey {
-            Some(dkey) => Body::Put {
-                dkey,
-                value: Value::new([seq].as_slice().to_vec(alloc)?)?,
-            },
-            None => Body::Tomb,
-        };
+        let entry = entry_of(alloc, row)?;
         buffer.reserve()?;
-        buffer.insert(Entry {
-            seq: seq as u64,
-            key: key_of(alloc, key)?,
-            body,
-            since: None,
-        });
+        buffer.insert(entry);
     }
     Ok(buffer)
 }
@@ -55,7 +58,21 @@ fn is_value(value: &Value, byte: u8) -> bool {
     value.bytes() == [byte].as_slice()
 }
 
+/// Whether these are the pairs.
+fn are_shown(pairs: &[(Key, u64, Value)], wanted: &[Shown]) -> bool {
+    let mut same = pairs.len() == wanted.len();
+    for (pair, shown) in pairs.iter().zip(wanted) {
+        let (key, dkey, value) = pair;
+        same = same
+            && key.bytes() == shown.0.as_bytes()
+            && *dkey == shown.1
+            && is_value(value, shown.2);
+    }
+    same
+}
+
 const ACTIVE: [Row; 3] = [("b", 7, Some(20)), ("d", 8, None), ("f", 9, Some(90))];
+
 const FROZEN: [Row; 4] = [
     ("a", 1, Some(10)),
     ("b", 2, Some(11)),
@@ -63,16 +80,85 @@ const FROZEN: [Row; 4] = [
     ("e", 4, Some(13)),
 ];
 
+/// A store without files.
+#[derive(Drop)]
+struct Store {
+    active: VecBuffer,
+    frozen: VecBuffer,
+    version: Version<MemDisk>,
+}
+
+fn store_of(alloc: Global) -> Result<Store, Fail> {
+    let active = buffer_of(alloc, &ACTIVE)?;
+    let frozen = buffer_of(alloc, &FROZEN)?;
+    let version = Version::of(alloc, Vec::new(alloc))?;
+    Ok(Store {
+        active,
+        frozen,
+        version,
+    })
+}
+
+/// Whether the key has this delete key and value, or nothing.
+fn has(
+    alloc: Global,
+    port: &mut <MemDisk as Disk>::Port,
+    store: &Store,
+    erases: &[Pending],
+    key: &str,
+    wanted: Option<(u64, u8)>,
+) -> Result<bool, Fail> {
+    let key = key_of(alloc, key)?;
+    let frozen = Some(&store.frozen);
+    match get(
+        alloc,
+        &store.active,
+        frozen,
+        &store.version,
+        erases,
+        port,
+        &key,
+    )? {
+        Some((dkey, value)) => {
+            Ok(wanted.map_or(false, |pair| dkey == pair.0 && is_value(&value, pair.1)))
+        }
+        None => Ok(wanted.is_none()),
+    }
+}
+
+/// Whether these are the pairs of the range.
+fn lists(
+    alloc: Global,
+    port: &mut <MemDisk as Disk>::Port,
+    store: &Store,
+    erases: &[Pending],
+    range: (&str, &str),
+    wanted: &[Shown],
+) -> Result<bool, Fail> {
+    let lo = key_of(alloc, range.0)?;
+    let hi = key_of(alloc, range.1)?;
+    let frozen = Some(&store.frozen);
+    let pairs = scan(
+        alloc,
+        &store.active,
+        frozen,
+        &store.version,
+        erases,
+        port,
+        &lo,
+        &hi,
+    )?;
+    Ok(are_shown(&pairs, wanted))
+}
+
 #[test]
-fn a_key_has_what_the_newest_buffer_says(rt: HostRuntime) -> Result<(), Fail> {
+fn a_key_has_what_its_newest_entry_says(rt: HostRuntime) -> Result<(), Fail> {
     let alloc = rt.alloc();
     let mut disk = MemDisk::new(alloc, 0, Vec::new(alloc))?;
     let mut port = disk.port(alloc)?;
-    let version = Version::<MemDisk>::of(alloc, Vec::new(alloc))?;
-    let active = buffer_of(alloc, &ACTIVE)?;
-    let frozen = buffer_of(alloc, &FROZEN)?;
+    let store = store_of(alloc)?;
     let erases = [erase_of(6, 13, 14)?, erase_of(6, 20, 21)?];
-    let rows: [(&str, Option<(u64, u8)>); 7] = [
+    let rows: [(&str, Option<(u64, u8)>); 6] = [
         ("a", Some((10, 1))),
         // It stands behind the erase of its delete key.
         ("b", Some((20, 7))),
@@ -81,32 +167,41 @@ fn a_key_has_what_the_newest_buffer_says(rt: HostRuntime) -> Result<(), Fail> {
         // It stands before the erase.
         ("e", None),
         ("f", Some((90, 9))),
-        ("", None),
     ];
-    for (text, wanted) in rows {
-        if text.is_empty() {
-            continue;
-        }
-        let key = key_of(alloc, text)?;
-        let held = get::<MemDisk, VecBuffer>(
-            alloc,
-            &active,
-            Some(&frozen),
-            &version,
-            &erases,
-            &mut port,
-            &key,
-        )?;
-        match (held, wanted) {
-            (Some((dkey, value)), Some((wanted, byte))) => {
-                assert!(rt; dkey == wanted && is_value(&value, byte), "{text}")
-            }
-            (None, None) => {}
-            _ => return Err("another answer")?,
-        }
+    for (key, wanted) in rows {
+        assert!(rt;
+            has(alloc, &mut port, &store, &erases, key, wanted)?,
+            "{key}"
+        );
     }
-    let key = key_of(alloc, "a")?;
-    let held = get::<MemDisk, VecBuffer>(alloc, &active, None, &version, &[], &mut port, &key)?;
-    assert!(rt; held.is_none());
+    Ok(())
+}
+
+#[test]
+fn a_scan_lists_the_pairs_of_its_range_in_order(rt: HostRuntime) -> Result<(), Fail> {
+    let alloc = rt.alloc();
+    let mut disk = MemDisk::new(alloc, 0, Vec::new(alloc))?;
+    let mut port = disk.port(alloc)?;
+    let store = store_of(alloc)?;
+    let all: [Shown; 4] = [("a", 10, 1), ("b", 20, 7), ("e", 13, 4), ("f", 90, 9)];
+    let rows: [((&str, &str), &[Shown]); 6] = [
+        (("a", "g"), &all),
+        (("a", "f"), &all[..3]),
+        (("aa", "ea"), &all[1..3]),
+        (("c", "e"), &all[..0]),
+        (("f", "f"), &all[..0]),
+        (("g", "a"), &all[..0]),
+    ];
+    for (range, wanted) in rows {
+        assert!(rt;
+            lists(alloc, &mut port, &store, &[], range, wanted)?,
+            "from {}",
+            range.0
+        );
+    }
+    // Two of the pairs are erased, and a third stands behind its erase.
+    let erases = [erase_of(5, 10, 14)?, erase_of(6, 20, 21)?];
+    let left: [Shown; 2] = [("b", 20, 7), ("f", 90, 9)];
+    assert!(rt; lists(alloc, &mut port, &store, &erases, ("a", "g"), &left)?);
     Ok(())
 }

@@ -15,9 +15,11 @@ use Rattle.lethe_read.proofs.Nothing.{nothing_merged, nothing_read}
 use Rattle.lethe_read.proofs.scanning.scan.Goals as goal
 
 pub returns-then-ge-clause-listed : goal.returns-then-ge-clause-listed
-returns-then-ge-clause-listed g c = λ told sound.
-    ([], nothing_read c.args.lo.now c.args.hi.now (g.B.Buffer.entries c.args.active.now) (frozen_entries g.B.Buffer.entries (option_copied c.args.frozen)) (map entries_of (files_of c.args.version.now)) (sym c.ge.ensures ∙ c.if-ge.true),
-    ap by_keys c.new.ensures.items ∙ sym (nothing_merged c.args.erases.now))
+returns-then-ge-clause-listed g c = λ told sound. (
+  [],
+  nothing_read c.args.lo.now c.args.hi.now (g.B.Buffer.entries c.args.active.now) (frozen_entries g.B.Buffer.entries (option_copied c.args.frozen)) (map entries_of (files_of c.args.version.now)) (sym c.ge.ensures ∙ c.if-ge.true),
+  ap by_keys c.new.ensures.items ∙ sym (nothing_merged c.args.erases.now),
+)
 
 -- the pairs of what the parts have
 listed : {T E : Type 0} (pairs : T → List (Bytes × Pair)) (lo hi : Bytes) (active frozen : List Entry) (files : List (List (List Entry))) (entries all : List Entry) (erases copied : List Pending) (result : Result T E)
