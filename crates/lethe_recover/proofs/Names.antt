@@ -1,6 +1,7 @@
 -- Names that are listed one after the other.
 use Rattle.std.proofs.Common.{◌≡◌, ℕ, ◌+◌, ◌<◌, Bool, true, false, not, cond, List, [], ◌∷◌, ◌++◌, length, map, filter, get_or, take, refl, sym, ap, ◌∙◌, append_assoc}
 use Rattle.std.proofs.lemmas.List.{append-nil, map-append, take_more}
+use Rattle.std.proofs.lemmas.List.Elements.{filter-append}
 use Rattle.lethe_base.specs.declared.name.Name.{Name}
 use Rattle.lethe_header.specs.Facts.{lines_of}
 use Rattle.lethe_header.specs.declared.header.PageLine.{PageLine}
@@ -21,24 +22,16 @@ module _ (test : Name → Bool) where
   abbrev out : Name → Bool
   out name = not (test name)
 
-  filter_then : (names : List Name) (name : Name) → filter out (names ++ name ∷ []) ≡ filter out names ++ filter out (name ∷ [])
-  filter_then [] name = refl
-  filter_then (first ∷ names) name = by (out first)
-    where
-      by : (b : Bool) → cond b (first ∷ filter out (names ++ name ∷ [])) (filter out (names ++ name ∷ [])) ≡ cond b (first ∷ filter out names) (filter out names) ++ filter out (name ∷ [])
-      by true = ap (λ l. first ∷ l) (filter_then names name)
-      by false = filter_then names name
-
   pub filter_kept : (names rest new : List Name) (i : ℕ) (d : Name) → i < length names → test (get_or names i d) ≡ false → rest ≡ filter (λ name. not (test name)) (take i names) → new ≡ rest ++ get_or names i d ∷ []
       → new ≡ filter (λ name. not (test name)) (take (i + 1) names)
   filter_kept names rest new i d lt is so_far pushed =
       let name = get_or names i d in
       let one : filter out (name ∷ []) ≡ name ∷ [] = ap (λ b. cond (not b) (name ∷ []) []) is in
-      pushed ∙ ap (λ l. l ++ name ∷ []) so_far ∙ ap (λ l. filter out (take i names) ++ l) (sym one) ∙ sym (filter_then (take i names) name) ∙ ap (filter out) (sym (take_more names i d lt))
+      pushed ∙ ap (λ l. l ++ name ∷ []) so_far ∙ ap (λ l. filter out (take i names) ++ l) (sym one) ∙ sym (filter-append out (take i names) (name ∷ [])) ∙ ap (filter out) (sym (take_more names i d lt))
 
   pub filter_dropped : (names rest new : List Name) (i : ℕ) (d : Name) → i < length names → test (get_or names i d) ≡ true → rest ≡ filter (λ name. not (test name)) (take i names) → new ≡ rest
       → new ≡ filter (λ name. not (test name)) (take (i + 1) names)
   filter_dropped names rest new i d lt is so_far same =
       let name = get_or names i d in
       let none : filter out (name ∷ []) ≡ [] = ap (λ b. cond (not b) (name ∷ []) []) is in
-      same ∙ so_far ∙ sym (append-nil (filter out (take i names))) ∙ ap (λ l. filter out (take i names) ++ l) (sym none) ∙ sym (filter_then (take i names) name) ∙ ap (filter out) (sym (take_more names i d lt))
+      same ∙ so_far ∙ sym (append-nil (filter out (take i names))) ∙ ap (λ l. filter out (take i names) ++ l) (sym none) ∙ sym (filter-append out (take i names) (name ∷ [])) ∙ ap (filter out) (sym (take_more names i d lt))

@@ -28,9 +28,11 @@ one_more names s t name before put other = (to (is_eq (name_cmp name other)) ref
     to : (b : Bool) → is_eq (name_cmp name other) ≡ b → IsTrue (contains name_cmp t other) → Contains (names ++ name ∷ []) other
     to true e h = subst (Contains (names ++ name ∷ [])) (tie name other e) (Contains-push names name)
     to false e h = Contains-append_left names (name ∷ []) other ((before other).0 (sym (put.2 other e) ∙ h))
+
     stays : (b : Bool) → is_eq (name_cmp name other) ≡ b → Contains names other → IsTrue (contains name_cmp t other)
     stays true e h = subst (λ n. IsTrue (contains name_cmp t n)) (tie name other e) put.1
     stays false e h = put.2 other e ∙ (before other).1 h
+
     from : Contains (names ++ name ∷ []) other → IsTrue (contains name_cmp t other)
     from there =
         elim (Contains-push_cases names name other there)

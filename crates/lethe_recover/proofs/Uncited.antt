@@ -124,6 +124,7 @@ cites_these s headers coherent same name = (to, from)
   where
     parts_are : map segment_name s.manifest.segments ++ flat_map names_in headers ≡ part_names s
     parts_are = λ i. map segment_name (coherent.cites i) ++ (ap (flat_map names_in) same ∙ sym (names_of_files s.manifest.next s.files coherent.each)) i
+
     to : Contains (names_of s.manifest headers) name → IsCited s name
     to there = elim (first_or_rest (gate_name s.manifest.no) (manifest_name s.manifest.no ∷ (map segment_name s.manifest.segments ++ flat_map names_in headers)) name there) [
       | inl gate ↦ inl (sym gate)
@@ -132,6 +133,7 @@ cites_these s headers coherent same name = (to, from)
         | inr part ↦ inr (inr (subst (λ l. Contains l name) parts_are part))
       ]
     ]
+
     from : IsCited s name → Contains (names_of s.manifest headers) name
     from (inl gate) = first_is (gate_name s.manifest.no) (manifest_name s.manifest.no ∷ (map segment_name s.manifest.segments ++ flat_map names_in headers)) name (sym gate)
     from (inr (inl manifest)) = later_in (gate_name s.manifest.no) (manifest_name s.manifest.no ∷ (map segment_name s.manifest.segments ++ flat_map names_in headers)) name (first_is (manifest_name s.manifest.no) (map segment_name s.manifest.segments ++ flat_map names_in headers) name (sym manifest))

@@ -38,8 +38,8 @@ pub(crate) fn cited_names<D: Disk>(
     Ok(names)
 }
 
-// Adds the names of the segments of these numbers.
-fn push_segments(names: &mut Vec<Name>, segments: &[u64]) -> Result<(), NoMemory>
+/// Adds the names of the segments of these numbers.
+pub(crate) fn push_segments(names: &mut Vec<Name>, segments: &[u64]) -> Result<(), NoMemory>
     ensures { OnOk result (names.new.items ≡ names.old.items ++ map segment_name segments.now) }
 {
     for segment in segments {

@@ -3,11 +3,20 @@
 
 mod beginning;
 mod cited;
+mod failing;
+mod flushing;
+mod journal;
+mod leveled;
 mod opened;
 mod opening;
+mod reopening;
+mod resuming;
 mod tidying;
 
 pub use beginning::begin;
 pub use opened::Opened;
 pub use opening::{OpenWhy, open};
 pub use tidying::tidy;
+
+#[cfg(test)]
+mod tests;

@@ -1,17 +1,27 @@
 //! Opening a store.
-ghost use Rattle.std.specs.Prelude.{◌≡◌, ◌≤◌, ◌<◌, ◌+◌, ◌⊎◌, ℕ, Option, IsErrOf, IfErr, IfOk, MatchResult};
+ghost use Rattle.std.specs.Prelude.{◌≡◌, ◌≤◌, ◌<◌, ◌+◌, ◌⊎◌, [], ℕ, None, Option, IsErrOf, IfErr, IfOk, MatchResult};
 ghost use Rattle.lethe_base.specs.History.{History, Change};
+ghost use Rattle.lethe_disk.specs.Disk.{IsSynced, HasCause};
 ghost use Rattle.lethe_disk.specs.Goes.{Goes};
 ghost use Rattle.lethe_disk.specs.Quiet.{IsQuiet};
+ghost use Rattle.lethe_commit.specs.Switch.{HasGreatest};
+ghost use Rattle.lethe_stored.specs.Kept.{IsKept};
 ghost use Rattle.lethe_stored.specs.Left.{IsLeft, IsKeptOr};
 ghost use Rattle.lethe_load.specs.Refused.{HasReason};
 ghost use Rattle.lethe_load.specs.declared.refused.RecoverRefused.{RecoverRefused};
+ghost use Rattle.lethe_recover.specs.New.{new_stored};
+ghost use Rattle.lethe_recover.specs.Resuming.{IsThere};
 ghost use Rattle.lethe_recover.specs.Opening.{IsOpened, IsSpellable, IsResumed, IsNextNumber, MayNotOpen, IsCut, since_start};
 ghost use Rattle.lethe_recover.specs.declared.opening.OpenWhy.TheVariants.{Exhausted};
 
-use crate::Opened;
+use crate::failing::{failure, since_start};
+use crate::journal::Journal;
+use crate::leveled::version_of;
+use crate::resuming::resume;
+use crate::{Opened, begin};
 use lethe_base::{Config, Name};
-use lethe_disk::Disk;
+use lethe_disk::{Disk, DiskRefused};
+use lethe_load::{Recovered, load};
 use std::alloc::Global;
 
 /// Why a store wasn't opened.
@@ -67,5 +77,92 @@ pub fn open<D: Disk>(alloc: Global, disk: &mut D, config: &Config) -> Result<Ope
         → opened.manifest.next + (D.seen disk.old).moment ≤ next + (D.seen disk.new).moment) }
     ensures faults { D.faults disk.old ≤ D.faults disk.new }
 {
-    Err(OpenWhy::NoMemory)
+    let before = disk.faults();
+    match disk.sync() {
+        Ok(()) => open_synced(alloc, disk, before, config),
+        Err(why) => Err(failure(disk, before, why)),
+    }
+}
+
+// Opens the store of a disk that is synced. `before` is the count of faults that a fault is told with.
+fn open_synced<D: Disk>(
+    alloc: Global,
+    disk: &mut D,
+    before: u64,
+    config: &Config,
+) -> Result<Opened<D>, OpenWhy>
+    requires before { before ≤ D.faults disk.old }
+    requires synced { D.tells → IsSynced (D.seen disk.old) }
+    ensures opened { D.tells → IfOk result (λ opened. IsOpened config.now (D.seen disk.new) opened) }
+    ensures spelled { IfOk result (λ opened. IsSpellable config.now opened) }
+    ensures resumed { D.tells → (h : History) → IsKept (D.seen disk.old).directory h
+        → IfOk result (λ opened. IsResumed config.now h None (D.seen disk.new) opened) }
+    ensures any_moment { D.tells → (h : History) → IsKept (D.seen disk.old).directory h
+        → Goes (λ c. IsKept c h) (D.seen disk.old) (D.seen disk.new) }
+    ensures refused { IfErr result (MayNotOpen D.tells config.now (D.seen disk.old).directory before (D.faults disk.new)) }
+    ensures exact { D.tells → (why : RecoverRefused) → HasReason config.now (D.seen disk.old).directory why
+        → MatchResult result (λ opened. ⊥) (λ told. (told ≡ since_start before why) ⊎ IsCut ⊥ before (D.faults disk.new) told) }
+    ensures untouched { D.tells → (why : RecoverRefused) → HasReason config.now (D.seen disk.old).directory why
+        → IsQuiet (D.seen disk.old) (D.seen disk.new) }
+    ensures exhausted { D.tells → (last : ℕ) → IsErrOf result (Exhausted last) → IsQuiet (D.seen disk.old) (D.seen disk.new) }
+    ensures numbers { D.tells → IfOk result (λ opened. (next : ℕ) → IsNextNumber (D.seen disk.old).directory next
+        → opened.manifest.next + (D.seen disk.old).moment ≤ next + (D.seen disk.new).moment) }
+    ensures faults { D.faults disk.old ≤ D.faults disk.new }
+{
+    let read = match load(alloc, disk, config) {
+        Ok(read) => read,
+        Err(why) => return Err(since_start(before, why)),
+    };
+    let Recovered {
+        manifest,
+        segments,
+        files,
+    } = read;
+    match manifest {
+        None => start(alloc, disk, before, config),
+        Some(manifest) => {
+            let journal = Journal::of(alloc, segments);
+            resume(alloc, disk, before, &manifest, journal, files)
+        }
+    }
+}
+
+// Makes an empty store.
+fn start<D: Disk>(
+    alloc: Global,
+    disk: &mut D,
+    before: u64,
+    config: &Config,
+) -> Result<Opened<D>, OpenWhy>
+    requires before { before ≤ D.faults disk.old }
+    requires none { D.tells → IsSynced (D.seen disk.old) × HasGreatest None (D.seen disk.old).directory }
+    ensures there { D.tells → IfOk result (λ opened. IsThere (D.seen disk.new) (new_stored config.now) opened) }
+    ensures spelled { IfOk result (λ opened. IsSpellable config.now opened) }
+    ensures next { IfOk result (λ opened. opened.manifest.next ≡ 3) }
+    ensures any_moment { D.tells → Goes (λ c. IsKept c []) (D.seen disk.old) (D.seen disk.new) }
+    ensures refused { IfErr result (IsCut ⊥ before (D.faults disk.new)) }
+    ensures faults { D.faults disk.old ≤ D.faults disk.new }
+{
+    match begin_with_version(alloc, disk, config) {
+        Ok(opened) => Ok(opened),
+        Err(why) => Err(failure(disk, before, why)),
+    }
+}
+
+// Makes an empty store, and the version without files.
+fn begin_with_version<D: Disk>(
+    alloc: Global,
+    disk: &mut D,
+    config: &Config,
+) -> Result<Opened<D>, DiskRefused>
+    requires none { D.tells → IsSynced (D.seen disk.old) × HasGreatest None (D.seen disk.old).directory }
+    ensures there { D.tells → IfOk result (λ opened. IsThere (D.seen disk.new) (new_stored config.now) opened) }
+    ensures spelled { IfOk result (λ opened. IsSpellable config.now opened) }
+    ensures next { IfOk result (λ opened. opened.manifest.next ≡ 3) }
+    ensures any_moment { D.tells → Goes (λ c. IsKept c []) (D.seen disk.old) (D.seen disk.new) }
+    ensures cause { HasCause (D.faults disk.old) (D.faults disk.new) result }
+{
+    let manifest = begin(alloc, disk, config)?;
+    let version = version_of(alloc, &manifest, Vec::new(alloc))?;
+    Ok(Opened { manifest, version })
 }

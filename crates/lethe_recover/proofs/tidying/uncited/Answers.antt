@@ -19,9 +19,9 @@ loop-name-preserved c =
     let test : Name → Bool = contains name_cmp c.args.cited.now in
     elim c.if-not-is_in.branch [
       | then-not-is_in+in_ok-push w ↦
-        let out : c.is_in.result ≡ false = first_of (w.if-not-is_in.true, not_true c.is_in.result w.if-not-is_in.true) in
-        filter_kept test c.args.names.now c.loop-name.rest.items c.if-not-is_in.rest.items c.loop-name.name-index _ c.loop-name-test.true (sym c.is_in.ensures ∙ out) c.loop-name.invariant (ap (λ v. v.items) w.rest-is ∙ w.in_ok-push.ensures.items)
+          let out : c.is_in.result ≡ false = w.if-not-is_in.true in
+          filter_kept test c.args.names.now c.loop-name.rest.items c.if-not-is_in.rest.items c.loop-name.name-index _ c.loop-name-test.true (sym c.is_in.ensures ∙ out) c.loop-name.invariant (ap (λ v. v.items) w.rest-is ∙ w.in_ok-push.ensures.items)
       | else-not-is_in w ↦
-        let in_it : c.is_in.result ≡ true = first_of (w.if-not-is_in.false, not_false c.is_in.result w.if-not-is_in.false) in
-        filter_dropped test c.args.names.now c.loop-name.rest.items c.if-not-is_in.rest.items c.loop-name.name-index _ c.loop-name-test.true (sym c.is_in.ensures ∙ in_it) c.loop-name.invariant (ap (λ v. v.items) w.rest-is)
+          let in_it : c.is_in.result ≡ true = w.if-not-is_in.false in
+          filter_dropped test c.args.names.now c.loop-name.rest.items c.if-not-is_in.rest.items c.loop-name.name-index _ c.loop-name-test.true (sym c.is_in.ensures ∙ in_it) c.loop-name.invariant (ap (λ v. v.items) w.rest-is)
     ]

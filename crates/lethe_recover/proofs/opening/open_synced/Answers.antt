@@ -1,0 +1,188 @@
+use Rattle.std.proofs.Common.{◌≡◌, ◌≤◌, ◌+◌, ◌⊎◌, ℕ, None, length, sym, ap, subst, ◌∙◌, arith}
+use Rattle.std.proofs.lemmas.List.{length-map}
+use Rattle.lethe_base.specs.Limits.{max_place}
+use Rattle.lethe_build.specs.Built.{most_numbers}
+use Rattle.lethe_disk.specs.Goes.{Goes}
+use Rattle.lethe_disk.proofs.Going.{goes_then}
+use Rattle.lethe_manifest.specs.declared.manifest.Manifest.{Manifest}
+use Rattle.lethe_stored.specs.Kept.{IsKept}
+use Rattle.lethe_advance.specs.Shown.{parts_in}
+use Rattle.lethe_load.specs.Loaded.{shown}
+use Rattle.lethe_recover.specs.New.{new_stored}
+use Rattle.lethe_recover.specs.Opening.{IsNextNumber, IsOpened, IsResumed, IsSpellable, MayNotOpen, IsCut, since_start}
+use Rattle.lethe_recover.specs.Resuming.{IsThere, IsReopened}
+use Rattle.lethe_recover.proofs.Results.{ok_weaker, ok_both, err_weaker}
+use Rattle.lethe_recover.proofs.Resumed.{since_may, since_exact, cut_may, new_opened, new_resumed, kept_of_none, kept_for, opened_from, resumed_from, read_some, read_none, manifest_of, loaded_as, exhausted_of, settled_again, kept_goes, spelled_some, cited_long, next_of, next_of_none}
+use Rattle.lethe_recover.proofs.opening.open_synced.Goals as goal
+
+pub returns-in-Err-clause-any_moment : goal.returns-in-Err-clause-any_moment
+returns-in-Err-clause-any_moment g c = λ told h kept.
+    kept_goes h (g.D.Disk.seen c.args.disk.now) (g.D.Disk.seen c.load.new.disk) (c.load.ensures.quiet told) (c.requires.synced told) kept
+
+pub returns-in-Err-clause-refused : goal.returns-in-Err-clause-refused
+returns-in-Err-clause-refused g c =
+    let d = (g.D.Disk.seen c.args.disk.now).directory in
+    let now = g.D.Disk.faults c.load.new.disk in
+    subst (MayNotOpen g.D.Disk.tells c.args.config.now d c.args.before now) (sym c.since_start.ensures)
+    (since_may g.D.Disk.tells c.args.config.now d c.args.before (g.D.Disk.faults c.args.disk.now) now c.in-Err.why c.requires.before c.in-Err.ensures.refused)
+
+pub returns-in-Err-clause-exact : goal.returns-in-Err-clause-exact
+returns-in-Err-clause-exact g c = λ told why reason.
+    let now = g.D.Disk.faults c.load.new.disk in
+    subst (λ x. (x ≡ since_start c.args.before why) ⊎ IsCut ⊥ c.args.before now x) (sym c.since_start.ensures)
+    (since_exact c.args.before (g.D.Disk.faults c.args.disk.now) now c.in-Err.why why c.requires.before (c.in-Err.ensures.exact told why reason))
+
+pub returns-in-Err-clause-untouched : goal.returns-in-Err-clause-untouched
+returns-in-Err-clause-untouched g c = λ told why reason. c.load.ensures.quiet told
+
+pub returns-in-None-clause-opened : goal.returns-in-None-clause-opened
+returns-in-None-clause-opened g c = λ told.
+    let config = c.args.config.now in
+    let s2 = g.D.Disk.seen c.start.new.disk in
+    ok_weaker c.start.result (λ opened. IsThere s2 (new_stored config) opened) (λ opened. IsOpened config s2 opened) (c.start.ensures.there told) (new_opened config s2)
+
+pub returns-in-None-clause-resumed : goal.returns-in-None-clause-resumed
+returns-in-None-clause-resumed g c = λ told h kept.
+    let d = (g.D.Disk.seen c.args.disk.now).directory in
+    let config = c.args.config.now in
+    let s2 = g.D.Disk.seen c.start.new.disk in
+    let none = read_none config d (shown c.in-Ok.read) c.in-None.is (c.in-Ok.ensures.found told) in
+    ok_weaker c.start.result (λ opened. IsThere s2 (new_stored config) opened) (λ opened. IsResumed config h None s2 opened) (c.start.ensures.there told) (λ opened there. new_resumed config s2 h opened (kept_of_none d h none kept) there)
+
+pub returns-in-None-clause-any_moment : goal.returns-in-None-clause-any_moment
+returns-in-None-clause-any_moment g c = λ told h kept.
+    let s0 = g.D.Disk.seen c.args.disk.now in
+    let s1 = g.D.Disk.seen c.load.new.disk in
+    let s2 = g.D.Disk.seen c.start.new.disk in
+    let none = read_none c.args.config.now s0.directory (shown c.in-Ok.read) c.in-None.is (c.in-Ok.ensures.found told) in
+    let empty = kept_of_none s0.directory h none kept in
+    goes_then (λ x. IsKept x h) s0 s1 s2 (kept_goes h s0 s1 (c.load.ensures.quiet told) (c.requires.synced told) kept)
+    (subst (λ k. Goes (λ x. IsKept x k) s1 s2) (sym empty) (c.start.ensures.any_moment told))
+
+pub returns-in-None-clause-exact : goal.returns-in-None-clause-exact
+returns-in-None-clause-exact g c = λ told why reason. absurd (c.in-Ok.ensures.exact told why reason)
+
+pub returns-in-None-clause-untouched : goal.returns-in-None-clause-untouched
+returns-in-None-clause-untouched g c = λ told why reason. absurd (c.in-Ok.ensures.exact told why reason)
+
+pub returns-in-None-clause-numbers : goal.returns-in-None-clause-numbers
+returns-in-None-clause-numbers g c = λ told.
+    let s0 = g.D.Disk.seen c.args.disk.now in
+    let s1 = g.D.Disk.seen c.load.new.disk in
+    let s2 = g.D.Disk.seen c.start.new.disk in
+    let none = read_none c.args.config.now s0.directory (shown c.in-Ok.read) c.in-None.is (c.in-Ok.ensures.found told) in
+    let quiet = (c.load.ensures.quiet told).any_moment.later in
+    let later = (c.start.ensures.any_moment told).later in
+    ok_weaker c.start.result (λ opened. opened.manifest.next ≡ 3) (λ opened. (next : ℕ) → IsNextNumber s0.directory next → opened.manifest.next + s0.moment ≤ next + s2.moment) c.start.ensures.next
+    (λ opened first next is. let here = next_of_none s0.directory next none is in omega (arith, here, first, quiet, later))
+
+pub resume-requires-clause-spelled : goal.resume-requires-clause-spelled
+resume-requires-clause-spelled g c κs within = (spelled_some c.args.config.now (shown c.in-Ok.read) c.in-Some.manifest c.in-Some.is c.in-Ok.ensures.spelled).spelled
+
+pub resume-requires-clause-older : goal.resume-requires-clause-older
+resume-requires-clause-older g c κs within = (c.of-journal.ensures.ascends (spelled_some c.args.config.now (shown c.in-Ok.read) c.in-Some.manifest c.in-Some.is c.in-Ok.ensures.spelled).ascends).0
+
+pub resume-requires-clause-newer : goal.resume-requires-clause-newer
+resume-requires-clause-newer g c κs within = (c.of-journal.ensures.ascends (spelled_some c.args.config.now (shown c.in-Ok.read) c.in-Some.manifest c.in-Some.is c.in-Ok.ensures.spelled).ascends).1
+
+pub resume-requires-clause-cited : goal.resume-requires-clause-cited
+resume-requires-clause-cited g c κs within =
+    let config = c.args.config.now in
+    let m = c.in-Some.manifest in
+    cited_long config (shown c.in-Ok.read) m (spelled_some config (shown c.in-Ok.read) m c.in-Some.is c.in-Ok.ensures.spelled) ∙ length-map c.in-Ok.read.files.items parts_in
+
+pub resume-requires-clause-settled : goal.resume-requires-clause-settled
+resume-requires-clause-settled g c κs within = λ told.
+    let s0 = g.D.Disk.seen c.args.disk.now in
+    let s1 = g.D.Disk.seen c.load.new.disk in
+    let d = s0.directory in
+    let m = c.in-Some.manifest in
+    let config = c.args.config.now in
+    let read = shown c.in-Ok.read in
+    let there = read_some config d read m c.in-Some.is (c.in-Ok.ensures.found told) in
+    (there.s, settled_again s0 s1 (c.load.ensures.quiet told) (c.requires.synced told) there.s there.coherent there.encodes, loaded_as config d read there m c.in-Some.is c.of-journal.result c.of-journal.ensures.is)
+
+pub returns-in-Some-clause-opened : goal.returns-in-Some-clause-opened
+returns-in-Some-clause-opened g c = λ told.
+    let s0 = g.D.Disk.seen c.args.disk.now in
+    let s1 = g.D.Disk.seen c.load.new.disk in
+    let s2 = g.D.Disk.seen c.resume.new.disk in
+    let d = s0.directory in
+    let m = c.in-Some.manifest in
+    let config = c.args.config.now in
+    let read = shown c.in-Ok.read in
+    let there = read_some config d read m c.in-Some.is (c.in-Ok.ensures.found told) in
+    let settled = settled_again s0 s1 (c.load.ensures.quiet told) (c.requires.synced told) there.s there.coherent there.encodes in
+    let loaded = loaded_as config d read there m c.in-Some.is c.of-journal.result c.of-journal.ensures.is in
+    ok_weaker c.resume.result (λ opened. IsReopened there.s s2 opened) (λ opened. IsOpened config s2 opened) (c.resume.ensures.there told there.s settled loaded) (λ opened again. opened_from config s2 there.s opened there.config_is again)
+
+pub returns-in-Some-clause-resumed : goal.returns-in-Some-clause-resumed
+returns-in-Some-clause-resumed g c = λ told h kept.
+    let s0 = g.D.Disk.seen c.args.disk.now in
+    let s1 = g.D.Disk.seen c.load.new.disk in
+    let s2 = g.D.Disk.seen c.resume.new.disk in
+    let d = s0.directory in
+    let m = c.in-Some.manifest in
+    let config = c.args.config.now in
+    let read = shown c.in-Ok.read in
+    let there = read_some config d read m c.in-Some.is (c.in-Ok.ensures.found told) in
+    let settled = settled_again s0 s1 (c.load.ensures.quiet told) (c.requires.synced told) there.s there.coherent there.encodes in
+    let loaded = loaded_as config d read there m c.in-Some.is c.of-journal.result c.of-journal.ensures.is in
+    let stands = kept_for d h there.s there.coherent there.encodes kept in
+    ok_weaker c.resume.result (λ opened. IsReopened there.s s2 opened) (λ opened. IsResumed config h None s2 opened) (c.resume.ensures.there told there.s settled loaded) (λ opened again. resumed_from config s2 h there.s opened there.config_is stands again)
+
+pub returns-in-Some-clause-any_moment : goal.returns-in-Some-clause-any_moment
+returns-in-Some-clause-any_moment g c = λ told h kept.
+    let s0 = g.D.Disk.seen c.args.disk.now in
+    let s1 = g.D.Disk.seen c.load.new.disk in
+    let s2 = g.D.Disk.seen c.resume.new.disk in
+    let d = s0.directory in
+    let m = c.in-Some.manifest in
+    let config = c.args.config.now in
+    let read = shown c.in-Ok.read in
+    let there = read_some config d read m c.in-Some.is (c.in-Ok.ensures.found told) in
+    let settled = settled_again s0 s1 (c.load.ensures.quiet told) (c.requires.synced told) there.s there.coherent there.encodes in
+    let loaded = loaded_as config d read there m c.in-Some.is c.of-journal.result c.of-journal.ensures.is in
+    let stands = kept_for d h there.s there.coherent there.encodes kept in
+    goes_then (λ x. IsKept x h) s0 s1 s2 (kept_goes h s0 s1 (c.load.ensures.quiet told) (c.requires.synced told) kept) (c.resume.ensures.any_moment told there.s settled loaded h stands)
+
+pub returns-in-Some-clause-spelled : goal.returns-in-Some-clause-spelled
+returns-in-Some-clause-spelled g c =
+    let config = c.args.config.now in
+    let m = c.in-Some.manifest in
+    let spelled = spelled_some config (shown c.in-Ok.read) m c.in-Some.is c.in-Ok.ensures.spelled in
+    ok_weaker c.resume.result (λ opened. IsSpellable m.config opened) (λ opened. IsSpellable config opened) c.resume.ensures.spelled (λ opened is. subst (λ fields. IsSpellable fields opened) spelled.config_is is)
+
+pub returns-in-Some-clause-refused : goal.returns-in-Some-clause-refused
+returns-in-Some-clause-refused g c =
+    let d = (g.D.Disk.seen c.args.disk.now).directory in
+    let m = c.in-Some.manifest in
+    let config = c.args.config.now in
+    let read = shown c.in-Ok.read in
+    let journal = c.of-journal.result in
+    let now = g.D.Disk.faults c.resume.new.disk in
+    let IsFull : Type 0 = max_place ≤ m.next + most_numbers (length journal.older + length journal.newer) + 1 in
+    err_weaker c.resume.result (IsCut IsFull c.args.before now) (MayNotOpen g.D.Disk.tells config d c.args.before now) c.resume.ensures.refused
+    (cut_may g.D.Disk.tells IsFull config d c.args.before now (λ full told.
+    exhausted_of config d read (read_some config d read m c.in-Some.is (c.in-Ok.ensures.found told)) m c.in-Some.is journal c.of-journal.ensures.is full))
+
+pub returns-in-Some-clause-exact : goal.returns-in-Some-clause-exact
+returns-in-Some-clause-exact g c = λ told why reason. absurd (c.in-Ok.ensures.exact told why reason)
+
+pub returns-in-Some-clause-untouched : goal.returns-in-Some-clause-untouched
+returns-in-Some-clause-untouched g c = λ told why reason. absurd (c.in-Ok.ensures.exact told why reason)
+
+pub returns-in-Some-clause-numbers : goal.returns-in-Some-clause-numbers
+returns-in-Some-clause-numbers g c = λ told.
+    let s0 = g.D.Disk.seen c.args.disk.now in
+    let s1 = g.D.Disk.seen c.load.new.disk in
+    let s2 = g.D.Disk.seen c.resume.new.disk in
+    let d = s0.directory in
+    let m = c.in-Some.manifest in
+    let config = c.args.config.now in
+    let read = shown c.in-Ok.read in
+    let there = read_some config d read m c.in-Some.is (c.in-Ok.ensures.found told) in
+    let own : there.s.manifest.next ≡ m.next = ap (λ (x : Manifest). x.next) (manifest_of config d read there m c.in-Some.is c.of-journal.result c.of-journal.ensures.is) in
+    let quiet = (c.load.ensures.quiet told).any_moment.later in
+    ok_weaker c.resume.result (λ opened. opened.manifest.next + s1.moment ≤ m.next + s2.moment) (λ opened. (next : ℕ) → IsNextNumber d next → opened.manifest.next + s0.moment ≤ next + s2.moment) (c.resume.ensures.numbers told)
+    (λ opened bound next is. let here = next_of d there.s next there.coherent there.encodes is in omega (arith, here, own, bound, quiet))

@@ -1,0 +1,12 @@
+use Rattle.std.proofs.Common.{◌≡◌, ◌++◌, ap, ◌∙◌}
+use Rattle.lethe_recover.proofs.Spelled.{next_spelled}
+use Rattle.lethe_recover.proofs.reopening.step_of.Goals as goal
+
+pub returns-clause-spelled : goal.returns-clause-spelled
+returns-clause-spelled c =
+    let older = c.args.flushes.older in
+    let newer = c.args.flushes.newer in
+    let files : c.extend_from_slice-2.new.self.items ≡ newer.cited.items ++ older.cited.items ++ c.args.manifest.now.files =
+    c.in_ok-extend_from_slice-2.ensures.items ∙ (λ k. (c.in_ok-extend_from_slice.ensures.items ∙ ap (λ l. newer.cited.items ++ l) c.deref.ensures.value) k ++ c.items.ensures k) in
+    next_spelled c.args.manifest.now c.args.count c.args.erases.items older newer c.extend_from_slice-2.new.self.items c.in_ok-next.next
+    c.requires.spelled c.requires.count c.requires.erases c.requires.ascending c.requires.older c.requires.newer c.requires.room files c.in_ok-next.ensures.is c.in_ok-next.ensures.few_erases c.in_ok-next.ensures.few_files
