@@ -1,5 +1,5 @@
 -- The step of a flush.
-use Rattle.std.proofs.Common.{◌≡◌, ◌≢◌, ◌⊎◌, ◌≤◌, ◌<◌, ◌+◌, ◌-◌, ◌^◌, inl, inr, ℕ, Bool, false, IsTrue, List, [], ◌∷◌, ◌++◌, length, map, drop, All, AllPairs, Contains, Option, Some, None, refl, sym, ap, ◌∙◌, subst, arith}
+use Rattle.std.proofs.Common.{◌≡◌, ◌≢◌, ◌⊎◌, ◌≤◌, ◌<◌, ◌+◌, ◌-◌, ◌^◌, inl, inr, ℕ, Bool, IsTrue, List, [], ◌∷◌, ◌++◌, length, map, drop, All, AllPairs, Contains, Option, Some, None, refl, sym, ap, ◌∙◌, subst, arith}
 use Rattle.std.specs.Prelude.{◌↔◌, flat_map, option_to_list, slice_index}
 use Rattle.std.specs.FinMap as finmap
 use Rattle.std.specs.List.{zip}
@@ -8,9 +8,7 @@ use Rattle.std.proofs.lemmas.List.{length-drop}
 use Rattle.std.proofs.lemmas.List.Concat.{flat_map-append}
 use Rattle.std.proofs.lemmas.List.Elements.{All-append, All-cons, All-contains, All-drop, All-head, All-tail, All-nil, All-weaker, Contains-append_cases, Contains-append_left, Contains-append_right}
 use Rattle.std.proofs.lemmas.List.Sorted.{Contains-permutation, IsPermutation-refl, IsPermutation-sym}
-use Rattle.lethe_base.specs.Entries.{entry_of}
-use Rattle.lethe_base.specs.Keys.{Bytes}
-use Rattle.lethe_base.specs.Layout.{File, buffer_of, files_of, frozen_records}
+use Rattle.lethe_base.specs.Layout.{buffer_of, files_of, frozen_records}
 use Rattle.lethe_base.specs.Limits.{max_place}
 use Rattle.lethe_base.specs.declared.entry.Entry.{Entry}
 use Rattle.lethe_base.specs.declared.name.Name.{Name}
@@ -29,7 +27,7 @@ use Rattle.lethe_follows.proofs.Following.{file_from, file_in}
 use Rattle.lethe_follows.proofs.Stepping.{flushed_coherent}
 use Rattle.lethe_header.specs.declared.header.Header.{Header}
 use Rattle.lethe_header.specs.declared.header.PageLine.{PageLine}
-use Rattle.lethe_manifest.specs.Manifests.{AreErases, HasSpelling, IsFile}
+use Rattle.lethe_manifest.specs.Manifests.{HasSpelling, IsFile}
 use Rattle.lethe_manifest.specs.declared.manifest.Cited.{Cited}
 use Rattle.lethe_manifest.specs.declared.manifest.Manifest.{Manifest}
 use Rattle.lethe_mem.specs.Buffered.{Buffered}
@@ -37,15 +35,15 @@ use Rattle.lethe_merge.specs.Merge.{merged}
 use Rattle.lethe_moves.specs.Files as moves
 use Rattle.lethe_moves.specs.Flushes.{frozen_entries, span_of}
 use Rattle.lethe_moves.specs.Made.{AreMade}
-use Rattle.lethe_stored.specs.Files.{Parts, StoredFile, cited_of, file_of, lines_in, objects_in, objects_of, parts_of}
+use Rattle.lethe_stored.specs.Files.{Parts, StoredFile, file_of, lines_in, objects_in, objects_of, parts_of}
 use Rattle.lethe_stored.specs.Replayed.{AreNewestOf}
-use Rattle.lethe_stored.specs.Stored.{Stored, Segment, IsCoherent, count_of, layout_of, number_of, part_names, pending_of, plain, records_in, segment_name, segment_numbers}
+use Rattle.lethe_stored.specs.Stored.{Stored, Segment, count_of, layout_of, number_of, part_names, pending_of, plain, records_in, segment_name, segment_numbers}
 use Rattle.lethe_stored.proofs.FileFacts.{lower_is, upper_is}
 use Rattle.lethe_stored.proofs.Leveled.{low_level}
 use Rattle.lethe_stored.proofs.Lists.{from_flat, from_map, in_flat, zip_left}
 use Rattle.lethe_stored.proofs.Meanings.{frozen_are}
 use Rattle.lethe_stored.proofs.Parts.{active_part, frozen_part, object_apart, object_part}
-use Rattle.lethe_advance.specs.Steps.{IsObjectFrom, IsSegmentFrom, IsStep, IsUncited, kept_files, written_in}
+use Rattle.lethe_advance.specs.Steps.{IsObjectFrom, IsSegmentFrom, IsStep, IsUncited, written_in}
 use Rattle.lethe_advance.specs.declared.step.Step.{Step}
 use Rattle.lethe_state.specs.Made.{IsFlushStep, flushing_manifest}
 use Rattle.lethe_state.specs.Records.{headers_in}
@@ -283,7 +281,7 @@ module _ (s : Stored) (state : State) (levels : List (List Parts)) (is : Remembe
     ]
       where
         only : (x y : ℕ) → Contains (x ∷ []) y → x ≡ y
-        only x y there = elim (first_or_rest x [] y there) [ | inl same ↦ same | inr none ↦ absurd (none_in y none) ]
+        only x y there = elim (first_or_rest x [] y there) [ inl same ↦ same | inr none ↦ absurd (none_in y none) ]
 
     stays : (name : Name) → Contains (part_names s) name → Contains (part_names t) name ⊎ Contains step.gone.items name
     stays name there = elim (Contains-append_cases (map segment_name (segment_numbers s)) named name there) [

@@ -15,10 +15,10 @@ use Rattle.lethe_manifest.specs.declared.manifest.Cited.{Cited}
 use Rattle.lethe_manifest.specs.declared.manifest.Manifest.{Manifest}
 use Rattle.lethe_segment.specs.Segments.{segment_bytes}
 use Rattle.lethe_stored.specs.Files.{Parts, StoredFile, objects_of}
-use Rattle.lethe_stored.specs.Stored.{Stored, Segment, froze, number_of, part_names, segment_name, segment_numbers, segments_of}
+use Rattle.lethe_stored.specs.Stored.{Stored, froze, number_of, part_names, segment_name, segment_numbers}
 use Rattle.lethe_stored.proofs.Freezing.{froze_coherent}
 use Rattle.lethe_stored.proofs.Parts.{active_part, frozen_part}
-use Rattle.lethe_advance.specs.Steps.{IsObjectFrom, IsSegmentFrom, IsStep, IsUncited, kept_files, written_in}
+use Rattle.lethe_advance.specs.Steps.{IsObjectFrom, IsSegmentFrom, IsStep, IsUncited, written_in}
 use Rattle.lethe_advance.specs.declared.step.Step.{Step}
 use Rattle.lethe_state.specs.Made.{empty_segment, freezing_manifest}
 use Rattle.lethe_state.specs.Remembered.{IsCurrent, Remembers}

@@ -1,6 +1,6 @@
 -- The records of changes, and a state once they are entered.
-use Rattle.std.proofs.Common.{◌≡◌, ◌⊎◌, ◌≤◌, ◌<◌, ◌+◌, ◌^◌, inl, inr, ℕ, List, [], ◌∷◌, ◌++◌, length, min, Contains, Option, Some, None, refl, sym, ap, ◌∙◌, subst, arith}
-use Rattle.std.specs.Prelude.{Any, IsSome, is_some, unwrap_or, option_and_then}
+use Rattle.std.proofs.Common.{◌≡◌, ◌<◌, ◌+◌, ◌^◌, inl, inr, ℕ, List, [], ◌∷◌, ◌++◌, length, min, Option, Some, None, refl, sym, ap, ◌∙◌, subst, arith}
+use Rattle.std.specs.Prelude.{IsSome, unwrap_or, option_and_then}
 use Rattle.std.specs.Option.{option_or}
 use Rattle.lethe_base.specs.Entries.{IsAscending, entry_of}
 use Rattle.lethe_base.specs.Held.{Shows}
@@ -10,7 +10,6 @@ use Rattle.lethe_base.specs.Limits.{IsKey, IsValue, max_place}
 use Rattle.lethe_base.specs.declared.call.Call.TheVariants.{Put, Delete}
 use Rattle.lethe_base.specs.declared.entry.Body.TheVariants as bodies
 use Rattle.lethe_base.specs.declared.entry.Entry.{Entry}
-use Rattle.lethe_base.specs.declared.pending.Pending.{Pending}
 use Rattle.lethe_segment.specs.Records.{RecordHasSpelling, record_seq}
 use Rattle.lethe_segment.specs.Segments.{Ascends, last_seq}
 use Rattle.lethe_segment.specs.declared.record.Record.{Record}
@@ -19,14 +18,12 @@ use Rattle.lethe_cover.specs.Steps.{next_place, put_entry, time_of, tomb_entry, 
 use Rattle.lethe_mem.specs.Buffered.{Buffered}
 use Rattle.lethe_stored.specs.Files.{Parts}
 use Rattle.lethe_stored.specs.Kept.{IsFor}
-use Rattle.lethe_stored.specs.Levels.{HasFiles}
 use Rattle.lethe_stored.specs.Replayed.{AreNewestOf}
 use Rattle.lethe_stored.specs.Stored.{Stored, Segment, IsCoherent, appended, count_of, erase_of, layout_of, records_in}
 use Rattle.lethe_stored.proofs.Changes.{blind_for, blind_stored, delete_for, delete_stored, layout_appended, put_for, put_stored}
 use Rattle.lethe_flush.proofs.Newest.{newest_none}
-use Rattle.lethe_follows.specs.Holders.{IsHeldBy, IsPaged}
+use Rattle.lethe_follows.specs.Holders.{IsHeldBy}
 use Rattle.lethe_follows.proofs.Answering.{lacking}
-use Rattle.lethe_version.specs.Probing.{bound}
 use Rattle.lethe_state.specs.Records.{IsDeleteRecord, IsNext, MayBeHeld, frozen_entry, headers_in, put_record, since_of, tomb_record}
 use Rattle.lethe_state.specs.Remembered.{IsCurrent, IsFrozenIn, Remembers}
 use Rattle.lethe_state.specs.declared.state.State.{State}

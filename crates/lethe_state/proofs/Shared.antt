@@ -1,14 +1,13 @@
 -- What the steps have in common.
-use Rattle.std.proofs.Common.{◌≡◌, ◌++◌, true, List, [], ◌∷◌, map, filter, All, AllPairs, Contains, refl, sym, ap, subst}
-use Rattle.std.proofs.lemmas.List.Elements.{All-cons, All-nil, Contains-push}
-use Rattle.lethe_base.specs.declared.name.Name.{Name}
+use Rattle.std.proofs.Common.{◌≡◌, true, List, [], ◌∷◌, All, AllPairs, sym, ap, subst}
+use Rattle.std.proofs.lemmas.List.Elements.{All-cons, All-nil}
 use Rattle.lethe_base.proofs.LayoutLaws.{none_in}
 use Rattle.lethe_cover.proofs.Lists.{all_from, pairs_to}
 use Rattle.lethe_advance.specs.Steps.{kept_files}
 use Rattle.lethe_advance.specs.declared.step.Step.{Step}
 use Rattle.lethe_advance.proofs.Lists.{filter_all}
 use Rattle.lethe_stored.specs.Files.{StoredFile}
-use Rattle.lethe_stored.specs.Stored.{Stored, segments_of}
+use Rattle.lethe_stored.specs.Stored.{Stored}
 use Rattle.lethe_version.specs.Order.{is_kept}
 
 pub one_all : {X : Type 0} (P : X → Type 0) (x : X) (xs : List X) → xs ≡ x ∷ [] → P x → All P xs

@@ -1,5 +1,5 @@
 -- A state, and what is stored, behind a freeze and behind a flush.
-use Rattle.std.proofs.Common.{◌≡◌, ◌≢◌, ◌⊎◌, ◌≤◌, ◌<◌, ◌+◌, inl, inr, ℕ, List, [], ◌∷◌, ◌++◌, append-nil, length, map, max, get_or, All, AllPairs, Contains, Option, Some, None, refl, sym, ap, ◌∙◌, subst, arith}
+use Rattle.std.proofs.Common.{◌≡◌, ◌≢◌, ◌≤◌, ◌<◌, ◌+◌, inl, inr, ℕ, List, [], ◌++◌, append-nil, length, map, get_or, All, Contains, Option, Some, None, refl, sym, ap, ◌∙◌, subst, arith}
 use Rattle.std.specs.Prelude.{filter_map, option_map}
 use Rattle.std.proofs.lemmas.List.Elements.{All-contains, All-map, All-weaker}
 use Rattle.lethe_base.specs.Covers.{Covers}
@@ -10,7 +10,6 @@ use Rattle.lethe_base.proofs.LayoutLaws.{none_in}
 use Rattle.lethe_cover.specs.Steps.{IsCounted, frozen}
 use Rattle.lethe_cover.proofs.Frozen.{freeze_covers}
 use Rattle.lethe_cover.proofs.Lists.{all_from, in_map, pairs_from, pairs_map, pairs_to}
-use Rattle.lethe_header.specs.declared.header.Header.{Header}
 use Rattle.lethe_manifest.specs.Manifests as manifests
 use Rattle.lethe_manifest.specs.Manifests.{HasSpelling}
 use Rattle.lethe_manifest.specs.declared.manifest.Cited.{Cited}
@@ -22,7 +21,7 @@ use Rattle.lethe_stored.specs.Files.{Parts, StoredFile, cited_of, file_of}
 use Rattle.lethe_stored.specs.Kept.{IsFor}
 use Rattle.lethe_stored.specs.Levels.{HasFiles}
 use Rattle.lethe_stored.specs.Replayed.{AreNewestOf}
-use Rattle.lethe_stored.specs.Stored.{Stored, Segment, IsCoherent, count_of, erase_of, froze, in_order, layout_of, pending_of, plain, records_in, records_of}
+use Rattle.lethe_stored.specs.Stored.{Stored, Segment, IsCoherent, count_of, erase_of, froze, in_order, layout_of, pending_of, plain, records_in}
 use Rattle.lethe_stored.proofs.Changes.{counted}
 use Rattle.lethe_stored.proofs.Freezing.{froze_coherent}
 use Rattle.lethe_stored.proofs.Numbered.{covers_numbered}
@@ -185,7 +184,7 @@ module _ (s : Stored) (none : s.frozen ≡ None) (segment number : ℕ) where
 flushed_counted : (h : History) (s : Stored) (made : List StoredFile) (number : ℕ) → IsCounted h (layout_of s) → IsFor h (flushed s made number) → IsCounted h (layout_of (flushed s made number))
 flushed_counted h s made number counts stands = record {
   count = stands.count;
-  places = λ r is. elim is [ | inl active ↦ counts.places r (inl active) | inr older ↦ absurd (none_in r older) ];
+  places = λ r is. elim is [ inl active ↦ counts.places r (inl active) | inr older ↦ absurd (none_in r older) ];
 }
 
 room_of : (h : History) (s middle : Stored) → IsCoherent s → IsFor h s → IsUnfrozen s middle → IsCounted h (layout_of middle) × IsFor h middle × (middle.frozen ≡ None)

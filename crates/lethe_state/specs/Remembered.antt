@@ -1,5 +1,5 @@
 -- What a store remembers of what is stored.
-use Rattle.std.specs.Prelude.{◌≡◌, ◌≤◌, ℕ, List, [], length, Option, Some, None}
+use Rattle.std.specs.Prelude.{◌≡◌, ◌≤◌, List, [], length, Option, Some, None}
 use Rattle.lethe_manifest.specs.declared.manifest.Manifest.{Manifest}
 use Rattle.lethe_mem.specs.Buffered.{Buffered}
 use Rattle.lethe_stored.specs.Files.{Parts}

@@ -132,9 +132,10 @@ impl State {
         ensures is { self.new ≡ halted self.old }
         ensures writable { IsWritable self.new }
     {
-        self.count += 1;
-        self.stopped = Some(self.count);
-        self.count
+        let place = self.count + 1;
+        self.count = place;
+        self.stopped = Some(place);
+        place
     }
 }
 

@@ -45,7 +45,7 @@ impl State {
     ) -> Result<(Vec<Header>, Step), Refused>
         requires writable { IsWritable self.now }
         requires frozen { IsSome self.now.frozen }
-        ensures exhausted { IsErrOf result (refused.Exhausted max_place) → IsShortToFlush self.now }
+        ensures exhausted { IsErrOf result (refused.Exhausted max_place) ↔ IsShortToFlush self.now }
         ensures refused { IfErr result (λ why. (why ≡ refused.Exhausted max_place) ⊎ (why ≡ refused.NoMemory)) }
         ensures headers { IfOk result (λ made. All headers.HasSpelling made.0.items) }
         ensures step { IfOk result (λ made. IsStepFrom 1 self.now made.1) }
@@ -53,9 +53,7 @@ impl State {
         ensures flushes { (s : Stored) → Remembers s self.now (parts_by_level version.now) → IsCurrent s self.now
             → IfOk result (λ made. (t : Stored) × IsFlushed s t × IsStep s t made.0.items made.1) }
     {
-        let Some(frozen) = &self.frozen else {
-            return Err(Refused::NoMemory);
-        };
+        let frozen = self.frozen.as_ref().unwrap();
         if self.is_short_for(frozen) {
             return Err(Refused::Exhausted { last: MAX_PLACE });
         }
@@ -104,11 +102,7 @@ impl State {
     }
 
     /// The step that writes what a flush made.
-    fn flush_step(
-        &self,
-        alloc: Global,
-        flushed: Flushed,
-    ) -> Result<(Vec<Header>, Step), NoMemory>
+    fn flush_step(&self, alloc: Global, flushed: Flushed) -> Result<(Vec<Header>, Step), NoMemory>
         requires segments { length self.now.manifest.segments ≡ 2 }
         requires numbers { flushed.next < max_place }
         ensures is { IfOk result (λ made. IsFlushStep self.now flushed made.0.items made.1) }

@@ -51,6 +51,11 @@ pub fn halted_is_remembered()
     ensures { (s : Stored) (state : State) (levels : List (List Parts)) → Remembers s state levels → Remembers s (halted state) levels }
 {}
 
+/// What is remembered stays so where readers have the same files otherwise.
+pub fn files_are_remembered()
+    ensures { (s : Stored) (state : State) (levels next : List (List Parts)) → Remembers s state levels → HasFiles s next → Remembers s state next }
+{}
+
 /// With the active buffer frozen, what is stored with its active segment frozen is remembered.
 pub fn freeze_is_remembered()
     ensures { (s t : Stored) (old new : State) (levels : List (List Parts)) → Remembers s old levels → IsCurrent s old → s.frozen ≡ None

@@ -8,8 +8,11 @@ mod laws;
 mod state;
 
 pub use laws::{
-    delete_is_recorded, entered_is_remembered, flush_is_remembered, flush_stands,
-    flushed_flushes, freeze_is_remembered, halted_is_remembered, like_is_remembered,
+    delete_is_recorded, entered_is_remembered, files_are_remembered, flush_is_remembered,
+    flush_stands, flushed_flushes, freeze_is_remembered, halted_is_remembered, like_is_remembered,
     put_is_recorded, room_stands,
 };
 pub use state::State;
+
+#[cfg(test)]
+mod tests;

@@ -1,4 +1,4 @@
-use Rattle.std.proofs.Common.{rules, arith}
+use Rattle.std.proofs.Common.{rules}
 use Rattle.lethe_state.proofs.Entering.{entered_writable}
 use Rattle.lethe_state.proofs.state.State.enter.Goals as goal
 

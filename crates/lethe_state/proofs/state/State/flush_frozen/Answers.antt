@@ -1,4 +1,4 @@
-use Rattle.std.proofs.Common.{arith, subst}
+use Rattle.std.proofs.Common.{arith, ap, length, subst}
 use Rattle.lethe_flush.specs.Flushed.{IsFlushOf}
 use Rattle.lethe_flush.proofs.Results.{ok_both, ok_weaker}
 use Rattle.lethe_state.proofs.FlushStep.{flush_from}
@@ -17,3 +17,8 @@ returns-clause-step c =
     ok_both c.flush_step.result _ _ _ c.flush_step.ensures.is c.flush_step.ensures.few
     (λ made step few. flush_from c.args.self.now c.in_ok-flushed.flushed made.0.items made.1 c.requires.writable c.requires.segments next.0 (omega (arith, next.1, c.requires.numbers)) next.2
     c.in_ok-flushed.ensures.cited c.in_ok-flushed.ensures.level step few)
+
+pub returns-clause-few : goal.returns-clause-few
+returns-clause-few c =
+    let next = c.in_ok-flushed.ensures.next in
+    ok_weaker c.flush_step.result _ _ c.flush_step.ensures.is (λ made step. let same = ap length step.objects in omega (arith, same, next.1, next.2))

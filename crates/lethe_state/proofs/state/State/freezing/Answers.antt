@@ -1,5 +1,4 @@
-use Rattle.std.proofs.Common.{◌≡◌, arith, Option, Some, None, refl, sym, ap, ◌∙◌, subst}
-use Rattle.lethe_mem.specs.Buffered.{Buffered}
+use Rattle.std.proofs.Common.{◌≡◌, arith, Option, Some, None, refl, subst}
 use Rattle.lethe_stored.specs.Stored.{Segment}
 use Rattle.lethe_state.specs.Remembered.{IsFrozenIn}
 use Rattle.lethe_state.proofs.FreezeStep.{freeze_from, freeze_is_step}
