@@ -1,6 +1,6 @@
 -- A step is carried out on the disk.
-use Rattle.std.proofs.Common.{◌≡◌, ◌<◌, ◌≤◌, ◌⊎◌, inl, inr, ℕ, ◌+◌, List, [], ◌∷◌, ◌++◌, map, length, Some, refl, sym, ap, ◌∙◌, subst, arith}
-use Rattle.std.specs.Prelude.{Contains, All, option_to_list}
+use Rattle.std.proofs.Common.{◌≡◌, ◌<◌, ◌≤◌, ◌⊎◌, inl, inr, ℕ, ◌+◌, List, [], ◌∷◌, map, Some, sym, ap, ◌∙◌, subst, arith}
+use Rattle.std.specs.Prelude.{Contains, option_to_list}
 use Rattle.std.proofs.lemmas.List.Elements.{All-contains, Contains-append_left, Contains-append_right, Contains-append_cases, Contains-push}
 use Rattle.lethe_base.specs.History.{History}
 use Rattle.lethe_base.specs.declared.name.Name.{Name}
@@ -26,7 +26,6 @@ use Rattle.lethe_advance.specs.Steps.{IsStep, IsSegmentFrom}
 use Rattle.lethe_advance.specs.declared.step.Step.{Step}
 use Rattle.lethe_advance.proofs.Placed.{written_absent}
 use Rattle.lethe_advance.proofs.Standing.{settled_back, only_back, ends_empty}
-use Rattle.lethe_state.specs.Remembered.{IsCurrent}
 use Rattle.lethe_state.specs.declared.state.State.{State}
 use Rattle.lethe_engine.specs.Sound.{IsRunning}
 

@@ -1,5 +1,5 @@
 -- A step that went wrong.
-use Rattle.std.proofs.Common.{◌≡◌, ◌<◌, ◌≤◌, ℕ, ◌+◌, List, [], ◌∷◌, ◌++◌, length, Some, None, refl, sym, ap, ◌∙◌, subst, arith}
+use Rattle.std.proofs.Common.{◌≡◌, ◌<◌, ℕ, ◌+◌, List, Some, None, refl, sym, ap, ◌∙◌, subst, arith}
 use Rattle.lethe_base.specs.History.{History, Change}
 use Rattle.lethe_base.specs.Limits.{max_place}
 use Rattle.lethe_base.specs.declared.call.Call.{Call}
@@ -12,8 +12,8 @@ use Rattle.lethe_disk.specs.Goes.{Goes}
 use Rattle.lethe_stored.specs.Files.{Parts}
 use Rattle.lethe_stored.specs.Kept.{IsKept}
 use Rattle.lethe_stored.specs.Stored.{Stored}
-use Rattle.lethe_state.specs.Records.{halted}
-use Rattle.lethe_state.specs.Remembered.{Remembers}
+use Rattle.lethe_manifest.specs.declared.manifest.Manifest.{Manifest}
+use Rattle.lethe_state.specs.Records.{IsLike, halted}
 use Rattle.lethe_state.specs.Writable.{IsWritable}
 use Rattle.lethe_state.specs.declared.state.State.{State}
 use Rattle.lethe_engine.specs.Changes.{HasReason, refused_to}
@@ -21,7 +21,7 @@ use Rattle.lethe_engine.specs.Sound.{IsRunning, IsSmall, IsSound}
 use Rattle.lethe_engine.specs.StandsFor.{StandsFor, retried}
 use Rattle.lethe_engine.specs.Steps.{IsHindered}
 use Rattle.lethe_engine.proofs.Standing.{left_at_end, moments_or, open_stands, stands_done, stands_for, stands_running, stopped_stands}
-use Rattle.lethe_engine.proofs.Likes.{halted_remembered}
+use Rattle.lethe_engine.proofs.Likes.{halted_remembered, like_remembered, like_running, like_small}
 use Rattle.lethe_engine.proofs.Carried.{running_back}
 
 pub runs_not : (at : ℕ) → Some at ≡ None → ⊥
@@ -123,3 +123,22 @@ module _ (Tells : Type 0) (old new : State) (start finish : Seen) (before now : 
     hindered_stands told fits goes here caller call (Exhausted last) is = absurd is
     hindered_stands told fits goes here caller call (ReadFault b a) is = absurd is
     hindered_stands told fits goes here caller call (Damaged name) is = absurd is
+
+-- Where memory was reserved
+
+pub like_sound : (Tells : Type 0) (start finish : Seen) (old mid : State) (levels : List (List Parts)) → IsLike old mid → (Tells → (s : Stored) → IsRunning start s old → IsRunning finish s old) → IsWritable mid → IsSound Tells start old levels
+    → IsSound Tells finish mid levels
+like_sound Tells start finish old mid levels like back writable sound = record {
+  writable = writable;
+  small = like_small old mid like sound.small;
+  count = sound.count ∙ ap (λ (m : Manifest). m.config.levels + 1) (sym like.manifest);
+  held = λ told.
+      let held = sound.held told in
+      (held.0, like_remembered held.0 old mid like levels held.1, λ runs. like_running finish held.0 old mid like (back told held.0 (held.2 (sym like.stopped ∙ runs))));
+}
+
+pub like_stands : (config : Fields) (h : History) (start finish : Seen) (old mid : State) (levels : List (List Parts)) → IsLike old mid → StandsFor config h start old levels → old.stopped ≡ None
+    → ((s : Stored) → IsRunning start s old → IsRunning finish s old) → StandsFor config h finish mid levels
+like_stands config h start finish old mid levels like stands runs back =
+    open_stands config h finish stands.stored mid levels stands.legal (stands_done config h start old levels stands runs) (like.count ∙ stands.count) (like_remembered stands.stored old mid like levels stands.remembers) stands.config_is
+    (stands_for config h start old levels stands runs) (like_running finish stands.stored old mid like (back stands.stored (stands_running config h start old levels stands runs)))

@@ -1,11 +1,11 @@
 -- Histories of which the last change may have failed.
-use Rattle.std.proofs.Common.{◌≡◌, ◌<◌, ◌≤◌, inl, inr, ℕ, zero, suc, ◌+◌, ◌-◌, cond, List, [], ◌∷◌, ◌++◌, length, Some, None, refl, sym, ap, ◌∙◌, subst, append-nil, length-append, arith}
+use Rattle.std.proofs.Common.{◌≡◌, ◌<◌, ◌≤◌, inl, inr, ℕ, zero, suc, cond, [], ◌∷◌, ◌++◌, length, Some, None, refl, sym, ap, ◌∙◌, subst, append-nil, length-append, arith}
 use Rattle.std.specs.Prelude.{fold}
-use Rattle.lethe_base.specs.History.{History, Change, State, changed, outcome, after, change_at, clock_before, AreDone, IsLegal}
+use Rattle.lethe_base.specs.History.{History, Change, State, changed, outcome, after, AreDone, IsLegal}
 use Rattle.lethe_base.specs.Limits.{max_place}
 use Rattle.lethe_base.specs.declared.call.Did.{Did}
 use Rattle.lethe_base.specs.declared.call.Did.TheVariants.{Done, Failed}
-use Rattle.lethe_base.proofs.Histories.{change_at_cases, clock_before-append, clock_before-end}
+use Rattle.lethe_base.proofs.Histories.{change_at_cases, clock_before-append}
 use Rattle.lethe_stored.specs.Left.{is_done, without_failed}
 
 -- what failed changes nothing

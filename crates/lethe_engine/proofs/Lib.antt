@@ -10,3 +10,5 @@ pub mod Opened
 pub mod Stepped
 pub mod Next
 pub mod Recorded
+pub mod Roomed
+pub mod Overs

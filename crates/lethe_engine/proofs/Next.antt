@@ -1,5 +1,5 @@
 -- What a step of a store comes to, whatever the step is.
-use Rattle.std.proofs.Common.{◌≡◌, ◌⊎◌, inl, inr, ◌+◌, ℕ, List, length, None, sym, ap, ◌∙◌, subst}
+use Rattle.std.proofs.Common.{◌≡◌, ◌⊎◌, inl, inr, ◌+◌, ℕ, List, length, None, sym, ap, subst}
 use Rattle.lethe_base.specs.History.{History}
 use Rattle.lethe_base.specs.Limits.{max_place}
 use Rattle.lethe_base.specs.declared.call.Call.{Call}
@@ -11,7 +11,7 @@ use Rattle.lethe_disk.specs.Goes.{Goes}
 use Rattle.lethe_header.specs.declared.header.Header.{Header}
 use Rattle.lethe_stored.specs.Files.{Parts}
 use Rattle.lethe_stored.specs.Kept.{IsFor, IsKept}
-use Rattle.lethe_stored.specs.Stored.{Stored, froze}
+use Rattle.lethe_stored.specs.Stored.{Stored}
 use Rattle.lethe_stored.proofs.Freezing.{froze_for}
 use Rattle.lethe_advance.specs.Steps.{IsStep}
 use Rattle.lethe_advance.specs.declared.step.Step.{Step}

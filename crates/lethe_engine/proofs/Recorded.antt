@@ -1,5 +1,5 @@
 -- The record of a change is appended.
-use Rattle.std.proofs.Common.{◌≡◌, ◌<◌, ◌≤◌, ◌⊎◌, inl, inr, ℕ, ◌+◌, ◌-◌, max, List, [], ◌∷◌, ◌++◌, map, length, cond, Option, Some, None, refl, sym, ap, ◌∙◌, subst, arith}
+use Rattle.std.proofs.Common.{◌≡◌, ◌<◌, inl, inr, ℕ, ◌+◌, ◌-◌, List, [], ◌∷◌, ◌++◌, map, length, cond, Option, Some, None, refl, sym, ap, ◌∙◌, subst, arith}
 use Rattle.std.specs.Prelude.{Contains, IsSome, false, option_to_list, slice_index}
 use Rattle.std.specs.FinMap.{insert}
 use Rattle.lethe_base.specs.History.{History, Change}
@@ -22,10 +22,10 @@ use Rattle.lethe_cover.specs.Steps.{with_done, with_failed}
 use Rattle.lethe_commit.specs.Append.{EndsAt, IsReady, IsAppended, IsUntouched, longer}
 use Rattle.lethe_stored.specs.Encodes.{Encodes}
 use Rattle.lethe_stored.specs.Files.{Parts}
-use Rattle.lethe_stored.specs.Kept.{IsFor, IsKept}
+use Rattle.lethe_stored.specs.Kept.{IsFor}
 use Rattle.lethe_stored.specs.Left.{IsLeft, IsKeptOr, is_work}
 use Rattle.lethe_stored.specs.Steps.{addition}
-use Rattle.lethe_stored.specs.Stored.{Stored, Segment, IsCoherent, number_of, segment_name, segment_numbers, part_names, appended, count_of}
+use Rattle.lethe_stored.specs.Stored.{Stored, Segment, IsCoherent, number_of, segment_name, part_names, appended}
 use Rattle.lethe_stored.proofs.Parts.{active_part}
 use Rattle.lethe_stored.proofs.Steps.{append_keeps, active_changed, stored_appended}
 use Rattle.lethe_advance.specs.Settled.{HasOnly}
@@ -37,15 +37,15 @@ use Rattle.lethe_state.specs.Remembered.{IsCurrent, Remembers}
 use Rattle.lethe_state.specs.declared.state.State.{State}
 use Rattle.lethe_engine.specs.Changes.{done_by, with_record}
 use Rattle.lethe_engine.specs.Sound.{IsRunning}
-use Rattle.lethe_engine.specs.StandsFor.{StandsFor, retried}
+use Rattle.lethe_engine.specs.StandsFor.{StandsFor}
 use Rattle.lethe_engine.proofs.Carried.{running_back}
 use Rattle.lethe_engine.proofs.Likes.{like_remembered, like_running}
-use Rattle.lethe_engine.proofs.Standing.{left_at_end, stands_done, stands_for, stands_running, stopped_stands}
+use Rattle.lethe_engine.proofs.Standing.{left_at_end, stands_done, stands_for, stopped_stands}
 
 -- the last of the manifest's segments is the active one
-last_number : (o : Option Segment) (no : ℕ) → slice_index (map number_of (option_to_list o) ++ no ∷ []) (length (map number_of (option_to_list o) ++ no ∷ []) - 1) ≡ no
-last_number None no = refl
-last_number (Some older) no = refl
+last_number : (o : Option Segment) (number : ℕ) → slice_index (map number_of (option_to_list o) ++ number ∷ []) (length (map number_of (option_to_list o) ++ number ∷ []) - 1) ≡ number
+last_number None number = refl
+last_number (Some older) number = refl
 
 pub active_number : (s : Stored) (state : State) (levels : List (List Parts)) → Remembers s state levels → slice_index state.manifest.segments (length state.manifest.segments - 1) ≡ s.active.no
 active_number s state levels is = ap (λ l. slice_index l (length l - 1)) (ap (λ (m : Manifest). m.segments) is.manifest ∙ is.coherent.cites) ∙ last_number s.frozen s.active.no
@@ -136,7 +136,7 @@ failed_stands config h start finish old levels stands runs fits mid remembers sa
 -- With the memory that was taken first
 
 module _ (disk : Seen) (s : Stored) (old mid : State) (levels : List (List Parts)) (like : IsLike old mid) (remembers : Remembers s old levels) (running : IsRunning disk s old)
-    (next : Record) (spelled : RecordHasSpelling next) (place : record_seq next ≡ old.count + 1) (no : ℕ) (no_is : no ≡ slice_index mid.manifest.segments (length mid.manifest.segments - 1)) where
+    (next : Record) (spelled : RecordHasSpelling next) (place : record_seq next ≡ old.count + 1) (number : ℕ) (number_is : number ≡ slice_index mid.manifest.segments (length mid.manifest.segments - 1)) where
   mid_remembers : Remembers s mid levels
   mid_remembers = like_remembered s old mid like levels remembers
 
@@ -146,29 +146,28 @@ module _ (disk : Seen) (s : Stored) (old mid : State) (levels : List (List Parts
   mid_place : record_seq next ≡ mid.count + 1
   mid_place = place ∙ ap (λ n. n + 1) (sym like.count)
 
-  name_is : segment_name no ≡ segment_name s.active.no
-  name_is = ap segment_name (no_is ∙ active_number s mid levels mid_remembers)
+  name_is : segment_name number ≡ segment_name s.active.no
+  name_is = ap segment_name (number_is ∙ active_number s mid levels mid_remembers)
 
-  pub prepared_ready : (body : List ℕ) → body ≡ record_bytes next → IsReady disk (segment_name no) mid.end body (addition s next)
-  prepared_ready body bytes = ready disk s mid mid_running remembers.coherent next spelled mid_place (segment_name no) name_is mid.end refl body bytes
+  pub prepared_ready : (body : List ℕ) → body ≡ record_bytes next → IsReady disk (segment_name number) mid.end body (addition s next)
+  prepared_ready body bytes = ready disk s mid mid_running remembers.coherent next spelled mid_place (segment_name number) name_is mid.end refl body bytes
 
-  pub prepared_moments : (h : History) (caller : ℕ) (call : Call) → IsFor h s → IsFor (with_done h caller call) (appended s next) → (disk' : Seen) → Leads (IsAppended (segment_name no) mid.end (addition s next)) disk disk'
+  pub prepared_moments : (h : History) (caller : ℕ) (call : Call) → IsFor h s → IsFor (with_done h caller call) (appended s next) → (disk' : Seen) → Leads (IsAppended (segment_name number) mid.end (addition s next)) disk disk'
       → Goes (IsKeptOr h (Some (done_by caller call))) disk disk'
-  prepared_moments h caller call for with disk' run = moments disk s mid mid_running remembers.coherent next spelled mid_place (segment_name no) name_is mid.end refl h caller call for with disk' run
+  prepared_moments h caller call for with disk' run = moments disk s mid mid_running remembers.coherent next spelled mid_place (segment_name number) name_is mid.end refl h caller call for with disk' run
 
-  pub prepared_untouched : (h : History) → IsFor h s → (disk' : Seen) → Leads (IsAppended (segment_name no) mid.end (addition s next)) disk disk' → IsUntouched disk disk' → Goes (IsKeptOr h None) disk disk'
-  prepared_untouched h for disk' run still = untouched_moments disk s mid mid_running remembers.coherent next spelled mid_place (segment_name no) name_is mid.end refl h for (IsAppended (segment_name no) mid.end (addition s next)) disk' run still
+  pub prepared_untouched : (h : History) → IsFor h s → (disk' : Seen) → Leads (IsAppended (segment_name number) mid.end (addition s next)) disk disk' → IsUntouched disk disk' → Goes (IsKeptOr h None) disk disk'
+  prepared_untouched h for disk' run still = untouched_moments disk s mid mid_running remembers.coherent next spelled mid_place (segment_name number) name_is mid.end refl h for (IsAppended (segment_name number) mid.end (addition s next)) disk' run still
 
-  pub prepared_done : (disk' : Seen) (new : State) (end : ℕ) → disk'.directory ≡ insert disk.directory (segment_name no) (segment_bytes s.active.no (longer (addition s next))) → IsSynced disk'
-      → EndsAt disk' (segment_name no) s.active.no (longer (addition s next)) end → IsNext next end mid new
+  pub prepared_done : (disk' : Seen) (new : State) (end : ℕ) → disk'.directory ≡ insert disk.directory (segment_name number) (segment_bytes s.active.no (longer (addition s next))) → IsSynced disk'
+      → EndsAt disk' (segment_name number) s.active.no (longer (addition s next)) end → IsNext next end mid new
       → Remembers (appended s next) new levels × IsRunning disk' (appended s next) new × (disk'.directory ≡ with_record disk.directory s next)
   prepared_done disk' new end done synced ends is =
-      let coherent = coherent_next disk s mid mid_running remembers.coherent next spelled mid_place (segment_name no) name_is mid.end refl in
-      let both = entered_remembered s mid new levels next end mid_remembers mid_running.current is mid_place coherent in
-      (
+      let coherent = coherent_next disk s mid mid_running remembers.coherent next spelled mid_place (segment_name number) name_is mid.end refl in
+      let both = entered_remembered s mid new levels next end mid_remembers mid_running.current is mid_place coherent in (
         both.0,
-        running_longer disk s mid mid_running remembers.coherent next spelled mid_place (segment_name no) name_is mid.end refl disk' done new end synced ends is.end_is both.1,
-        inserted disk s mid mid_running remembers.coherent next spelled mid_place (segment_name no) name_is mid.end refl disk' done,
+        running_longer disk s mid mid_running remembers.coherent next spelled mid_place (segment_name number) name_is mid.end refl disk' done new end synced ends is.end_is both.1,
+        inserted disk s mid mid_running remembers.coherent next spelled mid_place (segment_name number) name_is mid.end refl disk' done,
       )
 
   -- an answer that touched nothing

@@ -1,5 +1,5 @@
 -- What stands where the disk is in the store's hands.
-use Rattle.std.proofs.Common.{◌≡◌, ◌<◌, inl, inr, ℕ, ◌+◌, List, [], ◌∷◌, ◌++◌, length, Option, Some, None, refl, sym, ap, ◌∙◌, subst, arith}
+use Rattle.std.proofs.Common.{◌≡◌, ◌<◌, inl, inr, ℕ, ◌+◌, List, [], ◌∷◌, ◌++◌, length, Option, Some, None, refl, sym, ◌∙◌, subst, arith}
 use Rattle.std.proofs.lemmas.List.{length_push}
 use Rattle.lethe_base.specs.History.{History, Change, AreDone, IsLegal}
 use Rattle.lethe_base.specs.Limits.{max_place}
@@ -13,7 +13,7 @@ use Rattle.lethe_disk.proofs.Quieting.{quiet_itself}
 use Rattle.lethe_stored.specs.Encodes.{Encodes}
 use Rattle.lethe_stored.specs.Files.{Parts}
 use Rattle.lethe_stored.specs.Kept.{IsFor, IsKept}
-use Rattle.lethe_stored.specs.Left.{IsLeft, IsKeptOr, IsHistoryOr, without_failed}
+use Rattle.lethe_stored.specs.Left.{IsLeft, IsKeptOr, IsHistoryOr}
 use Rattle.lethe_stored.specs.Stored.{Stored}
 use Rattle.lethe_advance.specs.Settled.{HasOnly}
 use Rattle.lethe_state.specs.Remembered.{Remembers}

@@ -1,5 +1,5 @@
 -- A freeze and a flush that were carried out.
-use Rattle.std.proofs.Common.{◌≡◌, ◌≤◌, ◌<◌, ℕ, ◌+◌, List, [], ◌∷◌, ◌++◌, length, Option, Some, None, refl, sym, ap, ◌∙◌, subst, arith}
+use Rattle.std.proofs.Common.{◌≡◌, List, length, Option, Some, None, refl, sym, ap, ◌∙◌, subst, arith}
 use Rattle.std.specs.Prelude.{Contains}
 use Rattle.lethe_base.specs.History.{History}
 use Rattle.lethe_base.specs.declared.config.Fields.{Fields}
@@ -14,12 +14,12 @@ use Rattle.lethe_commit.specs.Place.{insert_all}
 use Rattle.lethe_stored.specs.Files.{Parts}
 use Rattle.lethe_stored.specs.Kept.{IsFor}
 use Rattle.lethe_stored.specs.Levels.{HasFiles}
-use Rattle.lethe_stored.specs.Stored.{Stored, Segment, IsCoherent, segment_name, part_names, froze}
+use Rattle.lethe_stored.specs.Stored.{Stored, Segment, segment_name, part_names}
 use Rattle.lethe_advance.specs.Settled.{IsSettled, HasOnly}
 use Rattle.lethe_advance.specs.Steps.{IsStep}
 use Rattle.lethe_advance.specs.declared.step.Step.{Step}
 use Rattle.lethe_state.specs.Remembered.{IsCurrent, IsFrozenIn, Remembers}
-use Rattle.lethe_state.specs.Room.{IsFlushed, IsFrozen, IsFrozenWith, IsStepFrom, frozen_len, unfrozen}
+use Rattle.lethe_state.specs.Room.{IsFlushed, IsFrozen, IsFrozenWith, frozen_len, unfrozen}
 use Rattle.lethe_state.specs.declared.state.State.{State}
 use Rattle.lethe_state.proofs.Stepping.{flush_remembered, freeze_remembered}
 use Rattle.lethe_engine.specs.Sound.{IsRunning, IsSmall}

@@ -1,20 +1,17 @@
-use Rattle.std.proofs.Common.{rules, ◌≡◌, ◌+◌, Err, refl, sym, ap, ◌∙◌, subst}
+use Rattle.std.proofs.Common.{rules, ◌≡◌, ◌+◌, Err, sym, ap, ◌∙◌, subst}
 use Rattle.lethe_base.specs.declared.config.Fields.{Fields}
-use Rattle.lethe_stored.specs.Stored.{Stored, froze}
 use Rattle.lethe_advance.specs.Shown.{parts_by_level}
-use Rattle.lethe_advance.specs.Steps.{IsStep}
-use Rattle.lethe_state.specs.Remembered.{Remembers}
-use Rattle.lethe_state.specs.Room.{IsFlushed, IsFrozenWith, unfrozen}
+use Rattle.lethe_state.specs.Room.{IsFlushed, unfrozen}
 use Rattle.lethe_state.specs.declared.state.State.{State}
 use Rattle.lethe_state.proofs.Stepping.{flush_for}
 use Rattle.lethe_engine.specs.Changes.{refused_to}
-use Rattle.lethe_engine.specs.Sound.{IsRunning, IsSmall, IsSound}
+use Rattle.lethe_engine.specs.Sound.{IsSmall, IsSound}
 use Rattle.lethe_engine.specs.StandsFor.{StandsFor}
 use Rattle.lethe_engine.specs.Work.{stepped_to}
 use Rattle.lethe_engine.proofs.Hindered.{hindered_sound, hindered_stands}
-use Rattle.lethe_engine.proofs.Next.{frozen_for, next_done, next_moments, next_sound, next_stands, refused_before}
+use Rattle.lethe_engine.proofs.Next.{next_done, next_moments, next_sound, next_stands, refused_before}
 use Rattle.lethe_engine.proofs.Standing.{stands_moments}
-use Rattle.lethe_engine.proofs.Stepped.{flushed_remembers, flushed_running, frozen_remembers, frozen_running, not_frozen, small_frozen, small_unfrozen}
+use Rattle.lethe_engine.proofs.Stepped.{flushed_remembers, flushed_running, small_unfrozen}
 use Rattle.lethe_engine.proofs.engine.Engine.flush_now.Goals as goal
 
 pub returns-in_err-headers-clause-stands : goal.returns-in_err-headers-clause-stands
@@ -77,42 +74,40 @@ returns-clause-done g c = λ told s remembers running.
     let old = c.args.self.now in
     next_done IsFlushed old.state (parts_by_level old.version) c.in_ok-headers.headers.items c.in_ok-headers.step (g.D.Disk.seen old.disk) (g.D.Disk.seen c.carry_out.new.self.disk)
     (λ s remembers current. c.in_ok-headers.ensures.flushes s remembers current) (λ h s t remembers for is. flush_for h s t remembers.coherent for is) g.D.Disk.tells c.flush.new.self (parts_by_level c.carry_out.new.self.version) (λ told s t remembers running made is.
-        let old = c.args.self.now in
-        let start = g.D.Disk.seen old.disk in
-        let finish = g.D.Disk.seen c.carry_out.new.self.disk in
-        let levels = parts_by_level old.version in
-        let next = parts_by_level c.carry_out.new.self.version in
-        let done = c.in_ok-carry_out.ensures.done told s t running is in
-        let kept = c.in_ok-carry_out.ensures.kept told s t running is in
-        let files = c.in_ok-carry_out.ensures.files told s t running is remembers.files in
-        let laws = g.met.D.Disk g.world.𝓛 g.world.𝓜 g.world.𝓡 ((λ s x. x), (λ x. x), (λ x. x), λ x. x) in
-        let here = laws.itself told old.disk in
-        let new_is : c.flush.new.self ≡ unfrozen c.in_ok-headers.step.manifest old.state = c.flush.ensures.is ∙ ap (unfrozen c.in_ok-headers.step.manifest) c.in_ok-carry_out.ensures.state in
-        (
-          flushed_remembers s t old.state c.flush.new.self levels next c.in_ok-headers.headers.items c.in_ok-headers.step start finish remembers running is done.0 done.1 kept files made new_is here,
-          flushed_running s t old.state c.flush.new.self levels next c.in_ok-headers.headers.items c.in_ok-headers.step start finish remembers running is done.0 done.1 kept files made new_is here,
-        )) told s remembers running
+    let old = c.args.self.now in
+    let start = g.D.Disk.seen old.disk in
+    let finish = g.D.Disk.seen c.carry_out.new.self.disk in
+    let levels = parts_by_level old.version in
+    let next = parts_by_level c.carry_out.new.self.version in
+    let done = c.in_ok-carry_out.ensures.done told s t running is in
+    let kept = c.in_ok-carry_out.ensures.kept told s t running is in
+    let files = c.in_ok-carry_out.ensures.files told s t running is remembers.files in
+    let laws = g.met.D.Disk g.world.𝓛 g.world.𝓜 g.world.𝓡 ((λ s x. x), (λ x. x), (λ x. x), λ x. x) in
+    let here = laws.itself told old.disk in
+    let new_is : c.flush.new.self ≡ unfrozen c.in_ok-headers.step.manifest old.state = c.flush.ensures.is ∙ ap (unfrozen c.in_ok-headers.step.manifest) c.in_ok-carry_out.ensures.state in (
+      flushed_remembers s t old.state c.flush.new.self levels next c.in_ok-headers.headers.items c.in_ok-headers.step start finish remembers running is done.0 done.1 kept files made new_is here,
+      flushed_running s t old.state c.flush.new.self levels next c.in_ok-headers.headers.items c.in_ok-headers.step start finish remembers running is done.0 done.1 kept files made new_is here,
+    )) told s remembers running
 
 pub returns-clause-stands : goal.returns-clause-stands
 returns-clause-stands g c = λ told config h stands caller call.
     let old = c.args.self.now in
     next_stands IsFlushed old.state (parts_by_level old.version) c.in_ok-headers.headers.items c.in_ok-headers.step (g.D.Disk.seen old.disk) (g.D.Disk.seen c.carry_out.new.self.disk)
     (λ s remembers current. c.in_ok-headers.ensures.flushes s remembers current) (λ h s t remembers for is. flush_for h s t remembers.coherent for is) g.D.Disk.tells c.flush.new.self (parts_by_level c.carry_out.new.self.version) (λ told s t remembers running made is.
-        let old = c.args.self.now in
-        let start = g.D.Disk.seen old.disk in
-        let finish = g.D.Disk.seen c.carry_out.new.self.disk in
-        let levels = parts_by_level old.version in
-        let next = parts_by_level c.carry_out.new.self.version in
-        let done = c.in_ok-carry_out.ensures.done told s t running is in
-        let kept = c.in_ok-carry_out.ensures.kept told s t running is in
-        let files = c.in_ok-carry_out.ensures.files told s t running is remembers.files in
-        let laws = g.met.D.Disk g.world.𝓛 g.world.𝓜 g.world.𝓡 ((λ s x. x), (λ x. x), (λ x. x), λ x. x) in
-        let here = laws.itself told old.disk in
-        let new_is : c.flush.new.self ≡ unfrozen c.in_ok-headers.step.manifest old.state = c.flush.ensures.is ∙ ap (unfrozen c.in_ok-headers.step.manifest) c.in_ok-carry_out.ensures.state in
-        (
-          flushed_remembers s t old.state c.flush.new.self levels next c.in_ok-headers.headers.items c.in_ok-headers.step start finish remembers running is done.0 done.1 kept files made new_is here,
-          flushed_running s t old.state c.flush.new.self levels next c.in_ok-headers.headers.items c.in_ok-headers.step start finish remembers running is done.0 done.1 kept files made new_is here,
-        )) told config h stands c.requires.runs (ap (λ (state : State). state.count) (c.flush.ensures.is ∙ ap (unfrozen c.in_ok-headers.step.manifest) c.in_ok-carry_out.ensures.state))
+    let old = c.args.self.now in
+    let start = g.D.Disk.seen old.disk in
+    let finish = g.D.Disk.seen c.carry_out.new.self.disk in
+    let levels = parts_by_level old.version in
+    let next = parts_by_level c.carry_out.new.self.version in
+    let done = c.in_ok-carry_out.ensures.done told s t running is in
+    let kept = c.in_ok-carry_out.ensures.kept told s t running is in
+    let files = c.in_ok-carry_out.ensures.files told s t running is remembers.files in
+    let laws = g.met.D.Disk g.world.𝓛 g.world.𝓜 g.world.𝓡 ((λ s x. x), (λ x. x), (λ x. x), λ x. x) in
+    let here = laws.itself told old.disk in
+    let new_is : c.flush.new.self ≡ unfrozen c.in_ok-headers.step.manifest old.state = c.flush.ensures.is ∙ ap (unfrozen c.in_ok-headers.step.manifest) c.in_ok-carry_out.ensures.state in (
+      flushed_remembers s t old.state c.flush.new.self levels next c.in_ok-headers.headers.items c.in_ok-headers.step start finish remembers running is done.0 done.1 kept files made new_is here,
+      flushed_running s t old.state c.flush.new.self levels next c.in_ok-headers.headers.items c.in_ok-headers.step start finish remembers running is done.0 done.1 kept files made new_is here,
+    )) told config h stands c.requires.runs (ap (λ (state : State). state.count) (c.flush.ensures.is ∙ ap (unfrozen c.in_ok-headers.step.manifest) c.in_ok-carry_out.ensures.state))
 
 pub returns-clause-sound : goal.returns-clause-sound
 returns-clause-sound g c =
@@ -123,19 +118,18 @@ returns-clause-sound g c =
     let config = ap (λ (state : State). state.manifest.config) new_is ∙ from.config in
     next_sound IsFlushed old.state (parts_by_level old.version) c.in_ok-headers.headers.items c.in_ok-headers.step (g.D.Disk.seen old.disk) (g.D.Disk.seen c.carry_out.new.self.disk)
     (λ s remembers current. c.in_ok-headers.ensures.flushes s remembers current) (λ h s t remembers for is. flush_for h s t remembers.coherent for is) g.D.Disk.tells c.flush.new.self (parts_by_level c.carry_out.new.self.version) (λ told s t remembers running made is.
-        let old = c.args.self.now in
-        let start = g.D.Disk.seen old.disk in
-        let finish = g.D.Disk.seen c.carry_out.new.self.disk in
-        let levels = parts_by_level old.version in
-        let next = parts_by_level c.carry_out.new.self.version in
-        let done = c.in_ok-carry_out.ensures.done told s t running is in
-        let kept = c.in_ok-carry_out.ensures.kept told s t running is in
-        let files = c.in_ok-carry_out.ensures.files told s t running is remembers.files in
-        let laws = g.met.D.Disk g.world.𝓛 g.world.𝓜 g.world.𝓡 ((λ s x. x), (λ x. x), (λ x. x), λ x. x) in
-        let here = laws.itself told old.disk in
-        let new_is : c.flush.new.self ≡ unfrozen c.in_ok-headers.step.manifest old.state = c.flush.ensures.is ∙ ap (unfrozen c.in_ok-headers.step.manifest) c.in_ok-carry_out.ensures.state in
-        (
-          flushed_remembers s t old.state c.flush.new.self levels next c.in_ok-headers.headers.items c.in_ok-headers.step start finish remembers running is done.0 done.1 kept files made new_is here,
-          flushed_running s t old.state c.flush.new.self levels next c.in_ok-headers.headers.items c.in_ok-headers.step start finish remembers running is done.0 done.1 kept files made new_is here,
-        )) c.requires.runs c.requires.sound c.flush.ensures.writable small
+    let old = c.args.self.now in
+    let start = g.D.Disk.seen old.disk in
+    let finish = g.D.Disk.seen c.carry_out.new.self.disk in
+    let levels = parts_by_level old.version in
+    let next = parts_by_level c.carry_out.new.self.version in
+    let done = c.in_ok-carry_out.ensures.done told s t running is in
+    let kept = c.in_ok-carry_out.ensures.kept told s t running is in
+    let files = c.in_ok-carry_out.ensures.files told s t running is remembers.files in
+    let laws = g.met.D.Disk g.world.𝓛 g.world.𝓜 g.world.𝓡 ((λ s x. x), (λ x. x), (λ x. x), λ x. x) in
+    let here = laws.itself told old.disk in
+    let new_is : c.flush.new.self ≡ unfrozen c.in_ok-headers.step.manifest old.state = c.flush.ensures.is ∙ ap (unfrozen c.in_ok-headers.step.manifest) c.in_ok-carry_out.ensures.state in (
+      flushed_remembers s t old.state c.flush.new.self levels next c.in_ok-headers.headers.items c.in_ok-headers.step start finish remembers running is done.0 done.1 kept files made new_is here,
+      flushed_running s t old.state c.flush.new.self levels next c.in_ok-headers.headers.items c.in_ok-headers.step start finish remembers running is done.0 done.1 kept files made new_is here,
+    )) c.requires.runs c.requires.sound c.flush.ensures.writable small
     (c.carry_out.ensures.levels ∙ c.requires.sound.count ∙ ap (λ (fields : Fields). fields.levels + 1) (sym config))

@@ -1,20 +1,18 @@
 use Rattle.std.proofs.Common.{rules, ◌≡◌, ◌+◌, Err, refl, sym, ap, ◌∙◌, subst}
 use Rattle.lethe_base.specs.declared.config.Fields.{Fields}
-use Rattle.lethe_stored.specs.Stored.{Stored, froze}
+use Rattle.lethe_stored.specs.Stored.{froze}
 use Rattle.lethe_advance.specs.Shown.{parts_by_level}
 use Rattle.lethe_advance.specs.Steps.{IsStep}
-use Rattle.lethe_state.specs.Remembered.{Remembers}
-use Rattle.lethe_state.specs.Room.{IsFrozen, IsFrozenWith, unfrozen}
+use Rattle.lethe_state.specs.Room.{IsFrozen, IsFrozenWith}
 use Rattle.lethe_state.specs.declared.state.State.{State}
-use Rattle.lethe_state.proofs.Stepping.{flush_for}
 use Rattle.lethe_engine.specs.Changes.{refused_to}
-use Rattle.lethe_engine.specs.Sound.{IsRunning, IsSmall, IsSound}
+use Rattle.lethe_engine.specs.Sound.{IsSound}
 use Rattle.lethe_engine.specs.StandsFor.{StandsFor}
 use Rattle.lethe_engine.specs.Work.{stepped_to}
 use Rattle.lethe_engine.proofs.Hindered.{hindered_sound, hindered_stands}
 use Rattle.lethe_engine.proofs.Next.{frozen_for, next_done, next_moments, next_sound, next_stands, refused_before}
 use Rattle.lethe_engine.proofs.Standing.{stands_moments}
-use Rattle.lethe_engine.proofs.Stepped.{flushed_remembers, flushed_running, frozen_remembers, frozen_running, not_frozen, small_frozen, small_unfrozen}
+use Rattle.lethe_engine.proofs.Stepped.{frozen_remembers, frozen_running, not_frozen, small_frozen}
 use Rattle.lethe_engine.proofs.engine.Engine.freeze_now.Goals as goal
 
 pub returns-in_err-step-clause-stands : goal.returns-in_err-step-clause-stands
@@ -78,38 +76,36 @@ returns-clause-done g c = λ told s remembers running.
     let old = c.args.self.now in
     next_done IsFrozen old.state (parts_by_level old.version) c.new.result.items c.in_ok-step.step (g.D.Disk.seen old.disk) (g.D.Disk.seen c.carry_out.new.self.disk)
     (λ s remembers current. (froze s s.manifest.next (s.manifest.next + 1), refl, subst (λ headers. IsStep s (froze s s.manifest.next (s.manifest.next + 1)) headers c.in_ok-step.step) (sym c.new.ensures.items) (c.in_ok-step.ensures.freezes s (parts_by_level c.args.self.now.version) remembers current))) (λ h s t remembers for is. frozen_for h s t c.args.self.now.state (parts_by_level c.args.self.now.version) remembers (not_frozen s c.args.self.now.state (parts_by_level c.args.self.now.version) remembers c.requires.unfrozen) for is) g.D.Disk.tells c.freeze.new.self (parts_by_level c.carry_out.new.self.version) (λ told s t remembers running made is.
-        let old = c.args.self.now in
-        let start = g.D.Disk.seen old.disk in
-        let finish = g.D.Disk.seen c.carry_out.new.self.disk in
-        let levels = parts_by_level old.version in
-        let next = parts_by_level c.carry_out.new.self.version in
-        let done = c.in_ok-carry_out.ensures.done told s t running is in
-        let kept = c.in_ok-carry_out.ensures.kept told s t running is in
-        let files = c.in_ok-carry_out.ensures.files told s t running is remembers.files in
-        let with = subst (λ (state : State). IsFrozenWith c.in_ok-step.step.manifest state c.freeze.new.self) c.in_ok-carry_out.ensures.state c.freeze.ensures.is in
-        (
-          frozen_remembers s t old.state c.freeze.new.self levels next c.new.result.items c.in_ok-step.step start finish remembers running is done.0 done.1 kept files made c.requires.unfrozen with,
-          frozen_running s t old.state c.freeze.new.self levels next c.new.result.items c.in_ok-step.step start finish remembers running is done.0 done.1 kept files made c.requires.unfrozen with,
-        )) told s remembers running
+    let old = c.args.self.now in
+    let start = g.D.Disk.seen old.disk in
+    let finish = g.D.Disk.seen c.carry_out.new.self.disk in
+    let levels = parts_by_level old.version in
+    let next = parts_by_level c.carry_out.new.self.version in
+    let done = c.in_ok-carry_out.ensures.done told s t running is in
+    let kept = c.in_ok-carry_out.ensures.kept told s t running is in
+    let files = c.in_ok-carry_out.ensures.files told s t running is remembers.files in
+    let with = subst (λ (state : State). IsFrozenWith c.in_ok-step.step.manifest state c.freeze.new.self) c.in_ok-carry_out.ensures.state c.freeze.ensures.is in (
+      frozen_remembers s t old.state c.freeze.new.self levels next c.new.result.items c.in_ok-step.step start finish remembers running is done.0 done.1 kept files made c.requires.unfrozen with,
+      frozen_running s t old.state c.freeze.new.self levels next c.new.result.items c.in_ok-step.step start finish remembers running is done.0 done.1 kept files made c.requires.unfrozen with,
+    )) told s remembers running
 
 pub returns-clause-stands : goal.returns-clause-stands
 returns-clause-stands g c = λ told config h stands caller call.
     let old = c.args.self.now in
     next_stands IsFrozen old.state (parts_by_level old.version) c.new.result.items c.in_ok-step.step (g.D.Disk.seen old.disk) (g.D.Disk.seen c.carry_out.new.self.disk)
     (λ s remembers current. (froze s s.manifest.next (s.manifest.next + 1), refl, subst (λ headers. IsStep s (froze s s.manifest.next (s.manifest.next + 1)) headers c.in_ok-step.step) (sym c.new.ensures.items) (c.in_ok-step.ensures.freezes s (parts_by_level c.args.self.now.version) remembers current))) (λ h s t remembers for is. frozen_for h s t c.args.self.now.state (parts_by_level c.args.self.now.version) remembers (not_frozen s c.args.self.now.state (parts_by_level c.args.self.now.version) remembers c.requires.unfrozen) for is) g.D.Disk.tells c.freeze.new.self (parts_by_level c.carry_out.new.self.version) (λ told s t remembers running made is.
-        let old = c.args.self.now in
-        let start = g.D.Disk.seen old.disk in
-        let finish = g.D.Disk.seen c.carry_out.new.self.disk in
-        let levels = parts_by_level old.version in
-        let next = parts_by_level c.carry_out.new.self.version in
-        let done = c.in_ok-carry_out.ensures.done told s t running is in
-        let kept = c.in_ok-carry_out.ensures.kept told s t running is in
-        let files = c.in_ok-carry_out.ensures.files told s t running is remembers.files in
-        let with = subst (λ (state : State). IsFrozenWith c.in_ok-step.step.manifest state c.freeze.new.self) c.in_ok-carry_out.ensures.state c.freeze.ensures.is in
-        (
-          frozen_remembers s t old.state c.freeze.new.self levels next c.new.result.items c.in_ok-step.step start finish remembers running is done.0 done.1 kept files made c.requires.unfrozen with,
-          frozen_running s t old.state c.freeze.new.self levels next c.new.result.items c.in_ok-step.step start finish remembers running is done.0 done.1 kept files made c.requires.unfrozen with,
-        )) told config h stands c.requires.runs (c.freeze.ensures.is.count ∙ ap (λ (state : State). state.count) c.in_ok-carry_out.ensures.state)
+    let old = c.args.self.now in
+    let start = g.D.Disk.seen old.disk in
+    let finish = g.D.Disk.seen c.carry_out.new.self.disk in
+    let levels = parts_by_level old.version in
+    let next = parts_by_level c.carry_out.new.self.version in
+    let done = c.in_ok-carry_out.ensures.done told s t running is in
+    let kept = c.in_ok-carry_out.ensures.kept told s t running is in
+    let files = c.in_ok-carry_out.ensures.files told s t running is remembers.files in
+    let with = subst (λ (state : State). IsFrozenWith c.in_ok-step.step.manifest state c.freeze.new.self) c.in_ok-carry_out.ensures.state c.freeze.ensures.is in (
+      frozen_remembers s t old.state c.freeze.new.self levels next c.new.result.items c.in_ok-step.step start finish remembers running is done.0 done.1 kept files made c.requires.unfrozen with,
+      frozen_running s t old.state c.freeze.new.self levels next c.new.result.items c.in_ok-step.step start finish remembers running is done.0 done.1 kept files made c.requires.unfrozen with,
+    )) told config h stands c.requires.runs (c.freeze.ensures.is.count ∙ ap (λ (state : State). state.count) c.in_ok-carry_out.ensures.state)
 
 pub returns-clause-sound : goal.returns-clause-sound
 returns-clause-sound g c =
@@ -120,17 +116,16 @@ returns-clause-sound g c =
     let config = ap (λ m. m.config) with.manifest_is ∙ from.config in
     next_sound IsFrozen old.state (parts_by_level old.version) c.new.result.items c.in_ok-step.step (g.D.Disk.seen old.disk) (g.D.Disk.seen c.carry_out.new.self.disk)
     (λ s remembers current. (froze s s.manifest.next (s.manifest.next + 1), refl, subst (λ headers. IsStep s (froze s s.manifest.next (s.manifest.next + 1)) headers c.in_ok-step.step) (sym c.new.ensures.items) (c.in_ok-step.ensures.freezes s (parts_by_level c.args.self.now.version) remembers current))) (λ h s t remembers for is. frozen_for h s t c.args.self.now.state (parts_by_level c.args.self.now.version) remembers (not_frozen s c.args.self.now.state (parts_by_level c.args.self.now.version) remembers c.requires.unfrozen) for is) g.D.Disk.tells c.freeze.new.self (parts_by_level c.carry_out.new.self.version) (λ told s t remembers running made is.
-        let old = c.args.self.now in
-        let start = g.D.Disk.seen old.disk in
-        let finish = g.D.Disk.seen c.carry_out.new.self.disk in
-        let levels = parts_by_level old.version in
-        let next = parts_by_level c.carry_out.new.self.version in
-        let done = c.in_ok-carry_out.ensures.done told s t running is in
-        let kept = c.in_ok-carry_out.ensures.kept told s t running is in
-        let files = c.in_ok-carry_out.ensures.files told s t running is remembers.files in
-        let with = subst (λ (state : State). IsFrozenWith c.in_ok-step.step.manifest state c.freeze.new.self) c.in_ok-carry_out.ensures.state c.freeze.ensures.is in
-        (
-          frozen_remembers s t old.state c.freeze.new.self levels next c.new.result.items c.in_ok-step.step start finish remembers running is done.0 done.1 kept files made c.requires.unfrozen with,
-          frozen_running s t old.state c.freeze.new.self levels next c.new.result.items c.in_ok-step.step start finish remembers running is done.0 done.1 kept files made c.requires.unfrozen with,
-        )) c.requires.runs c.requires.sound c.freeze.ensures.writable small
+    let old = c.args.self.now in
+    let start = g.D.Disk.seen old.disk in
+    let finish = g.D.Disk.seen c.carry_out.new.self.disk in
+    let levels = parts_by_level old.version in
+    let next = parts_by_level c.carry_out.new.self.version in
+    let done = c.in_ok-carry_out.ensures.done told s t running is in
+    let kept = c.in_ok-carry_out.ensures.kept told s t running is in
+    let files = c.in_ok-carry_out.ensures.files told s t running is remembers.files in
+    let with = subst (λ (state : State). IsFrozenWith c.in_ok-step.step.manifest state c.freeze.new.self) c.in_ok-carry_out.ensures.state c.freeze.ensures.is in (
+      frozen_remembers s t old.state c.freeze.new.self levels next c.new.result.items c.in_ok-step.step start finish remembers running is done.0 done.1 kept files made c.requires.unfrozen with,
+      frozen_running s t old.state c.freeze.new.self levels next c.new.result.items c.in_ok-step.step start finish remembers running is done.0 done.1 kept files made c.requires.unfrozen with,
+    )) c.requires.runs c.requires.sound c.freeze.ensures.writable small
     (c.carry_out.ensures.levels ∙ c.requires.sound.count ∙ ap (λ (fields : Fields). fields.levels + 1) (sym config))

@@ -1,6 +1,5 @@
 use Rattle.std.proofs.Common.{Err, ap, sym, ◌∙◌}
 use Rattle.std.specs.Option.{option_copied}
-use Rattle.lethe_base.specs.declared.refused.Refused.{Refused}
 use Rattle.lethe_engine.proofs.Answering.{damage_told, err_told, fault_told, files_sound, found, stored_sound}
 use Rattle.lethe_engine.proofs.engine.Engine.get.Goals as goal
 

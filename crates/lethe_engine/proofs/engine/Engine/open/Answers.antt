@@ -1,8 +1,8 @@
-use Rattle.std.proofs.Common.{◌≡◌, ℕ, ◌≤◌, ◌+◌, length, ap, Err, refl, sym, ◌∙◌, subst, arith}
+use Rattle.std.proofs.Common.{◌≡◌, ◌+◌, ap, Err, sym, ◌∙◌, arith}
 use Rattle.std.proofs.lemmas.List.{length-map}
 use Rattle.lethe_manifest.specs.declared.manifest.Manifest.{Manifest}
 use Rattle.lethe_version.specs.Versions.{levels_of}
-use Rattle.lethe_advance.specs.Shown.{parts_by_level, parts_in}
+use Rattle.lethe_advance.specs.Shown.{parts_by_level}
 use Rattle.lethe_engine.proofs.Opened.{opened_running, resumed, small_fresh, untouched_by}
 use Rattle.lethe_engine.proofs.engine.Engine.open.Goals as goal
 

@@ -1,0 +1,61 @@
+-- The records of changes, by what is stored.
+use Rattle.std.proofs.Common.{◌≡◌, inl, inr, ◌+◌, ℕ, min, List, map, Option, Some, None, sym, ap, ◌∙◌, subst, option_and_then}
+use Rattle.std.specs.Prelude.{IsSome, unwrap_or}
+use Rattle.std.specs.FinMap as finmap
+use Rattle.std.specs.Option.{option_or}
+use Rattle.lethe_base.specs.Keys.{Bytes, key_cmp}
+use Rattle.lethe_base.specs.Entries.{entry_of}
+use Rattle.lethe_base.specs.Layout.{buffer_of, frozen_records}
+use Rattle.lethe_base.specs.declared.entry.Body.TheVariants as body
+use Rattle.lethe_base.specs.declared.entry.Entry.{Entry}
+use Rattle.lethe_header.specs.declared.header.Header.{Header}
+use Rattle.lethe_manifest.specs.declared.manifest.Manifest.{Manifest}
+use Rattle.lethe_mem.specs.Buffered.{Buffered}
+use Rattle.lethe_segment.specs.declared.record.Record.{Record}
+use Rattle.lethe_segment.specs.declared.record.Record.TheVariants as of
+use Rattle.lethe_stored.specs.Files.{Parts}
+use Rattle.lethe_stored.specs.Stored.{Stored, Segment, layout_of, plain, records_in}
+use Rattle.lethe_stored.proofs.Meanings.{frozen_are}
+use Rattle.lethe_state.specs.Records.{IsDeleteRecord, MayBeHeld, frozen_entry, put_record, tomb_record}
+use Rattle.lethe_state.specs.Remembered.{IsCurrent, IsFrozenIn, Remembers}
+use Rattle.lethe_state.specs.declared.state.State.{State}
+use Rattle.lethe_engine.specs.Changes.{put_over}
+use Rattle.lethe_engine.specs.Deletes.{IsDeleteOver, MayHave, tomb_over}
+
+frozen_is : (o : Option Segment) (b : Option Buffered) → IsFrozenIn o b → (key : Bytes) → frozen_entry key b ≡ finmap.get (buffer_of (map plain (records_in o))) key
+frozen_is None None is key = sym (finmap.get-empty key_cmp key)
+frozen_is (Some segment) (Some buffer) is key = is key
+frozen_is None (Some buffer) is key = absurd is
+frozen_is (Some segment) None is key = absurd is
+
+module _ (s : Stored) (state : State) (levels : List (List Parts)) (is : Remembers s state levels) (current : IsCurrent s state) where
+  pub put_same : (key : Bytes) (dkey : ℕ) (value : Bytes) → put_record state key dkey value ≡ put_over s key dkey value
+  put_same key dkey value =
+      let count = current.count in
+      let newest = is.active key in
+      (λ i. of.Entry (record { seq = count i + 1; key = key; body = body.Put dkey value; since = option_and_then (λ (entry : Entry). entry.since) (newest i) }))
+
+  tomb_same : (key : Bytes) → tomb_record state key ≡ tomb_over s key
+  tomb_same key =
+      let count = current.count in
+      let newest = is.active key in
+      let clock : state.manifest.clock ≡ s.manifest.clock = ap (λ (m : Manifest). m.clock) is.manifest in
+      (λ i. of.Entry (record { seq = count i + 1; key = key; body = body.Tomb; since = Some (min (clock i) (unwrap_or (option_and_then (λ (entry : Entry). entry.since) (newest i)) (clock i))) }))
+
+  held_same : (key : Bytes) → option_or (entry_of key state.active.entries) (frozen_entry key state.frozen) ≡ option_or (finmap.get (buffer_of (layout_of s).active) key) (finmap.get (buffer_of (frozen_records (layout_of s))) key)
+  held_same key =
+      let active = is.active key in
+      let frozen = frozen_is s.frozen state.frozen is.frozen key ∙ ap (λ records. finmap.get (buffer_of records) key) (sym (frozen_are s)) in
+      (λ i. option_or (active i) (frozen i))
+
+  to_have : (headers : List Header) (key : Bytes) → MayBeHeld state headers key → MayHave s headers key
+  to_have headers key (inl held) = inl (subst (λ (o : Option Entry). IsSome o) (held_same key) held)
+  to_have headers key (inr any) = inr any
+
+  from_have : (headers : List Header) (key : Bytes) → MayHave s headers key → MayBeHeld state headers key
+  from_have headers key (inl held) = inl (subst (λ (o : Option Entry). IsSome o) (sym (held_same key)) held)
+  from_have headers key (inr any) = inr any
+
+  pub delete_over : (headers : List Header) (key : Bytes) (next : Record) → IsDeleteRecord state headers key next → IsDeleteOver s headers key next
+  delete_over headers key next (inl tomb) = inl (to_have headers key tomb.0, tomb.1 ∙ tomb_same key)
+  delete_over headers key next (inr blind) = inr ((λ have. blind.0 (from_have headers key have)), blind.1 ∙ ap (λ n. of.Blind (n + 1)) current.count)

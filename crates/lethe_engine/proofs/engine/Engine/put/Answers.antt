@@ -1,0 +1,94 @@
+use Rattle.std.proofs.Common.{rules, ◌≡◌, ◌<◌, ◌+◌, Err, length, refl, sym, ap, ◌∙◌, subst}
+use Rattle.std.specs.Prelude.{IfErr}
+use Rattle.lethe_base.specs.Limits.{max_place}
+use Rattle.lethe_base.specs.declared.call.Call.TheVariants as call
+use Rattle.lethe_disk.proofs.Going.{goes_then}
+use Rattle.lethe_disk.proofs.Quieting.{on_ok, on_ok_both}
+use Rattle.lethe_cover.specs.Steps.{with_done}
+use Rattle.lethe_stored.specs.Kept.{IsFor}
+use Rattle.lethe_stored.specs.Left.{IsKeptOr}
+use Rattle.lethe_stored.specs.Stored.{Stored, IsCoherent, appended}
+use Rattle.lethe_advance.specs.Shown.{parts_by_level}
+use Rattle.lethe_state.specs.Remembered.{Remembers}
+use Rattle.lethe_state.specs.Room.{IsRoomMade}
+use Rattle.lethe_state.proofs.Recording.{put_recorded}
+use Rattle.lethe_engine.specs.Changes.{HasReason, answered_to, put_over, with_record, written_by}
+use Rattle.lethe_engine.specs.Sound.{IsRunning}
+use Rattle.lethe_engine.specs.StandsFor.{StandsFor}
+use Rattle.lethe_engine.proofs.Overs.{put_same}
+use Rattle.lethe_engine.proofs.Roomed.{reasons_same, sees_room, unbegun}
+use Rattle.lethe_engine.proofs.Standing.{moments_or, stands_for, stands_moments, stands_running}
+use Rattle.lethe_engine.proofs.engine.Engine.put.Goals as goal
+
+pub returns-in_err-may_change-clause-stands : goal.returns-in_err-may_change-clause-stands
+returns-in_err-may_change-clause-stands g c = λ told config h stands caller.
+    let why = c.in_err-may_change.field-0.0 in
+    let refusal : c.from_residual.result ≡ Err why = search rules in
+    subst (λ after. StandsFor config after (g.D.Disk.seen c.args.self.now.disk) c.args.self.now.state (parts_by_level c.args.self.now.version)) (sym (ap (answered_to h caller (call.Put c.args.key c.args.dkey c.args.value)) refusal ∙ unbegun c.args.self.now.state h caller (call.Put c.args.key c.args.dkey c.args.value) why c.in_err-may_change.ensures.refused)) stands
+
+pub returns-in_err-may_change-clause-any_moment : goal.returns-in_err-may_change-clause-any_moment
+returns-in_err-may_change-clause-any_moment g c = λ told config h stands runs caller.
+    moments_or h (written_by caller (call.Put c.args.key c.args.dkey c.args.value) c.from_residual.result) (g.D.Disk.seen c.args.self.now.disk) (g.D.Disk.seen c.args.self.now.disk) (stands_moments config h (g.D.Disk.seen c.args.self.now.disk) c.args.self.now.state (parts_by_level c.args.self.now.version) stands runs)
+
+pub returns-in_err-make_room-clause-stands : goal.returns-in_err-make_room-clause-stands
+returns-in_err-make_room-clause-stands g c = λ told config h stands caller.
+    let why = c.in_err-make_room.field-0.0 in
+    let refusal : c.from_residual-in_err-make_room.result ≡ Err why = search rules in
+    subst (λ after. StandsFor config after (g.D.Disk.seen c.make_room.new.self.disk) c.make_room.new.self.state (parts_by_level c.make_room.new.self.version)) (sym (ap (answered_to h caller (call.Put c.args.key c.args.dkey c.args.value)) refusal)) (c.in_err-make_room.ensures.stands told config h stands caller (call.Put c.args.key c.args.dkey c.args.value))
+
+pub returns-in_err-make_room-clause-any_moment : goal.returns-in_err-make_room-clause-any_moment
+returns-in_err-make_room-clause-any_moment g c = λ told config h stands runs caller.
+    moments_or h (written_by caller (call.Put c.args.key c.args.dkey c.args.value) c.from_residual-in_err-make_room.result) (g.D.Disk.seen c.args.self.now.disk) (g.D.Disk.seen c.make_room.new.self.disk) (c.make_room.ensures.any_moment told config h stands)
+
+pub returns-clause-stands : goal.returns-clause-stands
+returns-clause-stands g c = λ told config h stands caller.
+    let mid = c.in_ok-make_room.ensures.stands told config h stands caller (call.Put c.args.key c.args.dkey c.args.value) in
+    let runs = c.in_ok-make_room.ensures.ready.stopped ∙ c.in_ok-may_change.ensures.fits.0 in
+    let running = stands_running config h (g.D.Disk.seen c.make_room.new.self.disk) c.make_room.new.self.state (parts_by_level c.make_room.new.self.version) mid runs in
+    let for = stands_for config h (g.D.Disk.seen c.make_room.new.self.disk) c.make_room.new.self.state (parts_by_level c.make_room.new.self.version) mid runs in
+    let few : length h < max_place = subst (λ n. n < max_place) (sym c.in_ok-make_room.ensures.ready.count ∙ mid.count) c.in_ok-may_change.ensures.fits.1 in
+    c.record.ensures.stands told config h caller (call.Put c.args.key c.args.dkey c.args.value) refl mid ((subst (λ r. IsCoherent (appended mid.stored r) × IsFor (with_done h caller (call.Put c.args.key c.args.dkey c.args.value)) (appended mid.stored r)) (sym c.put_record-next.ensures.is)
+    (put_recorded h mid.stored c.make_room.new.self.state (parts_by_level c.make_room.new.self.version) mid.remembers running.current for few caller c.args.key (search rules) c.args.dkey c.args.value c.ranges.dkey.fits (search rules)))).1
+
+pub returns-clause-any_moment : goal.returns-clause-any_moment
+returns-clause-any_moment g c = λ told config h stands still caller.
+    let mid = c.in_ok-make_room.ensures.stands told config h stands caller (call.Put c.args.key c.args.dkey c.args.value) in
+    let runs = c.in_ok-make_room.ensures.ready.stopped ∙ c.in_ok-may_change.ensures.fits.0 in
+    let running = stands_running config h (g.D.Disk.seen c.make_room.new.self.disk) c.make_room.new.self.state (parts_by_level c.make_room.new.self.version) mid runs in
+    let for = stands_for config h (g.D.Disk.seen c.make_room.new.self.disk) c.make_room.new.self.state (parts_by_level c.make_room.new.self.version) mid runs in
+    let few : length h < max_place = subst (λ n. n < max_place) (sym c.in_ok-make_room.ensures.ready.count ∙ mid.count) c.in_ok-may_change.ensures.fits.1 in
+    let change = written_by caller (call.Put c.args.key c.args.dkey c.args.value) c.record.result in
+    goes_then (IsKeptOr h change) (g.D.Disk.seen c.args.self.now.disk) (g.D.Disk.seen c.make_room.new.self.disk) (g.D.Disk.seen c.record.new.self.disk) (moments_or h change (g.D.Disk.seen c.args.self.now.disk) (g.D.Disk.seen c.make_room.new.self.disk) (c.make_room.ensures.any_moment told config h stands))
+    (c.record.ensures.any_moment told config h caller (call.Put c.args.key c.args.dkey c.args.value) mid ((subst (λ r. IsCoherent (appended mid.stored r) × IsFor (with_done h caller (call.Put c.args.key c.args.dkey c.args.value)) (appended mid.stored r)) (sym c.put_record-next.ensures.is)
+    (put_recorded h mid.stored c.make_room.new.self.state (parts_by_level c.make_room.new.self.version) mid.remembers running.current for few caller c.args.key (search rules) c.args.dkey c.args.value c.ranges.dkey.fits (search rules)))).1)
+
+pub returns-clause-written : goal.returns-clause-written
+returns-clause-written g c = λ told s remembers running.
+    let room = c.in_ok-make_room.ensures.done told s remembers running in
+    let t = room.0 in
+    on_ok c.record.result (Remembers (appended t c.put_record-next.result) c.record.new.self.state (parts_by_level c.record.new.self.version) × IsRunning (g.D.Disk.seen c.record.new.self.disk) (appended t c.put_record-next.result) c.record.new.self.state × ((g.D.Disk.seen c.record.new.self.disk).directory ≡ with_record (g.D.Disk.seen c.make_room.new.self.disk).directory t c.put_record-next.result))
+    ((t : Stored) × IsRoomMade s t × Remembers (appended t (put_over t c.args.key c.args.dkey c.args.value)) c.record.new.self.state (parts_by_level c.record.new.self.version) × IsRunning (g.D.Disk.seen c.record.new.self.disk) (appended t (put_over t c.args.key c.args.dkey c.args.value)) c.record.new.self.state)
+    (c.record.ensures.written told t room.2 room.3)
+    (λ done.
+    let is = c.put_record-next.ensures.is ∙ put_same t c.make_room.new.self.state (parts_by_level c.make_room.new.self.version) room.2 room.3.current c.args.key c.args.dkey c.args.value in
+    (t, room.1, subst (λ r. Remembers (appended t r) c.record.new.self.state (parts_by_level c.record.new.self.version)) is done.0, subst (λ r. IsRunning (g.D.Disk.seen c.record.new.self.disk) (appended t r) c.record.new.self.state) is done.1))
+
+pub returns-clause-room : goal.returns-clause-room
+returns-clause-room g c = λ told s remembers running has.
+    let same = c.in_ok-make_room.ensures.room (sees_room s c.args.self.now.state (parts_by_level c.args.self.now.version) remembers has) in
+    let back = sym same in
+    let still = subst (λ engine. Remembers s engine.state (parts_by_level engine.version)) back remembers in
+    let runs = subst (λ engine. IsRunning (g.D.Disk.seen engine.disk) s engine.state) back running in
+    on_ok_both c.record.result (Remembers (appended s c.put_record-next.result) c.record.new.self.state (parts_by_level c.record.new.self.version) × IsRunning (g.D.Disk.seen c.record.new.self.disk) (appended s c.put_record-next.result) c.record.new.self.state × ((g.D.Disk.seen c.record.new.self.disk).directory ≡ with_record (g.D.Disk.seen c.make_room.new.self.disk).directory s c.put_record-next.result)) ((g.D.Disk.seen c.record.new.self.disk).moment ≡ (g.D.Disk.seen c.make_room.new.self.disk).moment + 4)
+    (((g.D.Disk.seen c.record.new.self.disk).directory ≡ with_record (g.D.Disk.seen c.args.self.now.disk).directory s (put_over s c.args.key c.args.dkey c.args.value)) × ((g.D.Disk.seen c.record.new.self.disk).moment ≡ (g.D.Disk.seen c.args.self.now.disk).moment + 4))
+    (c.record.ensures.written told s still runs) (c.record.ensures.calls told)
+    (λ done calls.
+    let is = c.put_record-next.ensures.is ∙ put_same s c.make_room.new.self.state (parts_by_level c.make_room.new.self.version) still runs.current c.args.key c.args.dkey c.args.value in (
+      done.2 ∙ ap (λ engine. with_record (g.D.Disk.seen engine.disk).directory s c.put_record-next.result) same ∙ ap (with_record (g.D.Disk.seen c.args.self.now.disk).directory s) is,
+      calls ∙ ap (λ engine. (g.D.Disk.seen engine.disk).moment + 4) same,
+    ))
+
+pub returns-clause-why : goal.returns-clause-why
+returns-clause-why g c =
+    subst (λ n. IfErr c.record.result (HasReason c.args.self.now.state n (g.D.Disk.faults c.record.new.self.disk))) c.faults-before.ensures
+    (reasons_same c.args.self.now.state c.make_room.new.self.state c.faults-before.result (g.D.Disk.faults c.record.new.self.disk) c.record.result c.in_ok-make_room.ensures.ready.stopped c.in_ok-make_room.ensures.ready.count c.record.ensures.why c.record.ensures.unexhausted)
