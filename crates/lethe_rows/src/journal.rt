@@ -5,8 +5,8 @@ ghost use Rattle.lethe_memdisk.specs.Held.{calls_of};
 use crate::run::{Left, run_over};
 use lethe_base::{Config, Fields};
 use lethe_disk::Disk;
+use lethe_load::load;
 use lethe_memdisk::MemDisk;
-use lethe_recover::open;
 use lethe_segment::Record;
 use std::alloc::Global;
 use std::test::Fail;
@@ -18,7 +18,7 @@ const OPENING: u64 = 12;
 const PUT: u64 = 4;
 
 /// The bytes that a crash may leave where no sync followed, and whether what was created and removed stays so.
-const IMAGES: [(u8, bool); 6] = [
+pub(crate) const IMAGES: [(u8, bool); 6] = [
     (0, false),
     (0, true),
     (1, false),
@@ -82,8 +82,8 @@ fn take_calls(alloc: Global, disk: &mut MemDisk, calls: u64) -> Result<(), Fail>
     Ok(())
 }
 
-// The disk as a crash after so many calls leaves it.
-fn crashed(
+/// The disk as a crash after so many calls leaves it.
+pub(crate) fn crashed(
     alloc: Global,
     disk: &mut MemDisk,
     calls: u64,
@@ -219,10 +219,10 @@ fn records_of(alloc: Global, disk: &mut MemDisk) -> Result<(usize, usize), Fail>
     let config = Config::new(Fields::default())
         .ok()
         .ok_or("a configuration")?;
-    let Ok(opened) = open(alloc, disk, &config) else {
+    let Ok(read) = load(alloc, disk, &config) else {
         return Err(Fail::new("a store"));
     };
-    let records = opened.records.items();
+    let records = read.segments.items().first().ok_or("a segment")?.items();
     let blind = records
         .iter()
         .filter(|record| matches!(record, Record::Blind { .. }))

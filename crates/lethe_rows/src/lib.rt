@@ -12,6 +12,8 @@ mod files;
 #[cfg(test)]
 mod journal;
 #[cfg(test)]
+mod levels;
+#[cfg(test)]
 mod loads;
 #[cfg(test)]
 mod options;

@@ -2,8 +2,9 @@
 
 use lethe_base::{Config, Fields, Kind, Name, Pick};
 use lethe_disk::Disk;
+use lethe_load::{RecoverRefused, load};
 use lethe_memdisk::MemDisk;
-use lethe_recover::{OpenWhy, RecoverRefused, load, open};
+use lethe_recover::{OpenWhy, open};
 use std::alloc::Global;
 use std::test::Fail;
 
@@ -11,9 +12,13 @@ use std::test::Fail;
 const MANIFEST: [u8; 71] =
     *b"LM\x01\0\0\0\0\0\0\0\x02\0\0\0\0\0\0\0\x64\x02\x02\0\x02\x02\0\x02\0\x04\0\0\0\0\0\0\0\0\0\0\0\0\0\0\0\0\0\0\0\0\0\0\0\0\x03\0\0\0\0\0\x01\0\0\0\0\0\0\0\x01\0\0\0\0";
 
-/// The same manifest, which cites segment 0 too. It is spelled so, but none has two segments yet.
+/// The same manifest, which cites segment 0 as the frozen one.
 const TWO_SEGMENTS: [u8; 79] =
     *b"LM\x01\0\0\0\0\0\0\0\x02\0\0\0\0\0\0\0\x64\x02\x02\0\x02\x02\0\x02\0\x04\0\0\0\0\0\0\0\0\0\0\0\0\0\0\0\0\0\0\0\0\0\0\0\0\x03\0\0\0\0\0\x02\0\0\0\0\0\0\0\0\0\0\0\0\0\0\0\x01\0\0\0\0";
+
+/// The same manifest, which cites segment 1 twice.
+const TWICE: [u8; 79] =
+    *b"LM\x01\0\0\0\0\0\0\0\x02\0\0\0\0\0\0\0\x64\x02\x02\0\x02\x02\0\x02\0\x04\0\0\0\0\0\0\0\0\0\0\0\0\0\0\0\0\0\0\0\0\0\0\0\0\x03\0\0\0\0\0\x02\0\0\0\0\0\0\0\x01\0\0\0\0\0\0\0\x01\0\0\0\0";
 
 /// Segment 1 with one put.
 const SEGMENT: [u8; 36] =
@@ -160,7 +165,14 @@ fn the_greatest_gate_tells_what_is_loaded(rt: HostRuntime) -> Result<(), Fail> {
                 manifest: Some(&TWO_SEGMENTS),
                 ..WHOLE
             },
-            damaged(Kind::Manifest, 2),
+            damaged(Kind::Segment, 0),
+        ),
+        (
+            Parts {
+                manifest: Some(&TWICE),
+                ..WHOLE
+            },
+            damaged(Kind::Segment, 1),
         ),
         (
             Parts {
@@ -214,15 +226,20 @@ const EMPTY: Parts = Parts {
     segment: None,
 };
 
-// How many changes there are, the segment, its end and the next number, or why nothing is opened.
+// How many changes there are, how many files, the segment and the next number, or why nothing is opened.
 fn opened(
     alloc: Global,
     disk: &mut MemDisk,
     fields: Fields,
-) -> Result<Result<[u64; 4], OpenWhy>, Fail> {
+) -> Result<Result<(u64, usize, Option<u64>, u64), OpenWhy>, Fail> {
     let config = Config::new(fields).ok().ok_or("a configuration")?;
     Ok(match open(alloc, disk, &config) {
-        Ok(store) => Ok([store.count, store.segment, store.end, store.next]),
+        Ok(store) => {
+            let manifest = store.manifest;
+            let segment = manifest.segments.items().first().copied();
+            let files = manifest.files.items().len();
+            Ok((manifest.count, files, segment, manifest.next))
+        }
         Err(why) => Err(why),
     })
 }
@@ -231,16 +248,17 @@ fn opened(
 fn a_store_is_opened_and_opened_again(rt: HostRuntime) -> Result<(), Fail> {
     let alloc = rt.alloc();
     for (parts, first, second) in [
-        (EMPTY, [0, 1, 11, 3], [0, 3, 11, 5]),
+        (EMPTY, (0, 0, Some(1), 3), (0, 0, Some(3), 5)),
         (
             Parts {
                 gates: &[],
                 ..WHOLE
             },
-            [0, 1, 11, 3],
-            [0, 3, 11, 5],
+            (0, 0, Some(1), 3),
+            (0, 0, Some(3), 5),
         ),
-        (WHOLE, [1, 3, 35, 5], [1, 5, 35, 7]),
+        // The put becomes page 3 of file 4.
+        (WHOLE, (1, 1, Some(5), 7), (1, 1, Some(7), 9)),
     ] {
         let mut disk = disk_of(alloc, parts, Vec::new(alloc))?;
         assert_eq!(rt; opened(alloc, &mut disk, small())?, Ok(first));
@@ -256,7 +274,7 @@ fn what_is_not_opened_stays(rt: HostRuntime) -> Result<(), Fail> {
     let kept = Config::new(small()).ok().ok_or("a configuration")?;
     let other = Err(OpenWhy::OtherConfig { kept });
     assert_eq!(rt; opened(alloc, &mut disk, Fields::default())?, other);
-    assert_eq!(rt; opened(alloc, &mut disk, small())?, Ok([1, 3, 35, 5]));
+    assert_eq!(rt; opened(alloc, &mut disk, small())?, Ok((1, 1, Some(5), 7)));
     let missing = Parts {
         segment: None,
         ..WHOLE

@@ -1,5 +1,6 @@
 //! One run of the program over memory.
 
+use lethe_disk::Disk;
 use lethe_memdisk::MemDisk;
 use lethe_run::run;
 use lethe_wire::{MemSink, MemSource};
@@ -42,6 +43,19 @@ pub(crate) fn run_over(
     failing_writes: &[u64],
     disk: MemDisk,
 ) -> Result<Left, Fail> {
+    let (printed, disk) = run_on(rt, words, script, failing_reads, failing_writes, disk)?;
+    Ok(Left { printed, disk })
+}
+
+/// The same over a disk of any kind.
+pub(crate) fn run_on<D: Disk>(
+    rt: &HostRuntime,
+    words: &[&str],
+    script: Vec<u8>,
+    failing_reads: &[u64],
+    failing_writes: &[u64],
+    disk: D,
+) -> Result<(Printed, D), Fail> {
     let alloc = rt.alloc();
     let mut given = Vec::new(alloc);
     for word in words {
@@ -50,11 +64,9 @@ pub(crate) fn run_over(
     let mut source = MemSource::new(script, failing_reads.to_vec(alloc)?);
     let mut sink = MemSink::new(alloc, failing_writes.to_vec(alloc)?)?;
     let ended = run(alloc, &given, &mut source, &mut sink, disk);
-    Ok(Left {
-        printed: Printed {
-            status: ended.status,
-            text: sink.bytes().to_vec(alloc)?,
-        },
-        disk: ended.disk,
-    })
+    let printed = Printed {
+        status: ended.status,
+        text: sink.bytes().to_vec(alloc)?,
+    };
+    Ok((printed, ended.disk))
 }
