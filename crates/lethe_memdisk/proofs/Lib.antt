@@ -4,3 +4,4 @@ pub mod Keeping
 pub mod Results
 pub mod Crashing
 pub mod Taking
+pub mod Crossing
