@@ -111,12 +111,13 @@ fn take_away(alloc: Global, disk: &mut MemDisk, kind: Kind, no: u64) -> Result<(
     let Ok(names) = disk.names(alloc) else {
         return Err(Fail::new("names"));
     };
-    if !names.contains(&name) {
-        return Err(Fail::new("an object"));
-    }
-    match disk.remove(name) {
-        Ok(()) => Ok(()),
-        Err(_) => Err(Fail::new("a removal")),
+    if names.contains(&name) {
+        match disk.remove(name) {
+            Ok(()) => Ok(()),
+            Err(_) => Err(Fail::new("a removal")),
+        }
+    } else {
+        Err(Fail::new("an object"))
     }
 }
 
@@ -215,10 +216,10 @@ fn front_of(rt: &HostRuntime, disk: MemDisk) -> Result<Option<usize>, Fail> {
 
 // How many lines say that a change is done.
 fn done_lines(text: &[u8]) -> usize {
-    let mut done = 0;
+    let mut done: usize = 0;
     for line in text.split(|byte| *byte == b'\n') {
         if line.starts_with(b"1 ok ") {
-            done += 1;
+            done = done.saturating_add(1);
         }
     }
     done
