@@ -32,8 +32,7 @@ const NINE: &str =
     "1 put a 1 v\n1 put b 1 v\n1 put c 1 v\n1 put d 1 v\n1 put e 1 v\n1 put f 1 v\n1 put g 1 v\n1 put h 1 v\n1 put i 1 v\n";
 
 /// What is printed of them.
-const NINE_DONE: &str =
-    "1 ok 1\n1 ok 2\n1 ok 3\n1 ok 4\n1 ok 5\n1 ok 6\n1 ok 7\n1 ok 8\n1 ok 9\n";
+const NINE_DONE: &str = "1 ok 1\n1 ok 2\n1 ok 3\n1 ok 4\n1 ok 5\n1 ok 6\n1 ok 7\n1 ok 8\n1 ok 9\n";
 
 /// Four more.
 const MORE: &str = "1 put j 1 v\n1 put k 1 v\n1 put l 1 v\n1 put m 1 v\n";
@@ -71,7 +70,9 @@ fn nine_puts(rt: &HostRuntime) -> Result<MemDisk, Fail> {
 fn a_full_buffer_is_frozen_and_the_next_one_flushes_it(rt: HostRuntime) -> Result<(), Fail> {
     let alloc = rt.alloc();
     let script = format!(in alloc; "{NINE}1 stat\n")?;
-    let text = format!(in alloc; "{NINE_DONE}1 at 9 stat clock 0 pins 0 pending 0 files 1 tombs 0\n")?;
+    let text = format!(in alloc;
+        "{NINE_DONE}1 at 9 stat clock 0 pins 0 pending 0 files 1 tombs 0\n"
+    )?;
     answered(&rt, &script, disk_of(alloc, &[])?, 0, &text)?;
     Ok(())
 }
