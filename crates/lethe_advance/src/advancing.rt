@@ -1,5 +1,5 @@
 //! Going from what is stored to what is stored next.
-ghost use Rattle.std.specs.Prelude.{◌≡◌, ◌⊎◌, ◌+◌, ◌<◌, ◌≤◌, length, map, All, Contains, IfOk, OnOk, IsErrOf};
+ghost use Rattle.std.specs.Prelude.{◌≡◌, ◌⊎◌, ℕ, ◌+◌, ◌<◌, ◌≤◌, List, length, map, All, Contains, IfOk, OnOk, IsErrOf};
 ghost use Rattle.lethe_base.specs.declared.name.Name.{Name};
 ghost use Rattle.lethe_disk.specs.Directory.{object};
 ghost use Rattle.lethe_disk.specs.Disk.{HasCause, IsSynced};
@@ -17,7 +17,7 @@ ghost use Rattle.lethe_stored.specs.Levels.{HasFiles};
 ghost use Rattle.lethe_version.specs.Versions.{levels_of};
 ghost use Rattle.lethe_advance.specs.Settled.{IsSettled, HasOnly};
 ghost use Rattle.lethe_advance.specs.Shown.{parts_by_level};
-ghost use Rattle.lethe_advance.specs.Steps.{IsStep};
+ghost use Rattle.lethe_advance.specs.Steps.{MayAdvance};
 
 use crate::Step;
 use crate::exchanging::exchange;
@@ -44,24 +44,23 @@ pub fn advance<D: Disk>(
     requires spelled { HasSpelling step.now.manifest }
     requires headers { All header.HasSpelling headers.items }
     requires level { step.now.level < length (levels_of version.now) }
-    requires step { D.tells → (s : Stored) × (t : Stored) × IsSettled (D.seen disk.old) s × HasOnly s (D.seen disk.old).directory
-        × IsStep s t headers.items step.now }
+    requires step { D.tells → (s t : Stored) × (loose left : List (Name × List ℕ)) × MayAdvance (D.seen disk.old) s loose t left headers.items step.now }
 
     // A crash at any moment of the call leaves what was stored, or what is stored next.
-    ensures any_moment { D.tells → (s : Stored) → (t : Stored) → IsSettled (D.seen disk.old) s → HasOnly s (D.seen disk.old).directory
-        → IsStep s t headers.items step.now → Goes (λ c. Encodes c s ⊎ Encodes c t) (D.seen disk.old) (D.seen disk.new) }
+    ensures any_moment { D.tells → (s t : Stored) (loose left : List (Name × List ℕ)) → MayAdvance (D.seen disk.old) s loose t left headers.items step.now
+        → Goes (λ c. Encodes c s ⊎ Encodes c t) (D.seen disk.old) (D.seen disk.new) }
 
-    // Acknowledged: each crash leaves what is stored next, and nothing else.
-    ensures done { D.tells → (s : Stored) → (t : Stored) → IsSettled (D.seen disk.old) s → HasOnly s (D.seen disk.old).directory
-        → IsStep s t headers.items step.now → OnOk result (IsSettled (D.seen disk.new) t × HasOnly t (D.seen disk.new).directory) }
+    // Acknowledged: each crash leaves what is stored next, and nothing else but the objects that are left loose.
+    ensures done { D.tells → (s t : Stored) (loose left : List (Name × List ℕ)) → MayAdvance (D.seen disk.old) s loose t left headers.items step.now
+        → OnOk result (IsSettled (D.seen disk.new) t × HasOnly t left (D.seen disk.new).directory) }
 
     // What stays is as it was byte for byte, and what was written is there.
-    ensures kept { D.tells → (s : Stored) → (t : Stored) → IsSettled (D.seen disk.old) s → HasOnly s (D.seen disk.old).directory
-        → IsStep s t headers.items step.now → OnOk result ((name : Name) → Contains (part_names t) name
+    ensures kept { D.tells → (s t : Stored) (loose left : List (Name × List ℕ)) → MayAdvance (D.seen disk.old) s loose t left headers.items step.now
+        → OnOk result ((name : Name) → Contains (part_names t) name
         → object (D.seen disk.new).directory name ≡ object (insert_all step.now.objects.items (D.seen disk.old).directory) name) }
 
-    ensures files { D.tells → (s : Stored) → (t : Stored) → IsSettled (D.seen disk.old) s → HasOnly s (D.seen disk.old).directory
-        → IsStep s t headers.items step.now → HasFiles s (parts_by_level version.now) → IfOk result (λ next. HasFiles t (parts_by_level next)) }
+    ensures files { D.tells → (s t : Stored) (loose left : List (Name × List ℕ)) → MayAdvance (D.seen disk.old) s loose t left headers.items step.now
+        → HasFiles s (parts_by_level version.now) → IfOk result (λ next. HasFiles t (parts_by_level next)) }
     ensures levels { IfOk result (λ next. length (levels_of next) ≡ length (levels_of version.now)) }
     ensures calls { D.tells → OnOk result ((D.seen disk.old).moment + length step.now.objects.items + 6 ≤ (D.seen disk.new).moment) }
     ensures no_memory { D.tells → IsErrOf result NoMemory → IsTakenBack (D.seen disk.old) (D.seen disk.new) }

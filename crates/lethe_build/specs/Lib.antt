@@ -1,2 +1,3 @@
 pub mod Built
+pub mod Drafts
 pub mod Parts

@@ -4,13 +4,17 @@
 mod building;
 mod built;
 mod cutting;
+mod draft;
 mod file;
+mod laws;
 mod line;
 mod page;
 mod tile;
 
-pub use building::{build, most_numbers};
+pub use building::drafts_of;
 pub use built::Built;
+pub use draft::{Draft, numbers_for};
+pub use laws::{numbered_lines, numbered_tiles};
 pub use page::line_of;
 
 #[cfg(test)]

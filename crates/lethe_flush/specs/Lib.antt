@@ -1,4 +1,4 @@
 pub mod Clear
+pub mod Made
 pub mod Flushed
 pub mod ByPlace
-pub mod Apart

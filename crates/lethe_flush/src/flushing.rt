@@ -1,48 +1,44 @@
 //! The files of a buffer.
-ghost use Rattle.std.specs.Prelude.{◌≡◌, ℕ, ◌+◌, ◌<◌, ◌≤◌, ◌^◌, List, map, length, All, IfOk};
-ghost use Rattle.std.specs.List.{range_with_len};
+ghost use Rattle.std.specs.Prelude.{◌≡◌, ℕ, Bool, ◌+◌, ◌<◌, ◌≤◌, List, length, sum_by, All, IfOk};
 ghost use Rattle.lethe_base.specs.Limits.{max_place, max_time};
 ghost use Rattle.lethe_base.specs.Spelling.{HasSpelling};
-ghost use Rattle.lethe_build.specs.Built.{all_numbers, most_numbers};
+ghost use Rattle.lethe_base.specs.declared.config.Fields.{Fields};
+ghost use Rattle.lethe_base.specs.declared.entry.Entry as entry;
+ghost use Rattle.lethe_base.specs.declared.pending.Pending as pending;
+ghost use Rattle.lethe_build.specs.Built.{most_numbers};
+ghost use Rattle.lethe_build.specs.Drafts.{AreDraftsOf, IsDraft, numbers_for};
 ghost use Rattle.lethe_header.specs.Headers as headers;
 ghost use Rattle.lethe_manifest.specs.Manifests.{IsFile};
+ghost use Rattle.lethe_merge.specs.Merge.{merged};
 ghost use Rattle.lethe_stored.specs.Files.{StoredFile};
-ghost use Rattle.lethe_flush.specs.Apart.{IsOf, IsSpelled, stored_of};
 ghost use Rattle.lethe_flush.specs.Flushed.{IsFlushOf};
 
-use crate::flushed::Flushed;
+use crate::made::MadeFiles;
+use crate::making::make_files;
 use lethe_base::{Config, Entry, NoMemory, Pending};
-use lethe_build::{Built, build};
+use lethe_build::{Draft, drafts_of};
 use lethe_mem::{Buffer, VecBuffer};
 use lethe_merge::settle;
 use std::alloc::Global;
 
-/// The files of what is left of a buffer where the erases are applied, in level 0 and swept up to a place. Where they are `alone` they have
-/// no tombstone and no time. Numbers are drawn from `first` on; a buffer of which nothing is left makes no file.
-pub fn flush_of(
+/// The drafts of the files of what is left of a buffer where the erases are applied. Where they are `alone` they have no tombstone and no time. A
+/// buffer of which nothing is left makes no file.
+pub fn flush_drafts(
     alloc: Global,
     buffer: &VecBuffer,
     erases: &[Pending],
     alone: bool,
-    upto: u64,
     config: &Config,
-    first: u64,
-) -> Result<Flushed, NoMemory>
+) -> Result<Vec<Draft>, NoMemory>
     requires spelled { All HasSpelling buffer.now.entries }
     requires erases { All (λ erase. erase.time ≤ max_time) erases.now }
-    requires upto { upto ≤ max_place }
-    requires numbers { first + most_numbers (length buffer.now.entries) ≤ max_place + 1 }
-    ensures made { IfOk result (λ flushed. (files : List StoredFile) × IsFlushOf buffer.now.entries erases.now alone upto first flushed files) }
-    ensures headers { IfOk result (λ flushed. All headers.HasSpelling flushed.headers.items) }
-    ensures cited { IfOk result (λ flushed. (levels : ℕ) → All (IsFile flushed.next levels) flushed.cited.items) }
-    ensures level { IfOk result (λ flushed. All (λ file. file.level ≡ 0) flushed.cited.items) }
-    ensures next { IfOk result (λ flushed. (first ≤ flushed.next) × (flushed.next ≤ first + most_numbers (length buffer.now.entries))
-        × (flushed.next ≡ first + length flushed.objects.items)) }
+    ensures drafts { IfOk result (λ drafts. AreDraftsOf config.now (merged buffer.now.entries erases.now alone) drafts.items) }
+    ensures each { IfOk result (λ drafts. All IsDraft drafts.items) }
+    ensures few { IfOk result (λ drafts. sum_by numbers_for drafts.items ≤ most_numbers (length buffer.now.entries)) }
 {
     let entries = entries_of(alloc, buffer)?;
     let left = settle(alloc, entries, erases, alone)?;
-    let files = build(alloc, left, config, first)?;
-    take_apart(alloc, files, upto, first)
+    drafts_of(alloc, left, config)
 }
 
 /// Copies of the buffer's entries.
@@ -56,17 +52,23 @@ fn entries_of(alloc: Global, buffer: &VecBuffer) -> Result<Vec<Entry>, NoMemory>
     Ok(entries)
 }
 
-/// The files of level 0, swept up to a place, whose objects have the numbers from `first` on.
-fn take_apart(alloc: Global, files: Vec<Built>, upto: u64, first: u64) -> Result<Flushed, NoMemory>
-    requires spelled { All IsSpelled files.items }
-    requires numbers { all_numbers files.items ≡ range_with_len first (length (all_numbers files.items)) }
-    requires room { first + length (all_numbers files.items) < 2 ^ 64 }
-    ensures of { IfOk result (IsOf (map (stored_of upto) files.items) first) }
-    ensures next { IfOk result (λ flushed. flushed.next ≡ first + length (all_numbers files.items)) }
+/// The drafts' files, in level 0 and swept up to a place. Numbers are drawn from `first` on.
+pub fn flush_files(
+    alloc: Global,
+    drafts: Vec<Draft>,
+    upto: u64,
+    first: u64,
+) -> Result<MadeFiles, NoMemory>
+    requires drafts { All IsDraft drafts.items }
+    requires upto { upto ≤ max_place }
+    requires numbers { first + sum_by numbers_for drafts.items ≤ max_place + 1 }
+    ensures made { (fields : Fields) (entries : List entry.Entry) (erases : List pending.Pending) (alone : Bool) → AreDraftsOf fields (merged entries erases alone) drafts.items
+        → IfOk result (λ made. (files : List StoredFile) × IsFlushOf fields entries erases alone upto first made files) }
+    ensures headers { IfOk result (λ made. All headers.HasSpelling made.headers.items) }
+    ensures cited { IfOk result (λ made. (levels : ℕ) → All (IsFile made.next levels) made.cited.items) }
+    ensures level { IfOk result (λ made. All (λ file. file.level ≡ 0) made.cited.items) }
+    ensures next { IfOk result (λ made. made.next ≡ first + sum_by numbers_for drafts.items) }
+    ensures objects { IfOk result (λ made. length made.objects.items ≡ sum_by numbers_for drafts.items) }
 {
-    let mut flushed = Flushed::none(alloc, first);
-    for file in files {
-        flushed.add(file, upto)?;
-    }
-    Ok(flushed)
+    make_files(alloc, drafts, 0, upto, &[], first)
 }

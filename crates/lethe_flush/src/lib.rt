@@ -3,16 +3,18 @@
 #![tactic(auto)]
 
 mod clear;
-mod flushed;
 mod flushing;
 mod laws;
+mod made;
+mod making;
 mod pending;
 mod replaying;
 
 pub use clear::is_clear;
-pub use flushed::Flushed;
-pub use flushing::flush_of;
-pub use laws::{flush_is_one, newest_are_frozen};
+pub use flushing::{flush_drafts, flush_files};
+pub use laws::{files_are_woven, flush_is_one, newest_are_frozen};
+pub use made::MadeFiles;
+pub use making::make_files;
 pub use pending::pending_of;
 pub use replaying::newest_of;
 

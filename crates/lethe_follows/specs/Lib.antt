@@ -1,2 +1,4 @@
 pub mod Filed
 pub mod Holders
+pub mod Woven
+pub mod Merged

@@ -3,9 +3,11 @@
 #![tactic(auto)]
 
 mod layouts;
+mod merges;
 mod reads;
 mod steps;
 
 pub use layouts::{erases_are_spelled, pending_is_spelled, stored_follows};
+pub use merges::{files_are_counted, merge_follows, merge_stays};
 pub use reads::read_answers;
 pub use steps::{flush_follows, nothing_flushes, reopen_follows};
