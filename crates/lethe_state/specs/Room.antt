@@ -3,6 +3,7 @@ use Rattle.std.specs.Prelude.{◌≡◌, ◌≢◌, ◌⊎◌, ◌↔◌, ◌<�
 use Rattle.lethe_base.specs.Layout.{files_of}
 use Rattle.lethe_base.specs.Limits.{max_place}
 use Rattle.lethe_base.specs.declared.entry.Entry.{Entry}
+use Rattle.lethe_build.specs.Built.{most_numbers}
 use Rattle.lethe_build.specs.Drafts.{AreDraftsOf, numbers_for}
 use Rattle.lethe_build.specs.declared.draft.Draft.{Draft}
 use Rattle.lethe_manifest.specs.Manifests.{HasSpelling}
@@ -66,6 +67,7 @@ pub record IsShortToFlush (state : State) : Type 0 where
   pub alone : Bool
   pub drafts : List Draft
   pub are : AreDraftsOf state.manifest.config (merged (buffered state.frozen) state.pending alone) drafts
+  pub few : sum_by numbers_for drafts ≤ most_numbers (frozen_len state.frozen)
   pub short : max_place ≤ state.next + sum_by numbers_for drafts
 
 -- On any disk: the step's manifest has a spelling, cites so many segments and keeps the configuration. Each number that was drawn is one of an
