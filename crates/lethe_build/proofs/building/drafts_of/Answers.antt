@@ -1,4 +1,4 @@
-use Rattle.std.proofs.Common.{◌≡◌, ◌∷◌, All, List, map, length, ap, sym, ◌∙◌, subst, arith, rules}
+use Rattle.std.proofs.Common.{◌≡◌, All, List, map, ap, sym, subst, arith, rules}
 use Rattle.std.specs.List.{AllZip}
 use Rattle.lethe_base.specs.Configuration.{IsConfig}
 use Rattle.lethe_base.specs.Layout as layout
