@@ -6,6 +6,7 @@ use Rattle.std.proofs.lemmas.Bool.{cases_eq, eq-eqb, ne_eqb}
 use Rattle.std.proofs.lemmas.List.{map-append}
 use Rattle.std.proofs.lemmas.List.Elements.{All-weaker, filter-append}
 use Rattle.std.proofs.lemmas.List.Sorted.{IsPermutation-sym, IsPermutation-trans, IsPermutation-map, IsPermutation-append_right, IsPermutation-append_comm}
+use Rattle.lethe_base.specs.declared.name.Name.{Name}
 use Rattle.lethe_header.specs.declared.header.Header.{Header}
 use Rattle.lethe_file.proofs.Joined.{filter_none}
 use Rattle.lethe_stored.specs.Files.{StoredFile, Parts, parts_of}
@@ -17,7 +18,7 @@ use Rattle.lethe_advance.specs.Shown.{AreLevelsWith, parts_without}
 use Rattle.lethe_advance.specs.Steps.{IsStep, kept_files}
 use Rattle.lethe_advance.proofs.Lists.{filter-permuted, filter_all, filter-filter, map-filter}
 
-module _ (s t : Stored) (headers : List Header) (step : Step) (is : IsStep s t headers step) where
+module _ (s t : Stored) (loose left : List (Name × List ℕ)) (headers : List Header) (step : Step) (is : IsStep s loose t left headers step) where
   abbrev at : ℕ → List StoredFile → List StoredFile
   at level files = filter (λ file. file.level == level) files
 

@@ -10,6 +10,7 @@ use Rattle.std.proofs.lemmas.Simd.{map-map}
 use Rattle.lethe_base.proofs.Newest.{first_is}
 use Rattle.lethe_disk.specs.Directory.{Directory, object, content}
 use Rattle.lethe_file.specs.Agreement.{Agrees, page_name}
+use Rattle.lethe_base.specs.declared.name.Name.{Name}
 use Rattle.lethe_header.specs.declared.header.Header.{Header}
 use Rattle.lethe_header.specs.declared.header.PageLine.{PageLine}
 use Rattle.lethe_stored.specs.Encodes.{HasParts, HasObject}
@@ -63,7 +64,7 @@ same_each : {X Y : Type 0} (f g : X → Y) (xs : List X) → ((x : X) → Contai
 same_each f g [] each = refl
 same_each f g (x ∷ xs) each = (λ i. each x (first_is x xs x refl) i ∷ same_each f g xs (λ y inside. each y (later_in x xs y inside)) i)
 
-module _ (s t : Stored) (headers : List Header) (step : Step) (is : IsStep s t headers step) (d : Directory) (parts : HasParts d t) where
+module _ (s t : Stored) (loose left : List (Name × List ℕ)) (headers : List Header) (step : Step) (is : IsStep s loose t left headers step) (d : Directory) (parts : HasParts d t) where
   added_pages : (file : StoredFile) → Contains is.added file → map Some file.pages ≡ there d (lines_in file)
   added_pages file inside =
       let among = Contains-permutation (is.added ++ kept_files s step) t.files file is.files (Contains-append_left is.added (kept_files s step) file inside) in

@@ -21,10 +21,10 @@ use Rattle.lethe_stored.specs.Files.{objects_of}
 use Rattle.lethe_stored.specs.Stored.{Stored, Segment, IsCoherent, IsSpare, number_of, segments_of, segment_numbers, segment_name, part_names}
 use Rattle.lethe_stored.specs.Encodes.{Encodes, HasParts, HasSegment, HasObject, AreSpare}
 use Rattle.lethe_stored.proofs.Frame.{same_no, none_of, besides, fresh_spare}
-use Rattle.lethe_stored.proofs.Lists.{all_from, from_map}
+use Rattle.lethe_stored.proofs.Lists.{all_from, from_map, in_map}
 use Rattle.lethe_stored.proofs.Parts.{part_kind, part_below}
 use Rattle.lethe_advance.specs.declared.step.Step.{Step}
-use Rattle.lethe_advance.specs.Settled.{HasOnly}
+use Rattle.lethe_advance.specs.Settled.{HasOnly, names_in}
 use Rattle.lethe_advance.specs.Steps.{IsStep, IsSegmentFrom, IsObjectFrom, written_in}
 
 -- What is cited is there
@@ -72,7 +72,7 @@ part_there d s name parts there = elim (Contains-append_cases (map segment_name 
 
 -- What is written
 
-module _ (s t : Stored) (headers : List Header) (step : Step) (coherent : IsCoherent s) (is : IsStep s t headers step) where
+module _ (s t : Stored) (loose left : List (Name × List ℕ)) (headers : List Header) (step : Step) (coherent : IsCoherent s) (is : IsStep s loose t left headers step) where
   abbrev pub written : List Object
   written = step.objects.items
 
@@ -103,15 +103,33 @@ module _ (s t : Stored) (headers : List Header) (step : Step) (coherent : IsCohe
       let same = same_no found.0.name name found.2 in
       omega (arith, fresh, below, same))
 
+  -- and what is loose
+  loose_beside : (named : Name × List ℕ) → Contains loose named → IsNoneOf names named.0
+  loose_beside named among = none_of names named.0 (λ there.
+      let found = from_map name_of written named.0 there in
+      All-contains (λ (m : Object). Contains (names_in loose) m.name → ⊥) written found.0 is.beside found.1
+      (subst (Contains (names_in loose)) (sym found.2) (in_map (λ (other : Name × List ℕ). other.0) loose named among)))
+
+  -- no loose object is a manifest
+  manifest_apart : Contains (names_in loose) (manifest_name t.manifest.no) → ⊥
+  manifest_apart among =
+      let found = from_map (λ (named : Name × List ℕ). named.0) loose (manifest_name t.manifest.no) among in
+      let page = All-contains (λ (named : Name × List ℕ). named.0.kind ≡ kinds.Page) loose found.0 is.loose_pages found.1 in
+      let clash : kinds.Page ≡ kinds.Manifest = sym page ∙ ap (λ (x : Name). x.kind) found.2 in
+      cc
+
   manifest_beside : IsNoneOf names (manifest_name t.manifest.no)
   manifest_beside = none_of names (manifest_name t.manifest.no) (λ there.
       let found = from_map name_of written (manifest_name t.manifest.no) there in
       (kind_at found.0 found.1).1 (ap (λ (x : Name). x.kind) found.2))
 
-  module _ (d : Directory) (only : HasOnly s d) where
+  module _ (d : Directory) (only : HasOnly s loose d) where
     pub written_absent : AreAbsent written d
     written_absent = record {
-      each = all_from (λ (made : Object). object d made.name ≡ None) written (λ made there. absent_of (object d made.name) (λ here. (spare_at made there).uncited (only made.name here)));
+      each = all_from (λ (made : Object). object d made.name ≡ None) written (λ made there. absent_of (object d made.name) (λ here. elim (only.only made.name here) [
+        | inl cited ↦ (spare_at made there).uncited cited
+        | inr among ↦ All-contains (λ (m : Object). Contains (names_in loose) m.name → ⊥) written made is.beside there among
+      ]));
       apart = is.once;
     }
 
@@ -124,6 +142,9 @@ module _ (s t : Stored) (headers : List Header) (step : Step) (coherent : IsCohe
 
       pub part_stays : (name : Name) → Contains (part_names s) name → object after name ≡ object d name
       part_stays name part = object_beside_all written d name (cited_beside name part)
+
+      pub loose_stays : (named : Name × List ℕ) → Contains loose named → object after named.0 ≡ object d named.0
+      loose_stays named among = object_beside_all written d named.0 (loose_beside named among)
 
       made_there : (named : Name × List ℕ) → Contains (written_in step) named → HasObject after named
       made_there named there =
@@ -141,21 +162,24 @@ module _ (s t : Stored) (headers : List Header) (step : Step) (coherent : IsCohe
       segment_next : (segment : Segment) → Contains (segments_of t) segment → HasSegment after segment
       segment_next segment there = segment_from segment (All-contains (IsSegmentFrom s step) (segments_of t) segment is.segments there)
 
-      object_from : (named : Name × List ℕ) → IsObjectFrom s step named → HasObject after named
+      object_from : (named : Name × List ℕ) → IsObjectFrom s loose step named → HasObject after named
       object_from named (inl old) = All-contains (HasObject after) (objects_of s.files) named still.parts.files old
-      object_from named (inr new) = made_there named new
+      object_from named (inr (inl among)) = loose_stays named among ∙ All-contains (HasObject d) loose named only.there among
+      object_from named (inr (inr new)) = made_there named new
 
       pub next_there : HasParts after t
       next_there = record {
         active = segment_next t.active (active_in t);
         frozen = if_some after t.frozen (λ older same. segment_next older (frozen_in t older same));
-        files = all_from (HasObject after) (objects_of t.files) (λ named there. object_from named (All-contains (IsObjectFrom s step) (objects_of t.files) named is.objects there));
+        files = all_from (HasObject after) (objects_of t.files) (λ named there. object_from named (All-contains (IsObjectFrom s loose step) (objects_of t.files) named is.objects there));
       }
 
       manifest_absent : object after (manifest_name t.manifest.no) ≡ None
       manifest_absent = object_beside_all written d (manifest_name t.manifest.no) manifest_beside
-          ∙ absent_of (object d (manifest_name t.manifest.no)) (λ here.
-          (fresh_spare s (manifest_name t.manifest.no) coherent is.later (λ k. let clash : kinds.Manifest ≡ kinds.Gate = k in cc)).uncited (only (manifest_name t.manifest.no) here))
+          ∙ absent_of (object d (manifest_name t.manifest.no)) (λ here. elim (only.only (manifest_name t.manifest.no) here) [
+            | inl cited ↦ (fresh_spare s (manifest_name t.manifest.no) coherent is.later (λ k. let clash : kinds.Manifest ≡ kinds.Gate = k in cc)).uncited cited
+            | inr among ↦ manifest_apart among
+          ])
 
       pub is_free : (disk : Seen) → IsSynced disk → disk.directory ≡ after → IsFree disk t.manifest.no (Some s.manifest.no)
       is_free disk synced same = record {

@@ -1,5 +1,5 @@
 -- The images of a disk through a step.
-use Rattle.std.proofs.Common.{◌≡◌, ◌⊎◌, inl, inr, List, length, map, take, Some, refl, sym, ap, ◌∙◌, subst, arith}
+use Rattle.std.proofs.Common.{◌≡◌, ◌⊎◌, ℕ, inl, inr, List, length, map, take, Some, refl, sym, ap, ◌∙◌, subst, arith}
 use Rattle.std.specs.Prelude.{All, Contains}
 use Rattle.std.proofs.lemmas.List.{take_all}
 use Rattle.lethe_base.specs.declared.name.Name.{Name}
@@ -24,12 +24,12 @@ use Rattle.lethe_stored.proofs.Frame.{besides}
 use Rattle.lethe_advance.specs.declared.step.Step.{Step}
 use Rattle.lethe_advance.specs.Settled.{IsSettled, HasOnly}
 use Rattle.lethe_advance.specs.Shown.{HasPages, parts_at}
-use Rattle.lethe_advance.specs.Steps.{IsStep}
+use Rattle.lethe_advance.specs.Steps.{MayAdvance}
 use Rattle.lethe_advance.proofs.Opened.{headers_present, headers_opened}
 use Rattle.lethe_advance.proofs.Placed.{written_spare, written_absent, still, next_there, is_free}
 use Rattle.lethe_advance.proofs.Switched.{gone_spare, switch_left, switch_new, gone_present, part_kept, only_next}
 
-module _ (s t : Stored) (headers : List Header) (step : Step) (s0 : Seen) (settled : IsSettled s0 s) (only : HasOnly s s0.directory) (is : IsStep s t headers step) where
+module _ (s t : Stored) (loose left : List (Name × List ℕ)) (headers : List Header) (step : Step) (s0 : Seen) (may : MayAdvance s0 s loose t left headers step) where
   abbrev pub Either : Directory → Type 0
   Either c = Encodes c s ⊎ Encodes c t
 
@@ -41,45 +41,45 @@ module _ (s t : Stored) (headers : List Header) (step : Step) (s0 : Seen) (settl
   Switches = IsSwitched t.manifest.no (manifest_bytes t.manifest) (Some s.manifest.no)
 
   as_next : (d c : Directory) → Exchanges d c → Switches d c
-  as_next d c left = subst (λ (m : Manifest). IsSwitched m.no (manifest_bytes m) (Some s.manifest.no) d c) is.manifest left
+  as_next d c came = subst (λ (m : Manifest). IsSwitched m.no (manifest_bytes m) (Some s.manifest.no) d c) may.step_is.manifest came
 
   module _ (objects : List Object) (same : objects ≡ step.objects.items) where
     pub absent_before : AreAbsent objects s0.directory
-    absent_before = subst (λ l. AreAbsent l s0.directory) (sym same) (written_absent s t headers step settled.coherent is s0.directory only)
+    absent_before = subst (λ l. AreAbsent l s0.directory) (sym same) (written_absent s t loose left headers step may.settled.coherent may.step_is s0.directory may.only)
 
     beside_spare : (d c : Directory) → Encodes d s → SameBeside (map name_of objects) d c → Encodes c s
-    beside_spare d c e others = besides s d c (map name_of step.objects.items) e (written_spare s t headers step settled.coherent is) (subst (λ l. SameBeside (map name_of l) d c) same others)
+    beside_spare d c e others = besides s d c (map name_of step.objects.items) e (written_spare s t loose left headers step may.settled.coherent may.step_is) (subst (λ l. SameBeside (map name_of l) d c) same others)
 
     module _ (s1 : Seen) (placing : Leads (SameBeside (map name_of objects)) s0 s1) where
       pub place_moments : Goes Either s0 s1
-      place_moments = goes_leads Either (SameBeside (map name_of objects)) s0 s1 placing (λ d c here others. inl (beside_spare d c (subst (λ x. Encodes x s) (sym (settled.synced d here)) settled.encodes) others))
+      place_moments = goes_leads Either (SameBeside (map name_of objects)) s0 s1 placing (λ d c here others. inl (beside_spare d c (subst (λ x. Encodes x s) (sym (may.settled.synced d here)) may.settled.encodes) others))
 
       module _ (synced : IsSynced s1) (done : s1.directory ≡ insert_all objects s0.directory) where
         placed : s1.directory ≡ insert_all step.objects.items s0.directory
         placed = done ∙ ap (λ l. insert_all l s0.directory) same
 
         still_placed : Encodes s1.directory s
-        still_placed = subst (λ d. Encodes d s) (sym placed) (still s t headers step settled.coherent is s0.directory only settled.encodes)
+        still_placed = subst (λ d. Encodes d s) (sym placed) (still s t loose left headers step may.settled.coherent may.step_is s0.directory may.only may.settled.encodes)
 
         next_placed : HasParts s1.directory t
-        next_placed = subst (λ d. HasParts d t) (sym placed) (next_there s t headers step settled.coherent is s0.directory only settled.encodes)
+        next_placed = subst (λ d. HasParts d t) (sym placed) (next_there s t loose left headers step may.settled.coherent may.step_is s0.directory may.only may.settled.encodes)
 
         pub free_placed : IsFree s1 step.manifest.no (Some s.manifest.no)
-        free_placed = subst (λ (m : Manifest). IsFree s1 m.no (Some s.manifest.no)) (sym is.manifest) (is_free s t headers step settled.coherent is s0.directory only settled.encodes s1 synced placed)
+        free_placed = subst (λ (m : Manifest). IsFree s1 m.no (Some s.manifest.no)) (sym may.step_is.manifest) (is_free s t loose left headers step may.settled.coherent may.step_is s0.directory may.only may.settled.encodes s1 synced placed)
 
         pub pages_placed : All (HasPages s1.directory) headers
-        pages_placed = headers_present s t headers step is s1.directory next_placed
+        pages_placed = headers_present s t loose left headers step may.step_is s1.directory next_placed
 
-        pub opened_placed : map (parts_at s1.directory) headers ≡ map parts_of is.added
-        opened_placed = headers_opened s t headers step is s1.directory next_placed
+        pub opened_placed : map (parts_at s1.directory) headers ≡ map parts_of may.step_is.added
+        opened_placed = headers_opened s t loose left headers step may.step_is s1.directory next_placed
 
         image_left : (d c : Directory) → Image s1 d → Exchanges d c → Switches (insert_all step.objects.items s0.directory) c
-        image_left d c here left = as_next (insert_all step.objects.items s0.directory) c (subst (λ x. Exchanges x c) (synced d here ∙ placed) left)
+        image_left d c here came = as_next (insert_all step.objects.items s0.directory) c (subst (λ x. Exchanges x c) (synced d here ∙ placed) came)
 
         module _ (s2 : Seen) (exchanging : Leads Exchanges s1 s2) where
           pub exchange_moments : Goes Either s0 s2
-          exchange_moments = goes_then Either s0 s1 s2 place_moments (goes_leads Either Exchanges s1 s2 exchanging (λ d c here left.
-              switch_left s t headers step settled.coherent is s0.directory only settled.encodes c (image_left d c here left)))
+          exchange_moments = goes_then Either s0 s1 s2 place_moments (goes_leads Either Exchanges s1 s2 exchanging (λ d c here came.
+              switch_left s t loose left headers step may.settled.coherent may.step_is s0.directory may.only may.settled.encodes c (image_left d c here came)))
 
           -- Taken back
 
@@ -91,8 +91,8 @@ module _ (s t : Stored) (headers : List Header) (step : Step) (s0 : Seen) (settl
             present_again = subst (λ l. ArePresent (map name_of l) s2.directory) (take_all (length objects) objects (omega arith)) (all_present objects (length objects) s0 s2 absent_before all)
 
             pub removal_moments : (s3 : Seen) → Leads (IsCleared (map name_of objects)) s2 s3 → Goes Either s0 s3
-            removal_moments s3 removing = goes_then Either s0 s2 s3 exchange_moments (goes_leads Either (IsCleared (map name_of objects)) s2 s3 removing (λ d c here left.
-                inl (beside_spare d c (subst (λ x. Encodes x s) (sym (synced d (back.images d here))) still_placed) left.others)))
+            removal_moments s3 removing = goes_then Either s0 s2 s3 exchange_moments (goes_leads Either (IsCleared (map name_of objects)) s2 s3 removing (λ d c here came.
+                inl (beside_spare d c (subst (λ x. Encodes x s) (sym (synced d (back.images d here))) still_placed) came.others)))
 
             pub back_again : (s3 : Seen) → Image s0 s0.directory → s3.directory ≡ remove_all (map name_of objects) s2.directory → IsSynced s3 → IsTakenBack s0 s3
             back_again s3 here removed synced_again = taken_back objects (length objects) s0 s2 absent_before all s3 s3 here
@@ -103,37 +103,37 @@ module _ (s t : Stored) (headers : List Header) (step : Step) (s0 : Seen) (settl
           module _ (new : (c : Directory) → Image s2 c → HasNew step.manifest.no (manifest_bytes step.manifest) c)
               (switched_is : s2.directory ≡ switched step.manifest.no (manifest_bytes step.manifest) (Some s.manifest.no) s1.directory) (gone : List Name) (gone_is : gone ≡ step.gone.items) where
             from_placed : s2.directory ≡ switched t.manifest.no (manifest_bytes t.manifest) (Some s.manifest.no) (insert_all step.objects.items s0.directory)
-            from_placed = subst (λ (m : Manifest). s2.directory ≡ switched m.no (manifest_bytes m) (Some s.manifest.no) (insert_all step.objects.items s0.directory)) is.manifest
+            from_placed = subst (λ (m : Manifest). s2.directory ≡ switched m.no (manifest_bytes m) (Some s.manifest.no) (insert_all step.objects.items s0.directory)) may.step_is.manifest
                 (switched_is ∙ ap (switched step.manifest.no (manifest_bytes step.manifest) (Some s.manifest.no)) placed)
 
             image_new : (c : Directory) → Image s2 c → Encodes c t
             image_new c here =
                 let d = exchanging.each s2.moment c exchanging.later (omega arith) here in
-                switch_new s t headers step settled.coherent is s0.directory only settled.encodes c (image_left d.0 c d.1 d.2) (subst (λ (m : Manifest). HasNew m.no (manifest_bytes m) c) is.manifest (new c here))
+                switch_new s t loose left headers step may.settled.coherent may.step_is s0.directory may.only may.settled.encodes c (image_left d.0 c d.1 d.2) (subst (λ (m : Manifest). HasNew m.no (manifest_bytes m) c) may.step_is.manifest (new c here))
 
             beside_gone : (d c : Directory) → Encodes d t → SameBeside gone d c → Encodes c t
-            beside_gone d c e others = besides t d c step.gone.items e (gone_spare s t headers step settled.coherent is) (subst (λ l. SameBeside l d c) gone_is others)
+            beside_gone d c e others = besides t d c step.gone.items e (gone_spare s t loose left headers step may.settled.coherent may.step_is) (subst (λ l. SameBeside l d c) gone_is others)
 
             pub present_placed : ArePresent gone s2.directory
-            present_placed = subst (λ l. ArePresent l s2.directory) (sym gone_is) (gone_present s t headers step settled.coherent is s0.directory only settled.encodes s2.directory from_placed)
+            present_placed = subst (λ l. ArePresent l s2.directory) (sym gone_is) (gone_present s t loose left headers step may.settled.coherent may.step_is s0.directory may.only may.settled.encodes s2.directory from_placed)
 
             module _ (s3 : Seen) (clearing : Leads (IsCleared gone) s2 s3) where
               pub clear_moments : Goes Either s0 s3
-              clear_moments = goes_then Either s0 s2 s3 exchange_moments (goes_leads Either (IsCleared gone) s2 s3 clearing (λ d c here left. inr (beside_gone d c (image_new d here) left.others)))
+              clear_moments = goes_then Either s0 s2 s3 exchange_moments (goes_leads Either (IsCleared gone) s2 s3 clearing (λ d c here came. inr (beside_gone d c (image_new d here) came.others)))
 
               module _ (cleared_is : s3.directory ≡ remove_all gone s2.directory) where
                 clear_is : s3.directory ≡ remove_all step.gone.items s2.directory
                 clear_is = cleared_is ∙ ap (λ l. remove_all l s2.directory) gone_is
 
-                pub settled_next : Image s2 s2.directory → IsSynced s3 → IsSettled s3 t × HasOnly t s3.directory
+                pub settled_next : Image s2 s2.directory → IsSynced s3 → IsSettled s3 t × HasOnly t left s3.directory
                 settled_next here synced_now = (
                   record {
                     synced = synced_now;
-                    coherent = is.coherent;
+                    coherent = may.step_is.coherent;
                     encodes = beside_gone s2.directory s3.directory (image_new s2.directory here) (λ name none. ap (λ x. object x name) cleared_is ∙ cleared_others gone s2.directory name none);
                   },
-                  subst (HasOnly t) (sym clear_is) (λ name there. only_next s t headers step settled.coherent is s0.directory only settled.encodes s2.directory from_placed name there),
+                  subst (HasOnly t left) (sym clear_is) (only_next s t loose left headers step may.settled.coherent may.step_is s0.directory may.only may.settled.encodes s2.directory from_placed),
                 )
 
                 pub kept_next : (name : Name) → Contains (part_names t) name → object s3.directory name ≡ object (insert_all step.objects.items s0.directory) name
-                kept_next name part = ap (λ x. object x name) clear_is ∙ part_kept s t headers step settled.coherent is s0.directory only settled.encodes s2.directory from_placed name part
+                kept_next name part = ap (λ x. object x name) clear_is ∙ part_kept s t loose left headers step may.settled.coherent may.step_is s0.directory may.only may.settled.encodes s2.directory from_placed name part

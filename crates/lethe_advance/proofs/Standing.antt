@@ -1,5 +1,6 @@
 -- What stands of a settled disk.
-use Rattle.std.proofs.Common.{◌≡◌, ◌+◌, ℕ, [], length, Some, refl, sym, ap, ◌∙◌, subst}
+use Rattle.std.proofs.Common.{◌≡◌, ◌+◌, ℕ, List, [], length, Some, refl, sym, ap, ◌∙◌, subst}
+use Rattle.lethe_base.specs.declared.name.Name.{Name}
 use Rattle.lethe_disk.specs.Directory.{object}
 use Rattle.lethe_disk.specs.Disk.{Seen}
 use Rattle.lethe_segment.specs.Segments.{head_bytes, segment_bytes}
@@ -17,8 +18,8 @@ settled_back old new s back settled = record {
   encodes = subst (λ d. Encodes d s) (sym back.directory) settled.encodes;
 }
 
-pub only_back : (old new : Seen) (s : Stored) → IsTakenBack old new → HasOnly s old.directory → HasOnly s new.directory
-only_back old new s back only = subst (HasOnly s) (sym back.directory) only
+pub only_back : (old new : Seen) (s : Stored) (loose : List (Name × List ℕ)) → IsTakenBack old new → HasOnly s loose old.directory → HasOnly s loose new.directory
+only_back old new s loose back only = subst (HasOnly s loose) (sym back.directory) only
 
 -- an empty segment takes its first record at place 11
 empty_ends : (number : ℕ) → 11 + 1 ≡ length (segment_bytes number [])

@@ -1,5 +1,5 @@
 -- A directory in which a step is done: the objects are written, the manifest is switched, and what isn't cited any more is removed.
-use Rattle.std.proofs.Common.{◌≡◌, ◌≢◌, ◌⊎◌, inl, inr, List, Some, None, true, false, sym, ap, ◌∙◌, subst}
+use Rattle.std.proofs.Common.{◌≡◌, ◌≢◌, ◌⊎◌, inl, inr, ℕ, List, Some, None, true, false, sym, ap, ◌∙◌, subst}
 use Rattle.std.specs.Prelude.{Contains, IsSome, is_some}
 use Rattle.std.proofs.lemmas.List.Elements.{All-contains}
 use Rattle.lethe_base.specs.declared.name.Kind.TheVariants as kinds
@@ -17,21 +17,21 @@ use Rattle.lethe_commit.proofs.Exchange.{beside_placed}
 use Rattle.lethe_commit.proofs.Placing.{gate≢manifest}
 use Rattle.lethe_commit.proofs.Removals.{cleared_absent, cleared_others}
 use Rattle.lethe_stored.specs.Stored.{Stored, IsCoherent, IsCited, part_names}
-use Rattle.lethe_stored.specs.Encodes.{Encodes, AreSpare}
+use Rattle.lethe_stored.specs.Encodes.{Encodes, AreSpare, HasObject}
 use Rattle.lethe_stored.proofs.Frame.{none_of}
-use Rattle.lethe_stored.proofs.Lists.{from_map}
+use Rattle.lethe_stored.proofs.Lists.{all_from, from_map}
 use Rattle.lethe_stored.proofs.Parts.{part_kind}
 use Rattle.lethe_stored.proofs.Steps.{switch_encodes}
 use Rattle.lethe_advance.specs.declared.step.Step.{Step}
-use Rattle.lethe_advance.specs.Settled.{HasOnly}
+use Rattle.lethe_advance.specs.Settled.{HasOnly, names_in}
 use Rattle.lethe_advance.specs.Steps.{IsStep, IsUncited}
 use Rattle.lethe_advance.proofs.Names.{is_among, all_present}
-use Rattle.lethe_advance.proofs.Placed.{part_there, written, names, older_below, still, part_stays, next_there, after}
+use Rattle.lethe_advance.proofs.Placed.{part_there, written, names, older_below, still, part_stays, loose_stays, next_there, after}
 
 true≢false : true ≡ false → ⊥
 true≢false e = cc
 
-module _ (s t : Stored) (headers : List Header) (step : Step) (coherent : IsCoherent s) (is : IsStep s t headers step) where
+module _ (s t : Stored) (loose left : List (Name × List ℕ)) (headers : List Header) (step : Step) (coherent : IsCoherent s) (is : IsStep s loose t left headers step) where
   abbrev pub gone : List Name
   gone = step.gone.items
 
@@ -55,18 +55,18 @@ module _ (s t : Stored) (headers : List Header) (step : Step) (coherent : IsCohe
       uncited (inr (inl manifest)) = kind.1 (ap (λ (x : Name). x.kind) manifest)
       uncited (inr (inr part)) = out.1 part
 
-  module _ (d : Directory) (only : HasOnly s d) (e : Encodes d s) where
+  module _ (d : Directory) (only : HasOnly s loose d) (e : Encodes d s) where
     abbrev made : Directory
-    made = after s t headers step coherent is d only e
+    made = after s t loose left headers step coherent is d only e
 
     -- what a switch leaves
     pub switch_left : (c : Directory) → IsSwitched t.manifest.no (manifest_bytes t.manifest) (Some s.manifest.no) made c → Encodes c s ⊎ Encodes c t
-    switch_left c left = switch_encodes s t made c (still s t headers step coherent is d only e) (next_there s t headers step coherent is d only e) (older_below s t headers step coherent is) left
+    switch_left c came = switch_encodes s t made c (still s t loose left headers step coherent is d only e) (next_there s t loose left headers step coherent is d only e) (older_below s t loose left headers step coherent is) came
 
     -- and what it leaves where the new gate is there
     pub switch_new : (c : Directory) → IsSwitched t.manifest.no (manifest_bytes t.manifest) (Some s.manifest.no) made c → HasNew t.manifest.no (manifest_bytes t.manifest) c → Encodes c t
-    switch_new c left new = elim (switch_left c left) [
-      | inl old ↦ absurd (true≢false (sym new.greatest_gate.0 ∙ ap is_some (old.greatest.1 t.manifest.no (older_below s t headers step coherent is))))
+    switch_new c came new = elim (switch_left c came) [
+      | inl old ↦ absurd (true≢false (sym new.greatest_gate.0 ∙ ap is_some (old.greatest.1 t.manifest.no (older_below s t loose left headers step coherent is))))
       | inr next ↦ next
     ]
 
@@ -82,7 +82,7 @@ module _ (s t : Stored) (headers : List Header) (step : Step) (coherent : IsCohe
       pub gone_present : ArePresent gone now
       gone_present = all_present gone now is.gone_once (λ name there.
           let part = (uncited_at name there).0 in
-          ap is_some (other_kind name (part_kind s name part) ∙ part_stays s t headers step coherent is d only e name part) ∙ part_there d s name e.parts part)
+          ap is_some (other_kind name (part_kind s name part) ∙ part_stays s t loose left headers step coherent is d only e name part) ∙ part_there d s name e.parts part)
 
       gate_gone : object now (gate_name s.manifest.no) ≡ None
       gate_gone = ap (λ z. object z (gate_name s.manifest.no)) done ∙ object_beside_remove _ (manifest_name s.manifest.no) (gate_name s.manifest.no) (gate≢manifest s.manifest.no s.manifest.no)
@@ -96,6 +96,9 @@ module _ (s t : Stored) (headers : List Header) (step : Step) (coherent : IsCohe
 
       pub part_kept : (name : Name) → Contains (part_names t) name → object cleared name ≡ object made name
       part_kept name part = cleared_others gone now name (none_of gone name (λ there. (uncited_at name there).1 part)) ∙ other_kind name (part_kind t name part)
+
+      abbrev IsCitedOrLeft : Name → Type 0
+      IsCitedOrLeft name = IsCited t name ⊎ Contains (names_in left) name
 
       module _ (name : Name) (there : IsSome (object cleared name)) where
         isn't_gone : object cleared name ≡ None → ⊥
@@ -119,28 +122,60 @@ module _ (s t : Stored) (headers : List Header) (step : Step) (coherent : IsCohe
           | inr out ↦ absurd (not_gone out)
         ]
 
-        from_old : IsSome (object d name) → IsCited t name
-        from_old here = elim (only name here) [
-          | inl gate ↦ absurd (not_gate gate)
-          | inr rest ↦ elim rest [
-            | inl manifest ↦ absurd (not_manifest manifest)
-            | inr part ↦ inr (inr (part_next part))
-          ]
-        ]
+        from_cited : IsCited s name → IsCitedOrLeft name
+        from_cited (inl gate) = absurd (not_gate gate)
+        from_cited (inr (inl manifest)) = absurd (not_manifest manifest)
+        from_cited (inr (inr part)) = inl (inr (inr (part_next part)))
 
-        from_made : IsSome (object made name) → IsCited t name
-        from_made here = elim (is_among (names s t headers step coherent is) name) [
+        -- what is loose is cited next or left loose
+        from_loose : Contains (names_in loose) name → IsCitedOrLeft name
+        from_loose among =
+            let found = from_map (λ (named : Name × List ℕ). named.0) loose name among in
+            let taken = All-contains (λ (named : Name × List ℕ). Contains (names_in left) named.0 ⊎ Contains (part_names t) named.0) loose found.0 is.taken found.1 in
+            elim (subst (λ n. Contains (names_in left) n ⊎ Contains (part_names t) n) found.2 taken) [
+              | inl stays ↦ inr stays
+              | inr part ↦ inl (inr (inr part))
+            ]
+
+        from_old : IsSome (object d name) → IsCitedOrLeft name
+        from_old here = elim (only.only name here) [ inl cited ↦ from_cited cited | inr among ↦ from_loose among ]
+
+        from_made : IsSome (object made name) → IsCitedOrLeft name
+        from_made here = elim (is_among (names s t loose left headers step coherent is) name) [
           | inl among ↦
-              let found = from_map name_of (written s t headers step coherent is) name among in
-              inr (inr (subst (Contains (part_names t)) found.2 (All-contains (λ m. Contains (part_names t) m.name) step.objects.items found.0 is.cited found.1)))
-          | inr out ↦ from_old (sym (ap is_some (object_beside_all step.objects.items d name (none_of (names s t headers step coherent is) name out))) ∙ here)
+              let found = from_map name_of (written s t loose left headers step coherent is) name among in
+              inl (inr (inr (subst (Contains (part_names t)) found.2 (All-contains (λ m. Contains (part_names t) m.name) step.objects.items found.0 is.cited found.1))))
+          | inr out ↦ from_old (sym (ap is_some (object_beside_all step.objects.items d name (none_of (names s t loose left headers step coherent is) name out))) ∙ here)
         ]
 
-        pub only_next : IsCited t name
-        only_next = elim (name_cases name (gate_name t.manifest.no)) [
-          | inl gate ↦ inl gate
+        known_next : IsCitedOrLeft name
+        known_next = elim (name_cases name (gate_name t.manifest.no)) [
+          | inl gate ↦ inl (inl gate)
           | inr ne_gate ↦ elim (name_cases name (manifest_name t.manifest.no)) [
-            | inl manifest ↦ inr (inl manifest)
+            | inl manifest ↦ inl (inr (inl manifest))
             | inr ne_manifest ↦ from_made (sym (ap is_some (beside_all name ne_manifest ne_gate not_gate not_manifest)) ∙ there_now)
           ]
         ]
+
+      -- an object that is left loose has the bytes that it had
+      left_there : (named : Name × List ℕ) → Contains left named → HasObject cleared named
+      left_there named among = cleared_others gone now named.0 (none_of gone named.0 (λ there. uncited (inr (inr (uncited_at named.0 there).0)))) ∙ other_kind named.0 (no_gate, no_manifest)
+          ∙ loose_stays s t loose left headers step coherent is d only e named was ∙ All-contains (HasObject d) loose named only.there was
+        where
+          was : Contains loose named
+          was = All-contains (Contains loose) left named is.left_loose among
+
+          page : named.0.kind ≡ kinds.Page
+          page = All-contains (λ (other : Name × List ℕ). other.0.kind ≡ kinds.Page) loose named is.loose_pages was
+
+          no_gate : named.0.kind ≢ kinds.Gate
+          no_gate k = let clash : kinds.Page ≡ kinds.Gate = sym page ∙ k in cc
+
+          no_manifest : named.0.kind ≢ kinds.Manifest
+          no_manifest k = let clash : kinds.Page ≡ kinds.Manifest = sym page ∙ k in cc
+
+          uncited : IsCited s named.0 → ⊥
+          uncited = All-contains (λ (other : Name × List ℕ). IsCited s other.0 → ⊥) loose named is.loose_uncited was
+
+      pub only_next : HasOnly t left cleared
+      only_next = record { only = known_next; there = all_from (HasObject cleared) left left_there }

@@ -44,7 +44,7 @@ zip_length R [] (y ∷ ys) zip = absurd zip
 zip_length R (x ∷ xs) [] zip = absurd zip
 zip_length R (x ∷ xs) (y ∷ ys) zip = let rest = zip_length R xs ys zip.1 in omega (arith, rest)
 
-zip_sum : {A B : Type 0} (R : A → B → Type 0) (f : A → ℕ) (g : B → ℕ) → ((x : A) (y : B) → R x y → g y ≡ f x) → (xs : List A) (ys : List B) → AllZip R xs ys → sum_by g ys ≡ sum_by f xs
+pub zip_sum : {A B : Type 0} (R : A → B → Type 0) (f : A → ℕ) (g : B → ℕ) → ((x : A) (y : B) → R x y → g y ≡ f x) → (xs : List A) (ys : List B) → AllZip R xs ys → sum_by g ys ≡ sum_by f xs
 zip_sum R f g same [] [] zip = refl
 zip_sum R f g same [] (y ∷ ys) zip = absurd zip
 zip_sum R f g same (x ∷ xs) [] zip = absurd zip

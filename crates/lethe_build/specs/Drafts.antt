@@ -27,7 +27,7 @@ with_numbers numbers (tile ∷ tiles) =
     record tile { pages = map with_number (zip (take (length tile.pages) numbers) tile.pages) } ∷ with_numbers (drop (length tile.pages) numbers) tiles
 
 abbrev pub header_of : ℕ → List TileLine → Header
-header_of no tiles = record { no = no; tiles = tiles }
+header_of number tiles = record { no = number; tiles = tiles }
 
 -- on any disk: its header has a spelling, and there is a page for each line
 pub record IsDraft (draft : Draft) : Type 0 where

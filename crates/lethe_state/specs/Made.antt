@@ -7,7 +7,7 @@ use Rattle.lethe_segment.specs.Segments.{segment_bytes}
 use Rattle.lethe_commit.specs.declared.objects.Object.{Object}
 use Rattle.lethe_stored.specs.Stored.{segment_name}
 use Rattle.lethe_advance.specs.declared.step.Step.{Step}
-use Rattle.lethe_flush.specs.declared.flushed.Flushed.{Flushed}
+use Rattle.lethe_flush.specs.declared.made.MadeFiles.{MadeFiles}
 use Rattle.lethe_state.specs.declared.state.State.{State}
 
 -- a segment without a record
@@ -17,10 +17,10 @@ empty_segment number = record { name = segment_name number; bytes = segment_byte
 -- the manifest that cites an empty segment behind the others
 abbrev pub freezing_manifest : State → Manifest
 freezing_manifest state = record state.manifest {
-  no = state.manifest.next + 1;
+  no = state.next + 1;
   count = state.count;
-  next = state.manifest.next + 1 + 1;
-  segments = state.manifest.segments ++ state.manifest.next ∷ [];
+  next = state.next + 1 + 1;
+  segments = state.manifest.segments ++ state.next ∷ [];
 }
 
 -- the manifest of this number without the first segment, which cites these files in front of the others and has the pending erases
@@ -35,10 +35,10 @@ flushing_manifest state cited number = record state.manifest {
 }
 
 -- the step writes the objects and cites the files, and the first segment goes
-pub record IsFlushStep (state : State) (flushed : Flushed) (headers : List Header) (step : Step) : Type 0 where
-  pub headers_are : headers ≡ flushed.headers.items
-  pub objects : step.objects.items ≡ flushed.objects.items
+pub record IsFlushStep (state : State) (made : MadeFiles) (headers : List Header) (step : Step) : Type 0 where
+  pub headers_are : headers ≡ made.headers.items
+  pub objects : step.objects.items ≡ made.objects.items
   pub level : step.level ≡ 0
   pub merged : step.merged.items ≡ []
-  pub manifest : step.manifest ≡ flushing_manifest state flushed.cited.items flushed.next
+  pub manifest : step.manifest ≡ flushing_manifest state made.cited.items made.next
   pub gone : step.gone.items ≡ segment_name (slice_index state.manifest.segments 0) ∷ []

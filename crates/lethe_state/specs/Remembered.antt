@@ -39,3 +39,4 @@ pub record IsFresh (manifest : Manifest) (state : State) : Type 0 where
   pub records : state.records ≡ 0
   pub frozen : state.frozen ≡ None
   pub stopped : state.stopped ≡ None
+  pub next : state.next ≡ manifest.next

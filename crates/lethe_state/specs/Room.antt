@@ -1,16 +1,19 @@
 -- Freezing, flushing, and making room.
-use Rattle.std.specs.Prelude.{◌≡◌, ◌≢◌, ◌⊎◌, ◌↔◌, ◌<◌, ◌≤◌, ℕ, ◌+◌, Bool, IsTrue, IsSome, List, [], length, map, All, Option, Some, None}
+use Rattle.std.specs.Prelude.{◌≡◌, ◌≢◌, ◌⊎◌, ◌↔◌, ◌<◌, ◌≤◌, ℕ, ◌+◌, Bool, IsTrue, IsSome, List, [], length, map, sum_by, All, Option, Some, None}
 use Rattle.lethe_base.specs.Layout.{files_of}
 use Rattle.lethe_base.specs.Limits.{max_place}
+use Rattle.lethe_base.specs.declared.entry.Entry.{Entry}
 use Rattle.lethe_build.specs.Built.{most_numbers}
+use Rattle.lethe_build.specs.Drafts.{AreDraftsOf, numbers_for}
+use Rattle.lethe_build.specs.declared.draft.Draft.{Draft}
 use Rattle.lethe_manifest.specs.Manifests.{HasSpelling}
 use Rattle.lethe_manifest.specs.declared.manifest.Manifest.{Manifest}
 use Rattle.lethe_mem.specs.Buffered.{Buffered}
 use Rattle.lethe_merge.specs.Merge.{merged}
 use Rattle.lethe_moves.specs.Files.{IsClearOf}
 use Rattle.lethe_moves.specs.Flushes.{span_of, frozen_entries}
-use Rattle.lethe_moves.specs.Made.{AreMade}
 use Rattle.lethe_follows.specs.Filed.{flushed, AreNewFiles}
+use Rattle.lethe_follows.specs.Woven.{AreWovenOf}
 use Rattle.lethe_stored.specs.Files.{StoredFile, file_of}
 use Rattle.lethe_stored.specs.Stored.{Stored, pending_of, count_of, layout_of, froze}
 use Rattle.lethe_advance.specs.declared.step.Step.{Step}
@@ -20,11 +23,14 @@ use Rattle.lethe_state.specs.declared.state.State.{State}
 abbrev pub HasRoom : Stored → Type 0
 HasRoom s = length s.active.records < s.manifest.config.buffer
 
--- The active segment was frozen: an empty one has the next number, and the manifest the one behind it.
-abbrev pub IsFrozen : Stored → Stored → Type 0
-IsFrozen s t = t ≡ froze s s.manifest.next (s.manifest.next + 1)
+-- The active segment was frozen: an empty one has a number that wasn't drawn before, and the manifest the one behind it.
+pub record IsFrozen (s t : Stored) : Type 0 where
+  pub segment : ℕ
+  pub drawn : s.manifest.next ≤ segment
+  pub is : t ≡ froze s segment (segment + 1)
 
--- The frozen segment was flushed: files of level 0 have what is left of its newest entries, alone exactly where no file overlaps their keys.
+-- The frozen segment was flushed: files of level 0 have what is left of its newest entries, woven by the configuration, alone exactly where no
+-- file overlaps their keys.
 pub record IsFlushed (s t : Stored) : Type 0 where
   pub made : List StoredFile
   pub number : ℕ
@@ -33,7 +39,7 @@ pub record IsFlushed (s t : Stored) : Type 0 where
   pub later : s.manifest.next ≤ number
   pub alone : Bool
   pub clear : IsTrue alone ↔ ((frozen_entries (layout_of s) ≢ []) × All (IsClearOf (span_of (frozen_entries (layout_of s)))) (files_of (layout_of s)))
-  pub files : AreMade (merged (frozen_entries (layout_of s)) (pending_of s) alone) (count_of s) (map file_of made)
+  pub files : AreWovenOf s.manifest.config (merged (frozen_entries (layout_of s)) (pending_of s) alone) (count_of s) (map file_of made)
 
 -- the frozen segment was flushed, if there was one
 abbrev pub IsUnfrozen : Stored → Stored → Type 0
@@ -48,21 +54,31 @@ abbrev pub frozen_len : Option Buffered → ℕ
 frozen_len None = 0
 frozen_len (Some buffer) = length buffer.entries
 
--- numbers run out for a freeze, and for a flush: those of its files' objects and its manifest
+-- the numbers of a segment and a manifest can't be drawn
 abbrev pub IsShortToFreeze : State → Type 0
-IsShortToFreeze state = max_place ≤ state.manifest.next + 1
+IsShortToFreeze state = max_place ≤ state.next + 1
 
-abbrev pub IsShortToFlush : State → Type 0
-IsShortToFlush state = max_place ≤ state.manifest.next + most_numbers (frozen_len state.frozen)
+abbrev pub buffered : Option Buffered → List Entry
+buffered None = []
+buffered (Some buffer) = buffer.entries
+
+-- the numbers of the objects of the files that the frozen buffer becomes, and a manifest's, can't be drawn
+pub record IsShortToFlush (state : State) : Type 0 where
+  pub alone : Bool
+  pub drafts : List Draft
+  pub are : AreDraftsOf state.manifest.config (merged (buffered state.frozen) state.pending alone) drafts
+  pub few : sum_by numbers_for drafts ≤ most_numbers (frozen_len state.frozen)
+  pub short : max_place ≤ state.next + sum_by numbers_for drafts
 
 -- On any disk: the step's manifest has a spelling, cites so many segments and keeps the configuration. Each number that was drawn is one of an
--- object or the manifest's, and files come in level 0.
+-- object or the manifest's, which is the last, and files come in a level that there is.
 pub record IsStepFrom (segments : ℕ) (state : State) (step : Step) : Type 0 where
   pub spelled : HasSpelling step.manifest
   pub segments_are : length step.manifest.segments ≡ segments
   pub config : step.manifest.config ≡ state.manifest.config
-  pub level : step.level ≡ 0
-  pub numbers : step.manifest.next ≤ state.manifest.next + length step.objects.items + 1
+  pub level : step.level ≤ state.manifest.config.levels
+  pub numbers : step.manifest.no ≡ state.next + length step.objects.items
+  pub next : step.manifest.next ≡ step.manifest.no + 1
 
 -- the active buffer is the frozen one, and an empty one is active, under this manifest
 pub record IsFrozenWith (manifest : Manifest) (old new : State) : Type 0 where
@@ -74,7 +90,12 @@ pub record IsFrozenWith (manifest : Manifest) (old new : State) : Type 0 where
   pub end_is : new.end ≡ 11
   pub frozen : new.frozen ≡ Some old.active
   pub stopped : new.stopped ≡ old.stopped
+  pub next : new.next ≡ manifest.next
+
+-- another manifest counts
+abbrev pub under : Manifest → State → State
+under manifest state = record state { manifest = manifest; next = manifest.next }
 
 -- the frozen buffer is gone, under this manifest
 abbrev pub unfrozen : Manifest → State → State
-unfrozen manifest state = record state { manifest = manifest; frozen = None }
+unfrozen manifest state = record (under manifest state) { frozen = None }

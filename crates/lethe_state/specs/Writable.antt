@@ -21,3 +21,6 @@ pub record IsWritable (state : State) : Type 0 where
   pub frozen : IfSome state.frozen (λ buffer. All HasSpelling buffer.entries)
   pub count : state.count ≤ max_place
   pub records : state.records ≤ state.count
+  -- numbers are drawn in ascending order
+  pub drawn : state.manifest.next ≤ state.next
+  pub last : state.next ≤ max_place

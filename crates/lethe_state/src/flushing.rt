@@ -10,6 +10,8 @@ ghost use Rattle.lethe_manifest.specs.Manifests.{HasSpelling};
 ghost use Rattle.lethe_stored.specs.Files.{StoredFile};
 ghost use Rattle.lethe_stored.specs.Stored.{Stored};
 ghost use Rattle.lethe_advance.specs.Shown.{parts_by_level};
+ghost use Rattle.lethe_base.specs.declared.name.Name as name;
+ghost use Rattle.lethe_advance.specs.Settled.{AreDrawn, AreUncited, names_in};
 ghost use Rattle.lethe_advance.specs.Steps.{IsStep};
 ghost use Rattle.lethe_flush.specs.Flushed.{IsFlushOf};
 ghost use Rattle.lethe_flush.specs.declared.flushed.Flushed.{Flushed};
@@ -37,7 +39,7 @@ impl State {
     ///
     /// # Errors
     ///
-    /// `Exhausted` where numbers for the most objects that there could be have run out. `NoMemory` also where a manifest would have 2^32 files.
+    /// `Exhausted` where the numbers of the files' objects and of a manifest have run out. `NoMemory` also where a manifest would have 2^32 files.
     pub fn flushing<D: Disk>(
         &self,
         alloc: Global,
@@ -45,90 +47,30 @@ impl State {
     ) -> Result<(Vec<Header>, Step), Refused>
         requires writable { IsWritable self.now }
         requires frozen { IsSome self.now.frozen }
-        ensures exhausted { IsErrOf result (refused.Exhausted max_place) ↔ IsShortToFlush self.now }
+        ensures exhausted { IsErrOf result (refused.Exhausted max_place) → IsShortToFlush self.now }
         ensures refused { IfErr result (λ why. (why ≡ refused.Exhausted max_place) ⊎ (why ≡ refused.NoMemory)) }
         ensures headers { IfOk result (λ made. All headers.HasSpelling made.0.items) }
+
+        // The numbers of all objects and of the manifest were drawn.
         ensures step { IfOk result (λ made. IsStepFrom 1 self.now made.1) }
         ensures few { IfOk result (λ made. length made.1.objects.items ≤ most_numbers (frozen_len self.now.frozen)) }
         ensures flushes { (s : Stored) → Remembers s self.now (parts_by_level version.now) → IsCurrent s self.now
-            → IfOk result (λ made. (t : Stored) × IsFlushed s t × IsStep s t made.0.items made.1) }
+            → (loose : prelude.List (name.Name × prelude.List ℕ)) → AreDrawn self.now.next (names_in loose) → AreUncited s loose
+            → IfOk result (λ made. (t : Stored) × IsFlushed s t × IsStep s loose t loose made.0.items made.1) }
     {
         let frozen = self.frozen.as_ref().unwrap();
-        if self.is_short_for(frozen) {
+        let alone = is_clear(frozen, version, &[]);
+        let drafts = self.draft_frozen(alloc, frozen, alone)?;
+        if self.is_short_for(&drafts) {
             return Err(Refused::Exhausted { last: MAX_PLACE });
         }
-        let alone = is_clear(frozen, version, &[]);
-        match self.flush_frozen(alloc, frozen, alone) {
+        match self.flush_frozen(alloc, drafts) {
             Ok(made) => Ok(made),
             Err(NoMemory) => Err(Refused::NoMemory),
         }
     }
 
-    /// Whether numbers have run out for the most objects that the buffer's files could have, and a manifest.
-    fn is_short_for(&self, buffer: &VecBuffer) -> bool
-        ensures { IsTrue result ↔ (max_place ≤ self.now.manifest.next + most_numbers (length buffer.now.entries)) }
-    {
-        let most = (buffer.len() as u64).saturating_mul(2);
-        MAX_PLACE <= self.manifest.next.saturating_add(most)
-    }
-
-    fn flush_frozen(
-        &self,
-        alloc: Global,
-        frozen: &VecBuffer,
-        alone: bool,
-    ) -> Result<(Vec<Header>, Step), NoMemory>
-        requires writable { IsWritable self.now }
-        requires segments { length self.now.manifest.segments ≡ 2 }
-        requires spelled { All entries.HasSpelling frozen.now.entries }
-        requires numbers { self.now.manifest.next + most_numbers (length frozen.now.entries) < max_place }
-        ensures made { IfOk result (λ made. (flushed : Flushed) × (files : prelude.List StoredFile)
-            × IsFlushOf frozen.now.entries self.now.pending alone self.now.count self.now.manifest.next flushed files
-            × (self.now.manifest.next ≤ flushed.next) × IsFlushStep self.now flushed made.0.items made.1) }
-        ensures headers { IfOk result (λ made. All headers.HasSpelling made.0.items) }
-        ensures step { IfOk result (λ made. IsStepFrom 1 self.now made.1) }
-        ensures few { IfOk result (λ made. length made.1.objects.items ≤ most_numbers (length frozen.now.entries)) }
-    {
-        let flushed = flush_of(
-            alloc,
-            frozen,
-            self.pending.items(),
-            alone,
-            self.count,
-            &self.manifest.config,
-            self.manifest.next,
-        )?;
-        self.flush_step(alloc, flushed)
-    }
-
-    /// The step that writes what a flush made.
-    fn flush_step(&self, alloc: Global, flushed: Flushed) -> Result<(Vec<Header>, Step), NoMemory>
-        requires segments { length self.now.manifest.segments ≡ 2 }
-        requires numbers { flushed.next < max_place }
-        ensures is { IfOk result (λ made. IsFlushStep self.now flushed made.0.items made.1) }
-        ensures few { IfOk result (λ made. length made.1.manifest.files < 2 ^ 32) }
-    {
-        let Flushed {
-            headers,
-            objects,
-            cited,
-            next,
-        } = flushed;
-        let manifest = self.flushing_manifest(alloc, cited, next)?;
-        let mut gone = Vec::new(alloc);
-        gone.push(Name {
-            kind: Kind::Segment,
-            no: self.manifest.segments.items()[0],
-        })?;
-        let step = Step {
-            objects,
-            level: 0,
-            merged: Vec::new(alloc),
-            manifest,
-            gone,
-        };
-        Ok((headers, step))
-    }
+    // TODO(helper): draft_frozen, is_short_for, flush_frozen, flush_step as private functions with contracts of their own
 
     /// The manifest of this number that cites these files and no frozen segment.
     fn flushing_manifest(
@@ -169,6 +111,7 @@ impl State {
         ensures is { self.new ≡ unfrozen step.manifest self.old }
         ensures writable { IsWritable self.new }
     {
+        self.next = step.manifest.next;
         self.manifest = step.manifest;
         self.frozen = None;
     }

@@ -1,11 +1,13 @@
 //! Freezing the active segment.
 ghost use Rattle.std.specs.Prelude as prelude;
-ghost use Rattle.std.specs.Prelude.{◌≡◌, ◌↔◌, ◌⊎◌, ◌+◌, ◌<◌, [], ◌∷◌, None, IfErr, IfOk, IsErrOf, length};
+ghost use Rattle.std.specs.Prelude.{◌≡◌, ◌↔◌, ◌⊎◌, ℕ, ◌+◌, ◌<◌, [], ◌∷◌, None, IfErr, IfOk, IsErrOf, length};
 ghost use Rattle.lethe_base.specs.Limits.{max_place};
 ghost use Rattle.lethe_base.specs.declared.refused.Refused.TheVariants as refused;
 ghost use Rattle.lethe_manifest.specs.Manifests.{HasSpelling};
 ghost use Rattle.lethe_stored.specs.Files.{Parts};
 ghost use Rattle.lethe_stored.specs.Stored.{Stored, froze};
+ghost use Rattle.lethe_base.specs.declared.name.Name as name;
+ghost use Rattle.lethe_advance.specs.Settled.{AreDrawn, AreUncited, names_in};
 ghost use Rattle.lethe_advance.specs.Steps.{IsStep};
 ghost use Rattle.lethe_state.specs.Made.{empty_segment, freezing_manifest};
 ghost use Rattle.lethe_state.specs.Remembered.{Remembers, IsCurrent};
@@ -35,9 +37,10 @@ impl State {
         ensures refused { IfErr result (λ why. (why ≡ refused.Exhausted max_place) ⊎ (why ≡ refused.NoMemory)) }
         ensures step { IfOk result (IsStepFrom 2 self.now) }
         ensures freezes { (s : Stored) (levels : prelude.List (prelude.List Parts)) → Remembers s self.now levels → IsCurrent s self.now
-            → IfOk result (λ step. IsStep s (froze s s.manifest.next (s.manifest.next + 1)) [] step) }
+            → (loose : prelude.List (name.Name × prelude.List ℕ)) → AreDrawn self.now.next (names_in loose) → AreUncited s loose
+            → IfOk result (λ step. IsStep s loose (froze s self.now.next (self.now.next + 1)) loose [] step) }
     {
-        if MAX_PLACE <= self.manifest.next + 1 {
+        if MAX_PLACE <= self.next + 1 {
             return Err(Refused::Exhausted { last: MAX_PLACE });
         }
         match self.freeze_step(alloc) {
@@ -47,15 +50,15 @@ impl State {
     }
 
     fn freeze_step(&self, alloc: Global) -> Result<Step, NoMemory>
-        requires { self.now.manifest.next + 1 < max_place }
-        ensures objects { IfOk result (λ step. step.objects.items ≡ empty_segment self.now.manifest.next ∷ []) }
+        requires { self.now.next + 1 < max_place }
+        ensures objects { IfOk result (λ step. step.objects.items ≡ empty_segment self.now.next ∷ []) }
         ensures level { IfOk result (λ step. step.level ≡ 0) }
         ensures merged { IfOk result (λ step. step.merged.items ≡ []) }
         ensures manifest { IfOk result (λ step. step.manifest ≡ freezing_manifest self.now) }
         ensures gone { IfOk result (λ step. step.gone.items ≡ []) }
     {
         let mut objects = Vec::new(alloc);
-        objects.push(segment_object(alloc, self.manifest.next)?)?;
+        objects.push(segment_object(alloc, self.next)?)?;
         Ok(Step {
             objects,
             level: 0,
@@ -67,10 +70,10 @@ impl State {
 
     /// The manifest that cites an empty segment behind the active one.
     fn freezing_manifest(&self, alloc: Global) -> Result<Manifest, NoMemory>
-        requires { self.now.manifest.next + 1 < max_place }
+        requires { self.now.next + 1 < max_place }
         ensures { IfOk result (λ manifest. manifest ≡ freezing_manifest self.now) }
     {
-        let segment = self.manifest.next;
+        let segment = self.next;
         let mut segments = self.manifest.segments.items().to_vec(alloc)?;
         segments.push(segment)?;
         Ok(Manifest {
@@ -97,6 +100,7 @@ impl State {
     {
         let active = std::mem::replace(&mut self.active, VecBuffer::new(alloc));
         self.frozen = Some(active);
+        self.next = step.manifest.next;
         self.manifest = step.manifest;
         self.records = 0;
         self.end = FIRST_GATE;

@@ -23,6 +23,8 @@ pub(crate) const FIRST_GATE: u64 = 11;
 pub struct State {
     /// The manifest that counts.
     pub manifest: Manifest,
+    /// The first object number that hasn't been drawn since. A job draws numbers before a manifest tells of them.
+    pub next: u64,
     /// How many changes there were. One that failed counts.
     pub count: u64,
     /// The erases that are still to be carried out, by their places.
@@ -53,6 +55,7 @@ impl State {
         let pending = List::of(manifest.erases.items().to_vec(alloc)?);
         Ok(State {
             count: manifest.count,
+            next: manifest.next,
             manifest,
             pending,
             active: VecBuffer::new(alloc),

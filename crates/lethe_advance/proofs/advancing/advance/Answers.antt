@@ -12,18 +12,18 @@ place_all-requires-after_bounds g c κs within = λ told.
     let asked = c.requires.step told in
     let s = asked.0 in
     let t = asked.1 in
-    let settled = asked.2 in
-    let only = asked.3 in
-    let is = asked.4 in
+    let loose = asked.2 in
+    let left = asked.3 in
+    let may = asked.4 in
     let s0 = g.D.Disk.seen c.args.disk.now in
     let headers = c.args.headers.items in
     let step = c.args.step.now in
     let objects = c.deref.result.now in
     let same = c.deref.ensures.value in
-    absent_before s t headers step s0 settled only is objects same
+    absent_before s t loose left headers step s0 may objects same
 
 pub returns-in_err-place_all-clause-any_moment : goal.returns-in_err-place_all-clause-any_moment
-returns-in_err-place_all-clause-any_moment g c = λ told s t settled only is.
+returns-in_err-place_all-clause-any_moment g c = λ told s t loose left may.
     let s0 = g.D.Disk.seen c.args.disk.now in
     let headers = c.args.headers.items in
     let step = c.args.step.now in
@@ -31,16 +31,16 @@ returns-in_err-place_all-clause-any_moment g c = λ told s t settled only is.
     let same = c.deref.ensures.value in
     let s1 = g.D.Disk.seen c.place_all.new.disk in
     let placing = c.place_all.ensures.any_moment told in
-    place_moments s t headers step s0 settled only is objects same s1 placing
+    place_moments s t loose left headers step s0 may objects same s1 placing
 
 pub exchange-requires-clause-present : goal.exchange-requires-clause-present
 exchange-requires-clause-present g c κs within = λ told.
     let asked = c.requires.step told in
     let s = asked.0 in
     let t = asked.1 in
-    let settled = asked.2 in
-    let only = asked.3 in
-    let is = asked.4 in
+    let loose = asked.2 in
+    let left = asked.3 in
+    let may = asked.4 in
     let s0 = g.D.Disk.seen c.args.disk.now in
     let headers = c.args.headers.items in
     let step = c.args.step.now in
@@ -50,16 +50,16 @@ exchange-requires-clause-present g c κs within = λ told.
     let placing = c.place_all.ensures.any_moment told in
     let synced = c.in_ok-place_all.ensures.synced told in
     let done = c.in_ok-place_all.ensures.done told in
-    pages_placed s t headers step s0 settled only is objects same s1 placing synced done
+    pages_placed s t loose left headers step s0 may objects same s1 placing synced done
 
 pub exchange-requires-clause-free : goal.exchange-requires-clause-free
 exchange-requires-clause-free g c κs within = λ told.
     let asked = c.requires.step told in
     let s = asked.0 in
     let t = asked.1 in
-    let settled = asked.2 in
-    let only = asked.3 in
-    let is = asked.4 in
+    let loose = asked.2 in
+    let left = asked.3 in
+    let may = asked.4 in
     let s0 = g.D.Disk.seen c.args.disk.now in
     let headers = c.args.headers.items in
     let step = c.args.step.now in
@@ -69,16 +69,16 @@ exchange-requires-clause-free g c κs within = λ told.
     let placing = c.place_all.ensures.any_moment told in
     let synced = c.in_ok-place_all.ensures.synced told in
     let done = c.in_ok-place_all.ensures.done told in
-    (Some s.manifest.no, free_placed s t headers step s0 settled only is objects same s1 placing synced done)
+    (Some s.manifest.no, free_placed s t loose left headers step s0 may objects same s1 placing synced done)
 
 pub clear-requires-after_bounds : goal.clear-requires-after_bounds
 clear-requires-after_bounds g c κs within = λ told.
     let asked = c.requires.step told in
     let s = asked.0 in
     let t = asked.1 in
-    let settled = asked.2 in
-    let only = asked.3 in
-    let is = asked.4 in
+    let loose = asked.2 in
+    let left = asked.3 in
+    let may = asked.4 in
     let s0 = g.D.Disk.seen c.args.disk.now in
     let headers = c.args.headers.items in
     let step = c.args.step.now in
@@ -89,16 +89,16 @@ clear-requires-after_bounds g c κs within = λ told.
     let synced = c.in_ok-place_all.ensures.synced told in
     let done = c.in_ok-place_all.ensures.done told in
     let s2 = g.D.Disk.seen c.exchange.new.disk in
-    let free = free_placed s t headers step s0 settled only is objects same s1 placing synced done in
+    let free = free_placed s t loose left headers step s0 may objects same s1 placing synced done in
     let exchanging = c.exchange.ensures.any_moment told (Some s.manifest.no) free in
     let new = c.in-Ok.ensures.new told in
     let switched_is = c.in-Ok.ensures.done told (Some s.manifest.no) free in
     let gone = c.deref-in-Ok.result.now in
     let gone_is = c.deref-in-Ok.ensures.value in
-    present_placed s t headers step s0 settled only is objects same s1 placing synced done s2 exchanging new switched_is gone gone_is
+    present_placed s t loose left headers step s0 may objects same s1 placing synced done s2 exchanging new switched_is gone gone_is
 
 pub returns-in_err-clear-in-Ok-clause-any_moment : goal.returns-in_err-clear-in-Ok-clause-any_moment
-returns-in_err-clear-in-Ok-clause-any_moment g c = λ told s t settled only is.
+returns-in_err-clear-in-Ok-clause-any_moment g c = λ told s t loose left may.
     let s0 = g.D.Disk.seen c.args.disk.now in
     let headers = c.args.headers.items in
     let step = c.args.step.now in
@@ -109,7 +109,7 @@ returns-in_err-clear-in-Ok-clause-any_moment g c = λ told s t settled only is.
     let synced = c.in_ok-place_all.ensures.synced told in
     let done = c.in_ok-place_all.ensures.done told in
     let s2 = g.D.Disk.seen c.exchange.new.disk in
-    let free = free_placed s t headers step s0 settled only is objects same s1 placing synced done in
+    let free = free_placed s t loose left headers step s0 may objects same s1 placing synced done in
     let exchanging = c.exchange.ensures.any_moment told (Some s.manifest.no) free in
     let new = c.in-Ok.ensures.new told in
     let switched_is = c.in-Ok.ensures.done told (Some s.manifest.no) free in
@@ -117,16 +117,16 @@ returns-in_err-clear-in-Ok-clause-any_moment g c = λ told s t settled only is.
     let gone_is = c.deref-in-Ok.ensures.value in
     let s3 = g.D.Disk.seen c.clear.new.disk in
     let clearing = c.clear.ensures.any_moment told in
-    clear_moments s t headers step s0 settled only is objects same s1 placing synced done s2 exchanging new switched_is gone gone_is s3 clearing
+    clear_moments s t loose left headers step s0 may objects same s1 placing synced done s2 exchanging new switched_is gone gone_is s3 clearing
 
 pub take_back-requires-after_bounds : goal.take_back-requires-after_bounds
 take_back-requires-after_bounds g c κs within = λ told.
     let asked = c.requires.step told in
     let s = asked.0 in
     let t = asked.1 in
-    let settled = asked.2 in
-    let only = asked.3 in
-    let is = asked.4 in
+    let loose = asked.2 in
+    let left = asked.3 in
+    let may = asked.4 in
     let s0 = g.D.Disk.seen c.args.disk.now in
     let headers = c.args.headers.items in
     let step = c.args.step.now in
@@ -137,13 +137,13 @@ take_back-requires-after_bounds g c κs within = λ told.
     let synced = c.in_ok-place_all.ensures.synced told in
     let done = c.in_ok-place_all.ensures.done told in
     let s2 = g.D.Disk.seen c.exchange.new.disk in
-    let free = free_placed s t headers step s0 settled only is objects same s1 placing synced done in
+    let free = free_placed s t loose left headers step s0 may objects same s1 placing synced done in
     let exchanging = c.exchange.ensures.any_moment told (Some s.manifest.no) free in
     let back = c.exchange.ensures.no_memory told (c.in-Err-NoMemory.is ∙ ap (λ e. Err e) c.in-Err-NoMemory.field-0-is) in
-    subst (λ l. ArePresent (map name_of l) s2.directory) (same ∙ sym c.deref-in-Err-NoMemory.ensures.value) (present_again s t headers step s0 settled only is objects same s1 placing synced done s2 exchanging back)
+    subst (λ l. ArePresent (map name_of l) s2.directory) (same ∙ sym c.deref-in-Err-NoMemory.ensures.value) (present_again s t loose left headers step s0 may objects same s1 placing synced done s2 exchanging back)
 
 pub returns-in_err-take_back-in-Err-NoMemory-clause-any_moment : goal.returns-in_err-take_back-in-Err-NoMemory-clause-any_moment
-returns-in_err-take_back-in-Err-NoMemory-clause-any_moment g c = λ told s t settled only is.
+returns-in_err-take_back-in-Err-NoMemory-clause-any_moment g c = λ told s t loose left may.
     let s0 = g.D.Disk.seen c.args.disk.now in
     let headers = c.args.headers.items in
     let step = c.args.step.now in
@@ -154,16 +154,16 @@ returns-in_err-take_back-in-Err-NoMemory-clause-any_moment g c = λ told s t set
     let synced = c.in_ok-place_all.ensures.synced told in
     let done = c.in_ok-place_all.ensures.done told in
     let s2 = g.D.Disk.seen c.exchange.new.disk in
-    let free = free_placed s t headers step s0 settled only is objects same s1 placing synced done in
+    let free = free_placed s t loose left headers step s0 may objects same s1 placing synced done in
     let exchanging = c.exchange.ensures.any_moment told (Some s.manifest.no) free in
     let back = c.exchange.ensures.no_memory told (c.in-Err-NoMemory.is ∙ ap (λ e. Err e) c.in-Err-NoMemory.field-0-is) in
     let s3 = g.D.Disk.seen c.take_back.new.disk in
     let as_placed = c.deref-in-Err-NoMemory.ensures.value ∙ sym same in
     let removing = subst (λ l. Leads (IsCleared (map name_of l)) s2 s3) as_placed (c.take_back.ensures.any_moment told) in
-    removal_moments s t headers step s0 settled only is objects same s1 placing synced done s2 exchanging back s3 removing
+    removal_moments s t loose left headers step s0 may objects same s1 placing synced done s2 exchanging back s3 removing
 
 pub returns-in_ok-clear-in-Ok-clause-any_moment : goal.returns-in_ok-clear-in-Ok-clause-any_moment
-returns-in_ok-clear-in-Ok-clause-any_moment g c = λ told s t settled only is.
+returns-in_ok-clear-in-Ok-clause-any_moment g c = λ told s t loose left may.
     let s0 = g.D.Disk.seen c.args.disk.now in
     let headers = c.args.headers.items in
     let step = c.args.step.now in
@@ -174,7 +174,7 @@ returns-in_ok-clear-in-Ok-clause-any_moment g c = λ told s t settled only is.
     let synced = c.in_ok-place_all.ensures.synced told in
     let done = c.in_ok-place_all.ensures.done told in
     let s2 = g.D.Disk.seen c.exchange.new.disk in
-    let free = free_placed s t headers step s0 settled only is objects same s1 placing synced done in
+    let free = free_placed s t loose left headers step s0 may objects same s1 placing synced done in
     let exchanging = c.exchange.ensures.any_moment told (Some s.manifest.no) free in
     let new = c.in-Ok.ensures.new told in
     let switched_is = c.in-Ok.ensures.done told (Some s.manifest.no) free in
@@ -182,10 +182,10 @@ returns-in_ok-clear-in-Ok-clause-any_moment g c = λ told s t settled only is.
     let gone_is = c.deref-in-Ok.ensures.value in
     let s3 = g.D.Disk.seen c.clear.new.disk in
     let clearing = c.clear.ensures.any_moment told in
-    clear_moments s t headers step s0 settled only is objects same s1 placing synced done s2 exchanging new switched_is gone gone_is s3 clearing
+    clear_moments s t loose left headers step s0 may objects same s1 placing synced done s2 exchanging new switched_is gone gone_is s3 clearing
 
 pub returns-in_ok-clear-in-Ok-clause-done : goal.returns-in_ok-clear-in-Ok-clause-done
-returns-in_ok-clear-in-Ok-clause-done g c = λ told s t settled only is.
+returns-in_ok-clear-in-Ok-clause-done g c = λ told s t loose left may.
     let s0 = g.D.Disk.seen c.args.disk.now in
     let headers = c.args.headers.items in
     let step = c.args.step.now in
@@ -196,7 +196,7 @@ returns-in_ok-clear-in-Ok-clause-done g c = λ told s t settled only is.
     let synced = c.in_ok-place_all.ensures.synced told in
     let done = c.in_ok-place_all.ensures.done told in
     let s2 = g.D.Disk.seen c.exchange.new.disk in
-    let free = free_placed s t headers step s0 settled only is objects same s1 placing synced done in
+    let free = free_placed s t loose left headers step s0 may objects same s1 placing synced done in
     let exchanging = c.exchange.ensures.any_moment told (Some s.manifest.no) free in
     let new = c.in-Ok.ensures.new told in
     let switched_is = c.in-Ok.ensures.done told (Some s.manifest.no) free in
@@ -205,10 +205,10 @@ returns-in_ok-clear-in-Ok-clause-done g c = λ told s t settled only is.
     let s3 = g.D.Disk.seen c.clear.new.disk in
     let clearing = c.clear.ensures.any_moment told in
     let here = (g.met.D.Disk g.world.𝓛 g.world.𝓜 g.world.𝓡 ((λ s x. x), (λ x. x), (λ x. x), λ x. x)).itself told c.exchange.new.disk in
-    settled_next s t headers step s0 settled only is objects same s1 placing synced done s2 exchanging new switched_is gone gone_is s3 clearing (c.in_ok-clear-in-Ok.ensures.done told) here (c.in_ok-clear-in-Ok.ensures.synced told)
+    settled_next s t loose left headers step s0 may objects same s1 placing synced done s2 exchanging new switched_is gone gone_is s3 clearing (c.in_ok-clear-in-Ok.ensures.done told) here (c.in_ok-clear-in-Ok.ensures.synced told)
 
 pub returns-in_ok-clear-in-Ok-clause-kept : goal.returns-in_ok-clear-in-Ok-clause-kept
-returns-in_ok-clear-in-Ok-clause-kept g c = λ told s t settled only is.
+returns-in_ok-clear-in-Ok-clause-kept g c = λ told s t loose left may.
     let s0 = g.D.Disk.seen c.args.disk.now in
     let headers = c.args.headers.items in
     let step = c.args.step.now in
@@ -219,7 +219,7 @@ returns-in_ok-clear-in-Ok-clause-kept g c = λ told s t settled only is.
     let synced = c.in_ok-place_all.ensures.synced told in
     let done = c.in_ok-place_all.ensures.done told in
     let s2 = g.D.Disk.seen c.exchange.new.disk in
-    let free = free_placed s t headers step s0 settled only is objects same s1 placing synced done in
+    let free = free_placed s t loose left headers step s0 may objects same s1 placing synced done in
     let exchanging = c.exchange.ensures.any_moment told (Some s.manifest.no) free in
     let new = c.in-Ok.ensures.new told in
     let switched_is = c.in-Ok.ensures.done told (Some s.manifest.no) free in
@@ -227,10 +227,10 @@ returns-in_ok-clear-in-Ok-clause-kept g c = λ told s t settled only is.
     let gone_is = c.deref-in-Ok.ensures.value in
     let s3 = g.D.Disk.seen c.clear.new.disk in
     let clearing = c.clear.ensures.any_moment told in
-    kept_next s t headers step s0 settled only is objects same s1 placing synced done s2 exchanging new switched_is gone gone_is s3 clearing (c.in_ok-clear-in-Ok.ensures.done told)
+    kept_next s t loose left headers step s0 may objects same s1 placing synced done s2 exchanging new switched_is gone gone_is s3 clearing (c.in_ok-clear-in-Ok.ensures.done told)
 
 pub returns-in_ok-clear-in-Ok-clause-files : goal.returns-in_ok-clear-in-Ok-clause-files
-returns-in_ok-clear-in-Ok-clause-files g c = λ told s t settled only is has.
+returns-in_ok-clear-in-Ok-clause-files g c = λ told s t loose left may has.
     let s0 = g.D.Disk.seen c.args.disk.now in
     let headers = c.args.headers.items in
     let step = c.args.step.now in
@@ -242,11 +242,11 @@ returns-in_ok-clear-in-Ok-clause-files g c = λ told s t settled only is has.
     let done = c.in_ok-place_all.ensures.done told in
     let old = parts_by_level c.args.version.now in
     let new = parts_by_level c.in-Ok.next in
-    let made = subst (λ added. AreLevelsWith step.merged.items step.level added old new) (opened_placed s t headers step s0 settled only is objects same s1 placing synced done) (c.in-Ok.ensures.files told) in
-    files_next s t headers step is old new has made
+    let made = subst (λ added. AreLevelsWith step.merged.items step.level added old new) (opened_placed s t loose left headers step s0 may objects same s1 placing synced done) (c.in-Ok.ensures.files told) in
+    files_next s t loose left headers step may.step_is old new has made
 
 pub returns-in-Err-Failed-clause-any_moment : goal.returns-in-Err-Failed-clause-any_moment
-returns-in-Err-Failed-clause-any_moment g c = λ told s t settled only is.
+returns-in-Err-Failed-clause-any_moment g c = λ told s t loose left may.
     let s0 = g.D.Disk.seen c.args.disk.now in
     let headers = c.args.headers.items in
     let step = c.args.step.now in
@@ -257,12 +257,12 @@ returns-in-Err-Failed-clause-any_moment g c = λ told s t settled only is.
     let synced = c.in_ok-place_all.ensures.synced told in
     let done = c.in_ok-place_all.ensures.done told in
     let s2 = g.D.Disk.seen c.exchange.new.disk in
-    let free = free_placed s t headers step s0 settled only is objects same s1 placing synced done in
+    let free = free_placed s t loose left headers step s0 may objects same s1 placing synced done in
     let exchanging = c.exchange.ensures.any_moment told (Some s.manifest.no) free in
-    exchange_moments s t headers step s0 settled only is objects same s1 placing synced done s2 exchanging
+    exchange_moments s t loose left headers step s0 may objects same s1 placing synced done s2 exchanging
 
 pub returns-in_ok-take_back-in-Err-NoMemory-clause-any_moment : goal.returns-in_ok-take_back-in-Err-NoMemory-clause-any_moment
-returns-in_ok-take_back-in-Err-NoMemory-clause-any_moment g c = λ told s t settled only is.
+returns-in_ok-take_back-in-Err-NoMemory-clause-any_moment g c = λ told s t loose left may.
     let s0 = g.D.Disk.seen c.args.disk.now in
     let headers = c.args.headers.items in
     let step = c.args.step.now in
@@ -273,22 +273,22 @@ returns-in_ok-take_back-in-Err-NoMemory-clause-any_moment g c = λ told s t sett
     let synced = c.in_ok-place_all.ensures.synced told in
     let done = c.in_ok-place_all.ensures.done told in
     let s2 = g.D.Disk.seen c.exchange.new.disk in
-    let free = free_placed s t headers step s0 settled only is objects same s1 placing synced done in
+    let free = free_placed s t loose left headers step s0 may objects same s1 placing synced done in
     let exchanging = c.exchange.ensures.any_moment told (Some s.manifest.no) free in
     let back = c.exchange.ensures.no_memory told (c.in-Err-NoMemory.is ∙ ap (λ e. Err e) c.in-Err-NoMemory.field-0-is) in
     let s3 = g.D.Disk.seen c.take_back.new.disk in
     let as_placed = c.deref-in-Err-NoMemory.ensures.value ∙ sym same in
     let removing = subst (λ l. Leads (IsCleared (map name_of l)) s2 s3) as_placed (c.take_back.ensures.any_moment told) in
-    removal_moments s t headers step s0 settled only is objects same s1 placing synced done s2 exchanging back s3 removing
+    removal_moments s t loose left headers step s0 may objects same s1 placing synced done s2 exchanging back s3 removing
 
 pub returns-in_ok-take_back-in-Err-NoMemory-clause-no_memory : goal.returns-in_ok-take_back-in-Err-NoMemory-clause-no_memory
 returns-in_ok-take_back-in-Err-NoMemory-clause-no_memory g c = λ told refused.
     let asked = c.requires.step told in
     let s = asked.0 in
     let t = asked.1 in
-    let settled = asked.2 in
-    let only = asked.3 in
-    let is = asked.4 in
+    let loose = asked.2 in
+    let left = asked.3 in
+    let may = asked.4 in
     let s0 = g.D.Disk.seen c.args.disk.now in
     let headers = c.args.headers.items in
     let step = c.args.step.now in
@@ -299,11 +299,11 @@ returns-in_ok-take_back-in-Err-NoMemory-clause-no_memory g c = λ told refused.
     let synced = c.in_ok-place_all.ensures.synced told in
     let done = c.in_ok-place_all.ensures.done told in
     let s2 = g.D.Disk.seen c.exchange.new.disk in
-    let free = free_placed s t headers step s0 settled only is objects same s1 placing synced done in
+    let free = free_placed s t loose left headers step s0 may objects same s1 placing synced done in
     let exchanging = c.exchange.ensures.any_moment told (Some s.manifest.no) free in
     let back = c.exchange.ensures.no_memory told (c.in-Err-NoMemory.is ∙ ap (λ e. Err e) c.in-Err-NoMemory.field-0-is) in
     let s3 = g.D.Disk.seen c.take_back.new.disk in
     let as_placed = c.deref-in-Err-NoMemory.ensures.value ∙ sym same in
     let removed = c.in_ok-take_back-in-Err-NoMemory.ensures.done told ∙ ap (λ l. remove_all (map name_of l) s2.directory) as_placed in
     let here = (g.met.D.Disk g.world.𝓛 g.world.𝓜 g.world.𝓡 ((λ s x. x), (λ x. x), (λ x. x), λ x. x)).itself told c.args.disk.now in
-    back_again s t headers step s0 settled only is objects same s1 placing synced done s2 exchanging back s3 here removed (c.in_ok-take_back-in-Err-NoMemory.ensures.synced told)
+    back_again s t loose left headers step s0 may objects same s1 placing synced done s2 exchanging back s3 here removed (c.in_ok-take_back-in-Err-NoMemory.ensures.synced told)

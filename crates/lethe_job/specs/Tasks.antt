@@ -1,0 +1,91 @@
+-- What a job is to do.
+use Rattle.std.specs.Prelude.{◌≡◌, ◌≤◌, ℕ, ◌+◌, Bool, IsTrue, List, [], ◌++◌, length, map, sum_by, All, Any, Contains, Some}
+use Rattle.lethe_base.specs.Shapes.{shape_of}
+use Rattle.lethe_base.specs.declared.config.Fields.{Fields}
+use Rattle.lethe_base.specs.declared.name.Name.{Name}
+use Rattle.lethe_base.specs.declared.pending.Pending.{Pending}
+use Rattle.lethe_disk.specs.declared.disk.Disk.{Ghosts}
+use Rattle.lethe_fade.specs.Choice.{choice}
+use Rattle.lethe_fade.specs.declared.plan.Plan.{Plan}
+use Rattle.lethe_file.specs.Agreement.{FileAgrees, page_name}
+use Rattle.lethe_follows.specs.Merged.{StoredMerge, IsAlone, IsMergeIn, hull_of, inputs_of}
+use Rattle.lethe_stored.specs.Files.{StoredFile, lines_in}
+use Rattle.lethe_stored.specs.Levels.{AreRising}
+use Rattle.lethe_stored.specs.Stored.{Stored, IsCoherent, count_of, layout_of, pending_of}
+use Rattle.lethe_version.specs.Versions.{bytes_of}
+use Rattle.lethe_job.specs.declared.filed.Filed.{Filed}
+use Rattle.lethe_job.specs.declared.task.Task.{Task}
+
+-- a file as it is stored
+abbrev pub plain_file : {D Page Port : Type 0} {disk : Ghosts D Page Port} → Filed D Page Port disk → StoredFile
+plain_file filed = record { level = filed.level; swept = filed.swept; header = filed.file.file.value.header; pages = bytes_of filed.file.file.value }
+
+-- a task, over files as they are stored
+pub record PlainTask : Type 0 where
+  pub plan : Plan
+  pub level : ℕ
+  pub sources : List StoredFile
+  pub met : List StoredFile
+  pub alone : Bool
+  pub erases : List Pending
+  pub upto : ℕ
+  pub config : Fields
+
+abbrev pub plain_task : {D Page Port : Type 0} {disk : Ghosts D Page Port} → Task D Page Port disk → PlainTask
+plain_task task = record {
+  plan = task.plan;
+  level = task.level;
+  sources = map plain_file task.sources.items;
+  met = map plain_file task.met.items;
+  alone = task.alone;
+  erases = task.erases;
+  upto = task.upto;
+  config = task.config;
+}
+
+abbrev pub inputs_in : PlainTask → List StoredFile
+inputs_in task = task.sources ++ task.met
+
+-- how many pages the files have
+abbrev pub pages_in : List StoredFile → ℕ
+pages_in files = sum_by (λ file. length (lines_in file)) files
+
+-- the pages of each file agree with its header
+abbrev pub AreSound : List StoredFile → Type 0
+AreSound files = All (λ file. FileAgrees file.header.tiles file.pages) files
+
+-- the name is one of the file's pages'
+abbrev pub HasPage : Name → StoredFile → Type 0
+HasPage name file = Any (λ line. name ≡ page_name line.no) (lines_in file)
+
+-- It merges files that are stored. Outputs that are alone have no file below them, as those of the last level always have; the erases are those
+-- that are pending, and the outputs don't count as swept further than there are changes.
+pub record IsTaskIn (s : Stored) (m : StoredMerge) (task : PlainTask) : Type 0 where
+  pub merge : IsMergeIn s m
+  pub level : task.level ≡ m.level
+  pub sources : task.sources ≡ m.sources
+  pub met : task.met ≡ m.met
+  pub clear : IsTrue task.alone → IsAlone s m.level (hull_of (inputs_of m))
+  pub bottom : m.level + 1 ≡ s.manifest.config.levels → IsTrue task.alone
+  pub erases : task.erases ≡ pending_of s
+  pub upto : task.upto ≤ count_of s
+  pub config : task.config ≡ s.manifest.config
+
+-- The task of the choice, where no other claim stands. Its plan names one of the sources, and of level 0 it merges all files.
+pub record IsBegunIn (s : Stored) (task : PlainTask) : Type 0 where
+  pub chosen : choice s.manifest.config (shape_of (layout_of s)) [] ≡ Some task.plan
+  pub m : StoredMerge
+  pub is : IsTaskIn s m task
+  pub named : Any (λ file. file.header.no ≡ task.plan.file) m.sources
+  pub all : m.level ≡ 0 → m.newer ≡ []
+  pub alone : IsAlone s m.level (hull_of (inputs_of m)) → IsTrue task.alone
+  pub counted : task.upto ≡ count_of s
+
+-- what is told of a store is what is stored
+pub record IsStore {D Page Port : Type 0} {disk : Ghosts D Page Port} (s : Stored) (files : List (Filed D Page Port disk)) (config : Fields) (erases : List Pending) (count : ℕ) : Type 0 where
+  pub coherent : IsCoherent s
+  pub rising : AreRising s.files
+  pub files_are : map plain_file files ≡ s.files
+  pub config_is : s.manifest.config ≡ config
+  pub erases_are : erases ≡ pending_of s
+  pub count_is : count ≡ count_of s

@@ -1,0 +1,14 @@
+//! A job: the merge that is due, what it makes of its inputs, and the pages that it writes.
+#![tactic(auto)]
+
+mod filed;
+mod job;
+mod laws;
+mod outcome;
+mod shape;
+mod task;
+
+pub use filed::{Filed, cited_files};
+pub use job::{Job, Piece};
+pub use laws::{shape_is_of_the_layout, task_stays};
+pub use task::{Task, next_task};
