@@ -1,12 +1,12 @@
 -- A draft after another is added to the files, and what they are together.
-use Rattle.std.proofs.Common.{◌≡◌, ◌≢◌, ◌⊎◌, inl, inr, ℕ, ◌+◌, ◌-◌, ◌<◌, ◌≤◌, List, [], ◌∷◌, ◌++◌, length, map, take, drop, All, AllPairs, Contains, IsPermutation, refl, sym, ap, ◌∙◌, subst, append_assoc, append-nil, length-append, length-take, length-drop, arith}
+use Rattle.std.proofs.Common.{◌≡◌, ◌≢◌, ◌⊎◌, inl, inr, ℕ, ◌+◌, ◌-◌, ◌<◌, ◌≤◌, List, [], ◌∷◌, ◌++◌, length, map, take, drop, All, Contains, IsPermutation, refl, sym, ap, ◌∙◌, subst, append_assoc, append-nil, length-append, length-drop, arith}
 use Rattle.std.specs.Prelude.{flat_map, sum_by}
 use Rattle.std.specs.List.{AllZip, range_with_len, zip}
 use Rattle.std.proofs.lemmas.List.{length-map, map-append, take-append-drop}
 use Rattle.std.proofs.lemmas.List.Concat.{flat_map-append}
-use Rattle.std.proofs.lemmas.List.Elements.{All-append, All-cons, All-contains, All-drop, All-head, All-map, All-nil, All-push, All-tail, All-take, All-weaker, Contains-append_cases}
+use Rattle.std.proofs.lemmas.List.Elements.{All-append, All-cons, All-contains, All-drop, All-head, All-nil, All-push, All-tail, All-take, All-weaker, Contains-append_cases}
 use Rattle.std.proofs.lemmas.List.FromFn.{length-range_with_len}
-use Rattle.std.proofs.lemmas.List.Sorted.{IsPermutation-append, IsPermutation-append_comm, IsPermutation-append_left, IsPermutation-append_right, IsPermutation-refl, IsPermutation-trans, IsPermutation-middle, IsPermutation-sym}
+use Rattle.std.proofs.lemmas.List.Sorted.{IsPermutation-append_comm, IsPermutation-append_left, IsPermutation-append_right, IsPermutation-refl, IsPermutation-trans, IsPermutation-middle, IsPermutation-sym}
 use Rattle.std.proofs.lemmas.List.Sums.{sum_by-cons}
 use Rattle.std.proofs.lemmas.Slice.Zip.{all_zipped_more, length-zip}
 use Rattle.lethe_advance.specs.Settled.{AreDrawn}
@@ -24,8 +24,8 @@ use Rattle.lethe_header.specs.Headers as headers
 use Rattle.lethe_header.specs.Headers.{header_bytes}
 use Rattle.lethe_header.specs.declared.header.PageLine.{PageLine}
 use Rattle.lethe_stored.specs.Files.{StoredFile, cited_of, file_name, lines_in, objects_in, objects_of}
-use Rattle.lethe_flush.specs.Added.{IsAdded, drawn_by, file_by, header_by, numbered, numbers_by, pages_by}
-use Rattle.lethe_flush.specs.Made.{AreFilesOf, IsOfDraft, named_of, pages_in, written_pages}
+use Rattle.lethe_flush.specs.Added.{IsAdded, file_by, header_by, numbers_by, pages_by}
+use Rattle.lethe_flush.specs.Made.{AreFilesOf, IsOfDraft, named_of, pages_in}
 use Rattle.lethe_flush.specs.declared.made.MadeFiles.{MadeFiles}
 use Rattle.lethe_flush.proofs.Clearness.{unmapped}
 use Rattle.lethe_flush.proofs.Numbers.{Differ, IsOther, Named, in_first, name_there, no_of, number_in, numbers_below, numbers_once, numbers_zip, others, pages_again, range_differs, range_from}
@@ -336,42 +336,42 @@ pages_few (draft ∷ drafts) = omega (arith, pages_few drafts, length-append dra
 module _ (all drafts rest : List Draft) (draft : Draft) (level upto : ℕ) (written left : List Name) (first : ℕ) (drawn : AreDrawn first written) (old : MadeFiles)
     (so_far : IsSoFar all drafts (draft ∷ rest) level upto written left first old)
   where
-  pub left_low : first ≤ max_place + 1 → All (λ name. name.no ≤ max_place) left
-  left_low fits = subst (All (λ (name : Name). name.no ≤ max_place)) (sym so_far.left_is) (All-drop (λ (name : Name). name.no ≤ max_place) (length (pages_in drafts)) written
-      (All-weaker (λ (name : Name). (name.kind ≡ Page) × (name.no < first)) (λ (name : Name). name.no ≤ max_place) (λ name is. omega (arith, is.1, fits)) written drawn.each))
+    pub left_low : first ≤ max_place + 1 → All (λ name. name.no ≤ max_place) left
+    left_low fits = subst (All (λ (name : Name). name.no ≤ max_place)) (sym so_far.left_is) (All-drop (λ (name : Name). name.no ≤ max_place) (length (pages_in drafts)) written
+        (All-weaker (λ (name : Name). (name.kind ≡ Page) × (name.no < first)) (λ (name : Name). name.no ≤ max_place) (λ name is. omega (arith, is.1, fits)) written drawn.each))
 
-  pub has_room : first + (sum_by numbers_for all - length written) ≤ max_place + 1 → length written ≤ sum_by numbers_for all → old.next + (length draft.pages - length left) ≤ max_place
-  has_room fits few = omega (arith, fits, few, so_far.next, so_far.few, pages_few rest, length-append draft.pages (pages_in rest), sum_by-cons numbers_for draft rest)
+    pub has_room : first + (sum_by numbers_for all - length written) ≤ max_place + 1 → length written ≤ sum_by numbers_for all → old.next + (length draft.pages - length left) ≤ max_place
+    has_room fits few = omega (arith, fits, few, so_far.next, so_far.few, pages_few rest, length-append draft.pages (pages_in rest), sum_by-cons numbers_for draft rest)
 
-  pub one_more : (new : MadeFiles) (then : List Name) → IsAdded (file_by level upto old.next draft left) (pages_by old.next draft left) old new → then ≡ drop (length draft.pages) left
-      → IsSoFar all (drafts ++ draft ∷ []) rest level upto written then first new
-  one_more new then added is = record {
-    whole = append_assoc drafts (draft ∷ []) rest ∙ so_far.whole;
-    files = so_far.files ++ file_by level upto old.next draft (drop (length (pages_in drafts)) written) ∷ [];
-    are = one_added drafts draft (All-head IsDraft draft rest so_far.each) level upto first written drawn old so_far.files so_far.are new
-        (subst (λ (left : List Name). IsAdded (file_by level upto old.next draft left) (pages_by old.next draft left) old new) so_far.left_is added);
-    left_is = is ∙ ap (drop (length draft.pages)) so_far.left_is ∙ sym (drop_parts written (pages_in drafts) draft.pages)
-        ∙ ap (λ (pages : List (List ℕ)). drop (length pages) written) (sym (flat-push (λ (d : Draft). d.pages) drafts draft));
-    each = All-tail IsDraft draft rest so_far.each;
-    few = omega (arith, so_far.few, ap length is, length-drop (length draft.pages) left, length-append draft.pages (pages_in rest));
-    next = omega (arith, so_far.next, so_far.few, added.next, ap length is, length-drop (length draft.pages) left, sum_by-cons numbers_for draft rest);
-    count = omega (
-      arith,
-      so_far.count,
-      added.next,
-      ap length added.objects,
-      length-map new.objects.items named_of,
-      length-map old.objects.items named_of,
-      length-append (map named_of old.objects.items) (objects ∷ pages_by old.next draft left),
-      length-zip (map page_name (range_with_len old.next (length (drop (length left) draft.pages)))) (drop (length left) draft.pages),
-      length-map (range_with_len old.next (length (drop (length left) draft.pages))) page_name,
-      length-range_with_len old.next (length (drop (length left) draft.pages)),
-      length-drop (length left) draft.pages,
-    );
-  }
-    where
-      objects : Named
-      objects = (file_name (header_by old.next draft left), header_bytes (file_by level upto old.next draft left).header)
+    pub one_more : (new : MadeFiles) (then : List Name) → IsAdded (file_by level upto old.next draft left) (pages_by old.next draft left) old new → then ≡ drop (length draft.pages) left
+        → IsSoFar all (drafts ++ draft ∷ []) rest level upto written then first new
+    one_more new then added is = record {
+      whole = append_assoc drafts (draft ∷ []) rest ∙ so_far.whole;
+      files = so_far.files ++ file_by level upto old.next draft (drop (length (pages_in drafts)) written) ∷ [];
+      are = one_added drafts draft (All-head IsDraft draft rest so_far.each) level upto first written drawn old so_far.files so_far.are new
+          (subst (λ (left : List Name). IsAdded (file_by level upto old.next draft left) (pages_by old.next draft left) old new) so_far.left_is added);
+      left_is = is ∙ ap (drop (length draft.pages)) so_far.left_is ∙ sym (drop_parts written (pages_in drafts) draft.pages)
+          ∙ ap (λ (pages : List (List ℕ)). drop (length pages) written) (sym (flat-push (λ (d : Draft). d.pages) drafts draft));
+      each = All-tail IsDraft draft rest so_far.each;
+      few = omega (arith, so_far.few, ap length is, length-drop (length draft.pages) left, length-append draft.pages (pages_in rest));
+      next = omega (arith, so_far.next, so_far.few, added.next, ap length is, length-drop (length draft.pages) left, sum_by-cons numbers_for draft rest);
+      count = omega (
+        arith,
+        so_far.count,
+        added.next,
+        ap length added.objects,
+        length-map new.objects.items named_of,
+        length-map old.objects.items named_of,
+        length-append (map named_of old.objects.items) (objects ∷ pages_by old.next draft left),
+        length-zip (map page_name (range_with_len old.next (length (drop (length left) draft.pages)))) (drop (length left) draft.pages),
+        length-map (range_with_len old.next (length (drop (length left) draft.pages))) page_name,
+        length-range_with_len old.next (length (drop (length left) draft.pages)),
+        length-drop (length left) draft.pages,
+      );
+    }
+      where
+        objects : Named
+        objects = (file_name (header_by old.next draft left), header_bytes (file_by level upto old.next draft left).header)
 
 pub begun : (all : List Draft) (level upto : ℕ) (written : List Name) (first : ℕ) (made : MadeFiles) → All IsDraft all → length written ≤ length (pages_in all)
     → made.headers.items ≡ [] → made.objects.items ≡ [] → made.cited.items ≡ [] → made.next ≡ first → IsSoFar all [] all level upto written written first made
@@ -388,6 +388,6 @@ begun all level upto written first made each few heads objects cites next = reco
 
 pub ended : (all drafts rest : List Draft) (level upto : ℕ) (written left : List Name) (first : ℕ) (made : MadeFiles) → AreDrawn first written → IsSoFar all drafts rest level upto written left first made → rest ≡ []
     → (files : List StoredFile) × AreFilesOf all level upto written first made files
-ended all drafts rest level upto written left first made drawn so_far none =
-    let whole : drafts ≡ all = sym (append-nil drafts) ∙ ap (λ (rest : List Draft). drafts ++ rest) (sym none) ∙ so_far.whole in
+ended all drafts behind level upto written names first made drawn so_far none =
+    let whole : drafts ≡ all = sym (append-nil drafts) ∙ ap (λ (behind : List Draft). drafts ++ behind) (sym none) ∙ so_far.whole in
     (so_far.files, subst (λ (drafts : List Draft). AreFilesOf drafts level upto written first made so_far.files) whole (all_added drafts level upto written first made so_far.files drawn so_far.are))

@@ -1,7 +1,7 @@
 -- What is promised of files that were made.
-use Rattle.std.proofs.Common.{◌≡◌, ◌≢◌, ℕ, ◌+◌, ◌<◌, ◌≤◌, Bool, inl, inr, List, [], ◌∷◌, length, get_or, map, All, AllPairs, sym, subst, arith}
+use Rattle.std.proofs.Common.{◌≡◌, ℕ, ◌<◌, ◌≤◌, Bool, List, [], ◌∷◌, get_or, All, sym, subst, arith}
 use Rattle.std.specs.Prelude.{flat_map}
-use Rattle.std.proofs.lemmas.List.Elements.{All-cons, All-map, All-nil, All-weaker}
+use Rattle.std.proofs.lemmas.List.Elements.{All-cons, All-map, All-nil}
 use Rattle.sha2.proofs.Facts256.{length-sha256}
 use Rattle.lethe_base.specs.Limits.{max_place}
 use Rattle.lethe_base.specs.declared.config.Fields.{Fields}
@@ -20,7 +20,7 @@ use Rattle.lethe_manifest.specs.Manifests as manifests
 use Rattle.lethe_manifest.specs.declared.manifest.Cited.{Cited}
 use Rattle.lethe_merge.specs.Merge.{merged}
 use Rattle.lethe_merge.proofs.Merges.{merged_ascends}
-use Rattle.lethe_stored.specs.Files.{StoredFile, IsFile, cited_of, lines_in}
+use Rattle.lethe_stored.specs.Files.{StoredFile, cited_of, lines_in}
 use Rattle.lethe_tile.proofs.Orders.{all_left, all_right}
 use Rattle.lethe_flush.specs.Flushed.{IsFlushOf}
 use Rattle.lethe_flush.specs.Made.{AreFilesOf}
@@ -51,25 +51,25 @@ module _ (drafts : List Draft) (level upto : ℕ) (written : List Name) (first :
 module _ (fields : Fields) (entries : List Entry) (erases : List Pending) (alone : Bool) (drafts : List Draft) (of : AreDraftsOf fields (merged entries erases alone) drafts) (upto first : ℕ) (made : MadeFiles) (files : List StoredFile)
     (are : AreFilesOf drafts 0 upto [] first made files)
   where
-  fresh : All (λ line. (first ≤ line.no) × (line.no < made.next)) (flat_map lines_in files)
-  fresh = λ k d lt. ⊎_elim (λ there. absurd (none_in (page_name (get_or (flat_map lines_in files) k d).no) there)) (λ is. is) (are.lines k d lt)
+    fresh : All (λ line. (first ≤ line.no) × (line.no < made.next)) (flat_map lines_in files)
+    fresh = λ k d lt. ⊎_elim (λ there. absurd (none_in (page_name (get_or (flat_map lines_in files) k d).no) there)) (λ is. is) (are.lines k d lt)
 
-  below : All (λ file. All (λ line. line.no < made.next) (lines_in file)) files
-  below = all_flat (λ (line : PageLine). line.no < made.next) lines_in files (λ k d lt. (fresh k d lt).1)
+    below : All (λ file. All (λ line. line.no < made.next) (lines_in file)) files
+    below = all_flat (λ (line : PageLine). line.no < made.next) lines_in files (λ k d lt. (fresh k d lt).1)
 
-  pub is_flush : IsFlushOf fields entries erases alone upto first made files
-  is_flush = record {
-    headers = are.headers_are;
-    cited = are.cited;
-    objects = are.objects;
-    new = record {
-      level = are.level_is;
-      each = λ k d lt. record { spelled = are.spelled k d lt; agrees = files_agree fields (merged entries erases alone) (merged_ascends entries erases alone) drafts of files are.each k d lt; below = below k d lt };
-      headers = are.headers_drawn;
-      lines = λ k d lt. (fresh k d lt).0;
-      files_once = λ i j d before within same. let up = are.headers_ascend i j d before within in omega (arith, up, same);
-      pages_once = are.lines_once;
-    };
-    woven = are_woven fields (merged entries erases alone) (merged_ascends entries erases alone) drafts of files are.each upto are.spelled are.swept;
-    once = are.once;
-  }
+    pub is_flush : IsFlushOf fields entries erases alone upto first made files
+    is_flush = record {
+      headers = are.headers_are;
+      cited = are.cited;
+      objects = are.objects;
+      new = record {
+        level = are.level_is;
+        each = λ k d lt. record { spelled = are.spelled k d lt; agrees = files_agree fields (merged entries erases alone) (merged_ascends entries erases alone) drafts of files are.each k d lt; below = below k d lt };
+        headers = are.headers_drawn;
+        lines = λ k d lt. (fresh k d lt).0;
+        files_once = λ i j d before within same. let up = are.headers_ascend i j d before within in omega (arith, up, same);
+        pages_once = are.lines_once;
+      };
+      woven = are_woven fields (merged entries erases alone) (merged_ascends entries erases alone) drafts of files are.each upto are.spelled are.swept;
+      once = are.once;
+    }

@@ -1,14 +1,13 @@
 -- Numbers of objects, which differ.
 use Rattle.std.proofs.Common.{◌≡◌, ◌≢◌, ℕ, zero, suc, ◌+◌, ◌<◌, ◌≤◌, List, [], ◌∷◌, ◌++◌, length, map, take, All, Contains, refl, sym, ap, ◌∙◌, subst, arith}
 use Rattle.std.specs.List.{range_with_len, zip}
-use Rattle.std.proofs.lemmas.List.Elements.{All-contains, All-contains_itself, All-head, All-map, All-tail, All-take, All-weaker}
+use Rattle.std.proofs.lemmas.List.Elements.{All-contains, All-contains_itself, All-head, All-map, All-tail, All-take}
 use Rattle.std.proofs.lemmas.List.FromFn.{length-range_with_len, get_or-range_with_len}
 use Rattle.lethe_advance.specs.Settled.{AreDrawn}
 use Rattle.lethe_base.specs.declared.name.Kind.TheVariants.{Page}
 use Rattle.lethe_base.specs.declared.name.Name.{Name}
-use Rattle.lethe_cover.proofs.Lists.{Pairs, all_from, map_from, pairs_from, pairs_map, pairs_unmap}
+use Rattle.lethe_cover.proofs.Lists.{Pairs, map_from, pairs_from, pairs_unmap}
 use Rattle.lethe_file.specs.Agreement.{page_name}
-use Rattle.lethe_stored.specs.Files.{file_name}
 
 abbrev pub Differ : ℕ → ℕ → Type 0
 Differ a b = a ≢ b
@@ -84,8 +83,8 @@ numbers_once first names drawn = by names drawn.each (pairs_from (λ a b. a ≢ 
         let own = (All-head (IsPage first) name names each).0 in
         let behind = All-tail (IsPage first) name names each in (
           (λ number there same.
-          let found = map_from number_in names number there in
-          pairs.0 found.0 found.1 (sym (page_again name own) ∙ ap page_name (same ∙ sym found.2) ∙ page_again found.0 (All-contains (IsPage first) names found.0 behind found.1).0)),
+              let found = map_from number_in names number there in
+              pairs.0 found.0 found.1 (sym (page_again name own) ∙ ap page_name (same ∙ sym found.2) ∙ page_again found.0 (All-contains (IsPage first) names found.0 behind found.1).0)),
           by names behind pairs.1,
         )
 

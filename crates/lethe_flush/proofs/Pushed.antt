@@ -1,10 +1,10 @@
 -- What is pushed of a draft that has numbers.
-use Rattle.std.proofs.Common.{◌≡◌, ℕ, ◌+◌, ◌-◌, ◌<◌, ◌≤◌, inl, inr, List, [], ◌∷◌, ◌++◌, length, map, min, take, drop, All, refl, sym, ap, ◌∙◌, subst, append_assoc, append-nil, length-append, length-take, take-append-drop, arith}
+use Rattle.std.proofs.Common.{◌≡◌, ℕ, ◌+◌, ◌-◌, ◌≤◌, inl, inr, List, [], ◌∷◌, ◌++◌, length, map, min, take, drop, All, sym, ap, ◌∙◌, subst, append_assoc, append-nil, length-append, length-take, take-append-drop, arith}
 use Rattle.std.specs.List.{range_with_len}
 use Rattle.std.proofs.Math.ListN.{drop_of_length-le}
 use Rattle.std.proofs.lemmas.Bool.{cases_lt}
 use Rattle.std.proofs.lemmas.List.{length-map}
-use Rattle.std.proofs.lemmas.List.Elements.{All-append, All-map, All-take, All-weaker}
+use Rattle.std.proofs.lemmas.List.Elements.{All-append, All-map, All-take}
 use Rattle.std.proofs.lemmas.List.FromFn.{length-range_with_len}
 use Rattle.lethe_cover.proofs.Lists.{all_from}
 use Rattle.lethe_base.specs.Limits.{max_place}
@@ -16,7 +16,6 @@ use Rattle.lethe_build.specs.declared.draft.Draft.{Draft}
 use Rattle.lethe_header.specs.Headers as headers
 use Rattle.lethe_header.specs.Headers.{header_bytes}
 use Rattle.lethe_header.specs.declared.header.Header.{Header}
-use Rattle.lethe_manifest.specs.declared.manifest.Cited.{Cited}
 use Rattle.lethe_stored.specs.Files.{file_name}
 use Rattle.lethe_flush.specs.Added.{IsAdded, file_by, header_by, numbered, numbers_by, pages_by}
 use Rattle.lethe_flush.specs.Made.{named_of}
@@ -66,28 +65,28 @@ module _ (draft : Draft) (next : ℕ) (written : List Name) (there : ℕ) (is : 
       (objects : map named_of new.objects.items ≡ (map named_of old.objects.items ++ (file_name file.header.no, file.header_bytes) ∷ []) ++ numbered next (drop there file.pages))
       (then : new.next ≡ file.header.no + 1)
     where
-    header_is : file.header ≡ header_of (header_by next draft written) (with_numbers (numbers_by next draft written) draft.tiles)
-    header_is =
-        let behind : number ≡ header_by next draft written = omega (arith, number_is, is) in
-        of.header ∙ (λ i. header_of (behind i) (with_numbers (same i) draft.tiles))
+      header_is : file.header ≡ header_of (header_by next draft written) (with_numbers (numbers_by next draft written) draft.tiles)
+      header_is =
+          let behind : number ≡ header_by next draft written = omega (arith, number_is, is) in
+          of.header ∙ (λ i. header_of (behind i) (with_numbers (same i) draft.tiles))
 
-    bytes_are : file.header_bytes ≡ header_bytes (header_of (header_by next draft written) (with_numbers (numbers_by next draft written) draft.tiles))
-    bytes_are = of.bytes ∙ ap header_bytes header_is
+      bytes_are : file.header_bytes ≡ header_bytes (header_of (header_by next draft written) (with_numbers (numbers_by next draft written) draft.tiles))
+      bytes_are = of.bytes ∙ ap header_bytes header_is
 
-    left : drop there file.pages ≡ drop (length written) draft.pages
-    left = ap (drop there) of.pages ∙ drop_min draft.pages (length written) there is
+      left : drop there file.pages ≡ drop (length written) draft.pages
+      left = ap (drop there) of.pages ∙ drop_min draft.pages (length written) there is
 
-    digest_is : file.digest ≡ sha256 (header_bytes (header_of (header_by next draft written) (with_numbers (numbers_by next draft written) draft.tiles)))
-    digest_is = of.digest ∙ ap sha256 bytes_are
+      digest_is : file.digest ≡ sha256 (header_bytes (header_of (header_by next draft written) (with_numbers (numbers_by next draft written) draft.tiles)))
+      digest_is = of.digest ∙ ap sha256 bytes_are
 
-    pub is_added : IsAdded (file_by level upto next draft written) (pages_by next draft written) old new
-    is_added = record {
-      spelled = subst headers.HasSpelling header_is of.has_spelling;
-      headers_are = heads ∙ ap (λ (h : Header). old.headers.items ++ h ∷ []) header_is;
-      cited = cites ∙ (λ i. old.cited.items ++ record { level = level; no = (header_is i).no; swept = upto; digest = digest_is i } ∷ []);
-      objects =
-          objects
-          ∙ append_assoc (map named_of old.objects.items) ((file_name file.header.no, file.header_bytes) ∷ []) (numbered next (drop there file.pages))
-          ∙ (λ i. map named_of old.objects.items ++ (file_name (header_is i).no, bytes_are i) ∷ numbered next (left i));
-      next = then ∙ ap (λ (h : Header). h.no + 1) header_is;
-    }
+      pub is_added : IsAdded (file_by level upto next draft written) (pages_by next draft written) old new
+      is_added = record {
+        spelled = subst headers.HasSpelling header_is of.has_spelling;
+        headers_are = heads ∙ ap (λ (h : Header). old.headers.items ++ h ∷ []) header_is;
+        cited = cites ∙ (λ i. old.cited.items ++ record { level = level; no = (header_is i).no; swept = upto; digest = digest_is i } ∷ []);
+        objects =
+            objects
+            ∙ append_assoc (map named_of old.objects.items) ((file_name file.header.no, file.header_bytes) ∷ []) (numbered next (drop there file.pages))
+            ∙ (λ i. map named_of old.objects.items ++ (file_name (header_is i).no, bytes_are i) ∷ numbered next (left i));
+        next = then ∙ ap (λ (h : Header). h.no + 1) header_is;
+      }

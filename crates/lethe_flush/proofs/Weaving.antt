@@ -1,5 +1,5 @@
 -- The files of drafts that were woven of entries are woven of them, as a layout has them.
-use Rattle.std.proofs.Common.{◌≡◌, ℕ, ◌+◌, ◌*◌, ◌-◌, ◌<◌, Bool, true, false, ◌&&◌, List, [], ◌∷◌, ◌++◌, length, get_or, map, take, drop, All, AllPairs, Contains, IsPermutation, refl, sym, ap, ◌∙◌, subst, arith}
+use Rattle.std.proofs.Common.{◌≡◌, ℕ, ◌+◌, ◌*◌, ◌-◌, ◌<◌, Bool, true, false, ◌&&◌, List, [], ◌∷◌, ◌++◌, length, get_or, map, take, drop, All, AllPairs, IsPermutation, refl, sym, ap, ◌∙◌, subst, arith}
 use Rattle.std.specs.Prelude.{flat_map}
 use Rattle.std.specs.List.{AllZip}
 use Rattle.std.specs.Ordering.{is_le}
@@ -28,7 +28,6 @@ use Rattle.lethe_build.proofs.Groups.{tiles_below}
 use Rattle.lethe_build.proofs.Numbering.{is_numbered_of}
 use Rattle.lethe_build.proofs.Whole.{key_there, parts_across, parts_all, tile_once}
 use Rattle.lethe_cover.proofs.Lists.{Pairs, flat_from, flat_in, pairs_from, pairs_to, pairs_unmap}
-use Rattle.lethe_fade.specs.Spans.{overlaps}
 use Rattle.lethe_file.specs.Agreement.{FileAgrees, entries_in}
 use Rattle.lethe_follows.specs.Woven.{AreWovenOf}
 use Rattle.lethe_follows.proofs.Tiled.{file_tiled}
@@ -39,7 +38,7 @@ use Rattle.lethe_header.specs.declared.header.TileLine.{TileLine}
 use Rattle.lethe_header.proofs.Follows.{follows_at}
 use Rattle.lethe_header.proofs.Lines.{are_tiles}
 use Rattle.lethe_mem.proofs.Places.{turned}
-use Rattle.lethe_moves.proofs.Common.{first_is, first_or_rest, ⊎_elim, none_in}
+use Rattle.lethe_moves.proofs.Common.{first_is}
 use Rattle.lethe_moves.specs.Files.{IsClearOf, IsTight, IsTiled, keys_of}
 use Rattle.lethe_moves.specs.Merges as merges
 use Rattle.lethe_stored.specs.Files.{StoredFile, IsFile, file_of, lines_in, tiles_of}

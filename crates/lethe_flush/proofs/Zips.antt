@@ -1,7 +1,6 @@
 -- Two lists item by item, where one is cut or comes in parts.
-use Rattle.std.proofs.Common.{◌≡◌, ℕ, suc, ◌+◌, ◌-◌, ◌≤◌, List, [], ◌∷◌, ◌++◌, length, map, take, drop, refl, sym, ap, ◌∙◌, arith}
-use Rattle.std.specs.List.{range_with_len, zip}
-use Rattle.std.proofs.lemmas.List.{length-map}
+use Rattle.std.proofs.Common.{◌≡◌, ℕ, List, [], ◌∷◌, ◌++◌, length, map, take, drop, refl, sym, ap, ◌∙◌}
+use Rattle.std.specs.List.{zip}
 use Rattle.lethe_base.specs.declared.name.Name.{Name}
 use Rattle.lethe_file.specs.Agreement.{page_name}
 use Rattle.lethe_header.specs.declared.header.PageLine.{PageLine}

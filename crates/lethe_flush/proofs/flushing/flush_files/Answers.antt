@@ -1,4 +1,4 @@
-use Rattle.std.proofs.Common.{ℕ, [], List}
+use Rattle.std.proofs.Common.{[], List}
 use Rattle.lethe_stored.specs.Files.{StoredFile}
 use Rattle.lethe_flush.specs.Flushed.{IsFlushOf}
 use Rattle.lethe_flush.specs.Made.{AreFilesOf}

@@ -1,13 +1,12 @@
-use Rattle.std.proofs.Common.{◌≡◌, ℕ, ◌+◌, ◌≤◌, List, [], ◌∷◌, length, rules, sum_by, sym, ap, subst, ◌∙◌, arith}
+use Rattle.std.proofs.Common.{◌≡◌, List, [], ◌∷◌, rules, sym, subst, arith}
 use Rattle.std.proofs.lemmas.List.{nil_from_length}
 use Rattle.lethe_build.specs.declared.draft.Draft.{Draft}
-use Rattle.lethe_build.specs.Drafts.{numbers_for}
 use Rattle.lethe_stored.specs.Files.{StoredFile}
-use Rattle.lethe_flush.specs.Made.{AreFilesOf, pages_in}
+use Rattle.lethe_flush.specs.Made.{AreFilesOf}
 use Rattle.lethe_flush.proofs.Adding.{IsSoFar, begun, ended, has_room, left_low, one_more, pages_few}
 use Rattle.lethe_flush.proofs.Finishing.{cited_level, cited_spelled, headers_spelled}
 use Rattle.lethe_flush.proofs.making.make_files.Goals as goal
-use Rattle.lethe_flush.proofs.making.make_files.Goals.{After-drop-draft-iterator-2, in-Some}
+use Rattle.lethe_flush.proofs.making.make_files.Goals.{After-drop-draft-iterator-2}
 
 pub loop-draft-init : goal.loop-draft-init
 loop-draft-init c =
