@@ -82,7 +82,7 @@ pub record StandsFor (config : Fields) (opened : Opened) (h : History) (disk : S
   pub begins : (added : History) × (h ≡ opened.history ++ added)
   pub later : opened.moment ≤ disk.moment
   pub images : (moment : ℕ) (c : Directory) → opened.moment ≤ moment → moment ≤ disk.moment → disk.left moment c → IsKeptFor opened.history h c
-  pub numbers : state.manifest.next + opened.began ≤ opened.next + disk.moment
+  pub numbers : state.next + opened.began ≤ opened.next + disk.moment
   pub since : opened.faults ≤ faults
   -- the counts with which changes failed since
   pub counts : All (λ change. HasCounts opened.faults faults change.did) begins.0

@@ -67,7 +67,7 @@ impl<D: Disk> Engine<D> {
             → self.old.state.stopped ≡ None → (caller : ℕ) → Goes (IsKeptOr h (written_by caller (call.Put key dkey value) result)) (D.seen self.old.disk) (D.seen self.new.disk) }
 
         // Numbers are drawn no faster than device calls are made.
-        ensures numbers { D.tells → self.new.state.manifest.next + (D.seen self.old.disk).moment ≤ self.old.state.manifest.next + (D.seen self.new.disk).moment }
+        ensures numbers { D.tells → self.new.state.next + (D.seen self.old.disk).moment ≤ self.old.state.next + (D.seen self.new.disk).moment }
         ensures faults { D.faults self.old.disk ≤ D.faults self.new.disk }
     {
         self.state.may_change()?;
@@ -113,7 +113,7 @@ impl<D: Disk> Engine<D> {
             → self.old.state.stopped ≡ None → (caller : ℕ) → Goes (IsKeptOr h (written_by caller (call.Delete key) result)) (D.seen self.old.disk) (D.seen self.new.disk) }
 
         // Numbers are drawn no faster than device calls are made.
-        ensures numbers { D.tells → self.new.state.manifest.next + (D.seen self.old.disk).moment ≤ self.old.state.manifest.next + (D.seen self.new.disk).moment }
+        ensures numbers { D.tells → self.new.state.next + (D.seen self.old.disk).moment ≤ self.old.state.next + (D.seen self.new.disk).moment }
         ensures faults { D.faults self.old.disk ≤ D.faults self.new.disk }
     {
         self.state.may_change()?;
@@ -147,7 +147,7 @@ impl<D: Disk> Engine<D> {
             × ((D.seen self.new.disk).directory ≡ with_record (D.seen self.old.disk).directory s next)) }
         ensures version { self.new.version ≡ self.old.version }
         ensures calls { D.tells → OnOk result ((D.seen self.new.disk).moment ≡ (D.seen self.old.disk).moment + 4) }
-        ensures numbers { D.tells → self.new.state.manifest.next + (D.seen self.old.disk).moment ≤ self.old.state.manifest.next + (D.seen self.new.disk).moment }
+        ensures numbers { D.tells → self.new.state.next + (D.seen self.old.disk).moment ≤ self.old.state.next + (D.seen self.new.disk).moment }
         ensures faults { D.faults self.old.disk ≤ D.faults self.new.disk }
     {
         let Ok((body, end)) = self.state.prepare(alloc, &next) else {

@@ -67,7 +67,7 @@ impl<D: Disk> Engine<D> {
 
         // Numbers are drawn no faster than device calls are made.
         ensures numbers { D.tells → IfOk result (λ engine. (next : ℕ) → IsNextNumber (D.seen disk).directory next
-            → engine.state.manifest.next + (D.seen disk).moment ≤ next + (D.seen engine.disk).moment) }
+            → engine.state.next + (D.seen disk).moment ≤ next + (D.seen engine.disk).moment) }
         ensures faults { MatchResult result (λ engine. D.faults disk ≤ D.faults engine.disk) (λ refused. D.faults disk ≤ D.faults refused.disk) }
     {
         match open(alloc, &mut disk, config) {

@@ -49,7 +49,7 @@ impl<D: Disk> Engine<D> {
         ensures why { IfErr result (HasReason self.old.state before (D.faults self.new.disk)) }
         ensures any_moment { D.tells → (config : Fields) (h : History) → StandsNow config h (D.seen self.old.disk) self.old.state (parts_by_level self.old.version)
             → Goes (λ c. IsKept c h) (D.seen self.old.disk) (D.seen self.new.disk) }
-        ensures numbers { D.tells → self.new.state.manifest.next + (D.seen self.old.disk).moment ≤ self.old.state.manifest.next + (D.seen self.new.disk).moment }
+        ensures numbers { D.tells → self.new.state.next + (D.seen self.old.disk).moment ≤ self.old.state.next + (D.seen self.new.disk).moment }
         ensures faults { D.faults self.old.disk ≤ D.faults self.new.disk }
     {
         if self.state.has_room() {
@@ -74,7 +74,7 @@ impl<D: Disk> Engine<D> {
         ensures why { IfErr result (HasReason self.old.state before (D.faults self.new.disk)) }
         ensures any_moment { D.tells → (config : Fields) (h : History) → StandsNow config h (D.seen self.old.disk) self.old.state (parts_by_level self.old.version)
             → Goes (λ c. IsKept c h) (D.seen self.old.disk) (D.seen self.new.disk) }
-        ensures numbers { D.tells → self.new.state.manifest.next + (D.seen self.old.disk).moment ≤ self.old.state.manifest.next + (D.seen self.new.disk).moment }
+        ensures numbers { D.tells → self.new.state.next + (D.seen self.old.disk).moment ≤ self.old.state.next + (D.seen self.new.disk).moment }
         ensures faults { D.faults self.old.disk ≤ D.faults self.new.disk }
     {
         if self.state.frozen.is_none() {
@@ -99,7 +99,7 @@ impl<D: Disk> Engine<D> {
         ensures why { IfErr result (HasReason self.old.state before (D.faults self.new.disk)) }
         ensures any_moment { D.tells → (config : Fields) (h : History) → StandsNow config h (D.seen self.old.disk) self.old.state (parts_by_level self.old.version)
             → Goes (λ c. IsKept c h) (D.seen self.old.disk) (D.seen self.new.disk) }
-        ensures numbers { D.tells → self.new.state.manifest.next + (D.seen self.old.disk).moment ≤ self.old.state.manifest.next + (D.seen self.new.disk).moment }
+        ensures numbers { D.tells → self.new.state.next + (D.seen self.old.disk).moment ≤ self.old.state.next + (D.seen self.new.disk).moment }
         ensures faults { D.faults self.old.disk ≤ D.faults self.new.disk }
     {
         let (headers, step) = self.state.flushing(alloc, &self.version)?;
@@ -125,7 +125,7 @@ impl<D: Disk> Engine<D> {
         ensures why { IfErr result (HasReason self.old.state before (D.faults self.new.disk)) }
         ensures any_moment { D.tells → (config : Fields) (h : History) → StandsNow config h (D.seen self.old.disk) self.old.state (parts_by_level self.old.version)
             → Goes (λ c. IsKept c h) (D.seen self.old.disk) (D.seen self.new.disk) }
-        ensures numbers { D.tells → self.new.state.manifest.next + (D.seen self.old.disk).moment ≤ self.old.state.manifest.next + (D.seen self.new.disk).moment }
+        ensures numbers { D.tells → self.new.state.next + (D.seen self.old.disk).moment ≤ self.old.state.next + (D.seen self.new.disk).moment }
         ensures faults { D.faults self.old.disk ≤ D.faults self.new.disk }
     {
         let step = self.state.freezing(alloc)?;
