@@ -28,7 +28,7 @@ newest_filed (file ∷ made) files newest =
     ap (λ b. cond b (file ∷ rest) rest) (eq-eqb file.level 0 (All-head (λ (file : StoredFile). file.level ≡ 0) file made newest))
     ∙ ap (λ l. file ∷ l) (newest_filed made files (All-tail (λ (file : StoredFile). file.level ≡ 0) file made newest))
 
-deeper_filed : (made files : List StoredFile) (level : ℕ) → 0 < level → AreNewest made → filter (λ (file : StoredFile). eqb file.level level) (made ++ files) ≡ filter (λ (file : StoredFile). eqb file.level level) files
+pub deeper_filed : (made files : List StoredFile) (level : ℕ) → 0 < level → AreNewest made → filter (λ (file : StoredFile). eqb file.level level) (made ++ files) ≡ filter (λ (file : StoredFile). eqb file.level level) files
 deeper_filed [] files level deep newest = refl
 deeper_filed (file ∷ made) files level deep newest =
     let rest = filter (λ (file : StoredFile). eqb file.level level) (made ++ files) in
@@ -54,6 +54,12 @@ levels_twice deepest newer older files are_newer are_older =
 
 -- The spelling of the files
 
+-- a number that is cited was drawn
+pub old_number : (s : Stored) → IsCoherent s → (file : StoredFile) → Contains s.files file → file.header.no < s.manifest.next
+old_number s coherent file there =
+    let cited : Contains s.manifest.files (cited_of file) = subst (λ (files : List Cited). Contains files (cited_of file)) (sym coherent.files) (in_map cited_of s.files file there) in
+    (All-contains (manifests.IsFile s.manifest.next s.manifest.config.levels) s.manifest.files (cited_of file) coherent.spelled.files.each cited).no
+
 module _ (s : Stored) (coherent : IsCoherent s) (made : List StoredFile) (last next : ℕ) (new : AreNewFiles s.manifest.next last made) (upto : last ≤ next) (risen : s.manifest.next ≤ next) where
   pub filed_cited : map cited_of made ++ s.manifest.files ≡ map cited_of (made ++ s.files)
   filed_cited = ap (λ l. map cited_of made ++ l) coherent.files ∙ sym (map-append cited_of made s.files)
@@ -63,17 +69,12 @@ module _ (s : Stored) (coherent : IsCoherent s) (made : List StoredFile) (last n
       (All-weaker (IsFile last) (IsFile next) (λ file is. file_later last next file upto is) made new.each)
       (All-weaker (IsFile s.manifest.next) (IsFile next) (λ file is. file_later s.manifest.next next file risen is) s.files coherent.each)
 
-  old_number : (file : StoredFile) → Contains s.files file → file.header.no < s.manifest.next
-  old_number file there =
-      let cited : Contains s.manifest.files (cited_of file) = subst (λ (files : List Cited). Contains files (cited_of file)) (sym coherent.files) (in_map cited_of s.files file there) in
-      (All-contains (manifests.IsFile s.manifest.next s.manifest.config.levels) s.manifest.files (cited_of file) coherent.spelled.files.each cited).no
-
   pub filed_once : AllPairs (λ a b. a.header.no ≢ b.header.no) (made ++ s.files)
   filed_once =
       let Apart : StoredFile → StoredFile → Type 0 = λ a b. a.header.no ≢ b.header.no in
       pairs_to Apart (made ++ s.files) (pairs_append Apart made s.files (pairs_from Apart made new.files_once) (pairs_from Apart s.files coherent.files_once) (λ a b left right same.
       let high = (All-contains (λ (file : StoredFile). (s.manifest.next ≤ file.header.no) × (file.header.no < last)) made a new.headers left).0 in
-      let low = old_number b right in
+      let low = old_number s coherent b right in
       omega (arith, high, low, same)))
 
   pub filed_pages : AllPairs (λ a b. a.no ≢ b.no) (flat_map lines_in (made ++ s.files))

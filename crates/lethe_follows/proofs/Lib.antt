@@ -4,3 +4,9 @@ pub mod Erases
 pub mod Filing
 pub mod Stepping
 pub mod Answering
+pub mod Permuted
+pub mod MergeLevels
+pub mod MergeFiles
+pub mod MergeRising
+pub mod Merging
+pub mod Staying

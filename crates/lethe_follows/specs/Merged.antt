@@ -2,9 +2,8 @@
 use Rattle.std.specs.Prelude.{◌≡◌, ◌≢◌, ◌⊎◌, ℕ, ◌+◌, ◌<◌, ◌≤◌, ◌==◌, Bool, IsTrue, List, [], ◌++◌, length, map, filter, flat_map, All, AllPairs, Contains, IsPermutation}
 use Rattle.std.specs.declared.cmp.Ordering.TheVariants.{Less}
 use Rattle.lethe_base.specs.Keys.{key_cmp}
-use Rattle.lethe_base.specs.Layout.{File, entries_of}
+use Rattle.lethe_base.specs.Layout.{entries_of}
 use Rattle.lethe_base.specs.declared.entry.Entry.{Entry}
-use Rattle.lethe_base.specs.declared.name.Name.{Name}
 use Rattle.lethe_base.specs.declared.pending.Pending.{Pending}
 use Rattle.lethe_fade.specs.Spans.{KeyRange, overlaps}
 use Rattle.lethe_file.specs.Agreement.{page_name}
