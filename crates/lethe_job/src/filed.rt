@@ -22,7 +22,7 @@ pub struct Filed<D: Disk> {
 }
 
 /// The files of a version that are cited so, in this order. A version that lacks one is not of the manifest, and answers as if there were no memory.
-pub fn filed<D: Disk>(
+pub fn cited_files<D: Disk>(
     alloc: Global,
     version: &Version<D>,
     cited: &[Cited],

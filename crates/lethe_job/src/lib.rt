@@ -3,10 +3,12 @@
 
 mod filed;
 mod job;
+mod laws;
 mod outcome;
 mod shape;
 mod task;
 
-pub use filed::{Filed, filed};
+pub use filed::{Filed, cited_files};
 pub use job::{Job, Piece};
+pub use laws::{shape_is_of_the_layout, task_stays};
 pub use task::{Task, next_task};
