@@ -99,6 +99,7 @@ impl State {
     fn is_short_for(&self, drafts: &[Draft]) -> bool
         ensures { IsTrue result ↔ (max_place ≤ self.now.next + sum_by numbers_for drafts.now) }
     {
+        // A sum past 2^64 is past the last number too.
         let mut next = self.next;
         for draft in drafts {
             next = next.saturating_add(draft.pages.items().len() as u64 + 1);
