@@ -1,5 +1,5 @@
 -- The drafts of a frozen buffer.
-use Rattle.std.proofs.Common.{◌≡◌, ◌≤◌, ℕ, ◌+◌, Bool, List, Option, Some, length, sym, subst, arith}
+use Rattle.std.proofs.Common.{◌≡◌, ◌≤◌, ◌+◌, Bool, List, Some, length, sym, subst, arith}
 use Rattle.std.specs.Prelude.{sum_by}
 use Rattle.lethe_base.specs.Limits.{max_place}
 use Rattle.lethe_build.specs.Built.{most_numbers}

@@ -1,4 +1,4 @@
-use Rattle.std.proofs.Common.{◌+◌, ◌<◌, ◌≤◌, append-nil, arith, IsTrue, List, Some, rules, ◌≡◌, map, length, All, refl, sym, ◌∙◌, subst}
+use Rattle.std.proofs.Common.{◌+◌, ◌<◌, ◌≤◌, append-nil, IsTrue, List, Some, rules, ◌≡◌, map, length, All, refl, sym, ◌∙◌, subst}
 use Rattle.std.specs.Prelude.{◌↔◌, sum_by}
 use Rattle.lethe_base.specs.Limits.{max_place}
 use Rattle.lethe_build.specs.Drafts.{numbers_for}
