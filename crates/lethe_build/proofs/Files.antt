@@ -1,17 +1,15 @@
--- The file of whole tiles: its header has a spelling, and its pages agree with it.
-use Rattle.std.proofs.Common.{◌≡◌, ℕ, ◌+◌, ◌≤◌, ◌<◌, true, Option, Some, None, List, [], ◌∷◌, ◌++◌, length, fold, map, take, drop, get_or, All, AllPairs, refl, ◌∙◌, ap, sym, subst, append-nil, arith}
+-- The draft of whole tiles: its header has a spelling, and its pages agree with it.
+use Rattle.std.proofs.Common.{◌≡◌, ℕ, true, Option, Some, None, List, [], ◌∷◌, ◌++◌, length, fold, map, take, drop, get_or, All, AllPairs, refl, ◌∙◌, ap, sym, subst, append-nil, arith}
 use Rattle.std.specs.Prelude.{IsTrue}
-use Rattle.std.specs.List.{AllZip, range_with_len}
+use Rattle.std.specs.List.{AllZip}
 use Rattle.std.specs.Ordering.{is_lt}
 use Rattle.std.specs.declared.cmp.Ordering.TheVariants.{Less}
 use Rattle.std.proofs.Math.Seq.{take-append_seam, drop-append_seam}
-use Rattle.std.proofs.lemmas.List.{length-map, map-append}
+use Rattle.std.proofs.lemmas.List.{map-append}
 use Rattle.std.proofs.lemmas.List.Elements.{All-append, All-head, All-nil, All-tail}
-use Rattle.sha2.specs.Sha256.{sha256}
 use Rattle.lethe_base.specs.Keys.{Bytes, key_cmp}
 use Rattle.lethe_base.specs.Layout as layout
 use Rattle.lethe_base.specs.declared.entry.Entry.{Entry}
-use Rattle.lethe_base.specs.Limits.{max_place}
 use Rattle.lethe_page.specs.Reading.{is_above}
 use Rattle.lethe_tile.proofs.Orders.{all_right, pairs_append}
 use Rattle.lethe_tile.specs.Woven.{plain}
@@ -19,17 +17,17 @@ use Rattle.lethe_tile.specs.declared.weaving.Tile.{Tile}
 use Rattle.lethe_tile.proofs.Pages.{going_all}
 use Rattle.lethe_tile.proofs.Parts.{empty_is}
 use Rattle.lethe_header.specs.Facts.{lines_of}
-use Rattle.lethe_header.specs.Headers.{EachFollows, HasSpelling, TileFollows, header_bytes, last_hi}
-use Rattle.lethe_header.specs.declared.header.Header.{Header}
+use Rattle.lethe_header.specs.Headers.{EachFollows, TileFollows, last_hi}
 use Rattle.lethe_header.specs.declared.header.PageLine.{PageLine}
 use Rattle.lethe_header.specs.declared.header.TileLine.{TileLine}
 use Rattle.lethe_file.specs.Agreement.{Agrees, FileAgrees, TilesHold, entries_in}
 use Rattle.lethe_file.proofs.Pages.{same_entries}
-use Rattle.lethe_build.specs.Built.{IsFileOf, IsToldBy, class_of, numbers_of, pages_of, spelled}
+use Rattle.lethe_build.specs.Built.{IsToldBy, class_of, pages_of, spelled}
+use Rattle.lethe_build.specs.Drafts.{IsDraftOf}
 use Rattle.lethe_build.specs.Parts.{IsBelow, IsGroup, IsLineOf, IsPage, IsTileLineOf, IsWhole}
 use Rattle.lethe_build.proofs.Follows.{zip_split}
-use Rattle.lethe_build.specs.declared.built.Built.{Built}
-use Rattle.lethe_build.proofs.Loops.{AreJoined, numbers_join}
+use Rattle.lethe_build.specs.declared.draft.Draft.{Draft}
+use Rattle.lethe_build.proofs.Loops.{AreJoined}
 use Rattle.lethe_build.proofs.TileLines.{line_holds, line_is_tile, same_len, tile_pages, zip_length}
 
 -- ---- the header
@@ -116,48 +114,30 @@ told_by (t ∷ ts) (l ∷ ls) zip whole =
 -- ---- a file whose tiles are all done
 
 -- the loop has ended
-pub all_done : (first : ℕ) (tiles rest : List Tile) (lines now : List TileLine) (pages : List (List ℕ)) → length rest ≡ 0 → now ≡ lines → AreJoined first (map plain tiles) (map plain rest) lines pages → AreJoined first (map plain tiles) [] now pages
-all_done first tiles rest lines now pages none same made =
-    subst (λ (ls : List TileLine). AreJoined first (map plain tiles) [] ls pages) (sym same)
-    (subst (λ (left : List Tile). AreJoined first (map plain tiles) (map plain left) lines pages) (empty_is rest none) made)
+pub all_done : (tiles rest : List Tile) (lines now : List TileLine) (pages : List (List ℕ)) → length rest ≡ 0 → now ≡ lines → AreJoined (map plain tiles) (map plain rest) lines pages → AreJoined (map plain tiles) [] now pages
+all_done tiles rest lines now pages none same made =
+    subst (λ (ls : List TileLine). AreJoined (map plain tiles) [] ls pages) (sym same)
+    (subst (λ (left : List Tile). AreJoined (map plain tiles) (map plain left) lines pages) (empty_is rest none) made)
 
-module _ (of : List Tile) (header : Header) (pages : List (List ℕ)) (first : ℕ) (group : IsGroup (map plain of))
-    (fits : first + length (pages_of (map plain of)) ≤ max_place) (number : header.no ≡ first + length pages) (made : AreJoined first (map plain of) [] header.tiles pages) where
-  lines : AllZip IsTileLineOf (map plain of) header.tiles
-  lines = going_all IsTileLineOf (map plain of) header.tiles made.going
-
-  bytes : pages ≡ map spelled (pages_of (map plain of))
-  bytes = sym (append-nil pages) ∙ made.bytes
-
-  len : length pages ≡ length (pages_of (map plain of))
-  len = ap length bytes ∙ length-map (pages_of (map plain of)) spelled
-
-  pub header_spelled : HasSpelling header
-  header_spelled =
-      let so_many = zip_length IsTileLineOf (map plain of) header.tiles lines in
-      record {
-        no = omega (arith, number, len, fits);
-        some = omega (arith, so_many, group.some);
-        few = omega (arith, so_many, group.few);
-        tiles = tiles_follow (map plain of) header.tiles lines group.whole group.below;
-      }
-
-  module _ (header_bytes_of digest : List ℕ) where
-    abbrev file : Built
-    file = record { header = header; header_bytes = header_bytes_of; digest = digest; pages = pages }
-
-    pub is_file_of : header_bytes_of ≡ header_bytes header → digest ≡ sha256 header_bytes_of → IsFileOf (map plain of) file
-    is_file_of spelled_so hash = record {
-      lines = told_by (map plain of) header.tiles lines group.whole;
+-- all tiles have their lines
+pub is_draft_of : (tiles : List layout.Tile) (draft : Draft) → IsGroup tiles → AreJoined tiles [] draft.tiles draft.pages → IsDraftOf tiles draft
+is_draft_of tiles draft group made =
+    let lines : AllZip IsTileLineOf tiles draft.tiles = going_all IsTileLineOf tiles draft.tiles made.going in
+    let bytes : draft.pages ≡ map spelled (pages_of tiles) = sym (append-nil draft.pages) ∙ made.bytes in
+    let count : length draft.tiles ≡ length tiles = zip_length IsTileLineOf tiles draft.tiles lines in
+    let agree : FileAgrees draft.tiles draft.pages = file_agrees tiles draft.tiles draft.pages lines group.whole bytes in
+    record {
+      lines = told_by tiles draft.tiles lines group.whole;
       pages = bytes;
-      entries = ap (map entries_in) bytes ∙ pages_again (map plain of) group.whole;
-      agrees = file_agrees (map plain of) header.tiles pages lines group.whole bytes;
-      has_spelling = header_spelled;
-      bytes = spelled_so;
-      digest = hash;
+      entries = ap (map entries_in) bytes ∙ pages_again tiles group.whole;
+      agrees = agree;
+      is = record {
+        spelled = record {
+          no = omega arith;
+          some = omega (arith, count, group.some);
+          few = omega (arith, count, group.few);
+          tiles = tiles_follow tiles draft.tiles lines group.whole group.below;
+        };
+        paged = zip_length Agrees (lines_of draft.tiles) draft.pages agree.pages;
+      };
     }
-
-    pub file_numbers : numbers_of file ≡ range_with_len first (length (pages_of (map plain of)) + 1)
-    file_numbers =
-        numbers_join (map (λ l. l.no) (lines_of header.tiles)) (header.no ∷ []) first (length pages) header.no 1 made.numbers refl number
-        ∙ ap (λ (n : ℕ). range_with_len first (n + 1)) len

@@ -1,11 +1,11 @@
 -- The tiles of a weave are whole and ascend, and so do those of each file that they are cut into; and how many numbers they take.
-use Rattle.std.proofs.Common.{◌≡◌, ℕ, zero, suc, ◌+◌, ◌*◌, ◌-◌, ◌≤◌, ◌<◌, List, [], ◌∷◌, ◌++◌, length, get_or, All, AllPairs, refl, ◌∙◌, ap, sym, subst, length-append, arith}
+use Rattle.std.proofs.Common.{◌≡◌, ℕ, ◌*◌, ◌-◌, ◌≤◌, ◌<◌, List, [], ◌∷◌, ◌++◌, length, get_or, All, AllPairs, refl, ◌∙◌, ap, sym, subst, length-append, arith}
 use Rattle.std.specs.Prelude.{sum_by}
 use Rattle.std.specs.List.{AllZip}
 use Rattle.std.specs.declared.cmp.Ordering.TheVariants.{Less}
 use Rattle.std.proofs.Math.Nat.{one-le-mul}
 use Rattle.std.proofs.lemmas.List.Concat.{flat_map-append}
-use Rattle.std.proofs.lemmas.List.Elements.{All-append, All-cons, All-head, All-nil, All-tail}
+use Rattle.std.proofs.lemmas.List.Elements.{All-cons, All-head, All-nil, All-tail}
 use Rattle.std.proofs.lemmas.List.Kept.{AllPairs-cons}
 use Rattle.std.proofs.lemmas.List.Sums.{sum_by-cons}
 use Rattle.lethe_base.specs.Configuration.{IsConfig}
@@ -21,7 +21,7 @@ use Rattle.lethe_tile.proofs.Pages.{cut_some, parts_pairs, slices_ascend}
 use Rattle.lethe_build.specs.Built.{most_numbers, pages_of}
 use Rattle.lethe_build.specs.Parts.{IsBelow, IsGroup, IsPage, IsWhole}
 use Rattle.lethe_build.proofs.Files.{all_pages}
-use Rattle.lethe_build.proofs.Loops.{numbers_for}
+use Rattle.lethe_build.proofs.Loops.{group_numbers}
 use Rattle.lethe_build.proofs.Whole.{key_there, parts_all, parts_across, some_pages, tile_long}
 
 -- ---- the tiles of a weave
@@ -89,21 +89,21 @@ parts_few (part ∷ parts) some =
 page_some : (pages : List (List Entry)) → All IsPage pages → All (λ page. 0 < length page) pages
 page_some pages each k d lt = (each k d lt).has_spelling.some
 
-group_fits : (tiles : List layout.Tile) → IsGroup tiles → numbers_for tiles ≤ most_numbers (length (joined (pages_of tiles)))
+group_fits : (tiles : List layout.Tile) → IsGroup tiles → group_numbers tiles ≤ most_numbers (length (joined (pages_of tiles)))
 group_fits [] group = absurd (omega (arith, group.some))
 group_fits (t ∷ ts) group =
     let some = some_pages t (All-head IsWhole t ts group.whole) in
     let few = parts_few (pages_of (t ∷ ts)) (page_some (pages_of (t ∷ ts)) (all_pages (t ∷ ts) group.whole)) in
     omega (arith, some, few, length-append t.pages (pages_of ts))
 
-pub groups_fit : (groups : List (List layout.Tile)) → All IsGroup groups → sum_by numbers_for groups ≤ most_numbers (length (joined (pages_of (joined groups))))
+pub groups_fit : (groups : List (List layout.Tile)) → All IsGroup groups → sum_by group_numbers groups ≤ most_numbers (length (joined (pages_of (joined groups))))
 groups_fit [] each = omega arith
 groups_fit (g ∷ gs) each =
     let here = group_fits g (All-head IsGroup g gs each) in
     let rest = groups_fit gs (All-tail IsGroup g gs each) in
     let pages : pages_of (g ++ joined gs) ≡ pages_of g ++ pages_of (joined gs) = flat_map-append (λ (tile : layout.Tile). tile.pages) g (joined gs) in
     let entries : joined (pages_of (g ++ joined gs)) ≡ joined (pages_of g) ++ joined (pages_of (joined gs)) = ap joined pages ∙ flat_map-append (λ (page : List Entry). page) (pages_of g) (pages_of (joined gs)) in
-    omega (arith, here, rest, sum_by-cons numbers_for g gs, ap length entries, length-append (joined (pages_of g)) (joined (pages_of (joined gs))))
+    omega (arith, here, rest, sum_by-cons group_numbers g gs, ap length entries, length-append (joined (pages_of g)) (joined (pages_of (joined gs))))
 
 tiles_long : (page : ℕ) (slices : List (List Entry)) (tiles : List layout.Tile) → AllZip (IsTile page) slices tiles → length (joined (pages_of tiles)) ≡ length (joined slices)
 tiles_long page [] [] zip = refl
@@ -144,7 +144,7 @@ module _ (fields : Fields) (entries : List Entry) (tiles : List layout.Tile) (gr
     below = parts_pairs IsBelow groups (subst (AllPairs IsBelow) (sym consecutive) below) k d lt;
   }
 
-  pub numbers_fit : sum_by numbers_for groups ≤ most_numbers (length entries)
+  pub numbers_fit : sum_by group_numbers groups ≤ most_numbers (length entries)
   numbers_fit =
       let same : length (joined (pages_of (joined groups))) ≡ length (joined (pages_of tiles)) = ap (λ (ts : List layout.Tile). length (joined (pages_of ts))) consecutive in
       omega (arith, groups_fit groups are_groups, same, tiles_long fields.page woven.slices tiles woven.each, ap length woven.consecutive)

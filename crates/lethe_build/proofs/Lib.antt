@@ -6,3 +6,4 @@ pub mod TileLines
 pub mod Loops
 pub mod Files
 pub mod Groups
+pub mod Numbering

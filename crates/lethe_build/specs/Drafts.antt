@@ -1,9 +1,8 @@
 -- Files that have no numbers yet, and what they are once they have them.
-use Rattle.std.specs.Prelude.{◌≡◌, ℕ, ◌+◌, ◌≤◌, List, [], ◌∷◌, length, map, zip, take, drop}
+use Rattle.std.specs.Prelude.{◌≡◌, ℕ, ◌+◌, List, [], ◌∷◌, length, map, zip, take, drop}
 use Rattle.std.specs.List.{AllZip}
 use Rattle.sha2.specs.Sha256.{sha256}
 use Rattle.lethe_base.specs.Layout as layout
-use Rattle.lethe_base.specs.Limits.{max_place}
 use Rattle.lethe_base.specs.declared.config.Fields.{Fields}
 use Rattle.lethe_base.specs.declared.entry.Entry.{Entry}
 use Rattle.lethe_tile.specs.Woven.{joined, IsCut, IsWoven}
@@ -27,7 +26,7 @@ with_numbers numbers (tile ∷ tiles) =
     record tile { pages = map with_number (zip (take (length tile.pages) numbers) tile.pages) } ∷ with_numbers (drop (length tile.pages) numbers) tiles
 
 abbrev pub header_of : ℕ → List TileLine → Header
-header_of no tiles = record { no = no; tiles = tiles }
+header_of number tiles = record { no = number; tiles = tiles }
 
 -- on any disk: its header has a spelling, and there is a page for each line
 pub record IsDraft (draft : Draft) : Type 0 where

@@ -73,20 +73,14 @@ pub fn line_of(
     Ok((line, keys))
 }
 
-/// The line and the bytes of the page of these entries, with this number.
-pub fn build_page(
-    alloc: Global,
-    no: u64,
-    entries: List<Entry>,
-) -> Result<(PageLine, List<u8>), NoMemory>
-    requires number { no ≤ max_place }
-    requires page { IsPage entries }
-    ensures number { IfOk result (λ page. page.0.no ≡ no) }
+/// The line and the bytes of the page of these entries, which has no number yet: 0 stands in its place.
+pub fn build_page(alloc: Global, entries: List<Entry>) -> Result<(PageLine, List<u8>), NoMemory>
+    requires { IsPage entries }
     ensures line { IfOk result (λ page. IsLineOf entries page.0) }
     ensures bytes { IfOk result (λ page. page.1 ≡ spelled entries) }
 {
     let entries = entries.into_vec();
     let bytes = write_page(alloc, class_of(&entries), &entries)?;
-    let (line, _) = line_of(alloc, no, entries, &bytes)?;
+    let (line, _) = line_of(alloc, 0, entries, &bytes)?;
     Ok((line, List::of(bytes)))
 }

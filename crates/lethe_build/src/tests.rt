@@ -1,5 +1,7 @@
-ghost use Rattle.std.specs.Prelude.{All, IfOk};
+ghost use Rattle.std.specs.Prelude.{◌≤◌, All, IfOk};
+ghost use Rattle.lethe_base.specs.Limits.{max_place};
 ghost use Rattle.lethe_base.specs.Spelling.{HasSpelling};
+ghost use Rattle.lethe_build.specs.Drafts.{IsDraft};
 
 use super::*;
 use lethe_base::{
@@ -84,14 +86,48 @@ fn entries_of(alloc: Global, row: &[&str]) -> Result<Vec<Entry>, Fail>
     Ok(entries)
 }
 
+/// The next number, which is taken.
+fn draw(next: &mut u64) -> Result<u64, Fail>
+    ensures { IfOk result (λ number. number ≤ max_place) }
+{
+    let number = *next;
+    if number <= MAX_PLACE {
+        *next = number + 1;
+        Ok(number)
+    } else {
+        Err("no number is left")?
+    }
+}
+
+/// The draft's file: its pages have the next numbers in their order, and its header the one behind them.
+fn number(alloc: Global, draft: Draft, next: &mut u64) -> Result<Built, Fail>
+    requires { IsDraft draft }
+{
+    let mut numbers = Vec::new(alloc);
+    while numbers.len() < draft.pages.items().len() {
+        numbers.push(draw(next)?)?;
+    }
+    let no = draw(next)?;
+    Ok(draft.numbered(alloc, &numbers, no)?)
+}
+
+/// The files of a row, numbered one after another from `first` on.
 fn build_row(alloc: Global, row: &[&str], config: &Config, first: u64) -> Result<Vec<Built>, Fail> {
     let entries = entries_of(alloc, row)?;
-    let most = most_numbers(&entries);
-    if is_ascending(&entries) && most <= MAX_PLACE && first <= MAX_PLACE - most {
-        Ok(build(alloc, entries, config, first)?)
-    } else {
-        Err("the keys don't ascend")?
+    if !is_ascending(&entries) || entries.len() > 9 {
+        Err("no row of a few keys that ascend")?;
     }
+    let drafts = drafts_of(alloc, entries, config)?;
+    let count = numbers_for(&drafts);
+    let mut next = first;
+    let mut files = Vec::new(alloc);
+    for draft in drafts {
+        files.push(number(alloc, draft, &mut next)?)?;
+    }
+    if next.checked_sub(first) != Some(count) {
+        Err("other numbers")?;
+    }
+    Ok(files)
 }
 
 /// Files as a text: of each the numbers of its pages, and behind `:` that of its header.
