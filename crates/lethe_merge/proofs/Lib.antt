@@ -7,3 +7,5 @@ pub mod Steps
 pub mod Skips
 pub mod Begins
 pub mod Settles
+pub mod Adds
+pub mod Gathers

@@ -60,7 +60,7 @@ newer-key entry (Some other) own = by (nat_lt entry.seq other.seq)
     by true = own
     by false = refl
 
-no_entries : entries (left_by_key []) ≡ []
+pub no_entries : entries (left_by_key []) ≡ []
 no_entries = nil_from_length (entries (left_by_key [])) (sym (len-entries (left_by_key [])) ∙ len-empty key_cmp Entry)
 
 pub keyed-left : (es : List Entry) → AreKeyed (entries (left_by_key es))

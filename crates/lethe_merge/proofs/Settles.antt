@@ -57,12 +57,12 @@ module _ (erases : List Pending) (alone : Bool) where
 
 -- It has a spelling
 
-earlier_some : (time other : Option ℕ) → is_some other ≡ true → IsSome (earlier time other)
+pub earlier_some : (time other : Option ℕ) → is_some other ≡ true → IsSome (earlier time other)
 earlier_some None other some = some
 earlier_some (Some time) None some = refl
 earlier_some (Some time) (Some other) some = refl
 
-earlier_time : (time other : Option ℕ) → IsTimeOrNone time → IsTimeOrNone other → IsTimeOrNone (earlier time other)
+pub earlier_time : (time other : Option ℕ) → IsTimeOrNone time → IsTimeOrNone other → IsTimeOrNone (earlier time other)
 earlier_time None other fits fits_other = fits_other
 earlier_time (Some time) None fits fits_other = fits
 earlier_time (Some time) (Some other) fits fits_other = omega arith
@@ -97,7 +97,7 @@ module _ (erases : List Pending) (times : All (λ erase. erase.time ≤ max_time
       by true = tt
       by false = spelled
 
-  struck_spelled : (entry : Entry) → HasSpelling entry → HasSpelling (struck erases entry)
+  pub struck_spelled : (entry : Entry) → HasSpelling entry → HasSpelling (struck erases entry)
   struck_spelled entry spelled = record {
     front = record {
       place = spelled.front.place;
@@ -108,7 +108,7 @@ module _ (erases : List Pending) (times : All (λ erase. erase.time ≤ max_time
     body = body_spelled entry.seq entry.body spelled.body;
   }
 
-  bared_spelled : (alone : Bool) (entry : Entry) → HasSpelling entry → IfSome (bared alone entry entry.body) HasSpelling
+  pub bared_spelled : (alone : Bool) (entry : Entry) → HasSpelling entry → IfSome (bared alone entry entry.body) HasSpelling
   bared_spelled alone entry spelled = by alone entry.body refl
     where
       by : (t : Bool) (body : Body) → entry.body ≡ body → IfSome (bared t entry body) HasSpelling

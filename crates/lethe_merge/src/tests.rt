@@ -86,6 +86,14 @@ fn is_row(entry: &Entry, row: &Row) -> bool {
     same && entry.seq == seq && entry.since == since && entry.key.bytes() == key.as_bytes()
 }
 
+fn are_rows(entries: &[Entry], rows: &[Row]) -> bool {
+    entries.len() == rows.len()
+        && entries
+            .iter()
+            .zip(rows)
+            .all(|(entry, row)| is_row(entry, row))
+}
+
 /// Whether the merger gives these entries and then twice none.
 fn gives(
     alloc: Global,
@@ -283,13 +291,7 @@ fn settles(
     entries.push(first)?;
     entries.push(second)?;
     let left = settle(alloc, entries, &erases_of(alloc, erases)?, alone)?;
-    Ok(
-        left.len() == wanted.len()
-            && left
-                .iter()
-                .zip(wanted)
-                .all(|(entry, row)| is_row(entry, row)),
-    )
+    Ok(are_rows(&left, wanted))
 }
 
 #[test]
@@ -317,5 +319,42 @@ fn one_list_is_settled(rt: HostRuntime) -> Result<(), Fail> {
             "row {place}"
         );
     }
+    Ok(())
+}
+
+/// Whether these entries are left of some in any order.
+fn gathers(
+    alloc: Global,
+    rows: &[Row],
+    erases: &[Erase],
+    alone: bool,
+    wanted: &[Row],
+) -> Result<bool, Fail> {
+    let mut entries = Vec::new(alloc);
+    for row in rows {
+        entries.push(entry_of(alloc, row)?)?;
+    }
+    let left = merge_entries(alloc, entries, &erases_of(alloc, erases)?, alone)?;
+    Ok(are_rows(&left, wanted))
+}
+
+#[test]
+fn entries_in_any_order_are_merged(rt: HostRuntime) -> Result<(), Fail> {
+    let alloc = rt.alloc();
+    let mixed: &[Row] = &[
+        ("b", 4, Some(3), Some(8)),
+        ("c", 6, None, Some(7)),
+        ("a", 5, Some(1), None),
+        ("b", 4, Some(2), Some(9)),
+        ("c", 2, Some(4), Some(6)),
+    ];
+    let merged: &[Row] = &[
+        ("a", 5, Some(1), None),
+        ("b", 4, Some(3), Some(8)),
+        ("c", 6, None, Some(6)),
+    ];
+    let struck: &[Row] = &[("b", 4, Some(3), None)];
+    assert!(rt; gathers(alloc, mixed, &[], false, merged)?);
+    assert!(rt; gathers(alloc, mixed, &[(6, 5, 1, 2)], true, struck)?);
     Ok(())
 }
