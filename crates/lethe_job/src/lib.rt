@@ -5,6 +5,7 @@ mod filed;
 mod job;
 mod laws;
 mod outcome;
+mod reading;
 mod shape;
 mod task;
 
