@@ -1,5 +1,5 @@
 -- The fence of a page: it has what bounds all delete keys of the page for its bounds.
-use Rattle.std.proofs.Common.{◌≡◌, ℕ, ◌≤◌, ◌<◌, ◌^◌, Option, Some, None, List, [], ◌∷◌, fold, All, refl, ◌∙◌, ap, sym, subst, arith}
+use Rattle.std.proofs.Common.{◌≡◌, ℕ, ◌≤◌, Option, Some, None, List, [], ◌∷◌, fold, All, refl, ◌∙◌, ap, sym, subst, arith}
 use Rattle.std.proofs.lemmas.List.Elements.{All-head, All-tail}
 use Rattle.lethe_base.specs.Spelling.{kind_of, BodyHasSpelling}
 use Rattle.lethe_base.specs.declared.entry.Body.{Body}

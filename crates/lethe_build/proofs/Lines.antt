@@ -1,5 +1,5 @@
 -- The line of a page.
-use Rattle.std.proofs.Common.{◌≡◌, ℕ, ◌+◌, ◌≤◌, ◌<◌, max, min, Option, Some, None, List, [], ◌∷◌, ◌++◌, length, fold, map, take, drop, get_or, All, refl, ◌∙◌, ap, sym, subst, arith}
+use Rattle.std.proofs.Common.{◌≡◌, ℕ, ◌+◌, ◌≤◌, ◌<◌, max, min, Option, Some, None, List, [], ◌∷◌, ◌++◌, length, fold, take, get_or, All, refl, ◌∙◌, ap, sym, subst, arith}
 use Rattle.std.proofs.lemmas.List.{length-map, take_more}
 use Rattle.std.proofs.lemmas.List.Elements.{All-head, All-tail}
 use Rattle.sha2.specs.Sha256.{sha256}
@@ -11,7 +11,7 @@ use Rattle.lethe_base.specs.declared.entry.Entry.{Entry}
 use Rattle.lethe_page.specs.Pages.{page_bytes, IsIn}
 use Rattle.lethe_page.specs.Pages as pages
 use Rattle.lethe_page.specs.declared.class.Class.{Class}
-use Rattle.lethe_header.specs.Headers.{IsFence, IsFilter, IsLine}
+use Rattle.lethe_header.specs.Headers.{IsFence}
 use Rattle.lethe_header.specs.declared.header.PageLine.{PageLine}
 use Rattle.lethe_file.specs.Agreement.{Agrees, IsFilterOf, entries_in, fence_of, keys_of}
 use Rattle.lethe_file.specs.Agreement as agreement

@@ -3,7 +3,7 @@ use Rattle.std.proofs.Common.{◌≡◌, ℕ, zero, suc, ◌+◌, ◌≤◌, ◌
 use Rattle.std.specs.Prelude.{IsTrue}
 use Rattle.std.specs.List.{AllZip}
 use Rattle.std.proofs.Math.Seq.{take-append_seam}
-use Rattle.std.proofs.lemmas.List.{length-map, map-append, take-append-drop}
+use Rattle.std.proofs.lemmas.List.{length-map, take-append-drop}
 use Rattle.std.proofs.lemmas.List.Elements.{All-drop, All-head, All-tail, All-take}
 use Rattle.std.proofs.lemmas.Slice.Zip.{length-zip}
 use Rattle.lethe_base.specs.Keys.{Bytes}
@@ -14,7 +14,7 @@ use Rattle.lethe_page.specs.Reading.{is_above}
 use Rattle.lethe_page.specs.declared.class.Class.{Class}
 use Rattle.lethe_page.specs.declared.class.Class.TheVariants.{Puts, Tombs}
 use Rattle.lethe_header.specs.Facts.{lines_of}
-use Rattle.lethe_header.specs.Headers.{EachFollows, HasRoomFor, HasSpelling, IsFrom, IsTile, LineFollows, TileFollows, dkey_then, entries_in, is_puts, last_dkey, last_hi, puts_in}
+use Rattle.lethe_header.specs.Headers.{EachFollows, HasRoomFor, HasSpelling, IsFrom, LineFollows, TileFollows, dkey_then, entries_in, is_puts, puts_in}
 use Rattle.lethe_header.specs.declared.header.PageLine.{PageLine}
 use Rattle.lethe_header.specs.declared.header.TileLine.{TileLine}
 use Rattle.lethe_file.specs.Agreement.{Agrees, FileAgrees, TileHolds, TilesHold}
@@ -74,11 +74,10 @@ told_again : (tiles : List layout.Tile) (numbers : List ℕ) (lines : List TileL
 told_again [] numbers [] told same = tt
 told_again [] numbers (l ∷ ls) told same = absurd told
 told_again (t ∷ ts) numbers [] told same = absurd told
-told_again (t ∷ ts) numbers (l ∷ ls) told same =
-    (
-      record { lo = told.0.lo; hi = told.0.hi; pages = numbered_length (take (length l.pages) numbers) l.pages (own_numbers numbers l ls same) ∙ told.0.pages },
-      told_again ts (drop (length l.pages) numbers) ls told.1 (other_numbers numbers l ls same),
-    )
+told_again (t ∷ ts) numbers (l ∷ ls) told same = (
+  record { lo = told.0.lo; hi = told.0.hi; pages = numbered_length (take (length l.pages) numbers) l.pages (own_numbers numbers l ls same) ∙ told.0.pages },
+  told_again ts (drop (length l.pages) numbers) ls told.1 (other_numbers numbers l ls same),
+)
 
 agrees_again : (number : ℕ) (line : PageLine) (bytes : List ℕ) → Agrees line bytes → Agrees (with_number (number, line)) bytes
 agrees_again number line bytes agrees = record {
@@ -107,8 +106,7 @@ tiles_again : (numbers : List ℕ) (lines : List TileLine) (pages : List (List E
 tiles_again numbers [] pages hold same = hold
 tiles_again numbers (l ∷ ls) pages hold same =
     let own = numbered (take (length l.pages) numbers) l.pages in
-    let long : length l.pages ≡ length own = sym (numbered_length (take (length l.pages) numbers) l.pages (own_numbers numbers l ls same)) in
-    (
+    let long : length l.pages ≡ length own = sym (numbered_length (take (length l.pages) numbers) l.pages (own_numbers numbers l ls same)) in (
       subst (λ (n : ℕ). TileHolds (record l { pages = own }) (take n pages)) long (holds_again l own (take (length l.pages) pages) hold.0),
       subst (λ (n : ℕ). TilesHold (with_numbers (drop (length l.pages) numbers) ls) (drop n pages)) long (tiles_again (drop (length l.pages) numbers) ls (drop (length l.pages) pages) hold.1 (other_numbers numbers l ls same)),
     )
@@ -189,8 +187,7 @@ record IsTileAgain (tile other : TileLine) : Type 0 where
 tiles_are_again : (numbers : List ℕ) (tiles : List TileLine) → All IsSmall numbers → length numbers ≡ length (lines_of tiles) → AllZip IsTileAgain tiles (with_numbers numbers tiles)
 tiles_are_again numbers [] small same = tt
 tiles_are_again numbers (t ∷ ts) small same =
-    let count = length t.pages in
-    (
+    let count = length t.pages in (
       record { pages = lines_are_again (take count numbers) t.pages (All-take IsSmall count numbers small) (own_numbers numbers t ts same); is = refl },
       tiles_are_again (drop count numbers) ts (All-drop IsSmall count numbers small) (other_numbers numbers t ts same),
     )

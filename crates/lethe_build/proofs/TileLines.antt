@@ -1,11 +1,11 @@
 -- The line of a whole tile keeps a header's rules, and its pages hold what it says.
-use Rattle.std.proofs.Common.{◌≡◌, ℕ, ◌+◌, ◌≤◌, ◌<◌, ◌^◌, true, false, cond, List, [], ◌∷◌, ◌++◌, Bool, ◌-◌, Some, length, not, get_or, All, AllPairs, refl, ◌∙◌, ap, sym, subst, length-append, arith}
+use Rattle.std.proofs.Common.{◌≡◌, ℕ, ◌≤◌, ◌<◌, true, false, cond, List, [], ◌∷◌, Bool, ◌-◌, Some, length, not, get_or, All, refl, ◌∙◌, ap, sym, subst, arith}
 use Rattle.std.specs.Prelude.{sum_by, count_by, filter}
 use Rattle.std.specs.List.{AllZip}
 use Rattle.std.specs.Ordering.{is_le, is_eq}
 use Rattle.std.proofs.lemmas.Bool.{true≢false}
 use Rattle.std.proofs.lemmas.List.Concat.{length-flat_map}
-use Rattle.std.proofs.lemmas.List.Elements.{All-append, All-cons, All-filter, All-nil, All-weaker, filter_passes}
+use Rattle.std.proofs.lemmas.List.Elements.{All-append, All-cons, All-filter, All-nil}
 use Rattle.std.proofs.lemmas.List.Kept.{AllPairs-filter}
 use Rattle.std.proofs.lemmas.List.Sorted.{All-permutation, length_permutation}
 use Rattle.std.proofs.lemmas.List.Sums.{count_by-le-length, get_or-le-sum_by, length-filter, sum_by-cons}
@@ -24,12 +24,12 @@ use Rattle.lethe_page.specs.Pages.{IsIn}
 use Rattle.lethe_page.specs.declared.class.Class.{Class}
 use Rattle.lethe_page.specs.declared.class.Class.TheVariants.{Puts, Tombs}
 use Rattle.lethe_tile.specs.Woven.{joined, key_at, page_of, puts_of, tombs_of}
-use Rattle.lethe_tile.proofs.Orders.{Across, HasLowerKey, HasOtherKey, ascending_from_pairs, pairs_from_ascending}
+use Rattle.lethe_tile.proofs.Orders.{HasLowerKey, ascending_from_pairs, pairs_from_ascending}
 use Rattle.lethe_tile.proofs.Pages.{cut_some}
 use Rattle.lethe_header.specs.Headers.{IsTile, entries_in, is_puts, puts_in}
 use Rattle.lethe_header.specs.declared.header.PageLine.{PageLine}
 use Rattle.lethe_header.specs.declared.header.TileLine.{TileLine}
-use Rattle.lethe_file.specs.Agreement.{HaveNoCommonKey, IsWithin, TileHolds}
+use Rattle.lethe_file.specs.Agreement.{TileHolds}
 use Rattle.lethe_file.proofs.Orders.{own_key}
 use Rattle.lethe_build.specs.Built.{class_of}
 use Rattle.lethe_build.specs.Parts.{IsPage, IsLineOf, IsTileLineOf, IsWhole}

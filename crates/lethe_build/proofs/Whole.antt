@@ -1,21 +1,21 @@
 -- What a tile that a configuration makes has: how many pages, in which order, and which keys.
-use Rattle.std.proofs.Common.{◌≡◌, ℕ, ◌+◌, ◌*◌, ◌-◌, zero, suc, ◌≤◌, ◌<◌, true, false, cond, not, Bool, List, [], ◌∷◌, ◌++◌, length, get_or, Some, All, AllPairs, IsPermutation, inl, inr, refl, ◌∙◌, ap, sym, subst, append-nil, length-append, arith}
-use Rattle.std.specs.Prelude.{IsTrue, count_by, filter, option_map}
-use Rattle.std.specs.Ordering.{is_le, is_eq, nat_cmp, ordering_then}
+use Rattle.std.proofs.Common.{◌≡◌, ℕ, ◌+◌, ◌*◌, ◌-◌, zero, suc, ◌≤◌, ◌<◌, true, false, cond, not, List, [], ◌∷◌, ◌++◌, length, get_or, Some, All, AllPairs, IsPermutation, inl, inr, refl, ◌∙◌, ap, sym, subst, append-nil, length-append, arith}
+use Rattle.std.specs.Prelude.{count_by, option_map}
+use Rattle.std.specs.Ordering.{is_le, ordering_then}
 use Rattle.std.specs.declared.cmp.Ordering.{Ordering}
 use Rattle.std.specs.declared.cmp.Ordering.TheVariants.{Less, Greater}
 use Rattle.std.specs.Cmp.{nat_cmp_is}
 use Rattle.std.proofs.Math.Nat.{mul-le-mul_left}
 use Rattle.std.proofs.lemmas.Bool.{cases_lt, cases_order}
 use Rattle.std.proofs.lemmas.List.Concat.{flat_map-append}
-use Rattle.std.proofs.lemmas.List.Elements.{All-nil, All-cons, All-head, All-tail, All-weaker, filter_passes}
+use Rattle.std.proofs.lemmas.List.Elements.{All-nil, All-cons, All-head, filter_passes}
 use Rattle.std.proofs.lemmas.List.Kept.{AllPairs-cons}
 use Rattle.std.proofs.lemmas.List.Sorted.{All-permutation, IsPermutation-append, IsPermutation-filter_both, IsPermutation-refl, IsPermutation-trans, length_permutation}
 use Rattle.std.proofs.lemmas.List.Filters.{length-filter_both}
 use Rattle.std.proofs.lemmas.List.Sums.{count_by-le-length, sum_by-append}
 use Rattle.std.proofs.lemmas.Option.{slice_get-get_or}
 use Rattle.lethe_base.specs.Entries.{IsAscending}
-use Rattle.lethe_base.specs.Keys.{Bytes, key_cmp, same_key}
+use Rattle.lethe_base.specs.Keys.{Bytes, key_cmp}
 use Rattle.lethe_base.specs.Layout as layout
 use Rattle.lethe_base.specs.Shapes.{is_tomb}
 use Rattle.lethe_base.specs.declared.entry.Body.{Body}
@@ -23,8 +23,8 @@ use Rattle.lethe_base.specs.declared.entry.Body.TheVariants.{Put, Tomb}
 use Rattle.lethe_base.specs.declared.entry.Entry.{Entry}
 use Rattle.lethe_page.specs.declared.class.Class.{Class}
 use Rattle.lethe_page.specs.declared.class.Class.TheVariants.{Puts, Tombs}
-use Rattle.lethe_tile.specs.Woven.{joined, ComesBefore, IsBelow, IsCut, IsTile, dkey_of, key_at, page_of, puts_of, tombs_of, weave_cmp}
-use Rattle.lethe_tile.proofs.Orders.{pairs_nil, pairs_append, all_left, all_right, Across, HasLowerKey, HasOtherKey, other_from_ascending, other_permuted, pairs_from_ascending, pairs_from_other}
+use Rattle.lethe_tile.specs.Woven.{joined, ComesBefore, IsBelow, IsCut, IsTile, dkey_of, key_at, page_of, puts_of, tombs_of}
+use Rattle.lethe_tile.proofs.Orders.{pairs_nil, pairs_append, all_left, all_right, Across, HasOtherKey, other_from_ascending, other_permuted, pairs_from_ascending, pairs_from_other}
 use Rattle.lethe_header.specs.Headers.{is_puts}
 use Rattle.lethe_file.proofs.Orders.{own_key}
 use Rattle.lethe_build.specs.Built.{class_of, class_of_body}

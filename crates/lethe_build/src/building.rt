@@ -1,4 +1,4 @@
-//! The files of a list of entries.
+//! The drafts of a list of entries.
 ghost use Rattle.std.specs.Prelude.{◌≡◌, ◌≤◌, length, sum_by, All, IfOk};
 ghost use Rattle.lethe_base.specs.Entries.{IsAscending};
 ghost use Rattle.lethe_base.specs.Spelling.{HasSpelling};

@@ -74,10 +74,7 @@ pub fn line_of(
 }
 
 /// The line and the bytes of the page of these entries, which has no number yet: 0 stands in its place.
-pub fn build_page(
-    alloc: Global,
-    entries: List<Entry>,
-) -> Result<(PageLine, List<u8>), NoMemory>
+pub fn build_page(alloc: Global, entries: List<Entry>) -> Result<(PageLine, List<u8>), NoMemory>
     requires { IsPage entries }
     ensures line { IfOk result (λ page. IsLineOf entries page.0) }
     ensures bytes { IfOk result (λ page. page.1 ≡ spelled entries) }

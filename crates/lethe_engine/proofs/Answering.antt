@@ -44,7 +44,7 @@ use Rattle.lethe_state.proofs.Leveled.{parts_from}
 use Rattle.lethe_state.specs.Remembered.{IsFrozenIn, Remembers}
 use Rattle.lethe_state.specs.declared.state.State.{State}
 use Rattle.lethe_engine.specs.Reads.{IsReadRefusal, listed, told_as}
-use Rattle.lethe_engine.specs.StandsFor.{StandsFor}
+use Rattle.lethe_engine.specs.StandsFor.{StandsNow}
 use Rattle.lethe_engine.proofs.Histories.{after_without}
 
 -- The files as readers have them
@@ -120,7 +120,7 @@ abbrev pub IsScanned : State → Option Buffered → List Pending → List (List
 IsScanned state older erases files lo hi pairs = (entries : List Entry) × AreReadBetween lo hi state.active.entries (frozen_entries (λ (buffer : Buffered). buffer.entries) older) files entries
     × (by_keys pairs ≡ pairs_of (merged entries erases true))
 
-module _ {D Page Port : Type 0} {kind : Ghosts D Page Port} (version : Version D Page Port kind) (config : Fields) (h : History) (seen : Seen) (state : State) (stands : StandsFor config h seen state (parts_by_level version)) where
+module _ {D Page Port : Type 0} {kind : Ghosts D Page Port} (version : Version D Page Port kind) (config : Fields) (h : History) (seen : Seen) (state : State) (stands : StandsNow config h seen state (parts_by_level version)) where
   pub stored_sound : All IsSound (files_of version)
   stored_sound = files_sound version stands.stored state stands.remembers
 

@@ -18,7 +18,7 @@ use Rattle.lethe_state.specs.Writable.{IsWritable}
 use Rattle.lethe_state.specs.declared.state.State.{State}
 use Rattle.lethe_engine.specs.Changes.{HasReason, refused_to}
 use Rattle.lethe_engine.specs.Sound.{IsRunning, IsSmall, IsSound}
-use Rattle.lethe_engine.specs.StandsFor.{StandsFor, retried}
+use Rattle.lethe_engine.specs.StandsFor.{StandsNow, retried}
 use Rattle.lethe_engine.specs.Steps.{IsHindered}
 use Rattle.lethe_engine.proofs.Standing.{left_at_end, moments_or, open_stands, stands_done, stands_for, stands_running, stopped_stands}
 use Rattle.lethe_engine.proofs.Likes.{halted_remembered, like_remembered, like_running, like_small}
@@ -98,23 +98,23 @@ module _ (Tells : Type 0) (old new : State) (start finish : Seen) (before now : 
   hindered_next (ReadFault b a) is = absurd is
   hindered_next (Damaged name) is = absurd is
 
-  module _ (config : Fields) (h : History) (levels : List (List Parts)) (stands : StandsFor config h start old levels) (runs : old.stopped ≡ None) where
+  module _ (config : Fields) (h : History) (levels : List (List Parts)) (stands : StandsNow config h start old levels) (runs : old.stopped ≡ None) where
     halted_stands : old.count < max_place → Goes (λ c. IsKept c h) start finish → Image finish finish.directory → (caller : ℕ) (call : Call) (b a : ℕ)
-        → StandsFor config (refused_to h caller call (Fault 0 b a)) finish (halted old) levels
+        → StandsNow config (refused_to h caller call (Fault 0 b a)) finish (halted old) levels
     halted_stands fits goes here caller call b a =
         let change : Change = record { caller = caller; call = call; did = Failed b a } in
         stopped_stands config h change b a finish stands.stored (halted old) levels stands.legal (stands_done config h start old levels stands runs) (subst (λ n. n < max_place) stands.count fits)
         refl (ap (λ n. n + 1) stands.count) (ap (λ n. Some (n + 1)) stands.count) (halted_remembered stands.stored old levels stands.remembers) stands.config_is
         (stands_for config h start old levels stands runs) (left_at_end h (retried change) start finish here (moments_or h (retried change) start finish goes))
 
-    pub back_stands : (Tells → (s : Stored) → IsRunning start s old → IsRunning finish s old) → Tells → StandsFor config h finish old levels
+    pub back_stands : (Tells → (s : Stored) → IsRunning start s old → IsRunning finish s old) → Tells → StandsNow config h finish old levels
     back_stands back told = open_stands config h finish stands.stored old levels stands.legal (stands_done config h start old levels stands runs) stands.count stands.remembers stands.config_is
         (stands_for config h start old levels stands runs) (back told stands.stored (stands_running config h start old levels stands runs))
 
     pub hindered_stands : Tells → old.count < max_place → Goes (λ c. IsKept c h) start finish → Image finish finish.directory → (caller : ℕ) (call : Call) (why : Refused)
-        → IsHindered Tells old new start finish before now why → StandsFor config (refused_to h caller call why) finish new levels
-    hindered_stands told fits goes here caller call (Fault place b a) is = subst (λ state. StandsFor config (refused_to h caller call (Fault place b a)) finish state levels) (sym is.4) (halted_stands fits goes here caller call b a)
-    hindered_stands told fits goes here caller call NoMemory is = subst (λ state. StandsFor config h finish state levels) (sym is.0) (back_stands (λ told s running. running_back start finish s old (is.1 told) running) told)
+        → IsHindered Tells old new start finish before now why → StandsNow config (refused_to h caller call why) finish new levels
+    hindered_stands told fits goes here caller call (Fault place b a) is = subst (λ state. StandsNow config (refused_to h caller call (Fault place b a)) finish state levels) (sym is.4) (halted_stands fits goes here caller call b a)
+    hindered_stands told fits goes here caller call NoMemory is = subst (λ state. StandsNow config h finish state levels) (sym is.0) (back_stands (λ told s running. running_back start finish s old (is.1 told) running) told)
     hindered_stands told fits goes here caller call (Stopped at) is = absurd is
     hindered_stands told fits goes here caller call (Backwards clock) is = absurd is
     hindered_stands told fits goes here caller call (Pinned pin limit) is = absurd is
@@ -137,8 +137,8 @@ like_sound Tells start finish old mid levels like back writable sound = record {
       (held.0, like_remembered held.0 old mid like levels held.1, λ runs. like_running finish held.0 old mid like (back told held.0 (held.2 (sym like.stopped ∙ runs))));
 }
 
-pub like_stands : (config : Fields) (h : History) (start finish : Seen) (old mid : State) (levels : List (List Parts)) → IsLike old mid → StandsFor config h start old levels → old.stopped ≡ None
-    → ((s : Stored) → IsRunning start s old → IsRunning finish s old) → StandsFor config h finish mid levels
+pub like_stands : (config : Fields) (h : History) (start finish : Seen) (old mid : State) (levels : List (List Parts)) → IsLike old mid → StandsNow config h start old levels → old.stopped ≡ None
+    → ((s : Stored) → IsRunning start s old → IsRunning finish s old) → StandsNow config h finish mid levels
 like_stands config h start finish old mid levels like stands runs back =
     open_stands config h finish stands.stored mid levels stands.legal (stands_done config h start old levels stands runs) (like.count ∙ stands.count) (like_remembered stands.stored old mid like levels stands.remembers) stands.config_is
     (stands_for config h start old levels stands runs) (like_running finish stands.stored old mid like (back stands.stored (stands_running config h start old levels stands runs)))

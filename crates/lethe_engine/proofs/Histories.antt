@@ -22,14 +22,14 @@ after_from s (change ∷ h) = one_more s change h change.did refl (λ st. after_
 pub after_without : (h : History) → after (without_failed h) ≡ after h
 after_without h = after_from _ h
 
-tail_done : (change : Change) (h : History) → AreDone (change ∷ h) → AreDone h
+pub tail_done : (change : Change) (h : History) → AreDone (change ∷ h) → AreDone h
 tail_done change h done zero other is = let clash : None ≡ Some other = is in cc
 tail_done change h done (suc place) other is = done (suc (suc place)) other is
 
-head_done : (change : Change) (h : History) → AreDone (change ∷ h) → change.did ≡ Done
+pub head_done : (change : Change) (h : History) → AreDone (change ∷ h) → change.did ≡ Done
 head_done change h done = done 1 change refl
 
-without_none : (h more : History) → AreDone h → without_failed (h ++ more) ≡ h ++ without_failed more
+pub without_none : (h more : History) → AreDone h → without_failed (h ++ more) ≡ h ++ without_failed more
 without_none [] more done = refl
 without_none (change ∷ h) more done =
     let rest = without_none h more (tail_done change h done) in

@@ -12,3 +12,5 @@ pub mod Next
 pub mod Recorded
 pub mod Roomed
 pub mod Overs
+pub mod Prefixes
+pub mod Onward

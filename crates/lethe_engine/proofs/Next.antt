@@ -21,7 +21,7 @@ use Rattle.lethe_state.specs.Writable.{IsWritable}
 use Rattle.lethe_state.specs.declared.state.State.{State}
 use Rattle.lethe_engine.specs.Changes.{refused_to}
 use Rattle.lethe_engine.specs.Sound.{IsRunning, IsSmall, IsSound}
-use Rattle.lethe_engine.specs.StandsFor.{StandsFor}
+use Rattle.lethe_engine.specs.StandsFor.{StandsNow}
 use Rattle.lethe_engine.proofs.Standing.{stands_for, stands_running}
 use Rattle.lethe_engine.proofs.Stepped.{stands_next}
 
@@ -37,7 +37,7 @@ module _ (P : Stored → Stored → Type 0) (old : State) (levels : List (List P
     (next_is : (s : Stored) → Remembers s old levels → IsCurrent s old → (t : Stored) × P s t × IsStep s t headers step)
     (stays : (h : History) (s t : Stored) → Remembers s old levels → IsFor h s → P s t → IsFor h t) where
   -- a crash at any moment leaves what stands for the history
-  pub next_moments : (config : Fields) (h : History) (stands : StandsFor config h start old levels) → old.stopped ≡ None
+  pub next_moments : (config : Fields) (h : History) (stands : StandsNow config h start old levels) → old.stopped ≡ None
       → ((s t : Stored) → IsRunning start s old → IsStep s t headers step → (h : History) → IsFor h s → IsFor h t → Goes (λ c. IsKept c h) start finish) → Goes (λ c. IsKept c h) start finish
   next_moments config h stands runs moments =
       let s = stands.stored in
@@ -65,7 +65,7 @@ module _ (P : Stored → Stored → Type 0) (old : State) (levels : List (List P
           (done.0, done.2, λ still. done.3);
     }
 
-    pub next_stands : Tells → (config : Fields) (h : History) → StandsFor config h start old levels → old.stopped ≡ None → new.count ≡ old.count → StandsFor config h finish new next
+    pub next_stands : Tells → (config : Fields) (h : History) → StandsNow config h start old levels → old.stopped ≡ None → new.count ≡ old.count → StandsNow config h finish new next
     next_stands told config h stands runs count =
         let s = stands.stored in
         let running = stands_running config h start old levels stands runs in

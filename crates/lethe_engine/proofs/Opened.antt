@@ -1,5 +1,5 @@
 -- A store that was opened.
-use Rattle.std.proofs.Common.{◌≡◌, ◌⊎◌, inl, inr, ℕ, List, [], length, Option, refl, sym, ap, ◌∙◌, subst, arith}
+use Rattle.std.proofs.Common.{◌≡◌, ◌≤◌, ◌+◌, ◌⊎◌, inl, inr, ℕ, List, [], length, Option, refl, sym, ap, ◌∙◌, subst, arith}
 use Rattle.lethe_base.specs.History.{History, Change}
 use Rattle.lethe_base.specs.declared.config.Fields.{Fields}
 use Rattle.lethe_disk.specs.Disk.{Seen}
@@ -8,7 +8,7 @@ use Rattle.lethe_commit.specs.Append.{EndsAt}
 use Rattle.lethe_load.specs.Refused.{HasReason}
 use Rattle.lethe_load.specs.declared.refused.RecoverRefused.{RecoverRefused}
 use Rattle.lethe_load.specs.declared.refused.RecoverRefused.TheVariants as load
-use Rattle.lethe_recover.specs.Opening.{MayNotOpen}
+use Rattle.lethe_recover.specs.Opening.{IsNextNumber, MayNotOpen}
 use Rattle.lethe_recover.specs.declared.opening.OpenWhy.{OpenWhy}
 use Rattle.lethe_recover.specs.declared.opening.OpenWhy.TheVariants.{Damaged, OtherConfig, Fault, Exhausted, NoMemory}
 use Rattle.lethe_stored.specs.Files.{Parts}
@@ -22,6 +22,7 @@ use Rattle.lethe_state.specs.Room.{frozen_len}
 use Rattle.lethe_state.specs.declared.state.State.{State}
 use Rattle.lethe_engine.specs.Opening.{IsResumed, IsUntold}
 use Rattle.lethe_engine.specs.Sound.{IsRunning, IsSmall}
+use Rattle.lethe_engine.proofs.Onward.{opened_for}
 use Rattle.lethe_engine.proofs.Standing.{open_stands}
 
 pub opened_running : (disk : Seen) (s : Stored) (state : State) → IsSettled disk s → HasOnly s disk.directory → s.active.records ≡ [] → EndsAt disk (segment_name s.active.no) s.active.no [] 11 → state.end ≡ 11 → IsCurrent s state
@@ -33,12 +34,13 @@ opened_running disk s state settled only none ends end_is current = record {
   current = current;
 }
 
-pub resumed : (config : Fields) (h g : History) (change : Option Change) (disk : Seen) (s : Stored) (state : State) (levels : List (List Parts)) → IsHistoryOr h change g → IsRunning disk s state → Remembers s state levels
-    → s.manifest.config ≡ config → IsFor g s → IsResumed config h change disk state levels
-resumed config h g change disk s state levels either running remembers config_is stands = record {
+pub resumed : (config : Fields) (h g : History) (change : Option Change) (start finish : Seen) (faults : ℕ) (s : Stored) (state : State) (levels : List (List Parts)) → IsHistoryOr h change g → IsRunning finish s state → Remembers s state levels
+    → s.manifest.config ≡ config → IsFor g s → ((next : ℕ) → IsNextNumber start.directory next → state.manifest.next + start.moment ≤ next + finish.moment) → IsResumed config h change start finish faults state levels
+resumed config h g change start finish faults s state levels either running remembers config_is stands numbers = record {
   history = g;
   either = either;
-  stands = open_stands config g disk s state levels stands.legal stands.done (running.current.count ∙ stands.count) remembers config_is stands running;
+  stands = λ next is. opened_for config g start finish next faults state levels
+      (open_stands config g finish s state levels stands.legal stands.done (running.current.count ∙ stands.count) remembers config_is stands running) running.current.runs (numbers next is);
   runs = running.current.runs;
 }
 

@@ -37,7 +37,7 @@ use Rattle.lethe_state.specs.Remembered.{IsCurrent, Remembers}
 use Rattle.lethe_state.specs.declared.state.State.{State}
 use Rattle.lethe_engine.specs.Changes.{done_by, with_record}
 use Rattle.lethe_engine.specs.Sound.{IsRunning}
-use Rattle.lethe_engine.specs.StandsFor.{StandsFor}
+use Rattle.lethe_engine.specs.StandsFor.{StandsNow}
 use Rattle.lethe_engine.proofs.Carried.{running_back}
 use Rattle.lethe_engine.proofs.Likes.{like_remembered, like_running}
 use Rattle.lethe_engine.proofs.Standing.{left_at_end, stands_done, stands_for, stopped_stands}
@@ -122,9 +122,9 @@ module _ (disk : Seen) (s : Stored) (state : State) (running : IsRunning disk s 
     }
 
 -- the disk failed in the change
-pub failed_stands : (config : Fields) (h : History) (start finish : Seen) (old : State) (levels : List (List Parts)) (stands : StandsFor config h start old levels) → old.stopped ≡ None → old.count < max_place
+pub failed_stands : (config : Fields) (h : History) (start finish : Seen) (old : State) (levels : List (List Parts)) (stands : StandsNow config h start old levels) → old.stopped ≡ None → old.count < max_place
     → (mid : State) → Remembers stands.stored (halted mid) levels → mid.count ≡ old.count → (caller : ℕ) (call : Call) → is_work call ≡ false → (b a : ℕ) → Image finish finish.directory
-    → Goes (IsKeptOr h (Some (done_by caller call))) start finish → StandsFor config (with_failed h caller call b a) finish (halted mid) levels
+    → Goes (IsKeptOr h (Some (done_by caller call))) start finish → StandsNow config (with_failed h caller call b a) finish (halted mid) levels
 failed_stands config h start finish old levels stands runs fits mid remembers same caller call change_is b a here goes =
     let change : Change = record { caller = caller; call = call; did = Failed b a } in
     let left = left_at_end h (Some (done_by caller call)) start finish here goes in

@@ -19,7 +19,7 @@ use Rattle.lethe_advance.specs.Settled.{HasOnly}
 use Rattle.lethe_state.specs.Remembered.{Remembers}
 use Rattle.lethe_state.specs.declared.state.State.{State}
 use Rattle.lethe_engine.specs.Sound.{IsRunning, IsSound}
-use Rattle.lethe_engine.specs.StandsFor.{IsOpenOrStopped, StandsFor, retried}
+use Rattle.lethe_engine.specs.StandsFor.{IsOpenOrStopped, StandsNow, retried}
 use Rattle.lethe_engine.proofs.Histories.{all_done, last_failed, legal_failed}
 
 -- A history is one of those that it may become
@@ -58,7 +58,7 @@ module _ (h : History) (disk : Seen) (s : Stored) (state : State) (running : IsR
   pub running_moments : Goes (λ c. IsKept c h) disk disk
   running_moments = goes_quiet (λ c. IsKept c h) disk disk (quiet_itself disk) kept_image
 
-module _ (config : Fields) (h : History) (disk : Seen) (state : State) (levels : List (List Parts)) (stands : StandsFor config h disk state levels) (runs : state.stopped ≡ None) where
+module _ (config : Fields) (h : History) (disk : Seen) (state : State) (levels : List (List Parts)) (stands : StandsNow config h disk state levels) (runs : state.stopped ≡ None) where
   held_open : AreDone h × IsRunning disk stands.stored state
   held_open = subst (IsOpenOrStopped disk h stands.stored state) runs stands.held
 
@@ -76,7 +76,7 @@ module _ (config : Fields) (h : History) (disk : Seen) (state : State) (levels :
 
 -- what a store that takes changes stands for
 pub open_stands : (config : Fields) (h : History) (disk : Seen) (s : Stored) (state : State) (levels : List (List Parts)) → IsLegal h → AreDone h → state.count ≡ length h → Remembers s state levels → s.manifest.config ≡ config
-    → IsFor h s → IsRunning disk s state → StandsFor config h disk state levels
+    → IsFor h s → IsRunning disk s state → StandsNow config h disk state levels
 open_stands config h disk s state levels legal done count remembers config_is stands running = record {
   legal = legal;
   count = count;
@@ -90,7 +90,7 @@ open_stands config h disk s state levels legal done count remembers config_is st
 -- and one in which the disk failed in one more change
 pub stopped_stands : (config : Fields) (h : History) (change : Change) (before behind : ℕ) (disk : Seen) (s : Stored) (state : State) (levels : List (List Parts)) → IsLegal h → AreDone h → length h < max_place
     → change.did ≡ Failed before behind → state.count ≡ length h + 1 → state.stopped ≡ Some (length h + 1) → Remembers s state levels → s.manifest.config ≡ config
-    → IsFor h s → IsLeft disk h (retried change) → StandsFor config (h ++ change ∷ []) disk state levels
+    → IsFor h s → IsLeft disk h (retried change) → StandsNow config (h ++ change ∷ []) disk state levels
 stopped_stands config h change before behind disk s state levels legal done few failed count stopped remembers config_is stands left = record {
   legal = legal_failed h change before behind legal done few failed;
   count = count ∙ sym (length_push h change);
@@ -152,7 +152,7 @@ module _ (old new : Seen) (idle : IsIdle old new) where
     left = idle_left held.before (retried held.change) held.left;
   }
 
-pub idle_stands : (config : Fields) (h : History) (old new : Seen) (state : State) (levels : List (List Parts)) → IsIdle old new → StandsFor config h old state levels → StandsFor config h new state levels
+pub idle_stands : (config : Fields) (h : History) (old new : Seen) (state : State) (levels : List (List Parts)) → IsIdle old new → StandsNow config h old state levels → StandsNow config h new state levels
 idle_stands config h old new state levels idle stands = record {
   legal = stands.legal;
   count = stands.count;

@@ -23,7 +23,7 @@ use Rattle.lethe_state.specs.Room.{IsFlushed, IsFrozen, IsFrozenWith, frozen_len
 use Rattle.lethe_state.specs.declared.state.State.{State}
 use Rattle.lethe_state.proofs.Stepping.{flush_remembered, freeze_remembered}
 use Rattle.lethe_engine.specs.Sound.{IsRunning, IsSmall}
-use Rattle.lethe_engine.specs.StandsFor.{StandsFor}
+use Rattle.lethe_engine.specs.StandsFor.{StandsNow}
 use Rattle.lethe_engine.proofs.Carried.{active_ends, frozen_ends}
 use Rattle.lethe_engine.proofs.Standing.{open_stands, stands_done}
 
@@ -106,7 +106,7 @@ module _ (s t : Stored) (old new : State) (levels next : List (List Parts)) (hea
     }
 
 -- a store stands for the same history where what is stored next does
-pub stands_next : (config : Fields) (h : History) (start finish : Seen) (old new : State) (levels next : List (List Parts)) (stands : StandsFor config h start old levels) → old.stopped ≡ None → (t : Stored) → new.count ≡ old.count
-    → t.manifest.config ≡ stands.stored.manifest.config → IsFor h t → Remembers t new next → IsRunning finish t new → StandsFor config h finish new next
+pub stands_next : (config : Fields) (h : History) (start finish : Seen) (old new : State) (levels next : List (List Parts)) (stands : StandsNow config h start old levels) → old.stopped ≡ None → (t : Stored) → new.count ≡ old.count
+    → t.manifest.config ≡ stands.stored.manifest.config → IsFor h t → Remembers t new next → IsRunning finish t new → StandsNow config h finish new next
 stands_next config h start finish old new levels next stands runs t count same for remembers running =
     open_stands config h finish t new next stands.legal (stands_done config h start old levels stands runs) (count ∙ stands.count) remembers (same ∙ stands.config_is) for running

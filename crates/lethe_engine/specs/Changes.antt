@@ -14,10 +14,10 @@ use Rattle.lethe_disk.specs.Directory.{Directory}
 use Rattle.lethe_segment.specs.declared.record.Record.{Record}
 use Rattle.lethe_segment.specs.declared.record.Record.TheVariants as of
 use Rattle.lethe_segment.specs.Segments.{segment_bytes}
-use Rattle.lethe_build.specs.Built.{most_numbers}
 use Rattle.lethe_cover.specs.Steps.{time_of, with_done, with_failed}
 use Rattle.lethe_stored.specs.Stored.{Stored, segment_name, count_of, layout_of}
-use Rattle.lethe_state.specs.Room.{frozen_len}
+use Rattle.lethe_mem.specs.Buffered.{Buffered}
+use Rattle.lethe_state.specs.Room.{IsShortBy, IsShortToFreeze}
 use Rattle.lethe_state.specs.declared.state.State.{State}
 
 -- a change that is carried out
@@ -59,9 +59,14 @@ abbrev pub written_by : ℕ → Call → Result ℕ Refused → Option Change
 written_by caller call (Ok place) = Some (done_by caller call)
 written_by caller call (Err why) = tried_by caller call why
 
--- numbers run out for the objects of making room: those of the frozen buffer's files, a segment and two manifests
+-- Numbers run out for making room: those of a segment and a manifest, and where a buffer is frozen first those of its files' objects and of the
+-- manifest that cites them.
+abbrev pub IsShortFor : Option Buffered → State → Type 0
+IsShortFor None state = IsShortToFreeze state
+IsShortFor (Some buffer) state = IsShortBy 2 state
+
 abbrev pub IsShort : State → Type 0
-IsShort state = max_place ≤ state.manifest.next + most_numbers (frozen_len state.frozen) + 3
+IsShort state = IsShortFor state.frozen state
 
 -- Why a change or work was refused, by the counts of faults before and now: an earlier one failed, the places or the numbers are used up,
 -- the disk failed in this call, or there was no memory.

@@ -1,5 +1,5 @@
 -- A store on which changes can be made.
-use Rattle.std.specs.Prelude.{◌≡◌, ◌≤◌, ◌+◌, List, length, None}
+use Rattle.std.specs.Prelude.{◌≡◌, ◌≤◌, ◌+◌, List, [], length, None}
 use Rattle.lethe_disk.specs.Disk.{Seen}
 use Rattle.lethe_commit.specs.Append.{EndsAt}
 use Rattle.lethe_stored.specs.Files.{Parts}
@@ -14,7 +14,7 @@ use Rattle.lethe_state.specs.declared.state.State.{State}
 -- segment, and nothing has failed since.
 pub record IsRunning (disk : Seen) (s : Stored) (state : State) : Type 0 where
   pub settled : IsSettled disk s
-  pub only : HasOnly s disk.directory
+  pub only : HasOnly s [] disk.directory
   pub ends : EndsAt disk (segment_name s.active.no) s.active.no s.active.records state.end
   pub current : IsCurrent s state
 

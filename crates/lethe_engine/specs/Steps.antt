@@ -1,13 +1,14 @@
 -- Steps that went wrong.
-use Rattle.std.specs.Prelude.{◌≡◌, ◌<◌, ◌≤◌, ℕ, ◌+◌, None}
+use Rattle.std.specs.Prelude.{◌≡◌, ◌<◌, ◌≤◌, ℕ, ◌+◌, List, sum_by, None}
 use Rattle.lethe_base.specs.Counts.{Rose}
 use Rattle.lethe_base.specs.declared.refused.Refused.{Refused}
 use Rattle.lethe_base.specs.declared.refused.Refused.TheVariants.{Fault, Stopped, Backwards, Pinned, NothingDue, Cancelled, Exhausted, ReadFault, NoMemory, Damaged}
 use Rattle.lethe_disk.specs.Disk.{Seen}
-use Rattle.lethe_build.specs.Built.{most_numbers}
+use Rattle.lethe_build.specs.Drafts.{numbers_for}
+use Rattle.lethe_build.specs.declared.draft.Draft.{Draft}
 use Rattle.lethe_commit.specs.Switch.{IsTakenBack}
 use Rattle.lethe_state.specs.Records.{halted}
-use Rattle.lethe_state.specs.Room.{frozen_len}
+use Rattle.lethe_state.specs.Room.{AreDrafted}
 use Rattle.lethe_state.specs.declared.state.State.{State}
 
 -- How a step was hindered: the disk failed and the store is stopped, or there was no memory and what was done is taken back.
@@ -24,14 +25,16 @@ IsHindered Tells old new start finish before now (Exhausted last) = ⊥
 IsHindered Tells old new start finish before now (ReadFault told_before told_now) = ⊥
 IsHindered Tells old new start finish before now (Damaged name) = ⊥
 
--- Behind a flush no buffer is frozen and all else is as it was, but for the numbers of the files' objects and the manifest.
+-- Behind a flush no buffer is frozen and all else is as it was, but for the numbers of the files' objects and of the manifest, which were drawn.
 pub record IsUnfrozenAfter (old new : State) : Type 0 where
   pub frozen : new.frozen ≡ None
   pub stopped : new.stopped ≡ old.stopped
   pub count : new.count ≡ old.count
   pub records : new.records ≡ old.records
   pub config : new.manifest.config ≡ old.manifest.config
-  pub next : new.manifest.next ≤ old.manifest.next + most_numbers (frozen_len old.frozen) + 1
+  pub drafts : List Draft
+  pub drafted : AreDrafted old drafts
+  pub next : new.next ≡ old.next + sum_by numbers_for drafts + 1
 
 -- Behind a freeze the active segment has no record.
 pub record IsEmptied (old new : State) : Type 0 where

@@ -21,7 +21,7 @@ ghost use Rattle.lethe_state.specs.Writable.{IsWritable};
 ghost use Rattle.lethe_engine.specs.Changes.{HasReason, answered_to, put_over, with_record, written_by};
 ghost use Rattle.lethe_engine.specs.Deletes.{IsDeleteOver};
 ghost use Rattle.lethe_engine.specs.Sound.{IsRunning, IsSound};
-ghost use Rattle.lethe_engine.specs.StandsFor.{StandsFor};
+ghost use Rattle.lethe_engine.specs.StandsFor.{Opened, StandsFor, StandsNow};
 
 use crate::Engine;
 use lethe_base::{Key, Kind, Name, Refused, Value};
@@ -43,8 +43,8 @@ impl<D: Disk> Engine<D> {
         ensures sound { IsSound D.tells (D.seen self.new.disk) self.new.state (parts_by_level self.new.version) }
 
         // Over a store that stands for a history, it is behind that history, done or failed, or it is refused and is in no history.
-        ensures stands { D.tells → (config : Fields) (h : History) → StandsFor config h (D.seen self.old.disk) self.old.state (parts_by_level self.old.version) → (caller : ℕ)
-            → StandsFor config (answered_to h caller (call.Put key dkey value) result) (D.seen self.new.disk) self.new.state (parts_by_level self.new.version) }
+        ensures stands { D.tells → (config : Fields) (opened : Opened) (h : History) → StandsFor config opened h (D.seen self.old.disk) (D.faults self.old.disk) self.old.state (parts_by_level self.old.version) → (caller : ℕ)
+            → StandsFor config opened (answered_to h caller (call.Put key dkey value) result) (D.seen self.new.disk) (D.faults self.new.disk) self.new.state (parts_by_level self.new.version) }
         ensures place { IfOk result (λ place. place ≡ self.old.state.count + 1) }
 
         // A refusal has its reason, and a store that is stopped or whose places are used up is as it was.
@@ -63,11 +63,11 @@ impl<D: Disk> Engine<D> {
             × ((D.seen self.new.disk).moment ≡ (D.seen self.old.disk).moment + 4)) }
 
         // A crash at any moment of the call leaves what is kept for the history, or for it with the change where this was written.
-        ensures any_moment { D.tells → (config : Fields) (h : History) → StandsFor config h (D.seen self.old.disk) self.old.state (parts_by_level self.old.version)
+        ensures any_moment { D.tells → (config : Fields) (h : History) → StandsNow config h (D.seen self.old.disk) self.old.state (parts_by_level self.old.version)
             → self.old.state.stopped ≡ None → (caller : ℕ) → Goes (IsKeptOr h (written_by caller (call.Put key dkey value) result)) (D.seen self.old.disk) (D.seen self.new.disk) }
 
         // Numbers are drawn no faster than device calls are made.
-        ensures numbers { D.tells → self.new.state.manifest.next + (D.seen self.old.disk).moment ≤ self.old.state.manifest.next + (D.seen self.new.disk).moment }
+        ensures numbers { D.tells → self.new.state.next + (D.seen self.old.disk).moment ≤ self.old.state.next + (D.seen self.new.disk).moment }
         ensures faults { D.faults self.old.disk ≤ D.faults self.new.disk }
     {
         self.state.may_change()?;
@@ -89,8 +89,8 @@ impl<D: Disk> Engine<D> {
         ensures sound { IsSound D.tells (D.seen self.new.disk) self.new.state (parts_by_level self.new.version) }
 
         // Over a store that stands for a history, it is behind that history, done or failed, or it is refused and is in no history.
-        ensures stands { D.tells → (config : Fields) (h : History) → StandsFor config h (D.seen self.old.disk) self.old.state (parts_by_level self.old.version) → (caller : ℕ)
-            → StandsFor config (answered_to h caller (call.Delete key) result) (D.seen self.new.disk) self.new.state (parts_by_level self.new.version) }
+        ensures stands { D.tells → (config : Fields) (opened : Opened) (h : History) → StandsFor config opened h (D.seen self.old.disk) (D.faults self.old.disk) self.old.state (parts_by_level self.old.version) → (caller : ℕ)
+            → StandsFor config opened (answered_to h caller (call.Delete key) result) (D.seen self.new.disk) (D.faults self.new.disk) self.new.state (parts_by_level self.new.version) }
         ensures place { IfOk result (λ place. place ≡ self.old.state.count + 1) }
 
         // A refusal has its reason, and a store that is stopped or whose places are used up is as it was.
@@ -109,11 +109,11 @@ impl<D: Disk> Engine<D> {
             × ((D.seen self.new.disk).directory ≡ with_record (D.seen self.old.disk).directory s next) × ((D.seen self.new.disk).moment ≡ (D.seen self.old.disk).moment + 4)) }
 
         // A crash at any moment of the call leaves what is kept for the history, or for it with the change where this was written.
-        ensures any_moment { D.tells → (config : Fields) (h : History) → StandsFor config h (D.seen self.old.disk) self.old.state (parts_by_level self.old.version)
+        ensures any_moment { D.tells → (config : Fields) (h : History) → StandsNow config h (D.seen self.old.disk) self.old.state (parts_by_level self.old.version)
             → self.old.state.stopped ≡ None → (caller : ℕ) → Goes (IsKeptOr h (written_by caller (call.Delete key) result)) (D.seen self.old.disk) (D.seen self.new.disk) }
 
         // Numbers are drawn no faster than device calls are made.
-        ensures numbers { D.tells → self.new.state.manifest.next + (D.seen self.old.disk).moment ≤ self.old.state.manifest.next + (D.seen self.new.disk).moment }
+        ensures numbers { D.tells → self.new.state.next + (D.seen self.old.disk).moment ≤ self.old.state.next + (D.seen self.new.disk).moment }
         ensures faults { D.faults self.old.disk ≤ D.faults self.new.disk }
     {
         self.state.may_change()?;
@@ -137,17 +137,17 @@ impl<D: Disk> Engine<D> {
         ensures why { IfErr result (HasReason self.old.state before (D.faults self.new.disk)) }
         ensures unexhausted { (last : ℕ) → IsErrOf result (Exhausted last) → ⊥ }
         ensures stands { D.tells → (config : Fields) (h : History) (caller : ℕ) (call : Call) → is_work call ≡ false
-            → (stands : StandsFor config h (D.seen self.old.disk) self.old.state (parts_by_level self.old.version)) → IsFor (with_done h caller call) (appended stands.stored next)
-            → StandsFor config (answered_to h caller call result) (D.seen self.new.disk) self.new.state (parts_by_level self.new.version) }
+            → (stands : StandsNow config h (D.seen self.old.disk) self.old.state (parts_by_level self.old.version)) → IsFor (with_done h caller call) (appended stands.stored next)
+            → StandsNow config (answered_to h caller call result) (D.seen self.new.disk) self.new.state (parts_by_level self.new.version) }
         ensures any_moment { D.tells → (config : Fields) (h : History) (caller : ℕ) (call : Call)
-            → (stands : StandsFor config h (D.seen self.old.disk) self.old.state (parts_by_level self.old.version)) → IsFor (with_done h caller call) (appended stands.stored next)
+            → (stands : StandsNow config h (D.seen self.old.disk) self.old.state (parts_by_level self.old.version)) → IsFor (with_done h caller call) (appended stands.stored next)
             → Goes (IsKeptOr h (written_by caller call result)) (D.seen self.old.disk) (D.seen self.new.disk) }
         ensures written { D.tells → (s : Stored) → Remembers s self.old.state (parts_by_level self.old.version) → IsRunning (D.seen self.old.disk) s self.old.state
             → OnOk result (Remembers (appended s next) self.new.state (parts_by_level self.new.version) × IsRunning (D.seen self.new.disk) (appended s next) self.new.state
             × ((D.seen self.new.disk).directory ≡ with_record (D.seen self.old.disk).directory s next)) }
         ensures version { self.new.version ≡ self.old.version }
         ensures calls { D.tells → OnOk result ((D.seen self.new.disk).moment ≡ (D.seen self.old.disk).moment + 4) }
-        ensures numbers { D.tells → self.new.state.manifest.next + (D.seen self.old.disk).moment ≤ self.old.state.manifest.next + (D.seen self.new.disk).moment }
+        ensures numbers { D.tells → self.new.state.next + (D.seen self.old.disk).moment ≤ self.old.state.next + (D.seen self.new.disk).moment }
         ensures faults { D.faults self.old.disk ≤ D.faults self.new.disk }
     {
         let Ok((body, end)) = self.state.prepare(alloc, &next) else {

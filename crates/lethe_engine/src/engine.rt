@@ -12,6 +12,7 @@ ghost use Rattle.lethe_advance.specs.Shown.{parts_by_level};
 ghost use Rattle.lethe_recover.specs.Opening.{IsNextNumber, MayNotOpen, IsCut, since_start};
 ghost use Rattle.lethe_engine.specs.Opening.{IsResumed, IsUntold};
 ghost use Rattle.lethe_engine.specs.Sound.{IsSound};
+ghost use Rattle.lethe_engine.specs.StandsFor as standing;
 ghost use Rattle.lethe_engine.specs.StandsFor.{StandsFor};
 
 use lethe_base::{Config, NoMemory};
@@ -48,7 +49,7 @@ impl<D: Disk> Engine<D> {
 
         // Where the disk was left for a history, the store stands for it, or for it with the change carried out.
         ensures resumed { D.tells → (h : History) (change : Option Change) → IsLeft (D.seen disk) h change
-            → IfOk result (λ engine. IsResumed config.now h change (D.seen engine.disk) engine.state (parts_by_level engine.version)) }
+            → IfOk result (λ engine. IsResumed config.now h change (D.seen disk) (D.seen engine.disk) (D.faults engine.disk) engine.state (parts_by_level engine.version)) }
 
         // A crash at any moment of the call, whatever it answers, leaves a disk that is kept for one of the two.
         ensures any_moment { D.tells → (h : History) (change : Option Change) → IsLeft (D.seen disk) h change
@@ -66,7 +67,7 @@ impl<D: Disk> Engine<D> {
 
         // Numbers are drawn no faster than device calls are made.
         ensures numbers { D.tells → IfOk result (λ engine. (next : ℕ) → IsNextNumber (D.seen disk).directory next
-            → engine.state.manifest.next + (D.seen disk).moment ≤ next + (D.seen engine.disk).moment) }
+            → engine.state.next + (D.seen disk).moment ≤ next + (D.seen engine.disk).moment) }
         ensures faults { MatchResult result (λ engine. D.faults disk ≤ D.faults engine.disk) (λ refused. D.faults disk ≤ D.faults refused.disk) }
     {
         match open(alloc, &mut disk, config) {
@@ -89,8 +90,8 @@ impl<D: Disk> Engine<D> {
     pub fn new_port(&mut self, alloc: Global) -> Result<D::Port, NoMemory>
         requires { IsSound D.tells (D.seen self.old.disk) self.old.state (parts_by_level self.old.version) }
         ensures sound { IsSound D.tells (D.seen self.new.disk) self.new.state (parts_by_level self.new.version) }
-        ensures stands { D.tells → (config : Fields) (h : History) → StandsFor config h (D.seen self.old.disk) self.old.state (parts_by_level self.old.version)
-            → StandsFor config h (D.seen self.new.disk) self.new.state (parts_by_level self.new.version) }
+        ensures stands { D.tells → (config : Fields) (opened : standing.Opened) (h : History) → StandsFor config opened h (D.seen self.old.disk) (D.faults self.old.disk) self.old.state (parts_by_level self.old.version)
+            → StandsFor config opened h (D.seen self.new.disk) (D.faults self.new.disk) self.new.state (parts_by_level self.new.version) }
         ensures fresh { IfOk result (λ port. (D.fetches port ≡ 0) × (D.port_faults port ≡ 0)) }
         ensures idle { D.tells → IsIdle (D.seen self.old.disk) (D.seen self.new.disk) }
         ensures same { (self.new.state ≡ self.old.state) × (self.new.version ≡ self.old.version) }

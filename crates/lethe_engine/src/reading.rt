@@ -11,7 +11,7 @@ ghost use Rattle.lethe_version.specs.Versions.{files_of};
 ghost use Rattle.lethe_advance.specs.Shown.{parts_by_level};
 ghost use Rattle.lethe_engine.specs.Reads.{IsReadRefusal, is_in_memory, listed, told_as};
 ghost use Rattle.lethe_engine.specs.Sound.{IsSound};
-ghost use Rattle.lethe_engine.specs.StandsFor.{StandsFor};
+ghost use Rattle.lethe_engine.specs.StandsFor.{StandsNow};
 
 use crate::Engine;
 use lethe_base::{Key, Refused, Value};
@@ -32,7 +32,7 @@ impl<D: Disk> Engine<D> {
         port: &mut D::Port,
         key: &Key,
     ) -> Result<Option<(u64, Value)>, Refused>
-        ensures answer { D.tells → (config : Fields) (h : History) → StandsFor config h (D.seen self.now.disk) self.now.state (parts_by_level self.now.version)
+        ensures answer { D.tells → (config : Fields) (h : History) → StandsNow config h (D.seen self.now.disk) self.now.state (parts_by_level self.now.version)
             → IfOk result (λ held. answer (after h) (Get key.now) ≡ Found held) }
 
         // Nothing is fetched where a buffer has the key.
@@ -74,7 +74,7 @@ impl<D: Disk> Engine<D> {
         lo: &Key,
         hi: &Key,
     ) -> Result<Vec<(Key, u64, Value)>, Refused>
-        ensures answer { D.tells → (config : Fields) (h : History) → StandsFor config h (D.seen self.now.disk) self.now.state (parts_by_level self.now.version)
+        ensures answer { D.tells → (config : Fields) (h : History) → StandsNow config h (D.seen self.now.disk) self.now.state (parts_by_level self.now.version)
             → IfOk result (λ pairs. answer (after h) (Scan lo.now hi.now) ≡ listed pairs.items) }
         ensures later { D.fetches port.old ≤ D.fetches port.new }
         ensures why { IfErr result IsReadRefusal }

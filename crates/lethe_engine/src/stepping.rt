@@ -21,7 +21,7 @@ ghost use Rattle.lethe_state.specs.Remembered.{Remembers};
 ghost use Rattle.lethe_state.specs.Room.{IsFlushed, IsFrozen, IsRoomMade, IsShortToFreeze, IsUnfrozen};
 ghost use Rattle.lethe_engine.specs.Changes.{HasReason};
 ghost use Rattle.lethe_engine.specs.Sound.{IsRunning, IsSound};
-ghost use Rattle.lethe_engine.specs.StandsFor.{StandsFor};
+ghost use Rattle.lethe_engine.specs.StandsFor.{StandsNow};
 ghost use Rattle.lethe_engine.specs.Steps.{IsEmptied, IsHindered, IsReady, IsUnfrozenAfter};
 ghost use Rattle.lethe_engine.specs.Work.{stepped_to};
 
@@ -40,16 +40,16 @@ impl<D: Disk> Engine<D> {
         requires fits { self.old.state.count < max_place }
         requires before { before ≤ D.faults self.old.disk }
         ensures sound { IsSound D.tells (D.seen self.new.disk) self.new.state (parts_by_level self.new.version) }
-        ensures stands { D.tells → (config : Fields) (h : History) → StandsFor config h (D.seen self.old.disk) self.old.state (parts_by_level self.old.version) → (caller : ℕ) (call : Call)
-            → StandsFor config (stepped_to h caller call result) (D.seen self.new.disk) self.new.state (parts_by_level self.new.version) }
+        ensures stands { D.tells → (config : Fields) (h : History) → StandsNow config h (D.seen self.old.disk) self.old.state (parts_by_level self.old.version) → (caller : ℕ) (call : Call)
+            → StandsNow config (stepped_to h caller call result) (D.seen self.new.disk) self.new.state (parts_by_level self.new.version) }
         ensures done { D.tells → (s : Stored) → Remembers s self.old.state (parts_by_level self.old.version) → IsRunning (D.seen self.old.disk) s self.old.state
             → OnOk result ((t : Stored) × IsRoomMade s t × Remembers t self.new.state (parts_by_level self.new.version) × IsRunning (D.seen self.new.disk) t self.new.state) }
         ensures room { self.old.state.records < self.old.state.manifest.config.buffer → OnOk result (self.new ≡ self.old) }
         ensures ready { OnOk result (IsReady self.old.state self.new.state) }
         ensures why { IfErr result (HasReason self.old.state before (D.faults self.new.disk)) }
-        ensures any_moment { D.tells → (config : Fields) (h : History) → StandsFor config h (D.seen self.old.disk) self.old.state (parts_by_level self.old.version)
+        ensures any_moment { D.tells → (config : Fields) (h : History) → StandsNow config h (D.seen self.old.disk) self.old.state (parts_by_level self.old.version)
             → Goes (λ c. IsKept c h) (D.seen self.old.disk) (D.seen self.new.disk) }
-        ensures numbers { D.tells → self.new.state.manifest.next + (D.seen self.old.disk).moment ≤ self.old.state.manifest.next + (D.seen self.new.disk).moment }
+        ensures numbers { D.tells → self.new.state.next + (D.seen self.old.disk).moment ≤ self.old.state.next + (D.seen self.new.disk).moment }
         ensures faults { D.faults self.old.disk ≤ D.faults self.new.disk }
     {
         if self.state.has_room() {
@@ -66,15 +66,15 @@ impl<D: Disk> Engine<D> {
         requires fits { self.old.state.count < max_place }
         requires before { before ≤ D.faults self.old.disk }
         ensures sound { IsSound D.tells (D.seen self.new.disk) self.new.state (parts_by_level self.new.version) }
-        ensures stands { D.tells → (config : Fields) (h : History) → StandsFor config h (D.seen self.old.disk) self.old.state (parts_by_level self.old.version) → (caller : ℕ) (call : Call)
-            → StandsFor config (stepped_to h caller call result) (D.seen self.new.disk) self.new.state (parts_by_level self.new.version) }
+        ensures stands { D.tells → (config : Fields) (h : History) → StandsNow config h (D.seen self.old.disk) self.old.state (parts_by_level self.old.version) → (caller : ℕ) (call : Call)
+            → StandsNow config (stepped_to h caller call result) (D.seen self.new.disk) self.new.state (parts_by_level self.new.version) }
         ensures done { D.tells → (s : Stored) → Remembers s self.old.state (parts_by_level self.old.version) → IsRunning (D.seen self.old.disk) s self.old.state
             → OnOk result ((t : Stored) × IsUnfrozen s t × Remembers t self.new.state (parts_by_level self.new.version) × IsRunning (D.seen self.new.disk) t self.new.state) }
         ensures ready { OnOk result (IsUnfrozenAfter self.old.state self.new.state) }
         ensures why { IfErr result (HasReason self.old.state before (D.faults self.new.disk)) }
-        ensures any_moment { D.tells → (config : Fields) (h : History) → StandsFor config h (D.seen self.old.disk) self.old.state (parts_by_level self.old.version)
+        ensures any_moment { D.tells → (config : Fields) (h : History) → StandsNow config h (D.seen self.old.disk) self.old.state (parts_by_level self.old.version)
             → Goes (λ c. IsKept c h) (D.seen self.old.disk) (D.seen self.new.disk) }
-        ensures numbers { D.tells → self.new.state.manifest.next + (D.seen self.old.disk).moment ≤ self.old.state.manifest.next + (D.seen self.new.disk).moment }
+        ensures numbers { D.tells → self.new.state.next + (D.seen self.old.disk).moment ≤ self.old.state.next + (D.seen self.new.disk).moment }
         ensures faults { D.faults self.old.disk ≤ D.faults self.new.disk }
     {
         if self.state.frozen.is_none() {
@@ -91,15 +91,15 @@ impl<D: Disk> Engine<D> {
         requires before { before ≤ D.faults self.old.disk }
         requires frozen { IsSome self.old.state.frozen }
         ensures sound { IsSound D.tells (D.seen self.new.disk) self.new.state (parts_by_level self.new.version) }
-        ensures stands { D.tells → (config : Fields) (h : History) → StandsFor config h (D.seen self.old.disk) self.old.state (parts_by_level self.old.version) → (caller : ℕ) (call : Call)
-            → StandsFor config (stepped_to h caller call result) (D.seen self.new.disk) self.new.state (parts_by_level self.new.version) }
+        ensures stands { D.tells → (config : Fields) (h : History) → StandsNow config h (D.seen self.old.disk) self.old.state (parts_by_level self.old.version) → (caller : ℕ) (call : Call)
+            → StandsNow config (stepped_to h caller call result) (D.seen self.new.disk) self.new.state (parts_by_level self.new.version) }
         ensures done { D.tells → (s : Stored) → Remembers s self.old.state (parts_by_level self.old.version) → IsRunning (D.seen self.old.disk) s self.old.state
             → OnOk result ((t : Stored) × IsFlushed s t × Remembers t self.new.state (parts_by_level self.new.version) × IsRunning (D.seen self.new.disk) t self.new.state) }
         ensures ready { OnOk result (IsUnfrozenAfter self.old.state self.new.state) }
         ensures why { IfErr result (HasReason self.old.state before (D.faults self.new.disk)) }
-        ensures any_moment { D.tells → (config : Fields) (h : History) → StandsFor config h (D.seen self.old.disk) self.old.state (parts_by_level self.old.version)
+        ensures any_moment { D.tells → (config : Fields) (h : History) → StandsNow config h (D.seen self.old.disk) self.old.state (parts_by_level self.old.version)
             → Goes (λ c. IsKept c h) (D.seen self.old.disk) (D.seen self.new.disk) }
-        ensures numbers { D.tells → self.new.state.manifest.next + (D.seen self.old.disk).moment ≤ self.old.state.manifest.next + (D.seen self.new.disk).moment }
+        ensures numbers { D.tells → self.new.state.next + (D.seen self.old.disk).moment ≤ self.old.state.next + (D.seen self.new.disk).moment }
         ensures faults { D.faults self.old.disk ≤ D.faults self.new.disk }
     {
         let (headers, step) = self.state.flushing(alloc, &self.version)?;
@@ -116,16 +116,16 @@ impl<D: Disk> Engine<D> {
         requires before { before ≤ D.faults self.old.disk }
         requires unfrozen { self.old.state.frozen ≡ None }
         ensures sound { IsSound D.tells (D.seen self.new.disk) self.new.state (parts_by_level self.new.version) }
-        ensures stands { D.tells → (config : Fields) (h : History) → StandsFor config h (D.seen self.old.disk) self.old.state (parts_by_level self.old.version) → (caller : ℕ) (call : Call)
-            → StandsFor config (stepped_to h caller call result) (D.seen self.new.disk) self.new.state (parts_by_level self.new.version) }
+        ensures stands { D.tells → (config : Fields) (h : History) → StandsNow config h (D.seen self.old.disk) self.old.state (parts_by_level self.old.version) → (caller : ℕ) (call : Call)
+            → StandsNow config (stepped_to h caller call result) (D.seen self.new.disk) self.new.state (parts_by_level self.new.version) }
         ensures done { D.tells → (s : Stored) → Remembers s self.old.state (parts_by_level self.old.version) → IsRunning (D.seen self.old.disk) s self.old.state
             → OnOk result ((t : Stored) × IsFrozen s t × Remembers t self.new.state (parts_by_level self.new.version) × IsRunning (D.seen self.new.disk) t self.new.state) }
         ensures short { (last : ℕ) → IsErrOf result (refused.Exhausted last) → (last ≡ max_place) × IsShortToFreeze self.old.state }
         ensures ready { OnOk result (IsEmptied self.old.state self.new.state) }
         ensures why { IfErr result (HasReason self.old.state before (D.faults self.new.disk)) }
-        ensures any_moment { D.tells → (config : Fields) (h : History) → StandsFor config h (D.seen self.old.disk) self.old.state (parts_by_level self.old.version)
+        ensures any_moment { D.tells → (config : Fields) (h : History) → StandsNow config h (D.seen self.old.disk) self.old.state (parts_by_level self.old.version)
             → Goes (λ c. IsKept c h) (D.seen self.old.disk) (D.seen self.new.disk) }
-        ensures numbers { D.tells → self.new.state.manifest.next + (D.seen self.old.disk).moment ≤ self.old.state.manifest.next + (D.seen self.new.disk).moment }
+        ensures numbers { D.tells → self.new.state.next + (D.seen self.old.disk).moment ≤ self.old.state.next + (D.seen self.new.disk).moment }
         ensures faults { D.faults self.old.disk ≤ D.faults self.new.disk }
     {
         let step = self.state.freezing(alloc)?;

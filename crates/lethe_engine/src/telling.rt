@@ -8,7 +8,7 @@ ghost use Rattle.lethe_stored.specs.Stored.{Stored, layout_of};
 ghost use Rattle.lethe_advance.specs.Shown.{parts_by_level};
 ghost use Rattle.lethe_state.specs.Remembered.{Remembers};
 ghost use Rattle.lethe_engine.specs.Capped.{capped};
-ghost use Rattle.lethe_engine.specs.StandsFor.{StandsFor};
+ghost use Rattle.lethe_engine.specs.StandsFor.{StandsNow};
 
 use crate::Engine;
 use lethe_disk::Disk;
@@ -36,7 +36,7 @@ impl<D: Disk> Engine<D> {
 
     /// What there is of the store as a whole. It makes no device call and no fetch, and answers on a stopped store too.
     pub fn stat(&self) -> Stat
-        ensures stat { (config : Fields) (h : History) → StandsFor config h (D.seen self.now.disk) self.now.state (parts_by_level self.now.version)
+        ensures stat { (config : Fields) (h : History) → StandsNow config h (D.seen self.now.disk) self.now.state (parts_by_level self.now.version)
             → result.clock ≡ (after h).clock }
         ensures shape { (s : Stored) → Remembers s self.now.state (parts_by_level self.now.version) → IsStatOf (shape_of (layout_of s)) result }
         ensures pins { result.pins ≡ 0 }

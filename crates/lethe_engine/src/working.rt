@@ -1,17 +1,18 @@
 //! Work on a store, which changes nothing that reads see.
-ghost use Rattle.std.specs.Prelude.{◌≡◌, ◌≤◌, ◌↔◌, ◌+◌, ℕ, true, false, Ok, Some, None, IfErr, IsErrOf};
+ghost use Rattle.std.specs.Prelude.{◌≡◌, ◌≤◌, ◌↔◌, ◌⊎◌, ◌+◌, ℕ, true, false, Ok, Some, None, IfErr, IsErrOf};
 ghost use Rattle.lethe_base.specs.History.{History};
 ghost use Rattle.lethe_base.specs.declared.config.Fields.{Fields};
-ghost use Rattle.lethe_base.specs.declared.refused.Refused.TheVariants.{Stopped};
+ghost use Rattle.lethe_base.specs.Limits.{max_place};
+ghost use Rattle.lethe_base.specs.declared.refused.Refused.TheVariants.{Exhausted, Stopped};
 ghost use Rattle.lethe_disk.specs.Goes.{Goes};
 ghost use Rattle.lethe_stored.specs.Kept.{IsKept};
 ghost use Rattle.lethe_stored.specs.Stored.{Stored};
 ghost use Rattle.lethe_advance.specs.Shown.{parts_by_level};
 ghost use Rattle.lethe_state.specs.Remembered.{Remembers};
-ghost use Rattle.lethe_state.specs.Room.{IsFlushed, IsFrozen};
+ghost use Rattle.lethe_state.specs.Room.{IsFlushed, IsFrozen, IsShortToFlush, IsShortToFreeze};
 ghost use Rattle.lethe_engine.specs.Changes.{HasReason};
 ghost use Rattle.lethe_engine.specs.Sound.{IsRunning, IsSound};
-ghost use Rattle.lethe_engine.specs.StandsFor.{StandsFor};
+ghost use Rattle.lethe_engine.specs.StandsFor.{Opened, StandsFor, StandsNow};
 ghost use Rattle.lethe_engine.specs.Work.{HasNoFlush, HasNoFreeze, worked_to};
 
 use crate::Engine;
@@ -32,8 +33,8 @@ impl<D: Disk> Engine<D> {
         ensures sound { IsSound D.tells (D.seen self.new.disk) self.new.state (parts_by_level self.new.version) }
 
         // It stands for the same history, and where the disk failed for that with work that failed.
-        ensures stands { D.tells → (config : Fields) (h : History) → StandsFor config h (D.seen self.old.disk) self.old.state (parts_by_level self.old.version) → (caller : ℕ)
-            → StandsFor config (worked_to h caller result) (D.seen self.new.disk) self.new.state (parts_by_level self.new.version) }
+        ensures stands { D.tells → (config : Fields) (opened : Opened) (h : History) → StandsFor config opened h (D.seen self.old.disk) (D.faults self.old.disk) self.old.state (parts_by_level self.old.version) → (caller : ℕ)
+            → StandsFor config opened (worked_to h caller result) (D.seen self.new.disk) (D.faults self.new.disk) self.new.state (parts_by_level self.new.version) }
 
         // It is false exactly where there is nothing to do, and then nothing is done.
         ensures idle { (result ≡ Ok false) ↔ HasNoFreeze self.old.state }
@@ -46,11 +47,14 @@ impl<D: Disk> Engine<D> {
         ensures stopped { (at : ℕ) → self.old.state.stopped ≡ Some at → IsErrOf result (Stopped at) × (self.new ≡ self.old) }
 
         // A crash at any moment of the call leaves what is kept for the history.
-        ensures any_moment { D.tells → (config : Fields) (h : History) → StandsFor config h (D.seen self.old.disk) self.old.state (parts_by_level self.old.version)
+        ensures any_moment { D.tells → (config : Fields) (h : History) → StandsNow config h (D.seen self.old.disk) self.old.state (parts_by_level self.old.version)
             → self.old.state.stopped ≡ None → Goes (λ c. IsKept c h) (D.seen self.old.disk) (D.seen self.new.disk) }
 
+        // Numbers run out where those of a segment and a manifest can't be drawn.
+        ensures short { (last : ℕ) → IsErrOf result (Exhausted last) → (self.old.state.count ≡ max_place) ⊎ IsShortToFreeze self.old.state }
+
         // Numbers are drawn no faster than device calls are made.
-        ensures numbers { D.tells → self.new.state.manifest.next + (D.seen self.old.disk).moment ≤ self.old.state.manifest.next + (D.seen self.new.disk).moment }
+        ensures numbers { D.tells → self.new.state.next + (D.seen self.old.disk).moment ≤ self.old.state.next + (D.seen self.new.disk).moment }
         ensures faults { D.faults self.old.disk ≤ D.faults self.new.disk }
     {
         if let Some(at) = self.state.stopped {
@@ -79,8 +83,8 @@ impl<D: Disk> Engine<D> {
         ensures sound { IsSound D.tells (D.seen self.new.disk) self.new.state (parts_by_level self.new.version) }
 
         // It stands for the same history, and where the disk failed for that with work that failed.
-        ensures stands { D.tells → (config : Fields) (h : History) → StandsFor config h (D.seen self.old.disk) self.old.state (parts_by_level self.old.version) → (caller : ℕ)
-            → StandsFor config (worked_to h caller result) (D.seen self.new.disk) self.new.state (parts_by_level self.new.version) }
+        ensures stands { D.tells → (config : Fields) (opened : Opened) (h : History) → StandsFor config opened h (D.seen self.old.disk) (D.faults self.old.disk) self.old.state (parts_by_level self.old.version) → (caller : ℕ)
+            → StandsFor config opened (worked_to h caller result) (D.seen self.new.disk) (D.faults self.new.disk) self.new.state (parts_by_level self.new.version) }
 
         // It is false exactly where there is nothing to do, and then nothing is done.
         ensures idle { (result ≡ Ok false) ↔ HasNoFlush self.old.state }
@@ -93,11 +97,14 @@ impl<D: Disk> Engine<D> {
         ensures stopped { (at : ℕ) → self.old.state.stopped ≡ Some at → IsErrOf result (Stopped at) × (self.new ≡ self.old) }
 
         // A crash at any moment of the call leaves what is kept for the history.
-        ensures any_moment { D.tells → (config : Fields) (h : History) → StandsFor config h (D.seen self.old.disk) self.old.state (parts_by_level self.old.version)
+        ensures any_moment { D.tells → (config : Fields) (h : History) → StandsNow config h (D.seen self.old.disk) self.old.state (parts_by_level self.old.version)
             → self.old.state.stopped ≡ None → Goes (λ c. IsKept c h) (D.seen self.old.disk) (D.seen self.new.disk) }
 
+        // Numbers run out where those of the files' objects and of a manifest can't be drawn.
+        ensures short { (last : ℕ) → IsErrOf result (Exhausted last) → (self.old.state.count ≡ max_place) ⊎ IsShortToFlush self.old.state }
+
         // Numbers are drawn no faster than device calls are made.
-        ensures numbers { D.tells → self.new.state.manifest.next + (D.seen self.old.disk).moment ≤ self.old.state.manifest.next + (D.seen self.new.disk).moment }
+        ensures numbers { D.tells → self.new.state.next + (D.seen self.old.disk).moment ≤ self.old.state.next + (D.seen self.new.disk).moment }
         ensures faults { D.faults self.old.disk ≤ D.faults self.new.disk }
     {
         if let Some(at) = self.state.stopped {

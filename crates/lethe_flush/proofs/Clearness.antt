@@ -40,7 +40,7 @@ all_parts : {X : Type 0} (P : X → Type 0) (parts : List (List X)) → All (All
 all_parts P [] each = All-nil P
 all_parts P (part ∷ parts) each = All-append P part (flat_map (λ part. part) parts) (All-head (All P) part parts each) (all_parts P parts (All-tail (All P) part parts each))
 
-unmapped : {X Y : Type 0} (P : Y → Type 0) (f : X → Y) (xs : List X) → All P (map f xs) → All (λ x. P (f x)) xs
+pub unmapped : {X Y : Type 0} (P : Y → Type 0) (f : X → Y) (xs : List X) → All P (map f xs) → All (λ x. P (f x)) xs
 unmapped P f xs each k d lt = subst P (get_or-map f xs k d) (each k (f d) (omega (arith, length-map xs f, lt)))
 
 -- a level of files, as what stands for them

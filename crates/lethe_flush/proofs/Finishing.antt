@@ -1,77 +1,75 @@
--- What a flush promises of files that were built and taken apart.
-use Rattle.std.proofs.Common.{◌≡◌, ◌≢◌, ℕ, get_or, ◌+◌, ◌≤◌, Bool, List, length, map, All, AllPairs, IsPermutation, refl, sym, subst, arith}
-use Rattle.std.proofs.lemmas.List.Elements.{All-map}
-use Rattle.std.proofs.lemmas.List.Sorted.{IsPermutation-refl}
+-- What is promised of files that were made.
+use Rattle.std.proofs.Common.{◌≡◌, ℕ, ◌<◌, ◌≤◌, Bool, List, [], ◌∷◌, get_or, All, sym, subst, arith}
+use Rattle.std.specs.Prelude.{flat_map}
+use Rattle.std.proofs.lemmas.List.Elements.{All-cons, All-map, All-nil}
 use Rattle.sha2.proofs.Facts256.{length-sha256}
-use Rattle.lethe_base.specs.Entries.{IsAscending}
 use Rattle.lethe_base.specs.Limits.{max_place}
 use Rattle.lethe_base.specs.declared.config.Fields.{Fields}
 use Rattle.lethe_base.specs.declared.entry.Entry.{Entry}
 use Rattle.lethe_base.specs.declared.name.Name.{Name}
 use Rattle.lethe_base.specs.declared.pending.Pending.{Pending}
-use Rattle.lethe_build.specs.Built.{AreFilesOf, IsFileOf, all_numbers}
-use Rattle.lethe_build.specs.declared.built.Built.{Built}
-use Rattle.lethe_commit.specs.declared.objects.Object.{Object}
-use Rattle.lethe_cover.proofs.Lists.{pairs_to, pairs_unmap}
-use Rattle.lethe_cover.proofs.Lists as lists
+use Rattle.lethe_base.proofs.LayoutLaws.{none_in}
+use Rattle.lethe_build.specs.Drafts.{AreDraftsOf}
+use Rattle.lethe_build.specs.declared.draft.Draft.{Draft}
+use Rattle.lethe_cover.proofs.Common.{⊎_elim}
+use Rattle.lethe_file.specs.Agreement.{page_name}
 use Rattle.lethe_header.specs.Headers as headers
 use Rattle.lethe_header.specs.Headers.{header_bytes}
+use Rattle.lethe_header.specs.declared.header.PageLine.{PageLine}
 use Rattle.lethe_manifest.specs.Manifests as manifests
 use Rattle.lethe_manifest.specs.declared.manifest.Cited.{Cited}
 use Rattle.lethe_merge.specs.Merge.{merged}
-use Rattle.lethe_stored.specs.Files.{StoredFile, IsFile, cited_of, objects_of}
-use Rattle.lethe_stored.specs.Files.{file_of}
-use Rattle.lethe_follows.specs.Filed.{AreNewFiles}
-use Rattle.lethe_moves.specs.Made.{AreMade}
-use Rattle.lethe_flush.specs.Apart.{IsOf, IsSpelled, stored_of}
-use Rattle.lethe_flush.specs.Flushed.{IsFlushOf, named_of}
-use Rattle.lethe_flush.specs.declared.flushed.Flushed.{Flushed}
-use Rattle.lethe_flush.proofs.Cutting.{are_files, are_new, differ, each_built, is_spelled, objects_differ}
-use Rattle.lethe_flush.proofs.Making.{are_made}
+use Rattle.lethe_merge.proofs.Merges.{merged_ascends}
+use Rattle.lethe_stored.specs.Files.{StoredFile, cited_of, lines_in}
+use Rattle.lethe_tile.proofs.Orders.{all_left, all_right}
+use Rattle.lethe_flush.specs.Flushed.{IsFlushOf}
+use Rattle.lethe_flush.specs.Made.{AreFilesOf}
+use Rattle.lethe_flush.specs.declared.made.MadeFiles.{MadeFiles}
+use Rattle.lethe_flush.proofs.Weaving.{are_woven, files_agree}
 
-module _ (fields : Fields) (entries : List Entry) (first upto : ℕ) (files : List Built) (up : IsAscending entries) (are : AreFilesOf fields entries first files) (flushed : Flushed)
-    (of : IsOf (map (stored_of upto) files) first flushed) (next : flushed.next ≡ first + length (all_numbers files))
+all_flat : {X Y : Type 0} (P : Y → Type 0) (f : X → List Y) (xs : List X) → All P (flat_map f xs) → All (λ x. All P (f x)) xs
+all_flat P f [] all = All-nil (λ x. All P (f x))
+all_flat P f (x ∷ xs) all = All-cons (λ x. All P (f x)) x xs (all_left P (f x) (flat_map f xs) all) (all_flat P f xs (all_right P (f x) (flat_map f xs) all))
+
+-- files of drafts
+module _ (drafts : List Draft) (level upto : ℕ) (written : List Name) (first : ℕ) (made : MadeFiles) (files : List StoredFile) (are : AreFilesOf drafts level upto written first made files) where
+  pub headers_spelled : All headers.HasSpelling made.headers.items
+  headers_spelled = subst (All headers.HasSpelling) (sym are.headers_are) (All-map headers.HasSpelling (λ (file : StoredFile). file.header) files are.spelled)
+
+  pub cited_level : All (λ file. file.level ≡ level) made.cited.items
+  cited_level = subst (All (λ (file : Cited). file.level ≡ level)) (sym are.cited) (All-map (λ (file : Cited). file.level ≡ level) cited_of files are.level_is)
+
+  pub cited_spelled : upto ≤ max_place → (levels : ℕ) → level ≤ levels → All (manifests.IsFile made.next levels) made.cited.items
+  cited_spelled low levels fits =
+      subst (All (manifests.IsFile made.next levels)) (sym are.cited)
+      (All-map (manifests.IsFile made.next levels) cited_of files (λ k d lt.
+      let at = are.level_is k d lt in
+      let swept = are.swept k d lt in
+      record { level = omega (arith, at, fits); no = (are.headers_drawn k d lt).1; swept = omega (arith, swept, low); digest = length-sha256 (header_bytes (get_or files k d).header) }))
+
+-- files of a flush
+module _ (fields : Fields) (entries : List Entry) (erases : List Pending) (alone : Bool) (drafts : List Draft) (of : AreDraftsOf fields (merged entries erases alone) drafts) (upto first : ℕ) (made : MadeFiles) (files : List StoredFile)
+    (are : AreFilesOf drafts 0 upto [] first made files)
   where
-    abbrev stored : List StoredFile
-    stored = map (stored_of upto) files
+    fresh : All (λ line. (first ≤ line.no) × (line.no < made.next)) (flat_map lines_in files)
+    fresh = λ k d lt. ⊎_elim (λ there. absurd (none_in (page_name (get_or (flat_map lines_in files) k d).no) there)) (λ is. is) (are.lines k d lt)
 
-    abbrev last : ℕ
-    last = first + length (all_numbers files)
+    below : All (λ file. All (λ line. line.no < made.next) (lines_in file)) files
+    below = all_flat (λ (line : PageLine). line.no < made.next) lines_in files (λ k d lt. (fresh k d lt).1)
 
-    each_file : All (IsFile last) stored
-    each_file = are_files upto first files are.numbers are.groups are.each
-
-    once : AllPairs (λ a b. a.name ≢ b.name) flushed.objects.items
-    once =
-        let spelled = each_built IsFileOf IsSpelled is_spelled are.groups files are.each in
-        let pairs = subst (lists.Pairs (λ (a b : Name × List ℕ). a.0 ≢ b.0)) (sym of.objects) (objects_differ upto files spelled (differ upto first files are.numbers)) in
-        pairs_to (λ (a b : Object). a.name ≢ b.name) flushed.objects.items (pairs_unmap (λ (a b : Name × List ℕ). a.0 ≢ b.0) named_of flushed.objects.items pairs)
-
-    pub is_flush : (buffer : List Entry) (erases : List Pending) (alone : Bool) → entries ≡ merged buffer erases alone → IsFlushOf buffer erases alone upto first flushed stored
-    is_flush buffer erases alone left = record {
-      headers = of.headers;
-      cited = of.cited;
-      objects = subst (IsPermutation (objects_of stored)) (sym of.objects) (IsPermutation-refl (objects_of stored));
-      new = subst (λ (n : ℕ). AreNewFiles first n stored) (sym next) (are_new upto first files are.numbers each_file);
-      made = subst (λ (es : List Entry). AreMade es upto (map file_of stored)) left (are_made upto fields entries first files up are last each_file);
-      once = once;
+    pub is_flush : IsFlushOf fields entries erases alone upto first made files
+    is_flush = record {
+      headers = are.headers_are;
+      cited = are.cited;
+      objects = are.objects;
+      new = record {
+        level = are.level_is;
+        each = λ k d lt. record { spelled = are.spelled k d lt; agrees = files_agree fields (merged entries erases alone) (merged_ascends entries erases alone) drafts of files are.each k d lt; below = below k d lt };
+        headers = are.headers_drawn;
+        lines = λ k d lt. (fresh k d lt).0;
+        files_once = λ i j d before within same. let up = are.headers_ascend i j d before within in omega (arith, up, same);
+        pages_once = are.lines_once;
+      };
+      woven = are_woven fields (merged entries erases alone) (merged_ascends entries erases alone) drafts of files are.each upto are.spelled are.swept;
+      once = are.once;
     }
-
-    pub headers_spelled : All headers.HasSpelling flushed.headers.items
-    headers_spelled = subst (All headers.HasSpelling) (sym of.headers) (All-map headers.HasSpelling (λ (file : StoredFile). file.header) stored (λ k d lt. (each_file k d lt).spelled))
-
-    pub cited_level : All (λ file. file.level ≡ 0) flushed.cited.items
-    cited_level = subst (All (λ (file : Cited). file.level ≡ 0)) (sym of.cited) (All-map (λ (file : Cited). file.level ≡ 0) cited_of stored (are_new upto first files are.numbers each_file).level)
-
-    pub cited_spelled : upto ≤ max_place → (levels : ℕ) → All (manifests.IsFile flushed.next levels) flushed.cited.items
-    cited_spelled low levels =
-        subst (λ (n : ℕ). All (manifests.IsFile n levels) flushed.cited.items) (sym next)
-        (subst (All (manifests.IsFile last levels)) (sym of.cited)
-        (All-map (manifests.IsFile last levels) cited_of stored (λ k d lt.
-        let new = are_new upto first files are.numbers each_file in
-        let level = new.level k d lt in
-        let swept = swept_is k d lt in
-        record { level = omega (arith, level); no = (new.headers k d lt).1; swept = omega (arith, swept, low); digest = length-sha256 (header_bytes (get_or stored k d).header) })))
-      where
-        swept_is : All (λ (file : StoredFile). file.swept ≡ upto) stored
-        swept_is = All-map (λ (file : StoredFile). file.swept ≡ upto) (stored_of upto) files (λ k d lt. refl)

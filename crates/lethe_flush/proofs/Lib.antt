@@ -2,7 +2,9 @@ pub mod Newest
 pub mod Results
 pub mod Places
 pub mod Clearness
-pub mod Taking
-pub mod Cutting
-pub mod Making
+pub mod Zips
+pub mod Numbers
+pub mod Pushed
+pub mod Adding
+pub mod Weaving
 pub mod Finishing

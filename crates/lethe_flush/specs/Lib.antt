@@ -1,4 +1,5 @@
 pub mod Clear
 pub mod Made
 pub mod Flushed
+pub mod Added
 pub mod ByPlace

@@ -46,7 +46,7 @@ fn config() -> Result<Config, Fail> {
 }
 
 /// What is made of the records of a segment where one erase of a range of delete keys is pending, at place 9 and time 40.
-fn flush_row(alloc: Global, segment: &[u8], erased: Range, alone: bool) -> Result<Flushed, Fail> {
+fn flush_row(alloc: Global, segment: &[u8], erased: Range, alone: bool) -> Result<MadeFiles, Fail> {
     let records = replay(alloc, segment).map_err(|_| "no records")?;
     if records.len() > 10 {
         return Err(Fail::new("too many records"));
@@ -57,7 +57,8 @@ fn flush_row(alloc: Global, segment: &[u8], erased: Range, alone: bool) -> Resul
         time: 40,
         range: erased,
     }];
-    Ok(flush_of(alloc, &buffer, &erases, alone, 9, &config()?, 1)?)
+    let drafts = flush_drafts(alloc, &buffer, &erases, alone, &config()?)?;
+    Ok(flush_files(alloc, drafts, 9, 1)?)
 }
 
 fn range_of(lo: u64, hi: u64) -> Result<Range, Fail> {

@@ -62,13 +62,21 @@ abbrev pub buffered : Option Buffered → List Entry
 buffered None = []
 buffered (Some buffer) = buffer.entries
 
--- the numbers of the objects of the files that the frozen buffer becomes, and a manifest's, can't be drawn
-pub record IsShortToFlush (state : State) : Type 0 where
+-- the drafts of the files that the frozen buffer becomes
+pub record AreDrafted (state : State) (drafts : List Draft) : Type 0 where
   pub alone : Bool
-  pub drafts : List Draft
   pub are : AreDraftsOf state.manifest.config (merged (buffered state.frozen) state.pending alone) drafts
   pub few : sum_by numbers_for drafts ≤ most_numbers (frozen_len state.frozen)
-  pub short : max_place ≤ state.next + sum_by numbers_for drafts
+
+-- the numbers of these files' objects and so many more can't be drawn
+pub record IsShortBy (more : ℕ) (state : State) : Type 0 where
+  pub drafts : List Draft
+  pub drafted : AreDrafted state drafts
+  pub short : max_place ≤ state.next + sum_by numbers_for drafts + more
+
+-- neither those nor a manifest's
+abbrev pub IsShortToFlush : State → Type 0
+IsShortToFlush state = IsShortBy 0 state
 
 -- On any disk: the step's manifest has a spelling, cites so many segments and keeps the configuration. Each number that was drawn is one of an
 -- object or the manifest's, which is the last, and files come in a level that there is.

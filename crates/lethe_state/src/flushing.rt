@@ -53,7 +53,7 @@ impl State {
 
         // The numbers of all objects and of the manifest were drawn.
         ensures step { IfOk result (λ made. IsStepFrom 1 self.now made.1) }
-        ensures few { IfOk result (λ made. length made.1.objects.items ≤ most_numbers (frozen_len self.now.frozen)) }
+        ensures drafted { IfOk result (λ made. (drafts : prelude.List draft.Draft) × AreDrafted self.now drafts × (length made.1.objects.items ≡ sum_by numbers_for drafts)) }
         ensures flushes { (s : Stored) → Remembers s self.now (parts_by_level version.now) → IsCurrent s self.now
             → (loose : prelude.List (name.Name × prelude.List ℕ)) → AreDrawn self.now.next (names_in loose) → AreUncited s loose
             → IfOk result (λ made. (t : Stored) × IsFlushed s t × IsStep s loose t loose made.0.items made.1) }

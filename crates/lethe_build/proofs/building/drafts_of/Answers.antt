@@ -1,4 +1,4 @@
-use Rattle.std.proofs.Common.{◌≡◌, ◌∷◌, All, List, map, length, ap, sym, ◌∙◌, subst, arith, rules}
+use Rattle.std.proofs.Common.{◌≡◌, All, List, map, ap, sym, subst, arith, rules}
 use Rattle.std.specs.List.{AllZip}
 use Rattle.lethe_base.specs.Configuration.{IsConfig}
 use Rattle.lethe_base.specs.Layout as layout
@@ -36,7 +36,6 @@ returns-clause-drafts c =
     let groups = map (λ group. map plain group.items) c.in_ok-groups.groups.items in
     let all : c.into_iter-group-iterator.result.rest.items ≡ c.in_ok-groups.groups.items = search rules in
     let whole : map (λ group. map plain group.items) c.into_iter-group-iterator.result.rest.items ≡ groups = ap (map (λ group. map plain group.items)) all in
-    let fields = c.args.config.now in
     record {
       tiles = map plain c.in_ok-tiles.tiles.items;
       woven = c.in_ok-tiles.ensures;

@@ -1,4 +1,4 @@
-use Rattle.std.proofs.Common.{rules, ◌≡◌, ◌<◌, ◌≤◌, length, drop, get_or, ap, ◌∙◌, arith}
+use Rattle.std.proofs.Common.{rules, ◌≡◌, ◌<◌, length, drop, get_or, ap, ◌∙◌, arith}
 use Rattle.lethe_build.proofs.Numbering.{behind_turn, numbers_behind, pages_made, tiles_all, tiles_length, tiles_room, tiles_turn, written}
 use Rattle.lethe_build.proofs.draft.with_numbers.Goals as goal
 

@@ -1,4 +1,4 @@
-use Rattle.std.proofs.Common.{◌≡◌, arith}
+use Rattle.std.proofs.Common.{arith}
 use Rattle.lethe_tile.specs.Woven.{plain}
 use Rattle.lethe_tile.proofs.Pages.{going_next}
 use Rattle.lethe_build.specs.Parts.{IsWhole, IsTileLineOf}

@@ -1,4 +1,4 @@
-use Rattle.std.proofs.Common.{◌≡◌, take, sym, ap, ◌∙◌}
+use Rattle.std.proofs.Common.{take, sym, ap, ◌∙◌}
 use Rattle.lethe_base.specs.Shapes.{earlier, oldest_of}
 use Rattle.lethe_build.proofs.Lines.{oldest_more}
 use Rattle.lethe_build.proofs.line.oldest_of.Goals as goal

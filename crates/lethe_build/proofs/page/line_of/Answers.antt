@@ -1,4 +1,4 @@
-use Rattle.std.proofs.Common.{◌≡◌, length, rules, ap, sym, subst}
+use Rattle.std.proofs.Common.{◌≡◌, length, rules, subst}
 use Rattle.sha2.specs.Sha256.{sha256}
 use Rattle.lethe_file.specs.Agreement.{IsFilterOf, fence_of, keys_of}
 use Rattle.lethe_base.specs.Shapes.{oldest_of}

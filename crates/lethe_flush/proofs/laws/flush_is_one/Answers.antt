@@ -6,10 +6,10 @@ use Rattle.lethe_stored.specs.Files.{StoredFile, file_of}
 use Rattle.lethe_flush.proofs.laws.flush_is_one.Goals as goal
 
 pub returns : goal.returns
-returns c = λ h l alone first flushed files is clear above. record {
+returns c = λ h l alone first fields made files is clear above. record {
   alone = alone;
   clear = clear;
-  made = is.made;
+  made = is.woven.made;
   new = record {
     distinct = pairs_to (λ (a b : File). a.no ≢ b.no) (map file_of files) (pairs_map (λ (a b : File). a.no ≢ b.no) file_of files (pairs_from (λ (a b : StoredFile). a.header.no ≢ b.header.no) files is.new.files_once));
     above = All-map (λ (file : File). All (λ (other : File). other.no < file.no) (files_of l)) file_of files

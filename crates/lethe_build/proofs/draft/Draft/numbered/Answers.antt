@@ -1,7 +1,7 @@
 use Rattle.std.proofs.Common.{◌≡◌, ◌∙◌, length, ap, sym, refl}
 use Rattle.sha2.specs.Sha256.{sha256}
 use Rattle.lethe_header.specs.Facts.{lines_of}
-use Rattle.lethe_build.specs.Drafts.{header_of, with_numbers}
+use Rattle.lethe_build.specs.Drafts.{header_of}
 use Rattle.lethe_build.proofs.Numbering.{spelled_again}
 use Rattle.lethe_build.proofs.draft.Draft.numbered.Goals as goal
 

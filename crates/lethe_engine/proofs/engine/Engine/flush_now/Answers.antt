@@ -6,7 +6,7 @@ use Rattle.lethe_state.specs.declared.state.State.{State}
 use Rattle.lethe_state.proofs.Stepping.{flush_for}
 use Rattle.lethe_engine.specs.Changes.{refused_to}
 use Rattle.lethe_engine.specs.Sound.{IsSmall, IsSound}
-use Rattle.lethe_engine.specs.StandsFor.{StandsFor}
+use Rattle.lethe_engine.specs.StandsFor.{StandsNow}
 use Rattle.lethe_engine.specs.Work.{stepped_to}
 use Rattle.lethe_engine.proofs.Hindered.{hindered_sound, hindered_stands}
 use Rattle.lethe_engine.proofs.Next.{next_done, next_moments, next_sound, next_stands, refused_before}
@@ -18,7 +18,7 @@ pub returns-in_err-headers-clause-stands : goal.returns-in_err-headers-clause-st
 returns-in_err-headers-clause-stands g c = λ told config h stands caller call.
     let why = c.in_err-headers.field-0.0 in
     let refusal : c.from_residual.result ≡ Err why = search rules in
-    subst (λ after. StandsFor config after (g.D.Disk.seen c.args.self.now.disk) c.args.self.now.state (parts_by_level c.args.self.now.version))
+    subst (λ after. StandsNow config after (g.D.Disk.seen c.args.self.now.disk) c.args.self.now.state (parts_by_level c.args.self.now.version))
     (sym (ap (stepped_to h caller call) refusal ∙ refused_before h caller call why c.in_err-headers.ensures.refused)) stands
 
 pub returns-in_err-headers-clause-any_moment : goal.returns-in_err-headers-clause-any_moment
@@ -53,8 +53,8 @@ returns-in_err-carry_out-clause-stands g c = λ told config h stands caller call
     let refusal : c.from_residual-in_err-carry_out.result ≡ Err why = search rules in
     let goes = next_moments IsFlushed old.state levels c.in_ok-headers.headers.items c.in_ok-headers.step start finish
     (λ s remembers current. c.in_ok-headers.ensures.flushes s remembers current) (λ h s t remembers for is. flush_for h s t remembers.coherent for is) config h stands c.requires.runs (c.carry_out.ensures.moments told) in
-    subst (λ after. StandsFor config after finish new.state (parts_by_level new.version)) (sym (ap (stepped_to h caller call) refusal))
-    (subst (λ version. StandsFor config (refused_to h caller call why) finish new.state (parts_by_level version)) (sym c.in_err-carry_out.ensures.version)
+    subst (λ after. StandsNow config after finish new.state (parts_by_level new.version)) (sym (ap (stepped_to h caller call) refusal))
+    (subst (λ version. StandsNow config (refused_to h caller call why) finish new.state (parts_by_level version)) (sym c.in_err-carry_out.ensures.version)
     (hindered_stands g.D.Disk.tells old.state new.state start finish c.args.before (g.D.Disk.faults new.disk) config h levels stands c.requires.runs told c.requires.fits goes (laws.itself told new.disk) caller call why c.in_err-carry_out.ensures.refused))
 
 pub returns-in_err-carry_out-clause-any_moment : goal.returns-in_err-carry_out-clause-any_moment

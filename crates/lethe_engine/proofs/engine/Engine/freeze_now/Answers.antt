@@ -7,7 +7,7 @@ use Rattle.lethe_state.specs.Room.{IsFrozen, IsFrozenWith}
 use Rattle.lethe_state.specs.declared.state.State.{State}
 use Rattle.lethe_engine.specs.Changes.{refused_to}
 use Rattle.lethe_engine.specs.Sound.{IsSound}
-use Rattle.lethe_engine.specs.StandsFor.{StandsFor}
+use Rattle.lethe_engine.specs.StandsFor.{StandsNow}
 use Rattle.lethe_engine.specs.Work.{stepped_to}
 use Rattle.lethe_engine.proofs.Hindered.{hindered_sound, hindered_stands}
 use Rattle.lethe_engine.proofs.Next.{frozen_for, next_done, next_moments, next_sound, next_stands, refused_before}
@@ -19,7 +19,7 @@ pub returns-in_err-step-clause-stands : goal.returns-in_err-step-clause-stands
 returns-in_err-step-clause-stands g c = λ told config h stands caller call.
     let why = c.in_err-step.field-0.0 in
     let refusal : c.from_residual.result ≡ Err why = search rules in
-    subst (λ after. StandsFor config after (g.D.Disk.seen c.args.self.now.disk) c.args.self.now.state (parts_by_level c.args.self.now.version))
+    subst (λ after. StandsNow config after (g.D.Disk.seen c.args.self.now.disk) c.args.self.now.state (parts_by_level c.args.self.now.version))
     (sym (ap (stepped_to h caller call) refusal ∙ refused_before h caller call why c.in_err-step.ensures.refused)) stands
 
 pub returns-in_err-step-clause-any_moment : goal.returns-in_err-step-clause-any_moment
@@ -55,8 +55,8 @@ returns-in_err-carry_out-clause-stands g c = λ told config h stands caller call
     let refusal : c.from_residual-in_err-carry_out.result ≡ Err why = search rules in
     let goes = next_moments IsFrozen old.state levels c.new.result.items c.in_ok-step.step start finish
     (λ s remembers current. (froze s s.manifest.next (s.manifest.next + 1), refl, subst (λ headers. IsStep s (froze s s.manifest.next (s.manifest.next + 1)) headers c.in_ok-step.step) (sym c.new.ensures.items) (c.in_ok-step.ensures.freezes s (parts_by_level c.args.self.now.version) remembers current))) (λ h s t remembers for is. frozen_for h s t c.args.self.now.state (parts_by_level c.args.self.now.version) remembers (not_frozen s c.args.self.now.state (parts_by_level c.args.self.now.version) remembers c.requires.unfrozen) for is) config h stands c.requires.runs (c.carry_out.ensures.moments told) in
-    subst (λ after. StandsFor config after finish new.state (parts_by_level new.version)) (sym (ap (stepped_to h caller call) refusal))
-    (subst (λ version. StandsFor config (refused_to h caller call why) finish new.state (parts_by_level version)) (sym c.in_err-carry_out.ensures.version)
+    subst (λ after. StandsNow config after finish new.state (parts_by_level new.version)) (sym (ap (stepped_to h caller call) refusal))
+    (subst (λ version. StandsNow config (refused_to h caller call why) finish new.state (parts_by_level version)) (sym c.in_err-carry_out.ensures.version)
     (hindered_stands g.D.Disk.tells old.state new.state start finish c.args.before (g.D.Disk.faults new.disk) config h levels stands c.requires.runs told c.requires.fits goes (laws.itself told new.disk) caller call why c.in_err-carry_out.ensures.refused))
 
 pub returns-in_err-carry_out-clause-any_moment : goal.returns-in_err-carry_out-clause-any_moment

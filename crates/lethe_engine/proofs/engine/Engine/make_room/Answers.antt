@@ -10,7 +10,7 @@ use Rattle.lethe_advance.specs.Shown.{parts_by_level}
 use Rattle.lethe_state.specs.Remembered.{Remembers}
 use Rattle.lethe_state.specs.Room.{HasRoom, IsFrozen, IsRoomMade}
 use Rattle.lethe_engine.specs.Sound.{IsRunning}
-use Rattle.lethe_engine.specs.StandsFor.{StandsFor}
+use Rattle.lethe_engine.specs.StandsFor.{StandsNow}
 use Rattle.lethe_engine.specs.Steps.{IsEmptied, IsReady}
 use Rattle.lethe_engine.specs.Work.{stepped_to}
 use Rattle.lethe_engine.proofs.Roomed.{has_room_of, reasons_after, sees_room}
@@ -33,7 +33,7 @@ pub returns-in_err-unfreeze-clause-stands : goal.returns-in_err-unfreeze-clause-
 returns-in_err-unfreeze-clause-stands g c = λ told config h stands caller call.
     let why = c.in_err-unfreeze.field-0.0 in
     let refusal : c.from_residual.result ≡ Err why = search rules in
-    subst (λ after. StandsFor config after (g.D.Disk.seen c.unfreeze.new.self.disk) c.unfreeze.new.self.state (parts_by_level c.unfreeze.new.self.version))
+    subst (λ after. StandsNow config after (g.D.Disk.seen c.unfreeze.new.self.disk) c.unfreeze.new.self.state (parts_by_level c.unfreeze.new.self.version))
     (sym (ap (stepped_to h caller call) refusal)) (c.in_err-unfreeze.ensures.stands told config h stands caller call)
 
 pub returns-in_err-unfreeze-clause-any_moment : goal.returns-in_err-unfreeze-clause-any_moment

@@ -24,6 +24,11 @@ returns-in-Ok-opened-clause-sound g c =
 pub returns-in-Ok-opened-clause-runs : goal.returns-in-Ok-opened-clause-runs
 returns-in-Ok-opened-clause-runs g c = c.in-Ok-opened.ensures.fresh.stopped
 
+pub returns-in-Ok-opened-clause-numbers : goal.returns-in-Ok-opened-clause-numbers
+returns-in-Ok-opened-clause-numbers g c = λ told next is.
+    let next_is : c.in-Ok-opened.state.manifest.next ≡ c.in-Ok.field-0.manifest.next = ap (λ (m : Manifest). m.next) c.in-Ok-opened.ensures.fresh.manifest_is in
+    omega (arith, next_is, c.in-Ok.ensures.numbers told next is)
+
 pub returns-in-Ok-opened-clause-resumed : goal.returns-in-Ok-opened-clause-resumed
 returns-in-Ok-opened-clause-resumed g c = λ tells h change left.
     let seen = g.D.Disk.seen c.open.new.disk in
@@ -32,12 +37,8 @@ returns-in-Ok-opened-clause-resumed g c = λ tells h change left.
     let again = c.in-Ok.ensures.resumed tells h change left in
     let is = again.is in
     let remembers = c.in-Ok-opened.ensures.remembers is.s levels is.settled.coherent is.told.files (sym is.told.manifest) is.told.frozen is.told.active is.told.erases in
-    resumed c.args.config.now h again.history change seen is.s state levels again.either (opened_running seen is.s state is.settled is.only is.told.active is.ends c.in-Ok-opened.ensures.end remembers.1) remembers.0 is.config_is again.stands
-
-pub returns-in-Ok-opened-clause-numbers : goal.returns-in-Ok-opened-clause-numbers
-returns-in-Ok-opened-clause-numbers g c = λ told next is.
-    let next_is : c.in-Ok-opened.state.manifest.next ≡ c.in-Ok.field-0.manifest.next = ap (λ (m : Manifest). m.next) c.in-Ok-opened.ensures.fresh.manifest_is in
-    omega (arith, next_is, c.in-Ok.ensures.numbers told next is)
+    resumed c.args.config.now h again.history change (g.D.Disk.seen c.args.disk) seen (g.D.Disk.faults c.open.new.disk) is.s state levels again.either (opened_running seen is.s state is.settled is.only is.told.active is.ends c.in-Ok-opened.ensures.end remembers.1) remembers.0 is.config_is again.stands
+    (λ next from. returns-in-Ok-opened-clause-numbers g c tells next from)
 
 pub returns-in-Err-clause-untouched : goal.returns-in-Err-clause-untouched
 returns-in-Err-clause-untouched g c = λ told.

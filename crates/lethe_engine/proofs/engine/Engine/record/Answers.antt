@@ -9,7 +9,7 @@ use Rattle.lethe_stored.specs.Stored.{appended, segment_name}
 use Rattle.lethe_advance.specs.Shown.{parts_by_level}
 use Rattle.lethe_state.specs.declared.state.State.{State}
 use Rattle.lethe_engine.specs.Sound.{IsSound}
-use Rattle.lethe_engine.specs.StandsFor.{StandsFor}
+use Rattle.lethe_engine.specs.StandsFor.{StandsNow}
 use Rattle.lethe_engine.proofs.Carried.{running_back}
 use Rattle.lethe_engine.proofs.Hindered.{like_sound, like_stands, sound_halted}
 use Rattle.lethe_engine.proofs.Likes.{halted_remembered, like_remembered, like_small, next_small}
@@ -86,7 +86,7 @@ returns-in-Err-Failed-clause-stands g c = λ told config h caller call change st
     let running = stands_running config h (g.D.Disk.seen c.args.self.now.disk) c.args.self.now.state (parts_by_level c.args.self.now.version) stands c.requires.runs in
     let ready = prepared_ready (g.D.Disk.seen c.args.self.now.disk) stands.stored c.args.self.now.state c.prepare.new.self (parts_by_level c.args.self.now.version) c.prepare.ensures.same stands.remembers running c.args.next c.requires.spelled c.requires.place c.active_number-no.result c.active_number-no.ensures c.deref.result.now (c.deref.ensures.value ∙ c.in-Ok.ensures.body) in
     let laws = g.met.D.Disk g.world.𝓛 g.world.𝓜 g.world.𝓡 ((λ s x. x), (λ x. x), (λ x. x), λ x. x) in
-    subst (λ state. StandsFor config (with_failed h caller call c.args.before c.faults.result) (g.D.Disk.seen c.append.new.disk) state (parts_by_level c.args.self.now.version)) (sym c.stop-place.ensures.is)
+    subst (λ state. StandsNow config (with_failed h caller call c.args.before c.faults.result) (g.D.Disk.seen c.append.new.disk) state (parts_by_level c.args.self.now.version)) (sym c.stop-place.ensures.is)
     (failed_stands config h (g.D.Disk.seen c.args.self.now.disk) (g.D.Disk.seen c.append.new.disk) c.args.self.now.state (parts_by_level c.args.self.now.version) stands c.requires.runs c.requires.fits c.prepare.new.self
     (halted_remembered stands.stored c.prepare.new.self (parts_by_level c.args.self.now.version) (like_remembered stands.stored c.args.self.now.state c.prepare.new.self c.prepare.ensures.same (parts_by_level c.args.self.now.version) stands.remembers)) c.prepare.ensures.same.count caller call change c.args.before c.faults.result
     (laws.itself told c.append.new.disk)

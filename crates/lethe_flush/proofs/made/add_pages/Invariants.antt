@@ -1,7 +1,7 @@
 use Rattle.std.proofs.Common.{◌≡◌, ◌+◌, ◌++◌, map, length}
-use Rattle.lethe_flush.specs.Apart.{numbered}
-use Rattle.lethe_flush.specs.Flushed.{named_of}
-use Rattle.lethe_flush.proofs.flushed.add_pages.Given as goal
+use Rattle.lethe_flush.specs.Added.{numbered}
+use Rattle.lethe_flush.specs.Made.{named_of}
+use Rattle.lethe_flush.proofs.made.add_pages.Given as goal
 
 -- with the pages that are left it has all
 abbrev pub invariant-loop-page : goal.invariant-loop-page

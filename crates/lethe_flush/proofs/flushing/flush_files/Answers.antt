@@ -1,0 +1,14 @@
+use Rattle.std.proofs.Common.{[], List}
+use Rattle.lethe_stored.specs.Files.{StoredFile}
+use Rattle.lethe_flush.specs.Flushed.{IsFlushOf}
+use Rattle.lethe_flush.specs.Made.{AreFilesOf}
+use Rattle.lethe_flush.proofs.Finishing.{is_flush}
+use Rattle.lethe_flush.proofs.Results.{ok_weaker}
+use Rattle.lethe_flush.proofs.flushing.flush_files.Goals as goal
+
+pub returns-clause-made : goal.returns-clause-made
+returns-clause-made c = λ fields entries erases alone of.
+    let drafts = c.args.drafts.items in
+    ok_weaker c.make_files.result (λ made. (files : List StoredFile) × AreFilesOf drafts 0 c.args.upto [] c.args.first made files)
+    (λ made. (files : List StoredFile) × IsFlushOf fields entries erases alone c.args.upto c.args.first made files) c.make_files.ensures.made
+    (λ made found. (found.0, is_flush fields entries erases alone drafts of c.args.upto c.args.first made found.0 found.1))
