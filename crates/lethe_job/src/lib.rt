@@ -6,11 +6,8 @@ mod inputs;
 mod job;
 mod laws;
 mod outcome;
-<<<<<<< HEAD
 mod reach;
-=======
 mod reading;
->>>>>>> 5e5896c3d2355cd8d56db45159d27dac70c4b245
 mod shape;
 mod task;
 
