@@ -59,7 +59,11 @@ pub entered_writable : (next : Record) (end : ℕ) (old new : State) → IsWrita
 entered_writable next end old new is fits spelled step =
     let counts = step.count in
     let records = step.records in
-    let before = is.records in record {
+    let before = is.records in
+    let drawn = is.drawn in
+    let last = is.last in
+    let same = step.drawn in
+    let cited : new.manifest.next ≡ old.manifest.next = ap (λ (m : Manifest). m.next) step.manifest in record {
       manifest = subst manifests.HasSpelling (sym step.manifest) is.manifest;
       segments = ap (λ (m : Manifest). length m.segments) step.manifest ∙ is.segments ∙ ap segments_for (sym step.frozen);
       pending = subst AreErases (sym step.pending) is.pending;
@@ -67,4 +71,6 @@ entered_writable next end old new is fits spelled step =
       frozen = subst (λ frozen. IfSome frozen (λ (buffer : Buffered). All HasSpelling buffer.entries)) (sym step.frozen) is.frozen;
       count = omega (arith, counts, fits);
       records = omega (arith, counts, records, before);
+      drawn = omega (arith, drawn, same, cited);
+      last = omega (arith, last, same);
     }

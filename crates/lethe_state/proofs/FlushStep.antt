@@ -19,10 +19,12 @@ use Rattle.lethe_cover.proofs.Lists.{Pairs, all_from, in_map, map_from, pairs_ap
 use Rattle.lethe_fade.specs.Spans.{KeyRange, overlaps}
 use Rattle.lethe_file.specs.Agreement.{page_name}
 use Rattle.lethe_flush.specs.Clear as clear
-use Rattle.lethe_flush.specs.Flushed.{IsFlushOf, named_of}
-use Rattle.lethe_flush.specs.declared.flushed.Flushed.{Flushed}
+use Rattle.lethe_flush.specs.Flushed.{IsFlushOf}
+use Rattle.lethe_flush.specs.Made.{named_of}
+use Rattle.lethe_flush.specs.declared.made.MadeFiles.{MadeFiles}
 use Rattle.lethe_flush.proofs.Newest.{newest_values}
 use Rattle.lethe_follows.specs.Filed.{AreNewFiles, flushed}
+use Rattle.lethe_follows.specs.Woven.{AreWovenOf}
 use Rattle.lethe_follows.proofs.Following.{file_from, file_in}
 use Rattle.lethe_follows.proofs.Stepping.{flushed_coherent}
 use Rattle.lethe_header.specs.declared.header.Header.{Header}
@@ -34,7 +36,6 @@ use Rattle.lethe_mem.specs.Buffered.{Buffered}
 use Rattle.lethe_merge.specs.Merge.{merged}
 use Rattle.lethe_moves.specs.Files as moves
 use Rattle.lethe_moves.specs.Flushes.{frozen_entries, span_of}
-use Rattle.lethe_moves.specs.Made.{AreMade}
 use Rattle.lethe_stored.specs.Files.{Parts, StoredFile, file_of, lines_in, objects_in, objects_of, parts_of}
 use Rattle.lethe_stored.specs.Replayed.{AreNewestOf}
 use Rattle.lethe_stored.specs.Stored.{Stored, Segment, count_of, layout_of, number_of, part_names, pending_of, plain, records_in, segment_name, segment_numbers}
@@ -43,6 +44,7 @@ use Rattle.lethe_stored.proofs.Leveled.{low_level}
 use Rattle.lethe_stored.proofs.Lists.{from_flat, from_map, in_flat, zip_left}
 use Rattle.lethe_stored.proofs.Meanings.{frozen_are}
 use Rattle.lethe_stored.proofs.Parts.{active_part, frozen_part, object_apart, object_part}
+use Rattle.lethe_advance.specs.Settled.{AreDrawn, AreUncited, names_in}
 use Rattle.lethe_advance.specs.Steps.{IsObjectFrom, IsSegmentFrom, IsStep, IsUncited, written_in}
 use Rattle.lethe_advance.specs.declared.step.Step.{Step}
 use Rattle.lethe_state.specs.Made.{IsFlushStep, flushing_manifest}
@@ -53,7 +55,7 @@ use Rattle.lethe_state.specs.Writable.{IsWritable}
 use Rattle.lethe_state.specs.declared.state.State.{State}
 use Rattle.lethe_state.proofs.FreezeStep.{later_files}
 use Rattle.lethe_state.proofs.Leveled.{all_parts, parts_from, parts_to}
-use Rattle.lethe_state.proofs.Shared.{all_kept, one_all, one_once}
+use Rattle.lethe_state.proofs.Shared.{all_kept, all_left, left_loose, loose_apart, loose_pages, one_all, one_once, still_uncited}
 
 -- On any disk
 
@@ -106,18 +108,23 @@ module _ (state : State) (cited : List Cited) (number : ℕ) (is : IsWritable st
     };
   }
 
-pub flush_from : (state : State) (flushed : Flushed) (headers : List Header) (step : Step) → IsWritable state → length state.manifest.segments ≡ 2 → state.manifest.next ≤ flushed.next → flushed.next < max_place
-    → flushed.next ≡ state.manifest.next + length flushed.objects.items → ((levels : ℕ) → All (IsFile flushed.next levels) flushed.cited.items) → All (λ (file : Cited). file.level ≡ 0) flushed.cited.items
-    → IsFlushStep state flushed headers step → length step.manifest.files < 2 ^ 32 → IsStepFrom 1 state step
-flush_from state flushed headers step is two later fits drawn each level made few =
+pub flush_from : (state : State) (parts : MadeFiles) (headers : List Header) (step : Step) → IsWritable state → length state.manifest.segments ≡ 2 → parts.next < max_place
+    → parts.next ≡ state.next + length parts.objects.items → ((levels : ℕ) → All (IsFile parts.next levels) parts.cited.items) → All (λ (file : Cited). file.level ≡ 0) parts.cited.items
+    → IsFlushStep state parts headers step → length step.manifest.files < 2 ^ 32 → IsStepFrom 1 state step
+flush_from state parts headers step is two fits drawn each level made few =
+    let before = is.drawn in
+    let later : state.manifest.next ≤ parts.next = omega (arith, before, drawn) in
     let short = subst (λ (m : Manifest). length m.files < 2 ^ 32) made.manifest few in
-    let written : length step.objects.items ≡ length flushed.objects.items = ap length made.objects in
-    let last : step.manifest.next ≡ flushed.next + 1 = ap (λ (m : Manifest). m.next) made.manifest in record {
-      spelled = subst HasSpelling (sym made.manifest) (flushing_spelled state flushed.cited.items flushed.next is two later fits each level short);
-      segments_are = ap (λ (m : Manifest). length m.segments) made.manifest ∙ one state flushed.cited.items flushed.next is two later fits each level short;
+    let written : length step.objects.items ≡ length parts.objects.items = ap length made.objects in
+    let number : step.manifest.no ≡ parts.next = ap (λ (m : Manifest). m.no) made.manifest in
+    let last : step.manifest.next ≡ parts.next + 1 = ap (λ (m : Manifest). m.next) made.manifest in
+    let zeroth = made.level in record {
+      spelled = subst HasSpelling (sym made.manifest) (flushing_spelled state parts.cited.items parts.next is two later fits each level short);
+      segments_are = ap (λ (m : Manifest). length m.segments) made.manifest ∙ one state parts.cited.items parts.next is two later fits each level short;
       config = ap (λ (m : Manifest). m.config) made.manifest;
-      level = made.level;
-      numbers = omega (arith, written, last, drawn);
+      level = omega (arith, zeroth);
+      numbers = omega (arith, written, number, drawn);
+      next = omega (arith, number, last);
     }
 
 -- Files that are clear of a range
@@ -172,8 +179,21 @@ object_fresh first last files new named there =
           subst (λ (n : Name × List ℕ). first ≤ n.0.no) found.2 (All-contains (λ (line : PageLine). first ≤ line.no) (flat_map lines_in files) (found.0).0 new.lines line)
     ]
 
-module _ (s : Stored) (state : State) (levels : List (List Parts)) (is : Remembers s state levels) (current : IsCurrent s state) (buffer : Buffered) (frozen : IsOlder s.frozen buffer)
-    (alone : Bool) (made : Flushed) (files : List StoredFile) (flush : IsFlushOf buffer.entries state.pending alone state.count state.manifest.next made files) (risen : state.manifest.next ≤ made.next) where
+-- new files have numbers from an earlier one on too
+new_weaker : (earlier first last : ℕ) (files : List StoredFile) → earlier ≤ first → AreNewFiles first last files → AreNewFiles earlier last files
+new_weaker earlier first last files le new = record {
+  level = new.level;
+  each = new.each;
+  headers = All-weaker (λ (file : StoredFile). (first ≤ file.header.no) × (file.header.no < last)) (λ (file : StoredFile). (earlier ≤ file.header.no) × (file.header.no < last))
+      (λ file is. let from = is.0 in (omega (arith, le, from), is.1)) files new.headers;
+  lines = All-weaker (λ (line : PageLine). first ≤ line.no) (λ (line : PageLine). earlier ≤ line.no) (λ line from. omega (arith, le, from)) (flat_map lines_in files) new.lines;
+  files_once = new.files_once;
+  pages_once = new.pages_once;
+}
+
+module _ (s : Stored) (state : State) (levels : List (List Parts)) (is : Remembers s state levels) (current : IsCurrent s state) (fits : state.manifest.next ≤ state.next)
+    (buffer : Buffered) (frozen : IsOlder s.frozen buffer) (alone : Bool) (made : MadeFiles) (files : List StoredFile)
+    (flush : IsFlushOf state.manifest.config buffer.entries state.pending alone state.count state.next made files) (risen : state.next ≤ made.next) where
   abbrev older : Segment
   older = frozen.older
 
@@ -186,22 +206,26 @@ module _ (s : Stored) (state : State) (levels : List (List Parts)) (is : Remembe
   next_is : state.manifest.next ≡ s.manifest.next
   next_is = ap (λ (m : Manifest). m.next) is.manifest
 
+  drawn_before : s.manifest.next ≤ state.next
+  drawn_before = omega (arith, fits, next_is)
+
   later : s.manifest.next ≤ number
-  later = omega (arith, risen, next_is)
+  later = omega (arith, risen, drawn_before)
 
   new : AreNewFiles s.manifest.next number files
-  new = subst (λ first. AreNewFiles first number files) next_is flush.new
+  new = new_weaker s.manifest.next state.next number files drawn_before flush.new
 
   entries_are : buffer.entries ≡ frozen_entries (layout_of s)
   entries_are = newest_values (frozen_records (layout_of s)) buffer.entries buffer.ascending (λ key.
       (frozen.newest) key ∙ ap (λ rs. finmap.get (buffer_of rs) key) (sym (frozen_are s ∙ ap (λ o. map plain (records_in o)) frozen.some)))
 
-  files_made : AreMade (merged (frozen_entries (layout_of s)) (pending_of s) alone) (count_of s) (map file_of files)
+  files_made : AreWovenOf s.manifest.config (merged (frozen_entries (layout_of s)) (pending_of s) alone) (count_of s) (map file_of files)
   files_made =
       let named = map file_of files in
-      subst (λ entries. AreMade (merged entries (pending_of s) alone) (count_of s) named) entries_are
-      (subst (λ pending. AreMade (merged buffer.entries pending alone) (count_of s) named) is.pending
-      (subst (λ upto. AreMade (merged buffer.entries state.pending alone) upto named) current.count flush.made))
+      subst (λ entries. AreWovenOf s.manifest.config (merged entries (pending_of s) alone) (count_of s) named) entries_are
+      (subst (λ pending. AreWovenOf s.manifest.config (merged buffer.entries pending alone) (count_of s) named) is.pending
+      (subst (λ upto. AreWovenOf s.manifest.config (merged buffer.entries state.pending alone) upto named) current.count
+      (subst (λ (m : Manifest). AreWovenOf m.config (merged buffer.entries state.pending alone) state.count named) is.manifest flush.woven)))
 
   abbrev IsAlone : List Entry → Type 0
   IsAlone entries = (entries ≢ []) × All (moves.IsClearOf (span_of entries)) (files_of (layout_of s))
@@ -221,7 +245,8 @@ module _ (s : Stored) (state : State) (levels : List (List Parts)) (is : Remembe
     files = files_made;
   }
 
-  module _ (headers : List Header) (step : Step) (stepped : IsFlushStep state made headers step) (spelled : HasSpelling step.manifest) where
+  module _ (headers : List Header) (step : Step) (stepped : IsFlushStep state made headers step) (spelled : HasSpelling step.manifest)
+      (loose : List (Name × List ℕ)) (drawn : AreDrawn state.next (names_in loose)) (uncited_before : AreUncited s loose) where
     abbrev named : List Name
     named = map (λ named. named.0) (objects_of s.files)
 
@@ -268,10 +293,16 @@ module _ (s : Stored) (state : State) (levels : List (List Parts)) (is : Remembe
     old_object : (object : Name × List ℕ) → Contains (objects_of s.files) object → Contains (objects_of t.files) object
     old_object object there = subst (λ objects. Contains objects object) (sym both) (Contains-append_right (objects_of files) (objects_of s.files) object there)
 
-    object_from : (object : Name × List ℕ) → Contains (objects_of t.files) object → IsObjectFrom s step object
+    object_from : (object : Name × List ℕ) → Contains (objects_of t.files) object → IsObjectFrom s loose step object
     object_from object there = elim (Contains-append_cases (objects_of files) (objects_of s.files) object (subst (λ objects. Contains objects object) both there)) [
-      | inl fresh ↦ inr (written object fresh)
+      | inl fresh ↦ inr (inr (written object fresh))
       | inr old ↦ inl old
+    ]
+
+    old_or_fresh : (object : Name × List ℕ) → Contains (objects_of t.files) object → Contains (part_names s) object.0 ⊎ (state.next ≤ object.0.no)
+    old_or_fresh object there = elim (Contains-append_cases (objects_of files) (objects_of s.files) object (subst (λ objects. Contains objects object) both there)) [
+      | inl fresh ↦ inr (object_fresh state.next number files flush.new object fresh)
+      | inr old ↦ inl (object_part s object old)
     ]
 
     segment_stays : (name : Name) (k : ℕ) → Contains (older.no ∷ s.active.no ∷ []) k → segment_name k ≡ name → Contains (part_names t) name ⊎ Contains step.gone.items name
@@ -302,7 +333,7 @@ module _ (s : Stored) (state : State) (levels : List (List Parts)) (is : Remembe
       | inr object ↦ let found = map_from (λ (n : Name × List ℕ). n.0) (objects_of t.files) (segment_name older.no) object in object_apart t older.no found.0 found.1 found.2
     ]
 
-    flush_is_step : IsStep s t headers step
+    flush_is_step : IsStep s loose t loose headers step
     flush_is_step = record {
       coherent = flushed_coherent s files number is.coherent later new (subst HasSpelling manifest_is spelled);
       config = refl;
@@ -310,25 +341,33 @@ module _ (s : Stored) (state : State) (levels : List (List Parts)) (is : Remembe
       later = later;
       fresh = all_from (λ (object : Object). s.manifest.next ≤ object.name.no) step.objects.items (λ object there. object_fresh s.manifest.next number files new (named_of object) (of_files object there));
       once = subst (AllPairs (λ (a b : Object). a.name ≢ b.name)) (sym stepped.objects) flush.once;
+      loose_pages = loose_pages state.next loose drawn;
+      loose_uncited = uncited_before;
+      beside = all_from (λ (object : Object). Contains (names_in loose) object.name → ⊥) step.objects.items
+          (λ object there. loose_apart state.next loose drawn object.name (object_fresh state.next number files flush.new (named_of object) (of_files object there)));
       segments = All-cons (IsSegmentFrom s step) s.active [] (inl (Contains-append_right (option_to_list s.frozen) (s.active ∷ []) s.active (first_is s.active [] s.active refl))) (All-nil (IsSegmentFrom s step));
-      objects = all_from (IsObjectFrom s step) (objects_of t.files) object_from;
+      objects = all_from (IsObjectFrom s loose step) (objects_of t.files) object_from;
       cited = all_from (λ (object : Object). Contains (part_names t) object.name) step.objects.items (λ object there. object_part t (named_of object) (new_object (named_of object) (of_files object there)));
       stays = all_from (λ name. Contains (part_names t) name ⊎ Contains step.gone.items name) (part_names s) stays;
       gone = one_all (IsUncited s t) (segment_name older.no) step.gone.items gone_is (frozen_part s older frozen.some, uncited);
       gone_once = one_once (λ (name other : Name). name ≢ other) (segment_name older.no) step.gone.items gone_is;
+      taken = all_left state.next loose drawn (part_names t);
+      left_loose = left_loose state.next loose drawn;
+      left_uncited = still_uncited state.next loose drawn s t old_or_fresh uncited_before;
       added = files;
       headers_are = stepped.headers_are ∙ flush.headers;
       level = subst (λ level. All (λ (file : StoredFile). file.level ≡ level) files) (sym stepped.level) (flush.new).level;
       files = subst (λ kept. IsPermutation (files ++ kept) (files ++ s.files)) (sym (all_kept s step stepped.merged)) (IsPermutation-refl (files ++ s.files));
     }
 
-pub flush_steps : (s : Stored) (state : State) (levels : List (List Parts)) → Remembers s state levels → IsCurrent s state → (buffer : Buffered) → state.frozen ≡ Some buffer → (alone : Bool)
-    → (IsTrue alone ↔ ((0 < length buffer.entries) × All (clear.IsClearOf (span_of buffer.entries)) (headers_in levels))) → (made : Flushed) (files : List StoredFile)
-    → IsFlushOf buffer.entries state.pending alone state.count state.manifest.next made files → state.manifest.next ≤ made.next → (headers : List Header) (step : Step)
-    → IsFlushStep state made headers step → HasSpelling step.manifest → (t : Stored) × IsFlushed s t × IsStep s t headers step
-flush_steps s state levels is current buffer some alone clear_of made files flush risen headers step stepped spelled =
+pub flush_steps : (s : Stored) (state : State) (levels : List (List Parts)) → Remembers s state levels → IsCurrent s state → state.manifest.next ≤ state.next
+    → (buffer : Buffered) → state.frozen ≡ Some buffer → (alone : Bool) → (IsTrue alone ↔ ((0 < length buffer.entries) × All (clear.IsClearOf (span_of buffer.entries)) (headers_in levels)))
+    → (made : MadeFiles) (files : List StoredFile) → IsFlushOf state.manifest.config buffer.entries state.pending alone state.count state.next made files → state.next ≤ made.next
+    → (headers : List Header) (step : Step) → IsFlushStep state made headers step → HasSpelling step.manifest
+    → (loose : List (Name × List ℕ)) → AreDrawn state.next (names_in loose) → AreUncited s loose → (t : Stored) × IsFlushed s t × IsStep s loose t loose headers step
+flush_steps s state levels is current fits buffer some alone clear_of made files flush risen headers step stepped spelled loose drawn uncited_before =
     let frozen = older_of s.frozen buffer (subst (IsFrozenIn s.frozen) some is.frozen) in (
       flushed s files made.next,
-      flush_is_flushed s state levels is current buffer frozen alone made files flush risen clear_of,
-      flush_is_step s state levels is current buffer frozen alone made files flush risen headers step stepped spelled,
+      flush_is_flushed s state levels is current fits buffer frozen alone made files flush risen clear_of,
+      flush_is_step s state levels is current fits buffer frozen alone made files flush risen headers step stepped spelled loose drawn uncited_before,
     )

@@ -17,7 +17,8 @@ use Rattle.lethe_segment.specs.Segments.{segment_bytes}
 use Rattle.lethe_stored.specs.Files.{Parts, StoredFile, objects_of}
 use Rattle.lethe_stored.specs.Stored.{Stored, froze, number_of, part_names, segment_name, segment_numbers}
 use Rattle.lethe_stored.proofs.Freezing.{froze_coherent}
-use Rattle.lethe_stored.proofs.Parts.{active_part, frozen_part}
+use Rattle.lethe_stored.proofs.Parts.{active_part, frozen_part, object_part}
+use Rattle.lethe_advance.specs.Settled.{AreDrawn, AreUncited, names_in}
 use Rattle.lethe_advance.specs.Steps.{IsObjectFrom, IsSegmentFrom, IsStep, IsUncited, written_in}
 use Rattle.lethe_advance.specs.declared.step.Step.{Step}
 use Rattle.lethe_state.specs.Made.{empty_segment, freezing_manifest}
@@ -25,7 +26,7 @@ use Rattle.lethe_state.specs.Remembered.{IsCurrent, Remembers}
 use Rattle.lethe_state.specs.Room.{IsStepFrom}
 use Rattle.lethe_state.specs.Writable.{IsWritable, segments_for}
 use Rattle.lethe_state.specs.declared.state.State.{State}
-use Rattle.lethe_state.proofs.Shared.{all_kept, one_all, one_once}
+use Rattle.lethe_state.proofs.Shared.{all_kept, all_left, left_loose, loose_apart, loose_pages, one_all, one_once, still_uncited}
 
 -- On any disk
 
@@ -35,9 +36,10 @@ later_file next later levels file le is = let below = is.no in record { level = 
 pub later_files : (next later levels : ℕ) (files : List Cited) → next ≤ later → All (IsFile next levels) files → All (IsFile later levels) files
 later_files next later levels files le = All-weaker (IsFile next levels) (IsFile later levels) (λ file is. later_file next later levels file le is) files
 
-freezing_spelled : (state : State) → IsWritable state → state.frozen ≡ None → state.manifest.next + 1 < max_place → HasSpelling (freezing_manifest state)
+freezing_spelled : (state : State) → IsWritable state → state.frozen ≡ None → state.next + 1 < max_place → HasSpelling (freezing_manifest state)
 freezing_spelled state is none fits =
-    let next = state.manifest.next in
+    let next = state.next in
+    let drawn = is.drawn in
     let segments = state.manifest.segments in
     let one : length segments ≡ 1 = is.segments ∙ ap segments_for none in
     let longer = length_push segments next in record {
@@ -52,37 +54,40 @@ freezing_spelled state is none fits =
         some = omega (arith, longer);
         few = omega (arith, longer, one);
         below = All-append (λ k. k < next + 1 + 1) segments (next ∷ [])
-            (All-weaker (λ k. k < next) (λ k. k < next + 1 + 1) (λ k lt. omega (arith, lt)) segments ((is.manifest).segments).below)
+            (All-weaker (λ k. k < state.manifest.next) (λ k. k < next + 1 + 1) (λ k lt. omega (arith, lt, drawn)) segments ((is.manifest).segments).below)
             (All-cons (λ k. k < next + 1 + 1) next [] (omega arith) (All-nil (λ k. k < next + 1 + 1)));
       };
       files = record {
         few = ((is.manifest).files).few;
-        each = later_files next (next + 1 + 1) state.manifest.config.levels state.manifest.files (omega arith) ((is.manifest).files).each;
+        each = later_files state.manifest.next (next + 1 + 1) state.manifest.config.levels state.manifest.files (omega (arith, drawn)) ((is.manifest).files).each;
         ascending = ((is.manifest).files).ascending;
       };
     }
 
-pub freeze_from : (state : State) (step : Step) → IsWritable state → state.frozen ≡ None → state.manifest.next + 1 < max_place → step.objects.items ≡ empty_segment state.manifest.next ∷ []
+pub freeze_from : (state : State) (step : Step) → IsWritable state → state.frozen ≡ None → state.next + 1 < max_place → step.objects.items ≡ empty_segment state.next ∷ []
     → step.level ≡ 0 → step.manifest ≡ freezing_manifest state → IsStepFrom 2 state step
 freeze_from state step is none fits objects level manifest =
     let one : length state.manifest.segments ≡ 1 = is.segments ∙ ap segments_for none in
-    let longer = length_push state.manifest.segments state.manifest.next in
+    let longer = length_push state.manifest.segments state.next in
     let written : length step.objects.items ≡ 1 = ap length objects in
-    let last : step.manifest.next ≡ state.manifest.next + 1 + 1 = ap (λ (m : Manifest). m.next) manifest in record {
+    let number : step.manifest.no ≡ state.next + 1 = ap (λ (m : Manifest). m.no) manifest in
+    let last : step.manifest.next ≡ state.next + 1 + 1 = ap (λ (m : Manifest). m.next) manifest in record {
       spelled = subst HasSpelling (sym manifest) (freezing_spelled state is none fits);
       segments_are = ap (λ (m : Manifest). length m.segments) manifest ∙ omega (arith, one, longer);
       config = ap (λ (m : Manifest). m.config) manifest;
-      level = level;
-      numbers = omega (arith, written, last);
+      level = omega (arith, level);
+      numbers = omega (arith, written, number);
+      next = omega (arith, number, last);
     }
 
 -- On a disk that tells
 
 module _ (s : Stored) (state : State) (levels : List (List Parts)) (is : Remembers s state levels) (current : IsCurrent s state) (none : s.frozen ≡ None) (step : Step)
-    (objects : step.objects.items ≡ empty_segment state.manifest.next ∷ []) (merged : step.merged.items ≡ []) (manifest : step.manifest ≡ freezing_manifest state)
-    (gone : step.gone.items ≡ []) (spelled : HasSpelling step.manifest) where
+    (objects : step.objects.items ≡ empty_segment state.next ∷ []) (merged : step.merged.items ≡ []) (manifest : step.manifest ≡ freezing_manifest state)
+    (gone : step.gone.items ≡ []) (spelled : HasSpelling step.manifest) (fits : state.manifest.next ≤ state.next)
+    (loose : List (Name × List ℕ)) (drawn : AreDrawn state.next (names_in loose)) (uncited : AreUncited s loose) where
   abbrev n : ℕ
-  n = s.manifest.next
+  n = state.next
 
   abbrev t : Stored
   t = froze s n (n + 1)
@@ -98,17 +103,14 @@ module _ (s : Stored) (state : State) (levels : List (List Parts)) (is : Remembe
 
   manifest_is : step.manifest ≡ t.manifest
   manifest_is = manifest ∙ (λ i. record (is.manifest i) {
-    no = (is.manifest i).next + 1;
+    no = n + 1;
     count = current.count i;
-    next = (is.manifest i).next + 1 + 1;
-    segments = segments i ++ (is.manifest i).next ∷ [];
+    next = n + 1 + 1;
+    segments = segments i ++ n ∷ [];
   })
 
-  object_is : step.objects.items ≡ empty_segment n ∷ []
-  object_is = objects ∙ ap (λ m. empty_segment m.next ∷ []) is.manifest
-
-  le : n ≤ n
-  le = omega arith
+  le : s.manifest.next ≤ n
+  le = let same = ap (λ (m : Manifest). m.next) is.manifest in omega (arith, same, fits)
 
   stays : (name : Name) → Contains (part_names s) name → Contains (part_names t) name
   stays name there = elim (Contains-append_cases (map segment_name (segment_numbers s)) names name there) [
@@ -123,22 +125,28 @@ module _ (s : Stored) (state : State) (levels : List (List Parts)) (is : Remembe
   written =
       let new : Name × List ℕ = (segment_name n, segment_bytes n []) in
       let named : Object → Name × List ℕ = λ made. (made.name, made.bytes) in
-      subst (λ (objects : List Object). Contains (map named objects) new) (sym object_is) (first_is new [] new refl)
+      subst (λ (objects : List Object). Contains (map named objects) new) (sym objects) (first_is new [] new refl)
 
-  pub freeze_is_step : IsStep s t [] step
+  pub freeze_is_step : IsStep s loose t loose [] step
   freeze_is_step = record {
     coherent = froze_coherent s is.coherent n (n + 1) le (omega arith) (subst HasSpelling manifest_is spelled);
     config = refl;
     manifest = manifest_is;
-    later = omega arith;
-    fresh = one_all (λ (made : Object). n ≤ made.name.no) (empty_segment n) step.objects.items object_is le;
-    once = one_once (λ (made other : Object). made.name ≢ other.name) (empty_segment n) step.objects.items object_is;
+    later = omega (arith, le);
+    fresh = one_all (λ (made : Object). s.manifest.next ≤ made.name.no) (empty_segment n) step.objects.items objects le;
+    once = one_once (λ (made other : Object). made.name ≢ other.name) (empty_segment n) step.objects.items objects;
+    loose_pages = loose_pages n loose drawn;
+    loose_uncited = uncited;
+    beside = one_all (λ (made : Object). Contains (names_in loose) made.name → ⊥) (empty_segment n) step.objects.items objects (loose_apart n loose drawn (segment_name n) (omega arith));
     segments = All-cons (IsSegmentFrom s step) s.active (t.active ∷ []) (inl (Contains-push (option_to_list s.frozen) s.active)) (All-cons (IsSegmentFrom s step) t.active [] (inr written) (All-nil (IsSegmentFrom s step)));
-    objects = all_from (IsObjectFrom s step) (objects_of s.files) (λ named there. inl there);
-    cited = one_all (λ (made : Object). Contains (part_names t) made.name) (empty_segment n) step.objects.items object_is (active_part t);
+    objects = all_from (IsObjectFrom s loose step) (objects_of s.files) (λ named there. inl there);
+    cited = one_all (λ (made : Object). Contains (part_names t) made.name) (empty_segment n) step.objects.items objects (active_part t);
     stays = all_from (λ name. Contains (part_names t) name ⊎ Contains step.gone.items name) (part_names s) (λ name there. inl (stays name there));
     gone = subst (All (IsUncited s t)) (sym gone) (All-nil (IsUncited s t));
     gone_once = subst (AllPairs (λ (name other : Name). name ≢ other)) (sym gone) (λ i j d before within. absurd (omega arith));
+    taken = all_left n loose drawn (part_names t);
+    left_loose = left_loose n loose drawn;
+    left_uncited = still_uncited n loose drawn s t (λ object there. inl (object_part s object there)) uncited;
     added = [];
     headers_are = refl;
     level = All-nil (λ (file : StoredFile). file.level ≡ step.level);

@@ -58,9 +58,9 @@ opened_remembered s state levels coherent files none empty erases manifest pendi
 
 -- A freeze
 
-module _ (s : Stored) (old new : State) (levels : List (List Parts)) (is : Remembers s old levels) (current : IsCurrent s old) (none : s.frozen ≡ None) where
+module _ (s : Stored) (old new : State) (levels : List (List Parts)) (is : Remembers s old levels) (current : IsCurrent s old) (none : s.frozen ≡ None) (segment : ℕ) (drawn : s.manifest.next ≤ segment) where
   abbrev f : Stored
-  f = froze s s.manifest.next (s.manifest.next + 1)
+  f = froze s segment (segment + 1)
 
   pending_froze : pending_of s ≡ pending_of f
   pending_froze = ap (λ records. in_order (s.manifest.erases ++ filter_map erase_of records)) (sym (append-nil s.active.records ∙ sym (ap (λ o. records_in o ++ s.active.records) none)))
@@ -72,7 +72,7 @@ module _ (s : Stored) (old new : State) (levels : List (List Parts)) (is : Remem
   froze_remembered spelled with =
       let counts : new.count ≡ count_of f = with.count ∙ current.count ∙ count_froze in (
         record {
-          coherent = froze_coherent s is.coherent s.manifest.next (s.manifest.next + 1) (omega arith) (omega arith) spelled;
+          coherent = froze_coherent s is.coherent segment (segment + 1) drawn (omega arith) spelled;
           manifest = with.manifest_is;
           pending = with.pending ∙ is.pending ∙ pending_froze;
           active = newest_none new.active.entries with.active;
@@ -88,7 +88,7 @@ pub freeze_remembered : (s t : Stored) (old new : State) (levels : List (List Pa
     → IsFrozen s t → HasSpelling t.manifest → IsFrozenWith t.manifest old new → Remembers t new levels × IsCurrent t new
 freeze_remembered s t old new levels is current none step =
     let P : Stored → Type 0 = λ t. HasSpelling t.manifest → IsFrozenWith t.manifest old new → Remembers t new levels × IsCurrent t new in
-    subst P (sym step) (froze_remembered s old new levels is current none)
+    subst P (sym step.is) (froze_remembered s old new levels is current none step.segment step.drawn)
 
 -- A flush
 
@@ -135,7 +135,7 @@ pub flushed_is_flush : (h : History) (s t : Stored) → IsCoherent s → IsFor h
 flushed_is_flush h s t coherent stands is = record {
   alone = is.alone;
   clear = λ lone. ((is.clear).0 lone).1;
-  made = subst (λ upto. AreMade (merged (frozen_entries (layout_of s)) (pending_of s) is.alone) upto (map file_of is.made)) stands.count is.files;
+  made = subst (λ upto. AreMade (merged (frozen_entries (layout_of s)) (pending_of s) is.alone) upto (map file_of is.made)) stands.count (is.files).made;
   new = record {
     distinct = pairs_to (λ (a b : File). a.no ≢ b.no) (map file_of is.made) (pairs_map (λ (a b : File). a.no ≢ b.no) file_of is.made (pairs_from (λ (a b : StoredFile). a.header.no ≢ b.header.no) is.made (is.new).files_once));
     above = All-map (λ (file : File). All (λ (other : File). other.no < file.no) (files_of (layout_of s))) file_of is.made
@@ -201,4 +201,4 @@ pub room_for : (h : History) (s t : Stored) → IsCoherent s → IsFor h s → I
 room_for h s t coherent stands (inl (room, same)) = subst (IsFor h) (sym same) stands
 room_for h s t coherent stands (inr (full, middle, unfroze, is)) =
     let m = room_of h s middle coherent stands unfroze in
-    subst (IsFor h) (sym is) (froze_stands middle m.2 middle.manifest.next (middle.manifest.next + 1) h m.0 m.1)
+    subst (IsFor h) (sym is.is) (froze_stands middle m.2 is.segment (is.segment + 1) h m.0 m.1)

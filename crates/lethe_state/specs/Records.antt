@@ -87,7 +87,7 @@ pub record IsNext (next : Record) (end : ℕ) (old new : State) : Type 0 where
   pub end_is : new.end ≡ end
   pub frozen : new.frozen ≡ old.frozen
   pub stopped : new.stopped ≡ old.stopped
-  pub next : new.next ≡ old.next
+  pub drawn : new.next ≡ old.next
 
 -- with the next place's change or work failed, and all else as it was
 abbrev pub halted : State → State

@@ -1,10 +1,12 @@
 //! Flushing the frozen segment.
 ghost use Rattle.std.specs.Prelude as prelude;
-ghost use Rattle.std.specs.Prelude.{◌≡◌, ◌⊎◌, ◌↔◌, ℕ, ◌+◌, ◌<◌, ◌≤◌, ◌^◌, All, IfErr, IfOk, IsErrOf, IsSome, IsTrue, length};
+ghost use Rattle.std.specs.Prelude.{◌≡◌, ◌⊎◌, ◌↔◌, ℕ, Bool, ◌+◌, ◌<◌, ◌≤◌, ◌^◌, All, IfErr, IfOk, IsErrOf, IsSome, IsTrue, length, sum_by};
 ghost use Rattle.lethe_base.specs.Limits.{max_place};
 ghost use Rattle.lethe_base.specs.Spelling as entries;
 ghost use Rattle.lethe_base.specs.declared.refused.Refused.TheVariants as refused;
+ghost use Rattle.lethe_base.specs.declared.entry.Entry as entry;
 ghost use Rattle.lethe_build.specs.Built.{most_numbers};
+ghost use Rattle.lethe_build.specs.Drafts.{AreDraftsOf, IsDraft, numbers_for};
 ghost use Rattle.lethe_header.specs.Headers as headers;
 ghost use Rattle.lethe_manifest.specs.Manifests.{HasSpelling};
 ghost use Rattle.lethe_stored.specs.Files.{StoredFile};
@@ -14,7 +16,8 @@ ghost use Rattle.lethe_base.specs.declared.name.Name as name;
 ghost use Rattle.lethe_advance.specs.Settled.{AreDrawn, AreUncited, names_in};
 ghost use Rattle.lethe_advance.specs.Steps.{IsStep};
 ghost use Rattle.lethe_flush.specs.Flushed.{IsFlushOf};
-ghost use Rattle.lethe_flush.specs.declared.flushed.Flushed.{Flushed};
+ghost use Rattle.lethe_flush.specs.declared.made.MadeFiles.{MadeFiles};
+ghost use Rattle.lethe_merge.specs.Merge.{merged};
 ghost use Rattle.lethe_state.specs.Made.{IsFlushStep, flushing_manifest};
 ghost use Rattle.lethe_state.specs.Remembered.{Remembers, IsCurrent};
 ghost use Rattle.lethe_state.specs.Room.{IsFlushed, IsShortToFlush, IsStepFrom, frozen_len, unfrozen};
@@ -23,8 +26,9 @@ ghost use Rattle.lethe_state.specs.Writable.{IsWritable};
 use crate::State;
 use lethe_advance::Step;
 use lethe_base::{Kind, List, MAX_PLACE, Name, NoMemory, Refused};
+use lethe_build::Draft;
 use lethe_disk::Disk;
-use lethe_flush::{Flushed, flush_of, is_clear};
+use lethe_flush::{MadeFiles, flush_drafts, flush_files, is_clear};
 use lethe_header::Header;
 use lethe_manifest::{Cited, Manifest};
 use lethe_mem::{Buffer, VecBuffer};
@@ -70,7 +74,89 @@ impl State {
         }
     }
 
-    // TODO(helper): draft_frozen, is_short_for, flush_frozen, flush_step as private functions with contracts of their own
+    /// The drafts of the files that the frozen buffer becomes.
+    fn draft_frozen(
+        &self,
+        alloc: Global,
+        frozen: &VecBuffer,
+        alone: bool,
+    ) -> Result<Vec<Draft>, Refused>
+        requires writable { IsWritable self.now }
+        requires spelled { All entries.HasSpelling frozen.now.entries }
+        ensures refused { IfErr result (λ why. why ≡ refused.NoMemory) }
+        ensures are { IfOk result (λ drafts. AreDraftsOf self.now.manifest.config (merged frozen.now.entries self.now.pending alone) drafts.items) }
+        ensures each { IfOk result (λ drafts. All IsDraft drafts.items) }
+        ensures few { IfOk result (λ drafts. sum_by numbers_for drafts.items ≤ most_numbers (length frozen.now.entries)) }
+    {
+        let erases = self.pending.items();
+        match flush_drafts(alloc, frozen, erases, alone, &self.manifest.config) {
+            Ok(drafts) => Ok(drafts),
+            Err(NoMemory) => Err(Refused::NoMemory),
+        }
+    }
+
+    /// Whether the numbers of the drafts' objects, and a manifest's, can't be drawn.
+    fn is_short_for(&self, drafts: &[Draft]) -> bool
+        ensures { IsTrue result ↔ (max_place ≤ self.now.next + sum_by numbers_for drafts.now) }
+    {
+        // A sum past 2^64 is past the last number too.
+        let mut next = self.next;
+        for draft in drafts {
+            next = next.saturating_add(draft.pages.items().len() as u64 + 1);
+        }
+        MAX_PLACE <= next
+    }
+
+    /// The headers of the drafts' files, and the step that writes them and removes the frozen segment.
+    fn flush_frozen(
+        &self,
+        alloc: Global,
+        drafts: Vec<Draft>,
+    ) -> Result<(Vec<Header>, Step), NoMemory>
+        requires writable { IsWritable self.now }
+        requires segments { length self.now.manifest.segments ≡ 2 }
+        requires drafts { All IsDraft drafts.items }
+        requires numbers { self.now.next + sum_by numbers_for drafts.items < max_place }
+        ensures made { (entries : prelude.List entry.Entry) (alone : Bool) → AreDraftsOf self.now.manifest.config (merged entries self.now.pending alone) drafts.items
+            → IfOk result (λ made. (parts : MadeFiles) × (files : prelude.List StoredFile)
+            × IsFlushOf self.now.manifest.config entries self.now.pending alone self.now.count self.now.next parts files
+            × (self.now.next ≤ parts.next) × IsFlushStep self.now parts made.0.items made.1) }
+        ensures headers { IfOk result (λ made. All headers.HasSpelling made.0.items) }
+        ensures step { IfOk result (λ made. IsStepFrom 1 self.now made.1) }
+        ensures few { IfOk result (λ made. length made.1.objects.items ≡ sum_by numbers_for drafts.items) }
+    {
+        let made = flush_files(alloc, drafts, self.count, self.next)?;
+        self.flush_step(alloc, made)
+    }
+
+    /// The step that writes what a flush made.
+    fn flush_step(&self, alloc: Global, made: MadeFiles) -> Result<(Vec<Header>, Step), NoMemory>
+        requires segments { length self.now.manifest.segments ≡ 2 }
+        requires numbers { made.next < max_place }
+        ensures is { IfOk result (λ step. IsFlushStep self.now made step.0.items step.1) }
+        ensures few { IfOk result (λ step. length step.1.manifest.files < 2 ^ 32) }
+    {
+        let MadeFiles {
+            headers,
+            objects,
+            cited,
+            next,
+        } = made;
+        let manifest = self.flushing_manifest(alloc, cited, next)?;
+        let mut gone = Vec::new(alloc);
+        gone.push(Name {
+            kind: Kind::Segment,
+            no: self.manifest.segments.items()[0],
+        })?;
+        let step = Step {
+            objects,
+            level: 0,
+            merged: Vec::new(alloc),
+            manifest,
+            gone,
+        };
+        Ok((headers, step))
+    }
 
     /// The manifest of this number that cites these files and no frozen segment.
     fn flushing_manifest(

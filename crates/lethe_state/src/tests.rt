@@ -80,6 +80,19 @@ fn filled(alloc: Global, version: &Version<MemDisk>) -> Result<State, Fail>
     Ok(state)
 }
 
+/// Numbers up to 10 are drawn.
+fn draw(state: &mut State) -> Result<(), Fail>
+    requires { IsWritable state.old }
+    ensures unfrozen { OnOk result (state.new.frozen ≡ state.old.frozen) }
+    ensures writable { OnOk result (IsWritable state.new) }
+{
+    if state.manifest.next > 10 {
+        return Err(Fail::new("a new store"));
+    }
+    state.next = 10;
+    Ok(())
+}
+
 fn freezing(alloc: Global, state: &State) -> Result<Step, Fail>
     requires { IsWritable state.now }
     ensures unfrozen { OnOk result (state.now.frozen ≡ None) }
@@ -120,8 +133,27 @@ fn a_buffer_is_frozen(rt: HostRuntime) -> Result<(), Fail> {
     assert_eq!(rt; (made.name.kind, made.name.no), (Kind::Segment, 3));
     assert_eq!(rt; made.bytes.items(), new_segment(3).as_slice());
     state.freeze(alloc, step);
-    assert_eq!(rt; (state.count, state.records, state.end), (4, 0, 11));
+    assert_eq!(rt;
+        (state.count, state.records, state.end, state.next),
+        (4, 0, 11, 5)
+    );
     assert_eq!(rt; state.frozen.as_ref().map(|frozen| frozen.len()), Some(2));
+    Ok(())
+}
+
+#[test]
+fn drawn_numbers_are_left_out(rt: HostRuntime) -> Result<(), Fail> {
+    let alloc = rt.alloc();
+    let version = Version::of(alloc, Vec::new(alloc))?;
+    let mut state = filled(alloc, &version)?;
+    draw(&mut state)?;
+    let step = freezing(alloc, &state)?;
+    let manifest = &step.manifest;
+    assert_eq!(rt; (manifest.no, manifest.next), (11, 12));
+    assert_eq!(rt; manifest.segments.items(), [1, 10].as_slice());
+    state.freeze(alloc, step);
+    let (_, step) = state.flushing(alloc, &version)?;
+    assert_eq!(rt; (step.manifest.no, step.manifest.next), (14, 15));
     Ok(())
 }
 
@@ -145,6 +177,6 @@ fn a_frozen_buffer_is_flushed(rt: HostRuntime) -> Result<(), Fail> {
     };
     assert_eq!(rt; step.gone.as_slice(), [segment].as_slice());
     state.flush(step);
-    assert!(rt; state.frozen.is_none() && state.manifest.no == 7);
+    assert!(rt; state.frozen.is_none() && state.manifest.no == 7 && state.next == 8);
     Ok(())
 }

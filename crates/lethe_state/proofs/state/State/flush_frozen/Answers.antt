@@ -1,24 +1,22 @@
-use Rattle.std.proofs.Common.{arith, ap, length, subst}
-use Rattle.lethe_flush.specs.Flushed.{IsFlushOf}
+use Rattle.std.proofs.Common.{arith, ap, length, ◌∙◌}
 use Rattle.lethe_flush.proofs.Results.{ok_both, ok_weaker}
 use Rattle.lethe_state.proofs.FlushStep.{flush_from}
 use Rattle.lethe_state.proofs.state.State.flush_frozen.Goals as goal
 
 pub returns-clause-made : goal.returns-clause-made
-returns-clause-made c =
-    let flushed = c.in_ok-flushed.flushed in
-    let files = c.in_ok-flushed.ensures.made in
-    let of = subst (λ pending. IsFlushOf c.args.frozen.now.entries pending c.args.alone c.args.self.now.count c.args.self.now.manifest.next flushed files.0) c.items.ensures files.1 in
-    ok_weaker c.flush_step.result _ _ c.flush_step.ensures.is (λ made step. (flushed, files.0, of, c.in_ok-flushed.ensures.next.0, step))
+returns-clause-made c = λ entries alone drafts.
+    let made = c.in_ok-made.ensures.made c.args.self.now.manifest.config entries c.args.self.now.pending alone drafts in
+    let next = c.in_ok-made.ensures.next in
+    ok_weaker c.flush_step.result _ _ c.flush_step.ensures.is (λ step is. (c.in_ok-made.made, made.0, made.1, omega (arith, next), is))
 
 pub returns-clause-step : goal.returns-clause-step
 returns-clause-step c =
-    let next = c.in_ok-flushed.ensures.next in
+    let next = c.in_ok-made.ensures.next in
+    let objects = c.in_ok-made.ensures.objects in
+    let numbers = c.requires.numbers in
     ok_both c.flush_step.result _ _ _ c.flush_step.ensures.is c.flush_step.ensures.few
-    (λ made step few. flush_from c.args.self.now c.in_ok-flushed.flushed made.0.items made.1 c.requires.writable c.requires.segments next.0 (omega (arith, next.1, c.requires.numbers)) next.2
-    c.in_ok-flushed.ensures.cited c.in_ok-flushed.ensures.level step few)
+    (λ step is few. flush_from c.args.self.now c.in_ok-made.made step.0.items step.1 c.requires.writable c.requires.segments (omega (arith, next, numbers)) (omega (arith, next, objects))
+    c.in_ok-made.ensures.cited c.in_ok-made.ensures.level is few)
 
 pub returns-clause-few : goal.returns-clause-few
-returns-clause-few c =
-    let next = c.in_ok-flushed.ensures.next in
-    ok_weaker c.flush_step.result _ _ c.flush_step.ensures.is (λ made step. let same = ap length step.objects in omega (arith, same, next.1, next.2))
+returns-clause-few c = ok_weaker c.flush_step.result _ _ c.flush_step.ensures.is (λ step is. ap length is.objects ∙ c.in_ok-made.ensures.objects)

@@ -1,4 +1,4 @@
-use Rattle.std.proofs.Common.{◌<◌, ◌≤◌, append-nil, IsTrue, List, Some, rules, ◌≡◌, map, length, All, sym, ◌∙◌, subst}
+use Rattle.std.proofs.Common.{◌<◌, ◌≤◌, append-nil, arith, IsTrue, List, Some, rules, ◌≡◌, map, length, All, sym, ◌∙◌, subst}
 use Rattle.std.specs.Prelude.{◌↔◌}
 use Rattle.lethe_header.specs.declared.header.Header.{Header}
 use Rattle.lethe_advance.specs.Shown.{parts_by_level, parts_in}
@@ -12,16 +12,17 @@ use Rattle.lethe_state.proofs.Leveled.{headers_same}
 use Rattle.lethe_state.proofs.state.State.flushing.Goals as goal
 
 pub returns-in-Ok-clause-flushes : goal.returns-in-Ok-clause-flushes
-returns-in-Ok-clause-flushes g c = λ s is current.
+returns-in-Ok-clause-flushes g c = λ s is current loose drawn uncited.
     let some : c.args.self.now.frozen ≡ Some c.unwrap-frozen.result.now = search rules in
     let entries = c.unwrap-frozen.result.now.entries in
     let IsAlone : List Header → Type 0 = λ headers. IsTrue c.is_clear-alone.result ↔ ((0 < length entries) × All (IsClearOf (span_of entries)) headers) in
     let headers = map (λ file. file.header) (files_of c.args.version.now) in
     let clear = subst IsAlone (append-nil headers ∙ sym (headers_same parts_in (levels_of c.args.version.now))) c.is_clear-alone.ensures in
-    let made = c.in-Ok.ensures.made in
-    flush_steps s c.args.self.now (parts_by_level c.args.version.now) is current c.unwrap-frozen.result.now some c.is_clear-alone.result clear made.0 made.1 made.2 made.3 _ _ made.4 c.in-Ok.ensures.step.spelled
+    let made = c.in-Ok.ensures.made entries c.is_clear-alone.result c.in_ok-drafts.ensures.are in
+    flush_steps s c.args.self.now (parts_by_level c.args.version.now) is current c.requires.writable.drawn c.unwrap-frozen.result.now some c.is_clear-alone.result clear made.0 made.1 made.2 made.3 _ _ made.4
+    c.in-Ok.ensures.step.spelled loose drawn uncited
 
 pub returns-in-Ok-clause-few : goal.returns-in-Ok-clause-few
 returns-in-Ok-clause-few g c =
     let some : c.args.self.now.frozen ≡ Some c.unwrap-frozen.result.now = search rules in
-    subst (λ frozen. length c.in-Ok.made.1.objects.items ≤ most_numbers (frozen_len frozen)) (sym some) c.in-Ok.ensures.few
+    subst (λ frozen. length c.in-Ok.made.1.objects.items ≤ most_numbers (frozen_len frozen)) (sym some) (omega (arith, c.in-Ok.ensures.few, c.in_ok-drafts.ensures.few))
