@@ -1,2 +1,9 @@
+pub mod Listed
+pub mod Cited
 pub mod Staying
 pub mod Shaped
+pub mod Named
+pub mod Split
+pub mod Begun
+pub mod Next
+mod Adding

@@ -1,6 +1,7 @@
 //! What a job makes of its inputs.
 ghost use Rattle.std.specs.Prelude.{◌≡◌, ◌+◌, ◌≤◌, ◌<◌, ◌^◌, ◌++◌, map, sum_by, All, Any, IfOk, OnOk, IsErrOf};
 ghost use Rattle.lethe_base.specs.Limits.{max_time};
+ghost use Rattle.lethe_base.specs.Spelling.{HasSpelling};
 ghost use Rattle.lethe_base.specs.declared.name.Name.{Name};
 ghost use Rattle.lethe_build.specs.Drafts.{AreDraftsOf, IsDraft, numbers_for};
 ghost use Rattle.lethe_disk.specs.Reads.{HasReadCause, IsFault};
@@ -9,15 +10,41 @@ ghost use Rattle.lethe_merge.specs.Merge.{merged};
 ghost use Rattle.lethe_follows.specs.Merged.{entries_in};
 ghost use Rattle.lethe_job.specs.Tasks.{AreSound, HasPage, inputs_in, pages_in, plain_task};
 
-use crate::filed::Filed;
+use crate::reading::add_files;
 use crate::task::Task;
-use lethe_base::{Entry, NoMemory};
+use lethe_base::Entry;
 use lethe_build::{Draft, drafts_of};
 use lethe_disk::{Disk, ReadRefused};
 use lethe_merge::merge_entries;
 use std::alloc::Global;
 
+/// More entries than memory holds.
+const MANY: usize = 1 << 61;
+
 impl<D: Disk> Task<D> {
+    /// The entries of its inputs, one file after another.
+    fn entries(&self, alloc: Global, port: &mut D::Port) -> Result<Vec<Entry>, ReadRefused>
+        ensures given { D.tells → IfOk result (λ entries. entries.items ≡ entries_in (inputs_in (plain_task self.now))) }
+        ensures spelled { IfOk result (λ entries. All HasSpelling entries.items) }
+        ensures fetches { OnOk result (D.fetches port.new ≡ D.fetches port.old + pages_in (inputs_in (plain_task self.now))) }
+        ensures at_most { D.fetches port.new ≤ D.fetches port.old + pages_in (inputs_in (plain_task self.now)) }
+        ensures damaged { (name : Name) → IsErrOf result (Damaged name) → Any (HasPage name) (inputs_in (plain_task self.now)) }
+        ensures undamaged { D.tells → AreSound (inputs_in (plain_task self.now)) → (name : Name) → IsErrOf result (Damaged name) → ⊥ }
+        ensures cause { HasReadCause (D.port_faults port.old) (D.port_faults port.new) result }
+        ensures can_fail { IsFault result → D.ports_fail }
+    {
+        let before = D::port_faults(port);
+        let mut entries = Vec::new(alloc);
+        match add_files(alloc, port, &self.sources, &mut entries) {
+            Ok(()) => {}
+            Err(why) => return Err(why),
+        }
+        match add_files(alloc, port, &self.met, &mut entries) {
+            Ok(()) => Ok(entries),
+            Err(why) => Err(why.since(before)),
+        }
+    }
+
     /// The drafts of its outputs: what is left of the inputs' entries where its erases are applied. Each page of the inputs is fetched once. All
     /// entries of the inputs are held in memory.
     pub fn outcome(&self, alloc: Global, port: &mut D::Port) -> Result<Vec<Draft>, ReadRefused>
@@ -33,6 +60,11 @@ impl<D: Disk> Task<D> {
         ensures cause { HasReadCause (D.port_faults port.old) (D.port_faults port.new) result }
         ensures can_fail { IsFault result → D.ports_fail }
     {
-        Err(ReadRefused::NoMemory)
+        let entries = self.entries(alloc, port)?;
+        if entries.len() >= MANY {
+            return Err(ReadRefused::NoMemory);
+        }
+        let left = merge_entries(alloc, entries, self.erases.items(), self.alone)?;
+        Ok(drafts_of(alloc, left, &self.config)?)
     }
 }
