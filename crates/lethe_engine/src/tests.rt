@@ -62,12 +62,7 @@ fn opened<D: Disk>(alloc: Global, disk: D) -> Result<Engine<D>, Fail>
     }
 }
 
-fn put<D: Disk>(
-    alloc: Global,
-    engine: &mut Engine<D>,
-    text: &str,
-    dkey: u64,
-) -> Result<u64, Fail>
+fn put<D: Disk>(alloc: Global, engine: &mut Engine<D>, text: &str, dkey: u64) -> Result<u64, Fail>
     requires { IsSound D.tells (D.seen engine.old.disk) engine.old.state (parts_by_level engine.old.version) }
     ensures { IsSound D.tells (D.seen engine.new.disk) engine.new.state (parts_by_level engine.new.version) }
 {
