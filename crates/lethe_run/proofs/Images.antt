@@ -79,7 +79,7 @@ module _ {config : Fields} (begin : Start) (faults : ℕ) (opened h : History) (
   stopped_at Ports at now =
       let there = failed_added opened now.before on.stands.begins.0 now.change now.faults_before now.faults on.done now.failed (sym now.history ∙ on.stands.begins.1) in
       let counts : HasCounts on.counted faults (Failed now.faults_before now.faults) =
-          subst (HasCounts on.counted faults) now.failed (All-contains (λ (c : Change). HasCounts on.counted faults c.did) on.stands.begins.0 now.change on.stands.counts there) in
+      subst (HasCounts on.counted faults) now.failed (All-contains (λ (c : Change). HasCounts on.counted faults c.did) on.stands.begins.0 now.change on.stands.counts there) in
       let place : at ≡ suc (length now.before) = let is = now.place in omega (arith, is, ap length now.history, length-append now.before (now.change ∷ [])) in
       record {
         before = now.faults_before;

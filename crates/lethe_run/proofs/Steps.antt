@@ -1,21 +1,20 @@
 -- One order is answered.
-use Rattle.std.proofs.Common.{◌≡◌, ◌⊎◌, inl, inr, ◌≤◌, ℕ, suc, ◌+◌, List, [], ◌∷◌, ◌++◌, length, Option, Some, None, Result, Ok, Err, IsSomeAnd, refl, sym, ap, ◌∙◌, subst, arith, add-one, append_assoc, append-nil}
+use Rattle.std.proofs.Common.{◌≡◌, ◌⊎◌, inl, inr, ◌≤◌, ℕ, suc, ◌+◌, List, [], ◌∷◌, ◌++◌, length, Option, Some, None, Result, Ok, Err, IsSomeAnd, refl, sym, ap, ◌∙◌, subst, arith, add-one, append-nil}
 use Rattle.std.specs.Prelude.{IsSome, IfOk, IfErr, MatchResult}
 use Rattle.std.proofs.lemmas.List.{length-append, take_all}
-use Rattle.lethe_base.specs.Keys.{Bytes}
 use Rattle.lethe_base.specs.Counts.{Rose}
-use Rattle.lethe_base.specs.History.{History, Change, change_at, AreDone, IsLegal, after}
+use Rattle.lethe_base.specs.History.{History, Change, change_at, AreDone, after}
 use Rattle.lethe_base.specs.Limits.{max_place}
 use Rattle.lethe_base.specs.Read.{Read, Answer, answer}
 use Rattle.lethe_base.specs.declared.call.Call.{Call}
 use Rattle.lethe_base.specs.declared.config.Fields.{Fields}
-use Rattle.lethe_base.specs.declared.call.Call.TheVariants.{Put, Delete, Work}
+use Rattle.lethe_base.specs.declared.call.Call.TheVariants.{Work}
 use Rattle.lethe_base.specs.declared.call.Did.TheVariants.{Done, Failed}
 use Rattle.lethe_base.specs.declared.memory.NoMemory.{NoMemory}
 use Rattle.lethe_base.specs.declared.name.Name.{Name}
 use Rattle.lethe_base.specs.declared.refused.Refused.{Refused}
 use Rattle.lethe_base.specs.declared.refused.Refused.TheVariants as refused
-use Rattle.lethe_base.proofs.Histories.{change_at-push, done_push}
+use Rattle.lethe_base.proofs.Histories.{change_at-push}
 use Rattle.lethe_cover.specs.Steps.{with_done, with_failed}
 use Rattle.lethe_disk.specs.Directory.{Directory}
 use Rattle.lethe_disk.specs.Disk.{Seen}
@@ -30,10 +29,7 @@ use Rattle.lethe_engine.specs.StandsFor.{IsKeptFor, IsOpenOrStopped, StandsFor}
 use Rattle.lethe_engine.proofs.Prefixes.{prefix_longer}
 use Rattle.lethe_disk.specs.Goes.{Goes}
 use Rattle.lethe_stored.specs.Files.{Parts}
-use Rattle.lethe_stored.specs.Kept.{IsKept}
 use Rattle.lethe_stored.specs.Left.{IsKeptOr}
-use Rattle.lethe_stored.specs.Stored.{Stored}
-use Rattle.lethe_disk.proofs.Going.{goes_weaker}
 use Rattle.lethe_script.specs.declared.order.Act.{Act}
 use Rattle.lethe_run.specs.declared.reply.Reply.{Reply}
 use Rattle.lethe_run.specs.declared.reply.Reply.TheVariants as reply
