@@ -1,5 +1,5 @@
 -- What a change of a store comes to.
-use Rattle.std.specs.Prelude.{◌≡◌, ◌≤◌, ◌⊎◌, ℕ, ◌+◌, [], ◌∷◌, ◌++◌, Result, Ok, Err, Option, Some, None}
+use Rattle.std.specs.Prelude.{◌≡◌, ◌⊎◌, ℕ, ◌+◌, [], ◌∷◌, ◌++◌, Result, Ok, Err, Option, Some, None}
 use Rattle.std.specs.FinMap as finmap
 use Rattle.lethe_base.specs.Counts.{Rose}
 use Rattle.lethe_base.specs.History.{History, Change}

@@ -1,8 +1,6 @@
-use Rattle.std.proofs.Common.{rules, ◌≡◌, ◌+◌, Err, refl, sym, ap, ◌∙◌, subst}
+use Rattle.std.proofs.Common.{rules, ◌≡◌, ◌+◌, Err, sym, ap, ◌∙◌, subst}
 use Rattle.lethe_base.specs.declared.config.Fields.{Fields}
-use Rattle.lethe_stored.specs.Stored.{froze}
 use Rattle.lethe_advance.specs.Shown.{parts_by_level}
-use Rattle.lethe_advance.specs.Steps.{IsStep}
 use Rattle.lethe_state.specs.Room.{IsFrozen, IsFrozenWith}
 use Rattle.lethe_state.specs.declared.state.State.{State}
 use Rattle.lethe_engine.specs.Changes.{refused_to}
