@@ -1,3 +1,4 @@
 pub mod Staying
 pub mod Shaped
 mod Adding
+mod Pieces
