@@ -1,4 +1,10 @@
+pub mod Listed
+pub mod Cited
 pub mod Staying
 pub mod Shaped
+pub mod Named
+pub mod Split
+pub mod Begun
+pub mod Next
 mod Adding
 mod Pieces

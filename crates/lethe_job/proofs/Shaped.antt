@@ -1,14 +1,12 @@
 -- The shape of the stored files is that of the layout.
-use Rattle.std.proofs.Common.{◌≡◌, inl, inr, ℕ, zero, suc, ◌+◌, ◌<◌, ◌≤◌, eqb, List, [], ◌∷◌, ◌++◌, map, filter, refl, sym, ap, ◌∙◌, subst, arith}
+use Rattle.std.proofs.Common.{◌≡◌, ℕ, zero, suc, ◌+◌, List, [], ◌∷◌, map, refl, ◌∙◌, arith}
 use Rattle.std.specs.Prelude.{Contains}
 use Rattle.std.specs.List.{range_with_len}
 use Rattle.lethe_base.specs.Shapes as shapes
-use Rattle.lethe_base.specs.declared.shape.FileFacts.{FileFacts}
-use Rattle.lethe_base.specs.declared.shape.Shape.{Shape}
 use Rattle.lethe_cover.proofs.Lists.{in_rest}
 use Rattle.lethe_cover.proofs.Common.{first_is}
 use Rattle.lethe_header.specs.Facts.{facts_of}
-use Rattle.lethe_stored.specs.Files.{StoredFile, IsFile, at_level, file_of, levels_of}
+use Rattle.lethe_stored.specs.Files.{StoredFile, IsFile, at_level, file_of}
 use Rattle.lethe_stored.specs.Stored.{Stored, IsCoherent, layout_of, pending_of}
 use Rattle.lethe_stored.proofs.FileFacts.{facts_are}
 use Rattle.lethe_stored.proofs.Leveled.{from_level, of_level}

@@ -1,5 +1,5 @@
 -- A task stays one while the store goes on.
-use Rattle.std.proofs.Common.{◌≡◌, inl, inr, ℕ, ◌+◌, ◌<◌, ◌≤◌, IsTrue, List, [], ◌∷◌, ◌++◌, Option, Some, None, refl, sym, ap, ◌∙◌, subst, arith, append-nil, append_assoc}
+use Rattle.std.proofs.Common.{◌≡◌, ℕ, ◌+◌, ◌<◌, ◌≤◌, List, [], ◌∷◌, ◌++◌, Option, Some, None, refl, sym, ap, ◌∙◌, arith, append-nil, append_assoc}
 use Rattle.std.specs.Prelude.{All, filter_map}
 use Rattle.std.specs.List.{cons_option}
 use Rattle.std.proofs.lemmas.List.Elements.{All-append, All-weaker, filter_map-append}
@@ -14,7 +14,7 @@ use Rattle.lethe_segment.specs.Records.{record_seq}
 use Rattle.lethe_segment.specs.Segments.{Ascends, last_seq}
 use Rattle.lethe_segment.specs.declared.record.Record.{Record}
 use Rattle.lethe_stored.specs.Files.{StoredFile, file_of}
-use Rattle.lethe_stored.specs.Stored.{Stored, IsCoherent, appended, count_of, erase_of, froze, in_order, pending_of, records_in, records_of}
+use Rattle.lethe_stored.specs.Stored.{Stored, IsCoherent, appended, erase_of, froze, in_order, pending_of, records_in, records_of}
 use Rattle.lethe_job.specs.Tasks.{IsTaskIn, PlainTask}
 
 -- The pending erases

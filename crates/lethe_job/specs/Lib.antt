@@ -1,3 +1,4 @@
 pub mod Shapes
 pub mod Tasks
+pub mod Chosen
 pub mod Jobs

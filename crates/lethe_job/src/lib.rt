@@ -2,9 +2,11 @@
 #![tactic(auto)]
 
 mod filed;
+mod inputs;
 mod job;
 mod laws;
 mod outcome;
+mod reach;
 mod reading;
 mod shape;
 mod task;

@@ -1,15 +1,18 @@
 //! What a job is to do.
-ghost use Rattle.std.specs.Prelude.{◌≡◌, ◌<◌, ◌≤◌, [], Ok, None, All, IfOk, IfSome};
-ghost use Rattle.lethe_base.specs.Limits.{max_place};
+ghost use Rattle.std.specs.Prelude.{◌≡◌, ◌<◌, ◌^◌, [], Ok, None, length, map, IfOk, IfSome};
 ghost use Rattle.lethe_base.specs.Shapes.{shape_of};
 ghost use Rattle.lethe_fade.specs.Choice.{choice};
 ghost use Rattle.lethe_stored.specs.Stored.{Stored, layout_of};
-ghost use Rattle.lethe_job.specs.Tasks.{IsBegunIn, IsStore, plain_task};
+ghost use Rattle.lethe_job.specs.Chosen.{sources_in, task_in};
+ghost use Rattle.lethe_job.specs.Tasks.{IsBegunIn, IsStore, plain_file, plain_task};
 
 use crate::filed::Filed;
+use crate::inputs::{level_named, lies_below, met_in, sources_in};
+use crate::reach::Reach;
+use crate::shape::shape_of;
 use lethe_base::{Config, List, NoMemory, Pending};
 use lethe_disk::Disk;
-use lethe_fade::Plan;
+use lethe_fade::{Plan, pick};
 use std::alloc::Global;
 
 /// A merge of files of a level with those that they overlap in the next one. It never changes.
@@ -50,5 +53,45 @@ pub fn next_task<D: Disk>(
     ensures erases { IfOk result (λ found. IfSome found (λ task. task.erases ≡ erases.now)) }
     ensures config { IfOk result (λ found. IfSome found (λ task. task.config ≡ config.now)) }
 {
-    Err(NoMemory)
+    let levels = config.fields().levels;
+    let shape = shape_of(alloc, &files, levels, erases)?;
+    let Some(plan) = pick(&shape, config, clock, &[]) else {
+        return Ok(None);
+    };
+    let Some(level) = level_named(&files, levels, plan.file) else {
+        unreachable!()
+    };
+    let task = task_in(alloc, &files, plan, level, config, erases, count)?;
+    Ok(Some(task))
+}
+
+/// The task of a plan, whose file stands in that level.
+fn task_in<D: Disk>(
+    alloc: Global,
+    files: &[Filed<D>],
+    plan: Plan,
+    level: u64,
+    config: &Config,
+    erases: &[Pending],
+    upto: u64,
+) -> Result<Task<D>, NoMemory>
+    requires level { level < 2 ^ 32 }
+    requires some { 0 < length (sources_in level plan.file (map plain_file files.now)) }
+    ensures { IfOk result (λ task. plain_task task ≡ task_in level plan (map plain_file files.now) config.now erases.now upto) }
+{
+    let sources = sources_in(alloc, files, level, plan.file)?;
+    let reach = Reach::of_all(&sources);
+    let met = met_in(alloc, files, level + 1, &reach)?;
+    let alone = !lies_below(files, level + 1, &reach.with(&met));
+    let erases = List::of(Vec::from_slice(alloc, erases)?);
+    Ok(Task {
+        plan,
+        level,
+        sources,
+        met,
+        alone,
+        erases,
+        upto,
+        config: *config,
+    })
 }

@@ -1,6 +1,6 @@
 -- The images of a disk while an empty store is made on it.
 use Rattle.std.proofs.Common.{◌≡◌, ◌≢◌, ◌⊎◌, inl, inr, ℕ, List, [], Option, Some, None, true, false, refl, sym, ap, ◌∙◌, subst, arith}
-use Rattle.std.specs.Prelude.{Contains, is_some}
+use Rattle.std.specs.Prelude.{Contains, IsSome, is_some}
 use Rattle.std.specs.FinMap.{insert, keys}
 use Rattle.lethe_base.specs.Configuration.{IsConfig}
 use Rattle.lethe_base.specs.declared.config.Fields.{Fields}
@@ -18,7 +18,7 @@ use Rattle.lethe_commit.specs.Switch.{manifest_name, HasGreatest, IsFree, HasNew
 use Rattle.lethe_commit.proofs.Exchange.{beside_placed}
 use Rattle.lethe_commit.proofs.Listed.{listed}
 use Rattle.lethe_commit.proofs.Removals.{all_absent, cleared_absent}
-use Rattle.lethe_stored.specs.Stored.{Stored, IsCoherent, segment_name, part_names}
+use Rattle.lethe_stored.specs.Stored.{Stored, IsCited, IsCoherent, segment_name, part_names}
 use Rattle.lethe_stored.specs.Encodes.{Encodes, HasParts, HasObject}
 use Rattle.lethe_disk.specs.Goes.{Goes}
 use Rattle.lethe_advance.specs.Settled.{IsSettled, HasOnly}
@@ -122,15 +122,15 @@ module _ (config : Fields) (limits : IsConfig config) where
                 same_all : (e c : Directory) → IsCleared [] e c → e ≡ c
                 same_all e c cleared = sym (same_directory c e (λ name. cleared.others name tt))
 
-            pub settled_new : Image s3 s3.directory → s3.directory ≡ switched 2 (manifest_bytes (first_manifest config)) None s2.directory → s4.directory ≡ s3.directory → IsSynced s4 → IsSettled s4 t × HasOnly t s4.directory × IsWhole t s4.directory
+            pub settled_new : Image s3 s3.directory → s3.directory ≡ switched 2 (manifest_bytes (first_manifest config)) None s2.directory → s4.directory ≡ s3.directory → IsSynced s4 → IsSettled s4 t × HasOnly t [] s4.directory × IsWhole t s4.directory
             settled_new here switched_is cleared_is synced_now = (
               record { synced = synced_now; coherent = new_is_coherent; encodes = subst (λ x. Encodes x t) (sym cleared_is) (image_new s3.directory here) },
-              subst (HasOnly t) (sym cleared_is) only,
+              subst (HasOnly t []) (sym cleared_is) (record { only = λ name there. inl (only name there); there = All-nil (HasObject s3.directory) }),
               ap (λ x. object x (segment_name 1)) (cleared_is ∙ switched_is) ∙ beside_placed 2 (manifest_bytes (first_manifest config)) s2.directory (segment_name 1) ((λ k. manifest≢segment 2 1 (sym k)), ((λ k. gate≢segment 2 1 (sym k)), tt))
                   ∙ ap (λ x. object x (segment_name 1)) done ∙ object_inserted s1.directory (segment_name 1) (segment_bytes 1 []),
             )
               where
-                only : HasOnly t s3.directory
+                only : (name : Name) → IsSome (object s3.directory name) → IsCited t name
                 only name there = elim (name_cases name (gate_name 2)) [
                   | inl is_gate ↦ inl is_gate
                   | inr ne_gate ↦ elim (name_cases name (manifest_name 2)) [

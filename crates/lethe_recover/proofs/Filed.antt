@@ -7,6 +7,7 @@ use Rattle.std.proofs.lemmas.List.Elements.{All-append, All-contains, All-map, A
 use Rattle.std.proofs.lemmas.List.Sorted.{Contains-permutation}
 use Rattle.lethe_base.specs.History.{History}
 use Rattle.lethe_base.specs.Layout.{File, Layout, buffer_of, files_of, frozen_records}
+use Rattle.lethe_base.specs.declared.config.Fields.{Fields}
 use Rattle.lethe_base.specs.declared.entry.Entry.{Entry}
 use Rattle.lethe_base.specs.declared.pending.Pending.{Pending}
 use Rattle.lethe_base.proofs.LayoutLaws.{none_in}
@@ -28,7 +29,7 @@ use Rattle.lethe_stored.proofs.Leveled.{in_filter, low_level}
 use Rattle.lethe_stored.proofs.Lists.{all_from, from_map, in_map}
 use Rattle.lethe_follows.proofs.Following.{file_from}
 use Rattle.lethe_flush.specs.Clear.{IsClearOf}
-use Rattle.lethe_flush.specs.declared.flushed.Flushed.{Flushed}
+use Rattle.lethe_flush.specs.declared.made.MadeFiles.{MadeFiles}
 use Rattle.lethe_flush.proofs.Newest.{newest_values}
 use Rattle.lethe_recover.specs.Flushing.{IsFlushOfRecords}
 
@@ -84,10 +85,10 @@ pub frozen_are : (o : Option Segment) → unwrap_or (option_map (λ older. map p
 frozen_are None = refl
 frozen_are (Some older) = refl
 
-pub flushes_of : (h : History) (l : Layout) (records : List Record) (erases : List Pending) (upto first : ℕ) (heads : List Header) (flushed : Flushed) → (f : IsFlushOfRecords records erases upto first heads flushed)
+pub flushes_of : (h : History) (l : Layout) (records : List Record) (erases : List Pending) (upto first : ℕ) (heads : List Header) (fields : Fields) (made : MadeFiles) → (f : IsFlushOfRecords fields records erases upto first heads made)
     → frozen_records l ≡ map plain records → erases ≡ l.pending → upto ≡ length h → ((keys : KeyRange) → All (IsClearOf keys) heads → All (moves.IsClearOf keys) (files_of l)) → All (λ (file : File). file.no < first) (files_of l)
     → Flushes h l (map file_of f.files)
-flushes_of h l records erases upto first heads flushed f records_are erases_are upto_is transfer below =
+flushes_of h l records erases upto first heads fields made f records_are erases_are upto_is transfer below =
     let entries_are : f.entries ≡ frozen_entries l = newest_values (frozen_records l) f.entries f.ascending (λ key. f.newest key ∙ ap (λ rs. finmap.get (buffer_of rs) key) (sym records_are)) in
     let files = f.files in
     let new = f.is.new in
@@ -96,7 +97,7 @@ flushes_of h l records erases upto first heads flushed f records_are erases_are 
       clear = λ alone. subst (λ (es : List Entry). All (moves.IsClearOf (span_of es)) (files_of l)) entries_are (transfer (span_of f.entries) (f.clear alone));
       made = subst (λ n. AreMade (merged (frozen_entries l) l.pending f.alone) n (map file_of files)) upto_is
           (subst (λ es. AreMade (merged (frozen_entries l) es f.alone) upto (map file_of files)) erases_are
-          (subst (λ es. AreMade (merged es erases f.alone) upto (map file_of files)) entries_are f.is.made));
+          (subst (λ es. AreMade (merged es erases f.alone) upto (map file_of files)) entries_are f.is.woven.made));
       new = record {
         distinct = pairs_to (λ (a b : File). a.no ≢ b.no) (map file_of files) (pairs_map (λ (a b : File). a.no ≢ b.no) file_of files (pairs_from (λ (a b : StoredFile). a.header.no ≢ b.header.no) files new.files_once));
         above = All-map (λ (file : File). All (λ (other : File). other.no < file.no) (files_of l)) file_of files

@@ -16,7 +16,7 @@ use Rattle.lethe_stored.specs.Files.{StoredFile, IsFile, lines_in, file_name, ob
 use Rattle.lethe_stored.proofs.Freezing.{file_later}
 use Rattle.lethe_stored.proofs.Lists.{in_flat, in_map, from_flat, from_map, zip_left}
 use Rattle.lethe_follows.specs.Filed.{AreNewFiles}
-use Rattle.lethe_flush.specs.Flushed.{named_of}
+use Rattle.lethe_flush.specs.Made.{named_of}
 
 module _ (first mid last : ℕ) (older newer : List StoredFile) (is_older : AreNewFiles first mid older) (is_newer : AreNewFiles mid last newer) (low : first ≤ mid) (high : mid ≤ last) where
   abbrev Heads : ℕ → ℕ → StoredFile → Type 0

@@ -1,6 +1,11 @@
 -- What opening comes to.
-use Rattle.std.proofs.Common.{◌≡◌, ◌≤◌, ◌+◌, ◌⊎◌, inl, inr, ℕ, List, [], ◌∷◌, ◌++◌, length, map, Option, Some, None, refl, sym, ap, ◌∙◌, subst, arith, length-append}
-use Rattle.std.specs.Prelude.{Contains}
+use Rattle.std.proofs.Common.{◌≡◌, ◌<◌, ◌≤◌, ◌+◌, ◌⊎◌, inl, inr, ℕ, Bool, false, cond, All, AllPairs, List, [], ◌∷◌, ◌++◌, length, map, Option, Some, None, refl, sym, ap, ◌∙◌, subst, arith, length-append}
+use Rattle.std.specs.Prelude.{Contains, filter, ◌==◌}
+use Rattle.std.specs.declared.cmp.Ordering.TheVariants.{Less}
+use Rattle.std.proofs.lemmas.Bool.Decides.{eqb_tells}
+use Rattle.std.proofs.lemmas.List.Elements.{All-head, All-tail}
+use Rattle.lethe_base.specs.Keys.{key_cmp}
+use Rattle.lethe_header.specs.Facts.{least_key, greatest_key}
 use Rattle.std.specs.List.{AllZip}
 use Rattle.lethe_base.specs.Limits.{max_place}
 use Rattle.lethe_base.specs.History.{History, Change}
@@ -30,7 +35,7 @@ use Rattle.lethe_stored.specs.Stored.{Stored, Segment, IsCoherent, pending_of, p
 use Rattle.lethe_stored.specs.Encodes.{Encodes}
 use Rattle.lethe_stored.specs.Kept.{IsFor, IsKept}
 use Rattle.lethe_stored.specs.Left.{IsHistoryOr}
-use Rattle.lethe_stored.specs.Levels.{HasFiles}
+use Rattle.lethe_stored.specs.Levels.{AreRising, HasFiles}
 use Rattle.lethe_stored.proofs.Firsts.{empty_stands}
 use Rattle.lethe_stored.proofs.Lists.{from_map}
 use Rattle.lethe_stored.proofs.Parts.{active_part}
@@ -137,7 +142,7 @@ module _ {D Page Port : Type 0} {kind : Ghosts D Page Port} (config : Fields) (d
   }
 
   abbrev pub opened_of : (s : Stored) (opened : Opened D Page Port kind) → s.manifest.config ≡ config → IsThere disk s opened → IsOpened config disk opened
-  opened_of s opened config_is there = record { s = s; settled = there.settled; only = there.only; config_is = config_is; told = there.told; ends = ends_of s opened there }
+  opened_of s opened config_is there = record { s = s; settled = there.settled; only = there.only; rising = there.rising; config_is = config_is; told = there.told; ends = ends_of s opened there }
 
   abbrev pub new_opened : (opened : Opened D Page Port kind) → IsThere disk (new_stored config) opened → IsOpened config disk opened
   new_opened opened there = opened_of (new_stored config) opened refl there
@@ -182,7 +187,7 @@ module _ (config : Fields) (d : Directory) (read : Read) (there : IsRead config 
   manifest_of = sym (some_same m there.s.manifest (sym is ∙ ap (λ (r : Read). r.manifest) there.all))
 
   pub loaded_as : IsLoadedAs there.s m journal read.files
-  loaded_as = record { manifest = manifest_of; journal = journal_is there.s (ap (λ (r : Read). r.segments) there.all); files = ap (λ (r : Read). r.files) there.all }
+  loaded_as = record { manifest = manifest_of; journal = journal_is there.s (ap (λ (r : Read). r.segments) there.all); files = ap (λ (r : Read). r.files) there.all; rising = there.rising }
 
   pub exhausted_of : max_place ≤ m.next + most_numbers (length journal.older + length journal.newer) + 1 → IsExhausted d
   exhausted_of last =
@@ -225,6 +230,19 @@ next_of_none d next none (inr found) = absurd (none_or_some d (found.0).manifest
 
 -- What the step comes to
 
+-- files of level 0 in front of others, which ascend
+still_rising : (made files : List StoredFile) → All (λ file. file.level ≡ 0) made → AreRising files → AreRising (made ++ files)
+still_rising made files zeroth rising level above =
+    subst (AllPairs (λ (a b : StoredFile). key_cmp (greatest_key a.header.tiles) (least_key b.header.tiles) ≡ Less)) (sym (rest made zeroth)) (rising level above)
+  where
+    rest : (made : List StoredFile) → All (λ file. file.level ≡ 0) made → filter (λ (file : StoredFile). file.level == level) (made ++ files) ≡ filter (λ (file : StoredFile). file.level == level) files
+    rest [] each = refl
+    rest (file ∷ made) each =
+        let zero : file.level ≡ 0 = All-head (λ (file : StoredFile). file.level ≡ 0) file made each in
+        let other : (file.level == level) ≡ false = elim (eqb_tells file.level level) [ inl alike ↦ absurd (let same = alike.1 in omega (arith, same, zero, above)) | inr apart ↦ apart.0 ] in
+        ap (λ (b : Bool). cond b (file ∷ filter (λ (file : StoredFile). file.level == level) (made ++ files)) (filter (λ (file : StoredFile). file.level == level) (made ++ files))) other
+        ∙ rest made (All-tail (λ (file : StoredFile). file.level ≡ 0) file made each)
+
 abbrev pub next_stored : (s : Stored) (made : Reopening) → Reopens s made → Stored
 next_stored s made is = reopened s is.files is.segment (is.segment + 1)
 
@@ -232,17 +250,17 @@ module _ {D Page Port : Type 0} {kind : Ghosts D Page Port} (s : Stored) (made :
   told_next : (version : Version D Page Port kind) → HasFiles (next_stored s made is) (parts_by_level version) → IsTold (record { manifest = made.step.manifest; version = version }) (next_stored s made is)
   told_next version files = record { manifest = is.step.manifest; files = files; frozen = refl; active = refl; erases = sym (pending_again s [] (λ erase none. absurd (none_in erase none))) }
 
-  pub reopened_of : (d : Directory) → HasOnly s d → (disk : Seen) (version : Version D Page Port kind) → IsSettled disk (next_stored s made is) → HasOnly (next_stored s made is) disk.directory
+  pub reopened_of : (d : Directory) → HasOnly s [] d → AreRising s.files → (disk : Seen) (version : Version D Page Port kind) → IsSettled disk (next_stored s made is) → HasOnly (next_stored s made is) [] disk.directory
       → ((name : Name) → Contains (part_names (next_stored s made is)) name → object disk.directory name ≡ object (insert_all made.step.objects.items d) name) → HasFiles (next_stored s made is) (parts_by_level version)
       → IsReopened s disk (record { manifest = made.step.manifest; version = version })
-  reopened_of d only disk version settled alone kept files =
+  reopened_of d only rising disk version settled alone kept files =
       let found = from_map (λ (object : Object). (object.name, object.bytes)) made.step.objects.items (segment_name is.segment, segment_bytes is.segment []) is.segment_is in
-      let written = object_contained made.step.objects.items d found.0 found.1 (written_absent s (next_stored s made is) made.headers.items made.step coherent is.step d only) in
+      let written = object_contained made.step.objects.items d found.0 found.1 (written_absent s (next_stored s made is) [] [] made.headers.items made.step coherent is.step d only) in
       let whole : object (insert_all made.step.objects.items d) (segment_name is.segment) ≡ Some (segment_bytes is.segment []) =
       sym (ap (λ (named : Name × List ℕ). object (insert_all made.step.objects.items d) named.0) found.2) ∙ written ∙ ap (λ (named : Name × List ℕ). Some named.1) found.2 in
       record {
         t = next_stored s made is;
-        there = record { settled = settled; only = alone; whole = kept (segment_name is.segment) (active_part (next_stored s made is)) ∙ whole; told = told_next version files };
+        there = record { settled = settled; only = alone; rising = still_rising is.files s.files is.level rising; whole = kept (segment_name is.segment) (active_part (next_stored s made is)) ∙ whole; told = told_next version files };
         config_is = refl;
         stands = is.stands;
       }

@@ -8,7 +8,7 @@ use Rattle.lethe_cover.proofs.Lists.{Pairs, in_rest, pairs_append, pairs_from, p
 use Rattle.lethe_manifest.specs.Manifests.{HasSpelling, IsErase, IsFile}
 use Rattle.lethe_manifest.specs.declared.manifest.Cited.{Cited}
 use Rattle.lethe_manifest.specs.declared.manifest.Manifest.{Manifest}
-use Rattle.lethe_flush.specs.declared.flushed.Flushed.{Flushed}
+use Rattle.lethe_flush.specs.declared.made.MadeFiles.{MadeFiles}
 use Rattle.lethe_recover.specs.Flushing.{IsWritable}
 use Rattle.lethe_recover.specs.Reopening.{successor}
 
@@ -26,7 +26,7 @@ zeroth_rise : (files : List Cited) → ((file : Cited) → Contains files file �
 zeroth_rise [] zeroth = tt
 zeroth_rise (file ∷ files) zeroth = ((λ other there. let low = zeroth file (first_is file files file refl) in omega (arith, low)), zeroth_rise files (λ other there. zeroth other (in_rest file files other there)))
 
-pub next_spelled : (m : Manifest) (count : ℕ) (erases : List Pending) (older newer : Flushed) (files : List Cited) (next : Manifest) → HasSpelling m → count ≤ max_place → All IsErase erases → AllPairs (λ a b. a.seq < b.seq) erases
+pub next_spelled : (m : Manifest) (count : ℕ) (erases : List Pending) (older newer : MadeFiles) (files : List Cited) (next : Manifest) → HasSpelling m → count ≤ max_place → All IsErase erases → AllPairs (λ a b. a.seq < b.seq) erases
     → IsWritable m.next older → IsWritable older.next newer → newer.next + 2 ≤ max_place → files ≡ newer.cited.items ++ older.cited.items ++ m.files → next ≡ successor m count erases files newer.next
     → length next.erases < 2 ^ 32 → length next.files < 2 ^ 32 → HasSpelling next
 next_spelled m count erases older newer files next spelled counted each ascending is_older is_newer room files_are is few_erases few_files =

@@ -8,6 +8,8 @@ use Rattle.std.proofs.lemmas.List.Elements.{All-append, All-contains, All-cons, 
 use Rattle.std.proofs.lemmas.List.Sorted.{IsPermutation-refl}
 use Rattle.lethe_base.specs.History.{History}
 use Rattle.lethe_base.specs.Layout.{File, Layout, files_of}
+use Rattle.lethe_base.specs.declared.config.Fields.{Fields}
+use Rattle.lethe_base.specs.declared.name.Kind.TheVariants.{Page}
 use Rattle.lethe_base.specs.declared.name.Name.{Name}
 use Rattle.lethe_base.specs.declared.pending.Pending.{Pending}
 use Rattle.lethe_cover.specs.Flushes as layouts
@@ -24,7 +26,7 @@ use Rattle.lethe_manifest.specs.declared.manifest.Manifest.{Manifest}
 use Rattle.lethe_commit.specs.declared.objects.Object.{Object}
 use Rattle.lethe_stored.specs.Files.{StoredFile, IsFile, cited_of, file_of, objects_in, objects_of}
 use Rattle.lethe_stored.specs.Kept.{IsFor}
-use Rattle.lethe_stored.specs.Stored.{Stored, Segment, IsCoherent, count_of, layout_of, number_of, part_names, pending_of, plain, segment_name, segment_numbers, segments_of}
+use Rattle.lethe_stored.specs.Stored.{Stored, Segment, IsCited, IsCoherent, count_of, layout_of, number_of, part_names, pending_of, plain, segment_name, segment_numbers, segments_of}
 use Rattle.lethe_stored.proofs.Frame.{same_no}
 use Rattle.lethe_stored.proofs.Lists.{all_from, all_left, all_right, from_map, in_map}
 use Rattle.lethe_stored.proofs.Parts.{active_part, object_apart, object_part, part_below}
@@ -32,8 +34,9 @@ use Rattle.lethe_version.specs.Order.{is_kept}
 use Rattle.lethe_follows.specs.Filed.{AreNewFiles, reopened}
 use Rattle.lethe_follows.proofs.Stepping.{reopened_coherent, reopened_for}
 use Rattle.lethe_flush.specs.Clear as clear
-use Rattle.lethe_flush.specs.Flushed.{IsFlushOf, named_of}
-use Rattle.lethe_flush.specs.declared.flushed.Flushed.{Flushed}
+use Rattle.lethe_flush.specs.Flushed.{IsFlushOf}
+use Rattle.lethe_flush.specs.Made.{named_of}
+use Rattle.lethe_advance.specs.Settled.{names_in}
 use Rattle.lethe_advance.specs.Steps.{IsStep, IsSegmentFrom, IsObjectFrom, IsUncited, kept_files, written_in}
 use Rattle.lethe_advance.proofs.Lists.{filter_all}
 use Rattle.lethe_recover.specs.Flushing.{IsFlushOfRecords, AreFlushesOf, IsWritable}
@@ -65,7 +68,7 @@ Within from to object = (from ≤ object.name.no) × (object.name.no < to)
 
 module _ (s : Stored) (coherent : IsCoherent s) (m : Manifest) (same : s.manifest ≡ m) (count : ℕ) (count_is : count ≡ count_of s) (erases : List Pending) (erases_are : erases ≡ pending_of s)
     (heads : List Header) (has_heads : (file : StoredFile) → Contains s.files file → Contains heads file.header)
-    (journal : Journal) (is_journal : IsJournalOf s journal) (flushes : both.Flushes) (are : AreFlushesOf journal erases count m.next heads flushes)
+    (journal : Journal) (is_journal : IsJournalOf s journal) (flushes : both.Flushes) (fields : Fields) (are : AreFlushesOf fields journal erases count m.next heads flushes)
     (writable_older : IsWritable m.next flushes.older) (writable_newer : IsWritable flushes.older.next flushes.newer)
     (made : Reopening) (is : IsStepOf m count erases flushes made) (spelled : HasSpelling made.step.manifest) where
   abbrev older : List StoredFile
@@ -77,10 +80,10 @@ module _ (s : Stored) (coherent : IsCoherent s) (m : Manifest) (same : s.manifes
   abbrev files : List StoredFile
   files = newer ++ older
 
-  abbrev older_is : IsFlushOf are.older.entries erases are.older.alone count m.next flushes.older older
+  abbrev older_is : IsFlushOf fields are.older.entries erases are.older.alone count m.next flushes.older older
   older_is = are.older.is
 
-  abbrev newer_is : IsFlushOf are.newer.entries erases are.newer.alone count flushes.older.next flushes.newer newer
+  abbrev newer_is : IsFlushOf fields are.newer.entries erases are.newer.alone count flushes.older.next flushes.newer newer
   newer_is = are.newer.is
 
   abbrev segment : ℕ
@@ -154,12 +157,12 @@ module _ (s : Stored) (coherent : IsCoherent s) (m : Manifest) (same : s.manifes
   made_object : (named : Name × List ℕ) → Contains (objects_of newer ++ objects_of older) named → Contains objects_next named
   made_object named there = subst (λ l. Contains l named) (sym objects_are) (Contains-append_left (objects_of newer ++ objects_of older) (objects_of s.files) named there)
 
-  from_written : (named : Name × List ℕ) → Contains objects_next named → IsObjectFrom s made.step named
+  from_written : (named : Name × List ℕ) → Contains objects_next named → IsObjectFrom s [] made.step named
   from_written named there = elim (Contains-append_cases (objects_of newer ++ objects_of older) (objects_of s.files) named (subst (λ l. Contains l named) objects_are there)) [
-    | inl new ↦ inr (subst (λ l. Contains l named) (sym written_is) (Contains-append_left (map named_of olds ++ map named_of news) (named_of (empty_segment segment) ∷ []) named (elim (Contains-append_cases (objects_of newer) (objects_of older) named new) [
+    | inl new ↦ inr (inr (subst (λ l. Contains l named) (sym written_is) (Contains-append_left (map named_of olds ++ map named_of news) (named_of (empty_segment segment) ∷ []) named (elim (Contains-append_cases (objects_of newer) (objects_of older) named new) [
       | inl later ↦ Contains-append_right (map named_of olds) (map named_of news) named (object_to newer news newer_is.objects named later)
       | inr earlier ↦ Contains-append_left (map named_of olds) (map named_of news) named (object_to older olds older_is.objects named earlier)
-    ])))
+    ]))))
     | inr old ↦ inl old
   ]
 
@@ -234,7 +237,7 @@ module _ (s : Stored) (coherent : IsCoherent s) (m : Manifest) (same : s.manifes
   kept_is : kept_files s made.step ≡ s.files
   kept_is = filter_all (λ (file : StoredFile). is_kept made.step.merged.items file.header) s.files (all_from (λ (file : StoredFile). is_kept made.step.merged.items file.header ≡ true) s.files (λ file there. ap (λ l. is_kept l file.header) is.merged))
 
-  is_step : IsStep s t made.headers.items made.step
+  is_step : IsStep s [] t [] made.headers.items made.step
   is_step = record {
     coherent = next_coherent;
     config = refl;
@@ -242,12 +245,18 @@ module _ (s : Stored) (coherent : IsCoherent s) (m : Manifest) (same : s.manifes
     later = omega (arith, next_is, low, high);
     fresh = all_from (λ (object : Object). s.manifest.next ≤ object.name.no) objects is_fresh;
     once = once;
+    loose_pages = All-nil (λ (named : Name × List ℕ). named.0.kind ≡ Page);
+    loose_uncited = All-nil (λ (named : Name × List ℕ). IsCited s named.0 → ⊥);
+    beside = all_from (λ (object : Object). Contains (names_in []) object.name → ⊥) objects (λ object there among. none_in object.name among);
     segments = All-cons (IsSegmentFrom s made.step) t.active [] (inr segment_written) (All-nil (IsSegmentFrom s made.step));
-    objects = all_from (IsObjectFrom s made.step) objects_next from_written;
+    objects = all_from (IsObjectFrom s [] made.step) objects_next from_written;
     cited = all_from (λ (object : Object). Contains (part_names t) object.name) objects is_cited;
     stays = all_from (λ name. Contains (part_names t) name ⊎ Contains made.step.gone.items name) (part_names s) stays;
     gone = all_from (IsUncited s t) made.step.gone.items goes;
     gone_once = gone_once;
+    taken = All-nil (λ (named : Name × List ℕ). Contains (names_in []) named.0 ⊎ Contains (part_names t) named.0);
+    left_loose = All-nil (Contains (let none : List (Name × List ℕ) = [] in none));
+    left_uncited = All-nil (λ (named : Name × List ℕ). IsCited t named.0 → ⊥);
     added = files;
     headers_are = is.headers ∙ (λ i. newer_is.headers i ++ older_is.headers i) ∙ sym (map-append (λ (file : StoredFile). file.header) newer older);
     level = All-weaker (λ (file : StoredFile). file.level ≡ 0) (λ (file : StoredFile). file.level ≡ made.step.level) (λ file zeroth. zeroth ∙ sym is.level) files new_files.level;
@@ -266,7 +275,7 @@ module _ (s : Stored) (coherent : IsCoherent s) (m : Manifest) (same : s.manifes
   stands h for =
       let upto : count ≡ length h = count_is ∙ for.count in
       let flushes_older : Flushes h (layout_of s) (map file_of older) =
-      flushes_of h (layout_of s) journal.older erases count m.next heads flushes.older are.older (frozen_are s.frozen ∙ ap (map plain) (sym is_journal.older)) erases_are upto
+      flushes_of h (layout_of s) journal.older erases count m.next heads fields flushes.older are.older (frozen_are s.frozen ∙ ap (map plain) (sym is_journal.older)) erases_are upto
       (stored_clear s coherent heads has_heads) (stored_below s coherent m.next (omega (arith, next_is))) in
       let below : All (λ (file : File). file.no < flushes.older.next) (files_of (frozen first)) =
       subst (All (λ (file : File). file.no < flushes.older.next)) (sym files_are) (All-append (λ (file : File). file.no < flushes.older.next) (map file_of older) (files_of (layout_of s))
@@ -276,11 +285,11 @@ module _ (s : Stored) (coherent : IsCoherent s) (m : Manifest) (same : s.manifes
       subst (λ (file : File). file.no < flushes.older.next) found.2 lt))
       (stored_below s coherent flushes.older.next (omega (arith, next_is, low)))) in
       let flushes_newer : Flushes h (frozen first) (map file_of newer) =
-      flushes_of h (frozen first) journal.newer erases count flushes.older.next (heads ++ flushes.older.headers.items) flushes.newer are.newer (ap (map plain) (sym is_journal.newer)) erases_are upto
+      flushes_of h (frozen first) journal.newer erases count flushes.older.next (heads ++ flushes.older.headers.items) fields flushes.newer are.newer (ap (map plain) (sym is_journal.newer)) erases_are upto
       (λ keys free. subst (All (moves.IsClearOf keys)) (sym files_are) (All-append (moves.IsClearOf keys) (map file_of older) (files_of (layout_of s))
       (new_clear keys older (subst (All (clear.IsClearOf keys)) older_is.headers (all_right (clear.IsClearOf keys) heads flushes.older.headers.items free)))
       (stored_clear s coherent heads has_heads keys (all_left (clear.IsClearOf keys) heads flushes.older.headers.items free)))) below in
       reopened_for s older newer segment (segment + 1) h coherent for older_is.new.level newer_is.new.level flushes_older flushes_newer
 
   pub reopens : Reopens s made
-  reopens = record { files = files; segment = segment; step = is_step; stands = stands; segment_is = segment_written }
+  reopens = record { files = files; segment = segment; step = is_step; stands = stands; level = new_files.level; segment_is = segment_written }

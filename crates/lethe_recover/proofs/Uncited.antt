@@ -4,7 +4,7 @@ use Rattle.std.specs.Prelude.{Contains, IsSome, is_some, flat_map, zip, ◌&&◌
 use Rattle.std.specs.List.{AllZip}
 use Rattle.std.proofs.lemmas.Bool.{cases_Bool}
 use Rattle.std.proofs.lemmas.List.{map-append}
-use Rattle.std.proofs.lemmas.List.Elements.{All-head, All-tail}
+use Rattle.std.proofs.lemmas.List.Elements.{All-head, All-nil, All-tail}
 use Rattle.std.proofs.lemmas.Simd.{map-map}
 use Rattle.std.proofs.lemmas.Slice.Zip.{firsts-zip}
 use Rattle.std.specs.BTreeSet.{BTreeSet, contains}
@@ -28,7 +28,7 @@ use Rattle.lethe_commit.proofs.Listed.{listed}
 use Rattle.lethe_commit.proofs.Removals.{all_absent, cleared_absent}
 use Rattle.lethe_stored.specs.Files.{StoredFile, IsFile, lines_in, objects_in, objects_of, file_name}
 use Rattle.lethe_stored.specs.Stored.{Stored, IsCoherent, segment_name, segment_numbers, part_names, IsCited}
-use Rattle.lethe_stored.specs.Encodes.{Encodes, AreSpare}
+use Rattle.lethe_stored.specs.Encodes.{Encodes, AreSpare, HasObject}
 use Rattle.lethe_advance.specs.Settled.{HasOnly}
 use Rattle.lethe_stored.proofs.Lists.{later_in}
 use Rattle.lethe_recover.specs.Cited.{line_name, names_in, names_of}
@@ -177,17 +177,20 @@ module _ (s : Stored) (set : BTreeSet Name) (cites : (name : Name) → IsTrue (c
               true≢false (sym here ∙ ap is_some (e.greatest.1 k lt));
         }
 
-    pub rest_gone : HasOnly s (remove_all rest d)
-    rest_gone name there = elim (cases_Bool (contains name_cmp set name)) [
-      | inl is ↦ (cites name).0 is
-      | inr out ↦ absurd (true≢false (sym there ∙ ap is_some (gone out)))
-    ]
+    pub rest_gone : HasOnly s [] (remove_all rest d)
+    rest_gone = record { only = λ name there. inl (cited name there); there = All-nil (HasObject (remove_all rest d)) }
       where
-        gone : contains name_cmp set name ≡ false → object (remove_all rest d) name ≡ None
-        gone out = by (object d name) refl
+        gone : (name : Name) → contains name_cmp set name ≡ false → object (remove_all rest d) name ≡ None
+        gone name out = by (object d name) refl
           where
             by : (o : Option (List ℕ)) → object d name ≡ o → object (remove_all rest d) name ≡ None
             by None none = all_absent rest d name none
             by (Some b) some =
                 let listed_is = in_filter test (keys d) name ((listed d name).1 (ap is_some some)) (ap not out) in
                 cleared_absent rest listed_is.0 name d listed_is.1 (sym listed_is.2)
+
+        cited : (name : Name) → IsSome (object (remove_all rest d) name) → IsCited s name
+        cited name there = elim (cases_Bool (contains name_cmp set name)) [
+          | inl is ↦ (cites name).0 is
+          | inr out ↦ absurd (true≢false (sym there ∙ ap is_some (gone name out)))
+        ]

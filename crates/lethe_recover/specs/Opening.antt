@@ -16,7 +16,7 @@ use Rattle.lethe_stored.specs.Stored.{Stored, IsCoherent, pending_of, records_of
 use Rattle.lethe_stored.specs.Encodes.{Encodes}
 use Rattle.lethe_stored.specs.Kept.{IsFor}
 use Rattle.lethe_stored.specs.Left.{IsHistoryOr}
-use Rattle.lethe_stored.specs.Levels.{HasFiles}
+use Rattle.lethe_stored.specs.Levels.{AreRising, HasFiles}
 use Rattle.lethe_advance.specs.Settled.{IsSettled, HasOnly}
 use Rattle.lethe_advance.specs.Shown.{parts_by_level}
 use Rattle.lethe_load.specs.Damaged.{IsDamaged}
@@ -43,11 +43,12 @@ pub record IsSpellable {D Page Port : Type 0} {kind : Ghosts D Page Port} (confi
   pub segments : length opened.manifest.segments ≡ 1
   pub levels : length (levels_of opened.version) ≡ config.levels + 1
 
--- The disk has one store of the configuration and nothing else, as it is told.
+-- The disk has one store of the configuration and nothing else, as it is told. Behind level 0 the files of a level ascend.
 pub record IsOpened {D Page Port : Type 0} {kind : Ghosts D Page Port} (config : Fields) (disk : Seen) (opened : Opened D Page Port kind) : Type 0 where
   pub s : Stored
   pub settled : IsSettled disk s
-  pub only : HasOnly s disk.directory
+  pub only : HasOnly s [] disk.directory
+  pub rising : AreRising s.files
   pub config_is : s.manifest.config ≡ config
   pub told : IsTold opened s
   -- and the first record can be appended behind the segment's head

@@ -1,5 +1,5 @@
 -- What a store becomes that is opened: its journal in files, and an empty segment.
-use Rattle.std.specs.Prelude.{◌≡◌, ℕ, ◌+◌, List, [], ◌∷◌, ◌++◌, map, Contains}
+use Rattle.std.specs.Prelude.{◌≡◌, ℕ, ◌+◌, List, [], ◌∷◌, ◌++◌, map, All, Contains}
 use Rattle.lethe_base.specs.History.{History}
 use Rattle.lethe_base.specs.declared.pending.Pending.{Pending}
 use Rattle.lethe_manifest.specs.declared.manifest.Cited.{Cited}
@@ -42,6 +42,7 @@ pub record IsStepOf (m : Manifest) (count : ℕ) (erases : List Pending) (flushe
 pub record Reopens (s : Stored) (made : Reopening) : Type 0 where
   pub files : List StoredFile
   pub segment : ℕ
-  pub step : IsStep s (reopened s files segment (segment + 1)) made.headers.items made.step
+  pub step : IsStep s [] (reopened s files segment (segment + 1)) [] made.headers.items made.step
   pub stands : (h : History) → IsFor h s → IsFor h (reopened s files segment (segment + 1))
+  pub level : All (λ file. file.level ≡ 0) files
   pub segment_is : Contains (written_in made.step) (segment_name segment, segment_bytes segment [])

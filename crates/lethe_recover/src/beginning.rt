@@ -1,5 +1,5 @@
 //! Making an empty store.
-ghost use Rattle.std.specs.Prelude.{◌≡◌, ◌⊎◌, None, IfOk, OnOk};
+ghost use Rattle.std.specs.Prelude.{◌≡◌, ◌⊎◌, [], None, IfOk, OnOk};
 ghost use Rattle.lethe_base.specs.Configuration.{IsConfig};
 ghost use Rattle.lethe_base.specs.declared.name.Name.{Name};
 ghost use Rattle.lethe_disk.specs.Directory.{object};
@@ -32,7 +32,7 @@ pub fn begin<D: Disk>(alloc: Global, disk: &mut D, config: &Config) -> Result<Ma
     ensures any_moment { D.tells → Goes (λ c. HasGreatest None c ⊎ Encodes c (new_stored config.now)) (D.seen disk.old) (D.seen disk.new) }
 
     // Acknowledged: each crash leaves the new store, and nothing else.
-    ensures done { D.tells → OnOk result (IsSettled (D.seen disk.new) (new_stored config.now) × HasOnly (new_stored config.now) (D.seen disk.new).directory
+    ensures done { D.tells → OnOk result (IsSettled (D.seen disk.new) (new_stored config.now) × HasOnly (new_stored config.now) [] (D.seen disk.new).directory
         × IsWhole (new_stored config.now) (D.seen disk.new).directory) }
     ensures is { IfOk result (λ manifest. manifest ≡ first_manifest config.now) }
     ensures cause { HasCause (D.faults disk.old) (D.faults disk.new) result }

@@ -9,7 +9,7 @@ ghost use Rattle.lethe_recover.specs.Flushing.{IsFlushOfRecords, AreFlushesOf, I
 use crate::journal::Journal;
 use lethe_base::{Config, List, NoMemory, Pending};
 use lethe_disk::Disk;
-use lethe_flush::{Flushed, flush_of, is_clear, newest_of};
+use lethe_flush::{MadeFiles, flush_drafts, flush_files, is_clear, newest_of};
 use lethe_header::Header;
 use lethe_segment::Record;
 use lethe_version::Version;
@@ -18,8 +18,8 @@ use std::alloc::Global;
 /// The files of a journal's two segments.
 #[derive(Drop)]
 pub struct Flushes {
-    pub older: Flushed,
-    pub newer: Flushed,
+    pub older: MadeFiles,
+    pub newer: MadeFiles,
 }
 
 /// The files of the journal's records, those of the older ones first: they count as there when the newer ones' are made.
@@ -37,7 +37,7 @@ pub fn flush_journal<D: Disk>(
     requires erases { All (λ erase. erase.time ≤ max_time) erases.now }
     requires upto { upto ≤ max_place }
     requires numbers { first + most_numbers (length journal.older + length journal.newer) ≤ max_place + 1 }
-    ensures made { IfOk result (λ flushes. AreFlushesOf journal erases.now upto first (map (λ file. file.header) (files_of version.now)) flushes) }
+    ensures made { IfOk result (λ flushes. AreFlushesOf config.now journal erases.now upto first (map (λ file. file.header) (files_of version.now)) flushes) }
     ensures older { IfOk result (λ flushes. IsWritable first flushes.older) }
     ensures newer { IfOk result (λ flushes. IsWritable flushes.older.next flushes.newer) }
     ensures last { IfOk result (λ flushes. flushes.newer.next ≤ first + most_numbers (length journal.older + length journal.newer)) }
@@ -67,16 +67,17 @@ fn flush_records<D: Disk>(
     upto: u64,
     config: &Config,
     first: u64,
-) -> Result<Flushed, NoMemory>
+) -> Result<MadeFiles, NoMemory>
     requires ascends { Ascends 0 records }
     requires erases { All (λ erase. erase.time ≤ max_time) erases.now }
     requires upto { upto ≤ max_place }
     requires numbers { first + most_numbers (length records) ≤ max_place + 1 }
-    ensures made { IfOk result (λ flushed. IsFlushOfRecords records erases.now upto first (map (λ file. file.header) (files_of version.now) ++ more.now) flushed) }
+    ensures made { IfOk result (λ made. IsFlushOfRecords config.now records erases.now upto first (map (λ file. file.header) (files_of version.now) ++ more.now) made) }
     ensures writable { IfOk result (IsWritable first) }
-    ensures last { IfOk result (λ flushed. flushed.next ≤ first + most_numbers (length records)) }
+    ensures last { IfOk result (λ made. made.next ≤ first + most_numbers (length records)) }
 {
     let buffer = newest_of(alloc, records)?;
     let alone = is_clear(&buffer, version, more);
-    flush_of(alloc, &buffer, erases, alone, upto, config, first)
+    let drafts = flush_drafts(alloc, &buffer, erases, alone, config)?;
+    flush_files(alloc, drafts, upto, first)
 }

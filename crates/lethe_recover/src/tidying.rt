@@ -1,5 +1,5 @@
 //! Removing what the greatest gate doesn't commit.
-ghost use Rattle.std.specs.Prelude.{◌≡◌, not, map, filter, IfOk, OnOk};
+ghost use Rattle.std.specs.Prelude.{◌≡◌, [], not, map, filter, IfOk, OnOk};
 ghost use Rattle.std.specs.BTreeSet.{contains};
 ghost use Rattle.lethe_base.specs.Names.{name_cmp};
 ghost use Rattle.lethe_disk.specs.Disk.{HasCause};
@@ -36,7 +36,7 @@ pub fn tidy<D: Disk>(
 
     // Acknowledged: each crash leaves it, and nothing else.
     ensures done { D.tells → (s : Stored) → IsSettled (D.seen disk.old) s
-        → OnOk result (IsSettled (D.seen disk.new) s × HasOnly s (D.seen disk.new).directory) }
+        → OnOk result (IsSettled (D.seen disk.new) s × HasOnly s [] (D.seen disk.new).directory) }
     ensures cause { HasCause (D.faults disk.old) (D.faults disk.new) result }
 {
     let names = disk.names(alloc)?;

@@ -1,4 +1,4 @@
-use Rattle.std.proofs.Common.{◌≡◌, ◌⊎◌, ◌+◌, [], None, refl, sym, ap, subst, length, ◌∙◌}
+use Rattle.std.proofs.Common.{◌≡◌, ◌⊎◌, ◌+◌, [], None, refl, sym, ap, subst, length, arith, ◌∙◌}
 use Rattle.std.specs.Prelude.{map}
 use Rattle.lethe_manifest.specs.Manifests.{HasSpelling}
 use Rattle.lethe_manifest.specs.declared.manifest.Manifest.{Manifest}
@@ -40,6 +40,7 @@ returns-clause-there g c = λ told.
     record {
       settled = done.0;
       only = done.1;
+      rising = λ level above i j d before within. absurd (omega (arith, within));
       whole = done.2;
       told = record {
         manifest = is;

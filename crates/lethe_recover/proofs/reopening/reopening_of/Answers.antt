@@ -58,14 +58,14 @@ returns-clause-reopens g c =
     let erases = c.in_ok-erases.erases.items in
     let flushes = c.in_ok-flushes.flushes in
     let heads = map (λ file. file.header) (files_of c.args.version.now) in
-    let are : AreFlushesOf journal erases count m.next heads flushes = subst (λ l. AreFlushesOf journal l count m.next heads flushes) c.deref.ensures.value c.in_ok-flushes.ensures.made in
+    let are : AreFlushesOf c.args.manifest.now.config journal erases count m.next heads flushes = subst (λ l. AreFlushesOf c.args.manifest.now.config journal l count m.next heads flushes) c.deref.ensures.value c.in_ok-flushes.ensures.made in
     ok_both c.step_of.result (IsStepOf m count erases flushes) (λ made. HasSpelling made.step.manifest)
     (λ made. (s : Stored) → IsCoherent s → s.manifest ≡ m → HasFiles s (parts_by_level c.args.version.now) → IsJournalOf s journal → Reopens s made) c.step_of.ensures.is c.step_of.ensures.spelled
     (λ made is spelled s coherent same has journal_is.
     let counted = c.count-count.ensures ∙ count_is s m journal same journal_is in
     let pending = c.in_ok-erases.ensures ∙ (λ i. pending_under ((c.items.ensures ∙ ap (λ (x : Manifest). x.erases) (sym same)) i) journal.older journal.newer)
     ∙ pending_is s journal.older journal.newer c.requires.older c.requires.newer journal_is.older journal_is.newer in
-    reopens s coherent m same count counted erases pending heads (head_in parts_in (λ file. file.header) (λ file. refl) (levels_of c.args.version.now) s coherent has) journal journal_is flushes are
+    reopens s coherent m same count counted erases pending heads (head_in parts_in (λ file. file.header) (λ file. refl) (levels_of c.args.version.now) s coherent has) journal journal_is flushes c.args.manifest.now.config are
     c.in_ok-flushes.ensures.older c.in_ok-flushes.ensures.newer made is spelled)
 
 pub returns-clause-headers : goal.returns-clause-headers

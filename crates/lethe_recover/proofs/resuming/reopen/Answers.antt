@@ -1,9 +1,10 @@
-use Rattle.std.proofs.Common.{◌⊎◌, refl, ap, ◌∙◌, arith}
+use Rattle.std.proofs.Common.{◌⊎◌, [], refl, ap, ◌∙◌, arith}
 use Rattle.std.specs.Prelude.{map}
 use Rattle.lethe_disk.proofs.Going.{goes_then, goes_weaker}
 use Rattle.lethe_stored.specs.Encodes.{Encodes}
 use Rattle.lethe_stored.specs.Kept.{IsKept}
 use Rattle.lethe_advance.specs.Shown.{parts_in}
+use Rattle.lethe_advance.specs.Steps.{MayAdvance}
 use Rattle.lethe_recover.proofs.Resumed.{next_stored, old_kept, either_kept, heads_of, reopened_of}
 use Rattle.lethe_recover.proofs.resuming.reopen.Goals as goal
 
@@ -36,7 +37,7 @@ advance-requires-clause-step g c κs within = λ told.
     let loaded = asked.2 in
     let tidied = c.in_ok-tidy.ensures.done told s settled in
     let is = c.in_ok-made.ensures.reopens s settled.coherent loaded.manifest (c.in_ok-version.ensures.files s settled.coherent loaded.manifest loaded.files) loaded.journal in
-    (s, next_stored s c.in_ok-made.made is, tidied.0, tidied.1, is.step)
+    (s, next_stored s c.in_ok-made.made is, [], [], record { settled = tidied.0; only = tidied.1; step_is = is.step })
 
 pub returns-in_err-reopened-clause-any_moment : goal.returns-in_err-reopened-clause-any_moment
 returns-in_err-reopened-clause-any_moment g c = λ told s settled loaded h stands.
@@ -46,9 +47,10 @@ returns-in_err-reopened-clause-any_moment g c = λ told s settled loaded h stand
     let tidied = c.in_ok-tidy.ensures.done told s settled in
     let is = c.in_ok-made.ensures.reopens s settled.coherent loaded.manifest (c.in_ok-version.ensures.files s settled.coherent loaded.manifest loaded.files) loaded.journal in
     let t = next_stored s c.in_ok-made.made is in
+    let may : MayAdvance (g.D.Disk.seen c.tidy.new.disk) s [] t [] c.in_ok-made.made.headers.items c.in_ok-made.made.step = record { settled = tidied.0; only = tidied.1; step_is = is.step } in
     goes_then (λ x. IsKept x h) s0 s1 s2
     (goes_weaker (λ x. Encodes x s) (λ x. IsKept x h) s0 s1 (old_kept h s settled.coherent stands) (c.tidy.ensures.any_moment told s settled))
-    (goes_weaker (λ x. Encodes x s ⊎ Encodes x t) (λ x. IsKept x h) s1 s2 (either_kept h s t settled.coherent stands is.step.coherent (is.stands h stands)) (c.advance.ensures.any_moment told s t tidied.0 tidied.1 is.step))
+    (goes_weaker (λ x. Encodes x s ⊎ Encodes x t) (λ x. IsKept x h) s1 s2 (either_kept h s t settled.coherent stands is.step.coherent (is.stands h stands)) (c.advance.ensures.any_moment told s t [] [] may))
 
 pub returns-clause-any_moment : goal.returns-clause-any_moment
 returns-clause-any_moment g c = λ told s settled loaded h stands.
@@ -58,9 +60,10 @@ returns-clause-any_moment g c = λ told s settled loaded h stands.
     let tidied = c.in_ok-tidy.ensures.done told s settled in
     let is = c.in_ok-made.ensures.reopens s settled.coherent loaded.manifest (c.in_ok-version.ensures.files s settled.coherent loaded.manifest loaded.files) loaded.journal in
     let t = next_stored s c.in_ok-made.made is in
+    let may : MayAdvance (g.D.Disk.seen c.tidy.new.disk) s [] t [] c.in_ok-made.made.headers.items c.in_ok-made.made.step = record { settled = tidied.0; only = tidied.1; step_is = is.step } in
     goes_then (λ x. IsKept x h) s0 s1 s2
     (goes_weaker (λ x. Encodes x s) (λ x. IsKept x h) s0 s1 (old_kept h s settled.coherent stands) (c.tidy.ensures.any_moment told s settled))
-    (goes_weaker (λ x. Encodes x s ⊎ Encodes x t) (λ x. IsKept x h) s1 s2 (either_kept h s t settled.coherent stands is.step.coherent (is.stands h stands)) (c.advance.ensures.any_moment told s t tidied.0 tidied.1 is.step))
+    (goes_weaker (λ x. Encodes x s ⊎ Encodes x t) (λ x. IsKept x h) s1 s2 (either_kept h s t settled.coherent stands is.step.coherent (is.stands h stands)) (c.advance.ensures.any_moment told s t [] [] may))
 
 pub returns-clause-there : goal.returns-clause-there
 returns-clause-there g c = λ told s settled loaded.
@@ -70,9 +73,10 @@ returns-clause-there g c = λ told s settled loaded.
     let has = c.in_ok-version.ensures.files s settled.coherent loaded.manifest loaded.files in
     let is = c.in_ok-made.ensures.reopens s settled.coherent loaded.manifest has loaded.journal in
     let t = next_stored s c.in_ok-made.made is in
-    let done = c.in_ok-reopened.ensures.done told s t tidied.0 tidied.1 is.step in
-    reopened_of s c.in_ok-made.made is settled.coherent s1.directory tidied.1 s2 c.in_ok-reopened.reopened done.0 done.1
-    (c.in_ok-reopened.ensures.kept told s t tidied.0 tidied.1 is.step) (c.in_ok-reopened.ensures.files told s t tidied.0 tidied.1 is.step has)
+    let may : MayAdvance (g.D.Disk.seen c.tidy.new.disk) s [] t [] c.in_ok-made.made.headers.items c.in_ok-made.made.step = record { settled = tidied.0; only = tidied.1; step_is = is.step } in
+    let done = c.in_ok-reopened.ensures.done told s t [] [] may in
+    reopened_of s c.in_ok-made.made is settled.coherent s1.directory tidied.1 loaded.rising s2 c.in_ok-reopened.reopened done.0 done.1
+    (c.in_ok-reopened.ensures.kept told s t [] [] may) (c.in_ok-reopened.ensures.files told s t [] [] may has)
 
 pub returns-clause-spelled : goal.returns-clause-spelled
 returns-clause-spelled g c = record {

@@ -1,4 +1,4 @@
-use Rattle.std.proofs.Common.{◌≡◌, filter, sym, ap, subst, ◌∙◌}
+use Rattle.std.proofs.Common.{◌≡◌, [], filter, sym, ap, subst, ◌∙◌}
 use Rattle.std.specs.Prelude.{map}
 use Rattle.lethe_disk.specs.Directory.{Directory, object, SameBeside}
 use Rattle.lethe_disk.specs.Disk.{Seen, Image, IsSynced}
@@ -89,7 +89,7 @@ returns-clause-done g c = λ told s settled.
     let all = rest s set cites d settled.encodes in
     let items : c.deref-2.result.now ≡ all =
     c.deref-2.ensures.value ∙ c.in_ok-rest.ensures ∙ ap (filter (test s set cites)) (c.deref.ensures.value ∙ c.in_ok-names.ensures.done told) in
-    on_ok_both c.clear.result (s2.directory ≡ remove_all c.deref-2.result.now s1.directory) (IsSynced s2) (IsSettled s2 s × HasOnly s s2.directory) (c.clear.ensures.done told) (c.clear.ensures.synced told) (λ done synced.
+    on_ok_both c.clear.result (s2.directory ≡ remove_all c.deref-2.result.now s1.directory) (IsSynced s2) (IsSettled s2 s × HasOnly s [] s2.directory) (c.clear.ensures.done told) (c.clear.ensures.synced told) (λ done synced.
     let gone : s2.directory ≡ remove_all all d = done ∙ (λ i. remove_all (items i) (c.names.ensures.directory told i)) in
     let others : SameBeside all d s2.directory = λ name none. ap (λ x. object x name) gone ∙ cleared_others all d name none in (
       record {
@@ -97,5 +97,5 @@ returns-clause-done g c = λ told s settled.
         coherent = settled.coherent;
         encodes = besides s d s2.directory all settled.encodes (rest_spare s set cites d settled.encodes) others;
       },
-      subst (HasOnly s) (sym gone) (rest_gone s set cites d settled.encodes),
+      subst (HasOnly s []) (sym gone) (rest_gone s set cites d settled.encodes),
     ))

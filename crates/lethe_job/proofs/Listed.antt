@@ -1,0 +1,103 @@
+-- Lists that are looked through, and items of distinct numbers.
+use Rattle.std.proofs.Common.{◌≡◌, ◌≢◌, ℕ, ◌+◌, ◌<◌, Bool, true, false, cond, eqb, List, [], ◌∷◌, ◌++◌, get_or, length, map, refl, sym, ap, ◌∙◌, subst, arith}
+use Rattle.std.specs.Prelude.{◌&&◌, Contains, Some, filter, find}
+use Rattle.std.specs.List.{list_any, range_with_len}
+use Rattle.std.proofs.lemmas.Bool.{cond-true, cond-false, eq-eqb, ne_eqb}
+use Rattle.std.proofs.lemmas.List.{get_or-map, length-map}
+use Rattle.std.proofs.lemmas.List.Elements.{Contains-get_or}
+use Rattle.std.proofs.lemmas.List.Folds.{list_any_at}
+use Rattle.std.proofs.lemmas.List.FromFn.{map-range_with_len_more}
+use Rattle.lethe_cover.proofs.Common.{⊎_elim, none_in, first_is, first_or_rest}
+use Rattle.lethe_cover.proofs.Lists.{Pairs, in_map, in_rest}
+
+-- Loops
+
+-- the item at a place passes
+pub any_here : {A B : Type 0} (f : A → B) (p : B → Bool) (xs : List A) (i : ℕ) (item : A) → i < length xs → item ≡ get_or xs i item → p (f item) ≡ true → true ≡ list_any p (map f xs)
+any_here f p xs i item inside is passes =
+    let len = length-map xs f in
+    sym (list_any_at p (map f xs) i (f item) (omega (arith, inside, len)) (ap p (get_or-map f xs i item (f item) inside ∙ ap f (sym is)) ∙ passes))
+
+pub held_here : {A B : Type 0} (f : A → B) (xs : List A) (ys : List B) → map f xs ≡ ys → (i : ℕ) (item : A) → i < length xs → item ≡ get_or xs i item → (y : B) → y ≡ f item → Contains ys y
+held_here f xs ys same i item inside is y own = subst (λ l. Contains l y) same (subst (Contains (map f xs)) (ap f (sym is) ∙ sym own) (in_map f xs (get_or xs i item) (Contains-get_or xs i item inside)))
+
+pub ranged_more : {X : Type 0} (f : ℕ → X) (n : ℕ) (xs : List X) (x : X) → xs ≡ map f (range_with_len 0 n) → x ≡ f n → xs ++ x ∷ [] ≡ map f (range_with_len 0 (n + 1))
+ranged_more f n xs x before is = (λ i. before i ++ is i ∷ []) ∙ sym (map-range_with_len_more f 0 n n (omega arith))
+
+-- Items
+
+pub find_some : {X : Type 0} (p : X → Bool) (xs : List X) (x : X) → find p xs ≡ Some x → Contains xs x × (p x ≡ true)
+find_some p [] x is = absurd cc
+find_some p (first ∷ xs) x is = by (find_some p xs x) (p first) refl is
+  where
+    by : (find p xs ≡ Some x → Contains xs x × (p x ≡ true)) → (b : Bool) → p first ≡ b → cond b (Some first) (find p xs) ≡ Some x → Contains (first ∷ xs) x × (p x ≡ true)
+    by later true at is = let same : first ≡ x = cc in (first_is first xs x same, ap p (sym same) ∙ at)
+    by later false at is = let rest = later is in (in_rest first xs x rest.0, rest.1)
+
+pub find_there : {X : Type 0} (p : X → Bool) (xs : List X) (x : X) → Contains xs x → p x ≡ true → (y : X) × (find p xs ≡ Some y)
+find_there p [] x there passes = absurd (none_in x there)
+find_there {X = X} p (first ∷ xs) x there passes = by (λ rest. find_there p xs x rest passes) (p first) refl
+  where
+    by : (Contains xs x → (y : X) × (find p xs ≡ Some y)) → (b : Bool) → p first ≡ b → (y : X) × (cond b (Some first) (find p xs) ≡ Some y)
+    by later true at = (first, refl)
+    by later false at = ⊎_elim (λ same. absurd (let clash : true ≡ false = sym passes ∙ ap p (sym same) ∙ at in cc)) later (first_or_rest first xs x there)
+
+pub filter_twice : {X : Type 0} (p q : X → Bool) (xs : List X) → filter (λ x. p x && q x) xs ≡ filter q (filter p xs)
+filter_twice p q [] = refl
+filter_twice p q (x ∷ xs) = by (p x) refl (filter_twice p q xs)
+  where
+    by : (b : Bool) → p x ≡ b → filter (λ x. p x && q x) xs ≡ filter q (filter p xs) → cond (b && q x) (x ∷ filter (λ x. p x && q x) xs) (filter (λ x. p x && q x) xs) ≡ filter q (cond b (x ∷ filter p xs) (filter p xs))
+    by true at rest = ap (λ l. cond (q x) (x ∷ l) l) rest
+    by false at rest = rest
+
+pub pairs_weaker : {X : Type 0} (R Q : X → X → Type 0) (xs : List X) → ((a b : X) → R a b → Q a b) → Pairs R xs → Pairs Q xs
+pairs_weaker R Q [] weaker pairs = tt
+pairs_weaker R Q (x ∷ xs) weaker pairs = ((λ y there. weaker x y (pairs.0 y there)), pairs_weaker R Q xs weaker pairs.1)
+
+-- Distinct numbers
+
+module _ {X : Type 0} (number : X → ℕ) where
+  abbrev pub AreApart : List X → Type 0
+  AreApart xs = Pairs (λ a b. number a ≢ number b) xs
+
+  pub one_numbered : (xs : List X) → AreApart xs → (a b : X) → Contains xs a → Contains xs b → number a ≡ number b → a ≡ b
+  one_numbered [] pairs a b left right same = absurd (none_in a left)
+  one_numbered (x ∷ xs) pairs a b left right same = grind (arith, first_or_rest x xs a left, first_or_rest x xs b right, pairs.0 a, pairs.0 b, one_numbered xs pairs.1 a b)
+
+  none_numbered : (xs : List X) (n : ℕ) → ((x : X) → Contains xs x → number x ≢ n) → filter (λ x. eqb (number x) n) xs ≡ []
+  none_numbered [] n other = refl
+  none_numbered (x ∷ xs) n other =
+      cond-false (eqb (number x) n) (x ∷ filter (λ x. eqb (number x) n) xs) (filter (λ x. eqb (number x) n) xs) (ne_eqb (number x) n (other x (first_is x xs x refl)))
+      ∙ none_numbered xs n (λ y there. other y (in_rest x xs y there))
+
+  -- the one item of a number, with those before and behind it
+  pub record IsAmong (xs : List X) (x : X) : Type 0 where
+    pub before : List X
+    pub behind : List X
+    pub are : xs ≡ before ++ (x ∷ behind)
+    pub alone : filter (λ y. eqb (number y) (number x)) xs ≡ x ∷ []
+
+  pub among : (xs : List X) (x : X) → AreApart xs → Contains xs x → IsAmong xs x
+  among [] x pairs there = absurd (none_in x there)
+  among (first ∷ xs) x pairs there = ⊎_elim here (λ inside. later inside (among xs x pairs.1 inside)) (first_or_rest first xs x there)
+    where
+      here : first ≡ x → IsAmong (first ∷ xs) x
+      here same =
+          let kept = filter (λ y. eqb (number y) (number x)) xs in
+          record {
+            before = [];
+            behind = xs;
+            are = ap (λ y. y ∷ xs) same;
+            alone = cond-true (eqb (number first) (number x)) (first ∷ kept) kept (eq-eqb (number first) (number x) (ap number same))
+                ∙ (λ i. same i ∷ none_numbered xs (number x) (λ y inside is. pairs.0 y inside (ap number same ∙ sym is)) i);
+          }
+
+      later : Contains xs x → IsAmong xs x → IsAmong (first ∷ xs) x
+      later inside rest =
+          let kept = filter (λ y. eqb (number y) (number x)) xs in
+          record {
+            before = first ∷ rest.before;
+            behind = rest.behind;
+            are = ap (λ l. first ∷ l) rest.are;
+            alone = cond-false (eqb (number first) (number x)) (first ∷ kept) kept (ne_eqb (number first) (number x) (pairs.0 x inside)) ∙ rest.alone;
+          }

@@ -1,0 +1,68 @@
+-- The first task of a store, as its files are told.
+use Rattle.std.proofs.Common.{◌≡◌, ℕ, ◌<◌, ◌^◌, List, [], length, map, Some, None, sym, ap, ◌∙◌, subst, arith}
+use Rattle.std.specs.Prelude.{Contains}
+use Rattle.lethe_base.specs.Configuration.{IsConfig}
+use Rattle.lethe_base.specs.Shapes as shapes
+use Rattle.lethe_base.specs.declared.config.Fields.{Fields}
+use Rattle.lethe_base.specs.declared.pending.Pending.{Pending}
+use Rattle.lethe_base.specs.declared.shape.Shape.{Shape}
+use Rattle.lethe_disk.specs.declared.disk.Disk.{Ghosts}
+use Rattle.lethe_fade.specs.Choice.{choice}
+use Rattle.lethe_fade.specs.declared.plan.Plan.{Plan}
+use Rattle.lethe_stored.specs.Files.{StoredFile}
+use Rattle.lethe_stored.specs.Stored.{Stored, layout_of}
+use Rattle.lethe_job.specs.Chosen.{level_named, sources_in, task_in}
+use Rattle.lethe_job.specs.Shapes.{shape_of}
+use Rattle.lethe_job.specs.Tasks.{IsBegunIn, IsStore, PlainTask, plain_file}
+use Rattle.lethe_job.specs.declared.filed.Filed.{Filed}
+use Rattle.lethe_job.proofs.Begun.{is_begun, level_from, level_there, source_there}
+use Rattle.lethe_job.proofs.Named.{chosen_file}
+use Rattle.lethe_job.proofs.Shaped.{shape_same}
+
+module _ {D Page Port : Type 0} {disk : Ghosts D Page Port} (files : List (Filed D Page Port disk)) (config : Fields) (erases : List Pending) (count : ℕ) where
+  abbrev all : List StoredFile
+  all = map plain_file files
+
+  stored_shape : (s : Stored) → IsStore s files config erases count → shape_of config.levels all erases ≡ shapes.shape_of (layout_of s)
+  stored_shape s store = (λ i. shape_of (sym store.config_is i).levels (store.files_are i) (store.erases_are i)) ∙ shape_same s store.coherent
+
+  module _ (fields : Fields) (same_fields : fields ≡ config) (limits : IsConfig config) (seen : List (Filed D Page Port disk)) (seen_is : seen ≡ files) (shape : Shape) (shaped : shape ≡ shape_of fields.levels (map plain_file seen) erases) where
+    shape_is : shape ≡ shape_of config.levels all erases
+    shape_is = shaped ∙ (λ i. shape_of (same_fields i).levels (map plain_file (seen_is i)) erases)
+
+    pub none_chosen : None ≡ choice config shape [] → (s : Stored) → IsStore s files config erases count → choice config (shapes.shape_of (layout_of s)) [] ≡ None
+    none_chosen chosen s store = sym (chosen ∙ ap (λ shape. choice config shape []) (shape_is ∙ stored_shape s store))
+
+    module _ (plan : Plan) (chosen : Some plan ≡ choice config shape []) (again : List (Filed D Page Port disk)) (again_is : again ≡ files) where
+      chosen_there : (file : StoredFile) × Contains all file × (file.level < config.levels) × (file.header.no ≡ plan.file)
+      chosen_there = let some = limits.levels in chosen_file config (omega (arith, some)) all erases plan (sym (chosen ∙ ap (λ shape. choice config shape []) shape_is))
+
+      pub level_found : None ≡ level_named fields.levels plan.file (map plain_file again) → ⊥
+      level_found none = level_there config.levels plan.file all chosen_there.0 chosen_there.1 chosen_there.2 chosen_there.3
+          (sym (none ∙ (λ i. level_named (same_fields i).levels plan.file (map plain_file (again_is i)))))
+
+      module _ (level : ℕ) (found : Some level ≡ level_named fields.levels plan.file (map plain_file again)) where
+        named : (file : StoredFile) × Contains all file × (file.level ≡ level) × (level < config.levels) × (file.header.no ≡ plan.file)
+        named = level_from config.levels plan.file all level (sym (found ∙ (λ i. level_named (same_fields i).levels plan.file (map plain_file (again_is i)))))
+
+        level_low : level < config.levels
+        level_low = named.3
+
+        pub task_low : (third : List (Filed D Page Port disk)) (task : PlainTask) → task ≡ task_in level plan (map plain_file third) config erases count → task.level < config.levels
+        task_low third task is = subst (λ n. n < config.levels) (sym (ap (λ (t : PlainTask). t.level) is)) level_low
+
+        pub level_small : level < 2 ^ 32
+        level_small = let low = level_low in let few = limits.levels in omega (arith, low, few)
+
+        pub some_source : (third : List (Filed D Page Port disk)) → third ≡ files → 0 < length (sources_in level plan.file (map plain_file third))
+        some_source third same = subst (λ l. 0 < length (sources_in level plan.file (map plain_file l))) (sym same)
+            (let there = source_there level plan.file all named.0 named.1 named.2 named.4 in let within = there.1 in omega (arith, within))
+
+        pub begun : (third : List (Filed D Page Port disk)) → third ≡ files → (task : PlainTask) → task ≡ task_in level plan (map plain_file third) config erases count → (s : Stored) → IsStore s files config erases count → IsBegunIn s task
+        begun third same task is s store =
+            let file = named.0 in
+            let there : Contains s.files file = subst (λ l. Contains l file) store.files_are named.1 in
+            let task_is : task ≡ task_in level plan s.files config erases count = is ∙ (λ i. task_in level plan (map plain_file (same i)) config erases count) ∙ ap (λ l. task_in level plan l config erases count) store.files_are in
+            let picked : choice s.manifest.config (shapes.shape_of (layout_of s)) [] ≡ Some plan =
+            ap (λ fields. choice fields (shapes.shape_of (layout_of s)) []) store.config_is ∙ sym (chosen ∙ ap (λ shape. choice config shape []) (shape_is ∙ stored_shape s store)) in
+            subst (IsBegunIn s) (sym task_is) (is_begun s store.coherent store.rising level plan file there named.2 named.4 config store.config_is erases store.erases_are count store.count_is level_low picked)

@@ -1,0 +1,7 @@
+use Rattle.std.proofs.Common.{◌≡◌, map, take}
+use Rattle.lethe_job.specs.Chosen.{sources_in}
+use Rattle.lethe_job.specs.Tasks.{plain_file}
+use Rattle.lethe_job.proofs.inputs.sources_in.Given as goal
+
+abbrev pub invariant-loop-file : goal.invariant-loop-file
+invariant-loop-file g l = map plain_file l.sources.items ≡ sources_in l.level l.number (map plain_file (take l.file-index l.files))
