@@ -1,3 +1,4 @@
+pub mod Drafted
 pub mod Entering
 pub mod Leveled
 pub mod Recording

@@ -7,6 +7,7 @@ ghost use Rattle.lethe_base.specs.declared.refused.Refused.TheVariants as refuse
 ghost use Rattle.lethe_base.specs.declared.entry.Entry as entry;
 ghost use Rattle.lethe_build.specs.Built.{most_numbers};
 ghost use Rattle.lethe_build.specs.Drafts.{AreDraftsOf, IsDraft, numbers_for};
+ghost use Rattle.lethe_build.specs.declared.draft.Draft as draft;
 ghost use Rattle.lethe_header.specs.Headers as headers;
 ghost use Rattle.lethe_manifest.specs.Manifests.{HasSpelling};
 ghost use Rattle.lethe_stored.specs.Files.{StoredFile};
@@ -20,7 +21,7 @@ ghost use Rattle.lethe_flush.specs.declared.made.MadeFiles.{MadeFiles};
 ghost use Rattle.lethe_merge.specs.Merge.{merged};
 ghost use Rattle.lethe_state.specs.Made.{IsFlushStep, flushing_manifest};
 ghost use Rattle.lethe_state.specs.Remembered.{Remembers, IsCurrent};
-ghost use Rattle.lethe_state.specs.Room.{IsFlushed, IsShortToFlush, IsStepFrom, frozen_len, unfrozen};
+ghost use Rattle.lethe_state.specs.Room.{AreDrafted, IsFlushed, IsShortToFlush, IsStepFrom, unfrozen};
 ghost use Rattle.lethe_state.specs.Writable.{IsWritable};
 
 use crate::State;

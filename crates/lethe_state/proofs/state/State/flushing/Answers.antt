@@ -1,15 +1,28 @@
-use Rattle.std.proofs.Common.{◌<◌, ◌≤◌, append-nil, arith, IsTrue, List, Some, rules, ◌≡◌, map, length, All, sym, ◌∙◌, subst}
-use Rattle.std.specs.Prelude.{◌↔◌}
+use Rattle.std.proofs.Common.{◌+◌, ◌<◌, ◌≤◌, append-nil, IsTrue, List, Some, rules, ◌≡◌, map, length, All, refl, sym, ◌∙◌, subst}
+use Rattle.std.specs.Prelude.{◌↔◌, sum_by}
+use Rattle.lethe_base.specs.Limits.{max_place}
+use Rattle.lethe_build.specs.Drafts.{numbers_for}
 use Rattle.lethe_header.specs.declared.header.Header.{Header}
 use Rattle.lethe_advance.specs.Shown.{parts_by_level, parts_in}
 use Rattle.lethe_flush.specs.Clear.{IsClearOf}
 use Rattle.lethe_moves.specs.Flushes.{span_of}
 use Rattle.lethe_version.specs.Versions.{files_of, levels_of}
-use Rattle.lethe_build.specs.Built.{most_numbers}
-use Rattle.lethe_state.specs.Room.{frozen_len}
+use Rattle.lethe_state.proofs.Drafted.{short_drafted, some_drafted}
 use Rattle.lethe_state.proofs.FlushStep.{flush_steps}
 use Rattle.lethe_state.proofs.Leveled.{headers_same}
 use Rattle.lethe_state.proofs.state.State.flushing.Goals as goal
+
+pub returns-then-is_short_for-clause-exhausted : goal.returns-then-is_short_for-clause-exhausted
+returns-then-is_short_for-clause-exhausted g c = λ same.
+    let some : c.args.self.now.frozen ≡ Some c.unwrap-frozen.result.now = search rules in
+    let drafted = some_drafted c.args.self.now c.unwrap-frozen.result.now c.is_clear-alone.result c.in_ok-drafts.drafts.items some c.in_ok-drafts.ensures.are c.in_ok-drafts.ensures.few in
+    short_drafted c.args.self.now c.in_ok-drafts.drafts.items drafted (subst (λ l. max_place ≤ c.args.self.now.next + sum_by numbers_for l) c.deref.ensures.value (c.if-is_short_for.ensures.0 refl))
+
+pub returns-in-Ok-clause-drafted : goal.returns-in-Ok-clause-drafted
+returns-in-Ok-clause-drafted g c =
+    let some : c.args.self.now.frozen ≡ Some c.unwrap-frozen.result.now = search rules in
+    let drafted = some_drafted c.args.self.now c.unwrap-frozen.result.now c.is_clear-alone.result c.in_ok-drafts.drafts.items some c.in_ok-drafts.ensures.are c.in_ok-drafts.ensures.few in
+    (c.in_ok-drafts.drafts.items, drafted, c.in-Ok.ensures.few)
 
 pub returns-in-Ok-clause-flushes : goal.returns-in-Ok-clause-flushes
 returns-in-Ok-clause-flushes g c = λ s is current loose drawn uncited.
@@ -21,8 +34,3 @@ returns-in-Ok-clause-flushes g c = λ s is current loose drawn uncited.
     let made = c.in-Ok.ensures.made entries c.is_clear-alone.result c.in_ok-drafts.ensures.are in
     flush_steps s c.args.self.now (parts_by_level c.args.version.now) is current c.requires.writable.drawn c.unwrap-frozen.result.now some c.is_clear-alone.result clear made.0 made.1 made.2 made.3 _ _ made.4
     c.in-Ok.ensures.step.spelled loose drawn uncited
-
-pub returns-in-Ok-clause-few : goal.returns-in-Ok-clause-few
-returns-in-Ok-clause-few g c =
-    let some : c.args.self.now.frozen ≡ Some c.unwrap-frozen.result.now = search rules in
-    subst (λ frozen. length c.in-Ok.made.1.objects.items ≤ most_numbers (frozen_len frozen)) (sym some) (omega (arith, c.in-Ok.ensures.few, c.in_ok-drafts.ensures.few))
