@@ -135,7 +135,12 @@ fn a_buffer_is_clear_of_files_beside_its_keys(rt: HostRuntime) -> Result<(), Fai
     let alloc = rt.alloc();
     let version: Version<MemDisk> = Version::of(alloc, Vec::new(alloc))?;
     let header = read_header(alloc, &FILE).map_err(|_| "no header")?;
-    let file = vec![in alloc; Draft { tiles: header.tiles, pages: List::of(Vec::new(alloc)) }]?;
+    let file = vec![in alloc;
+        Draft {
+            tiles: header.tiles,
+            pages: List::of(Vec::new(alloc))
+        },
+    ]?;
     let records = replay(alloc, &TOMB).map_err(|_| "no records")?;
     let buffer = newest_of(alloc, List::of(records))?;
     assert!(rt; is_clear(&buffer, &version, &[]));

@@ -1,5 +1,5 @@
 -- The drafts of a journal, and the files that they become.
-use Rattle.std.proofs.Common.{◌≡◌, ◌+◌, ◌*◌, ◌<◌, ◌≤◌, ℕ, List, [], ◌∷◌, ◌++◌, length, map, All, arith}
+use Rattle.std.proofs.Common.{◌+◌, ◌≤◌, ℕ, List, [], ◌∷◌, ◌++◌, length, map, All, arith}
 use Rattle.std.proofs.lemmas.List.Elements.{All-append}
 use Rattle.lethe_base.specs.Limits.{max_place}
 use Rattle.lethe_build.specs.Drafts.{header_of}

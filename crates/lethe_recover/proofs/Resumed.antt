@@ -1,5 +1,5 @@
 -- What opening comes to.
-use Rattle.std.proofs.Common.{◌≡◌, ◌<◌, ◌≤◌, ◌+◌, ◌⊎◌, inl, inr, ℕ, Bool, false, cond, All, AllPairs, List, [], ◌∷◌, ◌++◌, length, map, Option, Some, None, refl, sym, ap, ◌∙◌, subst, arith, length-append}
+use Rattle.std.proofs.Common.{◌≡◌, ◌≤◌, ◌+◌, ◌⊎◌, inl, inr, ℕ, Bool, false, cond, All, AllPairs, List, [], ◌∷◌, ◌++◌, length, map, Option, Some, None, refl, sym, ap, ◌∙◌, subst, arith}
 use Rattle.std.specs.Prelude.{Contains, filter, ◌==◌}
 use Rattle.std.specs.declared.cmp.Ordering.TheVariants.{Less}
 use Rattle.std.proofs.lemmas.Bool.Decides.{eqb_tells}
@@ -43,8 +43,6 @@ use Rattle.lethe_follows.specs.Filed.{reopened}
 use Rattle.lethe_follows.proofs.Erases.{pending_again}
 use Rattle.lethe_advance.specs.Settled.{IsSettled, HasOnly}
 use Rattle.lethe_advance.specs.Shown.{parts_by_level}
-use Rattle.lethe_advance.specs.Steps.{IsStep, written_in}
-use Rattle.lethe_advance.specs.declared.step.Step.{Step}
 use Rattle.lethe_advance.proofs.Placed.{written_absent}
 use Rattle.lethe_version.specs.declared.version.Version.{Version}
 use Rattle.lethe_load.specs.Loaded.{Read, IsRead, IsLoaded, IsSpelledAs, IsSpelledOut}

@@ -20,11 +20,7 @@ use std::collections::BTreeSet;
 /// # Errors
 ///
 /// `NoMemory` before any change. `Failed` where the disk failed: then each object that counts for nothing may be there or not.
-pub fn tidy<D: Disk>(
-    alloc: Global,
-    disk: &mut D,
-    cited: &BTreeSet<Name>,
-) -> Result<(), DiskRefused>
+pub fn tidy<D: Disk>(alloc: Global, disk: &mut D, cited: &BTreeSet<Name>) -> Result<(), DiskRefused>
     requires { D.tells → (s : Stored) × IsSettled (D.seen disk.old) s × ((name : names.Name) → IsTrue (contains name_cmp cited.now name) ↔ IsCited s name) }
 
     // A crash at any moment of the call leaves what is stored as it was.

@@ -1,12 +1,5 @@
-use Rattle.std.proofs.Common.{◌≡◌, ◌+◌, ◌++◌, List, length, All, arith}
-use Rattle.std.specs.Prelude.{map, sum_by}
-use Rattle.lethe_build.specs.Drafts.{header_of, numbers_for}
-use Rattle.lethe_fade.specs.Spans.{KeyRange}
+use Rattle.std.proofs.Common.{arith}
 use Rattle.lethe_moves.specs.Flushes.{span_of}
-use Rattle.lethe_stored.specs.Files.{StoredFile}
-use Rattle.lethe_flush.specs.Clear.{IsClearOf}
-use Rattle.lethe_flush.specs.Flushed.{IsFlushOf}
-use Rattle.lethe_recover.specs.Flushing.{AreFlushesOf, IsFlushOfRecords, IsWritable}
 use Rattle.lethe_recover.proofs.Drafted.{clear_then}
 use Rattle.lethe_recover.proofs.flushing.flush_journal.Goals as goal
 

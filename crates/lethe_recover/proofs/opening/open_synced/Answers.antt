@@ -1,4 +1,4 @@
-use Rattle.std.proofs.Common.{◌≡◌, ◌≤◌, ◌+◌, ◌⊎◌, ℕ, None, length, sym, ap, subst, ◌∙◌, arith}
+use Rattle.std.proofs.Common.{◌≡◌, ◌≤◌, ◌+◌, ◌⊎◌, ℕ, None, sym, ap, subst, ◌∙◌, arith}
 use Rattle.std.proofs.lemmas.List.{length-map}
 use Rattle.lethe_disk.specs.Goes.{Goes}
 use Rattle.lethe_disk.proofs.Going.{goes_then}
@@ -11,7 +11,7 @@ use Rattle.lethe_recover.specs.Journals.{erases_of}
 use Rattle.lethe_recover.specs.New.{new_stored}
 use Rattle.lethe_recover.specs.Opening.{IsNextNumber, IsOpened, IsResumed, IsSpellable, MayNotOpen, IsCut, since_start}
 use Rattle.lethe_recover.specs.Resuming.{IsThere, IsReopened}
-use Rattle.lethe_recover.proofs.Results.{ok_weaker, ok_both, err_weaker}
+use Rattle.lethe_recover.proofs.Results.{ok_weaker, err_weaker}
 use Rattle.lethe_recover.proofs.Resumed.{since_may, since_exact, cut_may, new_opened, new_resumed, kept_of_none, kept_for, opened_from, resumed_from, read_some, read_none, manifest_of, loaded_as, exhausted_of, settled_again, kept_goes, spelled_some, cited_long, next_of, next_of_none}
 use Rattle.lethe_recover.proofs.opening.open_synced.Goals as goal
 

@@ -1,4 +1,4 @@
-use Rattle.std.proofs.Common.{◌≡◌, ◌<◌, ◌≤◌, ◌+◌, List, length, All, AllPairs, map, refl, sym, ap, subst, ◌∙◌, arith}
+use Rattle.std.proofs.Common.{◌≡◌, ◌<◌, ◌≤◌, List, All, AllPairs, map, refl, sym, ap, subst, ◌∙◌, arith}
 use Rattle.std.proofs.lemmas.List.Elements.{All-weaker}
 use Rattle.lethe_base.specs.Limits.{max_time}
 use Rattle.lethe_base.specs.declared.pending.Pending.{Pending}
@@ -9,8 +9,7 @@ use Rattle.lethe_version.specs.Versions.{files_of}
 use Rattle.lethe_follows.proofs.Erases.{in_order_ascends}
 use Rattle.lethe_advance.specs.Shown.{parts_in}
 use Rattle.lethe_recover.specs.Cited.{names_of}
-use Rattle.lethe_recover.specs.Flushing.{AreDraftsFor, AreDraftsOfJournal}
-use Rattle.lethe_recover.specs.Journals.{erases_of}
+use Rattle.lethe_recover.specs.Flushing.{AreDraftsOfJournal}
 use Rattle.lethe_recover.proofs.Journals.{last_fits, count_is}
 use Rattle.lethe_recover.proofs.Pending.{pending_each, pending_is, pending_under}
 use Rattle.lethe_recover.proofs.Resumed.{heads_of}

@@ -1,4 +1,4 @@
-use Rattle.std.proofs.Common.{◌≡◌, ◌≤◌, ◌<◌, ◌+◌, [], ◌∷◌, ◌++◌, length, All, AllPairs, refl, sym, ap, subst, ◌∙◌, arith, length-append}
+use Rattle.std.proofs.Common.{◌≡◌, ◌+◌, [], ◌∷◌, ◌++◌, length, All, sym, ap, subst, arith, length-append}
 use Rattle.std.specs.Prelude.{Contains, List}
 use Rattle.std.proofs.lemmas.List.Elements.{All-append}
 use Rattle.lethe_header.specs.Headers as headers
@@ -23,7 +23,7 @@ returns-clause-reopens c =
     let flushes = c.in_ok-flushes.flushes in
     ok_both c.step_of.result (IsStepOf m count erases flushes) (λ made. HasSpelling made.step.manifest)
     (λ made. (s : Stored) (journal : Journal) (heads : List Header) → IsCoherent s → s.manifest ≡ m → count ≡ count_of s → erases ≡ pending_of s
-        → ((file : StoredFile) → Contains s.files file → Contains heads file.header) → IsJournalOf s journal → AreDraftsOfJournal m.config journal erases heads c.args.drafts → Reopens s made)
+    → ((file : StoredFile) → Contains s.files file → Contains heads file.header) → IsJournalOf s journal → AreDraftsOfJournal m.config journal erases heads c.args.drafts → Reopens s made)
     c.step_of.ensures.is c.step_of.ensures.spelled
     (λ made is spelled s journal heads coherent same counted pending has journal_is drafts.
     reopens s coherent m same count counted erases pending heads has journal journal_is flushes m.config (c.in_ok-flushes.ensures.made m.config journal erases heads drafts)

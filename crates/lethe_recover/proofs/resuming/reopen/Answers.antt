@@ -1,4 +1,4 @@
-use Rattle.std.proofs.Common.{◌⊎◌, [], refl, ap, ◌∙◌, arith}
+use Rattle.std.proofs.Common.{◌⊎◌, [], ◌∙◌, arith}
 use Rattle.lethe_disk.proofs.Going.{goes_then, goes_weaker}
 use Rattle.lethe_stored.specs.Encodes.{Encodes}
 use Rattle.lethe_stored.specs.Kept.{IsKept}
