@@ -17,15 +17,16 @@ use Rattle.lethe_commit.specs.Switch.{IsTakenBack}
 use Rattle.lethe_commit.proofs.Creations.{object_beside_all, object_contained}
 use Rattle.lethe_stored.specs.Encodes.{Encodes}
 use Rattle.lethe_stored.specs.Kept.{IsFor, IsKept}
-use Rattle.lethe_stored.specs.Stored.{Stored, Segment, IsCoherent, number_of, segments_of, segment_numbers, segment_name, part_names, froze}
+use Rattle.lethe_stored.specs.Stored.{Stored, Segment, IsCoherent, number_of, segments_of, segment_numbers, segment_name, part_names}
 use Rattle.lethe_stored.proofs.Frame.{none_of, same_no}
 use Rattle.lethe_stored.proofs.Lists.{from_map, in_map}
 use Rattle.lethe_stored.proofs.Parts.{active_part, part_below}
 use Rattle.lethe_advance.specs.Settled.{IsSettled, HasOnly}
-use Rattle.lethe_advance.specs.Steps.{IsStep, IsSegmentFrom}
+use Rattle.lethe_advance.specs.Steps.{IsStep, IsSegmentFrom, MayAdvance}
 use Rattle.lethe_advance.specs.declared.step.Step.{Step}
 use Rattle.lethe_advance.proofs.Placed.{written_absent}
 use Rattle.lethe_advance.proofs.Standing.{settled_back, only_back, ends_empty}
+use Rattle.lethe_state.specs.Room.{IsFrozen}
 use Rattle.lethe_state.specs.declared.state.State.{State}
 use Rattle.lethe_engine.specs.Sound.{IsRunning}
 
@@ -37,11 +38,15 @@ step_moments h s t old new coherent next stands after goes = goes_weaker (λ c. 
       | inr is ↦ inr (record { s = t; coherent = next; encodes = is; stands = after })
     ]) goes
 
+-- a step goes on from what is stored
+pub may_advance : (disk : Seen) (s t : Stored) (state : State) (headers : List Header) (step : Step) → IsRunning disk s state → IsStep s [] t [] headers step → MayAdvance disk s [] t [] headers step
+may_advance disk s t state headers step running is = record { settled = running.settled; only = running.only; step_is = is }
+
 -- where all that was done is taken back, the disk is in the store's hands as before
 pub running_back : (old new : Seen) (s : Stored) (state : State) → IsTakenBack old new → IsRunning old s state → IsRunning new s state
 running_back old new s state back running = record {
   settled = settled_back old new s back running.settled;
-  only = only_back old new s back running.only;
+  only = only_back old new s [] back running.only;
   ends = record {
     ascends = running.ends.ascends;
     spelled = λ c here. running.ends.spelled c (back.images c here);
@@ -65,7 +70,7 @@ segment_below s segment coherent there =
       | inr last ↦ Contains-append_right (map number_of (option_to_list s.frozen)) (s.active.no ∷ []) segment.no (one_of last)
     ]
 
-module _ (s t : Stored) (headers : List Header) (step : Step) (is : IsStep s t headers step) (coherent : IsCoherent s) (old new : Seen) (settled : IsSettled new t)
+module _ (s t : Stored) (headers : List Header) (step : Step) (is : IsStep s [] t [] headers step) (coherent : IsCoherent s) (old new : Seen) (settled : IsSettled new t)
     (kept : (name : Name) → Contains (part_names t) name → object new.directory name ≡ object (insert_all step.objects.items old.directory) name) where
   -- no object is written under a name that has been drawn
   apart : (name : Name) → name.no < s.manifest.next → IsNoneOf (map name_of step.objects.items) name
@@ -89,14 +94,15 @@ module _ (s t : Stored) (headers : List Header) (step : Step) (is : IsStep s t h
       })
 
   -- the active segment is a new one
-  pub frozen_ends : t ≡ froze s s.manifest.next (s.manifest.next + 1) → HasOnly s old.directory → EndsAt new (segment_name t.active.no) t.active.no t.active.records 11
+  pub frozen_ends : IsFrozen s t → HasOnly s [] old.directory → EndsAt new (segment_name t.active.no) t.active.no t.active.records 11
   frozen_ends frozen only =
-      let number : t.active.no ≡ s.manifest.next = ap (λ (x : Stored). x.active.no) frozen in
-      let none : t.active.records ≡ [] = ap (λ (x : Stored). x.active.records) frozen in
+      let drawn = frozen.drawn in
+      let number : t.active.no ≡ frozen.segment = ap (λ (x : Stored). x.active.no) frozen.is in
+      let none : t.active.records ≡ [] = ap (λ (x : Stored). x.active.records) frozen.is in
       let bytes = segment_bytes t.active.no t.active.records in
       let from = All-contains (IsSegmentFrom s step) (segments_of t) t.active is.segments (Contains-push (option_to_list t.frozen) t.active) in
       let written : object (insert_all step.objects.items old.directory) (segment_name t.active.no) ≡ Some bytes = elim from [
-        | inl stored ↦ absurd (let below = segment_below s t.active coherent stored in omega (arith, below, number))
+        | inl stored ↦ absurd (let below = segment_below s t.active coherent stored in omega (arith, below, number, drawn))
         | inr made ↦ placed made
       ] in
       let there : object new.directory (segment_name t.active.no) ≡ Some bytes = kept (segment_name t.active.no) (active_part t) ∙ written in
@@ -107,7 +113,7 @@ module _ (s t : Stored) (headers : List Header) (step : Step) (is : IsStep s t h
           → object (insert_all step.objects.items old.directory) (segment_name t.active.no) ≡ Some (segment_bytes t.active.no t.active.records)
       placed there =
           let made = from_map {Y = Name × List ℕ} (λ (m : Object). (m.name, m.bytes)) step.objects.items (segment_name t.active.no, segment_bytes t.active.no t.active.records) there in
-          let inside = object_contained step.objects.items old.directory made.0 made.1 (written_absent s t headers step coherent is old.directory only) in
+          let inside = object_contained step.objects.items old.directory made.0 made.1 (written_absent s t [] [] headers step coherent is old.directory only) in
           let name : made.0.name ≡ segment_name t.active.no = ap (λ (p : Name × List ℕ). p.0) made.2 in
           let bytes : made.0.bytes ≡ segment_bytes t.active.no t.active.records = ap (λ (p : Name × List ℕ). p.1) made.2 in
           ap (object (insert_all step.objects.items old.directory)) (sym name) ∙ inside ∙ ap Some bytes

@@ -38,6 +38,8 @@ writable_halted state fits is = record {
   frozen = is.frozen;
   count = omega (arith, fits);
   records = let le = is.records in omega (arith, le);
+  drawn = is.drawn;
+  last = is.last;
 }
 
 pub small_halted : (state : State) → IsSmall state → IsSmall (halted state)
@@ -86,9 +88,9 @@ module _ (Tells : Type 0) (old new : State) (start finish : Seen) (before now : 
   hindered_reason runs (ReadFault b a) is = absurd is
   hindered_reason runs (Damaged name) is = absurd is
 
-  pub hindered_next : (why : Refused) → IsHindered Tells old new start finish before now why → new.manifest.next ≡ old.manifest.next
-  hindered_next (Fault place b a) is = ap (λ (state : State). state.manifest.next) is.4
-  hindered_next NoMemory is = ap (λ (state : State). state.manifest.next) is.0
+  pub hindered_next : (why : Refused) → IsHindered Tells old new start finish before now why → new.next ≡ old.next
+  hindered_next (Fault place b a) is = ap (λ (state : State). state.next) is.4
+  hindered_next NoMemory is = ap (λ (state : State). state.next) is.0
   hindered_next (Stopped at) is = absurd is
   hindered_next (Backwards clock) is = absurd is
   hindered_next (Pinned pin limit) is = absurd is

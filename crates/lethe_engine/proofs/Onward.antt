@@ -1,5 +1,5 @@
 -- A store goes on, and stands for what it has kept since it was opened.
-use Rattle.std.proofs.Common.{◌≡◌, ◌≤◌, ◌⊎◌, inl, inr, ℕ, ◌+◌, List, [], ◌∷◌, ◌++◌, Some, None, Result, Ok, Err, refl, sym, ap, ◌∙◌, subst, append_assoc, append-nil, arith}
+use Rattle.std.proofs.Common.{◌≡◌, ◌≤◌, inl, inr, ℕ, ◌+◌, List, [], ◌∷◌, ◌++◌, Some, None, Result, Ok, Err, refl, sym, ap, ◌∙◌, subst, append_assoc, append-nil, arith}
 use Rattle.std.specs.Prelude.{All, IfErr}
 use Rattle.std.proofs.lemmas.Bool.{cases_lt}
 use Rattle.std.proofs.lemmas.List.Elements.{All-append, All-cons, All-nil, All-weaker}
@@ -35,7 +35,7 @@ counts_later from f0 f1 (Failed before after) le is = (is.0, is.1, let upto = is
 
 -- a store that was just opened
 pub opened_for : (config : Fields) (h : History) (start finish : Seen) (next faults : ℕ) (state : State) (levels : List (List Parts)) → StandsNow config h finish state levels → state.stopped ≡ None
-    → state.manifest.next + start.moment ≤ next + finish.moment → StandsFor config (opened_as h start finish next faults) h finish faults state levels
+    → state.next + start.moment ≤ next + finish.moment → StandsFor config (opened_as h start finish next faults) h finish faults state levels
 opened_for config h start finish next faults state levels now runs numbers = record {
   now = now;
   begins = ([], sym (append-nil h));
@@ -61,7 +61,7 @@ module _ (config : Fields) (opened : Opened) (h : History) (old new : Seen) (fau
   }
 
 module _ (config : Fields) (opened : Opened) (h : History) (old new : Seen) (f0 f1 : ℕ) (state state' : State) (levels levels' : List (List Parts))
-    (before : StandsFor config opened h old f0 state levels) (runs : state.stopped ≡ None) (later : f0 ≤ f1) (numbers : state'.manifest.next + old.moment ≤ state.manifest.next + new.moment) where
+    (before : StandsFor config opened h old f0 state levels) (runs : state.stopped ≡ None) (later : f0 ≤ f1) (numbers : state'.next + old.moment ≤ state.next + new.moment) where
   abbrev Was : History
   Was = opened.history
 

@@ -25,7 +25,7 @@ use Rattle.lethe_engine.specs.Sound.{IsRunning, IsSmall}
 use Rattle.lethe_engine.proofs.Onward.{opened_for}
 use Rattle.lethe_engine.proofs.Standing.{open_stands}
 
-pub opened_running : (disk : Seen) (s : Stored) (state : State) → IsSettled disk s → HasOnly s disk.directory → s.active.records ≡ [] → EndsAt disk (segment_name s.active.no) s.active.no [] 11 → state.end ≡ 11 → IsCurrent s state
+pub opened_running : (disk : Seen) (s : Stored) (state : State) → IsSettled disk s → HasOnly s [] disk.directory → s.active.records ≡ [] → EndsAt disk (segment_name s.active.no) s.active.no [] 11 → state.end ≡ 11 → IsCurrent s state
     → IsRunning disk s state
 opened_running disk s state settled only none ends end_is current = record {
   settled = settled;
@@ -35,7 +35,7 @@ opened_running disk s state settled only none ends end_is current = record {
 }
 
 pub resumed : (config : Fields) (h g : History) (change : Option Change) (start finish : Seen) (faults : ℕ) (s : Stored) (state : State) (levels : List (List Parts)) → IsHistoryOr h change g → IsRunning finish s state → Remembers s state levels
-    → s.manifest.config ≡ config → IsFor g s → ((next : ℕ) → IsNextNumber start.directory next → state.manifest.next + start.moment ≤ next + finish.moment) → IsResumed config h change start finish faults state levels
+    → s.manifest.config ≡ config → IsFor g s → ((next : ℕ) → IsNextNumber start.directory next → state.next + start.moment ≤ next + finish.moment) → IsResumed config h change start finish faults state levels
 resumed config h g change start finish faults s state levels either running remembers config_is stands numbers = record {
   history = g;
   either = either;

@@ -1,7 +1,8 @@
 -- The record of a change is appended.
-use Rattle.std.proofs.Common.{◌≡◌, ◌<◌, inl, inr, ℕ, ◌+◌, ◌-◌, List, [], ◌∷◌, ◌++◌, map, length, cond, Option, Some, None, refl, sym, ap, ◌∙◌, subst, arith}
+use Rattle.std.proofs.Common.{◌≡◌, ◌⊎◌, ◌<◌, inl, inr, ℕ, ◌+◌, ◌-◌, List, [], ◌∷◌, ◌++◌, map, length, cond, Option, Some, None, refl, sym, ap, ◌∙◌, subst, arith}
 use Rattle.std.specs.Prelude.{Contains, IsSome, false, option_to_list, slice_index}
 use Rattle.std.specs.FinMap.{insert}
+use Rattle.std.proofs.lemmas.List.Elements.{All-nil}
 use Rattle.lethe_base.specs.History.{History, Change}
 use Rattle.lethe_base.specs.Limits.{max_place}
 use Rattle.lethe_base.specs.declared.call.Call.{Call}
@@ -20,15 +21,15 @@ use Rattle.lethe_segment.specs.Segments.{segment_bytes, last_seq}
 use Rattle.lethe_segment.proofs.Runs.{holds_spelling}
 use Rattle.lethe_cover.specs.Steps.{with_done, with_failed}
 use Rattle.lethe_commit.specs.Append.{EndsAt, IsReady, IsAppended, IsUntouched, longer}
-use Rattle.lethe_stored.specs.Encodes.{Encodes}
+use Rattle.lethe_stored.specs.Encodes.{Encodes, HasObject}
 use Rattle.lethe_stored.specs.Files.{Parts}
 use Rattle.lethe_stored.specs.Kept.{IsFor}
 use Rattle.lethe_stored.specs.Left.{IsLeft, IsKeptOr, is_work}
 use Rattle.lethe_stored.specs.Steps.{addition}
-use Rattle.lethe_stored.specs.Stored.{Stored, Segment, IsCoherent, number_of, segment_name, part_names, appended}
+use Rattle.lethe_stored.specs.Stored.{Stored, Segment, IsCited, IsCoherent, number_of, segment_name, part_names, appended}
 use Rattle.lethe_stored.proofs.Parts.{active_part}
 use Rattle.lethe_stored.proofs.Steps.{append_keeps, active_changed, stored_appended}
-use Rattle.lethe_advance.specs.Settled.{HasOnly}
+use Rattle.lethe_advance.specs.Settled.{names_in}
 use Rattle.lethe_manifest.specs.declared.manifest.Manifest.{Manifest}
 use Rattle.lethe_commit.proofs.Placing.{refused_at_once}
 use Rattle.lethe_state.proofs.Recording.{entered_remembered}
@@ -97,10 +98,10 @@ module _ (disk : Seen) (s : Stored) (state : State) (running : IsRunning disk s 
     pub inserted : disk'.directory ≡ with_record disk.directory s next
     inserted = done ∙ ap (λ n. insert disk.directory n (segment_bytes s.active.no (longer (addition s next)))) name_is
 
-    only_longer : HasOnly (appended s next) disk'.directory
-    only_longer other there = elim (name_cases other (segment_name s.active.no)) [
-      | inl same ↦ inr (inr (subst (Contains (part_names s)) (sym same) (active_part s)))
-      | inr apart ↦ running.only other (subst IsSome (ap (λ d. object d other) inserted ∙ object_beside_insert disk.directory (segment_name s.active.no) (segment_bytes s.active.no (longer (addition s next))) other apart) there)
+    within : (other : Name) → IsSome (object disk'.directory other) → IsCited (appended s next) other ⊎ Contains (names_in []) other
+    within other there = elim (name_cases other (segment_name s.active.no)) [
+      | inl same ↦ inl (inr (inr (subst (Contains (part_names s)) (sym same) (active_part s))))
+      | inr apart ↦ running.only.only other (subst IsSome (ap (λ d. object d other) inserted ∙ object_beside_insert disk.directory (segment_name s.active.no) (segment_bytes s.active.no (longer (addition s next))) other apart) there)
     ]
 
     pub running_longer : (new : State) (end : ℕ) → IsSynced disk' → EndsAt disk' name s.active.no (longer (addition s next)) end → new.end ≡ end → IsCurrent (appended s next) new → IsRunning disk' (appended s next) new
@@ -116,7 +117,7 @@ module _ (disk : Seen) (s : Stored) (state : State) (running : IsRunning disk s 
               holds = holds_spelling s.active.no (longer (addition s next));
             });
       };
-      only = only_longer;
+      only = record { only = within; there = All-nil (HasObject disk'.directory) };
       ends = subst (EndsAt disk' (segment_name s.active.no) s.active.no (longer (addition s next))) (sym end_is) (subst (λ n. EndsAt disk' n s.active.no (longer (addition s next)) end) name_is ends);
       current = current;
     }

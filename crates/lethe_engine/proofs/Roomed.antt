@@ -1,5 +1,5 @@
 -- Room for a record.
-use Rattle.std.proofs.Common.{◌≡◌, ◌<◌, inr, ℕ, ◌+◌, List, Option, Some, None, Result, Ok, Err, refl, sym, ap, ◌∙◌, arith}
+use Rattle.std.proofs.Common.{◌≡◌, ◌≤◌, ◌<◌, ◌⊎◌, inl, inr, ℕ, ◌+◌, List, Option, Some, None, Result, Ok, Err, refl, sym, ap, ◌∙◌, subst, arith}
 use Rattle.std.specs.Prelude.{IfErr, IsErrOf, IsSome}
 use Rattle.lethe_base.specs.History.{History}
 use Rattle.lethe_base.specs.Limits.{max_place}
@@ -12,10 +12,10 @@ use Rattle.lethe_stored.specs.Files.{Parts}
 use Rattle.lethe_stored.specs.Stored.{Stored, Segment}
 use Rattle.lethe_state.specs.Records.{MayRefuse}
 use Rattle.lethe_state.specs.Remembered.{IsFrozenIn, Remembers}
-use Rattle.lethe_state.specs.Room.{HasRoom, IsShortToFreeze}
+use Rattle.lethe_state.specs.Room.{HasRoom, IsShortBy, IsShortToFlush, IsShortToFreeze}
 use Rattle.lethe_state.specs.declared.state.State.{State}
-use Rattle.lethe_engine.specs.Changes.{HasReason, refused_to}
-use Rattle.lethe_engine.specs.Steps.{IsUnfrozenAfter}
+use Rattle.lethe_engine.specs.Changes.{HasReason, IsShort, IsShortFor, refused_to}
+use Rattle.lethe_engine.specs.Steps.{IsReadyToFreeze, IsUnfrozenAfter}
 
 -- a call that wasn't begun is in no history
 pub unbegun : (state : State) (h : History) (caller : ℕ) (call : Call) (why : Refused) → MayRefuse state why → refused_to h caller call why ≡ h
@@ -53,14 +53,45 @@ has_room_of s state levels is room =
     let buffer : state.manifest.config.buffer ≡ s.manifest.config.buffer = ap (λ (m : Manifest). m.config.buffer) is.manifest in
     omega (arith, records, buffer, room)
 
+-- Numbers that run out
+
+short_for : (o : Option Buffered) (state : State) → IsSome o → IsShortBy 2 state → IsShortFor o state
+short_for None state some short = absurd (cc)
+short_for (Some buffer) state some short = short
+
+-- where a flush is short of numbers, making room is
+pub short_to_flush : (state : State) → IsSome state.frozen → IsShortToFlush state → IsShort state
+short_to_flush state some short = short_for state.frozen state some (record { drafts = short.drafts; drafted = short.drafted; short = let few = short.short in omega (arith, few) })
+
+pub short_to_freeze : (state : State) → state.frozen ≡ None → IsShortToFreeze state → IsShort state
+short_to_freeze state none short = subst (λ o. IsShortFor o state) (sym none) short
+
+-- nothing was to be flushed
+pub ready_itself : (state : State) → state.frozen ≡ None → IsReadyToFreeze state state
+ready_itself state none = record { frozen = none; stopped = refl; count = refl; records = refl; config = refl; short = short_to_freeze state none }
+
+pub ready_unfrozen : (old new : State) → IsSome old.frozen → IsUnfrozenAfter old new → IsReadyToFreeze old new
+ready_unfrozen old new some after = record {
+  frozen = after.frozen;
+  stopped = after.stopped;
+  count = after.count;
+  records = after.records;
+  config = after.config;
+  short = λ short. short_for old.frozen old some (record { drafts = after.drafts; drafted = after.drafted; short = let next = after.next in omega (arith, next, short) });
+}
+
+-- a step was refused before it was begun
+pub unbegun_reason : (state : State) (before now : ℕ) (why : Refused) → state.stopped ≡ None → (why ≡ Exhausted max_place) ⊎ (why ≡ NoMemory) → (why ≡ Exhausted max_place → IsShort state) → HasReason state before now why
+unbegun_reason state before now why runs (inl full) short = subst (HasReason state before now) (sym full) (runs, refl, inr (short full))
+unbegun_reason state before now why runs (inr memory) short = subst (HasReason state before now) (sym memory) tt
+
 -- a reason behind the flush of the frozen buffer is one of the whole
-pub reason_after : (old mid : State) (before now : ℕ) → IsUnfrozenAfter old mid → (why : Refused) → HasReason mid before now why → ((last : ℕ) → why ≡ Exhausted last → (last ≡ max_place) × IsShortToFreeze mid) → HasReason old before now why
+pub reason_after : (old mid : State) (before now : ℕ) → IsReadyToFreeze old mid → (why : Refused) → HasReason mid before now why → ((last : ℕ) → why ≡ Exhausted last → (last ≡ max_place) × IsShortToFreeze mid) → HasReason old before now why
 reason_after old mid before now after (Fault place b a) is short = (sym after.stopped ∙ is.0, is.1 ∙ ap (λ n. n + 1) after.count, is.2, is.3, is.4)
 reason_after old mid before now after (Stopped at) is short = sym after.stopped ∙ is
 reason_after old mid before now after (Exhausted last) is short =
     let few = short last refl in
-    let next = after.next in
-    (sym after.stopped ∙ is.0, few.0, inr (omega (arith, few.1, next)))
+    (sym after.stopped ∙ is.0, few.0, inr (after.short few.1))
 reason_after old mid before now after NoMemory is short = tt
 reason_after old mid before now after (Backwards clock) is short = is
 reason_after old mid before now after (Pinned pin limit) is short = is
@@ -69,7 +100,7 @@ reason_after old mid before now after (Cancelled begun other) is short = is
 reason_after old mid before now after (ReadFault b a) is short = is
 reason_after old mid before now after (Damaged name) is short = is
 
-pub reasons_after : {T : Type 0} (old mid : State) (before now : ℕ) (result : Result T Refused) → IsUnfrozenAfter old mid → IfErr result (HasReason mid before now)
+pub reasons_after : {T : Type 0} (old mid : State) (before now : ℕ) (result : Result T Refused) → IsReadyToFreeze old mid → IfErr result (HasReason mid before now)
     → ((last : ℕ) → IsErrOf result (Exhausted last) → (last ≡ max_place) × IsShortToFreeze mid) → IfErr result (HasReason old before now)
 reasons_after old mid before now (Ok x) after is short = tt
 reasons_after {T} old mid before now (Err why) after is short = reason_after old mid before now after why is (λ last same. short last (ap (λ (w : Refused). let r : Result T Refused = Err w in r) same))

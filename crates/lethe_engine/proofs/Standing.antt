@@ -125,7 +125,7 @@ module _ (old new : Seen) (idle : IsIdle old new) where
       coherent = running.settled.coherent;
       encodes = subst (λ d. Encodes d s) (sym idle.directory) running.settled.encodes;
     };
-    only = subst (HasOnly s) (sym idle.directory) running.only;
+    only = subst (HasOnly s []) (sym idle.directory) running.only;
     ends = record {
       ascends = running.ends.ascends;
       spelled = λ c here. running.ends.spelled c (idle_image c here);

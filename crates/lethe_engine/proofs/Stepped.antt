@@ -1,5 +1,5 @@
 -- A freeze and a flush that were carried out.
-use Rattle.std.proofs.Common.{◌≡◌, List, length, Option, Some, None, refl, sym, ap, ◌∙◌, subst, arith}
+use Rattle.std.proofs.Common.{◌≡◌, List, [], length, Option, Some, None, refl, sym, ap, ◌∙◌, subst, arith}
 use Rattle.std.specs.Prelude.{Contains}
 use Rattle.lethe_base.specs.History.{History}
 use Rattle.lethe_base.specs.declared.config.Fields.{Fields}
@@ -69,7 +69,7 @@ other_files s state levels next files is = record {
 }
 
 module _ (s t : Stored) (old new : State) (levels next : List (List Parts)) (headers : List Header) (step : Step) (start finish : Seen) (remembers : Remembers s old levels) (running : IsRunning start s old)
-    (is : IsStep s t headers step) (settled : IsSettled finish t) (only : HasOnly t finish.directory)
+    (is : IsStep s [] t [] headers step) (settled : IsSettled finish t) (only : HasOnly t [] finish.directory)
     (kept : (name : Name) → Contains (part_names t) name → object finish.directory name ≡ object (insert_all step.objects.items start.directory) name) (files : HasFiles t next) where
   module _ (flushed : IsFlushed s t) (new_is : new ≡ unfrozen step.manifest old) (here : Image start start.directory) where
     unfrozen_is : new ≡ unfrozen t.manifest old

@@ -8,8 +8,9 @@ use Rattle.lethe_build.specs.Drafts.{numbers_for}
 use Rattle.lethe_build.specs.declared.draft.Draft.{Draft}
 use Rattle.lethe_commit.specs.Switch.{IsTakenBack}
 use Rattle.lethe_state.specs.Records.{halted}
-use Rattle.lethe_state.specs.Room.{AreDrafted}
+use Rattle.lethe_state.specs.Room.{AreDrafted, IsShortToFreeze}
 use Rattle.lethe_state.specs.declared.state.State.{State}
+use Rattle.lethe_engine.specs.Changes.{IsShort}
 
 -- How a step was hindered: the disk failed and the store is stopped, or there was no memory and what was done is taken back.
 abbrev pub IsHindered : Type 0 → State → State → Seen → Seen → ℕ → ℕ → Refused → Type 0
@@ -35,6 +36,15 @@ pub record IsUnfrozenAfter (old new : State) : Type 0 where
   pub drafts : List Draft
   pub drafted : AreDrafted old drafts
   pub next : new.next ≡ old.next + sum_by numbers_for drafts + 1
+
+-- With no buffer frozen, whether one was flushed or there was none: where the numbers of a freeze can't be drawn, those of making room couldn't.
+pub record IsReadyToFreeze (old new : State) : Type 0 where
+  pub frozen : new.frozen ≡ None
+  pub stopped : new.stopped ≡ old.stopped
+  pub count : new.count ≡ old.count
+  pub records : new.records ≡ old.records
+  pub config : new.manifest.config ≡ old.manifest.config
+  pub short : IsShortToFreeze new → IsShort old
 
 -- Behind a freeze the active segment has no record.
 pub record IsEmptied (old new : State) : Type 0 where

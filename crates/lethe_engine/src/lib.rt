@@ -10,3 +10,6 @@ mod working;
 
 pub use engine::{Engine, OpenRefused};
 pub use telling::Stat;
+
+#[cfg(test)]
+mod tests;

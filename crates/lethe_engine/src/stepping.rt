@@ -1,5 +1,5 @@
 //! Freezing, flushing and making room, as steps of a call.
-ghost use Rattle.std.specs.Prelude.{◌≡◌, ◌≤◌, ◌<◌, ◌+◌, ℕ, None, length, All, Contains, IfErr, IsErrOf, IsSome, OnOk};
+ghost use Rattle.std.specs.Prelude.{◌≡◌, ◌≤◌, ◌<◌, ◌+◌, ℕ, [], None, length, All, Contains, IfErr, IsErrOf, IsSome, OnOk};
 ghost use Rattle.lethe_base.specs.History.{History};
 ghost use Rattle.lethe_base.specs.Limits.{max_place};
 ghost use Rattle.lethe_base.specs.declared.call.Call.{Call};
@@ -18,11 +18,11 @@ ghost use Rattle.lethe_advance.specs.Settled.{HasOnly, IsSettled};
 ghost use Rattle.lethe_advance.specs.Shown.{parts_by_level};
 ghost use Rattle.lethe_advance.specs.Steps.{IsStep};
 ghost use Rattle.lethe_state.specs.Remembered.{Remembers};
-ghost use Rattle.lethe_state.specs.Room.{IsFlushed, IsFrozen, IsRoomMade, IsShortToFreeze, IsUnfrozen};
+ghost use Rattle.lethe_state.specs.Room.{IsFlushed, IsFrozen, IsRoomMade, IsShortToFlush, IsShortToFreeze, IsUnfrozen};
 ghost use Rattle.lethe_engine.specs.Changes.{HasReason};
 ghost use Rattle.lethe_engine.specs.Sound.{IsRunning, IsSound};
 ghost use Rattle.lethe_engine.specs.StandsFor.{StandsNow};
-ghost use Rattle.lethe_engine.specs.Steps.{IsEmptied, IsHindered, IsReady, IsUnfrozenAfter};
+ghost use Rattle.lethe_engine.specs.Steps.{IsEmptied, IsHindered, IsReady, IsReadyToFreeze, IsUnfrozenAfter};
 ghost use Rattle.lethe_engine.specs.Work.{stepped_to};
 
 use crate::Engine;
@@ -70,7 +70,7 @@ impl<D: Disk> Engine<D> {
             → StandsNow config (stepped_to h caller call result) (D.seen self.new.disk) self.new.state (parts_by_level self.new.version) }
         ensures done { D.tells → (s : Stored) → Remembers s self.old.state (parts_by_level self.old.version) → IsRunning (D.seen self.old.disk) s self.old.state
             → OnOk result ((t : Stored) × IsUnfrozen s t × Remembers t self.new.state (parts_by_level self.new.version) × IsRunning (D.seen self.new.disk) t self.new.state) }
-        ensures ready { OnOk result (IsUnfrozenAfter self.old.state self.new.state) }
+        ensures ready { OnOk result (IsReadyToFreeze self.old.state self.new.state) }
         ensures why { IfErr result (HasReason self.old.state before (D.faults self.new.disk)) }
         ensures any_moment { D.tells → (config : Fields) (h : History) → StandsNow config h (D.seen self.old.disk) self.old.state (parts_by_level self.old.version)
             → Goes (λ c. IsKept c h) (D.seen self.old.disk) (D.seen self.new.disk) }
@@ -95,6 +95,7 @@ impl<D: Disk> Engine<D> {
             → StandsNow config (stepped_to h caller call result) (D.seen self.new.disk) self.new.state (parts_by_level self.new.version) }
         ensures done { D.tells → (s : Stored) → Remembers s self.old.state (parts_by_level self.old.version) → IsRunning (D.seen self.old.disk) s self.old.state
             → OnOk result ((t : Stored) × IsFlushed s t × Remembers t self.new.state (parts_by_level self.new.version) × IsRunning (D.seen self.new.disk) t self.new.state) }
+        ensures short { (last : ℕ) → IsErrOf result (refused.Exhausted last) → IsShortToFlush self.old.state }
         ensures ready { OnOk result (IsUnfrozenAfter self.old.state self.new.state) }
         ensures why { IfErr result (HasReason self.old.state before (D.faults self.new.disk)) }
         ensures any_moment { D.tells → (config : Fields) (h : History) → StandsNow config h (D.seen self.old.disk) self.old.state (parts_by_level self.old.version)
@@ -148,16 +149,16 @@ impl<D: Disk> Engine<D> {
         requires before { before ≤ D.faults self.old.disk }
         requires spelled { HasSpelling step.now.manifest }
         requires headers { All header.HasSpelling headers.items }
-        requires level { step.now.level ≡ 0 }
-        requires step { D.tells → (s : Stored) × (t : Stored) × IsRunning (D.seen self.old.disk) s self.old.state × IsStep s t headers.items step.now }
-        ensures moments { D.tells → (s t : Stored) → IsRunning (D.seen self.old.disk) s self.old.state → IsStep s t headers.items step.now
+        requires level { step.now.level ≤ self.old.state.manifest.config.levels }
+        requires step { D.tells → (s : Stored) × (t : Stored) × IsRunning (D.seen self.old.disk) s self.old.state × IsStep s [] t [] headers.items step.now }
+        ensures moments { D.tells → (s t : Stored) → IsRunning (D.seen self.old.disk) s self.old.state → IsStep s [] t [] headers.items step.now
             → (h : History) → IsFor h s → IsFor h t → Goes (λ c. IsKept c h) (D.seen self.old.disk) (D.seen self.new.disk) }
-        ensures done { D.tells → (s t : Stored) → IsRunning (D.seen self.old.disk) s self.old.state → IsStep s t headers.items step.now
-            → OnOk result (IsSettled (D.seen self.new.disk) t × HasOnly t (D.seen self.new.disk).directory) }
-        ensures kept { D.tells → (s t : Stored) → IsRunning (D.seen self.old.disk) s self.old.state → IsStep s t headers.items step.now
+        ensures done { D.tells → (s t : Stored) → IsRunning (D.seen self.old.disk) s self.old.state → IsStep s [] t [] headers.items step.now
+            → OnOk result (IsSettled (D.seen self.new.disk) t × HasOnly t [] (D.seen self.new.disk).directory) }
+        ensures kept { D.tells → (s t : Stored) → IsRunning (D.seen self.old.disk) s self.old.state → IsStep s [] t [] headers.items step.now
             → OnOk result ((name : Name) → Contains (part_names t) name
             → object (D.seen self.new.disk).directory name ≡ object (insert_all step.now.objects.items (D.seen self.old.disk).directory) name) }
-        ensures files { D.tells → (s t : Stored) → IsRunning (D.seen self.old.disk) s self.old.state → IsStep s t headers.items step.now
+        ensures files { D.tells → (s t : Stored) → IsRunning (D.seen self.old.disk) s self.old.state → IsStep s [] t [] headers.items step.now
             → HasFiles s (parts_by_level self.old.version) → OnOk result (HasFiles t (parts_by_level self.new.version)) }
         ensures state { OnOk result (self.new.state ≡ self.old.state) }
         ensures levels { length (parts_by_level self.new.version) ≡ length (parts_by_level self.old.version) }

@@ -9,7 +9,7 @@ use Rattle.lethe_base.specs.declared.config.Fields.{Fields}
 use Rattle.lethe_disk.specs.Disk.{Seen}
 use Rattle.lethe_state.specs.declared.state.State.{State}
 use Rattle.lethe_engine.specs.Opening.{IsResumed}
-use Rattle.lethe_engine.specs.StandsFor.{IsOpenOrStopped}
+use Rattle.lethe_engine.specs.StandsFor.{IsKeptFor, IsOpenOrStopped}
 use Rattle.lethe_disk.specs.Goes.{Goes}
 use Rattle.lethe_build.specs.Built.{most_numbers}
 use Rattle.lethe_stored.specs.Encodes.{Encodes}
@@ -33,7 +33,7 @@ use Rattle.lethe_run.specs.Ends as ends
 use Rattle.lethe_run.specs.Ends.{Run, Asks, IsCommand, IsNoCommand, OnLeft, OnScript, Carries, IsBegun, course_of, IsNoScript, IsNotOpened, Refuses, IsAsked, IsUnbegun, IsOpenFault, StoppedBehind, StoppedInside}
 use Rattle.lethe_run.specs.Printed.{bad_words, bad_line, open_line}
 use Rattle.lethe_run.specs.Scripts.{Serves, All, ScriptEnds}
-use Rattle.lethe_run.specs.Serving.{IsKeptFor, IsOn, IsCarried}
+use Rattle.lethe_run.specs.Serving.{IsOn, IsCarried}
 use Rattle.lethe_run.specs.Status.{EndsWith, Says, IsToldOf, status_for}
 use Rattle.lethe_run.specs.Transcript.{Start, text_of}
 
@@ -124,29 +124,26 @@ said_not_opened run end why config asks not (inr silent) = subst (EndsWith run) 
 -- A script that was carried out
 
 module _ (run : Run) (config : Fields) (asks : Asks run config) (phases : List (List Order)) (script : (P : List (List Order) → Type 0) → P phases → OnScript run P) (mid : Seen) (state : State) (levels : List (List Parts)) (counted : ℕ) (up : run.faults_before ≤ counted)
-    (resumed : run.Tells → (h : History) (change : Option Change) → IsLeft run.start h change → IsResumed config h change mid state levels)
+    (resumed : run.Tells → (h : History) (change : Option Change) → IsLeft run.start h change → IsResumed config h change run.start mid counted state levels)
     (moments : run.Tells → (h : History) (change : Option Change) → IsLeft run.start h change → Goes (IsKeptOr h change) run.start mid)
-    (numbers : run.Tells → (next : ℕ) → IsNextNumber run.start.directory next → state.manifest.next + run.start.moment ≤ next + mid.moment)
     (sound : run.Tells → (why : RecoverRefused) → HasReason config run.start.directory why → ⊥) where
-  none_some : (at : ℕ) → state.stopped ≡ None → state.stopped ≡ Some at → ⊥
-  none_some at a b = let clash : None ≡ Some at = sym a ∙ b in cc
-
   abbrev begin_at : ℕ → Start
   begin_at next = record { faults = run.faults_before; next = next; moment = run.start.moment }
 
-  on : run.Tells → (h : History) (change : Option Change) → (r : IsResumed config h change mid state levels) → run.start.moment ≤ mid.moment → (next : ℕ) → IsNextNumber run.start.directory next
-      → IsOn config run.PortsFail (begin_at next) counted r.history r.history mid state levels
-  on told h change r later next is = record {
-    begins = ([], sym (append-nil r.history));
-    done = (subst (IsOpenOrStopped mid r.history r.stands.stored state) r.runs r.stands.held).0;
-    stands = r.stands;
-    stopped = λ at is. absurd (none_some at r.runs is);
-    faults_since = up;
-    moment_since = later;
-    drawn = numbers told next is;
-  }
+  on : run.Tells → (h : History) (change : Option Change) → (r : IsResumed config h change run.start mid counted state levels) → run.start.moment ≤ mid.moment → (next : ℕ) → IsNextNumber run.start.directory next
+      → IsOn config (begin_at next) counted r.history r.history mid state levels
+  on told h change r later next is =
+      let stands = r.stands next is in
+      record {
+        done = (subst (IsOpenOrStopped mid r.history stands.now.stored state) r.runs stands.now.held).0;
+        moment = mid.moment;
+        counted = counted;
+        stands = stands;
+        faults_since = up;
+        moment_since = later;
+      }
 
-  carried_out : (left : History) (change : Option Change) (r : IsResumed config left change mid state levels) (next : ℕ) (front : List (List Order)) (lines : List (List Line)) → Goes (IsKeptOr left change) run.start mid
+  carried_out : (left : History) (change : Option Change) (r : IsResumed config left change run.start mid counted state levels) (next : ℕ) (front : List (List Order)) (lines : List (List Line)) → Goes (IsKeptOr left change) run.start mid
       → IsCarried config (course_of run next) r.history front lines mid run.finish
       → IsCarriedOut config (course_of run next) run.start run.finish left change front lines
   carried_out left change r next front lines opening c = record {

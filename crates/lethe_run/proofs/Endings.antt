@@ -7,7 +7,7 @@ use Rattle.lethe_base.specs.declared.config.Fields.{Fields}
 use Rattle.lethe_disk.specs.Disk.{Seen, Image, IsIdle}
 use Rattle.lethe_disk.specs.Goes.{Goes}
 use Rattle.lethe_disk.proofs.Going.{goes_then}
-use Rattle.lethe_engine.specs.StandsFor.{StandsFor}
+use Rattle.lethe_engine.specs.StandsFor.{IsKeptFor, Opened, StandsFor}
 use Rattle.lethe_state.specs.declared.state.State.{State}
 use Rattle.lethe_stored.specs.Files.{Parts}
 use Rattle.lethe_script.specs.declared.order.Order.{Order}
@@ -16,10 +16,9 @@ use Rattle.lethe_run.specs.declared.reply.Line.{Line}
 use Rattle.lethe_run.specs.declared.status.Status.{Status}
 use Rattle.lethe_run.specs.declared.status.Status.TheVariants.{Answered, BadWords, BadScript, ReadFault, WriteFault, Refused, NoMemory, Damaged, OtherConfig}
 use Rattle.lethe_run.specs.Scripts.{All, Behind, Inside, Serves, ScriptEnds, IsCutBy}
-use Rattle.lethe_run.specs.Serving.{IsKeptFor, IsOn, IsPhase, IsCarried}
+use Rattle.lethe_run.specs.Serving.{IsOn, IsPhase, IsCarried, opened_in}
 use Rattle.lethe_run.specs.Transcript.{Start, course, text_of, has_refusal}
 use Rattle.lethe_run.proofs.Phases.{SoFar, so_far_start, so_far_more, carried}
-use Rattle.lethe_run.proofs.Steps.{on_later}
 
 get_behind : {X : Type 0} (front : List X) (x : X) (rest : List X) → slice_get (front ++ x ∷ rest) (length front) ≡ Some x
 get_behind [] x rest = refl
@@ -38,12 +37,12 @@ part_whole orders items part rest is parts none = sym (append-nil part) ∙ ap (
 
 -- what serving a phase gave
 abbrev pub Phase : Type 0 → Type 0 → Seen → Seen → State → State → List (List Parts) → List (List Parts) → ℕ → ℕ → List Order → Bool → List Line → Type 0
-Phase Tells Ports now then state state' levels levels' f0 f1 orders whole more = Tells → (config : Fields) (begin : Start) (opened start : History) → IsOn config Ports begin f0 opened start now state levels
+Phase Tells Ports now then state state' levels levels' f0 f1 orders whole more = Tells → (config : Fields) (begin : Start) (opened start : History) → IsOn config begin f0 opened start now state levels
     → (h : History) × (part : List Order) × (rest : List Order) × (orders ≡ part ++ rest) × ((whole ≡ true) → rest ≡ []) × IsPhase config Ports begin f1 opened start h part more now then state' levels'
 
 -- what the phases before gave
 abbrev pub Before : Type 0 → Type 0 → Seen → Seen → State → State → List (List Parts) → List (List Parts) → ℕ → ℕ → List (List Order) → List (List Line) → Type 0
-Before Tells Ports start now first state levels0 levels before f0 yielded lines = Tells → (config : Fields) (begin : Start) (opened : History) → IsOn config Ports begin before opened opened start first levels0
+Before Tells Ports start now first state levels0 levels before f0 yielded lines = Tells → (config : Fields) (begin : Start) (opened : History) → IsOn config begin before opened opened start first levels0
     → SoFar config Ports begin f0 opened yielded lines start now state levels
 
 module _ (Tells Ports : Type 0) (start now then : Seen) (first state state' : State) (levels0 levels levels' : List (List Parts)) (before f0 f1 : ℕ) (up : before ≤ f0) (later : f0 ≤ f1) (itself : Tells → Image then then.directory)
@@ -117,14 +116,19 @@ all_ends Tells Ports start then first state' levels0 levels' before f1 itself ph
 -- Making a port is nothing on the disk
 
 module _ (Tells Ports : Type 0) (start mid : Seen) (state : State) (levels : List (List Parts)) (before : ℕ) (idle : Tells → IsIdle start mid)
-    (stands : Tells → (config : Fields) (h : History) → StandsFor config h start state levels → StandsFor config h mid state levels) where
-  on_idle : Tells → (config : Fields) (begin : Start) (opened : History) → IsOn config Ports begin before opened opened start state levels → IsOn config Ports begin before opened opened mid state levels
-  on_idle told config begin opened on =
-      let same = (idle told).moment in
-      on_later Ports begin before before opened opened start mid state state levels levels (omega arith) (omega (arith, same)) (omega (arith, same)) refl (stands told config opened on.stands) on
+    (stands : Tells → (config : Fields) (opened : Opened) (h : History) → StandsFor config opened h start before state levels → StandsFor config opened h mid before state levels) where
+  on_idle : Tells → (config : Fields) (begin : Start) (opened : History) → IsOn config begin before opened opened start state levels → IsOn config begin before opened opened mid state levels
+  on_idle told config begin opened on = record {
+    done = on.done;
+    moment = on.moment;
+    counted = on.counted;
+    stands = stands told config (opened_in begin opened on.moment on.counted) opened on.stands;
+    faults_since = on.faults_since;
+    moment_since = on.moment_since;
+  }
 
   module _ (finish : Seen) (now : ℕ) where
-    longer_moments : Tells → {config : Fields} (begin : Start) (opened : History) (phases : List (List Order)) (lines : List (List Line)) → IsOn config Ports begin before opened opened start state levels
+    longer_moments : Tells → {config : Fields} (begin : Start) (opened : History) (phases : List (List Order)) (lines : List (List Line)) → IsOn config begin before opened opened start state levels
         → IsCarried config (course Ports begin now finish.moment) opened phases lines mid finish → IsCarried config (course Ports begin now finish.moment) opened phases lines start finish
     longer_moments told begin opened phases lines on c = record {
       history = c.history;

@@ -1,6 +1,9 @@
--- Of a store that stands for a history, each image is kept for a front of what a crash may make of it.
-use Rattle.std.proofs.Common.{◌≡◌, ◌⊎◌, inl, inr, ℕ, suc, Bool, true, false, cond, List, [], ◌∷◌, ◌++◌, length, Option, Some, None, refl, sym, ap, ◌∙◌, subst, append_assoc, append-nil}
-use Rattle.lethe_base.specs.History.{History, Change, AreDone}
+-- Of a store that stands for a history, each image is kept for a prefix of what a crash may make of it.
+use Rattle.std.proofs.Common.{◌≡◌, ◌⊎◌, inl, inr, ℕ, suc, Bool, true, false, cond, List, [], ◌∷◌, ◌++◌, length, Option, Some, None, refl, sym, ap, ◌∙◌, subst, append_assoc, append-nil, arith}
+use Rattle.std.specs.Prelude.{Contains}
+use Rattle.std.proofs.lemmas.List.{length-append}
+use Rattle.std.proofs.lemmas.List.Elements.{All-contains, Contains-push}
+use Rattle.lethe_base.specs.History.{History, Change, change_at, AreDone}
 use Rattle.lethe_base.specs.declared.call.Call.TheVariants.{Work}
 use Rattle.lethe_base.specs.declared.config.Fields.{Fields}
 use Rattle.lethe_base.specs.declared.call.Did.TheVariants.{Done, Failed}
@@ -9,7 +12,8 @@ use Rattle.lethe_disk.specs.Directory.{Directory}
 use Rattle.lethe_disk.specs.Disk.{Seen, Image}
 use Rattle.lethe_state.specs.declared.state.State.{State}
 use Rattle.lethe_engine.specs.Sound.{IsRunning}
-use Rattle.lethe_engine.specs.StandsFor.{IsOpenOrStopped, retried}
+use Rattle.lethe_engine.specs.StandsFor.{HasCounts, IsKeptFor, IsOpenOrStopped, retried}
+use Rattle.lethe_engine.proofs.Histories.{all_done, last_failed}
 use Rattle.lethe_stored.specs.Encodes.{Encodes}
 use Rattle.lethe_stored.specs.Files.{Parts}
 use Rattle.lethe_stored.specs.Kept.{IsFor, IsKept}
@@ -18,21 +22,23 @@ use Rattle.lethe_stored.specs.Stored.{Stored}
 use Rattle.lethe_disk.proofs.Going.{goes_quiet}
 use Rattle.lethe_disk.proofs.Quieting.{quiet_itself}
 use Rattle.lethe_load.proofs.Gated.{encodes_gated}
-use Rattle.lethe_run.specs.Carried.{HasConfig, IsCut, failed_in}
-use Rattle.lethe_run.specs.Transcript.{Start}
-use Rattle.lethe_run.specs.Serving.{IsKeptFor, IsOn, GoesOn}
-use Rattle.lethe_run.proofs.Cuts.{cut_itself, cut_longer, cut_failed, all_done, none_failed, last_failed, split_last, snoc_front}
+use Rattle.lethe_run.specs.Carried.{HasConfig, failed_in}
+use Rattle.lethe_run.specs.Transcript.{Start, WasStopped, course}
+use Rattle.lethe_run.specs.Serving.{IsOn, GoesOn}
+use Rattle.lethe_run.proofs.Histories.{none_failed, one_failed, same_last, split_last}
 
 clash_did : (before after : ℕ) → Done ≡ Failed before after → ⊥
 clash_did before after e = cc
 
--- what comes before a change that failed goes on from the opened history
-before_begins : (opened before : History) (change : Change) (b a : ℕ) → AreDone opened → change.did ≡ Failed b a → (added : History) × (before ++ change ∷ [] ≡ opened ++ added) → (added : History) × (before ≡ opened ++ added)
-before_begins opened before change b a done failed begins = elim (split_last begins.0) [
+-- a last change that failed was added to the opened history, in which none has
+failed_added : (opened before added : History) (change : Change) (b a : ℕ) → AreDone opened → change.did ≡ Failed b a → before ++ change ∷ [] ≡ opened ++ added → Contains added change
+failed_added opened before added change b a done failed is = elim (split_last added) [
   | inl none ↦
-      let same : before ++ change ∷ [] ≡ opened = begins.1 ∙ ap (λ l. opened ++ l) none ∙ append-nil opened in
+      let same : before ++ change ∷ [] ≡ opened = is ∙ ap (λ l. opened ++ l) none ∙ append-nil opened in
       absurd (clash_did b a (sym (subst AreDone (sym same) done (suc (length before)) change (change_at-push before change)) ∙ failed))
-  | inr more ↦ (more.0, snoc_front before (opened ++ more.0) change more.1 (begins.1 ∙ ap (λ l. opened ++ l) more.2 ∙ sym (append_assoc opened more.0 (more.1 ∷ []))))
+  | inr more ↦
+      let last = (same_last before (opened ++ more.0) change more.1 (is ∙ ap (λ l. opened ++ l) more.2 ∙ sym (append_assoc opened more.0 (more.1 ∷ [])))).1 in
+      subst (λ l. Contains l change) (sym more.2) (subst (λ x. Contains (more.0 ++ x ∷ []) change) last (Contains-push more.0 change))
 ]
 
 no_work : (change : Change) → is_work change.call ≡ false → change.call ≡ Work → ⊥
@@ -60,50 +66,64 @@ kept_open h disk s state done running stands d here = inr (record {
   stands = subst (λ g. IsFor g s) (all_done h done) stands;
 })
 
-module _ {config : Fields} (Ports : Type 0) (begin : Start) (faults : ℕ) (opened h : History) (disk : Seen) (state : State) (levels : List (List Parts)) (on : IsOn config Ports begin faults opened h disk state levels) where
-  kept_cut : (stopped : Option ℕ) → IsOpenOrStopped disk h on.stands.stored state stopped → (d : Directory) → Image disk d → IsKeptFor opened h d
-  kept_cut None now d here = (h, cut_itself opened h now.0 on.begins, kept_open h disk on.stands.stored state now.0 now.1 on.stands.stands d here)
-  kept_cut (Some at) now d here =
-      let begins = before_begins opened now.before now.change now.faults_before now.faults on.done now.failed (on.begins.0, sym now.history ∙ on.begins.1) in
-      let left = now.left.images d here in
-      elim (retried_cases now.before left.0 now.change left.1) [
-        | inl old ↦ (now.before, subst (λ x. IsCut opened x now.before) (sym now.history) (cut_longer opened now.before (now.change ∷ []) now.legal now.done now.before (cut_itself opened now.before now.done begins)), subst (IsKept d) old left.2)
-        | inr new ↦ (now.before ++ as_done now.change ∷ [], subst (λ x. IsCut opened x (now.before ++ as_done now.change ∷ [])) (sym now.history) (cut_failed opened now.before now.change now.legal now.done new.0 begins), subst (IsKept d) new.1 left.2)
-      ]
-
+module _ {config : Fields} (begin : Start) (faults : ℕ) (opened h : History) (disk : Seen) (state : State) (levels : List (List Parts)) (on : IsOn config begin faults opened h disk state levels) where
   pub each_kept : (d : Directory) → Image disk d → IsKeptFor opened h d
-  each_kept d here = kept_cut state.stopped on.stands.held d here
+  each_kept d here = on.stands.images disk.moment d on.stands.later (omega arith) here
 
   -- where nothing is done
   pub goes_still : GoesOn opened h h disk disk
-  goes_still = record { kept = λ k cut. cut; any_moment = goes_quiet (IsKeptFor opened h) disk disk (quiet_itself disk) each_kept }
+  goes_still = record { kept = λ k of. of; any_moment = goes_quiet (IsKeptFor opened h) disk disk (quiet_itself disk) each_kept }
+
+  -- the change that stopped it, and its counts
+  stopped_at : (Ports : Type 0) (at : ℕ) → IsOpenOrStopped disk h on.stands.now.stored state (Some at) → WasStopped (record { history = h; course = course Ports begin faults disk.moment }) at
+  stopped_at Ports at now =
+      let there = failed_added opened now.before on.stands.begins.0 now.change now.faults_before now.faults on.done now.failed (sym now.history ∙ on.stands.begins.1) in
+      let counts : HasCounts on.counted faults (Failed now.faults_before now.faults) =
+      subst (HasCounts on.counted faults) now.failed (All-contains (λ (c : Change). HasCounts on.counted faults c.did) on.stands.begins.0 now.change on.stands.counts there) in
+      let place : at ≡ suc (length now.before) = let is = now.place in omega (arith, is, ap length now.history, length-append now.before (now.change ∷ [])) in
+      record {
+        before = now.faults_before;
+        after = now.faults;
+        fails = record {
+          change = now.change;
+          is = ap (λ x. change_at x at) now.history ∙ ap (change_at (now.before ++ now.change ∷ [])) place ∙ change_at-push now.before now.change;
+          failed = now.failed;
+          rose = counts.1;
+          from = let since = on.faults_since in let low = counts.0 in omega (arith, since, low);
+          upto = counts.2;
+        };
+      }
+
+  pub stopped_by : (Ports : Type 0) (at : ℕ) → state.stopped ≡ Some at → WasStopped (record { history = h; course = course Ports begin faults disk.moment }) at
+  stopped_by Ports at stop = stopped_at Ports at (subst (IsOpenOrStopped disk h on.stands.now.stored state) stop on.stands.now.held)
 
   -- what the disk is left for
-  left_by : Image disk disk.directory → (stopped : Option ℕ) → IsOpenOrStopped disk h on.stands.stored state stopped → IsLeft disk (without_failed h) (failed_in h)
+  left_by : Image disk disk.directory → (stopped : Option ℕ) → IsOpenOrStopped disk h on.stands.now.stored state stopped → IsLeft disk (without_failed h) (failed_in h)
   left_by itself None now =
-      let kept : (d : Directory) → Image disk d → IsKeptOr h None d = λ d here. (h, refl, kept_open h disk on.stands.stored state now.0 now.1 on.stands.stands d here) in
+      let kept : (d : Directory) → Image disk d → IsKeptOr h None d = λ d here. (h, refl, kept_open h disk on.stands.now.stored state now.0 now.1 on.stands.now.stands d here) in
       (let same = sym (all_done h now.0) in
       let none = sym (none_failed h now.0) in
       subst (IsLeft disk (without_failed h)) none (subst (λ x. IsLeft disk x None) same (record { now = kept disk.directory itself; images = kept })))
   left_by itself (Some at) now =
-      let last = last_failed now.before now.change now.faults_before now.faults now.done now.failed in
+      let rest = last_failed now.before now.change now.faults_before now.faults now.done now.failed in
+      let last = one_failed now.before now.change now.faults_before now.faults now.done now.failed in
       let history = now.history in
       let left : IsLeft disk now.before (Some now.change) = record { now = retried_kept now.before now.change disk.directory now.left.now; images = λ c here. retried_kept now.before now.change c (now.left.images c here) } in
-      subst (λ x. IsLeft disk (without_failed x) (failed_in x)) (sym history) (subst (IsLeft disk (without_failed (now.before ++ now.change ∷ []))) (sym last.1) (subst (λ x. IsLeft disk x (Some now.change)) (sym last.0) left))
+      subst (λ x. IsLeft disk (without_failed x) (failed_in x)) (sym history) (subst (IsLeft disk (without_failed (now.before ++ now.change ∷ []))) (sym last) (subst (λ x. IsLeft disk x (Some now.change)) (sym rest) left))
 
   pub leaves : Image disk disk.directory → IsLeft disk (without_failed h) (failed_in h)
-  leaves itself = left_by itself state.stopped on.stands.held
+  leaves itself = left_by itself state.stopped on.stands.now.held
 
   -- unless a change failed, it has the configuration
-  config_by : (stopped : Option ℕ) → IsOpenOrStopped disk h on.stands.stored state stopped → failed_in h ≡ None → HasConfig config disk.directory
+  config_by : (stopped : Option ℕ) → IsOpenOrStopped disk h on.stands.now.stored state stopped → failed_in h ≡ None → HasConfig config disk.directory
   config_by None now none = record {
-    manifest = on.stands.stored.manifest;
-    gated = encodes_gated disk.directory on.stands.stored now.1.settled.coherent now.1.settled.encodes;
-    is = on.stands.config_is;
+    manifest = on.stands.now.stored.manifest;
+    gated = encodes_gated disk.directory on.stands.now.stored now.1.settled.coherent now.1.settled.encodes;
+    is = on.stands.now.config_is;
   }
   config_by (Some at) now none =
-      let last = last_failed now.before now.change now.faults_before now.faults now.done now.failed in
-      let clash : None ≡ Some now.change = sym none ∙ ap failed_in now.history ∙ last.1 in cc
+      let last = one_failed now.before now.change now.faults_before now.faults now.done now.failed in
+      let clash : None ≡ Some now.change = sym none ∙ ap failed_in now.history ∙ last in cc
 
   pub has_config : failed_in h ≡ None → HasConfig config disk.directory
-  has_config = config_by state.stopped on.stands.held
+  has_config = config_by state.stopped on.stands.now.held

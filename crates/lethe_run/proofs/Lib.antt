@@ -1,5 +1,5 @@
 pub mod ScanLaws
-pub mod Cuts
+pub mod Histories
 pub mod Images
 pub mod Steps
 pub mod Runs

@@ -10,12 +10,13 @@ use Rattle.lethe_base.specs.Keys.{Bytes}
 use Rattle.lethe_disk.specs.Disk.{Seen, Image}
 use Rattle.lethe_state.specs.declared.state.State.{State}
 use Rattle.lethe_stored.specs.Files.{Parts}
+use Rattle.lethe_engine.specs.StandsFor.{IsKeptFor}
 use Rattle.lethe_disk.proofs.Going.{goes_then, goes_weaker}
 use Rattle.lethe_script.specs.declared.order.Order.{Order}
 use Rattle.lethe_wire.specs.Causes.{AppendsFront}
 use Rattle.lethe_run.specs.declared.reply.Line.{Line}
 use Rattle.lethe_run.specs.Printed.{lines_text}
-use Rattle.lethe_run.specs.Serving.{IsKeptFor, IsOn, GoesOn, IsPhase, IsCarried}
+use Rattle.lethe_run.specs.Serving.{IsOn, GoesOn, IsPhase, IsCarried}
 use Rattle.lethe_run.specs.Transcript.{Course, Start, course, IsServed, AreServed, text_of, is_refusal, has_refusal}
 use Rattle.lethe_run.proofs.Images.{goes_still, leaves, has_config}
 use Rattle.lethe_run.proofs.Serving.{served_later}
@@ -63,10 +64,10 @@ pub record SoFar (config : Fields) (Ports : Type 0) (begin : Start) (faults : �
   pub history : History
   pub served : AreServed (course Ports begin faults now.moment) opened phases lines history
   pub goes : GoesOn opened opened history start now
-  pub stands : IsOn config Ports begin faults opened history now state levels
+  pub stands : IsOn config begin faults opened history now state levels
 
-pub so_far_start : {config : Fields} (Ports : Type 0) (begin : Start) (faults : ℕ) (opened : History) (disk : Seen) (state : State) (levels : List (List Parts)) → IsOn config Ports begin faults opened opened disk state levels → SoFar config Ports begin faults opened [] [] disk disk state levels
-so_far_start Ports begin faults opened disk state levels on = record { history = opened; served = refl; goes = goes_still Ports begin faults opened opened disk state levels on; stands = on }
+pub so_far_start : {config : Fields} (Ports : Type 0) (begin : Start) (faults : ℕ) (opened : History) (disk : Seen) (state : State) (levels : List (List Parts)) → IsOn config begin faults opened opened disk state levels → SoFar config Ports begin faults opened [] [] disk disk state levels
+so_far_start Ports begin faults opened disk state levels on = record { history = opened; served = refl; goes = goes_still begin faults opened opened disk state levels on; stands = on }
 
 phases_more : (c : Course) (start middle h : History) (phases : List (List Order)) (lines : List (List Line)) (orders : List Order) (more : List Line)
     → AreServed c start phases lines middle → IsServed c middle orders more h → AreServed c start (phases ++ orders ∷ []) (lines ++ more ∷ []) h
@@ -96,6 +97,6 @@ carried Ports begin faults opened phases lines start now state levels itself so_
   history = so_far.history;
   served = so_far.served;
   any_moment = so_far.goes.any_moment;
-  leaves = leaves Ports begin faults opened so_far.history now state levels so_far.stands itself;
-  config_is = has_config Ports begin faults opened so_far.history now state levels so_far.stands;
+  leaves = leaves begin faults opened so_far.history now state levels so_far.stands itself;
+  config_is = has_config begin faults opened so_far.history now state levels so_far.stands;
 }

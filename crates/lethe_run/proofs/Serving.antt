@@ -11,6 +11,7 @@ use Rattle.lethe_base.specs.Read as answers
 use Rattle.lethe_base.proofs.Histories.{change_at-append}
 use Rattle.lethe_disk.specs.Disk.{Seen}
 use Rattle.lethe_engine.specs.Reads.{listed}
+use Rattle.lethe_engine.specs.StandsFor.{IsKeptFor}
 use Rattle.lethe_engine.specs.declared.telling.Stat.{Stat}
 use Rattle.lethe_state.specs.declared.state.State.{State}
 use Rattle.lethe_stored.specs.Files.{Parts}
@@ -21,7 +22,7 @@ use Rattle.lethe_run.specs.declared.reply.Line.{Line}
 use Rattle.lethe_run.specs.declared.reply.Line.TheVariants as line
 use Rattle.lethe_run.specs.declared.reply.Reply.{Reply}
 use Rattle.lethe_run.specs.declared.reply.Reply.TheVariants.{Done, Got, Scanned, Counted, Fault, Stopped, Exhausted, ReadFault, Damaged}
-use Rattle.lethe_run.specs.Serving.{IsKeptFor, IsOn, GoesOn, IsAnswered, IsPhase}
+use Rattle.lethe_run.specs.Serving.{IsOn, GoesOn, IsAnswered, IsPhase}
 use Rattle.lethe_run.proofs.Images.{goes_still}
 use Rattle.lethe_run.specs.Transcript.{Course, Start, Told, IsShort, course, call_of, read_of, IsDoneAt, IsAnswerAt, IsStatAt, IsFailedAt, IsFaultOf, Answers, Answered, place_of, places_behind, is_of, Sees, Follows, InTurn, IsServed, AreServed}
 
@@ -137,7 +138,7 @@ pub record IsBuilt (config : Fields) (Ports : Type 0) (begin : Start) (faults : 
   pub answered : Answered (told_of h (course Ports begin faults now.moment)) orders lines
   pub alone : InTurn (course Ports begin faults now.moment) (length start) lines (length h)
   pub goes : GoesOn opened start h old now
-  pub stands : IsOn config Ports begin faults opened h now state levels
+  pub stands : IsOn config begin faults opened h now state levels
 
 module _ {config : Fields} (Ports : Type 0) (begin : Start) (f0 f1 : ℕ) (le : f0 ≤ f1) (opened start h : History) (orders : List Order) (lines : List Line) (old now then : Seen) (state state' : State) (levels levels' : List (List Parts))
     (built : IsBuilt config Ports begin f0 opened start orders lines h old now state levels) where
@@ -149,7 +150,7 @@ module _ {config : Fields} (Ports : Type 0) (begin : Start) (f0 f1 : ℕ) (le : 
   built_more g order reply is =
       let more = is.grows.0 in
       let whole = is.grows.1 in
-      let legal = is.stands.stands.legal in
+      let legal = is.stands.stands.now.legal in
       let on = is.goes.any_moment.later in
       record {
         begins = (built.begins.0 ++ more, whole ∙ ap (λ l. l ++ more) built.begins.1 ∙ append_assoc start built.begins.0 more);
@@ -165,12 +166,12 @@ module _ {config : Fields} (Ports : Type 0) (begin : Start) (f0 f1 : ℕ) (le : 
       }
 
   -- the same when nothing was answered
-  pub built_still : GoesOn opened h h now then → IsOn config Ports begin f1 opened h then state' levels' → IsBuilt config Ports begin f1 opened start orders lines h old then state' levels'
+  pub built_still : GoesOn opened h h now then → IsOn config begin f1 opened h then state' levels' → IsBuilt config Ports begin f1 opened start orders lines h old then state' levels'
   built_still goes stands =
       let on = goes.any_moment.later in
       record {
         begins = built.begins;
-        answered = subst (λ x. Answered (told_of x Then) orders lines) (append-nil h) (answered_before h [] (subst IsLegal (sym (append-nil h)) stands.stands.legal) Ports begin f0 f1 now.moment then.moment le on orders lines built.answered);
+        answered = subst (λ x. Answered (told_of x Then) orders lines) (append-nil h) (answered_before h [] (subst IsLegal (sym (append-nil h)) stands.stands.now.legal) Ports begin f0 f1 now.moment then.moment le on orders lines built.answered);
         alone = in_turn_later Ports begin f0 f1 now.moment then.moment on (length start) (length h) lines built.alone;
         goes = record { kept = built.goes.kept; any_moment = goes_then (IsKeptFor opened h) old now then built.goes.any_moment goes.any_moment };
         stands = stands;
@@ -251,7 +252,7 @@ pub phase_of : {config : Fields} (Ports : Type 0) (begin : Start) (faults : ℕ)
 phase_of Ports begin faults opened start h orders lines old now state levels built = record {
   served = record {
     begins = built.begins;
-    legal = built.stands.stands.legal;
+    legal = built.stands.stands.now.legal;
     answered = built.answered;
     once = subst (λ l. IsPermutation (places_behind (length start) (length h - length start)) l) (sym (places_in_turn (course Ports begin faults now.moment) (length start) (length h) lines built.alone)) (IsPermutation-refl (places_behind (length start) (length h - length start)));
     seen = λ caller. sees_in_turn (course Ports begin faults now.moment) (is_of caller) (length start) (length start) (length h) lines (omega arith) built.alone;
@@ -261,8 +262,8 @@ phase_of Ports begin faults opened start h orders lines old now state levels bui
   stands = built.stands;
 }
 
-pub built_start : {config : Fields} (Ports : Type 0) (begin : Start) (faults : ℕ) (opened start : History) (disk : Seen) (state : State) (levels : List (List Parts)) → IsOn config Ports begin faults opened start disk state levels → IsBuilt config Ports begin faults opened start [] [] start disk disk state levels
-built_start Ports begin faults opened start disk state levels on = record { begins = ([], sym (append-nil start)); answered = tt; alone = refl; goes = goes_still Ports begin faults opened start disk state levels on; stands = on }
+pub built_start : {config : Fields} (Ports : Type 0) (begin : Start) (faults : ℕ) (opened start : History) (disk : Seen) (state : State) (levels : List (List Parts)) → IsOn config begin faults opened start disk state levels → IsBuilt config Ports begin faults opened start [] [] start disk disk state levels
+built_start Ports begin faults opened start disk state levels on = record { begins = ([], sym (append-nil start)); answered = tt; alone = refl; goes = goes_still begin faults opened start disk state levels on; stands = on }
 
 -- the same when the counts have risen
 

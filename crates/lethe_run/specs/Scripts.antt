@@ -19,7 +19,7 @@ use Rattle.lethe_run.specs.Transcript.{Start, course, text_of, has_refusal}
 -- the lines answer these phases, over each history for which the store stands, and from each start of the run on
 abbrev pub Serves : Type 0 → Type 0 → Seen → Seen → State → List (List Parts) → ℕ → ℕ → List (List Order) → List (List Line) → Type 0
 Serves Tells PortsFail start finish state levels before now phases lines =
-    Tells → (config : Fields) (begin : Start) (opened : History) → IsOn config PortsFail begin before opened opened start state levels
+    Tells → (config : Fields) (begin : Start) (opened : History) → IsOn config begin before opened opened start state levels
     → IsCarried config (course PortsFail begin now finish.moment) opened phases lines start finish
 
 -- all phases were answered
@@ -39,7 +39,7 @@ pub record Behind (Tells PortsFail : Type 0) (start finish : Seen) (state : Stat
 -- none were, or some, and of the next one the first orders
 pub record Inside (Tells PortsFail : Type 0) (start finish : Seen) (state : State) (levels : List (List Parts)) (before now : ℕ) (old new : Option Bytes) (phases : List (List Order)) : Type 0 where
   pub lines : List (List Line)
-  pub served : Tells → (config : Fields) (begin : Start) (opened : History) → IsOn config PortsFail begin before opened opened start state levels
+  pub served : Tells → (config : Fields) (begin : Start) (opened : History) → IsOn config begin before opened opened start state levels
       → (front : List (List Order)) × IsBegun phases front × IsCarried config (course PortsFail begin now finish.moment) opened front lines start finish
   pub written : AppendsFront old new (text_of lines)
 

@@ -1,41 +1,37 @@
 -- What carrying out orders over a store comes to.
-use Rattle.std.specs.Prelude.{◌≡◌, ◌≤◌, ℕ, ◌+◌, List, ◌++◌, length, Some, None}
+use Rattle.std.specs.Prelude.{◌≡◌, ◌≤◌, ℕ, List, ◌++◌, length, None}
 use Rattle.lethe_base.specs.History.{History, AreDone}
 use Rattle.lethe_base.specs.declared.config.Fields.{Fields}
-use Rattle.lethe_disk.specs.Directory.{Directory}
 use Rattle.lethe_disk.specs.Disk.{Seen}
-use Rattle.lethe_engine.specs.StandsFor.{StandsFor}
+use Rattle.lethe_engine.specs.StandsFor.{IsKeptFor, IsPrefixFrom, Opened, StandsFor}
 use Rattle.lethe_disk.specs.Goes.{Goes}
 use Rattle.lethe_stored.specs.Files.{Parts}
-use Rattle.lethe_stored.specs.Kept.{IsKept}
 use Rattle.lethe_stored.specs.Left.{IsLeft, without_failed}
 use Rattle.lethe_state.specs.declared.state.State.{State}
 use Rattle.lethe_script.specs.declared.order.Act.{Act}
 use Rattle.lethe_script.specs.declared.order.Order.{Order}
 use Rattle.lethe_run.specs.declared.reply.Line.{Line}
 use Rattle.lethe_run.specs.declared.reply.Reply.{Reply}
-use Rattle.lethe_run.specs.Carried.{HasConfig, IsCut, failed_in}
-use Rattle.lethe_run.specs.Transcript.{Course, Start, course, WasStopped, Answers, Follows, IsServed, AreServed}
+use Rattle.lethe_run.specs.Carried.{HasConfig, failed_in}
+use Rattle.lethe_run.specs.Transcript.{Course, Start, course, Answers, Follows, IsServed, AreServed}
 
--- kept for a front of what a crash may make of h, which goes on from the opened history
-abbrev pub IsKeptFor : History → History → Directory → Type 0
-IsKeptFor opened h d = (g : History) × IsCut opened h g × IsKept d g
+-- what a store was whose opening began with the run, and answered at this moment and with this count of faults
+abbrev pub opened_in : Start → History → ℕ → ℕ → Opened
+opened_in begin h moment faults = record { history = h; began = begin.moment; moment = moment; next = begin.next; faults = faults }
 
--- A store of the configuration, which stands for a history that goes on from the opened one, in a run that found its disk so and has met so many
--- faults.
-pub record IsOn (config : Fields) (PortsFail : Type 0) (begin : Start) (faults : ℕ) (opened h : History) (disk : Seen) (state : State) (levels : List (List Parts)) : Type 0 where
-  pub begins : (added : History) × (h ≡ opened ++ added)
+-- A store of the configuration, opened in a run that found its disk so, which has met so many faults and stands for a history.
+pub record IsOn (config : Fields) (begin : Start) (faults : ℕ) (opened h : History) (disk : Seen) (state : State) (levels : List (List Parts)) : Type 0 where
   pub done : AreDone opened
-  pub stands : StandsFor config h disk state levels
-  pub stopped : (at : ℕ) → state.stopped ≡ Some at → WasStopped (record { history = h; course = course PortsFail begin faults disk.moment }) at
-  pub faults_since : begin.faults ≤ faults
-  pub moment_since : begin.moment ≤ disk.moment
-  -- each number that was drawn is one of a device call
-  pub drawn : state.manifest.next + begin.moment ≤ begin.next + disk.moment
+  -- the moment of its disk when opening answered, and the count of faults
+  pub moment : ℕ
+  pub counted : ℕ
+  pub stands : StandsFor config (opened_in begin opened moment counted) h disk faults state levels
+  pub faults_since : begin.faults ≤ counted
+  pub moment_since : begin.moment ≤ moment
 
 -- What may be a crash's of h may be one of g; and at each moment of a run of device calls a crash leaves what may be one of g.
 pub record GoesOn (opened h g : History) (old new : Seen) : Type 0 where
-  pub kept : (k : History) → IsCut opened h k → IsCut opened g k
+  pub kept : (k : History) → IsPrefixFrom opened h k → IsPrefixFrom opened g k
   pub any_moment : Goes (IsKeptFor opened g) old new
 
 -- the act was answered so, and the history went on from h to g
@@ -44,13 +40,13 @@ pub record IsAnswered (config : Fields) (PortsFail : Type 0) (begin : Start) (fa
   pub answers : Answers (record { history = g; course = course PortsFail begin faults new.moment }) caller act reply
   pub follows : Follows (course PortsFail begin faults new.moment) (length h) reply (length g)
   pub goes : GoesOn opened h g old new
-  pub stands : IsOn config PortsFail begin faults opened g new state levels
+  pub stands : IsOn config begin faults opened g new state levels
 
 -- the orders were answered by the lines, and the history went on from h to g
 pub record IsPhase (config : Fields) (PortsFail : Type 0) (begin : Start) (faults : ℕ) (opened h g : History) (orders : List Order) (lines : List Line) (old new : Seen) (state : State) (levels : List (List Parts)) : Type 0 where
   pub served : IsServed (course PortsFail begin faults new.moment) h orders lines g
   pub goes : GoesOn opened h g old new
-  pub stands : IsOn config PortsFail begin faults opened g new state levels
+  pub stands : IsOn config begin faults opened g new state levels
 
 -- the phases were answered by the lines, from the opened history on
 pub record IsCarried (config : Fields) (course : Course) (opened : History) (phases : List (List Order)) (lines : List (List Line)) (start finish : Seen) : Type 0 where

@@ -26,10 +26,10 @@ pub(crate) fn answer<D: Disk>(
     requires { IsSound D.tells (D.seen engine.old.disk) engine.old.state (parts_by_level engine.old.version) }
     ensures sound { IsSound D.tells (D.seen engine.new.disk) engine.new.state (parts_by_level engine.new.version) }
     ensures served { D.tells → (config : Fields) (begin : Start) (opened h : History) (caller : ℕ)
-        → IsOn config D.ports_fail begin (D.faults engine.old.disk) opened h (D.seen engine.old.disk) engine.old.state (parts_by_level engine.old.version)
+        → IsOn config begin (D.faults engine.old.disk) opened h (D.seen engine.old.disk) engine.old.state (parts_by_level engine.old.version)
         → MatchResult result
         (λ reply. (g : History) × IsAnswered config D.ports_fail begin (D.faults engine.new.disk) opened h g caller act reply (D.seen engine.old.disk) (D.seen engine.new.disk) engine.new.state (parts_by_level engine.new.version))
-        (λ why. GoesOn opened h h (D.seen engine.old.disk) (D.seen engine.new.disk) × IsOn config D.ports_fail begin (D.faults engine.new.disk) opened h (D.seen engine.new.disk) engine.new.state (parts_by_level engine.new.version)) }
+        (λ why. GoesOn opened h h (D.seen engine.old.disk) (D.seen engine.new.disk) × IsOn config begin (D.faults engine.new.disk) opened h (D.seen engine.new.disk) engine.new.state (parts_by_level engine.new.version)) }
     ensures faults { D.faults engine.old.disk ≤ D.faults engine.new.disk }
 {
     match act {

@@ -36,7 +36,7 @@ pub(crate) fn serve_phase<D: Disk>(
     requires { IsSound D.tells (D.seen engine.old.disk) engine.old.state (parts_by_level engine.old.version) }
     ensures sound { IsSound D.tells (D.seen engine.new.disk) engine.new.state (parts_by_level engine.new.version) }
     ensures served { D.tells → (config : Fields) (begin : Start) (opened start : History)
-        → IsOn config D.ports_fail begin (D.faults engine.old.disk) opened start (D.seen engine.old.disk) engine.old.state (parts_by_level engine.old.version)
+        → IsOn config begin (D.faults engine.old.disk) opened start (D.seen engine.old.disk) engine.old.state (parts_by_level engine.old.version)
         → (h : History) × (part : List Order) × (rest : List Order) × (orders.items ≡ part ++ rest) × (IsTrue result.whole → rest ≡ [])
         × IsPhase config D.ports_fail begin (D.faults engine.new.disk) opened start h part result.lines.items (D.seen engine.old.disk) (D.seen engine.new.disk) engine.new.state (parts_by_level engine.new.version) }
     ensures faults { D.faults engine.old.disk ≤ D.faults engine.new.disk }

@@ -127,15 +127,13 @@ fn read_all<S: Source>(alloc: Global, source: &mut S) -> Result<Vec<u8>, ReadRef
 fn open_store<D: Disk>(alloc: Global, disk: D, config: &Config) -> Result<Engine<D>, OpenRefused<D>>
     ensures sound { IfOk result (λ engine. IsSound D.tells (D.seen engine.disk) engine.state (parts_by_level engine.version)) }
     ensures resumed { D.tells → (h : History) (change : Option Change) → IsLeft (D.seen disk) h change
-        → IfOk result (λ engine. IsResumed config.now h change (D.seen engine.disk) engine.state (parts_by_level engine.version)) }
+        → IfOk result (λ engine. IsResumed config.now h change (D.seen disk) (D.seen engine.disk) (D.faults engine.disk) engine.state (parts_by_level engine.version)) }
     ensures any_moment { D.tells → (h : History) (change : Option Change) → IsLeft (D.seen disk) h change
         → MatchResult result (λ engine. Goes (IsKeptOr h change) (D.seen disk) (D.seen engine.disk)) (λ refused. Goes (IsKeptOr h change) (D.seen disk) (D.seen refused.disk)) }
     ensures refused { IfErr result (λ refused. MayNotOpen D.tells config.now (D.seen disk).directory (D.faults disk) (D.faults refused.disk) refused.why) }
     ensures exact { D.tells → (why : RecoverRefused) → HasReason config.now (D.seen disk).directory why → IfOk result (λ engine. ⊥) }
     ensures untouched { D.tells → IfErr result (λ refused. IsUntold refused.why ⊎ IsQuiet (D.seen disk) (D.seen refused.disk)) }
     ensures drawn { D.tells → IfErr result (λ refused. (last : ℕ) → refused.why ≡ OpenWhy.Exhausted last → (D.seen disk).moment < (D.seen refused.disk).moment) }
-    ensures numbers { D.tells → IfOk result (λ engine. (next : ℕ) → IsNextNumber (D.seen disk).directory next
-        → engine.state.manifest.next + (D.seen disk).moment ≤ next + (D.seen engine.disk).moment) }
     ensures faults { IfOk result (λ engine. D.faults disk ≤ D.faults engine.disk) }
 {
     Engine::open(alloc, disk, config)

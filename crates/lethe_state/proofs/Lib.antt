@@ -1,4 +1,3 @@
-pub mod Drafted
 pub mod Entering
 pub mod Leveled
 pub mod Recording

@@ -20,6 +20,6 @@ invariant-loop-orders g l =
       sink : g.K.Sink.faults l.fn.sink ≤ g.K.Sink.faults l.sink;
       faults : g.D.Disk.faults old.disk ≤ g.D.Disk.faults now.disk;
       lines : (lines : List (List Line)) × Appends (g.K.Sink.taken l.fn.sink) (g.K.Sink.taken l.sink) (text_of lines) × (has_refusal lines ≡ l.refused)
-          × (g.D.Disk.tells → (config : Fields) (begin : Start) (opened : History) → IsOn config g.D.Disk.ports_fail begin (g.D.Disk.faults old.disk) opened opened (g.D.Disk.seen old.disk) old.state (parts_by_level old.version)
+          × (g.D.Disk.tells → (config : Fields) (begin : Start) (opened : History) → IsOn config begin (g.D.Disk.faults old.disk) opened opened (g.D.Disk.seen old.disk) old.state (parts_by_level old.version)
           → SoFar config g.D.Disk.ports_fail begin (g.D.Disk.faults now.disk) opened l.yielded lines (g.D.Disk.seen old.disk) (g.D.Disk.seen now.disk) now.state (parts_by_level now.version));
     }

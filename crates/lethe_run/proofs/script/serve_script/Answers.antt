@@ -3,7 +3,7 @@ use Rattle.lethe_base.specs.Counts.{Rose}
 use Rattle.lethe_base.specs.History.{History}
 use Rattle.lethe_base.specs.declared.config.Fields.{Fields}
 use Rattle.lethe_advance.specs.Shown.{parts_by_level}
-use Rattle.lethe_engine.specs.StandsFor.{StandsFor}
+use Rattle.lethe_engine.specs.StandsFor.{Opened, StandsFor}
 use Rattle.lethe_run.specs.Scripts.{ScriptEnds, Inside}
 use Rattle.lethe_run.proofs.Endings.{ends_idle, none_served}
 use Rattle.lethe_run.proofs.Phases.{appends_none, front_whole}
@@ -26,8 +26,9 @@ returns-in-Ok-clause-ends g c =
     let t1 = g.K.Sink.taken c.serve_phases.new.sink in
     let rose = Rose (g.K.Sink.faults c.args.sink.now) (g.K.Sink.faults c.serve_phases.new.sink) in
     let same = c.new_port.ensures.same in
-    let stands : Tells → (config : Fields) (h : History) → StandsFor config h s0 old.state l0 → StandsFor config h s1 old.state l0 =
-    λ told config h on. subst (λ st. StandsFor config h s1 st l0) same.0 (subst (λ v. StandsFor config h s1 new.state (parts_by_level v)) same.1 (c.new_port.ensures.stands told config h on)) in
+    let stands : Tells → (config : Fields) (opened : Opened) (h : History) → StandsFor config opened h s0 f0 old.state l0 → StandsFor config opened h s1 f0 old.state l0 =
+    λ told config opened h on. subst (λ f. StandsFor config opened h s1 f old.state l0) c.new_port.ensures.faults (subst (λ st. StandsFor config opened h s1 (g.D.Disk.faults new.disk) st l0) same.0
+    (subst (λ v. StandsFor config opened h s1 (g.D.Disk.faults new.disk) new.state (parts_by_level v)) same.1 (c.new_port.ensures.stands told config opened h on))) in
     ends_idle Tells Ports s0 s1 old.state l0 f0 c.new_port.ensures.idle stands s2 f2 t0 t1 rose c.args.phases result.0
     (subst (λ f. ScriptEnds Tells Ports s1 s2 old.state l0 f f2 t0 t1 rose c.args.phases result.0) c.new_port.ensures.faults
     (subst (λ st. ScriptEnds Tells Ports s1 s2 st l0 (g.D.Disk.faults new.disk) f2 t0 t1 rose c.args.phases result.0) same.0
@@ -46,8 +47,9 @@ returns-in-Err-clause-ends g c =
     let t0 = g.K.Sink.taken c.args.sink.now in
     let same = c.new_port.ensures.same in
     let laws = g.met.D.Disk g.world.𝓛 g.world.𝓜 g.world.𝓡 ((λ s x. x), (λ x. x), (λ x. x), λ x. x) in
-    let stands : Tells → (config : Fields) (h : History) → StandsFor config h s0 old.state l0 → StandsFor config h s1 old.state l0 =
-    λ told config h on. subst (λ st. StandsFor config h s1 st l0) same.0 (subst (λ v. StandsFor config h s1 new.state (parts_by_level v)) same.1 (c.new_port.ensures.stands told config h on)) in
+    let stands : Tells → (config : Fields) (opened : Opened) (h : History) → StandsFor config opened h s0 f0 old.state l0 → StandsFor config opened h s1 f0 old.state l0 =
+    λ told config opened h on. subst (λ f. StandsFor config opened h s1 f old.state l0) c.new_port.ensures.faults (subst (λ st. StandsFor config opened h s1 (g.D.Disk.faults new.disk) st l0) same.0
+    (subst (λ v. StandsFor config opened h s1 (g.D.Disk.faults new.disk) new.state (parts_by_level v)) same.1 (c.new_port.ensures.stands told config opened h on))) in
     subst (λ d. Inside Tells Ports s0 (g.D.Disk.seen d) old.state l0 f0 (g.D.Disk.faults d) t0 t0 c.args.phases) (sym c.into_disk.ensures)
     (subst (λ f. Inside Tells Ports s0 s1 old.state l0 f0 f t0 t0 c.args.phases) (sym c.new_port.ensures.faults)
     (none_served Tells Ports s0 s1 old.state l0 f0 c.new_port.ensures.idle stands (λ told. laws.itself told new.disk) t0 c.args.phases (front_whole t0 t0 [] (appends_none t0))))

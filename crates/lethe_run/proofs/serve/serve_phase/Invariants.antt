@@ -16,7 +16,7 @@ invariant-loop-order g l =
     let now = l.engine in
     record {
       sound : IsSound g.D.Disk.tells (g.D.Disk.seen now.disk) now.state (parts_by_level now.version);
-      served : g.D.Disk.tells → (config : Fields) (begin : Start) (opened start : History) → IsOn config g.D.Disk.ports_fail begin (g.D.Disk.faults old.disk) opened start (g.D.Disk.seen old.disk) old.state (parts_by_level old.version)
+      served : g.D.Disk.tells → (config : Fields) (begin : Start) (opened start : History) → IsOn config begin (g.D.Disk.faults old.disk) opened start (g.D.Disk.seen old.disk) old.state (parts_by_level old.version)
           → (h : History) × IsBuilt config g.D.Disk.ports_fail begin (g.D.Disk.faults now.disk) opened start l.yielded l.lines.items h (g.D.Disk.seen old.disk) (g.D.Disk.seen now.disk) now.state (parts_by_level now.version);
       faults : g.D.Disk.faults old.disk ≤ g.D.Disk.faults now.disk;
       room : length l.fn.orders.items ≤ vec_capacity l.lines;

@@ -20,7 +20,7 @@ returns-in-Ok-open_store g c =
     let e = c.in-Ok-open_store.engine in
     script_ended _ c.in-Some.config (sym c.in-Some.ensures) c.in-Ok-read_script.script.phases
     (λ P p. on_script (g.S.Source.left c.args.source.now) c.in-Ok.bytes.items c.in-Ok-read_script.script.phases P c.in-Ok.ensures.ok (ap script_of (sym c.deref.ensures.value) ∙ c.in-Ok-read_script.ensures.script) p)
-    (g.D.Disk.seen e.disk) e.state (parts_by_level e.version) (g.D.Disk.faults e.disk) c.in-Ok-open_store.ensures.faults c.in-Ok-open_store.ensures.resumed c.in-Ok-open_store.ensures.any_moment c.in-Ok-open_store.ensures.numbers c.in-Ok-open_store.ensures.exact
+    (g.D.Disk.seen e.disk) e.state (parts_by_level e.version) (g.D.Disk.faults e.disk) c.in-Ok-open_store.ensures.faults c.in-Ok-open_store.ensures.resumed c.in-Ok-open_store.ensures.any_moment c.in-Ok-open_store.ensures.exact
     c.serve_script.result.0 c.serve_script.ensures.ends
 
 pub returns : goal.returns

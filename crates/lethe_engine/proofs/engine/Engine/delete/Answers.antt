@@ -77,7 +77,7 @@ returns-clause-stands g c = λ told config opened h stands caller.
     let was = c.in_ok-may_change.ensures.fits.0 in
     let made = c.make_room.ensures.faults in
     let later : g.D.Disk.faults old.disk ≤ g.D.Disk.faults new.disk = let more = c.record.ensures.faults in omega (arith, made, more) in
-    let numbers : new.state.manifest.next + (g.D.Disk.seen old.disk).moment ≤ old.state.manifest.next + (g.D.Disk.seen new.disk).moment =
+    let numbers : new.state.next + (g.D.Disk.seen old.disk).moment ≤ old.state.next + (g.D.Disk.seen new.disk).moment =
     let first = c.make_room.ensures.numbers told in
     let second = c.record.ensures.numbers told in
     omega (arith, first, second) in

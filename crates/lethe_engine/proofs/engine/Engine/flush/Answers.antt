@@ -46,3 +46,6 @@ returns-in_err-may_change-clause-stands g c = λ told config opened h stands cal
     let refusal : c.from_residual.result ≡ Err why = search rules in
     subst (λ after. StandsFor config opened after (g.D.Disk.seen c.args.self.now.disk) (g.D.Disk.faults c.args.self.now.disk) c.args.self.now.state (parts_by_level c.args.self.now.version))
     (sym (ap (stepped_to h caller Work) refusal ∙ unbegun c.args.self.now.state h caller Work why c.in_err-may_change.ensures.refused)) stands
+
+pub returns-in-Ok-clause-done : goal.returns-in-Ok-clause-done
+returns-in-Ok-clause-done g c = λ told s remembers running done. c.in-Ok.ensures.done told s remembers running

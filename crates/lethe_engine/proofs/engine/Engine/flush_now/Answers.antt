@@ -9,7 +9,7 @@ use Rattle.lethe_engine.specs.Sound.{IsSmall, IsSound}
 use Rattle.lethe_engine.specs.StandsFor.{StandsNow}
 use Rattle.lethe_engine.specs.Work.{stepped_to}
 use Rattle.lethe_engine.proofs.Hindered.{hindered_sound, hindered_stands}
-use Rattle.lethe_engine.proofs.Next.{next_done, next_moments, next_sound, next_stands, refused_before}
+use Rattle.lethe_engine.proofs.Next.{flushed_next, next_done, next_moments, next_sound, next_stands, refused_before}
 use Rattle.lethe_engine.proofs.Standing.{stands_moments}
 use Rattle.lethe_engine.proofs.Stepped.{flushed_remembers, flushed_running, small_unfrozen}
 use Rattle.lethe_engine.proofs.engine.Engine.flush_now.Goals as goal
@@ -29,7 +29,7 @@ pub carry_out-requires-clause-step : goal.carry_out-requires-clause-step
 carry_out-requires-clause-step g c κs within = λ told.
     let held = c.requires.sound.held told in
     let running = held.2 c.requires.runs in
-    let next = c.in_ok-headers.ensures.flushes held.0 held.1 running.current in
+    let next = flushed_next c.args.self.now.state (parts_by_level c.args.self.now.version) c.in_ok-headers.headers.items c.in_ok-headers.step c.in_ok-headers.ensures.flushes held.0 held.1 running.current in
     (held.0, next.0, running, next.2)
 
 pub returns-in_err-carry_out-clause-sound : goal.returns-in_err-carry_out-clause-sound
@@ -52,7 +52,7 @@ returns-in_err-carry_out-clause-stands g c = λ told config h stands caller call
     let laws = g.met.D.Disk g.world.𝓛 g.world.𝓜 g.world.𝓡 ((λ s x. x), (λ x. x), (λ x. x), λ x. x) in
     let refusal : c.from_residual-in_err-carry_out.result ≡ Err why = search rules in
     let goes = next_moments IsFlushed old.state levels c.in_ok-headers.headers.items c.in_ok-headers.step start finish
-    (λ s remembers current. c.in_ok-headers.ensures.flushes s remembers current) (λ h s t remembers for is. flush_for h s t remembers.coherent for is) config h stands c.requires.runs (c.carry_out.ensures.moments told) in
+    (flushed_next c.args.self.now.state (parts_by_level c.args.self.now.version) c.in_ok-headers.headers.items c.in_ok-headers.step c.in_ok-headers.ensures.flushes) (λ h s t remembers for is. flush_for h s t remembers.coherent for is) config h stands c.requires.runs (c.carry_out.ensures.moments told) in
     subst (λ after. StandsNow config after finish new.state (parts_by_level new.version)) (sym (ap (stepped_to h caller call) refusal))
     (subst (λ version. StandsNow config (refused_to h caller call why) finish new.state (parts_by_level version)) (sym c.in_err-carry_out.ensures.version)
     (hindered_stands g.D.Disk.tells old.state new.state start finish c.args.before (g.D.Disk.faults new.disk) config h levels stands c.requires.runs told c.requires.fits goes (laws.itself told new.disk) caller call why c.in_err-carry_out.ensures.refused))
@@ -61,19 +61,19 @@ pub returns-in_err-carry_out-clause-any_moment : goal.returns-in_err-carry_out-c
 returns-in_err-carry_out-clause-any_moment g c = λ told config h stands.
     let old = c.args.self.now in
     next_moments IsFlushed old.state (parts_by_level old.version) c.in_ok-headers.headers.items c.in_ok-headers.step (g.D.Disk.seen old.disk) (g.D.Disk.seen c.carry_out.new.self.disk)
-    (λ s remembers current. c.in_ok-headers.ensures.flushes s remembers current) (λ h s t remembers for is. flush_for h s t remembers.coherent for is) config h stands c.requires.runs (c.carry_out.ensures.moments told)
+    (flushed_next c.args.self.now.state (parts_by_level c.args.self.now.version) c.in_ok-headers.headers.items c.in_ok-headers.step c.in_ok-headers.ensures.flushes) (λ h s t remembers for is. flush_for h s t remembers.coherent for is) config h stands c.requires.runs (c.carry_out.ensures.moments told)
 
 pub returns-clause-any_moment : goal.returns-clause-any_moment
 returns-clause-any_moment g c = λ told config h stands.
     let old = c.args.self.now in
     next_moments IsFlushed old.state (parts_by_level old.version) c.in_ok-headers.headers.items c.in_ok-headers.step (g.D.Disk.seen old.disk) (g.D.Disk.seen c.carry_out.new.self.disk)
-    (λ s remembers current. c.in_ok-headers.ensures.flushes s remembers current) (λ h s t remembers for is. flush_for h s t remembers.coherent for is) config h stands c.requires.runs (c.carry_out.ensures.moments told)
+    (flushed_next c.args.self.now.state (parts_by_level c.args.self.now.version) c.in_ok-headers.headers.items c.in_ok-headers.step c.in_ok-headers.ensures.flushes) (λ h s t remembers for is. flush_for h s t remembers.coherent for is) config h stands c.requires.runs (c.carry_out.ensures.moments told)
 
 pub returns-clause-done : goal.returns-clause-done
 returns-clause-done g c = λ told s remembers running.
     let old = c.args.self.now in
     next_done IsFlushed old.state (parts_by_level old.version) c.in_ok-headers.headers.items c.in_ok-headers.step (g.D.Disk.seen old.disk) (g.D.Disk.seen c.carry_out.new.self.disk)
-    (λ s remembers current. c.in_ok-headers.ensures.flushes s remembers current) (λ h s t remembers for is. flush_for h s t remembers.coherent for is) g.D.Disk.tells c.flush.new.self (parts_by_level c.carry_out.new.self.version) (λ told s t remembers running made is.
+    (flushed_next c.args.self.now.state (parts_by_level c.args.self.now.version) c.in_ok-headers.headers.items c.in_ok-headers.step c.in_ok-headers.ensures.flushes) (λ h s t remembers for is. flush_for h s t remembers.coherent for is) g.D.Disk.tells c.flush.new.self (parts_by_level c.carry_out.new.self.version) (λ told s t remembers running made is.
     let old = c.args.self.now in
     let start = g.D.Disk.seen old.disk in
     let finish = g.D.Disk.seen c.carry_out.new.self.disk in
@@ -93,7 +93,7 @@ pub returns-clause-stands : goal.returns-clause-stands
 returns-clause-stands g c = λ told config h stands caller call.
     let old = c.args.self.now in
     next_stands IsFlushed old.state (parts_by_level old.version) c.in_ok-headers.headers.items c.in_ok-headers.step (g.D.Disk.seen old.disk) (g.D.Disk.seen c.carry_out.new.self.disk)
-    (λ s remembers current. c.in_ok-headers.ensures.flushes s remembers current) (λ h s t remembers for is. flush_for h s t remembers.coherent for is) g.D.Disk.tells c.flush.new.self (parts_by_level c.carry_out.new.self.version) (λ told s t remembers running made is.
+    (flushed_next c.args.self.now.state (parts_by_level c.args.self.now.version) c.in_ok-headers.headers.items c.in_ok-headers.step c.in_ok-headers.ensures.flushes) (λ h s t remembers for is. flush_for h s t remembers.coherent for is) g.D.Disk.tells c.flush.new.self (parts_by_level c.carry_out.new.self.version) (λ told s t remembers running made is.
     let old = c.args.self.now in
     let start = g.D.Disk.seen old.disk in
     let finish = g.D.Disk.seen c.carry_out.new.self.disk in
@@ -117,7 +117,7 @@ returns-clause-sound g c =
     let small = subst IsSmall (sym new_is) (small_unfrozen c.in_ok-headers.step.manifest old.state from.config c.requires.sound.small) in
     let config = ap (λ (state : State). state.manifest.config) new_is ∙ from.config in
     next_sound IsFlushed old.state (parts_by_level old.version) c.in_ok-headers.headers.items c.in_ok-headers.step (g.D.Disk.seen old.disk) (g.D.Disk.seen c.carry_out.new.self.disk)
-    (λ s remembers current. c.in_ok-headers.ensures.flushes s remembers current) (λ h s t remembers for is. flush_for h s t remembers.coherent for is) g.D.Disk.tells c.flush.new.self (parts_by_level c.carry_out.new.self.version) (λ told s t remembers running made is.
+    (flushed_next c.args.self.now.state (parts_by_level c.args.self.now.version) c.in_ok-headers.headers.items c.in_ok-headers.step c.in_ok-headers.ensures.flushes) (λ h s t remembers for is. flush_for h s t remembers.coherent for is) g.D.Disk.tells c.flush.new.self (parts_by_level c.carry_out.new.self.version) (λ told s t remembers running made is.
     let old = c.args.self.now in
     let start = g.D.Disk.seen old.disk in
     let finish = g.D.Disk.seen c.carry_out.new.self.disk in

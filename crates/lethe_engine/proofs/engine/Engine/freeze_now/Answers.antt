@@ -10,7 +10,7 @@ use Rattle.lethe_engine.specs.Sound.{IsSound}
 use Rattle.lethe_engine.specs.StandsFor.{StandsNow}
 use Rattle.lethe_engine.specs.Work.{stepped_to}
 use Rattle.lethe_engine.proofs.Hindered.{hindered_sound, hindered_stands}
-use Rattle.lethe_engine.proofs.Next.{frozen_for, next_done, next_moments, next_sound, next_stands, refused_before}
+use Rattle.lethe_engine.proofs.Next.{frozen_for, frozen_next, next_done, next_moments, next_sound, next_stands, refused_before}
 use Rattle.lethe_engine.proofs.Standing.{stands_moments}
 use Rattle.lethe_engine.proofs.Stepped.{frozen_remembers, frozen_running, not_frozen, small_frozen}
 use Rattle.lethe_engine.proofs.engine.Engine.freeze_now.Goals as goal
@@ -30,9 +30,8 @@ pub carry_out-requires-clause-step : goal.carry_out-requires-clause-step
 carry_out-requires-clause-step g c κs within = λ told.
     let held = c.requires.sound.held told in
     let running = held.2 c.requires.runs in
-    let t = froze held.0 held.0.manifest.next (held.0.manifest.next + 1) in
-    let is = c.in_ok-step.ensures.freezes held.0 (parts_by_level c.args.self.now.version) held.1 running.current in
-    (held.0, t, running, subst (λ headers. IsStep held.0 t headers c.in_ok-step.step) (sym c.new.ensures.items) is)
+    let next = frozen_next c.args.self.now.state (parts_by_level c.args.self.now.version) c.new.result.items c.in_ok-step.step c.requires.sound.writable c.new.ensures.items c.in_ok-step.ensures.freezes held.0 held.1 running.current in
+    (held.0, next.0, running, next.2)
 
 pub returns-in_err-carry_out-clause-sound : goal.returns-in_err-carry_out-clause-sound
 returns-in_err-carry_out-clause-sound g c =
@@ -54,7 +53,7 @@ returns-in_err-carry_out-clause-stands g c = λ told config h stands caller call
     let laws = g.met.D.Disk g.world.𝓛 g.world.𝓜 g.world.𝓡 ((λ s x. x), (λ x. x), (λ x. x), λ x. x) in
     let refusal : c.from_residual-in_err-carry_out.result ≡ Err why = search rules in
     let goes = next_moments IsFrozen old.state levels c.new.result.items c.in_ok-step.step start finish
-    (λ s remembers current. (froze s s.manifest.next (s.manifest.next + 1), refl, subst (λ headers. IsStep s (froze s s.manifest.next (s.manifest.next + 1)) headers c.in_ok-step.step) (sym c.new.ensures.items) (c.in_ok-step.ensures.freezes s (parts_by_level c.args.self.now.version) remembers current))) (λ h s t remembers for is. frozen_for h s t c.args.self.now.state (parts_by_level c.args.self.now.version) remembers (not_frozen s c.args.self.now.state (parts_by_level c.args.self.now.version) remembers c.requires.unfrozen) for is) config h stands c.requires.runs (c.carry_out.ensures.moments told) in
+    (frozen_next c.args.self.now.state (parts_by_level c.args.self.now.version) c.new.result.items c.in_ok-step.step c.requires.sound.writable c.new.ensures.items c.in_ok-step.ensures.freezes) (λ h s t remembers for is. frozen_for h s t c.args.self.now.state (parts_by_level c.args.self.now.version) remembers (not_frozen s c.args.self.now.state (parts_by_level c.args.self.now.version) remembers c.requires.unfrozen) for is) config h stands c.requires.runs (c.carry_out.ensures.moments told) in
     subst (λ after. StandsNow config after finish new.state (parts_by_level new.version)) (sym (ap (stepped_to h caller call) refusal))
     (subst (λ version. StandsNow config (refused_to h caller call why) finish new.state (parts_by_level version)) (sym c.in_err-carry_out.ensures.version)
     (hindered_stands g.D.Disk.tells old.state new.state start finish c.args.before (g.D.Disk.faults new.disk) config h levels stands c.requires.runs told c.requires.fits goes (laws.itself told new.disk) caller call why c.in_err-carry_out.ensures.refused))
@@ -63,19 +62,19 @@ pub returns-in_err-carry_out-clause-any_moment : goal.returns-in_err-carry_out-c
 returns-in_err-carry_out-clause-any_moment g c = λ told config h stands.
     let old = c.args.self.now in
     next_moments IsFrozen old.state (parts_by_level old.version) c.new.result.items c.in_ok-step.step (g.D.Disk.seen old.disk) (g.D.Disk.seen c.carry_out.new.self.disk)
-    (λ s remembers current. (froze s s.manifest.next (s.manifest.next + 1), refl, subst (λ headers. IsStep s (froze s s.manifest.next (s.manifest.next + 1)) headers c.in_ok-step.step) (sym c.new.ensures.items) (c.in_ok-step.ensures.freezes s (parts_by_level c.args.self.now.version) remembers current))) (λ h s t remembers for is. frozen_for h s t c.args.self.now.state (parts_by_level c.args.self.now.version) remembers (not_frozen s c.args.self.now.state (parts_by_level c.args.self.now.version) remembers c.requires.unfrozen) for is) config h stands c.requires.runs (c.carry_out.ensures.moments told)
+    (frozen_next c.args.self.now.state (parts_by_level c.args.self.now.version) c.new.result.items c.in_ok-step.step c.requires.sound.writable c.new.ensures.items c.in_ok-step.ensures.freezes) (λ h s t remembers for is. frozen_for h s t c.args.self.now.state (parts_by_level c.args.self.now.version) remembers (not_frozen s c.args.self.now.state (parts_by_level c.args.self.now.version) remembers c.requires.unfrozen) for is) config h stands c.requires.runs (c.carry_out.ensures.moments told)
 
 pub returns-clause-any_moment : goal.returns-clause-any_moment
 returns-clause-any_moment g c = λ told config h stands.
     let old = c.args.self.now in
     next_moments IsFrozen old.state (parts_by_level old.version) c.new.result.items c.in_ok-step.step (g.D.Disk.seen old.disk) (g.D.Disk.seen c.carry_out.new.self.disk)
-    (λ s remembers current. (froze s s.manifest.next (s.manifest.next + 1), refl, subst (λ headers. IsStep s (froze s s.manifest.next (s.manifest.next + 1)) headers c.in_ok-step.step) (sym c.new.ensures.items) (c.in_ok-step.ensures.freezes s (parts_by_level c.args.self.now.version) remembers current))) (λ h s t remembers for is. frozen_for h s t c.args.self.now.state (parts_by_level c.args.self.now.version) remembers (not_frozen s c.args.self.now.state (parts_by_level c.args.self.now.version) remembers c.requires.unfrozen) for is) config h stands c.requires.runs (c.carry_out.ensures.moments told)
+    (frozen_next c.args.self.now.state (parts_by_level c.args.self.now.version) c.new.result.items c.in_ok-step.step c.requires.sound.writable c.new.ensures.items c.in_ok-step.ensures.freezes) (λ h s t remembers for is. frozen_for h s t c.args.self.now.state (parts_by_level c.args.self.now.version) remembers (not_frozen s c.args.self.now.state (parts_by_level c.args.self.now.version) remembers c.requires.unfrozen) for is) config h stands c.requires.runs (c.carry_out.ensures.moments told)
 
 pub returns-clause-done : goal.returns-clause-done
 returns-clause-done g c = λ told s remembers running.
     let old = c.args.self.now in
     next_done IsFrozen old.state (parts_by_level old.version) c.new.result.items c.in_ok-step.step (g.D.Disk.seen old.disk) (g.D.Disk.seen c.carry_out.new.self.disk)
-    (λ s remembers current. (froze s s.manifest.next (s.manifest.next + 1), refl, subst (λ headers. IsStep s (froze s s.manifest.next (s.manifest.next + 1)) headers c.in_ok-step.step) (sym c.new.ensures.items) (c.in_ok-step.ensures.freezes s (parts_by_level c.args.self.now.version) remembers current))) (λ h s t remembers for is. frozen_for h s t c.args.self.now.state (parts_by_level c.args.self.now.version) remembers (not_frozen s c.args.self.now.state (parts_by_level c.args.self.now.version) remembers c.requires.unfrozen) for is) g.D.Disk.tells c.freeze.new.self (parts_by_level c.carry_out.new.self.version) (λ told s t remembers running made is.
+    (frozen_next c.args.self.now.state (parts_by_level c.args.self.now.version) c.new.result.items c.in_ok-step.step c.requires.sound.writable c.new.ensures.items c.in_ok-step.ensures.freezes) (λ h s t remembers for is. frozen_for h s t c.args.self.now.state (parts_by_level c.args.self.now.version) remembers (not_frozen s c.args.self.now.state (parts_by_level c.args.self.now.version) remembers c.requires.unfrozen) for is) g.D.Disk.tells c.freeze.new.self (parts_by_level c.carry_out.new.self.version) (λ told s t remembers running made is.
     let old = c.args.self.now in
     let start = g.D.Disk.seen old.disk in
     let finish = g.D.Disk.seen c.carry_out.new.self.disk in
@@ -93,7 +92,7 @@ pub returns-clause-stands : goal.returns-clause-stands
 returns-clause-stands g c = λ told config h stands caller call.
     let old = c.args.self.now in
     next_stands IsFrozen old.state (parts_by_level old.version) c.new.result.items c.in_ok-step.step (g.D.Disk.seen old.disk) (g.D.Disk.seen c.carry_out.new.self.disk)
-    (λ s remembers current. (froze s s.manifest.next (s.manifest.next + 1), refl, subst (λ headers. IsStep s (froze s s.manifest.next (s.manifest.next + 1)) headers c.in_ok-step.step) (sym c.new.ensures.items) (c.in_ok-step.ensures.freezes s (parts_by_level c.args.self.now.version) remembers current))) (λ h s t remembers for is. frozen_for h s t c.args.self.now.state (parts_by_level c.args.self.now.version) remembers (not_frozen s c.args.self.now.state (parts_by_level c.args.self.now.version) remembers c.requires.unfrozen) for is) g.D.Disk.tells c.freeze.new.self (parts_by_level c.carry_out.new.self.version) (λ told s t remembers running made is.
+    (frozen_next c.args.self.now.state (parts_by_level c.args.self.now.version) c.new.result.items c.in_ok-step.step c.requires.sound.writable c.new.ensures.items c.in_ok-step.ensures.freezes) (λ h s t remembers for is. frozen_for h s t c.args.self.now.state (parts_by_level c.args.self.now.version) remembers (not_frozen s c.args.self.now.state (parts_by_level c.args.self.now.version) remembers c.requires.unfrozen) for is) g.D.Disk.tells c.freeze.new.self (parts_by_level c.carry_out.new.self.version) (λ told s t remembers running made is.
     let old = c.args.self.now in
     let start = g.D.Disk.seen old.disk in
     let finish = g.D.Disk.seen c.carry_out.new.self.disk in
@@ -115,7 +114,7 @@ returns-clause-sound g c =
     let small = small_frozen c.in_ok-step.step.manifest old.state c.freeze.new.self with from.config c.requires.sound.small in
     let config = ap (λ m. m.config) with.manifest_is ∙ from.config in
     next_sound IsFrozen old.state (parts_by_level old.version) c.new.result.items c.in_ok-step.step (g.D.Disk.seen old.disk) (g.D.Disk.seen c.carry_out.new.self.disk)
-    (λ s remembers current. (froze s s.manifest.next (s.manifest.next + 1), refl, subst (λ headers. IsStep s (froze s s.manifest.next (s.manifest.next + 1)) headers c.in_ok-step.step) (sym c.new.ensures.items) (c.in_ok-step.ensures.freezes s (parts_by_level c.args.self.now.version) remembers current))) (λ h s t remembers for is. frozen_for h s t c.args.self.now.state (parts_by_level c.args.self.now.version) remembers (not_frozen s c.args.self.now.state (parts_by_level c.args.self.now.version) remembers c.requires.unfrozen) for is) g.D.Disk.tells c.freeze.new.self (parts_by_level c.carry_out.new.self.version) (λ told s t remembers running made is.
+    (frozen_next c.args.self.now.state (parts_by_level c.args.self.now.version) c.new.result.items c.in_ok-step.step c.requires.sound.writable c.new.ensures.items c.in_ok-step.ensures.freezes) (λ h s t remembers for is. frozen_for h s t c.args.self.now.state (parts_by_level c.args.self.now.version) remembers (not_frozen s c.args.self.now.state (parts_by_level c.args.self.now.version) remembers c.requires.unfrozen) for is) g.D.Disk.tells c.freeze.new.self (parts_by_level c.carry_out.new.self.version) (λ told s t remembers running made is.
     let old = c.args.self.now in
     let start = g.D.Disk.seen old.disk in
     let finish = g.D.Disk.seen c.carry_out.new.self.disk in

@@ -26,7 +26,7 @@ returns-in-Ok-opened-clause-runs g c = c.in-Ok-opened.ensures.fresh.stopped
 
 pub returns-in-Ok-opened-clause-numbers : goal.returns-in-Ok-opened-clause-numbers
 returns-in-Ok-opened-clause-numbers g c = λ told next is.
-    let next_is : c.in-Ok-opened.state.manifest.next ≡ c.in-Ok.field-0.manifest.next = ap (λ (m : Manifest). m.next) c.in-Ok-opened.ensures.fresh.manifest_is in
+    let next_is : c.in-Ok-opened.state.next ≡ c.in-Ok.field-0.manifest.next = c.in-Ok-opened.ensures.fresh.next in
     omega (arith, next_is, c.in-Ok.ensures.numbers told next is)
 
 pub returns-in-Ok-opened-clause-resumed : goal.returns-in-Ok-opened-clause-resumed

@@ -105,7 +105,7 @@ returns-in-Err-Failed-clause-numbers g c = λ told.
     let held = c.requires.sound.held told in
     let ready = prepared_ready (g.D.Disk.seen c.args.self.now.disk) held.0 c.args.self.now.state c.prepare.new.self (parts_by_level c.args.self.now.version) c.prepare.ensures.same held.1 (held.2 c.requires.runs) c.args.next c.requires.spelled c.requires.place c.active_number-no.result c.active_number-no.ensures c.deref.result.now (c.deref.ensures.value ∙ c.in-Ok.ensures.body) in
     let later = (c.append.ensures.any_moment told (addition held.0 c.args.next) ready).later in
-    let next : c.stop-place.new.self.manifest.next ≡ c.args.self.now.state.manifest.next = ap (λ (state : State). state.manifest.next) c.stop-place.ensures.is ∙ ap (λ (m : Manifest). m.next) c.prepare.ensures.same.manifest in
+    let next : c.stop-place.new.self.next ≡ c.args.self.now.state.next = ap (λ (state : State). state.next) c.stop-place.ensures.is ∙ c.prepare.ensures.same.next in
     omega (arith, later, next)
 
 pub returns-clause-sound : goal.returns-clause-sound
