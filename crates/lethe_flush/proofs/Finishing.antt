@@ -1,29 +1,36 @@
 -- What is promised of files that were made.
-use Rattle.std.proofs.Common.{◌≡◌, ℕ, ◌<◌, ◌≤◌, Bool, List, [], ◌∷◌, get_or, All, sym, subst, arith}
+use Rattle.std.proofs.Common.{◌≡◌, ℕ, ◌<◌, ◌≤◌, Bool, List, [], ◌∷◌, drop, fold, length, get_or, map, All, refl, sym, ap, ◌∙◌, subst, arith}
 use Rattle.std.specs.Prelude.{flat_map}
-use Rattle.std.proofs.lemmas.List.Elements.{All-cons, All-map, All-nil}
+use Rattle.std.specs.List.{AllZip}
+use Rattle.std.proofs.lemmas.List.Elements.{All-cons, All-head, All-map, All-nil, All-tail}
 use Rattle.sha2.proofs.Facts256.{length-sha256}
+use Rattle.lethe_base.specs.Keys.{Bytes}
 use Rattle.lethe_base.specs.Limits.{max_place}
 use Rattle.lethe_base.specs.declared.config.Fields.{Fields}
 use Rattle.lethe_base.specs.declared.entry.Entry.{Entry}
 use Rattle.lethe_base.specs.declared.name.Name.{Name}
 use Rattle.lethe_base.specs.declared.pending.Pending.{Pending}
 use Rattle.lethe_base.proofs.LayoutLaws.{none_in}
-use Rattle.lethe_build.specs.Drafts.{AreDraftsOf}
+use Rattle.lethe_build.specs.Drafts.{AreDraftsOf, header_of, with_numbers}
 use Rattle.lethe_build.specs.declared.draft.Draft.{Draft}
 use Rattle.lethe_cover.proofs.Common.{⊎_elim}
 use Rattle.lethe_file.specs.Agreement.{page_name}
+use Rattle.lethe_fade.specs.Spans.{KeyRange, overlaps}
+use Rattle.lethe_header.specs.Facts.{greatest_key, least_key}
 use Rattle.lethe_header.specs.Headers as headers
 use Rattle.lethe_header.specs.Headers.{header_bytes}
+use Rattle.lethe_header.specs.declared.header.Header.{Header}
 use Rattle.lethe_header.specs.declared.header.PageLine.{PageLine}
+use Rattle.lethe_header.specs.declared.header.TileLine.{TileLine}
 use Rattle.lethe_manifest.specs.Manifests as manifests
 use Rattle.lethe_manifest.specs.declared.manifest.Cited.{Cited}
 use Rattle.lethe_merge.specs.Merge.{merged}
 use Rattle.lethe_merge.proofs.Merges.{merged_ascends}
 use Rattle.lethe_stored.specs.Files.{StoredFile, cited_of, lines_in}
 use Rattle.lethe_tile.proofs.Orders.{all_left, all_right}
+use Rattle.lethe_flush.specs.Clear.{IsClearOf}
 use Rattle.lethe_flush.specs.Flushed.{IsFlushOf}
-use Rattle.lethe_flush.specs.Made.{AreFilesOf}
+use Rattle.lethe_flush.specs.Made.{AreFilesOf, IsOfDraft}
 use Rattle.lethe_flush.specs.declared.made.MadeFiles.{MadeFiles}
 use Rattle.lethe_flush.proofs.Weaving.{are_woven, files_agree}
 
@@ -73,3 +80,35 @@ module _ (fields : Fields) (entries : List Entry) (erases : List Pending) (alone
       woven = are_woven fields (merged entries erases alone) (merged_ascends entries erases alone) drafts of files are.each upto are.spelled are.swept;
       once = are.once;
     }
+
+-- Numbers don't change the keys of a file.
+
+least_same : (numbers : List ℕ) (tiles : List TileLine) → least_key (with_numbers numbers tiles) ≡ least_key tiles
+least_same numbers [] = refl
+least_same numbers (tile ∷ tiles) = refl
+
+greatest_same : (numbers : List ℕ) (tiles : List TileLine) (before : Bytes) → fold (λ before tile. tile.hi) before (with_numbers numbers tiles) ≡ fold (λ (before : Bytes) (tile : TileLine). tile.hi) before tiles
+greatest_same numbers [] before = refl
+greatest_same numbers (tile ∷ tiles) before = greatest_same (drop (length tile.pages) numbers) tiles tile.hi
+
+abbrev headed : Draft → Header
+headed draft = header_of 0 draft.tiles
+
+clear_of : (keys : KeyRange) (draft : Draft) (file : StoredFile) → IsOfDraft draft file → IsClearOf keys (headed draft) → IsClearOf keys file.header
+clear_of keys draft file of clear =
+    let lo : least_key file.header.tiles ≡ least_key draft.tiles = ap least_key of.tiles ∙ least_same of.numbers draft.tiles in
+    let hi : greatest_key file.header.tiles ≡ greatest_key draft.tiles = ap greatest_key of.tiles ∙ greatest_same of.numbers draft.tiles [] in
+    ap (overlaps keys) (λ i. record { lo = lo i; hi = hi i }) ∙ clear
+
+clear_each : (keys : KeyRange) (drafts : List Draft) (files : List StoredFile) → AllZip IsOfDraft drafts files → All (λ draft. IsClearOf keys (headed draft)) drafts → All (IsClearOf keys) (map (λ file. file.header) files)
+clear_each keys [] [] zipped clear = All-nil (IsClearOf keys)
+clear_each keys [] (file ∷ files) zipped clear = absurd zipped
+clear_each keys (draft ∷ drafts) [] zipped clear = absurd zipped
+clear_each keys (draft ∷ drafts) (file ∷ files) zipped clear =
+    All-cons (IsClearOf keys) file.header (map (λ file. file.header) files)
+    (clear_of keys draft file zipped.0 (All-head (λ draft. IsClearOf keys (headed draft)) draft drafts clear))
+    (clear_each keys drafts files zipped.1 (All-tail (λ draft. IsClearOf keys (headed draft)) draft drafts clear))
+
+pub headers_clear : (keys : KeyRange) (drafts : List Draft) (level upto : ℕ) (written : List Name) (first : ℕ) (made : MadeFiles) (files : List StoredFile) → AreFilesOf drafts level upto written first made files
+    → All (λ draft. IsClearOf keys (headed draft)) drafts → All (IsClearOf keys) made.headers.items
+headers_clear keys drafts level upto written first made files are clear = subst (All (IsClearOf keys)) (sym are.headers_are) (clear_each keys drafts files are.each clear)

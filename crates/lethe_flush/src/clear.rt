@@ -2,6 +2,7 @@
 ghost use Rattle.std.specs.Prelude.{◌≡◌, ◌↔◌, ◌<◌, ◌++◌, map, length, not, All, IsTrue, MatchOption};
 ghost use Rattle.std.specs.Ordering.{is_le};
 ghost use Rattle.lethe_base.specs.Keys.{key_cmp};
+ghost use Rattle.lethe_build.specs.Drafts.{header_of};
 ghost use Rattle.lethe_header.specs.Facts.{least_key, greatest_key};
 ghost use Rattle.lethe_fade.specs.Spans.{overlaps};
 ghost use Rattle.lethe_moves.specs.Flushes.{first_key, last_key, span_of};
@@ -9,22 +10,23 @@ ghost use Rattle.lethe_version.specs.Versions.{files_of};
 ghost use Rattle.lethe_flush.specs.Clear.{IsClearOf, range_of};
 
 use lethe_base::Key;
+use lethe_build::Draft;
 use lethe_disk::Disk;
 use lethe_header::{Header, TileLine};
 use lethe_mem::{Buffer, VecBuffer};
 use lethe_version::{Shared, Version};
 use std::cmp::Ordering;
 
-/// Whether no file of the version, and none of these headers, has a key between the buffer's first and its last. False for an empty buffer.
+/// Whether no file of the version, and none of these drafts', has a key between the buffer's first and its last. False for an empty buffer.
 /// Nothing is fetched, and no key is copied.
-pub fn is_clear<D: Disk>(buffer: &VecBuffer, version: &Version<D>, more: &[Header]) -> bool
+pub fn is_clear<D: Disk>(buffer: &VecBuffer, version: &Version<D>, more: &[Draft]) -> bool
     ensures { IsTrue result ↔ ((0 < length buffer.now.entries)
-        × All (IsClearOf (span_of buffer.now.entries)) (map (λ file. file.header) (files_of version.now) ++ more.now)) }
+        × All (IsClearOf (span_of buffer.now.entries)) (map (λ file. file.header) (files_of version.now) ++ map (λ draft. header_of 0 draft.tiles) more.now)) }
 {
     let Some((lo, hi)) = ends_of(buffer) else {
         return false;
     };
-    are_files_clear(lo, hi, version) && are_headers_clear(lo, hi, more)
+    are_files_clear(lo, hi, version) && are_drafts_clear(lo, hi, more)
 }
 
 /// The first and the last key, if there is one.
@@ -67,14 +69,25 @@ fn is_upto(key: &[u8], other: &[u8]) -> bool
 fn is_clear_of(lo: &Key, hi: &Key, header: &Header) -> bool
     ensures { result ≡ not (overlaps (record { lo = lo.now; hi = hi.now }) (range_of header.now)) }
 {
-    let tiles = header.tiles.items();
+    are_tiles_clear(lo, hi, header.tiles.items())
+}
+
+fn is_draft_clear(lo: &Key, hi: &Key, draft: &Draft) -> bool
+    ensures { result ≡ not (overlaps (record { lo = lo.now; hi = hi.now }) (range_of (header_of 0 draft.now.tiles))) }
+{
+    are_tiles_clear(lo, hi, draft.tiles.items())
+}
+
+fn are_tiles_clear(lo: &Key, hi: &Key, tiles: &[TileLine]) -> bool
+    ensures { result ≡ not (overlaps (record { lo = lo.now; hi = hi.now }) (record { lo = least_key tiles.now; hi = greatest_key tiles.now })) }
+{
     !(is_upto(lo.bytes(), greatest_of(tiles)) && is_upto(least_of(tiles), hi.bytes()))
 }
 
-fn are_headers_clear(lo: &Key, hi: &Key, headers: &[Header]) -> bool
-    ensures { IsTrue result ↔ All (IsClearOf (record { lo = lo.now; hi = hi.now })) headers.now }
+fn are_drafts_clear(lo: &Key, hi: &Key, drafts: &[Draft]) -> bool
+    ensures { IsTrue result ↔ All (λ draft. IsClearOf (record { lo = lo.now; hi = hi.now }) (header_of 0 draft.tiles)) drafts.now }
 {
-    headers.iter().all(|header| is_clear_of(lo, hi, header))
+    drafts.iter().all(|draft| is_draft_clear(lo, hi, draft))
 }
 
 fn is_level_clear<D: Disk>(lo: &Key, hi: &Key, files: &[Shared<D>]) -> bool

@@ -6,11 +6,13 @@ ghost use Rattle.lethe_base.specs.declared.config.Fields.{Fields};
 ghost use Rattle.lethe_base.specs.declared.entry.Entry as entry;
 ghost use Rattle.lethe_base.specs.declared.pending.Pending as pending;
 ghost use Rattle.lethe_build.specs.Built.{most_numbers};
-ghost use Rattle.lethe_build.specs.Drafts.{AreDraftsOf, IsDraft, numbers_for};
+ghost use Rattle.lethe_build.specs.Drafts.{AreDraftsOf, IsDraft, header_of, numbers_for};
+ghost use Rattle.lethe_fade.specs.Spans.{KeyRange};
 ghost use Rattle.lethe_header.specs.Headers as headers;
 ghost use Rattle.lethe_manifest.specs.Manifests.{IsFile};
 ghost use Rattle.lethe_merge.specs.Merge.{merged};
 ghost use Rattle.lethe_stored.specs.Files.{StoredFile};
+ghost use Rattle.lethe_flush.specs.Clear.{IsClearOf};
 ghost use Rattle.lethe_flush.specs.Flushed.{IsFlushOf};
 
 use crate::made::MadeFiles;
@@ -64,6 +66,9 @@ pub fn flush_files(
     requires numbers { first + sum_by numbers_for drafts.items ≤ max_place + 1 }
     ensures made { (fields : Fields) (entries : List entry.Entry) (erases : List pending.Pending) (alone : Bool) → AreDraftsOf fields (merged entries erases alone) drafts.items
         → IfOk result (λ made. (files : List StoredFile) × IsFlushOf fields entries erases alone upto first made files) }
+
+    // What no draft has a key of, no file has.
+    ensures clear { (keys : KeyRange) → All (λ draft. IsClearOf keys (header_of 0 draft.tiles)) drafts.items → IfOk result (λ made. All (IsClearOf keys) made.headers.items) }
     ensures headers { IfOk result (λ made. All headers.HasSpelling made.headers.items) }
     ensures cited { IfOk result (λ made. (levels : ℕ) → All (IsFile made.next levels) made.cited.items) }
     ensures level { IfOk result (λ made. All (λ file. file.level ≡ 0) made.cited.items) }

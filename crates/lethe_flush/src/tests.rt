@@ -1,5 +1,6 @@
 use super::*;
 use lethe_base::{Config, Fields, Kind, List, Pending, Pick, Range};
+use lethe_build::Draft;
 use lethe_header::read_header;
 use lethe_mem::VecBuffer;
 use lethe_memdisk::MemDisk;
@@ -133,7 +134,13 @@ fn erases_are_pending_by_place_and_the_manifests_first(rt: HostRuntime) -> Resul
 fn a_buffer_is_clear_of_files_beside_its_keys(rt: HostRuntime) -> Result<(), Fail> {
     let alloc = rt.alloc();
     let version: Version<MemDisk> = Version::of(alloc, Vec::new(alloc))?;
-    let file = vec![in alloc; read_header(alloc, &FILE).map_err(|_| "no header")?]?;
+    let header = read_header(alloc, &FILE).map_err(|_| "no header")?;
+    let file = vec![in alloc;
+        Draft {
+            tiles: header.tiles,
+            pages: List::of(Vec::new(alloc))
+        },
+    ]?;
     let records = replay(alloc, &TOMB).map_err(|_| "no records")?;
     let buffer = newest_of(alloc, List::of(records))?;
     assert!(rt; is_clear(&buffer, &version, &[]));

@@ -1,0 +1,6 @@
+pub mod Between
+pub mod Beside
+pub mod Named
+pub mod InstallStep
+pub mod Stepped
+pub mod Remembering

@@ -1,6 +1,10 @@
 //! The step that installs what a job made: from what a store remembers to what is stored once the outputs have taken the place of the inputs.
 #![tactic(auto)]
 
-mod installing;
+mod inputs;
+mod laws;
+mod placing;
+mod steps;
 
-pub use installing::installing;
+pub use laws::install_is_remembered;
+pub use steps::installing;

@@ -7,3 +7,4 @@ pub mod Split
 pub mod Begun
 pub mod Next
 mod Adding
+mod Pieces

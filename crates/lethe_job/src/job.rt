@@ -1,12 +1,15 @@
 //! A job that runs.
-ghost use Rattle.std.specs.Prelude.{◌≡◌, ◌+◌, ◌≤◌, ◌<◌, ◌^◌, true, false, length, map, sum_by, All, IfOk, IfErr, IfSome, OnOk, Ok, None, Some, IsSome, Option, Any};
+ghost use Rattle.std.specs.Prelude.{◌≡◌, ◌+◌, ◌≤◌, ◌<◌, ◌^◌, ◌↔◌, true, false, length, sum_by, All, IfOk, IfErr, IfSome, OnOk, OnErr, None, IsSome};
 ghost use Rattle.lethe_base.specs.Limits.{max_time};
-ghost use Rattle.lethe_job.specs.Jobs.{IsJob, IsPieceOf, HasNoPiece, IsRefusal};
+ghost use Rattle.lethe_build.specs.Drafts.{numbers_for};
+ghost use Rattle.lethe_flush.specs.Made as made;
+ghost use Rattle.lethe_job.specs.Jobs as jobs;
+ghost use Rattle.lethe_job.specs.Jobs.{IsJob, IsUnread};
 ghost use Rattle.lethe_job.specs.Tasks.{inputs_in, pages_in, plain_task};
 
 use crate::task::Task;
-use lethe_base::{List, Refused};
-use lethe_build::Draft;
+use lethe_base::Refused;
+use lethe_build::{Draft, numbers_for};
 use lethe_disk::{Disk, ReadRefused};
 use std::alloc::Global;
 use std::sync::Arc;
@@ -29,4 +32,93 @@ pub struct Job<D: Disk> {
 pub struct Piece {
     /// The page's place among those of the job's outputs, from 0.
     pub(crate) place: usize,
+}
+
+/// The refusal of a read, as a job tells it.
+fn told_as(why: ReadRefused) -> Refused
+    ensures { result ≡ jobs.told_as why }
+{
+    match why {
+        ReadRefused::ReadFault { before, after } => Refused::ReadFault { before, after },
+        ReadRefused::Damaged { name } => Refused::Damaged { name },
+        ReadRefused::NoMemory => Refused::NoMemory,
+    }
+}
+
+/// How many pages the drafts have.
+fn count_pages(drafts: &[Draft]) -> usize
+    requires { sum_by numbers_for drafts.now < 2 ^ 63 }
+    ensures { result ≡ length (made.pages_in drafts.now) }
+{
+    numbers_for(drafts) as usize - drafts.len()
+}
+
+impl<D: Disk> Job<D> {
+    /// Makes the drafts, where they aren't made yet.
+    fn make(&mut self, alloc: Global) -> Result<(), Refused>
+        requires erases { All (λ erase. erase.time ≤ max_time) self.old.task.value.erases }
+        requires job { IsJob D.tells self.old }
+        ensures job { IsJob D.tells self.new }
+        ensures task { self.new.task.value ≡ self.old.task.value }
+        ensures written { self.new.written ≡ self.old.written }
+        ensures made { OnOk result (IsSome self.new.drafts) }
+        ensures ok { OnOk result (self.new.refused ≡ self.old.refused) }
+        ensures err { OnErr result (self.new.refused ≡ true) }
+        ensures kept { IsSome self.old.drafts → self.new.drafts ≡ self.old.drafts }
+        ensures still { IsSome self.old.drafts → self.new.port ≡ self.old.port }
+        ensures fetches { self.old.drafts ≡ None → OnOk result (D.fetches self.new.port ≡ D.fetches self.old.port + pages_in (inputs_in (plain_task self.old.task.value))) }
+        ensures at_most { D.fetches self.new.port ≤ D.fetches self.old.port + pages_in (inputs_in (plain_task self.old.task.value)) }
+        ensures later { D.port_faults self.old.port ≤ D.port_faults self.new.port }
+        ensures unread { IfErr result (IsUnread D.tells D.ports_fail (inputs_in (plain_task self.old.task.value)) (D.port_faults self.old.port) (D.port_faults self.new.port)) }
+    {
+        if self.drafts.is_some() {
+            return Ok(());
+        }
+        match self.task.outcome(alloc, &mut self.port) {
+            Ok(drafts) => {
+                self.drafts = Some(drafts);
+                Ok(())
+            }
+            Err(why) => {
+                self.refused = true;
+                Err(told_as(why))
+            }
+        }
+    }
+
+    /// The next page that the job has to write, and None where all are written. The first call makes the outputs.
+    ///
+    /// # Errors
+    ///
+    /// What the first call's reads are refused for. The job can then only be cancelled.
+    pub fn next_piece(&mut self, alloc: Global) -> Result<Option<Piece>, Refused>
+        requires erases { All (λ erase. erase.time ≤ max_time) self.old.task.value.erases }
+        requires job { IsJob D.tells self.old }
+        requires asked { self.old.refused ≡ false }
+        ensures job { IsJob D.tells self.new }
+        ensures task { self.new.task.value ≡ self.old.task.value }
+        ensures written { self.new.written ≡ self.old.written }
+        ensures made { OnOk result (IsSome self.new.drafts) }
+        ensures ok { OnOk result (self.new.refused ≡ false) }
+        ensures err { OnErr result (self.new.refused ≡ true) }
+        ensures kept { IsSome self.old.drafts → self.new.drafts ≡ self.old.drafts }
+        ensures still { IsSome self.old.drafts → self.new.port ≡ self.old.port }
+
+        // The next page is the first that isn't written.
+        ensures place { IfOk result (λ next. IfSome next (λ piece. piece.place ≡ self.old.written)) }
+        ensures left { IfOk result (λ next. IfSome self.new.drafts (λ drafts. IsSome next ↔ (self.old.written < length (made.pages_in drafts.items)))) }
+
+        // The first call reads each page of the inputs once.
+        ensures fetches { self.old.drafts ≡ None → OnOk result (D.fetches self.new.port ≡ D.fetches self.old.port + pages_in (inputs_in (plain_task self.old.task.value))) }
+        ensures at_most { D.fetches self.new.port ≤ D.fetches self.old.port + pages_in (inputs_in (plain_task self.old.task.value)) }
+        ensures later { D.port_faults self.old.port ≤ D.port_faults self.new.port }
+        ensures unread { IfErr result (IsUnread D.tells D.ports_fail (inputs_in (plain_task self.old.task.value)) (D.port_faults self.old.port) (D.port_faults self.new.port)) }
+    {
+        self.make(alloc)?;
+        let place = self.written;
+        match &self.drafts {
+            Some(drafts) if place < count_pages(drafts) => Ok(Some(Piece { place })),
+            _ => Ok(None),
+        }
+    }
 }

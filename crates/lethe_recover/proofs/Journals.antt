@@ -1,5 +1,5 @@
 -- The records of one or two segments.
-use Rattle.std.proofs.Common.{◌≡◌, ◌⊎◌, inl, inr, ℕ, ◌+◌, ◌-◌, ◌≤◌, List, [], ◌∷◌, ◌++◌, length, map, max, All, Option, Some, None, refl, sym, ap, ◌∙◌, subst, arith}
+use Rattle.std.proofs.Common.{◌≡◌, ◌⊎◌, inl, inr, ℕ, ◌-◌, ◌≤◌, List, [], ◌∷◌, ◌++◌, length, map, max, All, Option, Some, None, refl, sym, ap, ◌∙◌, subst, arith}
 use Rattle.std.specs.Prelude.{suc, slice_get}
 use Rattle.std.proofs.lemmas.List.Elements.{All-nil, All-cons, All-head, All-tail}
 use Rattle.lethe_base.specs.Limits.{max_place}
@@ -69,7 +69,7 @@ last_is (x ∷ y ∷ records) r is last =
     let index : suc (length (y ∷ records) - 1) ≡ length (x ∷ y ∷ records) - 1 = omega arith in
     last_is (y ∷ records) r (ap (slice_get (x ∷ y ∷ records)) index ∙ is) (record_seq x)
 
-place_fits : (r : Record) → RecordHasSpelling r → record_seq r ≤ max_place
+pub place_fits : (r : Record) → RecordHasSpelling r → record_seq r ≤ max_place
 place_fits (of.Entry entry) spelled = spelled.front.place.1
 place_fits (of.Blind seq) place = place.1
 place_fits (of.Erase erase) spelled = absurd spelled

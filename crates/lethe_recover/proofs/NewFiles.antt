@@ -1,5 +1,5 @@
 -- Files that are made one after the other, and the names of their objects.
-use Rattle.std.proofs.Common.{◌≡◌, ◌≢◌, ◌<◌, ◌≤◌, inl, inr, ℕ, List, ◌∷◌, ◌++◌, map, All, AllPairs, Contains, sym, ap, ◌∙◌, subst, arith}
+use Rattle.std.proofs.Common.{◌≡◌, ◌≢◌, ◌<◌, ◌≤◌, inl, inr, ℕ, List, ◌++◌, map, All, AllPairs, Contains, sym, ap, subst, arith}
 use Rattle.std.specs.Prelude.{flat_map, zip}
 use Rattle.std.specs.List.Sorted.{IsPermutation}
 use Rattle.std.proofs.lemmas.List.Concat.{flat_map-append}

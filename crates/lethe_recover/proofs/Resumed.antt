@@ -1,5 +1,5 @@
 -- What opening comes to.
-use Rattle.std.proofs.Common.{◌≡◌, ◌<◌, ◌≤◌, ◌+◌, ◌⊎◌, inl, inr, ℕ, Bool, false, cond, All, AllPairs, List, [], ◌∷◌, ◌++◌, length, map, Option, Some, None, refl, sym, ap, ◌∙◌, subst, arith, length-append}
+use Rattle.std.proofs.Common.{◌≡◌, ◌≤◌, ◌+◌, ◌⊎◌, inl, inr, ℕ, Bool, false, cond, All, AllPairs, List, [], ◌∷◌, ◌++◌, length, map, Option, Some, None, refl, sym, ap, ◌∙◌, subst, arith}
 use Rattle.std.specs.Prelude.{Contains, filter, ◌==◌}
 use Rattle.std.specs.declared.cmp.Ordering.TheVariants.{Less}
 use Rattle.std.proofs.lemmas.Bool.Decides.{eqb_tells}
@@ -7,12 +7,10 @@ use Rattle.std.proofs.lemmas.List.Elements.{All-head, All-tail}
 use Rattle.lethe_base.specs.Keys.{key_cmp}
 use Rattle.lethe_header.specs.Facts.{least_key, greatest_key}
 use Rattle.std.specs.List.{AllZip}
-use Rattle.lethe_base.specs.Limits.{max_place}
 use Rattle.lethe_base.specs.History.{History, Change}
 use Rattle.lethe_base.specs.declared.config.Fields.{Fields}
 use Rattle.lethe_base.specs.declared.name.Name.{Name}
 use Rattle.lethe_base.proofs.LayoutLaws.{none_in}
-use Rattle.lethe_build.specs.Built.{most_numbers}
 use Rattle.lethe_disk.specs.Directory.{Directory, object}
 use Rattle.lethe_disk.specs.Disk.{Seen, IsSynced}
 use Rattle.lethe_disk.specs.Goes.{Goes}
@@ -20,7 +18,8 @@ use Rattle.lethe_disk.specs.Quiet.{IsQuiet}
 use Rattle.lethe_disk.specs.declared.disk.Disk.{Ghosts}
 use Rattle.lethe_disk.proofs.Going.{goes_quiet}
 use Rattle.lethe_disk.proofs.Quieting.{quiet_itself}
-use Rattle.lethe_segment.specs.Segments.{head_bytes, segment_bytes}
+use Rattle.lethe_segment.specs.Segments.{Ascends, head_bytes, segment_bytes}
+use Rattle.lethe_segment.specs.declared.record.Record.{Record}
 use Rattle.lethe_header.specs.Headers as headers
 use Rattle.lethe_header.specs.declared.header.Header.{Header}
 use Rattle.lethe_manifest.specs.declared.manifest.Cited.{Cited}
@@ -31,7 +30,7 @@ use Rattle.lethe_commit.specs.Place.{insert_all}
 use Rattle.lethe_commit.specs.Switch.{HasGreatest}
 use Rattle.lethe_commit.proofs.Creations.{object_contained}
 use Rattle.lethe_stored.specs.Files.{Parts, StoredFile, parts_of}
-use Rattle.lethe_stored.specs.Stored.{Stored, Segment, IsCoherent, pending_of, part_names, records_in, records_of, segment_name, segments_of}
+use Rattle.lethe_stored.specs.Stored.{Stored, Segment, IsCoherent, pending_of, part_names, records_in, segment_name, segments_of}
 use Rattle.lethe_stored.specs.Encodes.{Encodes}
 use Rattle.lethe_stored.specs.Kept.{IsFor, IsKept}
 use Rattle.lethe_stored.specs.Left.{IsHistoryOr}
@@ -44,15 +43,14 @@ use Rattle.lethe_follows.specs.Filed.{reopened}
 use Rattle.lethe_follows.proofs.Erases.{pending_again}
 use Rattle.lethe_advance.specs.Settled.{IsSettled, HasOnly}
 use Rattle.lethe_advance.specs.Shown.{parts_by_level}
-use Rattle.lethe_advance.specs.Steps.{IsStep, written_in}
-use Rattle.lethe_advance.specs.declared.step.Step.{Step}
 use Rattle.lethe_advance.proofs.Placed.{written_absent}
 use Rattle.lethe_version.specs.declared.version.Version.{Version}
 use Rattle.lethe_load.specs.Loaded.{Read, IsRead, IsLoaded, IsSpelledAs, IsSpelledOut}
 use Rattle.lethe_load.specs.Refused.{IsInterrupted, MayRefuse}
 use Rattle.lethe_load.specs.declared.refused.RecoverRefused.{RecoverRefused}
 use Rattle.lethe_load.specs.declared.refused.RecoverRefused.TheVariants as recover
-use Rattle.lethe_recover.specs.Journals.{IsJournalOf}
+use Rattle.lethe_recover.specs.Flushing.{IsShort}
+use Rattle.lethe_recover.specs.Journals.{IsJournalOf, erases_of}
 use Rattle.lethe_recover.specs.New.{new_stored}
 use Rattle.lethe_recover.specs.Opening.{IsTold, IsOpened, IsResumed, IsNextNumber, IsExhausted, MayNotOpen, IsCut, since_start}
 use Rattle.lethe_recover.specs.Reopening.{Reopens}
@@ -62,6 +60,7 @@ use Rattle.lethe_recover.specs.declared.opened.Opened.{Opened}
 use Rattle.lethe_recover.specs.declared.opening.OpenWhy.{OpenWhy}
 use Rattle.lethe_recover.specs.declared.opening.OpenWhy.TheVariants.{Damaged, OtherConfig, Fault, Exhausted, NoMemory}
 use Rattle.lethe_recover.specs.declared.reopening.Reopening.{Reopening}
+use Rattle.lethe_recover.proofs.Pending.{pending_is}
 
 pub quiet_synced : (old new : Seen) → IsQuiet old new → IsSynced old → IsSynced new
 quiet_synced old new quiet synced c here =
@@ -176,11 +175,15 @@ pub read_none : (config : Fields) (d : Directory) (read : Read) → read.manifes
 read_none config d read is (inl none) = none.0
 read_none config d read is (inr there) = absurd (no_manifest there.s.manifest (sym (ap (λ (r : Read). r.manifest) there.all) ∙ is))
 
-exhausts : (s : Stored) (journal : Journal) (m : Manifest) → s.manifest ≡ m → IsJournalOf s journal → max_place ≤ m.next + most_numbers (length journal.older + length journal.newer) + 1 → max_place ≤ s.manifest.next + most_numbers (length (records_of s)) + 1
-exhausts s journal m same is last =
-    let next : s.manifest.next ≡ m.next = ap (λ (x : Manifest). x.next) same in
-    let long : length (records_of s) ≡ length journal.older + length journal.newer = length-append (records_in s.frozen) s.active.records ∙ (λ i. length (sym is.older i) + length (sym is.newer i)) in
-    omega (arith, last, next, long)
+short_for : (s : Stored) (journal : Journal) (m : Manifest) → s.manifest ≡ m → IsJournalOf s journal → Ascends 0 journal.older → Ascends 0 journal.newer → IsShort m journal.older journal.newer (erases_of m journal)
+    → IsShort s.manifest (records_in s.frozen) s.active.records (pending_of s)
+short_for s journal m same is older newer short =
+    let erases : erases_of m journal ≡ pending_of s =
+    ap (λ (m : Manifest). erases_of m journal) (sym same) ∙ pending_is s journal.older journal.newer older newer is.older is.newer in
+    subst (IsShort s.manifest (records_in s.frozen) s.active.records) erases
+    (subst (λ (records : List Record). IsShort s.manifest (records_in s.frozen) records (erases_of m journal)) is.newer
+    (subst (λ (records : List Record). IsShort s.manifest records journal.newer (erases_of m journal)) is.older
+    (subst (λ (m' : Manifest). IsShort m' journal.older journal.newer (erases_of m journal)) (sym same) short)))
 
 module _ (config : Fields) (d : Directory) (read : Read) (there : IsRead config d read) (m : Manifest) (is : read.manifest ≡ Some m) (journal : Journal) (journal_is : (s : Stored) → read.segments ≡ map (λ (segment : Segment). segment.records) (segments_of s) → IsJournalOf s journal) where
   pub manifest_of : there.s.manifest ≡ m
@@ -189,10 +192,10 @@ module _ (config : Fields) (d : Directory) (read : Read) (there : IsRead config 
   pub loaded_as : IsLoadedAs there.s m journal read.files
   loaded_as = record { manifest = manifest_of; journal = journal_is there.s (ap (λ (r : Read). r.segments) there.all); files = ap (λ (r : Read). r.files) there.all; rising = there.rising }
 
-  pub exhausted_of : max_place ≤ m.next + most_numbers (length journal.older + length journal.newer) + 1 → IsExhausted d
-  exhausted_of last =
+  pub exhausted_of : Ascends 0 journal.older → Ascends 0 journal.newer → IsShort m journal.older journal.newer (erases_of m journal) → IsExhausted d
+  exhausted_of older newer short =
       let is_journal = journal_is there.s (ap (λ (r : Read). r.segments) there.all) in
-      record { s = there.s; coherent = there.coherent; encodes = there.encodes; last = exhausts there.s journal m manifest_of is_journal last }
+      record { s = there.s; coherent = there.coherent; encodes = there.encodes; short = short_for there.s journal m manifest_of is_journal older newer short }
 
 pub settled_again : (old new : Seen) → IsQuiet old new → IsSynced old → (s : Stored) → IsCoherent s → Encodes old.directory s → IsSettled new s
 settled_again old new quiet synced s coherent e = record { synced = quiet_synced old new quiet synced; coherent = coherent; encodes = subst (λ x. Encodes x s) (sym quiet.directory) e }

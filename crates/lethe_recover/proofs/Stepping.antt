@@ -1,6 +1,5 @@
 -- The step of an opening leads from what is stored to what is stored next.
 use Rattle.std.proofs.Common.{◌≡◌, ◌≢◌, ◌⊎◌, ◌<◌, ◌≤◌, ◌+◌, inl, inr, ℕ, true, List, [], ◌∷◌, ◌++◌, append_assoc, map, length, All, AllPairs, Contains, refl, sym, ap, ◌∙◌, subst, arith}
-use Rattle.std.specs.Prelude.{flat_map, filter, option_to_list}
 use Rattle.std.specs.List.Sorted.{IsPermutation}
 use Rattle.std.proofs.lemmas.List.{map-append}
 use Rattle.std.proofs.lemmas.List.Concat.{flat_map-append}
@@ -21,14 +20,13 @@ use Rattle.lethe_segment.specs.Segments.{segment_bytes}
 use Rattle.lethe_moves.specs.Files as moves
 use Rattle.lethe_moves.specs.Flushes.{Flushes}
 use Rattle.lethe_manifest.specs.Manifests.{HasSpelling}
-use Rattle.lethe_manifest.specs.declared.manifest.Cited.{Cited}
 use Rattle.lethe_manifest.specs.declared.manifest.Manifest.{Manifest}
 use Rattle.lethe_commit.specs.declared.objects.Object.{Object}
-use Rattle.lethe_stored.specs.Files.{StoredFile, IsFile, cited_of, file_of, objects_in, objects_of}
+use Rattle.lethe_stored.specs.Files.{StoredFile, cited_of, file_of, objects_in, objects_of}
 use Rattle.lethe_stored.specs.Kept.{IsFor}
-use Rattle.lethe_stored.specs.Stored.{Stored, Segment, IsCited, IsCoherent, count_of, layout_of, number_of, part_names, pending_of, plain, segment_name, segment_numbers, segments_of}
+use Rattle.lethe_stored.specs.Stored.{Stored, IsCited, IsCoherent, count_of, layout_of, part_names, pending_of, plain, segment_name, segment_numbers}
 use Rattle.lethe_stored.proofs.Frame.{same_no}
-use Rattle.lethe_stored.proofs.Lists.{all_from, all_left, all_right, from_map, in_map}
+use Rattle.lethe_stored.proofs.Lists.{all_from, all_left, all_right, from_map}
 use Rattle.lethe_stored.proofs.Parts.{active_part, object_apart, object_part, part_below}
 use Rattle.lethe_version.specs.Order.{is_kept}
 use Rattle.lethe_follows.specs.Filed.{AreNewFiles, reopened}
@@ -39,7 +37,7 @@ use Rattle.lethe_flush.specs.Made.{named_of}
 use Rattle.lethe_advance.specs.Settled.{names_in}
 use Rattle.lethe_advance.specs.Steps.{IsStep, IsSegmentFrom, IsObjectFrom, IsUncited, kept_files, written_in}
 use Rattle.lethe_advance.proofs.Lists.{filter_all}
-use Rattle.lethe_recover.specs.Flushing.{IsFlushOfRecords, AreFlushesOf, IsWritable}
+use Rattle.lethe_recover.specs.Flushing.{AreFlushesOf, IsWritable}
 use Rattle.lethe_recover.specs.Journals.{IsJournalOf}
 use Rattle.lethe_recover.specs.Reopening.{IsStepOf, Reopens, empty_segment, successor}
 use Rattle.lethe_recover.specs.declared.flushing.Flushes as both

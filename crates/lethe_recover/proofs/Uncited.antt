@@ -1,5 +1,5 @@
 -- What is listed of a directory beside what is cited.
-use Rattle.std.proofs.Common.{◌≡◌, ◌≢◌, ◌⊎◌, inl, inr, ℕ, Bool, true, false, not, cond, T, All, List, [], ◌∷◌, ◌++◌, map, filter, length, Option, Some, None, IsTrue, ◌↔◌, refl, sym, ap, ◌∙◌, subst, arith}
+use Rattle.std.proofs.Common.{◌≡◌, ◌≢◌, inl, inr, ℕ, Bool, true, false, not, cond, T, All, List, [], ◌∷◌, ◌++◌, map, filter, length, Option, Some, None, IsTrue, ◌↔◌, refl, sym, ap, ◌∙◌, subst, arith}
 use Rattle.std.specs.Prelude.{Contains, IsSome, is_some, flat_map, zip, ◌&&◌}
 use Rattle.std.specs.List.{AllZip}
 use Rattle.std.proofs.lemmas.Bool.{cases_Bool}
@@ -27,7 +27,7 @@ use Rattle.lethe_commit.specs.Switch.{manifest_name}
 use Rattle.lethe_commit.proofs.Listed.{listed}
 use Rattle.lethe_commit.proofs.Removals.{all_absent, cleared_absent}
 use Rattle.lethe_stored.specs.Files.{StoredFile, IsFile, lines_in, objects_in, objects_of, file_name}
-use Rattle.lethe_stored.specs.Stored.{Stored, IsCoherent, segment_name, segment_numbers, part_names, IsCited}
+use Rattle.lethe_stored.specs.Stored.{Stored, IsCoherent, segment_name, part_names, IsCited}
 use Rattle.lethe_stored.specs.Encodes.{Encodes, AreSpare, HasObject}
 use Rattle.lethe_advance.specs.Settled.{HasOnly}
 use Rattle.lethe_stored.proofs.Lists.{later_in}

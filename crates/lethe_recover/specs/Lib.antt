@@ -7,3 +7,4 @@ pub mod Flushing
 pub mod Reopening
 pub mod Opening
 pub mod Resuming
+pub mod Prepared

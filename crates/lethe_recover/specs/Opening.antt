@@ -1,5 +1,5 @@
 -- A store that was opened, and why one wasn't.
-use Rattle.std.specs.Prelude.{◌≡◌, ◌≤◌, ◌⊎◌, ◌+◌, ℕ, [], length, Option, None}
+use Rattle.std.specs.Prelude.{◌≡◌, ◌⊎◌, ◌+◌, ℕ, [], length, Option, None}
 use Rattle.lethe_base.specs.Counts.{Rose}
 use Rattle.lethe_base.specs.Limits.{max_place}
 use Rattle.lethe_base.specs.History.{History, Change}
@@ -8,11 +8,10 @@ use Rattle.lethe_disk.specs.Directory.{Directory}
 use Rattle.lethe_disk.specs.Disk.{Seen}
 use Rattle.lethe_disk.specs.declared.disk.Disk.{Ghosts}
 use Rattle.lethe_manifest.specs.Manifests.{HasSpelling}
-use Rattle.lethe_build.specs.Built.{most_numbers}
 use Rattle.lethe_commit.specs.Append.{EndsAt}
 use Rattle.lethe_commit.specs.Switch.{HasGreatest}
 use Rattle.lethe_version.specs.Versions.{levels_of}
-use Rattle.lethe_stored.specs.Stored.{Stored, IsCoherent, pending_of, records_of, segment_name}
+use Rattle.lethe_stored.specs.Stored.{Stored, IsCoherent, pending_of, records_in, segment_name}
 use Rattle.lethe_stored.specs.Encodes.{Encodes}
 use Rattle.lethe_stored.specs.Kept.{IsFor}
 use Rattle.lethe_stored.specs.Left.{IsHistoryOr}
@@ -23,6 +22,7 @@ use Rattle.lethe_load.specs.Damaged.{IsDamaged}
 use Rattle.lethe_load.specs.Refused.{HasOtherConfig}
 use Rattle.lethe_load.specs.declared.refused.RecoverRefused.{RecoverRefused}
 use Rattle.lethe_load.specs.declared.refused.RecoverRefused.TheVariants as refused
+use Rattle.lethe_recover.specs.Flushing.{IsShort}
 use Rattle.lethe_recover.specs.declared.opening.OpenWhy.{OpenWhy}
 use Rattle.lethe_recover.specs.declared.opening.OpenWhy.TheVariants.{Damaged, OtherConfig, Fault, Exhausted, NoMemory}
 use Rattle.lethe_recover.specs.declared.opened.Opened.{Opened}
@@ -65,12 +65,12 @@ pub record IsResumed {D Page Port : Type 0} {kind : Ghosts D Page Port} (config 
 abbrev pub IsNextNumber : Directory → ℕ → Type 0
 IsNextNumber d next = (HasGreatest None d × (next ≡ 3)) ⊎ ((s : Stored) × IsCoherent s × Encodes d s × (next ≡ s.manifest.next))
 
--- The next number is so great that those that the journal's records may need, the segment's and the manifest's can't be drawn.
+-- The next number is so great that those of the files of the journal's records, the segment's and the manifest's can't be drawn.
 pub record IsExhausted (d : Directory) : Type 0 where
   pub s : Stored
   pub coherent : IsCoherent s
   pub encodes : Encodes d s
-  pub last : max_place ≤ s.manifest.next + most_numbers (length (records_of s)) + 1
+  pub short : IsShort s.manifest (records_in s.frozen) s.active.records (pending_of s)
 
 -- A refusal has its reason: in the directory, in the count of faults, or want of memory.
 abbrev pub MayNotOpen : Type 0 → Fields → Directory → ℕ → ℕ → OpenWhy → Type 0

@@ -1,11 +1,9 @@
 //! The records of a store's journal.
-ghost use Rattle.std.specs.Prelude.{◌≡◌, ◌⊎◌, ◌++◌, ◌∷◌, [], ◌+◌, ◌≤◌, ◌↔◌, IsTrue, max, map, length, All, IfOk};
-ghost use Rattle.lethe_base.specs.Limits.{max_place};
-ghost use Rattle.lethe_build.specs.Built.{most_numbers};
+ghost use Rattle.std.specs.Prelude.{◌≡◌, ◌⊎◌, ◌++◌, ◌∷◌, [], max, map, All, IfOk};
 ghost use Rattle.lethe_segment.specs.Segments.{Ascends, last_seq};
 ghost use Rattle.lethe_stored.specs.Stored.{Stored, segments_of, erase_of, in_order};
 
-use lethe_base::{List, MAX_PLACE, NoMemory, Pending};
+use lethe_base::{List, NoMemory, Pending};
 use lethe_flush::pending_of;
 use lethe_segment::Record;
 use std::alloc::Global;
@@ -47,15 +45,6 @@ impl Journal {
     {
         let older = pending_of(alloc, erases, self.older.items())?;
         pending_of(alloc, &older, self.newer.items())
-    }
-
-    /// Whether the numbers that the records' files, a segment and a manifest may need can't be drawn from the next one on.
-    pub fn exhausts(&self, next: u64) -> bool
-        ensures { IsTrue result ↔ (max_place ≤ next + most_numbers (length self.now.older + length self.now.newer) + 1) }
-    {
-        let older = self.older.items().len() as u64;
-        let records = older.saturating_add(self.newer.items().len() as u64);
-        MAX_PLACE.saturating_sub(next) / 2 <= records
     }
 }
 

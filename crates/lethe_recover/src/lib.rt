@@ -9,6 +9,7 @@ mod journal;
 mod leveled;
 mod opened;
 mod opening;
+mod prepared;
 mod reopening;
 mod resuming;
 mod tidying;

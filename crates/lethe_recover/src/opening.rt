@@ -33,7 +33,7 @@ pub enum OpenWhy {
     OtherConfig { kept: Config },
     /// The disk failed, and its count of faults went from `before` to `after`.
     Fault { before: u64, after: u64 },
-    /// Behind the numbers that opening may need, the next one would pass the greatest, which is `last`. The directory is as it was.
+    /// Behind the numbers that opening needs, the next one would pass the greatest, which is `last`. The directory is as it was.
     Exhausted { last: u64 },
     /// There was no memory.
     NoMemory,

@@ -1,28 +1,26 @@
 //! What a store becomes that is opened.
-ghost use Rattle.std.specs.Prelude.{◌≡◌, ℕ, ◌+◌, ◌<◌, ◌≤◌, ◌^◌, ◌++◌, ◌∷◌, [], length, All, AllPairs, IfOk};
+ghost use Rattle.std.specs.Prelude as prelude;
+ghost use Rattle.std.specs.Prelude.{◌≡◌, ℕ, ◌+◌, ◌<◌, ◌≤◌, ◌^◌, ◌++◌, ◌∷◌, [], length, All, AllPairs, Contains, IfOk};
 ghost use Rattle.lethe_base.specs.Limits.{max_place};
-ghost use Rattle.lethe_build.specs.Built.{most_numbers};
+ghost use Rattle.lethe_build.specs.Drafts.{IsDraft};
 ghost use Rattle.lethe_header.specs.Headers as headers;
 ghost use Rattle.lethe_manifest.specs.Manifests.{HasSpelling, IsErase};
-ghost use Rattle.lethe_segment.specs.Segments.{Ascends};
-ghost use Rattle.lethe_stored.specs.Levels.{HasFiles};
-ghost use Rattle.lethe_stored.specs.Stored.{Stored, IsCoherent};
-ghost use Rattle.lethe_advance.specs.Shown.{parts_by_level};
-ghost use Rattle.lethe_recover.specs.Flushing.{IsWritable};
+ghost use Rattle.lethe_header.specs.declared.header.Header as header;
+ghost use Rattle.lethe_stored.specs.Files.{StoredFile};
+ghost use Rattle.lethe_stored.specs.Stored.{Stored, IsCoherent, count_of, pending_of};
+ghost use Rattle.lethe_recover.specs.Flushing.{AreDraftsOfJournal, IsWritable, numbers_of};
+ghost use Rattle.lethe_recover.specs.declared.journal.Journal.{Journal};
 ghost use Rattle.lethe_recover.specs.Journals.{IsJournalOf};
 ghost use Rattle.lethe_recover.specs.Reopening.{IsStepOf, Reopens, empty_segment, successor};
 
 use crate::cited::push_segments;
-use crate::flushing::{Flushes, flush_journal};
-use crate::journal::Journal;
+use crate::flushing::{Drafts, Flushes, flush_journal};
 use lethe_advance::Step;
 use lethe_base::{Kind, List, Name, NoMemory, Pending};
 use lethe_commit::Object;
-use lethe_disk::Disk;
 use lethe_header::Header;
 use lethe_manifest::{Cited, Manifest};
 use lethe_segment::new_segment;
-use lethe_version::Version;
 use std::alloc::Global;
 
 // A manifest counts its erases and its files in four bytes each.
@@ -36,19 +34,23 @@ pub struct Reopening {
     pub step: Step,
 }
 
-/// The step that writes the records of the journal into files and puts an empty segment in its place, where these are the manifest's files.
-pub fn reopening_of<D: Disk>(
+/// The step that writes the files of these drafts and puts an empty segment in the place of the journal, to a manifest of this count and these erases.
+pub fn reopening_of(
     alloc: Global,
     manifest: &Manifest,
-    version: &Version<D>,
-    journal: Journal,
+    count: u64,
+    erases: Vec<Pending>,
+    drafts: Drafts,
 ) -> Result<Reopening, NoMemory>
     requires spelled { HasSpelling manifest.now }
-    requires older { Ascends 0 journal.older }
-    requires newer { Ascends 0 journal.newer }
-    requires numbers { manifest.now.next + most_numbers (length journal.older + length journal.newer) + 1 < max_place }
-    ensures reopens { IfOk result (λ made. (s : Stored) → IsCoherent s → s.manifest ≡ manifest.now → HasFiles s (parts_by_level version.now) → IsJournalOf s journal
-        → Reopens s made) }
+    requires count { count ≤ max_place }
+    requires erases { All IsErase erases.items }
+    requires ascending { AllPairs (λ a b. a.seq < b.seq) erases.items }
+    requires older { All IsDraft drafts.older.items }
+    requires newer { All IsDraft drafts.newer.items }
+    requires numbers { manifest.now.next + numbers_of drafts + 1 < max_place }
+    ensures reopens { IfOk result (λ made. (s : Stored) (journal : Journal) (heads : prelude.List header.Header) → IsCoherent s → s.manifest ≡ manifest.now → count ≡ count_of s → erases.items ≡ pending_of s
+        → ((file : StoredFile) → Contains s.files file → Contains heads file.header) → IsJournalOf s journal → AreDraftsOfJournal manifest.now.config journal erases.items heads drafts → Reopens s made) }
     ensures spelled { IfOk result (λ made. HasSpelling made.step.manifest) }
     ensures config { IfOk result (λ made. made.step.manifest.config ≡ manifest.now.config) }
     ensures segments { IfOk result (λ made. length made.step.manifest.segments ≡ 1) }
@@ -56,18 +58,7 @@ pub fn reopening_of<D: Disk>(
     ensures level { IfOk result (λ made. made.step.level ≡ 0) }
     ensures next { IfOk result (λ made. made.step.manifest.next ≡ manifest.now.next + length made.step.objects.items + 1) }
 {
-    let erases = journal.pending(alloc, manifest.erases.items())?;
-    let count = journal.count(manifest.count);
-    let config = &manifest.config;
-    let flushes = flush_journal(
-        alloc,
-        version,
-        journal,
-        &erases,
-        count,
-        config,
-        manifest.next,
-    )?;
+    let flushes = flush_journal(alloc, drafts, count, manifest.next)?;
     step_of(alloc, manifest, count, erases, flushes)
 }
 

@@ -2,7 +2,6 @@
 ghost use Rattle.std.specs.Prelude.{◌≡◌, ◌≤◌, ◌<◌, ◌+◌, ℕ, map, length, IsErrOf, IfErr, IfOk};
 ghost use Rattle.lethe_base.specs.Limits.{max_place};
 ghost use Rattle.lethe_base.specs.History.{History};
-ghost use Rattle.lethe_build.specs.Built.{most_numbers};
 ghost use Rattle.lethe_disk.specs.Disk.{HasCause};
 ghost use Rattle.lethe_disk.specs.Goes.{Goes};
 ghost use Rattle.lethe_segment.specs.Segments.{Ascends};
@@ -11,13 +10,16 @@ ghost use Rattle.lethe_stored.specs.Stored.{Stored};
 ghost use Rattle.lethe_stored.specs.Kept.{IsFor, IsKept};
 ghost use Rattle.lethe_advance.specs.Settled.{IsSettled};
 ghost use Rattle.lethe_advance.specs.Shown.{parts_in};
+ghost use Rattle.lethe_recover.specs.Flushing.{IsShort, numbers_of};
+ghost use Rattle.lethe_recover.specs.Journals.{erases_of};
 ghost use Rattle.lethe_recover.specs.Opening.{IsSpellable, IsCut};
+ghost use Rattle.lethe_recover.specs.Prepared.{IsReady, IsReadyFor};
 ghost use Rattle.lethe_recover.specs.Resuming.{IsLoadedAs, IsReopened};
 ghost use Rattle.lethe_recover.specs.declared.opening.OpenWhy.TheVariants.{Exhausted};
 
 use crate::failing::failure;
 use crate::journal::Journal;
-use crate::leveled::version_of;
+use crate::prepared::{Prepared, prepare};
 use crate::reopening::{Reopening, reopening_of};
 use crate::{OpenWhy, Opened, tidy};
 use lethe_advance::{Step, advance};
@@ -27,7 +29,8 @@ use lethe_file::FileView;
 use lethe_manifest::Manifest;
 use std::alloc::Global;
 
-/// Reopens a store, where the numbers suffice. `before` is the count of faults that a fault is told with.
+/// Reopens a store, where the numbers suffice: what it takes is made in memory before the disk is touched. `before` is the count of faults that a fault
+/// is told with.
 pub fn resume<D: Disk>(
     alloc: Global,
     disk: &mut D,
@@ -47,15 +50,18 @@ pub fn resume<D: Disk>(
     ensures spelled { IfOk result (λ opened. IsSpellable manifest.now.config opened) }
     ensures any_moment { D.tells → (s : Stored) → IsSettled (D.seen disk.old) s → IsLoadedAs s manifest.now journal (map parts_in files.items)
         → (h : History) → IsFor h s → Goes (λ c. IsKept c h) (D.seen disk.old) (D.seen disk.new) }
-    ensures refused { IfErr result (IsCut (max_place ≤ manifest.now.next + most_numbers (length journal.older + length journal.newer) + 1) before (D.faults disk.new)) }
+    ensures refused { IfErr result (IsCut (IsShort manifest.now journal.older journal.newer (erases_of manifest.now journal)) before (D.faults disk.new)) }
     ensures exhausted { (last : ℕ) → IsErrOf result (Exhausted last) → disk.new ≡ disk.old }
     ensures numbers { D.tells → IfOk result (λ opened. opened.manifest.next + (D.seen disk.old).moment ≤ manifest.now.next + (D.seen disk.new).moment) }
     ensures faults { D.faults disk.old ≤ D.faults disk.new }
 {
-    if journal.exhausts(manifest.next) {
+    let Ok(made) = prepare(alloc, manifest, journal, files) else {
+        return Err(OpenWhy::NoMemory);
+    };
+    if made.drafts.exhaust(manifest.next) {
         return Err(OpenWhy::Exhausted { last: MAX_PLACE });
     }
-    match reopen(alloc, disk, manifest, journal, files) {
+    match reopen(alloc, disk, manifest, made) {
         Ok(opened) => Ok(opened),
         Err(why) => Err(failure(disk, before, why)),
     }
@@ -66,26 +72,28 @@ fn reopen<D: Disk>(
     alloc: Global,
     disk: &mut D,
     manifest: &Manifest,
-    journal: Journal,
-    files: Vec<FileView<D>>,
+    made: Prepared<D>,
 ) -> Result<Opened<D>, DiskRefused>
     requires spelled { HasSpelling manifest.now }
-    requires older { Ascends 0 journal.older }
-    requires newer { Ascends 0 journal.newer }
-    requires numbers { manifest.now.next + most_numbers (length journal.older + length journal.newer) + 1 < max_place }
-    requires cited { length manifest.now.files ≡ length files.items }
-    requires settled { D.tells → (s : Stored) × IsSettled (D.seen disk.old) s × IsLoadedAs s manifest.now journal (map parts_in files.items) }
-    ensures there { D.tells → (s : Stored) → IsSettled (D.seen disk.old) s → IsLoadedAs s manifest.now journal (map parts_in files.items)
-        → IfOk result (λ opened. IsReopened s (D.seen disk.new) opened) }
+    requires ready { IsReady manifest.now made }
+    requires numbers { manifest.now.next + numbers_of made.drafts + 1 < max_place }
+    requires settled { D.tells → (s : Stored) × IsSettled (D.seen disk.old) s × IsReadyFor s manifest.now made }
+    ensures there { D.tells → (s : Stored) → IsSettled (D.seen disk.old) s → IsReadyFor s manifest.now made → IfOk result (λ opened. IsReopened s (D.seen disk.new) opened) }
     ensures spelled { IfOk result (λ opened. IsSpellable manifest.now.config opened) }
-    ensures any_moment { D.tells → (s : Stored) → IsSettled (D.seen disk.old) s → IsLoadedAs s manifest.now journal (map parts_in files.items)
+    ensures any_moment { D.tells → (s : Stored) → IsSettled (D.seen disk.old) s → IsReadyFor s manifest.now made
         → (h : History) → IsFor h s → Goes (λ c. IsKept c h) (D.seen disk.old) (D.seen disk.new) }
     ensures numbers { D.tells → IfOk result (λ opened. opened.manifest.next + (D.seen disk.old).moment ≤ manifest.now.next + (D.seen disk.new).moment) }
     ensures cause { HasCause (D.faults disk.old) (D.faults disk.new) result }
 {
-    tidy(alloc, disk, manifest, &files)?;
-    let version = version_of(alloc, manifest, files)?;
-    let made = reopening_of(alloc, manifest, &version, journal)?;
+    let Prepared {
+        cited,
+        version,
+        count,
+        erases,
+        drafts,
+    } = made;
+    tidy(alloc, disk, &cited)?;
+    let made = reopening_of(alloc, manifest, count, erases, drafts)?;
     let Reopening { headers, step } = made;
     let reopened = advance(alloc, disk, &version, headers, &step)?;
     let Step { manifest, .. } = step;

@@ -1,35 +1,27 @@
 //! Removing what the greatest gate doesn't commit.
-ghost use Rattle.std.specs.Prelude.{◌≡◌, [], not, map, filter, IfOk, OnOk};
+ghost use Rattle.std.specs.Prelude.{◌≡◌, ◌↔◌, [], not, filter, IfOk, IsTrue, OnOk};
 ghost use Rattle.std.specs.BTreeSet.{contains};
 ghost use Rattle.lethe_base.specs.Names.{name_cmp};
 ghost use Rattle.lethe_disk.specs.Disk.{HasCause};
 ghost use Rattle.lethe_disk.specs.Goes.{Goes};
-ghost use Rattle.lethe_stored.specs.Stored.{Stored};
+ghost use Rattle.lethe_stored.specs.Stored.{Stored, IsCited};
+ghost use Rattle.lethe_base.specs.declared.name.Name as names;
 ghost use Rattle.lethe_stored.specs.Encodes.{Encodes};
 ghost use Rattle.lethe_advance.specs.Settled.{IsSettled, HasOnly};
 
-use crate::cited::{cited_names, set_of};
 use lethe_base::{Name, NoMemory};
 use lethe_commit::clear;
 use lethe_disk::{Disk, DiskRefused};
-use lethe_file::FileView;
-use lethe_manifest::Manifest;
 use std::alloc::Global;
 use std::collections::BTreeSet;
 
-/// Removes every object but the greatest gate, its manifest and what this cites, and syncs. These are the manifest's files.
+/// Removes every object whose name isn't in the set, and syncs. In the set are the greatest gate, its manifest and what this cites.
 ///
 /// # Errors
 ///
 /// `NoMemory` before any change. `Failed` where the disk failed: then each object that counts for nothing may be there or not.
-pub fn tidy<D: Disk>(
-    alloc: Global,
-    disk: &mut D,
-    manifest: &Manifest,
-    files: &[FileView<D>],
-) -> Result<(), DiskRefused>
-    requires { D.tells → (s : Stored) × IsSettled (D.seen disk.old) s × (s.manifest ≡ manifest.now)
-        × (map (λ file. file.header) files.now ≡ map (λ file. file.header) s.files) }
+pub fn tidy<D: Disk>(alloc: Global, disk: &mut D, cited: &BTreeSet<Name>) -> Result<(), DiskRefused>
+    requires { D.tells → (s : Stored) × IsSettled (D.seen disk.old) s × ((name : names.Name) → IsTrue (contains name_cmp cited.now name) ↔ IsCited s name) }
 
     // A crash at any moment of the call leaves what is stored as it was.
     ensures any_moment { D.tells → (s : Stored) → IsSettled (D.seen disk.old) s → Goes (λ c. Encodes c s) (D.seen disk.old) (D.seen disk.new) }
@@ -40,8 +32,7 @@ pub fn tidy<D: Disk>(
     ensures cause { HasCause (D.faults disk.old) (D.faults disk.new) result }
 {
     let names = disk.names(alloc)?;
-    let cited = set_of(alloc, cited_names(alloc, manifest, files)?)?;
-    let rest = uncited(alloc, &names, &cited)?;
+    let rest = uncited(alloc, &names, cited)?;
     clear(disk, &rest)
 }
 

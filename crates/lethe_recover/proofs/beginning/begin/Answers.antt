@@ -2,7 +2,7 @@ use Rattle.std.proofs.Common.{◌≡◌, ◌⊎◌, inl, [], None, sym, ap, subs
 use Rattle.std.specs.FinMap.{insert}
 use Rattle.lethe_base.specs.Configuration.{IsConfig}
 use Rattle.lethe_disk.specs.Directory.{Directory}
-use Rattle.lethe_disk.specs.Disk.{Image, IsSynced}
+use Rattle.lethe_disk.specs.Disk.{Image}
 use Rattle.lethe_disk.specs.Runs.{Leads}
 use Rattle.lethe_segment.specs.Segments.{segment_bytes}
 use Rattle.lethe_manifest.specs.declared.manifest.Manifest.{Manifest}

@@ -1,4 +1,4 @@
-use Rattle.std.proofs.Common.{◌≡◌, ◌⊎◌, ◌+◌, [], None, refl, sym, ap, subst, length, arith, ◌∙◌}
+use Rattle.std.proofs.Common.{◌⊎◌, ◌+◌, [], None, refl, sym, ap, subst, length, arith, ◌∙◌}
 use Rattle.std.specs.Prelude.{map}
 use Rattle.lethe_manifest.specs.Manifests.{HasSpelling}
 use Rattle.lethe_manifest.specs.declared.manifest.Manifest.{Manifest}

@@ -1,17 +1,17 @@
-use Rattle.std.proofs.Common.{◌≡◌, ◌≤◌, ◌+◌, ◌⊎◌, ℕ, None, length, sym, ap, subst, ◌∙◌, arith}
+use Rattle.std.proofs.Common.{◌≡◌, ◌≤◌, ◌+◌, ◌⊎◌, ℕ, None, sym, ap, subst, ◌∙◌, arith}
 use Rattle.std.proofs.lemmas.List.{length-map}
-use Rattle.lethe_base.specs.Limits.{max_place}
-use Rattle.lethe_build.specs.Built.{most_numbers}
 use Rattle.lethe_disk.specs.Goes.{Goes}
 use Rattle.lethe_disk.proofs.Going.{goes_then}
 use Rattle.lethe_manifest.specs.declared.manifest.Manifest.{Manifest}
 use Rattle.lethe_stored.specs.Kept.{IsKept}
 use Rattle.lethe_advance.specs.Shown.{parts_in}
 use Rattle.lethe_load.specs.Loaded.{shown}
+use Rattle.lethe_recover.specs.Flushing.{IsShort}
+use Rattle.lethe_recover.specs.Journals.{erases_of}
 use Rattle.lethe_recover.specs.New.{new_stored}
 use Rattle.lethe_recover.specs.Opening.{IsNextNumber, IsOpened, IsResumed, IsSpellable, MayNotOpen, IsCut, since_start}
 use Rattle.lethe_recover.specs.Resuming.{IsThere, IsReopened}
-use Rattle.lethe_recover.proofs.Results.{ok_weaker, ok_both, err_weaker}
+use Rattle.lethe_recover.proofs.Results.{ok_weaker, err_weaker}
 use Rattle.lethe_recover.proofs.Resumed.{since_may, since_exact, cut_may, new_opened, new_resumed, kept_of_none, kept_for, opened_from, resumed_from, read_some, read_none, manifest_of, loaded_as, exhausted_of, settled_again, kept_goes, spelled_some, cited_long, next_of, next_of_none}
 use Rattle.lethe_recover.proofs.opening.open_synced.Goals as goal
 
@@ -161,10 +161,11 @@ returns-in-Some-clause-refused g c =
     let read = shown c.in-Ok.read in
     let journal = c.of-journal.result in
     let now = g.D.Disk.faults c.resume.new.disk in
-    let IsFull : Type 0 = max_place ≤ m.next + most_numbers (length journal.older + length journal.newer) + 1 in
+    let IsFull : Type 0 = IsShort m journal.older journal.newer (erases_of m journal) in
+    let up = c.of-journal.ensures.ascends (spelled_some config read m c.in-Some.is c.in-Ok.ensures.spelled).ascends in
     err_weaker c.resume.result (IsCut IsFull c.args.before now) (MayNotOpen g.D.Disk.tells config d c.args.before now) c.resume.ensures.refused
     (cut_may g.D.Disk.tells IsFull config d c.args.before now (λ full told.
-    exhausted_of config d read (read_some config d read m c.in-Some.is (c.in-Ok.ensures.found told)) m c.in-Some.is journal c.of-journal.ensures.is full))
+    exhausted_of config d read (read_some config d read m c.in-Some.is (c.in-Ok.ensures.found told)) m c.in-Some.is journal c.of-journal.ensures.is up.0 up.1 full))
 
 pub returns-in-Some-clause-exact : goal.returns-in-Some-clause-exact
 returns-in-Some-clause-exact g c = λ told why reason. absurd (c.in-Ok.ensures.exact told why reason)

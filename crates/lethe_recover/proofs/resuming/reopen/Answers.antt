@@ -1,51 +1,43 @@
-use Rattle.std.proofs.Common.{◌⊎◌, [], refl, ap, ◌∙◌, arith}
-use Rattle.std.specs.Prelude.{map}
+use Rattle.std.proofs.Common.{◌⊎◌, [], ◌∙◌, arith}
 use Rattle.lethe_disk.proofs.Going.{goes_then, goes_weaker}
 use Rattle.lethe_stored.specs.Encodes.{Encodes}
 use Rattle.lethe_stored.specs.Kept.{IsKept}
-use Rattle.lethe_advance.specs.Shown.{parts_in}
 use Rattle.lethe_advance.specs.Steps.{MayAdvance}
-use Rattle.lethe_recover.proofs.Resumed.{next_stored, old_kept, either_kept, heads_of, reopened_of}
+use Rattle.lethe_recover.proofs.Resumed.{next_stored, old_kept, either_kept, reopened_of}
+use Rattle.lethe_recover.proofs.Readied.{reopens_of}
 use Rattle.lethe_recover.proofs.resuming.reopen.Goals as goal
 
 pub tidy-requires-after_bounds : goal.tidy-requires-after_bounds
-tidy-requires-after_bounds g c κs within = λ told.
-    let asked = c.requires.settled told in
-    let heads = heads_of parts_in (λ file. file.header) (λ file. refl) c.args.files.items (asked.0).files (asked.2).files in
-    (asked.0, asked.1, (asked.2).manifest, ap (map (λ file. file.header)) c.deref.ensures.value ∙ heads)
+tidy-requires-after_bounds g c κs within = λ told. let asked = c.requires.settled told in (asked.0, asked.1, (asked.2).cites)
 
 pub returns-in_err-tidy-clause-any_moment : goal.returns-in_err-tidy-clause-any_moment
-returns-in_err-tidy-clause-any_moment g c = λ told s settled loaded h stands.
-    goes_weaker (λ x. Encodes x s) (λ x. IsKept x h) (g.D.Disk.seen c.args.disk.now) (g.D.Disk.seen c.tidy.new.disk) (old_kept h s settled.coherent stands) (c.tidy.ensures.any_moment told s settled)
-
-pub returns-in_err-version-clause-any_moment : goal.returns-in_err-version-clause-any_moment
-returns-in_err-version-clause-any_moment g c = λ told s settled loaded h stands.
+returns-in_err-tidy-clause-any_moment g c = λ told s settled ready h stands.
     goes_weaker (λ x. Encodes x s) (λ x. IsKept x h) (g.D.Disk.seen c.args.disk.now) (g.D.Disk.seen c.tidy.new.disk) (old_kept h s settled.coherent stands) (c.tidy.ensures.any_moment told s settled)
 
 pub returns-in_err-made-clause-any_moment : goal.returns-in_err-made-clause-any_moment
-returns-in_err-made-clause-any_moment g c = λ told s settled loaded h stands.
+returns-in_err-made-clause-any_moment g c = λ told s settled ready h stands.
     goes_weaker (λ x. Encodes x s) (λ x. IsKept x h) (g.D.Disk.seen c.args.disk.now) (g.D.Disk.seen c.tidy.new.disk) (old_kept h s settled.coherent stands) (c.tidy.ensures.any_moment told s settled)
 
 pub advance-requires-clause-level : goal.advance-requires-clause-level
-advance-requires-clause-level g c κs within = omega (arith, c.in_ok-made.ensures.level, c.in_ok-version.ensures.levels)
+advance-requires-clause-level g c κs within = omega (arith, c.in_ok-made.ensures.level, c.requires.ready.levels)
 
 pub advance-requires-clause-step : goal.advance-requires-clause-step
 advance-requires-clause-step g c κs within = λ told.
     let asked = c.requires.settled told in
     let s = asked.0 in
     let settled = asked.1 in
-    let loaded = asked.2 in
+    let ready = asked.2 in
     let tidied = c.in_ok-tidy.ensures.done told s settled in
-    let is = c.in_ok-made.ensures.reopens s settled.coherent loaded.manifest (c.in_ok-version.ensures.files s settled.coherent loaded.manifest loaded.files) loaded.journal in
+    let is = reopens_of s c.args.manifest.now c.args.made settled.coherent ready c.in_ok-made.made c.in_ok-made.ensures.reopens in
     (s, next_stored s c.in_ok-made.made is, [], [], record { settled = tidied.0; only = tidied.1; step_is = is.step })
 
 pub returns-in_err-reopened-clause-any_moment : goal.returns-in_err-reopened-clause-any_moment
-returns-in_err-reopened-clause-any_moment g c = λ told s settled loaded h stands.
+returns-in_err-reopened-clause-any_moment g c = λ told s settled ready h stands.
     let s0 = g.D.Disk.seen c.args.disk.now in
     let s1 = g.D.Disk.seen c.tidy.new.disk in
     let s2 = g.D.Disk.seen c.advance.new.disk in
     let tidied = c.in_ok-tidy.ensures.done told s settled in
-    let is = c.in_ok-made.ensures.reopens s settled.coherent loaded.manifest (c.in_ok-version.ensures.files s settled.coherent loaded.manifest loaded.files) loaded.journal in
+    let is = reopens_of s c.args.manifest.now c.args.made settled.coherent ready c.in_ok-made.made c.in_ok-made.ensures.reopens in
     let t = next_stored s c.in_ok-made.made is in
     let may : MayAdvance (g.D.Disk.seen c.tidy.new.disk) s [] t [] c.in_ok-made.made.headers.items c.in_ok-made.made.step = record { settled = tidied.0; only = tidied.1; step_is = is.step } in
     goes_then (λ x. IsKept x h) s0 s1 s2
@@ -53,12 +45,12 @@ returns-in_err-reopened-clause-any_moment g c = λ told s settled loaded h stand
     (goes_weaker (λ x. Encodes x s ⊎ Encodes x t) (λ x. IsKept x h) s1 s2 (either_kept h s t settled.coherent stands is.step.coherent (is.stands h stands)) (c.advance.ensures.any_moment told s t [] [] may))
 
 pub returns-clause-any_moment : goal.returns-clause-any_moment
-returns-clause-any_moment g c = λ told s settled loaded h stands.
+returns-clause-any_moment g c = λ told s settled ready h stands.
     let s0 = g.D.Disk.seen c.args.disk.now in
     let s1 = g.D.Disk.seen c.tidy.new.disk in
     let s2 = g.D.Disk.seen c.advance.new.disk in
     let tidied = c.in_ok-tidy.ensures.done told s settled in
-    let is = c.in_ok-made.ensures.reopens s settled.coherent loaded.manifest (c.in_ok-version.ensures.files s settled.coherent loaded.manifest loaded.files) loaded.journal in
+    let is = reopens_of s c.args.manifest.now c.args.made settled.coherent ready c.in_ok-made.made c.in_ok-made.ensures.reopens in
     let t = next_stored s c.in_ok-made.made is in
     let may : MayAdvance (g.D.Disk.seen c.tidy.new.disk) s [] t [] c.in_ok-made.made.headers.items c.in_ok-made.made.step = record { settled = tidied.0; only = tidied.1; step_is = is.step } in
     goes_then (λ x. IsKept x h) s0 s1 s2
@@ -66,24 +58,23 @@ returns-clause-any_moment g c = λ told s settled loaded h stands.
     (goes_weaker (λ x. Encodes x s ⊎ Encodes x t) (λ x. IsKept x h) s1 s2 (either_kept h s t settled.coherent stands is.step.coherent (is.stands h stands)) (c.advance.ensures.any_moment told s t [] [] may))
 
 pub returns-clause-there : goal.returns-clause-there
-returns-clause-there g c = λ told s settled loaded.
+returns-clause-there g c = λ told s settled ready.
     let s1 = g.D.Disk.seen c.tidy.new.disk in
     let s2 = g.D.Disk.seen c.advance.new.disk in
     let tidied = c.in_ok-tidy.ensures.done told s settled in
-    let has = c.in_ok-version.ensures.files s settled.coherent loaded.manifest loaded.files in
-    let is = c.in_ok-made.ensures.reopens s settled.coherent loaded.manifest has loaded.journal in
+    let is = reopens_of s c.args.manifest.now c.args.made settled.coherent ready c.in_ok-made.made c.in_ok-made.ensures.reopens in
     let t = next_stored s c.in_ok-made.made is in
     let may : MayAdvance (g.D.Disk.seen c.tidy.new.disk) s [] t [] c.in_ok-made.made.headers.items c.in_ok-made.made.step = record { settled = tidied.0; only = tidied.1; step_is = is.step } in
     let done = c.in_ok-reopened.ensures.done told s t [] [] may in
-    reopened_of s c.in_ok-made.made is settled.coherent s1.directory tidied.1 loaded.rising s2 c.in_ok-reopened.reopened done.0 done.1
-    (c.in_ok-reopened.ensures.kept told s t [] [] may) (c.in_ok-reopened.ensures.files told s t [] [] may has)
+    reopened_of s c.in_ok-made.made is settled.coherent s1.directory tidied.1 ready.rising s2 c.in_ok-reopened.reopened done.0 done.1
+    (c.in_ok-reopened.ensures.kept told s t [] [] may) (c.in_ok-reopened.ensures.files told s t [] [] may ready.files)
 
 pub returns-clause-spelled : goal.returns-clause-spelled
 returns-clause-spelled g c = record {
   manifest = c.in_ok-made.ensures.spelled;
   config_is = c.in_ok-made.ensures.config;
   segments = c.in_ok-made.ensures.segments;
-  levels = c.in_ok-reopened.ensures.levels ∙ c.in_ok-version.ensures.levels;
+  levels = c.in_ok-reopened.ensures.levels ∙ c.requires.ready.levels;
 }
 
 pub returns-clause-numbers : goal.returns-clause-numbers

@@ -1,5 +1,8 @@
 use Rattle.std.proofs.Common.{◌≡◌, [], filter, sym, ap, subst, ◌∙◌}
-use Rattle.std.specs.Prelude.{map}
+use Rattle.std.specs.Prelude.{IsTrue, ◌↔◌}
+use Rattle.std.specs.BTreeSet.{contains}
+use Rattle.lethe_base.specs.Names.{name_cmp}
+use Rattle.lethe_base.specs.declared.name.Name.{Name}
 use Rattle.lethe_disk.specs.Directory.{Directory, object, SameBeside}
 use Rattle.lethe_disk.specs.Disk.{Seen, Image, IsSynced}
 use Rattle.lethe_disk.proofs.Moments.{same_synced}
@@ -7,12 +10,12 @@ use Rattle.lethe_disk.proofs.Going.{goes_leads, goes_quiet, goes_then}
 use Rattle.lethe_disk.proofs.Quieting.{quiet_call, on_ok_both}
 use Rattle.lethe_commit.specs.Clear.{ArePresent, IsCleared, remove_all}
 use Rattle.lethe_commit.proofs.Removals.{cleared_others}
-use Rattle.lethe_stored.specs.Stored.{Stored}
+use Rattle.lethe_stored.specs.Stored.{Stored, IsCited}
 use Rattle.lethe_stored.specs.Encodes.{Encodes, AreSpare}
 use Rattle.lethe_stored.proofs.Frame.{besides}
 use Rattle.lethe_stored.proofs.Unique.{one_stored}
 use Rattle.lethe_advance.specs.Settled.{IsSettled, HasOnly}
-use Rattle.lethe_recover.proofs.Uncited.{test, rest, rest_present, rest_spare, rest_gone, cites_set}
+use Rattle.lethe_recover.proofs.Uncited.{test, rest, rest_present, rest_spare, rest_gone}
 use Rattle.lethe_recover.proofs.tidying.tidy.Goals as goal
 
 -- what is stored is in the one image
@@ -21,18 +24,6 @@ in_image disk s settled d here = subst (λ x. Encodes x s) (sym (settled.synced 
 
 pub returns-in_err-names-clause-any_moment : goal.returns-in_err-names-clause-any_moment
 returns-in_err-names-clause-any_moment g c = λ told s settled.
-    let s0 = g.D.Disk.seen c.args.disk.now in
-    let s1 = g.D.Disk.seen c.names.new.self in
-    goes_quiet (λ x. Encodes x s) s0 s1 (quiet_call c.names.result s0 s1 (c.names.ensures.call told) (c.names.ensures.directory told)) (in_image s0 s settled)
-
-pub returns-in_err-cited_names-clause-any_moment : goal.returns-in_err-cited_names-clause-any_moment
-returns-in_err-cited_names-clause-any_moment g c = λ told s settled.
-    let s0 = g.D.Disk.seen c.args.disk.now in
-    let s1 = g.D.Disk.seen c.names.new.self in
-    goes_quiet (λ x. Encodes x s) s0 s1 (quiet_call c.names.result s0 s1 (c.names.ensures.call told) (c.names.ensures.directory told)) (in_image s0 s settled)
-
-pub returns-in_err-cited-clause-any_moment : goal.returns-in_err-cited-clause-any_moment
-returns-in_err-cited-clause-any_moment g c = λ told s settled.
     let s0 = g.D.Disk.seen c.args.disk.now in
     let s1 = g.D.Disk.seen c.names.new.self in
     goes_quiet (λ x. Encodes x s) s0 s1 (quiet_call c.names.result s0 s1 (c.names.ensures.call told) (c.names.ensures.directory told)) (in_image s0 s settled)
@@ -49,8 +40,8 @@ clear-requires-after_bounds g c κs within = λ told.
     let s = asked.0 in
     let settled = asked.1 in
     let d = (g.D.Disk.seen c.args.disk.now).directory in
-    let set = c.in_ok-cited.cited in
-    let cites = cites_set s set c.in_ok-cited_names.field-0.items c.args.manifest.now (map (λ file. file.header) c.args.files.now) settled.coherent asked.2 asked.3 c.in_ok-cited_names.ensures c.in_ok-cited.ensures in
+    let set = c.args.cited.now in
+    let cites = asked.2 in
     let items : c.deref-2.result.now ≡ rest s set cites d settled.encodes =
     c.deref-2.ensures.value ∙ c.in_ok-rest.ensures ∙ ap (filter (test s set cites)) (c.deref.ensures.value ∙ c.in_ok-names.ensures.done told) in
     subst (λ x. ArePresent c.deref-2.result.now x) (sym (c.names.ensures.directory told)) (subst (λ l. ArePresent l d) (sym items) (rest_present s set cites d settled.encodes))
@@ -63,9 +54,8 @@ returns-clause-any_moment g c = λ told s settled.
     let s2 = g.D.Disk.seen c.clear.new.disk in
     let d = s0.directory in
     let one : asked.0 ≡ s = one_stored d asked.0 s (asked.1).coherent settled.coherent (asked.1).encodes settled.encodes in
-    let set = c.in_ok-cited.cited in
-    let cites = cites_set s set c.in_ok-cited_names.field-0.items c.args.manifest.now (map (λ file. file.header) c.args.files.now) settled.coherent
-    (ap (λ (x : Stored). x.manifest) (sym one) ∙ asked.2) (asked.3 ∙ ap (λ (x : Stored). map (λ file. file.header) x.files) one) c.in_ok-cited_names.ensures c.in_ok-cited.ensures in
+    let set = c.args.cited.now in
+    let cites : (name : Name) → IsTrue (contains name_cmp set name) ↔ IsCited s name = subst (λ (x : Stored). (name : Name) → IsTrue (contains name_cmp set name) ↔ IsCited x name) one asked.2 in
     let items : c.deref-2.result.now ≡ rest s set cites d settled.encodes =
     c.deref-2.ensures.value ∙ c.in_ok-rest.ensures ∙ ap (filter (test s set cites)) (c.deref.ensures.value ∙ c.in_ok-names.ensures.done told) in
     let spare : AreSpare s c.deref-2.result.now = subst (AreSpare s) (sym items) (rest_spare s set cites d settled.encodes) in
@@ -83,9 +73,8 @@ returns-clause-done g c = λ told s settled.
     let s2 = g.D.Disk.seen c.clear.new.disk in
     let d = s0.directory in
     let one : asked.0 ≡ s = one_stored d asked.0 s (asked.1).coherent settled.coherent (asked.1).encodes settled.encodes in
-    let set = c.in_ok-cited.cited in
-    let cites = cites_set s set c.in_ok-cited_names.field-0.items c.args.manifest.now (map (λ file. file.header) c.args.files.now) settled.coherent
-    (ap (λ (x : Stored). x.manifest) (sym one) ∙ asked.2) (asked.3 ∙ ap (λ (x : Stored). map (λ file. file.header) x.files) one) c.in_ok-cited_names.ensures c.in_ok-cited.ensures in
+    let set = c.args.cited.now in
+    let cites : (name : Name) → IsTrue (contains name_cmp set name) ↔ IsCited s name = subst (λ (x : Stored). (name : Name) → IsTrue (contains name_cmp set name) ↔ IsCited x name) one asked.2 in
     let all = rest s set cites d settled.encodes in
     let items : c.deref-2.result.now ≡ all =
     c.deref-2.ensures.value ∙ c.in_ok-rest.ensures ∙ ap (filter (test s set cites)) (c.deref.ensures.value ∙ c.in_ok-names.ensures.done told) in

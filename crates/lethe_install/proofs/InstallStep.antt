@@ -1,0 +1,346 @@
+-- The step that installs what a job made of stored files.
+use Rattle.std.proofs.Common.{◌≡◌, ◌≢◌, ◌⊎◌, ◌≤◌, ◌<◌, ◌+◌, inl, inr, ℕ, Bool, true, false, List, [], ◌∷◌, ◌++◌, append_assoc, length, map, get_or, take, All, AllPairs, Contains, IsPermutation, refl, sym, ap, ◌∙◌, subst, arith}
+use Rattle.std.specs.Prelude.{filter, flat_map, not, zip}
+use Rattle.std.proofs.lemmas.List.Elements.{All-contains, All-nil, Contains-append_cases, Contains-append_left, Contains-append_right, Contains-get_or}
+use Rattle.std.proofs.lemmas.List.Kept.{AllPairs-filter}
+use Rattle.std.proofs.lemmas.List.Sorted.{Contains-permutation, IsPermutation-append_comm, IsPermutation-append_right, IsPermutation-filter_both, IsPermutation-sym, IsPermutation-trans}
+use Rattle.lethe_advance.specs.Settled.{AreDrawn, AreUncited, names_in}
+use Rattle.lethe_advance.specs.Steps.{IsObjectFrom, IsSegmentFrom, IsStep, IsUncited, written_in}
+use Rattle.lethe_advance.specs.declared.step.Step.{Step}
+use Rattle.lethe_base.specs.declared.entry.Entry.{Entry}
+use Rattle.lethe_base.specs.declared.name.Kind.TheVariants as kinds
+use Rattle.lethe_base.specs.declared.name.Name.{Name}
+use Rattle.lethe_build.specs.Drafts.{AreDraftsOf}
+use Rattle.lethe_build.specs.declared.draft.Draft.{Draft}
+use Rattle.lethe_commit.specs.declared.objects.Object.{Object}
+use Rattle.lethe_cover.proofs.Common.{⊎_elim}
+use Rattle.lethe_cover.proofs.Lists.{all_from, flat_from, flat_in, in_map, map_from, pairs_from, pairs_to}
+use Rattle.lethe_file.specs.Agreement.{page_name}
+use Rattle.lethe_flush.specs.Made.{AreFilesOf, named_of, pages_in, written_pages}
+use Rattle.lethe_flush.specs.declared.made.MadeFiles.{MadeFiles}
+use Rattle.lethe_flush.proofs.Weaving.{are_woven, files_agree}
+use Rattle.lethe_follows.specs.Merged.{AreNewIn, IsMerged, IsMergeIn, StoredMerge, entries_in, inputs_of, merging_manifest, others_of}
+use Rattle.lethe_follows.proofs.MergeFiles.{merged_coherent}
+use Rattle.lethe_follows.proofs.Permuted.{pairs_kept}
+use Rattle.lethe_header.specs.declared.header.Header.{Header}
+use Rattle.lethe_header.specs.declared.header.PageLine.{PageLine}
+use Rattle.lethe_job.specs.Tasks.{IsTaskIn, PlainTask, inputs_in}
+use Rattle.lethe_manifest.specs.Manifests.{HasSpelling}
+use Rattle.lethe_manifest.specs.declared.manifest.Manifest.{Manifest}
+use Rattle.lethe_merge.specs.Merge.{merged}
+use Rattle.lethe_merge.proofs.Merges.{merged_ascends}
+use Rattle.lethe_state.specs.Remembered.{IsCurrent, Remembers}
+use Rattle.lethe_state.specs.declared.state.State.{State}
+use Rattle.lethe_state.proofs.Shared.{loose_apart, loose_pages}
+use Rattle.lethe_stored.specs.Files.{Parts, StoredFile, IsFile, cited_of, file_name, lines_in, objects_in, objects_of}
+use Rattle.lethe_stored.specs.Stored.{Stored, IsCited, IsCoherent, pending_of, part_names, segment_name, segment_numbers, segments_of}
+use Rattle.lethe_stored.proofs.Leveled.{from_filter, in_filter}
+use Rattle.lethe_stored.proofs.Parts.{IsNameOf, OfHeader, OfPage, OfSegment, name_cases, object_part, part_below}
+use Rattle.lethe_install.specs.Inputs.{AreInputs, names_of, number_of, numbered}
+use Rattle.lethe_install.specs.Installed.{IsInstallStep}
+use Rattle.lethe_install.specs.Placed.{is_among, is_before, is_behind, with_made}
+use Rattle.lethe_install.specs.declared.inputs.Inputs.{Inputs}
+use Rattle.lethe_install.proofs.Beside.{placed, placed_from, placed_into, placed_rest}
+use Rattle.lethe_install.proofs.Named.{file_no_page, line_name, name_in, name_kinds, names_are, names_once, number_in, pages_differ}
+use Rattle.lethe_install.proofs.Between.{with_made_laid}
+
+-- the names of what was written before
+zip_firsts : (names : List Name) (pages : List (List ℕ)) → length names ≤ length pages → map name_in (zip names (take (length names) pages)) ≡ names
+zip_firsts [] pages few = refl
+zip_firsts (name ∷ names) [] few = absurd (omega (arith, few))
+zip_firsts (name ∷ names) (page ∷ pages) few = ap (λ l. name ∷ l) (zip_firsts names pages (omega (arith, few)))
+
+segment_no_file : (a b : ℕ) → segment_name a ≡ file_name b → ⊥
+segment_no_file a b same = let clash : kinds.Segment ≡ kinds.File = ap (λ (n : Name). n.kind) same in cc
+
+segment_no_page : (a b : ℕ) → segment_name a ≡ page_name b → ⊥
+segment_no_page a b same = let clash : kinds.Segment ≡ kinds.Page = ap (λ (n : Name). n.kind) same in cc
+
+goes_not : (b : Bool) → not b ≡ true → b ≡ true → ⊥
+goes_not b stays goes = let clash : false ≡ true = ap not (sym goes) ∙ stays in cc
+
+module _ (s : Stored) (state : State) (levels : List (List Parts)) (is : Remembers s state levels) (current : IsCurrent s state) (fits : state.manifest.next ≤ state.next)
+    (m : StoredMerge) (begun : IsMergeIn s m) (alone : Bool) (upto : ℕ) (written : List Name) (drafts : List Draft)
+    (drawn : AreDrawn state.next written) (few : length written ≤ length (pages_in drafts)) (uncited : AreUncited s (written_pages written drafts))
+    (of : AreDraftsOf s.manifest.config (merged (entries_in (inputs_of m)) (pending_of s) alone) drafts)
+    (parts : MadeFiles) (risen : state.next ≤ parts.next) (made : List StoredFile) (are : AreFilesOf drafts (m.level + 1) upto written state.next parts made)
+    (inputs : Inputs) (numbers : inputs.numbers.items ≡ map number_of (inputs_of m)) (found : AreInputs (m.level + 1) m.sources s.files inputs) where
+  abbrev number : ℕ
+  number = parts.next
+
+  abbrev above : List ℕ
+  above = inputs.above.items
+
+  abbrev others : List StoredFile
+  others = others_of s m
+
+  abbrev files : List StoredFile
+  files = placed s is.coherent m begun above found.above made are.level_is
+
+  abbrev t : Stored
+  t = record { manifest = merging_manifest s files number; frozen = s.frozen; active = s.active; files = files }
+
+  abbrev loose : List (Name × List ℕ)
+  loose = written_pages written drafts
+
+  next_is : state.manifest.next ≡ s.manifest.next
+  next_is = ap (λ (m : Manifest). m.next) is.manifest
+
+  drawn_before : s.manifest.next ≤ state.next
+  drawn_before = omega (arith, fits, next_is)
+
+  later : s.manifest.next ≤ number
+  later = omega (arith, risen, drawn_before)
+
+  loose_names : names_in loose ≡ written
+  loose_names = zip_firsts written (pages_in drafts) few
+
+  loose_drawn : AreDrawn state.next (names_in loose)
+  loose_drawn = subst (AreDrawn state.next) (sym loose_names) drawn
+
+  -- What is stored next
+
+  abbrev behind : StoredFile → Bool
+  behind file = is_behind (m.level + 1) above (cited_of file)
+
+  abbrev before : StoredFile → Bool
+  before file = is_before (m.level + 1) above (cited_of file)
+
+  permuted : IsPermutation (made ++ others) files
+  permuted =
+      let low = filter before others in
+      let high = filter behind others in
+      IsPermutation-trans (made ++ others) ((made ++ high) ++ low) (low ++ (made ++ high))
+      (subst (IsPermutation (made ++ others)) (sym (append_assoc made high low)) (IsPermutation-append_right made others (high ++ low) (IsPermutation-filter_both behind before (λ file. refl) others)))
+      (IsPermutation-append_comm (made ++ high) low)
+
+  written_line : (line : PageLine) → Contains written (page_name line.no) → line.no < state.next
+  written_line line there = (All-contains (λ (name : Name). (name.kind ≡ kinds.Page) × (name.no < state.next)) written (page_name line.no) drawn.each there).1
+
+  abbrev IsLine : PageLine → Type 0
+  IsLine line = Contains written (page_name line.no) ⊎ ((state.next ≤ line.no) × (line.no < number))
+
+  made_line : (line : PageLine) → Contains (flat_map lines_in made) line → IsLine line
+  made_line line there = All-contains IsLine (flat_map lines_in made) line are.lines there
+
+  line_below : (line : PageLine) → IsLine line → line.no < number
+  line_below line (inl before) = let low = written_line line before in omega (arith, low, risen)
+  line_below line (inr fresh) = fresh.1
+
+  -- a page of a new file isn't cited
+  line_uncited : (line : PageLine) → IsLine line → Contains (part_names s) (page_name line.no) → ⊥
+  line_uncited line (inl before) cited =
+      let named = map_from name_in loose (page_name line.no) (subst (λ l. Contains l (page_name line.no)) (sym loose_names) before) in
+      All-contains (λ (named : Name × List ℕ). IsCited s named.0 → ⊥) loose named.0 uncited named.1 (inr (inr (subst (Contains (part_names s)) (sym named.2) cited)))
+  line_uncited line (inr fresh) cited = let low = part_below s (page_name line.no) is.coherent cited in let high = fresh.0 in omega (arith, low, high, drawn_before)
+
+  abbrev left : List Entry
+  left = merged (entries_in (inputs_of m)) (pending_of s) alone
+
+  new : AreNewIn s number made
+  new = record {
+    each = λ k d lt. record {
+      spelled = are.spelled k d lt;
+      agrees = files_agree s.manifest.config left (merged_ascends (entries_in (inputs_of m)) (pending_of s) alone) drafts of made are.each k d lt;
+      below = all_from (λ (line : PageLine). line.no < number) (lines_in (get_or made k d)) (λ line there. line_below line (made_line line (flat_in lines_in made (get_or made k d) line (Contains-get_or made k d lt) there)));
+    };
+    headers = λ k d lt. let own = are.headers_drawn k d lt in let low = own.0 in (omega (arith, low, drawn_before), own.1);
+    lines = all_from (λ (line : PageLine). Contains (part_names s) (page_name line.no) → ⊥) (flat_map lines_in made) (λ line there. line_uncited line (made_line line there));
+    files_once = λ i j d before within same. let up = are.headers_ascend i j d before within in omega (arith, up, same);
+    pages_once = are.lines_once;
+  }
+
+  is_merged : IsMerged s m (pending_of s) alone upto t
+  is_merged = record {
+    made = made;
+    number = number;
+    later = later;
+    manifest = refl;
+    frozen = refl;
+    active = refl;
+    files = permuted;
+    from = placed_from s is.coherent m begun above found.above made are.level_is;
+    into = placed_into s is.coherent m begun above found.above made are.level_is;
+    rest = placed_rest s is.coherent m begun above found.above made are.level_is;
+    level = are.level_is;
+    new = new;
+    woven = are_woven s.manifest.config left (merged_ascends (entries_in (inputs_of m)) (pending_of s) alone) drafts of made are.each upto are.spelled are.swept;
+  }
+
+  -- The step
+
+  module _ (headers : List Header) (step : Step) (stepped : IsInstallStep state (m.level + 1) inputs parts headers step) (spelled : HasSpelling step.manifest) where
+    cited_same : with_made (m.level + 1) inputs.numbers.items above parts.cited.items state.manifest.files ≡ map cited_of files
+    cited_same =
+        (λ i. with_made (m.level + 1) (numbers i) above (are.cited i) ((ap (λ (m : Manifest). m.files) is.manifest ∙ (is.coherent).files) i))
+        ∙ with_made_laid (m.level + 1) (map number_of (inputs_of m)) above made s.files
+
+    manifest_is : step.manifest ≡ t.manifest
+    manifest_is = stepped.manifest ∙ (λ i. record (is.manifest i) { no = number; count = current.count i; next = number + 1; erases = is.pending i; files = cited_same i })
+
+    coherent_then : IsCoherent t
+    coherent_then = merged_coherent s is.coherent m (pending_of s) alone upto t is_merged (subst HasSpelling manifest_is spelled)
+
+    abbrev goes : StoredFile → Bool
+    goes file = is_among (map number_of (inputs_of m)) file.header.no
+
+    -- files of the next state
+
+    to_files : (file : StoredFile) → Contains (made ++ others) file → Contains files file
+    to_files file there = Contains-permutation (made ++ others) files file permuted there
+
+    from_files : (file : StoredFile) → Contains files file → Contains made file ⊎ (Contains s.files file × (not (goes file) ≡ true))
+    from_files file there = ⊎_elim (λ new. inl new) (λ old. inr (from_filter (λ (file : StoredFile). not (goes file)) s.files file old))
+        (Contains-append_cases made others file (Contains-permutation files (made ++ others) file (IsPermutation-sym (made ++ others) files permuted) there))
+
+    new_object : (object : Name × List ℕ) → Contains (objects_of made) object → Contains (objects_of files) object
+    new_object object there = let from = flat_from objects_in made object there in flat_in objects_in files from.0 object (to_files from.0 (Contains-append_left made others from.0 from.1)) from.2
+
+    -- what is written before or by the step is an object of a new file, and the other way round
+
+    made_objects : (object : Name × List ℕ) → Contains (objects_of made) object → Contains loose object ⊎ Contains (written_in step) object
+    made_objects object there = ⊎_elim (λ before. inl before) (λ more. inr (subst (λ (objects : List Object). Contains (map named_of objects) object) (sym stepped.objects) more))
+        (Contains-append_cases loose (map named_of parts.objects.items) object (Contains-permutation (objects_of made) (loose ++ map named_of parts.objects.items) object are.objects there))
+
+    back : (object : Name × List ℕ) → Contains (loose ++ map named_of parts.objects.items) object → Contains (objects_of made) object
+    back object there = Contains-permutation (loose ++ map named_of parts.objects.items) (objects_of made) object (IsPermutation-sym (objects_of made) (loose ++ map named_of parts.objects.items) are.objects) there
+
+    of_loose : (object : Name × List ℕ) → Contains loose object → Contains (objects_of made) object
+    of_loose object there = back object (Contains-append_left loose (map named_of parts.objects.items) object there)
+
+    of_step : (object : Object) → Contains step.objects.items object → Contains parts.objects.items object
+    of_step object there = subst (λ (objects : List Object). Contains objects object) stepped.objects there
+
+    of_written : (object : Object) → Contains step.objects.items object → Contains (objects_of made) (named_of object)
+    of_written object there = back (named_of object) (Contains-append_right loose (map named_of parts.objects.items) (named_of object) (in_map named_of parts.objects.items object (of_step object there)))
+
+    fresh_no : (object : Object) → Contains step.objects.items object → state.next ≤ object.name.no
+    fresh_no object there = (All-contains (λ (object : Object). (state.next ≤ object.name.no) × (object.name.no < number)) parts.objects.items object are.drawn (of_step object there)).0
+
+    object_from : (object : Name × List ℕ) → Contains (objects_of files) object → IsObjectFrom s loose step object
+    object_from object there =
+        let from = flat_from objects_in files object there in
+        ⊎_elim
+        (λ new. ⊎_elim (λ before. inr (inl before)) (λ more. inr (inr more)) (made_objects object (flat_in objects_in made from.0 object new from.2)))
+        (λ old. inl (flat_in objects_in s.files from.0 object old.0 from.2))
+        (from_files from.0 from.1)
+
+    -- what goes
+
+    abbrev lost : List StoredFile
+    lost = numbered (map number_of (inputs_of m)) s.files
+
+    gone_is : step.gone.items ≡ flat_map names_of lost
+    gone_is = stepped.gone ∙ found.names ∙ ap (λ gone. flat_map names_of (numbered gone s.files)) numbers
+
+    file_is : (file : StoredFile) → Contains s.files file → IsFile s.manifest.next file
+    file_is file there = All-contains (IsFile s.manifest.next) s.files file (is.coherent).each there
+
+    stays : (name : Name) → Contains (part_names s) name → Contains (part_names t) name ⊎ Contains step.gone.items name
+    stays name there = elim (Contains-append_cases (map segment_name (segment_numbers s)) (map name_in (objects_of s.files)) name there) [
+      | inl segment ↦ inl (Contains-append_left (map segment_name (segment_numbers s)) (map name_in (objects_of files)) name segment)
+      | inr object ↦
+          let named = map_from name_in (objects_of s.files) name object in
+          let file = flat_from objects_in s.files named.0 named.1 in
+          by name named.0 file.0 file.1 file.2 named.2 (goes file.0) refl
+    ]
+      where
+        by : (name : Name) (named : Name × List ℕ) (file : StoredFile) → Contains s.files file → Contains (objects_in file) named → named.0 ≡ name → (b : Bool) → goes file ≡ b
+            → Contains (part_names t) name ⊎ Contains step.gone.items name
+        by name named file there own same true at = inr (subst (λ l. Contains l name) (sym gone_is) (flat_in names_of lost file name (in_filter goes s.files file there at)
+            (subst (λ l. Contains l name) (sym (names_are s.manifest.next file (file_is file there))) (subst (Contains (map name_in (objects_in file))) same (in_map name_in (objects_in file) named own)))))
+        by name named file there own same false at = inl (subst (Contains (part_names t)) same (object_part t named (flat_in objects_in files file named
+            (to_files file (Contains-append_right made others file (in_filter (λ (file : StoredFile). not (goes file)) s.files file there (ap not at)))) own)))
+
+    -- a name of a file that goes isn't one of those that stay or come
+    header_out : (file : StoredFile) → Contains s.files file → goes file ≡ true → (g : StoredFile) → Contains files g → g.header.no ≢ file.header.no
+    header_out file there gone g cited same = ⊎_elim
+        (λ new.
+        let high = (All-contains (λ (file : StoredFile). (state.next ≤ file.header.no) × (file.header.no < number)) made g are.headers_drawn new).0 in
+        let low = part_below s (file_name file.header.no) is.coherent (object_part s _ (flat_in objects_in s.files file _ there (0, omega arith, refl))) in
+        omega (arith, high, low, same, drawn_before))
+        (λ old. goes_not (goes g) old.1 (ap (is_among (map number_of (inputs_of m))) same ∙ gone))
+        (from_files g cited)
+
+    page_part : (file : StoredFile) → Contains s.files file → (name : Name) → Contains (names_of file) name → Contains (part_names s) name
+    page_part file there name own =
+        let named = map_from name_in (objects_in file) name (subst (λ l. Contains l name) (names_are s.manifest.next file (file_is file there)) own) in
+        subst (Contains (part_names s)) named.2 (object_part s named.0 (flat_in objects_in s.files file named.0 there named.1))
+
+    page_out : (file : StoredFile) → Contains s.files file → goes file ≡ true → (line : PageLine) → Contains (lines_in file) line → Contains (part_names s) (line_name line)
+        → (g : StoredFile) → Contains files g → (other : PageLine) → Contains (lines_in g) other → other.no ≢ line.no
+    page_out file there gone line own cited g among other of_g same = ⊎_elim
+        (λ new. line_uncited other (made_line other (flat_in lines_in made g other new of_g)) (subst (λ n. Contains (part_names s) (page_name n)) (sym same) cited))
+        (λ old. pages_differ goes s.files (pairs_from (λ (a b : PageLine). a.no ≢ b.no) (flat_map lines_in s.files) (is.coherent).pages_once) g file old.0 there
+        (λ told. goes_not (goes g) old.1 (told ∙ gone)) other line of_g own same)
+        (from_files g among)
+
+    out : (file : StoredFile) → Contains s.files file → goes file ≡ true → (name : Name) → Contains (names_of file) name → Contains (part_names s) name → IsNameOf t name → ⊥
+    out file there gone name own cited (OfSegment k among same) = ⊎_elim
+        (λ header. segment_no_file k file.header.no (same ∙ sym header))
+        (λ page. segment_no_page k page.0.no (same ∙ sym page.2))
+        (name_kinds file name own)
+    out file there gone name own cited (OfHeader g among same) = ⊎_elim
+        (λ header. header_out file there gone g among (number_in (file_name g.header.no) (file_name file.header.no) (same ∙ sym header)))
+        (λ page. file_no_page g.header.no page.0.no (same ∙ sym page.2))
+        (name_kinds file name own)
+    out file there gone name own cited (OfPage g other among inside same) = ⊎_elim
+        (λ header. file_no_page file.header.no other.no (header ∙ sym same))
+        (λ page. page_out file there gone page.0 page.1 (subst (Contains (part_names s)) (sym page.2) cited) g among other inside (number_in (page_name other.no) (line_name page.0) (same ∙ sym page.2)))
+        (name_kinds file name own)
+
+    gone_uncited : (name : Name) → Contains (flat_map names_of lost) name → IsUncited s t name
+    gone_uncited name there =
+        let file = flat_from names_of lost name there in
+        let was = from_filter goes s.files file.0 file.1 in
+        let cited = page_part file.0 was.0 name file.2 in
+        (cited, λ still. out file.0 was.0 was.1 name file.2 cited (name_cases t name still))
+
+    gone_once : AllPairs (λ (name other : Name). name ≢ other) (flat_map names_of lost)
+    gone_once = pairs_to (λ (name other : Name). name ≢ other) (flat_map names_of lost) (names_once lost
+        (pairs_from (λ (a b : StoredFile). a.header.no ≢ b.header.no) lost (AllPairs-filter (λ (a b : StoredFile). a.header.no ≢ b.header.no) goes s.files (is.coherent).files_once))
+        (pairs_kept (λ (a b : PageLine). a.no ≢ b.no) lines_in goes s.files (pairs_from (λ (a b : PageLine). a.no ≢ b.no) (flat_map lines_in s.files) (is.coherent).pages_once)))
+
+    is_step : IsStep s loose t [] headers step
+    is_step = record {
+      coherent = coherent_then;
+      config = refl;
+      manifest = manifest_is;
+      later = later;
+      fresh = all_from (λ (object : Object). s.manifest.next ≤ object.name.no) step.objects.items (λ object there. let high = fresh_no object there in omega (arith, high, drawn_before));
+      once = subst (AllPairs (λ (a b : Object). a.name ≢ b.name)) (sym stepped.objects) are.once;
+      loose_pages = loose_pages state.next loose loose_drawn;
+      loose_uncited = uncited;
+      beside = all_from (λ (object : Object). Contains (names_in loose) object.name → ⊥) step.objects.items (λ object there. loose_apart state.next loose loose_drawn object.name (fresh_no object there));
+      segments = all_from (IsSegmentFrom s step) (segments_of s) (λ segment there. inl there);
+      objects = all_from (IsObjectFrom s loose step) (objects_of files) object_from;
+      cited = all_from (λ (object : Object). Contains (part_names t) object.name) step.objects.items (λ object there. object_part t (named_of object) (new_object (named_of object) (of_written object there)));
+      stays = all_from (λ name. Contains (part_names t) name ⊎ Contains step.gone.items name) (part_names s) stays;
+      gone = subst (All (IsUncited s t)) (sym gone_is) (all_from (IsUncited s t) (flat_map names_of lost) gone_uncited);
+      gone_once = subst (AllPairs (λ (name other : Name). name ≢ other)) (sym gone_is) gone_once;
+      taken = all_from (λ (named : Name × List ℕ). Contains (names_in []) named.0 ⊎ Contains (part_names t) named.0) loose (λ named there. inr (object_part t named (new_object named (of_loose named there))));
+      left_loose = All-nil (Contains loose);
+      left_uncited = All-nil (λ (named : Name × List ℕ). IsCited t named.0 → ⊥);
+      added = made;
+      headers_are = stepped.headers_are ∙ are.headers_are;
+      level = subst (λ level. All (λ (file : StoredFile). file.level ≡ level) made) (sym stepped.level_is) are.level_is;
+      files = subst (λ gone. IsPermutation (made ++ filter (λ (file : StoredFile). not (is_among gone file.header.no)) s.files) files) (sym (stepped.merged ∙ numbers)) permuted;
+    }
+
+-- as a task has it
+pub install_steps : (s : Stored) (m : StoredMerge) (state : State) (levels : List (List Parts)) (task : PlainTask) → Remembers s state levels → IsCurrent s state → state.manifest.next ≤ state.next
+    → IsTaskIn s m task → (written : List Name) (drafts : List Draft) → AreDrawn state.next written → length written ≤ length (pages_in drafts) → AreUncited s (written_pages written drafts)
+    → AreDraftsOf s.manifest.config (merged (entries_in (inputs_of m)) (pending_of s) task.alone) drafts
+    → (parts : MadeFiles) → state.next ≤ parts.next → (made : List StoredFile) → AreFilesOf drafts (task.level + 1) task.upto written state.next parts made
+    → (inputs : Inputs) → inputs.numbers.items ≡ map number_of (inputs_in task) → AreInputs (task.level + 1) task.sources s.files inputs
+    → (headers : List Header) (step : Step) → IsInstallStep state (task.level + 1) inputs parts headers step → HasSpelling step.manifest
+    → (t : Stored) × IsMerged s m (pending_of s) task.alone task.upto t × IsStep s (written_pages written drafts) t [] headers step
+install_steps s m state levels task is current fits begun written drafts drawn few uncited of parts risen made are inputs numbers found headers step stepped spelled =
+    let numbers_are = numbers ∙ (λ i. map number_of (begun.sources i ++ begun.met i)) in
+    let of_level = subst (λ l. AreFilesOf drafts (l + 1) task.upto written state.next parts made) begun.level are in
+    let beside = subst (λ l. AreInputs (l + 1) m.sources s.files inputs) begun.level (subst (λ sources. AreInputs (task.level + 1) sources s.files inputs) begun.sources found) in
+    let made_step = subst (λ l. IsInstallStep state (l + 1) inputs parts headers step) begun.level stepped in (
+      t s state levels is current fits m begun.merge task.alone task.upto written drafts drawn few uncited of parts risen made of_level inputs numbers_are beside,
+      is_merged s state levels is current fits m begun.merge task.alone task.upto written drafts drawn few uncited of parts risen made of_level inputs numbers_are beside,
+      is_step s state levels is current fits m begun.merge task.alone task.upto written drafts drawn few uncited of parts risen made of_level inputs numbers_are beside headers step made_step spelled,
+    )

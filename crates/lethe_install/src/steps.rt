@@ -1,0 +1,189 @@
+//! Installing the outputs of a job.
+ghost use Rattle.std.specs.Prelude as prelude;
+ghost use Rattle.std.specs.Prelude.{◌≡◌, ◌⊎◌, ◌↔◌, ◌+◌, ◌-◌, ◌<◌, ◌≤◌, ◌^◌, [], All, IfErr, IfOk, IsErrOf, IsTrue, length, sum_by};
+ghost use Rattle.lethe_base.specs.Limits.{max_place};
+ghost use Rattle.lethe_base.specs.declared.refused.Refused.TheVariants as refused;
+ghost use Rattle.lethe_advance.specs.Settled.{AreDrawn, AreUncited};
+ghost use Rattle.lethe_advance.specs.Shown.{parts_by_level};
+ghost use Rattle.lethe_advance.specs.Steps.{IsStep};
+ghost use Rattle.lethe_build.specs.Drafts.{AreDraftsOf, IsDraft, numbers_for};
+ghost use Rattle.lethe_flush.specs.Made.{pages_in, written_pages};
+ghost use Rattle.lethe_follows.specs.Merged.{IsMerged, StoredMerge, entries_in, inputs_of};
+ghost use Rattle.lethe_header.specs.Headers as headers;
+ghost use Rattle.lethe_install.specs.Installed.{IsInstallStep, installing_manifest};
+ghost use Rattle.lethe_job.specs.Tasks.{IsTaskIn, plain_task};
+ghost use Rattle.lethe_merge.specs.Merge.{merged};
+ghost use Rattle.lethe_state.specs.Remembered.{IsCurrent, Remembers};
+ghost use Rattle.lethe_state.specs.Room.{IsStepFrom};
+ghost use Rattle.lethe_state.specs.Writable.{IsWritable, segments_for};
+ghost use Rattle.lethe_stored.specs.Levels.{AreRising};
+ghost use Rattle.lethe_stored.specs.Stored.{Stored, pending_of};
+
+use crate::inputs::{Inputs, inputs_of};
+use crate::placing::with_made;
+use lethe_advance::Step;
+use lethe_base::{List, MAX_PLACE, Name, NoMemory, Refused};
+use lethe_build::Draft;
+use lethe_disk::Disk;
+use lethe_flush::{MadeFiles, make_files};
+use lethe_header::Header;
+use lethe_job::Task;
+use lethe_manifest::{Cited, Manifest};
+use lethe_state::State;
+use lethe_version::Version;
+use std::alloc::Global;
+
+/// The most files of a manifest.
+const MAX_FILES: usize = 0xffff_ffff;
+
+/// The headers of a job's outputs, and the step that installs them: it writes what isn't written of them yet, cites them in the place of the inputs and removes
+/// these. The first of the outputs' pages were written before, under these names; for the other pages, the headers and the manifest numbers are drawn.
+///
+/// # Errors
+///
+/// `Exhausted` where these numbers have run out, or `NoMemory`, also where a manifest would have 2^32 files.
+pub fn installing<D: Disk>(
+    alloc: Global,
+    state: &State,
+    version: &Version<D>,
+    task: &Task<D>,
+    drafts: Vec<Draft>,
+    written: &[Name],
+) -> Result<(Vec<Header>, Step), Refused>
+    requires writable { IsWritable state.now }
+    requires level { task.now.level < state.now.manifest.config.levels }
+    requires upto { task.now.upto ≤ max_place }
+    requires drafts { All IsDraft drafts.items }
+    requires few { sum_by numbers_for drafts.items < 2 ^ 63 }
+    requires written { AreDrawn state.now.next written.now }
+    requires some { length written.now ≤ length (pages_in drafts.items) }
+    ensures exhausted { IsErrOf result (refused.Exhausted max_place) → max_place ≤ state.now.next + (sum_by numbers_for drafts.items - length written.now) }
+    ensures refused { IfErr result (λ why. (why ≡ refused.Exhausted max_place) ⊎ (why ≡ refused.NoMemory)) }
+    ensures headers { IfOk result (λ made. All headers.HasSpelling made.0.items) }
+    ensures step { IfOk result (λ made. IsStepFrom (segments_for state.now.frozen) state.now made.1) }
+    ensures level { IfOk result (λ made. made.1.level ≡ task.now.level + 1) }
+    ensures objects { IfOk result (λ made. length made.1.objects.items ≡ sum_by numbers_for drafts.items - length written.now) }
+
+    // What is stored next is the merge's outcome, and none of the pages that were written before is left loose.
+    ensures installs { (s : Stored) (m : StoredMerge) → Remembers s state.now (parts_by_level version.now) → IsCurrent s state.now → AreRising s.files → IsTaskIn s m (plain_task task.now)
+        → AreUncited s (written_pages written.now drafts.items)
+        → AreDraftsOf s.manifest.config (merged (entries_in (inputs_of m)) (pending_of s) task.now.alone) drafts.items
+        → IfOk result (λ made. (t : Stored) × IsMerged s m (pending_of s) task.now.alone task.now.upto t
+        × IsStep s (written_pages written.now drafts.items) t [] made.0.items made.1) }
+{
+    if is_short_for(state, &drafts, written) {
+        return Err(Refused::Exhausted { last: MAX_PLACE });
+    }
+    match install(alloc, state, version, task, drafts, written) {
+        Ok(made) => Ok(made),
+        Err(NoMemory) => Err(Refused::NoMemory),
+    }
+}
+
+/// Whether the numbers of the objects that aren't written yet, and a manifest's, can't be drawn.
+fn is_short_for(state: &State, drafts: &[Draft], written: &[Name]) -> bool
+    requires next { state.now.next ≤ max_place }
+    requires few { sum_by numbers_for drafts.now < 2 ^ 63 }
+    requires some { length written.now ≤ length (pages_in drafts.now) }
+    ensures { IsTrue result ↔ (max_place ≤ state.now.next + (sum_by numbers_for drafts.now - length written.now)) }
+{
+    let mut count = 0;
+    for draft in drafts {
+        count += draft.pages.items().len() as u64 + 1;
+    }
+    MAX_PLACE <= state.next + (count - written.len() as u64)
+}
+
+/// The headers of the drafts' files, and the step that installs them.
+fn install<D: Disk>(
+    alloc: Global,
+    state: &State,
+    version: &Version<D>,
+    task: &Task<D>,
+    drafts: Vec<Draft>,
+    written: &[Name],
+) -> Result<(Vec<Header>, Step), NoMemory>
+    requires writable { IsWritable state.now }
+    requires level { task.now.level < state.now.manifest.config.levels }
+    requires upto { task.now.upto ≤ max_place }
+    requires drafts { All IsDraft drafts.items }
+    requires written { AreDrawn state.now.next written.now }
+    requires some { length written.now ≤ length (pages_in drafts.items) }
+    requires numbers { state.now.next + (sum_by numbers_for drafts.items - length written.now) < max_place }
+    ensures headers { IfOk result (λ made. All headers.HasSpelling made.0.items) }
+    ensures step { IfOk result (λ made. IsStepFrom (segments_for state.now.frozen) state.now made.1) }
+    ensures level { IfOk result (λ made. made.1.level ≡ task.now.level + 1) }
+    ensures objects { IfOk result (λ made. length made.1.objects.items ≡ sum_by numbers_for drafts.items - length written.now) }
+    ensures installs { (s : Stored) (m : StoredMerge) → Remembers s state.now (parts_by_level version.now) → IsCurrent s state.now → AreRising s.files → IsTaskIn s m (plain_task task.now)
+        → AreUncited s (written_pages written.now drafts.items)
+        → AreDraftsOf s.manifest.config (merged (entries_in (inputs_of m)) (pending_of s) task.now.alone) drafts.items
+        → IfOk result (λ made. (t : Stored) × IsMerged s m (pending_of s) task.now.alone task.now.upto t
+        × IsStep s (written_pages written.now drafts.items) t [] made.0.items made.1) }
+{
+    let level = task.level + 1;
+    let made = make_files(alloc, drafts, level, task.upto, written, state.next)?;
+    let inputs = inputs_of(alloc, version, task, level, state.manifest.files.items())?;
+    step_of(alloc, state, level, inputs, made)
+}
+
+/// The step that writes what a job made, and cites it in the level in the place of the inputs.
+fn step_of(
+    alloc: Global,
+    state: &State,
+    level: u64,
+    inputs: Inputs,
+    made: MadeFiles,
+) -> Result<(Vec<Header>, Step), NoMemory>
+    requires numbers { made.next < max_place }
+    ensures { IfOk result (λ step. IsInstallStep state.now level inputs made step.0.items step.1) }
+{
+    let MadeFiles {
+        headers,
+        objects,
+        cited,
+        next,
+    } = made;
+    let Inputs {
+        numbers,
+        above,
+        names,
+    } = inputs;
+    let old = state.manifest.files.items();
+    let files = with_made(alloc, old, cited, level, &numbers, &above)?;
+    let manifest = installing_manifest(alloc, state, files, next)?;
+    let step = Step {
+        objects,
+        level,
+        merged: numbers,
+        manifest,
+        gone: names,
+    };
+    Ok((headers, step))
+}
+
+/// The manifest of this number, which cites these files and has the pending erases.
+fn installing_manifest(
+    alloc: Global,
+    state: &State,
+    files: Vec<Cited>,
+    number: u64,
+) -> Result<Manifest, NoMemory>
+    requires numbers { number < max_place }
+    ensures is { IfOk result (λ manifest. manifest ≡ installing_manifest state.now files.items number) }
+    ensures few { IfOk result (λ manifest. length manifest.files < 2 ^ 32) }
+{
+    if files.len() > MAX_FILES {
+        return Err(NoMemory);
+    }
+    Ok(Manifest {
+        no: number,
+        config: state.manifest.config,
+        clock: state.manifest.clock,
+        count: state.count,
+        next: number + 1,
+        certificate: state.manifest.certificate,
+        erases: List::of(state.pending.items().to_vec(alloc)?),
+        segments: List::of(state.manifest.segments.items().to_vec(alloc)?),
+        files: List::of(files),
+    })
+}

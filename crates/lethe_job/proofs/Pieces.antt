@@ -1,0 +1,49 @@
+-- How many pages drafts have, and what is left of them.
+use Rattle.std.proofs.Common.{◌≡◌, ◌+◌, ℕ, suc, List, [], ◌∷◌, length, Vec, Result, Err, refl, sym, ap, ◌∙◌, arith, length-append}
+use Rattle.std.specs.Prelude.{sum_by, Any, IsErrOf}
+use Rattle.std.proofs.lemmas.List.Sums.{sum_by-append}
+use Rattle.std.specs.declared.alloc.Global.{Global}
+use Rattle.lethe_base.specs.declared.name.Name.{Name}
+use Rattle.lethe_base.specs.declared.refused.Refused.{Refused}
+use Rattle.lethe_build.specs.Drafts.{numbers_for}
+use Rattle.lethe_build.specs.declared.draft.Draft.{Draft}
+use Rattle.lethe_disk.specs.Reads.{HasReadCause, IsFault}
+use Rattle.lethe_disk.specs.declared.cursor.ReadRefused.{ReadRefused}
+use Rattle.lethe_disk.specs.declared.cursor.ReadRefused.TheVariants.{ReadFault, Damaged}
+use Rattle.lethe_disk.proofs.Causes.{cause_as}
+use Rattle.lethe_flush.specs.Made.{pages_in}
+use Rattle.lethe_stored.specs.Files.{StoredFile}
+use Rattle.lethe_job.specs.Jobs.{IsUnread, told_as}
+use Rattle.lethe_job.specs.Tasks.{AreSound, HasPage}
+
+-- a draft takes one number more than it has pages
+pub numbers_are : (drafts : List Draft) → length (pages_in drafts) + length drafts ≡ sum_by numbers_for drafts
+numbers_are [] = refl
+numbers_are (draft ∷ drafts) =
+    let pages : length (pages_in (draft ∷ drafts)) ≡ length draft.pages + length (pages_in drafts) = length-append draft.pages (pages_in drafts) in
+    let sum : sum_by numbers_for (draft ∷ drafts) ≡ sum_by numbers_for (draft ∷ []) + sum_by numbers_for drafts = sum_by-append numbers_for (draft ∷ []) drafts in
+    let one : sum_by numbers_for (draft ∷ []) ≡ length draft.pages + 1 = omega arith in
+    let more : length (pages_in drafts) + length drafts ≡ sum_by numbers_for drafts = numbers_are drafts in
+    pages_more (length (pages_in (draft ∷ drafts))) (length draft.pages) (length (pages_in drafts)) (length drafts) (sum_by numbers_for drafts) pages more ∙ ap (λ (own : ℕ). own + sum_by numbers_for drafts) (sym one) ∙ sym sum
+  where
+    pages_more : (all own rest count numbers : ℕ) → all ≡ own + rest → rest + count ≡ numbers → all + suc count ≡ (own + 1) + numbers
+    pages_more all own rest count numbers is more = omega arith
+
+abbrev refused : ReadRefused → Result (Vec Draft Global) ReadRefused
+refused why = Err why
+
+-- the refusal of the reads that make the drafts
+pub unread : (Tells PortsFail : Type 0) (files : List StoredFile) (old new : ℕ) (told : ReadRefused) (why : Refused) → why ≡ told_as told → HasReadCause {T = Vec Draft Global} old new (Err told)
+    → (IsFault {T = Vec Draft Global} (Err told) → PortsFail) → ((name : Name) → IsErrOf {T = Vec Draft Global} (Err told) (Damaged name) → Any (HasPage name) files)
+    → (Tells → AreSound files → (name : Name) → IsErrOf {T = Vec Draft Global} (Err told) (Damaged name) → ⊥) → IsUnread Tells PortsFail files old new why
+unread Tells PortsFail files old new told why is cause can_fail damaged undamaged = record {
+  told = told;
+  is = is;
+  cause = cause_as {T = Vec Draft Global} {U = Unit {0}} old new told cause;
+  can_fail = λ fault. can_fail (again fault);
+  damaged = λ name named. damaged name (ap refused named);
+  undamaged = λ tells sound name named. undamaged tells sound name (ap refused named);
+}
+  where
+    again : IsFault {T = Unit {0}} (Err told) → IsFault {T = Vec Draft Global} (Err told)
+    again (before, after, e) = let same : told ≡ ReadFault before after = cc in (before, after, ap refused same)
