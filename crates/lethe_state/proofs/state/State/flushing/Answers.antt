@@ -1,20 +1,10 @@
-<<<<<<< HEAD
-use Rattle.std.proofs.Common.{◌+◌, ◌<◌, ◌≤◌, append-nil, IsTrue, List, Some, rules, ◌≡◌, map, length, All, refl, sym, ◌∙◌, subst}
-use Rattle.std.specs.Prelude.{◌↔◌, sum_by}
-use Rattle.lethe_base.specs.Limits.{max_place}
-use Rattle.lethe_build.specs.Drafts.{numbers_for}
-=======
 use Rattle.std.proofs.Common.{◌<◌, ◌≤◌, ap, append-nil, arith, Bool, IsTrue, List, Some, rules, ◌≡◌, map, length, All, sym, ◌∙◌, subst}
 use Rattle.std.specs.Prelude.{◌↔◌, sum_by}
->>>>>>> bb3657342d3274cc5da944ffa6eae037bd0981b9
 use Rattle.lethe_header.specs.declared.header.Header.{Header}
 use Rattle.lethe_advance.specs.Shown.{parts_by_level, parts_in}
 use Rattle.lethe_flush.specs.Clear.{IsClearOf}
 use Rattle.lethe_moves.specs.Flushes.{span_of}
 use Rattle.lethe_version.specs.Versions.{files_of, levels_of}
-<<<<<<< HEAD
-use Rattle.lethe_state.proofs.Drafted.{short_drafted, some_drafted}
-=======
 use Rattle.lethe_build.specs.Built.{most_numbers}
 use Rattle.lethe_build.specs.Drafts.{AreDraftsOf, numbers_for}
 use Rattle.lethe_build.specs.declared.draft.Draft.{Draft}
@@ -22,7 +12,6 @@ use Rattle.lethe_mem.specs.Buffered.{Buffered}
 use Rattle.lethe_merge.specs.Merge.{merged}
 use Rattle.lethe_state.specs.Room.{AreDrafted, buffered, frozen_len}
 use Rattle.lethe_state.specs.declared.state.State.{State}
->>>>>>> bb3657342d3274cc5da944ffa6eae037bd0981b9
 use Rattle.lethe_state.proofs.FlushStep.{flush_steps}
 use Rattle.lethe_state.proofs.Leveled.{headers_same}
 use Rattle.lethe_state.proofs.state.State.flushing.Goals as goal
@@ -37,8 +26,6 @@ returns-in-Ok-clause-flushes g c = λ s is current loose drawn uncited.
     let made = c.in-Ok.ensures.made entries c.is_clear-alone.result c.in_ok-drafts.ensures.are in
     flush_steps s c.args.self.now (parts_by_level c.args.version.now) is current c.requires.writable.drawn c.unwrap-frozen.result.now some c.is_clear-alone.result clear made.0 made.1 made.2 made.3 _ _ made.4
     c.in-Ok.ensures.step.spelled loose drawn uncited
-<<<<<<< HEAD
-=======
 
 -- what was drafted of the frozen buffer
 drafted : (state : State) (buffer : Buffered) (alone : Bool) (drafts : List Draft) → state.frozen ≡ Some buffer → AreDraftsOf state.manifest.config (merged buffer.entries state.pending alone) drafts
@@ -62,4 +49,3 @@ returns-then-is_short_for-clause-exhausted g c = λ refused.
     let short = c.is_short_for.ensures.0 c.if-is_short_for.true in
     let same : sum_by numbers_for c.deref.result.now ≡ sum_by numbers_for drafts = ap (sum_by numbers_for) c.deref.ensures.value in
     record { drafts = drafts; drafted = are; short = omega (arith, short, same) }
->>>>>>> bb3657342d3274cc5da944ffa6eae037bd0981b9
