@@ -1,5 +1,6 @@
 -- How a run's end follows from what its parts say.
-use Rattle.std.proofs.Common.{◌≡◌, ◌<◌, ◌≤◌, ◌+◌, ◌-◌, ℕ, Bool, true, false, List, [], ◌++◌, length, take, Option, Some, None, IfSome, IsSome, IfOk, Result, Ok, Err, inl, inr, refl, sym, ap, ◌∙◌, subst, arith, append-nil}
+use Rattle.std.proofs.Common.{◌≡◌, ◌<◌, ◌≤◌, ◌+◌, ℕ, Bool, true, false, List, [], ◌++◌, length, take, Option, Some, None, IfSome, IsSome, IfOk, Result, Ok, Err, inl, inr, refl, sym, ap, ◌∙◌, subst, arith, append-nil}
+use Rattle.std.specs.Prelude.{sum_by}
 use Rattle.std.specs.Io.KnownBytes.{Consumes, IsAtEnd, Appends, Keeps}
 use Rattle.std.proofs.lemmas.Bool.{cases_lt, lt-ltb}
 use Rattle.std.proofs.lemmas.List.{length-append, take-append-le}
@@ -11,14 +12,12 @@ use Rattle.lethe_state.specs.declared.state.State.{State}
 use Rattle.lethe_engine.specs.Opening.{IsResumed}
 use Rattle.lethe_engine.specs.StandsFor.{IsKeptFor, IsOpenOrStopped}
 use Rattle.lethe_disk.specs.Goes.{Goes}
-use Rattle.lethe_build.specs.Built.{most_numbers}
-use Rattle.lethe_stored.specs.Encodes.{Encodes}
+use Rattle.lethe_build.specs.Drafts.{numbers_for}
 use Rattle.lethe_stored.specs.Files.{Parts}
 use Rattle.lethe_stored.specs.Left.{IsLeft, IsKeptOr}
-use Rattle.lethe_stored.specs.Stored.{Stored, IsCoherent, records_of}
 use Rattle.lethe_load.specs.Refused.{HasReason}
 use Rattle.lethe_load.specs.declared.refused.RecoverRefused.{RecoverRefused}
-use Rattle.lethe_recover.specs.Opening.{MayNotOpen, IsNextNumber}
+use Rattle.lethe_recover.specs.Opening.{MayNotOpen, IsExhausted, IsNextNumber}
 use Rattle.lethe_recover.specs.declared.opening.OpenWhy.{OpenWhy}
 use Rattle.lethe_recover.specs.declared.opening.OpenWhy.TheVariants as open_why
 use Rattle.lethe_disk.proofs.Going.{goes_then, goes_weaker}
@@ -201,13 +200,12 @@ module _ (run : Run) (config : Fields) (asks : Asks run config) (phases : List (
   script_ended Damaged e = absurd e
   script_ended OtherConfig e = absurd e
 
--- where numbers ran out, the manifest's next number, what the records may need and the device calls reach the last one
+-- where numbers ran out, the manifest's next number, those of the journal's files and two more reach past the last one
 pub drawn_by : (Tells : Type 0) (start finish : Seen) (before now : ℕ) (why : OpenWhy) (config : Fields) → MayNotOpen Tells config start.directory before now why → ((last : ℕ) → why ≡ open_why.Exhausted last → start.moment < finish.moment) → Tells → (last : ℕ) → why ≡ open_why.Exhausted last
-    → (s : Stored) × IsCoherent s × Encodes start.directory s × (last ≤ s.manifest.next + most_numbers (length (records_of s)) + (finish.moment - start.moment))
+    → (full : IsExhausted start.directory) × (last < full.s.manifest.next + (sum_by numbers_for full.short.older_drafts + sum_by numbers_for full.short.newer_drafts) + 2) × (start.moment < finish.moment)
 drawn_by Tells start finish before now why config may later told last is =
     let full = subst (MayNotOpen Tells config start.directory before now) is may in
-    let e = full.1 told in
-    let more = later last is in
+    let e : IsExhausted start.directory = full.1 told in
     let all = full.0 in
-    let next = e.last in
-    (e.s, e.coherent, e.encodes, omega (arith, all, next, more))
+    let short = e.short.short in
+    (e, omega (arith, all, short), later last is)

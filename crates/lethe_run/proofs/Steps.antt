@@ -18,6 +18,7 @@ use Rattle.lethe_base.proofs.Histories.{change_at-push}
 use Rattle.lethe_cover.specs.Steps.{with_done, with_failed}
 use Rattle.lethe_disk.specs.Directory.{Directory}
 use Rattle.lethe_disk.specs.Disk.{Seen}
+use Rattle.lethe_mem.specs.Buffered.{Buffered}
 use Rattle.lethe_state.specs.Room.{frozen_len}
 use Rattle.lethe_state.specs.declared.state.State.{State}
 use Rattle.lethe_engine.specs.Changes.{HasReason, done_by, answered_to, written_by}
@@ -93,7 +94,17 @@ module _ {config : Fields} (Ports : Type 0) (begin : Start) (f0 f1 : ℕ) (opene
   kept_for P g stands run = record { later = run.later; past = run.past; each = λ m c low high left. let since = on.stands.later in stands.images m c (omega (arith, since, low)) high left }
 
   short : old.moment ≤ new.moment → changing.IsShort state → IsShort Now
-  short goes few = let before = on.stands.numbers in let low = on.moment_since in let since = on.stands.later in omega (arith, before, low, since, goes, few, small)
+  short goes few = by state.frozen few
+    where
+      by : (frozen : Option Buffered) → changing.IsShortFor frozen state → IsShort Now
+      by None freezes = let before = on.stands.numbers in let low = on.moment_since in let since = on.stands.later in omega (arith, before, low, since, goes, freezes)
+      by (Some buffer) flushes =
+          let before = on.stands.numbers in
+          let low = on.moment_since in
+          let since = on.stands.later in
+          let drawn = flushes.drafted.few in
+          let reach = flushes.short in
+          omega (arith, before, low, since, goes, drawn, reach, small)
 
   -- it wasn't begun
   not_made : (r : Reply) → Still → Answers (told_of h Now) caller act r → Follows Now (length h) r (length h) → (g : History) × IsAnswered config Ports begin f1 opened h g caller act r old new state' levels'

@@ -10,11 +10,9 @@ use Rattle.lethe_base.specs.declared.config.Fields.{Fields}
 use Rattle.lethe_base.specs.declared.name.Name.{Name}
 use Rattle.lethe_disk.specs.Disk.{Seen}
 use Rattle.lethe_engine.specs.Opening.{IsUntold}
-use Rattle.lethe_build.specs.Built.{most_numbers}
+use Rattle.lethe_build.specs.Drafts.{numbers_for}
 use Rattle.lethe_disk.specs.Goes.{Goes}
 use Rattle.lethe_stored.specs.Left.{IsLeft, IsKeptOr}
-use Rattle.lethe_stored.specs.Stored.{Stored, IsCoherent, records_of}
-use Rattle.lethe_stored.specs.Encodes.{Encodes}
 use Rattle.lethe_load.specs.Refused.{HasReason, HasOtherConfig}
 use Rattle.lethe_load.specs.declared.refused.RecoverRefused.{RecoverRefused}
 use Rattle.lethe_recover.specs.Opening.{MayNotOpen, IsExhausted, IsNextNumber}
@@ -114,13 +112,15 @@ abbrev pub IsNoScript : Run → BadLine → Type 0
 IsNoScript run bad = IfSome run.source (λ bytes. script_of bytes ≡ Err bad) × run.Unused
 
 -- The store wasn't opened, and this is why. The directory shows damage and another configuration, and then nothing was touched; numbers
--- run out where the manifest's next number, what the records may need and the device calls reach the last one; and whatever came, each crash leaves what the disk was left for.
+-- run out where the manifest's next number, those of the files of the journal's records, and two more reach past the last one, and the device
+-- was called by then; and whatever came, each crash leaves what the disk was left for.
 pub record IsNotOpened (run : Run) (config : Fields) (why : OpenWhy) : Type 0 where
   pub script : OnScript run (λ phases. Unit {0})
   pub reason : MayNotOpen run.Tells config run.start.directory run.faults_before run.faults why
   pub untouched : run.Tells → IsUntold why ⊎ IsQuiet run.start run.finish
   pub drawn : run.Tells → (last : ℕ) → why ≡ open_why.Exhausted last
-      → (s : Stored) × IsCoherent s × Encodes run.start.directory s × (last ≤ s.manifest.next + most_numbers (length (records_of s)) + (run.finish.moment - run.start.moment))
+      → (full : IsExhausted run.start.directory)
+      × (last < full.s.manifest.next + (sum_by numbers_for full.short.older_drafts + sum_by numbers_for full.short.newer_drafts) + 2) × (run.start.moment < run.finish.moment)
   pub any_moment : OnLeft run (λ left change. Goes (IsKeptOr left change) run.start run.finish)
 
 -- it wasn't, and this was written
