@@ -4,9 +4,9 @@ ghost use Rattle.std.specs.Borrow.{ftrue};
 
 use std::marker::Model;
 
-/// The bytes of each page of a list. Clauses read them as `pages`; they take no memory.
+// The bytes of each page of a list. Clauses read them as `pages`; they take no memory.
 #[derive(Debug, Drop)]
-pub struct Contents {
+pub(crate) struct Contents {
     pub ghost pages: { List (List ℕ) },
 }
 
@@ -15,15 +15,15 @@ impl Model for Contents {
 }
 
 impl Contents {
-    /// Of no page.
-    pub fn new() -> Contents
+    // Of no page.
+    pub(crate) fn new() -> Contents
         ensures { result.pages ≡ [] }
     {
         Contents {}
     }
 
-    /// With one page more.
-    pub fn with(&self, _bytes: &[u8]) -> Contents
+    // With one page more.
+    pub(crate) fn with(&self, _bytes: &[u8]) -> Contents
         ensures { result.pages ≡ self.now.pages ++ _bytes.now ∷ [] }
     {
         Contents {}

@@ -6,7 +6,7 @@ mod removing;
 mod writing;
 mod written;
 
-pub use contents::Contents;
+pub(crate) use contents::Contents;
 pub use removing::remove_pages;
 pub use writing::write_page;
 pub use written::Written;
