@@ -39,7 +39,11 @@ fn new_store(alloc: Global) -> Result<MemDisk, Fail>
     };
     let mut disk = MemDisk::new(alloc, 20, Vec::new(alloc))?;
     add(&mut disk, segment, b"LS\x01\0\0\0\0\0\0\0\x01\0")?;
-    add(&mut disk, manifest, b"LM\x01\0\0\0\0\0\0\0\x02\0\0\0\0\0\0\0\x64\x02\x02\0\x02\x02\0\x02\0\x04\0\0\0\0\0\0\0\0\0\0\0\0\0\0\0\0\0\0\0\0\0\0\0\0\x03\0\0\0\0\0\x01\0\0\0\0\0\0\0\x01\0\0\0\0")?;
+    add(
+        &mut disk,
+        manifest,
+        b"LM\x01\0\0\0\0\0\0\0\x02\0\0\0\0\0\0\0\x64\x02\x02\0\x02\x02\0\x02\0\x04\0\0\0\0\0\0\0\0\0\0\0\0\0\0\0\0\0\0\0\0\0\0\0\0\x03\0\0\0\0\0\x01\0\0\0\0\0\0\0\x01\0\0\0\0",
+    )?;
     add(&mut disk, gate, &[])?;
     match disk.sync() {
         Ok(()) => Ok(disk),
@@ -47,8 +51,7 @@ fn new_store(alloc: Global) -> Result<MemDisk, Fail>
     }
 }
 
-fn objects(alloc: Global, disk: &mut MemDisk) -> Result<usize, Fail>
-{
+fn objects(alloc: Global, disk: &mut MemDisk) -> Result<usize, Fail> {
     match disk.names(alloc) {
         Ok(names) => Ok(names.len()),
         Err(_) => Err(Fail::new("names")),
