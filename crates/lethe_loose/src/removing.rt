@@ -1,0 +1,39 @@
+//! Removing the pages of a job that is given up.
+ghost use Rattle.std.specs.Prelude.{◌≡◌, ◌+◌, ℕ, List, [], length, OnOk, IsErrOf};
+ghost use Rattle.lethe_base.specs.declared.name.Name.{Name};
+ghost use Rattle.lethe_disk.specs.declared.disk.DiskRefused.TheVariants.{NoMemory};
+ghost use Rattle.lethe_disk.specs.Disk.{HasCause};
+ghost use Rattle.lethe_disk.specs.Goes.{Goes};
+ghost use Rattle.lethe_stored.specs.Stored.{Stored};
+ghost use Rattle.lethe_stored.specs.Encodes.{Encodes};
+ghost use Rattle.lethe_advance.specs.Settled.{IsSettled, HasOnly};
+ghost use Rattle.lethe_loose.specs.Loose.{MayRemove};
+
+use crate::Written;
+use lethe_commit::clear;
+use lethe_disk::{Disk, DiskRefused};
+
+/// Removes the pages again, and syncs. It takes no memory.
+///
+/// It takes a device call for each page and one for the sync, which it makes where there is no page too.
+///
+/// # Errors
+///
+/// `Failed` where the disk failed: then each of the pages may or may not be there.
+pub fn remove_pages<D: Disk>(disk: &mut D, written: Written) -> Result<(), DiskRefused>
+    requires there { D.tells → (s : Stored) × MayRemove (D.seen disk.old) s written }
+
+    // A crash at any moment of the call leaves what was stored.
+    ensures any_moment { D.tells → (s : Stored) → MayRemove (D.seen disk.old) s written
+        → Goes (λ c. Encodes c s) (D.seen disk.old) (D.seen disk.new) }
+
+    // Acknowledged: each crash leaves what is stored and nothing else.
+    ensures done { D.tells → (s : Stored) → MayRemove (D.seen disk.old) s written
+        → OnOk result (IsSettled (D.seen disk.new) s × HasOnly s [] (D.seen disk.new).directory) }
+
+    ensures calls { D.tells → OnOk result ((D.seen disk.new).moment ≡ (D.seen disk.old).moment + length written + 1) }
+    ensures no_memory { IsErrOf result NoMemory → ⊥ }
+    ensures cause { HasCause (D.faults disk.old) (D.faults disk.new) result }
+{
+    clear(disk, written.names())
+}
