@@ -1,5 +1,5 @@
 -- A new store, for the tests.
-use Rattle.std.specs.Prelude.{◌≡◌, ℕ, [], ◌∷◌, None}
+use Rattle.std.specs.Prelude.{[], ◌∷◌, None}
 use Rattle.lethe_disk.specs.Disk.{Seen}
 use Rattle.lethe_stored.specs.Examples.{small}
 use Rattle.lethe_stored.specs.Stored.{Stored}

@@ -1,9 +1,8 @@
-use Rattle.std.proofs.Common.{◌≡◌, [], sym, ap, ◌∙◌}
+use Rattle.std.proofs.Common.{◌≡◌, [], ap, ◌∙◌}
 use Rattle.std.specs.FinMap.{insert}
 use Rattle.lethe_disk.specs.Directory.{Directory, object}
 use Rattle.lethe_commit.specs.Gates.{gate_name}
 use Rattle.lethe_commit.specs.Switch.{manifest_name}
-use Rattle.lethe_memdisk.specs.Effects.{after}
 use Rattle.lethe_memdisk.specs.Held.{Held, seen_of}
 use Rattle.lethe_stored.specs.Examples.{new_manifest, new_segment}
 use Rattle.lethe_stored.specs.Stored.{segment_name}
