@@ -23,7 +23,7 @@ use crate::inputs::{Inputs, inputs_of};
 use crate::placing::with_made;
 use lethe_advance::Step;
 use lethe_base::{List, MAX_PLACE, Name, NoMemory, Refused};
-use lethe_build::Draft;
+use lethe_build::{Draft, numbers_for};
 use lethe_disk::Disk;
 use lethe_flush::{MadeFiles, make_files};
 use lethe_header::Header;
@@ -87,11 +87,7 @@ fn is_short_for(state: &State, drafts: &[Draft], written: &[Name]) -> bool
     requires some { length written.now ≤ length (pages_in drafts.now) }
     ensures { IsTrue result ↔ (max_place ≤ state.now.next + (sum_by numbers_for drafts.now - length written.now)) }
 {
-    let mut count = 0;
-    for draft in drafts {
-        count += draft.pages.items().len() as u64 + 1;
-    }
-    MAX_PLACE <= state.next + (count - written.len() as u64)
+    MAX_PLACE <= state.next + (numbers_for(drafts) - written.len() as u64)
 }
 
 /// The headers of the drafts' files, and the step that installs them.
