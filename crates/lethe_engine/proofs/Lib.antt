@@ -1,16 +1,7 @@
-pub mod Histories
 pub mod Results
-pub mod Standing
-pub mod Likes
-pub mod Carried
-pub mod Hindered
+pub mod Overs
 pub mod Answering
 pub mod Counting
 pub mod Opened
-pub mod Stepped
-pub mod Next
-pub mod Recorded
-pub mod Roomed
-pub mod Overs
 pub mod Prefixes
 pub mod Onward

@@ -1,9 +1,8 @@
-pub mod Sound
 pub mod StandsFor
-pub mod Changes
 pub mod Deletes
 pub mod Work
-pub mod Steps
+pub mod Refusals
+pub mod Jobs
 pub mod Reads
 pub mod Capped
 pub mod Stats

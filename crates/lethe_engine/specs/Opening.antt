@@ -1,26 +1,24 @@
 -- A store that was opened.
-use Rattle.std.specs.Prelude.{◌≡◌, ℕ, List, None, Option}
+use Rattle.std.specs.Prelude.{ℕ, Option}
 use Rattle.lethe_base.specs.History.{History, Change}
 use Rattle.lethe_base.specs.declared.config.Fields.{Fields}
 use Rattle.lethe_disk.specs.Disk.{Seen}
 use Rattle.lethe_recover.specs.Opening.{IsNextNumber}
 use Rattle.lethe_recover.specs.declared.opening.OpenWhy.{OpenWhy}
 use Rattle.lethe_recover.specs.declared.opening.OpenWhy.TheVariants.{Damaged, OtherConfig, Fault, Exhausted, NoMemory}
-use Rattle.lethe_stored.specs.Files.{Parts}
 use Rattle.lethe_stored.specs.Left.{IsHistoryOr}
-use Rattle.lethe_state.specs.declared.state.State.{State}
+use Rattle.lethe_core.specs.View.{View}
 use Rattle.lethe_engine.specs.StandsFor.{Opened, StandsFor}
 
 -- what the store of a history was whose opening began at one time and answered at another, from the next object number on
 abbrev pub opened_as : History → Seen → Seen → ℕ → ℕ → Opened
 opened_as h start finish next faults = record { history = h; began = start.moment; moment = finish.moment; next = next; faults = faults }
 
--- It takes changes, and stands for the history that the disk was left for, or for that with the change carried out.
-pub record IsResumed (config : Fields) (h : History) (change : Option Change) (start finish : Seen) (faults : ℕ) (state : State) (levels : List (List Parts)) : Type 0 where
+-- It takes changes, has no job in flight, and stands for the history that the disk was left for, or for that with the change carried out.
+pub record IsResumed (config : Fields) (h : History) (change : Option Change) (start : Seen) (view : View) : Type 0 where
   pub history : History
   pub either : IsHistoryOr h change history
-  pub stands : (next : ℕ) → IsNextNumber start.directory next → StandsFor config (opened_as history start finish next faults) history finish faults state levels
-  pub runs : state.stopped ≡ None
+  pub stands : (next : ℕ) → IsNextNumber start.directory next → StandsFor config (opened_as history start view.disk next view.faults) history view
 
 -- the disk failed or there was no memory, so that nothing is known of what was done
 abbrev pub IsUntold : OpenWhy → Type 0

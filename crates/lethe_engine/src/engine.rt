@@ -8,18 +8,18 @@ ghost use Rattle.lethe_disk.specs.Quiet.{IsQuiet};
 ghost use Rattle.lethe_stored.specs.Left.{IsLeft, IsKeptOr};
 ghost use Rattle.lethe_load.specs.Refused.{HasReason};
 ghost use Rattle.lethe_load.specs.declared.refused.RecoverRefused.{RecoverRefused};
-ghost use Rattle.lethe_advance.specs.Shown.{parts_by_level};
 ghost use Rattle.lethe_recover.specs.Opening.{IsNextNumber, MayNotOpen, IsCut, since_start};
 ghost use Rattle.lethe_engine.specs.Opening.{IsResumed, IsUntold};
-ghost use Rattle.lethe_engine.specs.Sound.{IsSound};
+ghost use Rattle.lethe_core.specs.Running.{IsSound};
+ghost use Rattle.lethe_core.specs.View.{view_of};
 ghost use Rattle.lethe_engine.specs.StandsFor as standing;
 ghost use Rattle.lethe_engine.specs.StandsFor.{StandsFor};
 
 use lethe_base::{Config, NoMemory};
+use lethe_core::Core;
 use lethe_disk::Disk;
 use lethe_recover::{OpenWhy, Opened, open};
 use lethe_state::State;
-use lethe_version::Version;
 use std::alloc::Global;
 
 /// A disk on which no store was opened, and why.
@@ -29,12 +29,10 @@ pub struct OpenRefused<D: Disk> {
     pub why: OpenWhy,
 }
 
-/// A store: a disk, what the store remembers of it, and the files that readers have.
+/// A store on a disk.
 #[derive(Drop)]
 pub struct Engine<D: Disk> {
-    pub(crate) disk: D,
-    pub(crate) state: State,
-    pub(crate) version: Version<D>,
+    pub(crate) core: Core<D>,
 }
 
 impl<D: Disk> Engine<D> {
@@ -44,16 +42,16 @@ impl<D: Disk> Engine<D> {
     ///
     /// See `OpenWhy`. The disk comes back.
     pub fn open(alloc: Global, mut disk: D, config: &Config) -> Result<Engine<D>, OpenRefused<D>>
-        ensures sound { IfOk result (λ engine. IsSound D.tells (D.seen engine.disk) engine.state (parts_by_level engine.version)) }
-        ensures runs { IfOk result (λ engine. engine.state.stopped ≡ None) }
+        ensures sound { IfOk result (λ engine. IsSound D.tells (view_of engine.core)) }
+        ensures runs { IfOk result (λ engine. (engine.core.state.stopped ≡ None) × (engine.core.flight ≡ None)) }
 
         // Where the disk was left for a history, the store stands for it, or for it with the change carried out.
         ensures resumed { D.tells → (h : History) (change : Option Change) → IsLeft (D.seen disk) h change
-            → IfOk result (λ engine. IsResumed config.now h change (D.seen disk) (D.seen engine.disk) (D.faults engine.disk) engine.state (parts_by_level engine.version)) }
+            → IfOk result (λ engine. IsResumed config.now h change (D.seen disk) (view_of engine.core)) }
 
         // A crash at any moment of the call, whatever it answers, leaves a disk that is kept for one of the two.
         ensures any_moment { D.tells → (h : History) (change : Option Change) → IsLeft (D.seen disk) h change
-            → MatchResult result (λ engine. Goes (IsKeptOr h change) (D.seen disk) (D.seen engine.disk)) (λ refused. Goes (IsKeptOr h change) (D.seen disk) (D.seen refused.disk)) }
+            → MatchResult result (λ engine. Goes (IsKeptOr h change) (D.seen disk) (D.seen engine.core.disk)) (λ refused. Goes (IsKeptOr h change) (D.seen disk) (D.seen refused.disk)) }
 
         // A refusal has its reason. Where the directory has damage or another configuration, that is told, unless the disk fails or memory
         // runs out; then, and where numbers ran out, nothing was touched.
@@ -67,15 +65,18 @@ impl<D: Disk> Engine<D> {
 
         // Numbers are drawn no faster than device calls are made.
         ensures numbers { D.tells → IfOk result (λ engine. (next : ℕ) → IsNextNumber (D.seen disk).directory next
-            → engine.state.next + (D.seen disk).moment ≤ next + (D.seen engine.disk).moment) }
-        ensures faults { MatchResult result (λ engine. D.faults disk ≤ D.faults engine.disk) (λ refused. D.faults disk ≤ D.faults refused.disk) }
+            → engine.core.state.next + (D.seen disk).moment ≤ next + (D.seen engine.core.disk).moment) }
+        ensures faults { MatchResult result (λ engine. D.faults disk ≤ D.faults engine.core.disk) (λ refused. D.faults disk ≤ D.faults refused.disk) }
     {
         match open(alloc, &mut disk, config) {
             Ok(Opened { manifest, version }) => match State::opened(alloc, manifest) {
                 Ok(state) => Ok(Engine {
-                    disk,
-                    state,
-                    version,
+                    core: Core {
+                        disk,
+                        state,
+                        version,
+                        flight: None,
+                    },
                 }),
                 Err(NoMemory) => Err(OpenRefused {
                     disk,
@@ -88,30 +89,30 @@ impl<D: Disk> Engine<D> {
 
     /// A port for one more reader. It is no device call.
     pub fn new_port(&mut self, alloc: Global) -> Result<D::Port, NoMemory>
-        requires { IsSound D.tells (D.seen self.old.disk) self.old.state (parts_by_level self.old.version) }
-        ensures sound { IsSound D.tells (D.seen self.new.disk) self.new.state (parts_by_level self.new.version) }
-        ensures stands { D.tells → (config : Fields) (opened : standing.Opened) (h : History) → StandsFor config opened h (D.seen self.old.disk) (D.faults self.old.disk) self.old.state (parts_by_level self.old.version)
-            → StandsFor config opened h (D.seen self.new.disk) (D.faults self.new.disk) self.new.state (parts_by_level self.new.version) }
+        requires { IsSound D.tells (view_of self.old.core) }
+        ensures sound { IsSound D.tells (view_of self.new.core) }
+        ensures stands { D.tells → (config : Fields) (opened : standing.Opened) (h : History) → StandsFor config opened h (view_of self.old.core)
+            → StandsFor config opened h (view_of self.new.core) }
         ensures fresh { IfOk result (λ port. (D.fetches port ≡ 0) × (D.port_faults port ≡ 0)) }
-        ensures idle { D.tells → IsIdle (D.seen self.old.disk) (D.seen self.new.disk) }
-        ensures same { (self.new.state ≡ self.old.state) × (self.new.version ≡ self.old.version) }
-        ensures faults { D.faults self.new.disk ≡ D.faults self.old.disk }
+        ensures idle { D.tells → IsIdle (D.seen self.old.core.disk) (D.seen self.new.core.disk) }
+        ensures same { (self.new.core.state ≡ self.old.core.state) × (self.new.core.version ≡ self.old.core.version) × (self.new.core.flight ≡ self.old.core.flight) }
+        ensures faults { D.faults self.new.core.disk ≡ D.faults self.old.core.disk }
     {
-        self.disk.port(alloc)
+        self.core.disk.port(alloc)
     }
 
     /// How many changes there were. One that failed counts.
     pub fn count(&self) -> u64
-        ensures { result ≡ self.now.state.count }
+        ensures { result ≡ self.now.core.state.count }
     {
-        self.state.count
+        self.core.state.count
     }
 
     /// Gives the disk back.
     pub fn into_disk(self) -> D
-        ensures { result ≡ self.disk }
+        ensures { result ≡ self.core.disk }
     {
-        let Engine { disk, .. } = self;
+        let Core { disk, .. } = self.core;
         disk
     }
 }

@@ -3,8 +3,8 @@
 
 mod changing;
 mod engine;
+mod jobs;
 mod reading;
-mod stepping;
 mod telling;
 mod working;
 

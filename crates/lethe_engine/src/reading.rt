@@ -8,10 +8,10 @@ ghost use Rattle.lethe_base.specs.declared.name.Name.{Name};
 ghost use Rattle.lethe_base.specs.declared.refused.Refused.TheVariants.{ReadFault, Damaged};
 ghost use Rattle.lethe_version.specs.Probing.{bound};
 ghost use Rattle.lethe_version.specs.Versions.{files_of};
-ghost use Rattle.lethe_advance.specs.Shown.{parts_by_level};
 ghost use Rattle.lethe_engine.specs.Reads.{IsReadRefusal, is_in_memory, listed, told_as};
-ghost use Rattle.lethe_engine.specs.Sound.{IsSound};
-ghost use Rattle.lethe_engine.specs.StandsFor.{StandsNow};
+ghost use Rattle.lethe_core.specs.Running.{IsSound};
+ghost use Rattle.lethe_core.specs.StandsNow.{StandsNow};
+ghost use Rattle.lethe_core.specs.View.{view_of};
 
 use crate::Engine;
 use lethe_base::{Key, Refused, Value};
@@ -32,15 +32,15 @@ impl<D: Disk> Engine<D> {
         port: &mut D::Port,
         key: &Key,
     ) -> Result<Option<(u64, Value)>, Refused>
-        ensures answer { D.tells → (config : Fields) (h : History) → StandsNow config h (D.seen self.now.disk) self.now.state (parts_by_level self.now.version)
+        ensures answer { D.tells → (config : Fields) (h : History) → StandsNow config h (view_of self.now.core)
             → IfOk result (λ held. answer (after h) (Get key.now) ≡ Found held) }
 
         // Nothing is fetched where a buffer has the key.
         ensures fetches { D.fetches port.new ≤ D.fetches port.old
-            + (if is_in_memory key.now self.now.state then 0 else sum_by (λ file. bound key.now file.header) (files_of self.now.version)) }
+            + (if is_in_memory key.now self.now.core.state then 0 else sum_by (λ file. bound key.now file.header) (files_of self.now.core.version)) }
         ensures later { D.fetches port.old ≤ D.fetches port.new }
         ensures why { IfErr result IsReadRefusal }
-        ensures undamaged { D.tells → IsSound D.tells (D.seen self.now.disk) self.now.state (parts_by_level self.now.version)
+        ensures undamaged { D.tells → IsSound D.tells (view_of self.now.core)
             → (name : Name) → IsErrOf result (Damaged name) → ⊥ }
         ensures fault { (before after : ℕ) → IsErrOf result (ReadFault before after)
             → (before ≡ D.port_faults port.old) × (after ≡ D.port_faults port.new) × Rose before after }
@@ -49,10 +49,10 @@ impl<D: Disk> Engine<D> {
     {
         match get(
             alloc,
-            &self.state.active,
-            self.state.frozen.as_ref(),
-            &self.version,
-            self.state.pending.items(),
+            &self.core.state.active,
+            self.core.state.frozen.as_ref(),
+            &self.core.version,
+            self.core.state.pending.items(),
             port,
             key,
         ) {
@@ -74,11 +74,11 @@ impl<D: Disk> Engine<D> {
         lo: &Key,
         hi: &Key,
     ) -> Result<Vec<(Key, u64, Value)>, Refused>
-        ensures answer { D.tells → (config : Fields) (h : History) → StandsNow config h (D.seen self.now.disk) self.now.state (parts_by_level self.now.version)
+        ensures answer { D.tells → (config : Fields) (h : History) → StandsNow config h (view_of self.now.core)
             → IfOk result (λ pairs. answer (after h) (Scan lo.now hi.now) ≡ listed pairs.items) }
         ensures later { D.fetches port.old ≤ D.fetches port.new }
         ensures why { IfErr result IsReadRefusal }
-        ensures undamaged { D.tells → IsSound D.tells (D.seen self.now.disk) self.now.state (parts_by_level self.now.version)
+        ensures undamaged { D.tells → IsSound D.tells (view_of self.now.core)
             → (name : Name) → IsErrOf result (Damaged name) → ⊥ }
         ensures fault { (before after : ℕ) → IsErrOf result (ReadFault before after)
             → (before ≡ D.port_faults port.old) × (after ≡ D.port_faults port.new) × Rose before after }
@@ -87,10 +87,10 @@ impl<D: Disk> Engine<D> {
     {
         match scan(
             alloc,
-            &self.state.active,
-            self.state.frozen.as_ref(),
-            &self.version,
-            self.state.pending.items(),
+            &self.core.state.active,
+            self.core.state.frozen.as_ref(),
+            &self.core.version,
+            self.core.state.pending.items(),
             port,
             lo,
             hi,

@@ -5,10 +5,10 @@ ghost use Rattle.lethe_base.specs.Shapes.{shape_of};
 ghost use Rattle.lethe_base.specs.declared.config.Fields.{Fields};
 ghost use Rattle.lethe_header.specs.Facts.{lines_of, tombs_in};
 ghost use Rattle.lethe_stored.specs.Stored.{Stored, layout_of};
-ghost use Rattle.lethe_advance.specs.Shown.{parts_by_level};
 ghost use Rattle.lethe_state.specs.Remembered.{Remembers};
 ghost use Rattle.lethe_engine.specs.Capped.{capped};
-ghost use Rattle.lethe_engine.specs.StandsFor.{StandsNow};
+ghost use Rattle.lethe_core.specs.StandsNow.{StandsNow};
+ghost use Rattle.lethe_core.specs.View.{view_of};
 
 use crate::Engine;
 use lethe_disk::Disk;
@@ -36,22 +36,22 @@ impl<D: Disk> Engine<D> {
 
     /// What there is of the store as a whole. It makes no device call and no fetch, and answers on a stopped store too.
     pub fn stat(&self) -> Stat
-        ensures stat { (config : Fields) (h : History) → StandsNow config h (D.seen self.now.disk) self.now.state (parts_by_level self.now.version)
+        ensures stat { (config : Fields) (h : History) → StandsNow config h (view_of self.now.core)
             → result.clock ≡ (after h).clock }
-        ensures shape { (s : Stored) → Remembers s self.now.state (parts_by_level self.now.version) → IsStatOf (shape_of (layout_of s)) result }
+        ensures shape { (s : Stored) → Remembers s self.now.core.state (view_of self.now.core).levels → IsStatOf (shape_of (layout_of s)) result }
         ensures pins { result.pins ≡ 0 }
     {
         let mut files: u64 = 0;
         let mut tombs: u64 = 0;
-        for level in 0..self.version.levels() {
-            let (more, dead) = counts_of(self.version.files(level));
+        for level in 0..self.core.version.levels() {
+            let (more, dead) = counts_of(self.core.version.files(level));
             files = files.saturating_add(more);
             tombs = tombs.saturating_add(dead);
         }
         Stat {
-            clock: self.state.manifest.clock,
+            clock: self.core.state.manifest.clock,
             pins: 0,
-            pending: self.state.pending.items().len() as u64,
+            pending: self.core.state.pending.items().len() as u64,
             files,
             tombs,
         }

@@ -1,0 +1,40 @@
+-- A job and the store that has it in flight.
+use Rattle.std.specs.Prelude.{◌≡◌, ◌≤◌, ℕ, List, ◌++◌, ◌∷◌, [], length, IfSome, IsSome, Some, false}
+use Rattle.lethe_base.specs.declared.name.Name.{Name}
+use Rattle.lethe_build.specs.declared.draft.Draft.{Draft}
+use Rattle.lethe_disk.specs.declared.disk.Disk.{Ghosts}
+use Rattle.lethe_advance.specs.Settled.{names_in}
+use Rattle.lethe_flush.specs.Made.{pages_in, written_pages}
+use Rattle.lethe_job.specs.Jobs.{AreOutputs, IsJob}
+use Rattle.lethe_job.specs.Tasks.{plain_task}
+use Rattle.lethe_job.specs.declared.job.Job.{Job}
+use Rattle.lethe_core.specs.View.{Flying, View}
+
+-- the store has the job in flight
+pub record IsInFlight {D Page Port : Type 0} {kind : Ghosts D Page Port} (view : View) (job : Job D Page Port kind) : Type 0 where
+  pub flying : Flying
+  pub is : view.flight ≡ Some flying
+  pub task : plain_task job.task.value ≡ flying.task
+
+-- the drafts are those of its outputs, whose first pages were written
+pub record AreOutputsOf (Tells : Type 0) (flying : Flying) (drafts : List Draft) : Type 0 where
+  pub outputs : AreOutputs Tells flying.task drafts
+  pub some : length flying.written ≤ length (pages_in drafts)
+  pub pages : flying.written ≡ written_pages (names_in flying.written) drafts
+
+-- and none of the job's calls was refused, so that the pages that were written are the first of its outputs
+pub record IsAtWork {D Page Port : Type 0} {kind : Ghosts D Page Port} (Tells : Type 0) (view : View) (job : Job D Page Port kind) : Type 0 where
+  pub flies : IsInFlight view job
+  pub asked : job.refused ≡ false
+  pub job_is : IsJob Tells job
+  pub count : length flies.flying.written ≡ job.written
+  pub pages : IfSome job.drafts (λ drafts. flies.flying.written ≡ written_pages (names_in flies.flying.written) drafts.items)
+
+-- each page of its outputs is written
+pub record IsWhole {D Page Port : Type 0} {kind : Ghosts D Page Port} (job : Job D Page Port kind) : Type 0 where
+  pub made : IsSome job.drafts
+  pub all : IfSome job.drafts (λ drafts. job.written ≡ length (pages_in drafts.items))
+
+-- one page more is written
+abbrev pub with_page : Flying → Name × List ℕ → Flying
+with_page flying page = record flying { written = flying.written ++ page ∷ [] }

@@ -1,0 +1,29 @@
+-- What each step of a call needs, and what it keeps.
+use Rattle.std.specs.Prelude.{◌≡◌, ◌≤◌, ◌<◌, ℕ, ◌+◌, None, Result}
+use Rattle.lethe_base.specs.History.{History}
+use Rattle.lethe_base.specs.Limits.{max_place}
+use Rattle.lethe_base.specs.declared.call.Call.{Call}
+use Rattle.lethe_base.specs.declared.config.Fields.{Fields}
+use Rattle.lethe_base.specs.declared.refused.Refused.{Refused}
+use Rattle.lethe_disk.specs.Goes.{Goes}
+use Rattle.lethe_stored.specs.Kept.{IsKept}
+use Rattle.lethe_core.specs.Running.{IsSound}
+use Rattle.lethe_core.specs.StandsNow.{StandsNow}
+use Rattle.lethe_core.specs.Steps.{stepped_to}
+use Rattle.lethe_core.specs.View.{View}
+
+-- Nothing has failed, there is a place for what may fail, and a failure is told from a count of faults on.
+pub record MayStep (Tells : Type 0) (view : View) (before : ℕ) : Type 0 where
+  pub sound : IsSound Tells view
+  pub runs : view.state.stopped ≡ None
+  pub fits : view.state.count < max_place
+  pub told_from : before ≤ view.faults
+
+-- The store is sound, and stands for the same history, or where the disk failed for that with the call that failed in it. A crash at any moment of the
+-- step leaves what is kept for the history, and numbers are drawn no faster than device calls are made.
+pub record Keeps {T : Type 0} (Tells : Type 0) (old new : View) (result : Result T Refused) : Type 0 where
+  pub sound : IsSound Tells new
+  pub stands : Tells → (config : Fields) (h : History) → StandsNow config h old → (caller : ℕ) (call : Call) → StandsNow config (stepped_to h caller call result) new
+  pub any_moment : Tells → (config : Fields) (h : History) → StandsNow config h old → Goes (λ c. IsKept c h) old.disk new.disk
+  pub numbers : Tells → new.state.next + old.disk.moment ≤ old.state.next + new.disk.moment
+  pub faults : old.faults ≤ new.faults

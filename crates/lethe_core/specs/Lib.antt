@@ -1,0 +1,10 @@
+pub mod View
+pub mod Running
+pub mod StandsNow
+pub mod Changes
+pub mod Merges
+pub mod Reasons
+pub mod Steps
+pub mod Jobs
+pub mod Keeps
+pub mod Descent

@@ -1,0 +1,80 @@
+-- The merges that a store carries out itself, one after another, where a caller makes room.
+use Rattle.std.specs.Prelude.{◌≡◌, ◌⊎◌, ◌≤◌, ℕ, ◌+◌, ◌*◌, List, [], ◌∷◌, length, sum_by, Option, Some, None}
+use Rattle.lethe_base.specs.Limits.{max_place}
+use Rattle.lethe_base.specs.Shapes.{shape_of}
+use Rattle.lethe_build.specs.Drafts.{AreDraftsOf, numbers_for}
+use Rattle.lethe_build.specs.declared.draft.Draft.{Draft}
+use Rattle.lethe_fade.specs.Choice.{choice}
+use Rattle.lethe_follows.specs.Merged.{StoredMerge, IsMerged, at, entries_in}
+use Rattle.lethe_header.specs.declared.header.Header.{Header}
+use Rattle.lethe_merge.specs.Merge.{merged}
+use Rattle.lethe_stored.specs.Stored.{Stored, layout_of, pending_of}
+use Rattle.lethe_advance.specs.Steps.{IsStep}
+use Rattle.lethe_advance.specs.declared.step.Step.{Step}
+use Rattle.lethe_state.specs.Room.{HasRoom, IsFrozen, IsUnfrozen}
+use Rattle.lethe_job.specs.Tasks.{PlainTask, IsBegunIn, IsTaskIn, inputs_in, pages_in}
+use Rattle.lethe_core.specs.Running.{Holds}
+use Rattle.lethe_core.specs.View.{Flying, View, loose_in}
+
+-- no merge is due
+abbrev pub HasNoMerge : Stored → Type 0
+HasNoMerge s = choice s.manifest.config (shape_of (layout_of s)) [] ≡ None
+
+-- a merge, and what is stored behind it
+pub record Outcome : Type 0 where
+  pub task : PlainTask
+  pub to : Stored
+
+-- the outcome of a task is stored in the place of what it merges
+pub record IsInstalled (s : Stored) (task : PlainTask) (t : Stored) : Type 0 where
+  pub m : StoredMerge
+  pub tasked : IsTaskIn s m task
+  pub merged_is : IsMerged s m (pending_of s) task.alone task.upto t
+
+-- The step from what is stored to the outcome of a task, behind which no page is loose.
+pub record MayMerge (view : View) (s : Stored) (task : PlainTask) (t : Stored) (headers : List Header) (step : Step) : Type 0 where
+  pub installed : IsInstalled s task t
+  pub step_is : IsStep s (loose_in view.flight) t [] headers step
+
+-- the merge that is due, with its outcome
+pub record IsOutcome (s : Stored) (outcome : Outcome) : Type 0 where
+  pub begun : IsBegunIn s outcome.task
+  pub merged_is : IsMerged s begun.m (pending_of s) outcome.task.alone outcome.task.upto outcome.to
+
+-- the merges that are due, one after another, until none is
+abbrev pub AreOutcomes : Stored → List Outcome → Stored → Type 0
+AreOutcomes s [] t = HasNoMerge s × (t ≡ s)
+AreOutcomes s (outcome ∷ more) t = IsOutcome s outcome × AreOutcomes outcome.to more t
+
+-- level 0 has at least twice as many files as the ratio
+abbrev pub IsCrowded : Stored → Type 0
+IsCrowded s = 2 * s.manifest.config.ratio ≤ length (at 0 s.files)
+
+-- the merges that are due were carried out where level 0 is crowded and no job is in flight, and none else
+abbrev pub IsUncrowded : Option Flying → Stored → List Outcome → Stored → Type 0
+IsUncrowded None s outcomes t = (IsCrowded s × AreOutcomes s outcomes t) ⊎ ((IsCrowded s → ⊥) × (outcomes ≡ []) × (t ≡ s))
+IsUncrowded (Some flying) s outcomes t = (outcomes ≡ []) × (t ≡ s)
+
+-- Room was made for a record where there was none: the frozen segment was flushed, if there was one, the active one was frozen, and then the merges were carried
+-- out.
+pub record IsCleared (flight : Option Flying) (s : Stored) (outcomes : List Outcome) (t : Stored) : Type 0 where
+  pub middle : Stored
+  pub unfrozen : IsUnfrozen s middle
+  pub cleared : Stored
+  pub frozen : IsFrozen middle cleared
+  pub merges : IsUncrowded flight cleared outcomes t
+
+-- Where there is room nothing was done.
+abbrev pub IsRoomMadeBy : Option Flying → Stored → List Outcome → Stored → Type 0
+IsRoomMadeBy flight s outcomes t = (HasRoom s × (outcomes ≡ []) × (t ≡ s)) ⊎ ((HasRoom s → ⊥) × IsCleared flight s outcomes t)
+
+-- how many pages these merges read
+abbrev pub pages_of : List Outcome → ℕ
+pages_of outcomes = sum_by (λ outcome. pages_in (inputs_in outcome.task)) outcomes
+
+-- the numbers of the objects of the merge that is due, and of a manifest, can't be drawn
+pub record IsShortToMerge (Tells : Type 0) (view : View) : Type 0 where
+  pub drafts : List Draft
+  pub short : max_place ≤ view.state.next + sum_by numbers_for drafts
+  pub are : Tells → (s : Stored) → Holds view s
+      → (task : PlainTask) × IsBegunIn s task × AreDraftsOf task.config (merged (entries_in (inputs_in task)) task.erases task.alone) drafts

@@ -1,0 +1,52 @@
+-- Which history a store stands for now.
+use Rattle.std.specs.Prelude.{◌≡◌, ◌≤◌, ℕ, List, ◌∷◌, [], ◌++◌, length, All, Option, Some, None, IfSome, if◌then◌else◌}
+use Rattle.lethe_base.specs.History.{History, Change, IsLegal, AreDone}
+use Rattle.lethe_base.specs.declared.call.Did.TheVariants.{Failed}
+use Rattle.lethe_base.specs.declared.config.Fields.{Fields}
+use Rattle.lethe_disk.specs.Disk.{Seen}
+use Rattle.lethe_follows.specs.Merged.{entries_in}
+use Rattle.lethe_stored.specs.Stored.{Stored}
+use Rattle.lethe_stored.specs.Kept.{IsFor}
+use Rattle.lethe_stored.specs.Left.{IsLeft, is_work, without_failed}
+use Rattle.lethe_state.specs.Remembered.{Remembers}
+use Rattle.lethe_job.specs.Tasks.{PlainTask, inputs_in}
+use Rattle.lethe_core.specs.Running.{IsRunning}
+use Rattle.lethe_core.specs.View.{View}
+
+-- what may have been carried out of a change that failed; work changes nothing
+abbrev pub retried : Change → Option Change
+retried change = if is_work change.call then None else Some change
+
+-- A store that was stopped by the last change of its history: the disk is left for the history before it, and for the change unless that is
+-- work.
+pub record IsStopped (h : History) (disk : Seen) (at : ℕ) : Type 0 where
+  pub before : History
+  pub change : Change
+  pub history : h ≡ before ++ change ∷ []
+  pub place : at ≡ length h
+  pub legal : IsLegal before
+  pub done : AreDone before
+  pub faults_before : ℕ
+  pub faults : ℕ
+  pub failed : change.did ≡ Failed faults_before faults
+  pub left : IsLeft disk before (retried change)
+
+abbrev pub IsOpenOrStopped : View → History → Stored → Option ℕ → Type 0
+IsOpenOrStopped view h s None = AreDone h × IsRunning view s
+IsOpenOrStopped view h s (Some at) = IsStopped h view.disk at
+
+-- the places of all entries that the task merges were counted when it was begun
+abbrev pub IsCounted : PlainTask → Type 0
+IsCounted task = All (λ entry. entry.seq ≤ task.upto) (entries_in (inputs_in task))
+
+-- Now the buffers and the files stand for the history without what failed, and the disk is in the store's hands, or left as a failed change left
+-- it.
+pub record StandsNow (config : Fields) (h : History) (view : View) : Type 0 where
+  pub legal : IsLegal h
+  pub count : view.state.count ≡ length h
+  pub stored : Stored
+  pub remembers : Remembers stored view.state view.levels
+  pub config_is : stored.manifest.config ≡ config
+  pub stands : IsFor (without_failed h) stored
+  pub held : IsOpenOrStopped view h stored view.state.stopped
+  pub counted : IfSome view.flight (λ flying. IsCounted flying.task)

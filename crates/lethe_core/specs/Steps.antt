@@ -1,0 +1,74 @@
+-- What the steps of a call leave.
+use Rattle.std.specs.Prelude.{◌≡◌, ◌<◌, ℕ, ◌+◌, List, ◌++◌, ◌∷◌, [], sum_by, Option, Some, None, Result, Ok, Err}
+use Rattle.lethe_base.specs.Counts.{Rose}
+use Rattle.lethe_base.specs.History.{History}
+use Rattle.lethe_base.specs.declared.call.Call.{Call}
+use Rattle.lethe_base.specs.declared.refused.Refused.{Refused}
+use Rattle.lethe_base.specs.declared.refused.Refused.TheVariants.{Fault, Stopped, Backwards, Pinned, NothingDue, Cancelled, Exhausted, ReadFault, NoMemory, Damaged}
+use Rattle.lethe_build.specs.Drafts.{numbers_for}
+use Rattle.lethe_build.specs.declared.draft.Draft.{Draft}
+use Rattle.lethe_commit.specs.Switch.{IsTakenBack}
+use Rattle.lethe_state.specs.Records.{halted}
+use Rattle.lethe_state.specs.Room.{AreDrafted, IsShortToFreeze}
+use Rattle.lethe_state.specs.declared.state.State.{State}
+use Rattle.lethe_core.specs.Changes.{refused_to}
+use Rattle.lethe_core.specs.Reasons.{IsShort}
+use Rattle.lethe_core.specs.View.{View}
+
+-- the history behind a step of a call: what is no change itself is in no history, unless the disk failed in it
+abbrev pub stepped_to : {T : Type 0} → History → ℕ → Call → Result T Refused → History
+stepped_to h caller call (Ok done) = h
+stepped_to h caller call (Err why) = refused_to h caller call why
+
+-- the files and the job are as they were
+pub record IsBeside (old new : View) : Type 0 where
+  pub levels : new.levels ≡ old.levels
+  pub flight : new.flight ≡ old.flight
+
+-- How a step was hindered: the disk failed and the store is stopped, or there was no memory and what was done is taken back.
+abbrev pub IsHindered : Type 0 → View → View → ℕ → Refused → Type 0
+IsHindered Tells old new before (Fault place told_before told_now) =
+    (place ≡ old.state.count + 1) × (told_before ≡ before) × (told_now ≡ new.faults) × Rose before new.faults × (new.state ≡ halted old.state) × IsBeside old new
+IsHindered Tells old new before NoMemory = (new.state ≡ old.state) × IsBeside old new × (Tells → IsTakenBack old.disk new.disk)
+IsHindered Tells old new before (Stopped at) = ⊥
+IsHindered Tells old new before (Backwards clock) = ⊥
+IsHindered Tells old new before (Pinned pin limit) = ⊥
+IsHindered Tells old new before NothingDue = ⊥
+IsHindered Tells old new before (Cancelled begun other) = ⊥
+IsHindered Tells old new before (Exhausted last) = ⊥
+IsHindered Tells old new before (ReadFault told_before told_now) = ⊥
+IsHindered Tells old new before (Damaged name) = ⊥
+
+-- nothing is changed but what the journal and the buffers are
+pub record IsSteady (old new : State) : Type 0 where
+  pub stopped : new.stopped ≡ old.stopped
+  pub count : new.count ≡ old.count
+  pub records : new.records ≡ old.records
+  pub config : new.manifest.config ≡ old.manifest.config
+
+-- Behind a flush no buffer is frozen and all else is as it was, but for the numbers of the files' objects and of the manifest, which were drawn.
+pub record IsUnfrozenAfter (old new : State) : Type 0 where
+  pub frozen : new.frozen ≡ None
+  pub steady : IsSteady old new
+  pub drafts : List Draft
+  pub drafted : AreDrafted old drafts
+  pub next : new.next ≡ old.next + sum_by numbers_for drafts + 1
+
+-- With no buffer frozen, whether one was flushed or there was none: where the numbers of a freeze can't be drawn, those of making room couldn't.
+pub record IsReadyToFreeze (old new : State) : Type 0 where
+  pub frozen : new.frozen ≡ None
+  pub steady : IsSteady old new
+  pub short : IsShortToFreeze new → IsShort old
+
+-- Behind a freeze the active segment has no record.
+pub record IsEmptied (old new : State) : Type 0 where
+  pub records : new.records ≡ 0
+  pub stopped : new.stopped ≡ old.stopped
+  pub count : new.count ≡ old.count
+  pub config : new.manifest.config ≡ old.manifest.config
+
+-- There is room for a record.
+pub record IsReady (old new : State) : Type 0 where
+  pub room : new.records < new.manifest.config.buffer
+  pub stopped : new.stopped ≡ old.stopped
+  pub count : new.count ≡ old.count

@@ -1,0 +1,62 @@
+//! What a store has.
+ghost use Rattle.std.specs.Prelude.{◌≡◌, ◌<◌, ◌-◌, None, Some, Ok, length, slice_index, IfOk, IfSome};
+ghost use Rattle.lethe_base.specs.Limits.{max_place};
+ghost use Rattle.lethe_stored.specs.Stored.{Stored};
+ghost use Rattle.lethe_state.specs.Writable.{IsWritable};
+ghost use Rattle.lethe_job.specs.Tasks.{IsBegunIn, plain_task};
+ghost use Rattle.lethe_core.specs.Merges.{HasNoMerge};
+ghost use Rattle.lethe_core.specs.Running.{Holds};
+ghost use Rattle.lethe_core.specs.View.{view_of};
+
+use crate::Flight;
+use lethe_base::NoMemory;
+use lethe_disk::Disk;
+use lethe_job::{Task, cited_files, next_task};
+use lethe_state::State;
+use lethe_version::Version;
+use std::alloc::Global;
+
+/// What a store has: its disk, what it remembers of what is stored there, the files that readers have, and the job in flight. Its calls are made of steps, which
+/// each leave it so that it can go on.
+#[derive(Drop)]
+pub struct Core<D: Disk> {
+    pub disk: D,
+    pub state: State,
+    pub version: Version<D>,
+    pub flight: Option<Flight<D>>,
+}
+
+impl<D: Disk> Core<D> {
+    /// The merge that is due, and None where none is. It reads no page and makes no device call.
+    pub(crate) fn next_task(&self, alloc: Global) -> Result<Option<Task<D>>, NoMemory>
+        requires { IsWritable self.now.state }
+        ensures none { (s : Stored) → Holds (view_of self.now) s → result ≡ Ok None → HasNoMerge s }
+        ensures some { (s : Stored) → Holds (view_of self.now) s → IfOk result (λ found. IfSome found (λ task. IsBegunIn s (plain_task task))) }
+
+        // On any disk:
+        ensures level { IfOk result (λ found. IfSome found (λ task. task.level < self.now.state.manifest.config.levels)) }
+        ensures upto { IfOk result (λ found. IfSome found (λ task. task.upto ≡ self.now.state.count)) }
+        ensures erases { IfOk result (λ found. IfSome found (λ task. task.erases ≡ self.now.state.pending)) }
+        ensures config { IfOk result (λ found. IfSome found (λ task. task.config ≡ self.now.state.manifest.config)) }
+    {
+        let manifest = &self.state.manifest;
+        let files = cited_files(alloc, &self.version, manifest.files.items())?;
+        next_task(
+            alloc,
+            files,
+            &manifest.config,
+            manifest.clock,
+            self.state.pending.items(),
+            self.state.count,
+        )
+    }
+
+    /// The number of the active segment.
+    pub(crate) fn active_number(&self) -> u64
+        requires { IsWritable self.now.state }
+        ensures { result ≡ slice_index self.now.state.manifest.segments (length self.now.state.manifest.segments - 1) }
+    {
+        let segments = self.state.manifest.segments.items();
+        segments[segments.len() - 1]
+    }
+}

@@ -1,0 +1,15 @@
+//! The core of a store: what it has in memory and on its disk, and the steps that its calls are made of.
+#![tactic(auto)]
+
+mod descent;
+mod flight;
+mod holding;
+mod laws;
+mod merging;
+mod recording;
+mod stepping;
+mod working;
+
+pub use flight::Flight;
+pub use holding::Core;
+pub use laws::{merge_goes_down, steps_are_few};

@@ -1,0 +1,181 @@
+//! Merges that a store carries out itself, and the step of a merge.
+ghost use Rattle.std.specs.Prelude.{◌≡◌, ◌≤◌, ◌+◌, ◌⊎◌, ◌↔◌, true, false, IsTrue, List, Ok, None, All, IfOk, IfErr, OnOk};
+ghost use Rattle.lethe_base.specs.History.{History};
+ghost use Rattle.lethe_base.specs.declared.config.Fields.{Fields};
+ghost use Rattle.lethe_base.specs.declared.refused.Refused.TheVariants as refused;
+ghost use Rattle.lethe_header.specs.Headers as header;
+ghost use Rattle.lethe_stored.specs.Stored.{Stored};
+ghost use Rattle.lethe_state.specs.Room.{IsStepFrom};
+ghost use Rattle.lethe_state.specs.Writable.{segments_for};
+ghost use Rattle.lethe_core.specs.Descent.{steps_down};
+ghost use Rattle.lethe_job.specs.Jobs.{told_as};
+ghost use Rattle.lethe_job.specs.Tasks.{PlainTask, inputs_in, pages_in};
+ghost use Rattle.lethe_core.specs.Keeps.{Keeps, MayStep};
+ghost use Rattle.lethe_core.specs.Merges.{AreOutcomes, HasNoMerge, IsCrowded, IsOutcome, IsShortToMerge, IsUncrowded, MayMerge, Outcome, pages_of};
+ghost use Rattle.lethe_core.specs.Reasons.{HasReason, IsUnreadable};
+ghost use Rattle.lethe_core.specs.Running.{Holds, IsSound};
+ghost use Rattle.lethe_core.specs.StandsNow.{IsCounted, StandsNow};
+ghost use Rattle.lethe_core.specs.Steps.{IsSteady};
+ghost use Rattle.lethe_core.specs.View.{view_of};
+
+use crate::Core;
+use crate::descent::steps_down;
+use lethe_advance::Step;
+use lethe_base::{NoMemory, Refused};
+use lethe_disk::{Disk, ReadRefused};
+use lethe_header::Header;
+use lethe_install::installing;
+use lethe_job::cited_files;
+use std::alloc::Global;
+
+impl<D: Disk> Core<D> {
+    /// Carries out the merges that are due, one after another until none is, where level 0 is crowded and no job is in flight.
+    pub(crate) fn merge_due(
+        &mut self,
+        alloc: Global,
+        port: &mut D::Port,
+        before: u64,
+    ) -> Result<(), Refused>
+        requires { MayStep D.tells (view_of self.old) before }
+        ensures keeps { Keeps D.tells (view_of self.old) (view_of self.new) result }
+        ensures done { D.tells → (s : Stored) → Holds (view_of self.old) s
+            → OnOk result ((t : Stored) × (outcomes : List Outcome) × IsUncrowded (view_of self.old).flight s outcomes t × Holds (view_of self.new) t
+            × (D.fetches port.new ≡ D.fetches port.old + pages_of outcomes)) }
+        ensures steady { OnOk result (IsSteady self.old.state self.new.state) }
+        ensures why { IfErr result (λ why. HasReason (IsShortToMerge D.tells (view_of self.new)) self.old.state before (D.faults self.new.disk) why
+            ⊎ IsUnreadable D.tells D.ports_fail (D.port_faults port.old) (D.port_faults port.new) why) }
+        ensures flight { self.new.flight ≡ self.old.flight }
+        ensures later { D.fetches port.old ≤ D.fetches port.new }
+        ensures port_faults { D.port_faults port.old ≤ D.port_faults port.new }
+    {
+        if self.flight.is_some() || !self.is_crowded() {
+            return Ok(());
+        }
+        self.merge_all(alloc, port, before)
+    }
+
+    /// Whether level 0 has at least twice as many files as the ratio.
+    fn is_crowded(&self) -> bool
+        requires { IsSound D.tells (view_of self.now) }
+        ensures { D.tells → (s : Stored) → Holds (view_of self.now) s → IsTrue result ↔ IsCrowded s }
+    {
+        let ratio = self.state.manifest.config.fields().ratio;
+        self.version.files(0).len() as u64 >= 2 * ratio
+    }
+
+    /// Carries out the merges that are due, one after another until none is, where no job is in flight.
+    fn merge_all(
+        &mut self,
+        alloc: Global,
+        port: &mut D::Port,
+        before: u64,
+    ) -> Result<(), Refused>
+        requires may { MayStep D.tells (view_of self.old) before }
+        requires free { self.old.flight ≡ None }
+        ensures keeps { Keeps D.tells (view_of self.old) (view_of self.new) result }
+        ensures done { D.tells → (s : Stored) → Holds (view_of self.old) s
+            → OnOk result ((t : Stored) × (outcomes : List Outcome) × AreOutcomes s outcomes t × Holds (view_of self.new) t
+            × (D.fetches port.new ≡ D.fetches port.old + pages_of outcomes)) }
+        ensures steady { OnOk result (IsSteady self.old.state self.new.state) }
+        ensures why { IfErr result (λ why. HasReason (IsShortToMerge D.tells (view_of self.new)) self.old.state before (D.faults self.new.disk) why
+            ⊎ IsUnreadable D.tells D.ports_fail (D.port_faults port.old) (D.port_faults port.new) why) }
+        ensures free { self.new.flight ≡ None }
+        ensures later { D.fetches port.old ≤ D.fetches port.new }
+        ensures port_faults { D.port_faults port.old ≤ D.port_faults port.new }
+    {
+        // Each merge brings an entry a level down, so there are no more of them than levels that the entries have still to go.
+        for _ in 0..self.most_merges(alloc)?.saturating_add(1) {
+            if !self.merge_next(alloc, port, before)? {
+                return Ok(());
+            }
+        }
+        Ok(())
+    }
+
+    /// How many merges there may still be, one after another.
+    fn most_merges(&self, alloc: Global) -> Result<u64, Refused>
+        requires { IsSound D.tells (view_of self.now) }
+        ensures most { (s : Stored) → Holds (view_of self.now) s → IfOk result (λ most. most ≡ steps_down s.manifest.config.levels s.files) }
+        ensures refused { IfErr result (λ why. why ≡ refused.NoMemory) }
+    {
+        let manifest = &self.state.manifest;
+        match cited_files(alloc, &self.version, manifest.files.items()) {
+            Ok(files) => Ok(steps_down(&files, manifest.config.fields().levels)),
+            Err(NoMemory) => Err(Refused::NoMemory),
+        }
+    }
+
+    /// Carries out the merge that is due, and answers whether there was one, where no job is in flight.
+    fn merge_next(
+        &mut self,
+        alloc: Global,
+        port: &mut D::Port,
+        before: u64,
+    ) -> Result<bool, Refused>
+        requires may { MayStep D.tells (view_of self.old) before }
+        requires free { self.old.flight ≡ None }
+        ensures keeps { Keeps D.tells (view_of self.old) (view_of self.new) result }
+        ensures ended { result ≡ Ok false → (self.new ≡ self.old) × (D.fetches port.new ≡ D.fetches port.old) × ((s : Stored) → Holds (view_of self.old) s → HasNoMerge s) }
+        ensures done { D.tells → (s : Stored) → Holds (view_of self.old) s → result ≡ Ok true
+            → (outcome : Outcome) × IsOutcome s outcome × Holds (view_of self.new) outcome.to
+            × (D.fetches port.new ≡ D.fetches port.old + pages_in (inputs_in outcome.task)) }
+        ensures steady { OnOk result (IsSteady self.old.state self.new.state) }
+        ensures why { IfErr result (λ why. HasReason (IsShortToMerge D.tells (view_of self.new)) self.old.state before (D.faults self.new.disk) why
+            ⊎ IsUnreadable D.tells D.ports_fail (D.port_faults port.old) (D.port_faults port.new) why) }
+        ensures free { self.new.flight ≡ None }
+        ensures later { D.fetches port.old ≤ D.fetches port.new }
+        ensures port_faults { D.port_faults port.old ≤ D.port_faults port.new }
+    {
+        let task = match self.next_task(alloc) {
+            Ok(Some(task)) => task,
+            Ok(None) => return Ok(false),
+            Err(NoMemory) => return Err(Refused::NoMemory),
+        };
+        let drafts = match task.outcome(alloc, port) {
+            Ok(drafts) => drafts,
+            Err(why) => return Err(told_as(why)),
+        };
+        let (headers, step) = installing(alloc, &self.state, &self.version, &task, drafts, &[])?;
+        self.merge_now(alloc, before, headers, step)?;
+        Ok(true)
+    }
+
+    /// Carries out the step of a merge. Behind it no job is in flight: its pages are cited, or there was none.
+    pub(crate) fn merge_now(
+        &mut self,
+        alloc: Global,
+        before: u64,
+        headers: Vec<Header>,
+        step: Step,
+    ) -> Result<(), Refused>
+        requires may { MayStep D.tells (view_of self.old) before }
+        requires headers { All header.HasSpelling headers.items }
+        requires from { IsStepFrom (segments_for self.old.state.frozen) self.old.state step }
+        requires merges { D.tells → (s : Stored) → Holds (view_of self.old) s → (task : PlainTask) × (t : Stored) × MayMerge (view_of self.old) s task t headers.items step
+            × ((config : Fields) (h : History) → StandsNow config h (view_of self.old) → IsCounted task) }
+        ensures keeps { Keeps D.tells (view_of self.old) (view_of self.new) result }
+        ensures done { D.tells → (s : Stored) (task : PlainTask) (t : Stored) → Holds (view_of self.old) s → MayMerge (view_of self.old) s task t headers.items step
+            → OnOk result (Holds (view_of self.new) t) }
+        ensures steady { OnOk result (IsSteady self.old.state self.new.state) }
+        ensures free { OnOk result (self.new.flight ≡ None) }
+        ensures kept { IfErr result (λ why. self.new.flight ≡ self.old.flight) }
+        ensures why { IfErr result (HasReason ⊥ self.old.state before (D.faults self.new.disk)) }
+    {
+        self.carry_out(alloc, before, headers, &step)?;
+        self.state.next = step.manifest.next;
+        self.state.manifest = step.manifest;
+        self.flight = None;
+        Ok(())
+    }
+}
+
+/// The same refusal of a read, as the store tells it.
+fn told_as(why: ReadRefused) -> Refused
+    ensures { result ≡ told_as why }
+{
+    match why {
+        ReadRefused::ReadFault { before, after } => Refused::ReadFault { before, after },
+        ReadRefused::Damaged { name } => Refused::Damaged { name },
+        ReadRefused::NoMemory => Refused::NoMemory,
+    }
+}

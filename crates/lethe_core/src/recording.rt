@@ -1,0 +1,76 @@
+//! Appending the record of a change.
+ghost use Rattle.std.specs.Prelude.{◌≡◌, ◌≤◌, ◌<◌, ◌+◌, ℕ, false, IfOk, IfErr, OnOk};
+ghost use Rattle.lethe_base.specs.History.{History};
+ghost use Rattle.lethe_base.specs.declared.call.Call.{Call};
+ghost use Rattle.lethe_base.specs.declared.config.Fields.{Fields};
+ghost use Rattle.lethe_segment.specs.declared.record.Record.{Record};
+ghost use Rattle.lethe_segment.specs.Records.{RecordHasSpelling, record_seq};
+ghost use Rattle.lethe_cover.specs.Steps.{with_done};
+ghost use Rattle.lethe_disk.specs.Goes.{Goes};
+ghost use Rattle.lethe_stored.specs.Kept.{IsFor};
+ghost use Rattle.lethe_stored.specs.Left.{IsKeptOr, is_work};
+ghost use Rattle.lethe_stored.specs.Stored.{Stored, appended, erase_of};
+ghost use Rattle.lethe_core.specs.Changes.{answered_to, with_record, written_by};
+ghost use Rattle.lethe_core.specs.Keeps.{MayStep};
+ghost use Rattle.lethe_core.specs.Reasons.{HasReason};
+ghost use Rattle.lethe_core.specs.Running.{Holds, IsSound};
+ghost use Rattle.lethe_core.specs.StandsNow.{StandsNow};
+ghost use Rattle.lethe_core.specs.View.{view_of};
+
+use crate::Core;
+use lethe_base::{Kind, Name, Refused};
+use lethe_commit::append;
+use lethe_disk::{Disk, DiskRefused};
+use lethe_segment::Record;
+use std::alloc::Global;
+
+impl<D: Disk> Core<D> {
+    /// Appends the record of a change to the active segment, which has room, and enters it. Its memory is reserved before its first device call.
+    pub fn record(&mut self, alloc: Global, before: u64, next: Record) -> Result<u64, Refused>
+        requires may { MayStep D.tells (view_of self.old) before }
+        requires room { self.old.state.records < self.old.state.manifest.config.buffer }
+        requires spelled { RecordHasSpelling next }
+        requires place { record_seq next ≡ self.old.state.count + 1 }
+        requires entry { erase_of next ≡ None }
+        ensures sound { IsSound D.tells (view_of self.new) }
+        ensures place { IfOk result (λ place. place ≡ self.old.state.count + 1) }
+        ensures why { IfErr result (HasReason ⊥ self.old.state before (D.faults self.new.disk)) }
+        ensures stands { D.tells → (config : Fields) (h : History) (caller : ℕ) (call : Call) → is_work call ≡ false
+            → (stands : StandsNow config h (view_of self.old)) → IsFor (with_done h caller call) (appended stands.stored next)
+            → StandsNow config (answered_to h caller call result) (view_of self.new) }
+        ensures any_moment { D.tells → (config : Fields) (h : History) (caller : ℕ) (call : Call)
+            → (stands : StandsNow config h (view_of self.old)) → IsFor (with_done h caller call) (appended stands.stored next)
+            → Goes (IsKeptOr h (written_by caller call result)) (D.seen self.old.disk) (D.seen self.new.disk) }
+        ensures written { D.tells → (s : Stored) → Holds (view_of self.old) s
+            → OnOk result (Holds (view_of self.new) (appended s next) × ((D.seen self.new.disk).directory ≡ with_record (D.seen self.old.disk).directory s next)) }
+        ensures version { self.new.version ≡ self.old.version }
+        ensures flight { self.new.flight ≡ self.old.flight }
+        ensures calls { D.tells → OnOk result ((D.seen self.new.disk).moment ≡ (D.seen self.old.disk).moment + 4) }
+        ensures numbers { D.tells → self.new.state.next + (D.seen self.old.disk).moment ≤ self.old.state.next + (D.seen self.new.disk).moment }
+        ensures faults { D.faults self.old.disk ≤ D.faults self.new.disk }
+    {
+        let Ok((body, end)) = self.state.prepare(alloc, &next) else {
+            return Err(Refused::NoMemory);
+        };
+        let no = self.active_number();
+        let segment = Name {
+            kind: Kind::Segment,
+            no,
+        };
+        match append(alloc, &mut self.disk, segment, self.state.end, &body) {
+            Ok(()) => {
+                self.state.enter(next, end);
+                Ok(self.state.count)
+            }
+            Err(DiskRefused::Failed) => {
+                let place = self.state.stop();
+                Err(Refused::Fault {
+                    place,
+                    before,
+                    after: self.disk.faults(),
+                })
+            }
+            Err(DiskRefused::NoMemory) => Err(Refused::NoMemory),
+        }
+    }
+}

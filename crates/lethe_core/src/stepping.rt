@@ -1,0 +1,155 @@
+//! Freezing, flushing and making room, as steps of a call.
+ghost use Rattle.std.specs.Prelude.{◌≡◌, ◌≤◌, ◌<◌, ◌+◌, ◌⊎◌, ℕ, List, [], None, length, Contains, All, IfErr, IsSome, OnOk};
+ghost use Rattle.lethe_base.specs.declared.name.Name.{Name};
+ghost use Rattle.lethe_base.specs.History.{History};
+ghost use Rattle.lethe_disk.specs.Directory.{object};
+ghost use Rattle.lethe_disk.specs.Goes.{Goes};
+ghost use Rattle.lethe_header.specs.Headers as header;
+ghost use Rattle.lethe_manifest.specs.Manifests.{HasSpelling};
+ghost use Rattle.lethe_commit.specs.Place.{insert_all};
+ghost use Rattle.lethe_stored.specs.Kept.{IsFor, IsKept};
+ghost use Rattle.lethe_stored.specs.Levels.{HasFiles};
+ghost use Rattle.lethe_stored.specs.Stored.{Stored, part_names};
+ghost use Rattle.lethe_advance.specs.Settled.{HasOnly, IsSettled};
+ghost use Rattle.lethe_advance.specs.Shown.{parts_by_level};
+ghost use Rattle.lethe_advance.specs.Steps.{IsStep};
+ghost use Rattle.lethe_state.specs.Room.{IsFlushed, IsFrozen, IsShortToFlush, IsShortToFreeze, IsUnfrozen};
+ghost use Rattle.lethe_core.specs.Keeps.{Keeps, MayStep};
+ghost use Rattle.lethe_core.specs.Merges.{Outcome, IsRoomMadeBy, pages_of};
+ghost use Rattle.lethe_core.specs.Reasons.{HasReason, IsShort, IsShortOfRoom, IsUnreadable};
+ghost use Rattle.lethe_core.specs.Running.{Holds, IsRunning};
+ghost use Rattle.lethe_core.specs.Steps.{IsEmptied, IsHindered, IsReady, IsReadyToFreeze, IsUnfrozenAfter};
+ghost use Rattle.lethe_core.specs.View.{loose_in, view_of};
+
+use crate::Core;
+use lethe_advance::{Step, advance};
+use lethe_base::Refused;
+use lethe_disk::{Disk, DiskRefused};
+use lethe_header::Header;
+use std::alloc::Global;
+
+impl<D: Disk> Core<D> {
+    /// Makes room for one more record, where there is none: flushes the frozen buffer, if there is one, and freezes the active one. Where level 0 is crowded
+    /// then and no job is in flight, it carries out the merges that are due, and reads their inputs through the port. `before` is the count of faults from which a
+    /// failure is told.
+    pub fn make_room(
+        &mut self,
+        alloc: Global,
+        port: &mut D::Port,
+        before: u64,
+    ) -> Result<(), Refused>
+        requires { MayStep D.tells (view_of self.old) before }
+        ensures keeps { Keeps D.tells (view_of self.old) (view_of self.new) result }
+        ensures done { D.tells → (s : Stored) → Holds (view_of self.old) s
+            → OnOk result ((t : Stored) × (outcomes : List Outcome) × IsRoomMadeBy (view_of self.old).flight s outcomes t × Holds (view_of self.new) t
+            × (D.fetches port.new ≡ D.fetches port.old + pages_of outcomes)) }
+        ensures room { self.old.state.records < self.old.state.manifest.config.buffer → OnOk result ((self.new ≡ self.old) × (port.new ≡ port.old)) }
+        ensures ready { OnOk result (IsReady self.old.state self.new.state) }
+        ensures why { IfErr result (λ why. HasReason (IsShortOfRoom D.tells self.old.state (view_of self.new)) self.old.state before (D.faults self.new.disk) why
+            ⊎ IsUnreadable D.tells D.ports_fail (D.port_faults port.old) (D.port_faults port.new) why) }
+        ensures flight { self.new.flight ≡ self.old.flight }
+        ensures later { D.fetches port.old ≤ D.fetches port.new }
+        ensures port_faults { D.port_faults port.old ≤ D.port_faults port.new }
+    {
+        if self.state.has_room() {
+            return Ok(());
+        }
+        self.unfreeze(alloc, before)?;
+        self.freeze_now(alloc, before)?;
+        self.merge_due(alloc, port, before)
+    }
+
+    /// Flushes the frozen buffer, if there is one.
+    fn unfreeze(&mut self, alloc: Global, before: u64) -> Result<(), Refused>
+        requires { MayStep D.tells (view_of self.old) before }
+        ensures keeps { Keeps D.tells (view_of self.old) (view_of self.new) result }
+        ensures done { D.tells → (s : Stored) → Holds (view_of self.old) s → OnOk result ((t : Stored) × IsUnfrozen s t × Holds (view_of self.new) t) }
+        ensures ready { OnOk result (IsReadyToFreeze self.old.state self.new.state) }
+        ensures why { IfErr result (HasReason (IsShort self.old.state) self.old.state before (D.faults self.new.disk)) }
+        ensures flight { self.new.flight ≡ self.old.flight }
+    {
+        if self.state.frozen.is_none() {
+            return Ok(());
+        }
+        self.flush_now(alloc, before)
+    }
+
+    /// Flushes the frozen buffer, which is there. `before` is the count of faults from which a failure is told.
+    pub fn flush_now(&mut self, alloc: Global, before: u64) -> Result<(), Refused>
+        requires may { MayStep D.tells (view_of self.old) before }
+        requires frozen { IsSome self.old.state.frozen }
+        ensures keeps { Keeps D.tells (view_of self.old) (view_of self.new) result }
+        ensures done { D.tells → (s : Stored) → Holds (view_of self.old) s → OnOk result ((t : Stored) × IsFlushed s t × Holds (view_of self.new) t) }
+        ensures ready { OnOk result (IsUnfrozenAfter self.old.state self.new.state) }
+        ensures why { IfErr result (HasReason (IsShortToFlush self.old.state) self.old.state before (D.faults self.new.disk)) }
+        ensures flight { self.new.flight ≡ self.old.flight }
+    {
+        let (headers, step) = self.state.flushing(alloc, &self.version)?;
+        self.carry_out(alloc, before, headers, &step)?;
+        self.state.flush(step);
+        Ok(())
+    }
+
+    /// Freezes the active segment, where none is frozen. `before` is the count of faults from which a failure is told.
+    pub fn freeze_now(&mut self, alloc: Global, before: u64) -> Result<(), Refused>
+        requires may { MayStep D.tells (view_of self.old) before }
+        requires unfrozen { self.old.state.frozen ≡ None }
+        ensures keeps { Keeps D.tells (view_of self.old) (view_of self.new) result }
+        ensures done { D.tells → (s : Stored) → Holds (view_of self.old) s → OnOk result ((t : Stored) × IsFrozen s t × Holds (view_of self.new) t) }
+        ensures ready { OnOk result (IsEmptied self.old.state self.new.state) }
+        ensures why { IfErr result (HasReason (IsShortToFreeze self.old.state) self.old.state before (D.faults self.new.disk)) }
+        ensures flight { self.new.flight ≡ self.old.flight }
+    {
+        let step = self.state.freezing(alloc)?;
+        self.carry_out(alloc, before, Vec::new(alloc), &step)?;
+        self.state.freeze(alloc, step);
+        Ok(())
+    }
+
+    /// Carries a step out on the disk, and takes the files that it leaves. Where the disk fails the store is stopped.
+    pub(crate) fn carry_out(
+        &mut self,
+        alloc: Global,
+        before: u64,
+        headers: Vec<Header>,
+        step: &Step,
+    ) -> Result<(), Refused>
+        requires may { MayStep D.tells (view_of self.old) before }
+        requires spelled { HasSpelling step.now.manifest }
+        requires headers { All header.HasSpelling headers.items }
+        requires level { step.now.level ≤ self.old.state.manifest.config.levels }
+        requires step { D.tells → (s t : Stored) × (left : List (Name × List ℕ)) × IsRunning (view_of self.old) s × IsStep s (loose_in (view_of self.old).flight) t left headers.items step.now }
+        ensures moments { D.tells → (s t : Stored) (left : List (Name × List ℕ)) → IsRunning (view_of self.old) s → IsStep s (loose_in (view_of self.old).flight) t left headers.items step.now
+            → (h : History) → IsFor h s → IsFor h t → Goes (λ c. IsKept c h) (D.seen self.old.disk) (D.seen self.new.disk) }
+        ensures done { D.tells → (s t : Stored) (left : List (Name × List ℕ)) → IsRunning (view_of self.old) s → IsStep s (loose_in (view_of self.old).flight) t left headers.items step.now
+            → OnOk result (IsSettled (D.seen self.new.disk) t × HasOnly t left (D.seen self.new.disk).directory) }
+        ensures kept { D.tells → (s t : Stored) (left : List (Name × List ℕ)) → IsRunning (view_of self.old) s → IsStep s (loose_in (view_of self.old).flight) t left headers.items step.now
+            → OnOk result ((name : Name) → Contains (part_names t) name
+            → object (D.seen self.new.disk).directory name ≡ object (insert_all step.now.objects.items (D.seen self.old.disk).directory) name) }
+        ensures files { D.tells → (s t : Stored) (left : List (Name × List ℕ)) → IsRunning (view_of self.old) s → IsStep s (loose_in (view_of self.old).flight) t left headers.items step.now
+            → HasFiles s (parts_by_level self.old.version) → OnOk result (HasFiles t (parts_by_level self.new.version)) }
+        ensures state { OnOk result (self.new.state ≡ self.old.state) }
+        ensures levels { length (parts_by_level self.new.version) ≡ length (parts_by_level self.old.version) }
+        ensures refused { IfErr result (IsHindered D.tells (view_of self.old) (view_of self.new) before) }
+        ensures flight { self.new.flight ≡ self.old.flight }
+        ensures calls { D.tells → OnOk result ((D.seen self.old.disk).moment + length step.now.objects.items + 6 ≤ (D.seen self.new.disk).moment) }
+        ensures later { D.tells → (D.seen self.old.disk).moment ≤ (D.seen self.new.disk).moment }
+        ensures faults { D.faults self.old.disk ≤ D.faults self.new.disk }
+    {
+        match advance(alloc, &mut self.disk, &self.version, headers, step) {
+            Ok(version) => {
+                self.version = version;
+                Ok(())
+            }
+            Err(DiskRefused::Failed) => {
+                let place = self.state.stop();
+                Err(Refused::Fault {
+                    place,
+                    before,
+                    after: self.disk.faults(),
+                })
+            }
+            Err(DiskRefused::NoMemory) => Err(Refused::NoMemory),
+        }
+    }
+}

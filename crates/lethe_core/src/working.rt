@@ -1,0 +1,169 @@
+//! The steps of a job: begun, written page by page, installed or given up.
+ghost use Rattle.std.specs.Prelude.{◌≡◌, ◌≤◌, ◌+◌, ◌-◌, ℕ, Ok, Some, None, length, sum_by, IfOk, IfErr, IfSome, IsErrOf, IsSome, OnOk};
+ghost use Rattle.std.specs.FinMap.{insert};
+ghost use Rattle.lethe_base.specs.History.{History};
+ghost use Rattle.lethe_base.specs.Limits.{max_place};
+ghost use Rattle.lethe_base.specs.declared.config.Fields.{Fields};
+ghost use Rattle.lethe_base.specs.declared.refused.Refused.TheVariants as refused;
+ghost use Rattle.lethe_build.specs.Drafts.{numbers_for};
+ghost use Rattle.lethe_disk.specs.Disk.{IsIdle};
+ghost use Rattle.lethe_file.specs.Agreement.{page_name};
+ghost use Rattle.lethe_stored.specs.Stored.{Stored};
+ghost use Rattle.lethe_job.specs.Tasks.{IsBegunIn, plain_task};
+ghost use Rattle.lethe_core.specs.Jobs.{AreOutputsOf, IsAtWork, with_page};
+ghost use Rattle.lethe_core.specs.Keeps.{Keeps, MayStep};
+ghost use Rattle.lethe_core.specs.Merges.{HasNoMerge, IsInstalled};
+ghost use Rattle.lethe_core.specs.Reasons.{HasReason};
+ghost use Rattle.lethe_core.specs.Running.{Holds, IsSound};
+ghost use Rattle.lethe_core.specs.StandsNow.{StandsNow};
+ghost use Rattle.lethe_core.specs.Steps.{IsSteady};
+ghost use Rattle.lethe_core.specs.View.{view_of};
+
+use crate::{Core, Flight};
+use lethe_base::{MAX_PLACE, NoMemory, Refused};
+use lethe_build::Draft;
+use lethe_disk::{Disk, DiskRefused};
+use lethe_install::installing;
+use lethe_job::Job;
+use lethe_loose::{Written, remove_pages, write_page};
+use std::alloc::Global;
+use std::sync::Arc;
+
+impl<D: Disk> Core<D> {
+    /// The job of the merge that is due, where none is in flight: now it is. None where no merge is due. It reads no page and makes no device call.
+    pub fn begin_now(&mut self, alloc: Global) -> Result<Option<Job<D>>, NoMemory>
+        requires sound { IsSound D.tells (view_of self.old) }
+        requires runs { self.old.state.stopped ≡ None }
+        requires free { self.old.flight ≡ None }
+        ensures sound { IsSound D.tells (view_of self.new) }
+        ensures stands { D.tells → (config : Fields) (h : History) → StandsNow config h (view_of self.old) → StandsNow config h (view_of self.new) }
+        ensures held { D.tells → (s : Stored) → Holds (view_of self.old) s → Holds (view_of self.new) s }
+        ensures none { (s : Stored) → Holds (view_of self.old) s → result ≡ Ok None → HasNoMerge s }
+        ensures begun { (s : Stored) → Holds (view_of self.old) s → IfOk result (λ found. IfSome found (λ job. IsBegunIn s (plain_task job.task.value))) }
+        ensures works { IfOk result (λ found. IfSome found (IsAtWork D.tells (view_of self.new))) }
+        ensures unmade { IfOk result (λ found. IfSome found (λ job. job.drafts ≡ None)) }
+        ensures port { IfOk result (λ found. IfSome found (λ job. (D.fetches job.port ≡ 0) × (D.port_faults job.port ≡ 0))) }
+        ensures free { result ≡ Ok None → self.new.flight ≡ None }
+        ensures kept { IfErr result (λ why. self.new.flight ≡ None) }
+        ensures state { self.new.state ≡ self.old.state }
+        ensures version { self.new.version ≡ self.old.version }
+        ensures idle { D.tells → IsIdle (D.seen self.old.disk) (D.seen self.new.disk) }
+        ensures faults { D.faults self.new.disk ≡ D.faults self.old.disk }
+    {
+        let Some(task) = self.next_task(alloc)? else {
+            return Ok(None);
+        };
+        let port = self.disk.port(alloc)?;
+        let task = Arc::new(alloc, task)?;
+        self.flight = Some(Flight {
+            task: Arc::clone(&task)?,
+            written: Written::new(alloc),
+        });
+        Ok(Some(Job {
+            task,
+            port,
+            drafts: None,
+            written: 0,
+            refused: false,
+        }))
+    }
+
+    /// Writes the next page of the job in flight, under the next number, and syncs.
+    pub fn write_now(&mut self, before: u64, bytes: &[u8]) -> Result<(), Refused>
+        requires may { MayStep D.tells (view_of self.old) before }
+        requires flies { IsSome self.old.flight }
+        ensures keeps { Keeps D.tells (view_of self.old) (view_of self.new) result }
+        ensures held { D.tells → (s : Stored) → Holds (view_of self.old) s → OnOk result (Holds (view_of self.new) s) }
+        ensures written { IfSome (view_of self.old).flight (λ flying. OnOk result ((view_of self.new).flight ≡ Some (with_page flying (page_name self.old.state.next, bytes.now)))) }
+        ensures kept { IfErr result (λ why. (view_of self.new).flight ≡ (view_of self.old).flight) }
+        ensures steady { OnOk result (IsSteady self.old.state self.new.state) }
+        ensures why { IfErr result (HasReason (max_place ≤ self.old.state.next) self.old.state before (D.faults self.new.disk)) }
+
+        // The page is the one object that comes.
+        ensures page { D.tells → OnOk result ((D.seen self.new.disk).directory ≡ insert (D.seen self.old.disk).directory (page_name self.old.state.next) bytes.now) }
+        ensures calls { D.tells → OnOk result ((D.seen self.new.disk).moment ≡ (D.seen self.old.disk).moment + 2) }
+    {
+        let Some(flight) = &mut self.flight else {
+            unreachable!()
+        };
+        let number = self.state.next;
+        if MAX_PLACE <= number {
+            return Err(Refused::Exhausted { last: MAX_PLACE });
+        }
+        match write_page(&mut self.disk, &mut flight.written, number, bytes) {
+            Ok(()) => {
+                self.state.next = number + 1;
+                Ok(())
+            }
+            Err(DiskRefused::Failed) => {
+                let place = self.state.stop();
+                Err(Refused::Fault {
+                    place,
+                    before,
+                    after: self.disk.faults(),
+                })
+            }
+            Err(DiskRefused::NoMemory) => Err(Refused::NoMemory),
+        }
+    }
+
+    /// Cites the outputs of the job in flight in the place of its inputs, which are removed.
+    pub fn install_now(
+        &mut self,
+        alloc: Global,
+        before: u64,
+        drafts: Vec<Draft>,
+    ) -> Result<(), Refused>
+        requires may { MayStep D.tells (view_of self.old) before }
+        requires flies { IsSome self.old.flight }
+        requires outputs { IfSome (view_of self.old).flight (λ flying. AreOutputsOf D.tells flying drafts.items) }
+        ensures keeps { Keeps D.tells (view_of self.old) (view_of self.new) result }
+        ensures done { D.tells → (s : Stored) → Holds (view_of self.old) s
+            → IfSome (view_of self.old).flight (λ flying. OnOk result ((t : Stored) × IsInstalled s flying.task t × Holds (view_of self.new) t)) }
+        ensures steady { OnOk result (IsSteady self.old.state self.new.state) }
+        ensures free { OnOk result (self.new.flight ≡ None) }
+        ensures kept { IfErr result (λ why. self.new.flight ≡ self.old.flight) }
+        ensures why { IfErr result (HasReason (IfSome (view_of self.old).flight (λ flying. max_place ≤ self.old.state.next + (sum_by numbers_for drafts.items - length flying.written)))
+            self.old.state before (D.faults self.new.disk)) }
+    {
+        let Some(flight) = &self.flight else {
+            unreachable!()
+        };
+        let (headers, step) = installing(
+            alloc,
+            &self.state,
+            &self.version,
+            &flight.task,
+            drafts,
+            flight.written.names(),
+        )?;
+        self.merge_now(alloc, before, headers, step)
+    }
+
+    /// Gives the job in flight up: its pages are removed. It takes no memory.
+    pub fn cancel_now(&mut self, before: u64) -> Result<(), Refused>
+        requires may { MayStep D.tells (view_of self.old) before }
+        ensures keeps { Keeps D.tells (view_of self.old) (view_of self.new) result }
+        ensures held { D.tells → (s : Stored) → Holds (view_of self.old) s → OnOk result (Holds (view_of self.new) s) }
+        ensures free { self.new.flight ≡ None }
+        ensures state { OnOk result (self.new.state ≡ self.old.state) }
+        ensures version { self.new.version ≡ self.old.version }
+        ensures why { IfErr result (HasReason ⊥ self.old.state before (D.faults self.new.disk)) }
+        ensures no_memory { IsErrOf result refused.NoMemory → ⊥ }
+    {
+        let Some(flight) = self.flight.take() else {
+            return Ok(());
+        };
+        match remove_pages(&mut self.disk, flight.written) {
+            Ok(()) => Ok(()),
+            Err(_) => {
+                let place = self.state.stop();
+                Err(Refused::Fault {
+                    place,
+                    before,
+                    after: self.disk.faults(),
+                })
+            }
+        }
+    }
+}

@@ -1,0 +1,31 @@
+-- Why the calls of a store are refused.
+use Rattle.std.specs.Prelude.{◌≡◌, ◌⊎◌, ℕ, Some, None, IsSome}
+use Rattle.lethe_base.specs.declared.refused.Refused.{Refused}
+use Rattle.lethe_base.specs.declared.refused.Refused.TheVariants.{Fault, Stopped, Backwards, Pinned, NothingDue, Cancelled, Exhausted, ReadFault, NoMemory, Damaged}
+use Rattle.lethe_stored.specs.Stored.{Stored}
+use Rattle.lethe_core.specs.Merges.{HasNoMerge}
+use Rattle.lethe_core.specs.Reasons.{HasReason, IsShortOfRoom, IsUnreadable}
+use Rattle.lethe_core.specs.Running.{Holds}
+use Rattle.lethe_core.specs.View.{View}
+
+-- Work: an earlier call failed, the places are used up or numbers are short, the disk failed in this call, or there was no memory.
+abbrev pub HasReasonOfWork : Type 0 → View → View → Refused → Type 0
+HasReasonOfWork Short old new why = HasReason Short old.state old.faults new.faults why
+
+-- A change: the same, or reading a file to make room was refused, by the port's counts of faults before and now.
+abbrev pub HasReasonOfChange : Type 0 → Type 0 → View → View → ℕ → ℕ → Refused → Type 0
+HasReasonOfChange Tells PortsFail old new before now why =
+    HasReason (IsShortOfRoom Tells old.state new) old.state old.faults new.faults why ⊎ ((old.state.stopped ≡ None) × IsUnreadable Tells PortsFail before now why)
+
+-- The begin of a job: an earlier call failed, a job is in flight or no merge is due, or there was no memory.
+abbrev pub HasReasonOfBegin : Type 0 → View → Refused → Type 0
+HasReasonOfBegin Tells view (Stopped at) = view.state.stopped ≡ Some at
+HasReasonOfBegin Tells view NothingDue = (view.state.stopped ≡ None) × (IsSome view.flight ⊎ (Tells → (s : Stored) → Holds view s → HasNoMerge s))
+HasReasonOfBegin Tells view NoMemory = Unit {0}
+HasReasonOfBegin Tells view (Fault place before after) = ⊥
+HasReasonOfBegin Tells view (Backwards clock) = ⊥
+HasReasonOfBegin Tells view (Pinned pin limit) = ⊥
+HasReasonOfBegin Tells view (Cancelled begun now) = ⊥
+HasReasonOfBegin Tells view (Exhausted last) = ⊥
+HasReasonOfBegin Tells view (ReadFault before after) = ⊥
+HasReasonOfBegin Tells view (Damaged name) = ⊥

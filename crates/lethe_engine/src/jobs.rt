@@ -1,0 +1,267 @@
+//! The jobs of a store: merges that run beside its other calls.
+ghost use Rattle.std.specs.Prelude.{◌≡◌, ◌≤◌, ◌<◌, ◌+◌, ◌-◌, ℕ, [], true, Some, None, length, slice_index_or, sum_by, IfOk, IfErr, IfSome, IsErrOf, IsOk, IsSome, OnErr, OnOk};
+ghost use Rattle.std.specs.FinMap.{insert};
+ghost use Rattle.lethe_base.specs.History.{History};
+ghost use Rattle.lethe_base.specs.Limits.{max_place};
+ghost use Rattle.lethe_base.specs.declared.call.Call.TheVariants.{Work};
+ghost use Rattle.lethe_base.specs.declared.config.Fields.{Fields};
+ghost use Rattle.lethe_base.specs.declared.refused.Refused.TheVariants as refused;
+ghost use Rattle.lethe_build.specs.Drafts.{numbers_for};
+ghost use Rattle.lethe_disk.specs.Disk.{IsIdle};
+ghost use Rattle.lethe_disk.specs.Goes.{Goes};
+ghost use Rattle.lethe_file.specs.Agreement.{page_name};
+ghost use Rattle.lethe_flush.specs.Made.{pages_in};
+ghost use Rattle.lethe_stored.specs.Kept.{IsKept};
+ghost use Rattle.lethe_stored.specs.Stored.{Stored};
+ghost use Rattle.lethe_job.specs.Tasks.{IsBegunIn, plain_task};
+ghost use Rattle.lethe_core.specs.Jobs.{AreOutputsOf, IsAtWork, IsInFlight, IsWhole, with_page};
+ghost use Rattle.lethe_core.specs.Merges.{IsInstalled};
+ghost use Rattle.lethe_core.specs.Running.{Holds, IsSound};
+ghost use Rattle.lethe_core.specs.StandsNow.{StandsNow};
+ghost use Rattle.lethe_core.specs.Steps.{stepped_to};
+ghost use Rattle.lethe_core.specs.View.{view_of};
+ghost use Rattle.lethe_engine.specs.Jobs.{IsNextPage, IsShortToInstall, installed_to};
+ghost use Rattle.lethe_engine.specs.Refusals.{HasReasonOfBegin, HasReasonOfWork};
+ghost use Rattle.lethe_engine.specs.StandsFor.{Opened, StandsFor};
+
+use crate::Engine;
+use lethe_base::{MAX_PLACE, NoMemory, Refused};
+use lethe_build::Draft;
+use lethe_disk::Disk;
+use lethe_job::{Job, Piece};
+use std::alloc::Global;
+
+impl<D: Disk> Engine<D> {
+    /// Begins the merge that is due, as a job with a port of its own. It reads no page and makes no device call. Until the job is installed or given up no other
+    /// begins.
+    ///
+    /// # Errors
+    ///
+    /// `Stopped`, `NothingDue` where no merge is due or a job is in flight, `NoMemory`.
+    pub fn begin(&mut self, alloc: Global) -> Result<Job<D>, Refused>
+        // Opening gives this, and each call leaves it so.
+        requires { IsSound D.tells (view_of self.old.core) }
+        ensures sound { IsSound D.tells (view_of self.new.core) }
+        ensures stands { D.tells → (config : Fields) (opened : Opened) (h : History) → StandsFor config opened h (view_of self.old.core) → StandsFor config opened h (view_of self.new.core) }
+
+        // The job is in flight, and has made and fetched nothing. Its task is that of the first merge that is due.
+        ensures begun { D.tells → (s : Stored) → Holds (view_of self.old.core) s → IfOk result (λ job. IsBegunIn s (plain_task job.task.value) × Holds (view_of self.new.core) s) }
+        ensures works { IfOk result (IsAtWork D.tells (view_of self.new.core)) }
+        ensures unmade { IfOk result (λ job. (job.drafts ≡ None) × (D.fetches job.port ≡ 0) × (D.port_faults job.port ≡ 0)) }
+
+        // A refusal has its reason.
+        ensures why { IfErr result (HasReasonOfBegin D.tells (view_of self.old.core)) }
+        ensures stopped { (at : ℕ) → self.old.core.state.stopped ≡ Some at → IsErrOf result (refused.Stopped at) × (self.new ≡ self.old) }
+        ensures busy { self.old.core.state.stopped ≡ None → IsSome self.old.core.flight → IsErrOf result refused.NothingDue × (self.new ≡ self.old) }
+        ensures kept { OnErr result (self.new.core.flight ≡ self.old.core.flight) }
+
+        // All else is as it was.
+        ensures same { (self.new.core.state ≡ self.old.core.state) × (self.new.core.version ≡ self.old.core.version) }
+        ensures idle { D.tells → IsIdle (D.seen self.old.core.disk) (D.seen self.new.core.disk) }
+        ensures faults { D.faults self.new.core.disk ≡ D.faults self.old.core.disk }
+    {
+        if let Some(at) = self.core.state.stopped {
+            return Err(Refused::Stopped { at });
+        }
+        if self.core.flight.is_some() {
+            return Err(Refused::NothingDue);
+        }
+        match self.core.begin_now(alloc) {
+            Ok(Some(job)) => Ok(job),
+            Ok(None) => Err(Refused::NothingDue),
+            Err(NoMemory) => Err(Refused::NoMemory),
+        }
+    }
+
+    /// Writes the job's next page, and syncs. The page has the next object number, and no manifest cites it yet.
+    ///
+    /// # Errors
+    ///
+    /// `Stopped`, `Exhausted` where the last place is taken or no number is left, `NoMemory`, `Fault`, which stops the store. After each of these the job can only be
+    /// given up.
+    pub fn write_out(&mut self, job: &mut Job<D>, piece: Piece) -> Result<(), Refused>
+        // Opening gives this, and each call leaves it so.
+        requires sound { IsSound D.tells (view_of self.old.core) }
+        requires works { IsAtWork D.tells (view_of self.old.core) job.old }
+        requires next { IsNextPage job.old piece }
+        ensures sound { IsSound D.tells (view_of self.new.core) }
+
+        // It stands for the same history, and where the disk failed for that with work that failed.
+        ensures stands { D.tells → (config : Fields) (opened : Opened) (h : History) → StandsFor config opened h (view_of self.old.core) → (caller : ℕ)
+            → StandsFor config opened (stepped_to h caller Work result) (view_of self.new.core) }
+
+        // Acknowledged: the page is there beside what is stored, and is the one object that came.
+        ensures works { OnOk result (IsAtWork D.tells (view_of self.new.core) job.new) }
+        ensures written { OnOk result (job.new.written ≡ job.old.written + 1) }
+        ensures held { D.tells → (s : Stored) → Holds (view_of self.old.core) s → OnOk result (Holds (view_of self.new.core) s) }
+        ensures page { D.tells → IfSome job.old.drafts (λ drafts. OnOk result ((D.seen self.new.core.disk).directory
+            ≡ insert (D.seen self.old.core.disk).directory (page_name self.old.core.state.next) (slice_index_or (pages_in drafts.items) job.old.written []))) }
+
+        // The job stays in flight, and where it was refused it can only be given up.
+        ensures flies { IsInFlight (view_of self.new.core) job.new }
+        ensures refused { OnErr result (job.new.refused ≡ true) }
+        ensures same { (job.new.drafts ≡ job.old.drafts) × (job.new.task ≡ job.old.task) × (job.new.port ≡ job.old.port) }
+
+        // A refusal has its reason.
+        ensures why { IfErr result (HasReasonOfWork (max_place ≤ self.old.core.state.next) (view_of self.old.core) (view_of self.new.core)) }
+        ensures stopped { (at : ℕ) → self.old.core.state.stopped ≡ Some at → IsErrOf result (refused.Stopped at) × (self.new ≡ self.old) }
+
+        // A crash at any moment of the call leaves what is kept for the history.
+        ensures any_moment { D.tells → (config : Fields) (h : History) → StandsNow config h (view_of self.old.core)
+            → self.old.core.state.stopped ≡ None → Goes (λ c. IsKept c h) (D.seen self.old.core.disk) (D.seen self.new.core.disk) }
+
+        // Numbers are drawn no faster than device calls are made.
+        ensures numbers { D.tells → self.new.core.state.next + (D.seen self.old.core.disk).moment ≤ self.old.core.state.next + (D.seen self.new.core.disk).moment }
+        ensures faults { D.faults self.old.core.disk ≤ D.faults self.new.core.disk }
+    {
+        let written = self.write_piece(job, &piece);
+        if written.is_ok() {
+            job.written += 1;
+        } else {
+            job.refused = true;
+        }
+        written
+    }
+
+    /// Writes the job's next page.
+    fn write_piece(&mut self, job: &Job<D>, piece: &Piece) -> Result<(), Refused>
+        requires sound { IsSound D.tells (view_of self.old.core) }
+        requires works { IsAtWork D.tells (view_of self.old.core) job.now }
+        requires next { IsNextPage job.now piece.now }
+        ensures sound { IsSound D.tells (view_of self.new.core) }
+        ensures stands { D.tells → (config : Fields) (opened : Opened) (h : History) → StandsFor config opened h (view_of self.old.core) → (caller : ℕ)
+            → StandsFor config opened (stepped_to h caller Work result) (view_of self.new.core) }
+        ensures held { D.tells → (s : Stored) → Holds (view_of self.old.core) s → OnOk result (Holds (view_of self.new.core) s) }
+        ensures written { IfSome (view_of self.old.core).flight (λ flying. IfSome job.now.drafts (λ drafts.
+            OnOk result ((view_of self.new.core).flight ≡ Some (with_page flying (page_name self.old.core.state.next, slice_index_or (pages_in drafts.items) job.now.written []))))) }
+        ensures kept { OnErr result ((view_of self.new.core).flight ≡ (view_of self.old.core).flight) }
+        ensures page { D.tells → IfSome job.now.drafts (λ drafts. OnOk result ((D.seen self.new.core.disk).directory
+            ≡ insert (D.seen self.old.core.disk).directory (page_name self.old.core.state.next) (slice_index_or (pages_in drafts.items) job.now.written []))) }
+        ensures why { IfErr result (HasReasonOfWork (max_place ≤ self.old.core.state.next) (view_of self.old.core) (view_of self.new.core)) }
+        ensures stopped { (at : ℕ) → self.old.core.state.stopped ≡ Some at → IsErrOf result (refused.Stopped at) × (self.new ≡ self.old) }
+        ensures any_moment { D.tells → (config : Fields) (h : History) → StandsNow config h (view_of self.old.core)
+            → self.old.core.state.stopped ≡ None → Goes (λ c. IsKept c h) (D.seen self.old.core.disk) (D.seen self.new.core.disk) }
+        ensures numbers { D.tells → self.new.core.state.next + (D.seen self.old.core.disk).moment ≤ self.old.core.state.next + (D.seen self.new.core.disk).moment }
+        ensures faults { D.faults self.old.core.disk ≤ D.faults self.new.core.disk }
+    {
+        self.core.state.may_change()?;
+        let before = self.core.disk.faults();
+        self.core.write_now(before, job.page(piece))
+    }
+
+    /// Installs what a job made, whose pages are all written: its files take the place of its inputs, which are removed.
+    ///
+    /// # Errors
+    ///
+    /// As for `write_out`. The job is handed back, and can only be given up.
+    pub fn install(&mut self, alloc: Global, job: Job<D>) -> Result<(), (Job<D>, Refused)>
+        // Opening gives this, and each call leaves it so.
+        requires sound { IsSound D.tells (view_of self.old.core) }
+        requires works { IsAtWork D.tells (view_of self.old.core) job }
+        requires whole { IsWhole job }
+        ensures sound { IsSound D.tells (view_of self.new.core) }
+
+        // It stands for the same history, and where the disk failed for that with work that failed.
+        ensures stands { D.tells → (config : Fields) (opened : Opened) (h : History) → StandsFor config opened h (view_of self.old.core) → (caller : ℕ)
+            → StandsFor config opened (installed_to h caller result) (view_of self.new.core) }
+
+        // Acknowledged: what is stored is the outcome of the task, and no job is in flight.
+        ensures done { D.tells → (s : Stored) → Holds (view_of self.old.core) s → OnOk result ((t : Stored) × IsInstalled s (plain_task job.task.value) t × Holds (view_of self.new.core) t) }
+        ensures free { OnOk result (self.new.core.flight ≡ None) }
+
+        // A refusal has its reason. The job stays in flight, and can only be given up.
+        ensures back { IfErr result (λ back. IsInFlight (view_of self.new.core) back.0 × (back.0.refused ≡ true)) }
+        ensures why { IfErr result (λ back. HasReasonOfWork (IsShortToInstall (view_of self.old.core) job) (view_of self.old.core) (view_of self.new.core) back.1) }
+        ensures stopped { (at : ℕ) → self.old.core.state.stopped ≡ Some at → IfErr result (λ back. back.1 ≡ refused.Stopped at) × OnOk result ⊥ × (self.new ≡ self.old) }
+
+        // A crash at any moment of the call leaves what is kept for the history.
+        ensures any_moment { D.tells → (config : Fields) (h : History) → StandsNow config h (view_of self.old.core)
+            → self.old.core.state.stopped ≡ None → Goes (λ c. IsKept c h) (D.seen self.old.core.disk) (D.seen self.new.core.disk) }
+
+        // Numbers are drawn no faster than device calls are made.
+        ensures numbers { D.tells → self.new.core.state.next + (D.seen self.old.core.disk).moment ≤ self.old.core.state.next + (D.seen self.new.core.disk).moment }
+        ensures faults { D.faults self.old.core.disk ≤ D.faults self.new.core.disk }
+    {
+        let mut job = job;
+        match self.install_drafts(alloc, job.drafts.take().unwrap()) {
+            Ok(()) => Ok(()),
+            Err(why) => {
+                job.refused = true;
+                Err((job, why))
+            }
+        }
+    }
+
+    /// Installs the drafts of the job in flight.
+    fn install_drafts(&mut self, alloc: Global, drafts: Vec<Draft>) -> Result<(), Refused>
+        requires sound { IsSound D.tells (view_of self.old.core) }
+        requires flies { IsSome self.old.core.flight }
+        requires outputs { IfSome (view_of self.old.core).flight (λ flying. AreOutputsOf D.tells flying drafts.items) }
+        ensures sound { IsSound D.tells (view_of self.new.core) }
+        ensures stands { D.tells → (config : Fields) (opened : Opened) (h : History) → StandsFor config opened h (view_of self.old.core) → (caller : ℕ)
+            → StandsFor config opened (stepped_to h caller Work result) (view_of self.new.core) }
+        ensures done { D.tells → (s : Stored) → Holds (view_of self.old.core) s
+            → IfSome (view_of self.old.core).flight (λ flying. OnOk result ((t : Stored) × IsInstalled s flying.task t × Holds (view_of self.new.core) t)) }
+        ensures free { OnOk result (self.new.core.flight ≡ None) }
+        ensures kept { OnErr result (self.new.core.flight ≡ self.old.core.flight) }
+        ensures why { IfErr result (HasReasonOfWork
+            (IfSome (view_of self.old.core).flight (λ flying. max_place ≤ self.old.core.state.next + (sum_by numbers_for drafts.items - length flying.written)))
+            (view_of self.old.core) (view_of self.new.core)) }
+        ensures stopped { (at : ℕ) → self.old.core.state.stopped ≡ Some at → IsErrOf result (refused.Stopped at) × (self.new ≡ self.old) }
+        ensures any_moment { D.tells → (config : Fields) (h : History) → StandsNow config h (view_of self.old.core)
+            → self.old.core.state.stopped ≡ None → Goes (λ c. IsKept c h) (D.seen self.old.core.disk) (D.seen self.new.core.disk) }
+        ensures numbers { D.tells → self.new.core.state.next + (D.seen self.old.core.disk).moment ≤ self.old.core.state.next + (D.seen self.new.core.disk).moment }
+        ensures faults { D.faults self.old.core.disk ≤ D.faults self.new.core.disk }
+    {
+        self.core.state.may_change()?;
+        let before = self.core.disk.faults();
+        self.core.install_now(alloc, before, drafts)
+    }
+
+    /// Gives a job up, and removes its pages. It takes no memory. Where the last place of the history is taken nothing can be removed: then the job's pages stay, and it
+    /// counts as in flight, until the store is opened again.
+    ///
+    /// # Errors
+    ///
+    /// `Stopped`, `Fault`, which stops the store.
+    pub fn cancel(&mut self, job: Job<D>) -> Result<(), Refused>
+        // Opening gives this, and each call leaves it so.
+        requires sound { IsSound D.tells (view_of self.old.core) }
+        requires flies { IsInFlight (view_of self.old.core) job }
+        ensures sound { IsSound D.tells (view_of self.new.core) }
+
+        // It stands for the same history, and where the disk failed for that with work that failed.
+        ensures stands { D.tells → (config : Fields) (opened : Opened) (h : History) → StandsFor config opened h (view_of self.old.core) → (caller : ℕ)
+            → StandsFor config opened (stepped_to h caller Work result) (view_of self.new.core) }
+
+        // What is stored stays, and the job is in flight no more, but where nothing can be removed.
+        ensures held { D.tells → (s : Stored) → Holds (view_of self.old.core) s → OnOk result (Holds (view_of self.new.core) s) }
+        ensures free { (self.old.core.state.stopped ≡ None → self.old.core.state.count < max_place) → self.new.core.flight ≡ None }
+        ensures last { self.old.core.state.stopped ≡ None → self.old.core.state.count ≡ max_place → IsOk result × (self.new ≡ self.old) }
+
+        // A refusal has its reason: an earlier call failed, or the disk failed in this one.
+        ensures why { IfErr result (HasReasonOfWork ⊥ (view_of self.old.core) (view_of self.new.core)) }
+        ensures no_memory { IsErrOf result refused.NoMemory → ⊥ }
+        ensures exhausted { (last : ℕ) → IsErrOf result (refused.Exhausted last) → ⊥ }
+        ensures stopped { (at : ℕ) → self.old.core.state.stopped ≡ Some at → IsErrOf result (refused.Stopped at) × (self.new.core.state ≡ self.old.core.state) }
+
+        // A crash at any moment of the call leaves what is kept for the history.
+        ensures any_moment { D.tells → (config : Fields) (h : History) → StandsNow config h (view_of self.old.core)
+            → self.old.core.state.stopped ≡ None → Goes (λ c. IsKept c h) (D.seen self.old.core.disk) (D.seen self.new.core.disk) }
+
+        // Numbers are drawn no faster than device calls are made.
+        ensures numbers { D.tells → self.new.core.state.next + (D.seen self.old.core.disk).moment ≤ self.old.core.state.next + (D.seen self.new.core.disk).moment }
+        ensures faults { D.faults self.old.core.disk ≤ D.faults self.new.core.disk }
+    {
+        drop(job);
+        if let Some(at) = self.core.state.stopped {
+            self.core.flight = None;
+            return Err(Refused::Stopped { at });
+        }
+        if self.core.state.count >= MAX_PLACE {
+            return Ok(());
+        }
+        let before = self.core.disk.faults();
+        self.core.cancel_now(before)
+    }
+}
