@@ -45,7 +45,7 @@ use Rattle.lethe_state.specs.Remembered.{IsFrozenIn, Remembers}
 use Rattle.lethe_state.specs.declared.state.State.{State}
 use Rattle.lethe_engine.specs.Reads.{IsReadRefusal, listed, told_as}
 use Rattle.lethe_engine.specs.StandsFor.{StandsNow}
-use Rattle.lethe_engine.proofs.Histories.{after_without}
+use Rattle.lethe_core.proofs.Histories.{after_without}
 
 -- The files as readers have them
 

@@ -21,12 +21,12 @@ use Rattle.lethe_stored.specs.Files.{Parts}
 use Rattle.lethe_stored.specs.Kept.{IsKept}
 use Rattle.lethe_stored.specs.Left.{IsKeptOr}
 use Rattle.lethe_state.specs.declared.state.State.{State}
-use Rattle.lethe_engine.specs.Changes.{HasReason, answered_to, done_by, refused_to, written_by}
+use Rattle.lethe_core.specs.Changes.{answered_to, done_by, refused_to, written_by}
 use Rattle.lethe_engine.specs.Opening.{opened_as}
 use Rattle.lethe_engine.specs.StandsFor.{HasCounts, IsKeptFor, IsPrefixFrom, Opened, StandsFor, StandsNow}
-use Rattle.lethe_engine.specs.Work.{stepped_to}
+use Rattle.lethe_core.specs.Steps.{stepped_to}
 use Rattle.lethe_engine.proofs.Prefixes.{prefix_done, prefix_failed, prefix_itself, prefix_longer}
-use Rattle.lethe_engine.proofs.Standing.{idle_stands, stands_done, stands_moments}
+use Rattle.lethe_core.proofs.Standing.{idle_stands, stands_done, stands_moments}
 
 -- counts of faults stay within later ones
 counts_later : (from f0 f1 : ℕ) (did : Did) → f0 ≤ f1 → HasCounts from f0 did → HasCounts from f1 did

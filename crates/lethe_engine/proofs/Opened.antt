@@ -21,9 +21,9 @@ use Rattle.lethe_state.specs.Remembered.{IsCurrent, IsFresh, Remembers}
 use Rattle.lethe_state.specs.Room.{frozen_len}
 use Rattle.lethe_state.specs.declared.state.State.{State}
 use Rattle.lethe_engine.specs.Opening.{IsResumed, IsUntold}
-use Rattle.lethe_engine.specs.Sound.{IsRunning, IsSmall}
+use Rattle.lethe_core.specs.Running.{IsRunning, IsSmall}
 use Rattle.lethe_engine.proofs.Onward.{opened_for}
-use Rattle.lethe_engine.proofs.Standing.{open_stands}
+use Rattle.lethe_core.proofs.Standing.{open_stands}
 
 pub opened_running : (disk : Seen) (s : Stored) (state : State) → IsSettled disk s → HasOnly s [] disk.directory → s.active.records ≡ [] → EndsAt disk (segment_name s.active.no) s.active.no [] 11 → state.end ≡ 11 → IsCurrent s state
     → IsRunning disk s state

@@ -19,7 +19,7 @@ use Rattle.lethe_stored.proofs.Meanings.{frozen_are}
 use Rattle.lethe_state.specs.Records.{IsDeleteRecord, MayBeHeld, frozen_entry, put_record, tomb_record}
 use Rattle.lethe_state.specs.Remembered.{IsCurrent, IsFrozenIn, Remembers}
 use Rattle.lethe_state.specs.declared.state.State.{State}
-use Rattle.lethe_engine.specs.Changes.{put_over}
+use Rattle.lethe_core.specs.Changes.{put_over}
 use Rattle.lethe_engine.specs.Deletes.{IsDeleteOver, MayHave, tomb_over}
 
 frozen_is : (o : Option Segment) (b : Option Buffered) → IsFrozenIn o b → (key : Bytes) → frozen_entry key b ≡ finmap.get (buffer_of (map plain (records_in o))) key

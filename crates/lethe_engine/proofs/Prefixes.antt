@@ -7,7 +7,7 @@ use Rattle.lethe_base.specs.declared.call.Call.TheVariants.{Put, Delete, Erase, 
 use Rattle.lethe_base.specs.declared.call.Did.TheVariants.{Done}
 use Rattle.lethe_stored.specs.Left.{IsOutcome, is_done, is_work, as_done, without_failed, with_failed_done}
 use Rattle.lethe_engine.specs.StandsFor.{IsPrefixFrom}
-use Rattle.lethe_engine.proofs.Histories.{all_done, head_done, tail_done, without_none}
+use Rattle.lethe_core.proofs.Histories.{all_done, head_done, tail_done, without_none}
 
 -- carried out, a change that is done is as it was
 done_again : (change : Change) → change.did ≡ Done → as_done change ≡ change

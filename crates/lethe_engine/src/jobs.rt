@@ -114,7 +114,9 @@ impl<D: Disk> Engine<D> {
         ensures numbers { D.tells → self.new.core.state.next + (D.seen self.old.core.disk).moment ≤ self.old.core.state.next + (D.seen self.new.core.disk).moment }
         ensures faults { D.faults self.old.core.disk ≤ D.faults self.new.core.disk }
     {
-        let written = self.write_piece(job, &piece);
+        // The piece says only that this page is the next one.
+        drop(piece);
+        let written = self.write_next(job);
         if written.is_ok() {
             job.written += 1;
         } else {
@@ -124,10 +126,11 @@ impl<D: Disk> Engine<D> {
     }
 
     /// Writes the job's next page.
-    fn write_piece(&mut self, job: &Job<D>, piece: &Piece) -> Result<(), Refused>
+    fn write_next(&mut self, job: &Job<D>) -> Result<(), Refused>
         requires sound { IsSound D.tells (view_of self.old.core) }
         requires works { IsAtWork D.tells (view_of self.old.core) job.now }
-        requires next { IsNextPage job.now piece.now }
+        requires made { IsSome job.now.drafts }
+        requires left { IfSome job.now.drafts (λ drafts. job.now.written < length (pages_in drafts.items)) }
         ensures sound { IsSound D.tells (view_of self.new.core) }
         ensures stands { D.tells → (config : Fields) (opened : Opened) (h : History) → StandsFor config opened h (view_of self.old.core) → (caller : ℕ)
             → StandsFor config opened (stepped_to h caller Work result) (view_of self.new.core) }
@@ -145,8 +148,11 @@ impl<D: Disk> Engine<D> {
         ensures faults { D.faults self.old.core.disk ≤ D.faults self.new.core.disk }
     {
         self.core.state.may_change()?;
+        let Some(drafts) = &job.drafts else {
+            unreachable!()
+        };
         let before = self.core.disk.faults();
-        self.core.write_now(before, job.page(piece))
+        self.core.write_now(before, page_at(drafts, job.written))
     }
 
     /// Installs what a job made, whose pages are all written: its files take the place of its inputs, which are removed.
@@ -264,4 +270,20 @@ impl<D: Disk> Engine<D> {
         let before = self.core.disk.faults();
         self.core.cancel_now(before)
     }
+}
+
+/// The page at a place among those of the drafts.
+fn page_at(drafts: &[Draft], place: usize) -> &[u8]
+    requires { place < length (pages_in drafts.now) }
+    ensures { result.now ≡ slice_index_or (pages_in drafts.now) place [] }
+{
+    let mut left = place;
+    for draft in drafts {
+        let pages = draft.pages.items();
+        if left < pages.len() {
+            return pages[left].items();
+        }
+        left -= pages.len();
+    }
+    unreachable!()
 }

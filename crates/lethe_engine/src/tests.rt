@@ -1,6 +1,6 @@
 ghost use Rattle.std.specs.Prelude.{IfOk};
-ghost use Rattle.lethe_advance.specs.Shown.{parts_by_level};
-ghost use Rattle.lethe_engine.specs.Sound.{IsSound};
+ghost use Rattle.lethe_core.specs.Running.{IsSound};
+ghost use Rattle.lethe_core.specs.View.{view_of};
 
 use crate::Engine;
 use lethe_base::{Config, Fields, Key, Pick, Value};
@@ -54,7 +54,7 @@ fn key_of(alloc: Global, text: &str) -> Result<Key, Fail> {
 }
 
 fn opened<D: Disk>(alloc: Global, disk: D) -> Result<Engine<D>, Fail>
-    ensures { IfOk result (λ engine. IsSound D.tells (D.seen engine.disk) engine.state (parts_by_level engine.version)) }
+    ensures { IfOk result (λ engine. IsSound D.tells (view_of engine.core)) }
 {
     match Engine::open(alloc, disk, &config()?) {
         Ok(engine) => Ok(engine),
@@ -63,26 +63,28 @@ fn opened<D: Disk>(alloc: Global, disk: D) -> Result<Engine<D>, Fail>
 }
 
 fn put<D: Disk>(alloc: Global, engine: &mut Engine<D>, text: &str, dkey: u64) -> Result<u64, Fail>
-    requires { IsSound D.tells (D.seen engine.old.disk) engine.old.state (parts_by_level engine.old.version) }
-    ensures { IsSound D.tells (D.seen engine.new.disk) engine.new.state (parts_by_level engine.new.version) }
+    requires { IsSound D.tells (view_of engine.old.core) }
+    ensures { IsSound D.tells (view_of engine.new.core) }
 {
     let key = key_of(alloc, text)?;
     let value = Value::new(text.as_bytes().to_vec(alloc)?)?;
-    Ok(engine.put(alloc, key, dkey, value)?)
+    let mut port = engine.new_port(alloc)?;
+    Ok(engine.put(alloc, &mut port, key, dkey, value)?)
 }
 
 fn delete<D: Disk>(alloc: Global, engine: &mut Engine<D>, text: &str) -> Result<u64, Fail>
-    requires { IsSound D.tells (D.seen engine.old.disk) engine.old.state (parts_by_level engine.old.version) }
-    ensures { IsSound D.tells (D.seen engine.new.disk) engine.new.state (parts_by_level engine.new.version) }
+    requires { IsSound D.tells (view_of engine.old.core) }
+    ensures { IsSound D.tells (view_of engine.new.core) }
 {
     let key = key_of(alloc, text)?;
-    Ok(engine.delete(alloc, key)?)
+    let mut port = engine.new_port(alloc)?;
+    Ok(engine.delete(alloc, &mut port, key)?)
 }
 
 /// Makes the call, and tells whether it answered so.
 fn answers_so<D: Disk>(alloc: Global, engine: &mut Engine<D>, step: Step) -> Result<bool, Fail>
-    requires { IsSound D.tells (D.seen engine.old.disk) engine.old.state (parts_by_level engine.old.version) }
-    ensures { IsSound D.tells (D.seen engine.new.disk) engine.new.state (parts_by_level engine.new.version) }
+    requires { IsSound D.tells (view_of engine.old.core) }
+    ensures { IsSound D.tells (view_of engine.new.core) }
 {
     match step {
         Step::Put(text, dkey, place) => Ok(put(alloc, engine, text, dkey)? == place),
@@ -93,8 +95,8 @@ fn answers_so<D: Disk>(alloc: Global, engine: &mut Engine<D>, step: Step) -> Res
 }
 
 fn answer_all<D: Disk>(alloc: Global, engine: &mut Engine<D>, steps: &[Step]) -> Result<(), Fail>
-    requires { IsSound D.tells (D.seen engine.old.disk) engine.old.state (parts_by_level engine.old.version) }
-    ensures { IsSound D.tells (D.seen engine.new.disk) engine.new.state (parts_by_level engine.new.version) }
+    requires { IsSound D.tells (view_of engine.old.core) }
+    ensures { IsSound D.tells (view_of engine.new.core) }
 {
     for step in steps {
         if !answers_so(alloc, engine, *step)? {
@@ -138,8 +140,8 @@ fn listed<D: Disk>(
 
 /// Whether reads find what the steps left.
 fn is_read<D: Disk>(alloc: Global, engine: &mut Engine<D>) -> Result<bool, Fail>
-    requires { IsSound D.tells (D.seen engine.old.disk) engine.old.state (parts_by_level engine.old.version) }
-    ensures { IsSound D.tells (D.seen engine.new.disk) engine.new.state (parts_by_level engine.new.version) }
+    requires { IsSound D.tells (view_of engine.old.core) }
+    ensures { IsSound D.tells (view_of engine.new.core) }
 {
     let mut port = engine.new_port(alloc)?;
     let gone = got(alloc, engine, &mut port, "a")?;

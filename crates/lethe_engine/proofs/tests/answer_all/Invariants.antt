@@ -1,5 +1,5 @@
 use Rattle.lethe_advance.specs.Shown.{parts_by_level}
-use Rattle.lethe_engine.specs.Sound.{IsSound}
+use Rattle.lethe_core.specs.Running.{IsSound}
 use Rattle.lethe_engine.proofs.tests.answer_all.Given as goal
 
 -- each call leaves it sound

@@ -1,12 +1,12 @@
 use Rattle.std.proofs.Common.{rules, ◌≡◌, Err, sym, ap, ◌∙◌, subst}
-use Rattle.lethe_engine.specs.Changes.{HasReason}
+use Rattle.lethe_core.specs.Changes.{HasReason}
 use Rattle.lethe_engine.specs.StandsFor.{StandsFor}
-use Rattle.lethe_engine.specs.Work.{stepped_to}
-use Rattle.lethe_engine.proofs.Roomed.{unbegun}
+use Rattle.lethe_core.specs.Steps.{stepped_to}
+use Rattle.lethe_core.proofs.Roomed.{unbegun}
 use Rattle.lethe_advance.specs.Shown.{parts_by_level}
 use Rattle.lethe_base.specs.declared.call.Call.TheVariants.{Work}
 use Rattle.lethe_engine.proofs.Onward.{refused_work, still_for}
-use Rattle.lethe_engine.proofs.Standing.{stands_moments}
+use Rattle.lethe_core.proofs.Standing.{stands_moments}
 use Rattle.lethe_engine.proofs.engine.Engine.freeze.Goals as goal
 
 pub returns-then-is_some-clause-any_moment : goal.returns-then-is_some-clause-any_moment

@@ -2,7 +2,7 @@ use Rattle.std.proofs.Common.{sym, subst}
 use Rattle.lethe_advance.specs.Shown.{parts_by_level}
 use Rattle.lethe_engine.specs.StandsFor.{StandsFor}
 use Rattle.lethe_engine.proofs.Onward.{idle_for}
-use Rattle.lethe_engine.proofs.Standing.{idle_sound}
+use Rattle.lethe_core.proofs.Standing.{idle_sound}
 use Rattle.lethe_engine.proofs.engine.Engine.new_port.Goals as goal
 
 pub returns-clause-sound : goal.returns-clause-sound

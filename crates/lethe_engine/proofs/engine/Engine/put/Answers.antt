@@ -12,13 +12,13 @@ use Rattle.lethe_advance.specs.Shown.{parts_by_level}
 use Rattle.lethe_state.specs.Remembered.{Remembers}
 use Rattle.lethe_state.specs.Room.{IsRoomMade}
 use Rattle.lethe_state.proofs.Recording.{put_recorded}
-use Rattle.lethe_engine.specs.Changes.{HasReason, answered_to, put_over, with_record, written_by}
-use Rattle.lethe_engine.specs.Sound.{IsRunning}
+use Rattle.lethe_core.specs.Changes.{answered_to, put_over, with_record, written_by}
+use Rattle.lethe_core.specs.Running.{IsRunning}
 use Rattle.lethe_engine.specs.StandsFor.{StandsFor, StandsNow}
 use Rattle.lethe_engine.proofs.Onward.{answered_for, put_works}
 use Rattle.lethe_engine.proofs.Overs.{put_same}
-use Rattle.lethe_engine.proofs.Roomed.{reasons_same, sees_room, unbegun}
-use Rattle.lethe_engine.proofs.Standing.{moments_or, stands_for, stands_moments, stands_running}
+use Rattle.lethe_core.proofs.Roomed.{reasons_same, sees_room, unbegun}
+use Rattle.lethe_core.proofs.Standing.{moments_or, stands_for, stands_moments, stands_running}
 use Rattle.lethe_engine.proofs.engine.Engine.put.Goals as goal
 
 pub returns-in_err-may_change-clause-any_moment : goal.returns-in_err-may_change-clause-any_moment

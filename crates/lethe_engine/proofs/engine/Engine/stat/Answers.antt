@@ -7,7 +7,7 @@ use Rattle.lethe_manifest.specs.declared.manifest.Manifest.{Manifest}
 use Rattle.lethe_version.specs.Versions.{levels_of}
 use Rattle.lethe_engine.specs.Capped.{capped}
 use Rattle.lethe_engine.proofs.Counting.{capped_more, capped_sum, count_files, count_tombs, length_more, sum_by-map, sum_more}
-use Rattle.lethe_engine.proofs.Histories.{after_without}
+use Rattle.lethe_core.proofs.Histories.{after_without}
 use Rattle.lethe_engine.proofs.engine.Engine.stat.Goals as goal
 
 pub loop-level-preserved : goal.loop-level-preserved
