@@ -8,6 +8,7 @@ use Rattle.lethe_base.specs.Limits.{max_place}
 use Rattle.lethe_base.specs.History.{History, Change}
 use Rattle.lethe_base.specs.declared.config.Fields.{Fields}
 use Rattle.lethe_base.specs.declared.name.Name.{Name}
+use Rattle.lethe_build.specs.Built.{most_numbers}
 use Rattle.lethe_disk.specs.Disk.{Seen}
 use Rattle.lethe_engine.specs.Opening.{IsUntold}
 use Rattle.lethe_build.specs.Drafts.{numbers_for}
@@ -175,7 +176,8 @@ pub record Ends (run : Run) (status : ℕ) : Type 0 where
   pub complete : (config : Fields) → Asks run config → (run.SourceRose → ⊥) → (run.SinkRose → ⊥) → (Rose run.faults_before run.faults → ⊥) → (run.PortsFail → ⊥)
       → IfSome run.source (λ bytes. (phases : List (List Order)) → script_of bytes ≡ Ok phases → OnLeft run (λ left change.
       ((kept : Fields) → HasOtherConfig config run.start.directory kept → ⊥) → (IsExhausted run.start.directory → ⊥)
-      → ((next : ℕ) → IsNextNumber run.start.directory next → next + (run.finish.moment - run.start.moment) + most_of_a_change < max_place)
+      → ((next : ℕ) → IsNextNumber run.start.directory next
+      → next + (run.finish.moment - run.start.moment) + most_of_a_change + most_numbers (length left + 1 + sum_by (λ orders. length orders) phases) < max_place)
       → length left + 1 + sum_by (λ orders. length orders) phases ≤ max_place → Contains (0 ∷ 7 ∷ []) status))
   -- there is no other status
   pub known : Contains (0 ∷ 2 ∷ 3 ∷ 4 ∷ 5 ∷ 6 ∷ 7 ∷ 8 ∷ 9 ∷ []) status

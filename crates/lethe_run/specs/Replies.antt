@@ -16,8 +16,8 @@ IsOfChange (refused.Backwards clock) = ⊥
 IsOfChange (refused.Pinned pin limit) = ⊥
 IsOfChange refused.NothingDue = ⊥
 IsOfChange (refused.Cancelled begun now) = ⊥
-IsOfChange (refused.ReadFault before after) = ⊥
-IsOfChange (refused.Damaged name) = ⊥
+IsOfChange (refused.ReadFault before after) = Unit {0}
+IsOfChange (refused.Damaged name) = Unit {0}
 
 -- the reply to a refusal; none where there was no memory
 abbrev pub refusal_of : Refused → Result Reply NoMemory
@@ -29,8 +29,8 @@ refusal_of (refused.Backwards clock) = Err (record {})
 refusal_of (refused.Pinned pin limit) = Err (record {})
 refusal_of refused.NothingDue = Err (record {})
 refusal_of (refused.Cancelled begun now) = Err (record {})
-refusal_of (refused.ReadFault before after) = Err (record {})
-refusal_of (refused.Damaged name) = Err (record {})
+refusal_of (refused.ReadFault before after) = Ok ReadFault
+refusal_of (refused.Damaged name) = Ok (Damaged name.no)
 
 abbrev pub reply_of : Result ℕ Refused → Result Reply NoMemory
 reply_of (Ok place) = Ok (Done place)

@@ -6,8 +6,7 @@ use Rattle.lethe_base.specs.Keys.{Bytes}
 use Rattle.lethe_base.specs.History.{History}
 use Rattle.lethe_base.specs.declared.config.Fields.{Fields}
 use Rattle.lethe_disk.specs.Disk.{Seen}
-use Rattle.lethe_stored.specs.Files.{Parts}
-use Rattle.lethe_state.specs.declared.state.State.{State}
+use Rattle.lethe_core.specs.View.{View}
 use Rattle.lethe_script.specs.declared.order.Order.{Order}
 use Rattle.lethe_run.specs.declared.reply.Line.{Line}
 use Rattle.lethe_run.specs.declared.status.Status.{Status}
@@ -17,42 +16,42 @@ use Rattle.lethe_run.specs.Serving.{IsOn, IsCarried}
 use Rattle.lethe_run.specs.Transcript.{Start, course, text_of, has_refusal}
 
 -- the lines answer these phases, over each history for which the store stands, and from each start of the run on
-abbrev pub Serves : Type 0 → Type 0 → Seen → Seen → State → List (List Parts) → ℕ → ℕ → List (List Order) → List (List Line) → Type 0
-Serves Tells PortsFail start finish state levels before now phases lines =
-    Tells → (config : Fields) (begin : Start) (opened : History) → IsOn config begin before opened opened start state levels
-    → IsCarried config (course PortsFail begin now finish.moment) opened phases lines start finish
+abbrev pub Serves : Type 0 → Type 0 → View → Seen → ℕ → List (List Order) → List (List Line) → Type 0
+Serves Tells PortsFail start finish now phases lines =
+    Tells → (config : Fields) (begin : Start) (opened : History) → IsOn config begin opened opened start
+    → IsCarried config (course PortsFail begin now finish.moment) opened phases lines start.disk finish
 
 -- all phases were answered
-pub record All (Tells PortsFail : Type 0) (start finish : Seen) (state : State) (levels : List (List Parts)) (before now : ℕ) (old new : Option Bytes) (phases : List (List Order)) (refused : Bool) : Type 0 where
+pub record All (Tells PortsFail : Type 0) (start : View) (finish : Seen) (now : ℕ) (old new : Option Bytes) (phases : List (List Order)) (refused : Bool) : Type 0 where
   pub lines : List (List Line)
-  pub served : Serves Tells PortsFail start finish state levels before now phases lines
+  pub served : Serves Tells PortsFail start finish now phases lines
   pub written : Appends old new (text_of lines)
   pub is : has_refusal lines ≡ refused
 
 -- some were, and the sink failed in the lines of the last of them
-pub record Behind (Tells PortsFail : Type 0) (start finish : Seen) (state : State) (levels : List (List Parts)) (before now : ℕ) (old new : Option Bytes) (phases : List (List Order)) : Type 0 where
+pub record Behind (Tells PortsFail : Type 0) (start : View) (finish : Seen) (now : ℕ) (old new : Option Bytes) (phases : List (List Order)) : Type 0 where
   pub lines : List (List Line)
   pub count : ℕ
-  pub served : Serves Tells PortsFail start finish state levels before now (take count phases) lines
+  pub served : Serves Tells PortsFail start finish now (take count phases) lines
   pub written : AppendsFront old new (text_of lines)
 
 -- none were, or some, and of the next one the first orders
-pub record Inside (Tells PortsFail : Type 0) (start finish : Seen) (state : State) (levels : List (List Parts)) (before now : ℕ) (old new : Option Bytes) (phases : List (List Order)) : Type 0 where
+pub record Inside (Tells PortsFail : Type 0) (start : View) (finish : Seen) (now : ℕ) (old new : Option Bytes) (phases : List (List Order)) : Type 0 where
   pub lines : List (List Line)
-  pub served : Tells → (config : Fields) (begin : Start) (opened : History) → IsOn config begin before opened opened start state levels
-      → (front : List (List Order)) × IsBegun phases front × IsCarried config (course PortsFail begin now finish.moment) opened front lines start finish
+  pub served : Tells → (config : Fields) (begin : Start) (opened : History) → IsOn config begin opened opened start
+      → (front : List (List Order)) × IsBegun phases front × IsCarried config (course PortsFail begin now finish.moment) opened front lines start.disk finish
   pub written : AppendsFront old new (text_of lines)
 
-abbrev pub ScriptEnds : Type 0 → Type 0 → Seen → Seen → State → List (List Parts) → ℕ → ℕ → Option Bytes → Option Bytes → Type 0 → List (List Order) → Status → Type 0
-ScriptEnds Tells PortsFail start finish state levels before now old new SinkRose phases Answered = All Tells PortsFail start finish state levels before now old new phases false
-ScriptEnds Tells PortsFail start finish state levels before now old new SinkRose phases Refused = All Tells PortsFail start finish state levels before now old new phases true
-ScriptEnds Tells PortsFail start finish state levels before now old new SinkRose phases WriteFault = SinkRose × Behind Tells PortsFail start finish state levels before now old new phases
-ScriptEnds Tells PortsFail start finish state levels before now old new SinkRose phases NoMemory = Inside Tells PortsFail start finish state levels before now old new phases
-ScriptEnds Tells PortsFail start finish state levels before now old new SinkRose phases BadWords = ⊥
-ScriptEnds Tells PortsFail start finish state levels before now old new SinkRose phases BadScript = ⊥
-ScriptEnds Tells PortsFail start finish state levels before now old new SinkRose phases ReadFault = ⊥
-ScriptEnds Tells PortsFail start finish state levels before now old new SinkRose phases Damaged = ⊥
-ScriptEnds Tells PortsFail start finish state levels before now old new SinkRose phases OtherConfig = ⊥
+abbrev pub ScriptEnds : Type 0 → Type 0 → View → Seen → ℕ → Option Bytes → Option Bytes → Type 0 → List (List Order) → Status → Type 0
+ScriptEnds Tells PortsFail start finish now old new SinkRose phases Answered = All Tells PortsFail start finish now old new phases false
+ScriptEnds Tells PortsFail start finish now old new SinkRose phases Refused = All Tells PortsFail start finish now old new phases true
+ScriptEnds Tells PortsFail start finish now old new SinkRose phases WriteFault = SinkRose × Behind Tells PortsFail start finish now old new phases
+ScriptEnds Tells PortsFail start finish now old new SinkRose phases NoMemory = Inside Tells PortsFail start finish now old new phases
+ScriptEnds Tells PortsFail start finish now old new SinkRose phases BadWords = ⊥
+ScriptEnds Tells PortsFail start finish now old new SinkRose phases BadScript = ⊥
+ScriptEnds Tells PortsFail start finish now old new SinkRose phases ReadFault = ⊥
+ScriptEnds Tells PortsFail start finish now old new SinkRose phases Damaged = ⊥
+ScriptEnds Tells PortsFail start finish now old new SinkRose phases OtherConfig = ⊥
 
 -- why the lines of a phase aren't all printed: there was no memory for them, or the sink failed
 abbrev pub IsCutBy : Type 0 → Type 0 → Status → Type 0

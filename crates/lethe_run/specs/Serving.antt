@@ -5,9 +5,8 @@ use Rattle.lethe_base.specs.declared.config.Fields.{Fields}
 use Rattle.lethe_disk.specs.Disk.{Seen}
 use Rattle.lethe_engine.specs.StandsFor.{IsKeptFor, IsPrefixFrom, Opened, StandsFor}
 use Rattle.lethe_disk.specs.Goes.{Goes}
-use Rattle.lethe_stored.specs.Files.{Parts}
 use Rattle.lethe_stored.specs.Left.{IsLeft, without_failed}
-use Rattle.lethe_state.specs.declared.state.State.{State}
+use Rattle.lethe_core.specs.View.{View}
 use Rattle.lethe_script.specs.declared.order.Act.{Act}
 use Rattle.lethe_script.specs.declared.order.Order.{Order}
 use Rattle.lethe_run.specs.declared.reply.Line.{Line}
@@ -19,13 +18,13 @@ use Rattle.lethe_run.specs.Transcript.{Course, Start, course, Answers, Follows, 
 abbrev pub opened_in : Start → History → ℕ → ℕ → Opened
 opened_in begin h moment faults = record { history = h; began = begin.moment; moment = moment; next = begin.next; faults = faults }
 
--- A store of the configuration, opened in a run that found its disk so, which has met so many faults and stands for a history.
-pub record IsOn (config : Fields) (begin : Start) (faults : ℕ) (opened h : History) (disk : Seen) (state : State) (levels : List (List Parts)) : Type 0 where
+-- A store of the configuration, opened in a run that found its disk so, stands for a history.
+pub record IsOn (config : Fields) (begin : Start) (opened h : History) (view : View) : Type 0 where
   pub done : AreDone opened
   -- the moment of its disk when opening answered, and the count of faults
   pub moment : ℕ
   pub counted : ℕ
-  pub stands : StandsFor config (opened_in begin opened moment counted) h disk faults state levels
+  pub stands : StandsFor config (opened_in begin opened moment counted) h view
   pub faults_since : begin.faults ≤ counted
   pub moment_since : begin.moment ≤ moment
 
@@ -35,18 +34,18 @@ pub record GoesOn (opened h g : History) (old new : Seen) : Type 0 where
   pub any_moment : Goes (IsKeptFor opened g) old new
 
 -- the act was answered so, and the history went on from h to g
-pub record IsAnswered (config : Fields) (PortsFail : Type 0) (begin : Start) (faults : ℕ) (opened h g : History) (caller : ℕ) (act : Act) (reply : Reply) (old new : Seen) (state : State) (levels : List (List Parts)) : Type 0 where
+pub record IsAnswered (config : Fields) (PortsFail : Type 0) (begin : Start) (opened h g : History) (caller : ℕ) (act : Act) (reply : Reply) (old new : View) : Type 0 where
   pub grows : (added : History) × (g ≡ h ++ added)
-  pub answers : Answers (record { history = g; course = course PortsFail begin faults new.moment }) caller act reply
-  pub follows : Follows (course PortsFail begin faults new.moment) (length h) reply (length g)
-  pub goes : GoesOn opened h g old new
-  pub stands : IsOn config begin faults opened g new state levels
+  pub answers : Answers (record { history = g; course = course PortsFail begin new.faults new.disk.moment }) caller act reply
+  pub follows : Follows (course PortsFail begin new.faults new.disk.moment) (length h) reply (length g)
+  pub goes : GoesOn opened h g old.disk new.disk
+  pub stands : IsOn config begin opened g new
 
 -- the orders were answered by the lines, and the history went on from h to g
-pub record IsPhase (config : Fields) (PortsFail : Type 0) (begin : Start) (faults : ℕ) (opened h g : History) (orders : List Order) (lines : List Line) (old new : Seen) (state : State) (levels : List (List Parts)) : Type 0 where
-  pub served : IsServed (course PortsFail begin faults new.moment) h orders lines g
-  pub goes : GoesOn opened h g old new
-  pub stands : IsOn config begin faults opened g new state levels
+pub record IsPhase (config : Fields) (PortsFail : Type 0) (begin : Start) (opened h g : History) (orders : List Order) (lines : List Line) (old new : View) : Type 0 where
+  pub served : IsServed (course PortsFail begin new.faults new.disk.moment) h orders lines g
+  pub goes : GoesOn opened h g old.disk new.disk
+  pub stands : IsOn config begin opened g new
 
 -- the phases were answered by the lines, from the opened history on
 pub record IsCarried (config : Fields) (course : Course) (opened : History) (phases : List (List Order)) (lines : List (List Line)) (start finish : Seen) : Type 0 where

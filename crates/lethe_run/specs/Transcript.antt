@@ -106,16 +106,17 @@ pub record WasStopped (told : Told) (at : ℕ) : Type 0 where
 abbrev pub most_of_a_change : ℕ
 most_of_a_change = most_numbers (greatest_of Buffer) + 3
 
--- Numbers of objects run out: where each device call since the start has drawn one, those of one more change reach the last.
-abbrev pub IsShort : Course → Type 0
-IsShort course = max_place ≤ course.next + course.calls + most_of_a_change
+-- Numbers of objects run out behind so many changes: where each device call since the start has drawn one, those of one more change reach the last. It may also
+-- merge entries, of which there are no more than changes.
+abbrev pub IsShort : ℕ → Course → Type 0
+IsShort n course = max_place ≤ course.next + course.calls + most_of_a_change + most_numbers n
 
 -- all places are used up, or the numbers of objects
 abbrev pub IsUsedUp : Told → ℕ → Type 0
-IsUsedUp told last = (last ≡ max_place) × ((length told.history ≡ max_place) ⊎ IsShort told.course)
+IsUsedUp told last = (last ≡ max_place) × ((length told.history ≡ max_place) ⊎ IsShort (length told.history) told.course)
 
--- What a reply means: a change stands at its place, done or failed, or isn't made; a read is a map's at its printed point, or isn't answered.
--- A disk that tells what it holds has no damaged page.
+-- What a reply means: a change stands at its place, done or failed, or isn't made; a read is a map's at its printed point, or isn't answered. A fetch may fail in both, since a
+-- change may merge files. A disk that tells what it holds has no damaged page.
 abbrev pub Answers : Told → ℕ → Act → Reply → Type 0
 Answers told caller act (Done place) = IsSomeAnd (call_of act) (IsDoneAt told.history caller place)
 Answers told caller act (Got point held) = IsSomeAnd (read_of act) (λ read. IsAnswerAt told.history point read (answers.Found held))
@@ -124,7 +125,7 @@ Answers told caller act (Counted point stat) = (act ≡ Stat) × IsStatAt told.h
 Answers told caller act (Fault place before after) = IsSomeAnd (call_of act) (IsFaultOf told caller place before after)
 Answers told caller act (Stopped at) = IsSome (call_of act) × WasStopped told at
 Answers told caller act (Exhausted last) = IsSome (call_of act) × IsUsedUp told last
-Answers told caller act ReadFault = IsSome (read_of act) × told.course.PortsFail
+Answers told caller act ReadFault = (IsSome (read_of act) ⊎ IsSome (call_of act)) × told.course.PortsFail
 Answers told caller act (Damaged page) = ⊥
 
 -- the lines of a phase
@@ -197,7 +198,7 @@ Follows course n (Scanned point pairs) m = (point ≡ n) × (m ≡ n)
 Follows course n (Counted point stat) m = (point ≡ n) × (m ≡ n)
 Follows course n (Fault place before after) m = (place ≡ suc n) × (m ≡ suc n)
 Follows course n (Stopped at) m = (at ≡ n) × (m ≡ n)
-Follows course n (Exhausted last) m = ((n ≡ last) ⊎ IsShort course) × (m ≡ n)
+Follows course n (Exhausted last) m = ((n ≡ last) ⊎ IsShort n course) × (m ≡ n)
 Follows course n ReadFault m = m ≡ n
 Follows course n (Damaged page) m = m ≡ n
 

@@ -2,9 +2,9 @@
 ghost use Rattle.std.specs.Prelude.{◌≡◌, ◌≤◌, ℕ, IfErr, MatchResult};
 ghost use Rattle.lethe_base.specs.History.{History};
 ghost use Rattle.lethe_base.specs.declared.config.Fields.{Fields};
-ghost use Rattle.lethe_advance.specs.Shown.{parts_by_level};
 ghost use Rattle.lethe_engine.specs.Reads.{IsReadRefusal};
-ghost use Rattle.lethe_engine.specs.Sound.{IsSound};
+ghost use Rattle.lethe_core.specs.Running.{IsSound};
+ghost use Rattle.lethe_core.specs.View.{view_of};
 ghost use Rattle.lethe_run.specs.Replies.{IsOfChange, reply_of, unread_of};
 ghost use Rattle.lethe_run.specs.Serving.{IsOn, IsAnswered, GoesOn};
 ghost use Rattle.lethe_run.specs.Transcript.{Start};
@@ -23,18 +23,18 @@ pub(crate) fn answer<D: Disk>(
     port: &mut D::Port,
     act: Act,
 ) -> Result<Reply, NoMemory>
-    requires { IsSound D.tells (D.seen engine.old.disk) engine.old.state (parts_by_level engine.old.version) }
-    ensures sound { IsSound D.tells (D.seen engine.new.disk) engine.new.state (parts_by_level engine.new.version) }
+    requires { IsSound D.tells (view_of engine.old.core) }
+    ensures sound { IsSound D.tells (view_of engine.new.core) }
     ensures served { D.tells → (config : Fields) (begin : Start) (opened h : History) (caller : ℕ)
-        → IsOn config begin (D.faults engine.old.disk) opened h (D.seen engine.old.disk) engine.old.state (parts_by_level engine.old.version)
+        → IsOn config begin opened h (view_of engine.old.core)
         → MatchResult result
-        (λ reply. (g : History) × IsAnswered config D.ports_fail begin (D.faults engine.new.disk) opened h g caller act reply (D.seen engine.old.disk) (D.seen engine.new.disk) engine.new.state (parts_by_level engine.new.version))
-        (λ why. GoesOn opened h h (D.seen engine.old.disk) (D.seen engine.new.disk) × IsOn config begin (D.faults engine.new.disk) opened h (D.seen engine.new.disk) engine.new.state (parts_by_level engine.new.version)) }
-    ensures faults { D.faults engine.old.disk ≤ D.faults engine.new.disk }
+        (λ reply. (g : History) × IsAnswered config D.ports_fail begin opened h g caller act reply (view_of engine.old.core) (view_of engine.new.core))
+        (λ why. GoesOn opened h h (D.seen engine.old.core.disk) (D.seen engine.new.core.disk) × IsOn config begin opened h (view_of engine.new.core)) }
+    ensures faults { D.faults engine.old.core.disk ≤ D.faults engine.new.core.disk }
 {
     match act {
-        Act::Put { key, dkey, value } => changed(engine.put(alloc, key, dkey, value)),
-        Act::Delete { key } => changed(engine.delete(alloc, key)),
+        Act::Put { key, dkey, value } => changed(engine.put(alloc, port, key, dkey, value)),
+        Act::Delete { key } => changed(engine.delete(alloc, port, key)),
         Act::Get { key } => match engine.get(alloc, port, &key) {
             Ok(held) => Ok(Reply::Got {
                 point: engine.count(),
@@ -76,6 +76,8 @@ fn changed(answer: Result<u64, Refused>) -> Result<Reply, NoMemory>
         }),
         Err(Refused::Stopped { at }) => Ok(Reply::Stopped { at }),
         Err(Refused::Exhausted { last }) => Ok(Reply::Exhausted { last }),
+        Err(Refused::ReadFault { .. }) => Ok(Reply::ReadFault),
+        Err(Refused::Damaged { name }) => Ok(Reply::Damaged { no: name.no }),
         Err(Refused::NoMemory) => Err(NoMemory),
         Err(_) => unreachable!(),
     }

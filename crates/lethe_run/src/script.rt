@@ -4,8 +4,8 @@ ghost use Rattle.std.specs.Io.KnownBytes.{Appends};
 ghost use Rattle.lethe_wire.specs.Causes.{AppendsFront};
 ghost use Rattle.std.specs.List.{list_any};
 ghost use Rattle.lethe_base.specs.Counts.{Rose};
-ghost use Rattle.lethe_advance.specs.Shown.{parts_by_level};
-ghost use Rattle.lethe_engine.specs.Sound.{IsSound};
+ghost use Rattle.lethe_core.specs.Running.{IsSound};
+ghost use Rattle.lethe_core.specs.View.{view_of};
 ghost use Rattle.lethe_run.specs.Scripts.{ScriptEnds, IsCutBy};
 ghost use Rattle.lethe_run.specs.Printed.{lines_text};
 ghost use Rattle.lethe_run.specs.Transcript.{is_refusal};
@@ -28,10 +28,10 @@ pub(crate) fn serve_script<K: Sink, D: Disk>(
     phases: List<List<Order>>,
     mut engine: Engine<D>,
 ) -> (Status, D)
-    requires { IsSound D.tells (D.seen engine.disk) engine.state (parts_by_level engine.version) }
-    ensures ends { ScriptEnds D.tells D.ports_fail (D.seen engine.disk) (D.seen result.1) engine.state (parts_by_level engine.version) (D.faults engine.disk) (D.faults result.1)
+    requires { IsSound D.tells (view_of engine.core) }
+    ensures ends { ScriptEnds D.tells D.ports_fail (view_of engine.core) (D.seen result.1) (D.faults result.1)
         (K.taken sink.old) (K.taken sink.new) (Rose (K.faults sink.old) (K.faults sink.new)) phases result.0 }
-    ensures faults { D.faults engine.disk ≤ D.faults result.1 }
+    ensures faults { D.faults engine.core.disk ≤ D.faults result.1 }
 {
     match engine.new_port(alloc) {
         Ok(port) => serve_phases(alloc, sink, phases, engine, port),
@@ -47,10 +47,10 @@ fn serve_phases<K: Sink, D: Disk>(
     mut engine: Engine<D>,
     mut port: D::Port,
 ) -> (Status, D)
-    requires { IsSound D.tells (D.seen engine.disk) engine.state (parts_by_level engine.version) }
-    ensures ends { ScriptEnds D.tells D.ports_fail (D.seen engine.disk) (D.seen result.1) engine.state (parts_by_level engine.version) (D.faults engine.disk) (D.faults result.1)
+    requires { IsSound D.tells (view_of engine.core) }
+    ensures ends { ScriptEnds D.tells D.ports_fail (view_of engine.core) (D.seen result.1) (D.faults result.1)
         (K.taken sink.old) (K.taken sink.new) (Rose (K.faults sink.old) (K.faults sink.new)) phases result.0 }
-    ensures faults { D.faults engine.disk ≤ D.faults result.1 }
+    ensures faults { D.faults engine.core.disk ≤ D.faults result.1 }
 {
     let mut refused = false;
     for orders in phases.into_vec() {

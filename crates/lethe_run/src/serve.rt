@@ -2,8 +2,8 @@
 ghost use Rattle.std.specs.Prelude.{◌≡◌, ◌≤◌, List, [], ◌++◌, IsTrue};
 ghost use Rattle.lethe_base.specs.History.{History};
 ghost use Rattle.lethe_base.specs.declared.config.Fields.{Fields};
-ghost use Rattle.lethe_advance.specs.Shown.{parts_by_level};
-ghost use Rattle.lethe_engine.specs.Sound.{IsSound};
+ghost use Rattle.lethe_core.specs.Running.{IsSound};
+ghost use Rattle.lethe_core.specs.View.{view_of};
 ghost use Rattle.lethe_script.specs.declared.order.Order.{Order};
 ghost use Rattle.lethe_run.specs.Serving.{IsOn, IsPhase};
 ghost use Rattle.lethe_run.specs.Transcript.{Start};
@@ -33,13 +33,13 @@ pub(crate) fn serve_phase<D: Disk>(
     port: &mut D::Port,
     orders: Vec<Order>,
 ) -> Served
-    requires { IsSound D.tells (D.seen engine.old.disk) engine.old.state (parts_by_level engine.old.version) }
-    ensures sound { IsSound D.tells (D.seen engine.new.disk) engine.new.state (parts_by_level engine.new.version) }
+    requires { IsSound D.tells (view_of engine.old.core) }
+    ensures sound { IsSound D.tells (view_of engine.new.core) }
     ensures served { D.tells → (config : Fields) (begin : Start) (opened start : History)
-        → IsOn config begin (D.faults engine.old.disk) opened start (D.seen engine.old.disk) engine.old.state (parts_by_level engine.old.version)
+        → IsOn config begin opened start (view_of engine.old.core)
         → (h : History) × (part : List Order) × (rest : List Order) × (orders.items ≡ part ++ rest) × (IsTrue result.whole → rest ≡ [])
-        × IsPhase config D.ports_fail begin (D.faults engine.new.disk) opened start h part result.lines.items (D.seen engine.old.disk) (D.seen engine.new.disk) engine.new.state (parts_by_level engine.new.version) }
-    ensures faults { D.faults engine.old.disk ≤ D.faults engine.new.disk }
+        × IsPhase config D.ports_fail begin opened start h part result.lines.items (view_of engine.old.core) (view_of engine.new.core) }
+    ensures faults { D.faults engine.old.core.disk ≤ D.faults engine.new.core.disk }
 {
     let Ok(mut lines) = Vec::with_capacity(alloc, orders.len()) else {
         return Served {

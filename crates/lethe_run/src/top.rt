@@ -4,12 +4,12 @@ ghost use Rattle.std.specs.String.{string_bytes};
 ghost use Rattle.lethe_base.specs.Counts.{Rose};
 ghost use Rattle.lethe_base.specs.History.{History, Change};
 ghost use Rattle.lethe_engine.specs.Opening.{IsResumed, IsUntold};
-ghost use Rattle.lethe_engine.specs.Sound.{IsSound};
+ghost use Rattle.lethe_core.specs.Running.{IsSound};
+ghost use Rattle.lethe_core.specs.View.{view_of};
 ghost use Rattle.lethe_disk.specs.Goes.{Goes};
 ghost use Rattle.lethe_stored.specs.Left.{IsLeft, IsKeptOr};
 ghost use Rattle.lethe_load.specs.Refused.{HasReason};
 ghost use Rattle.lethe_load.specs.declared.refused.RecoverRefused.{RecoverRefused};
-ghost use Rattle.lethe_advance.specs.Shown.{parts_by_level};
 ghost use Rattle.lethe_recover.specs.Opening.{MayNotOpen, IsNextNumber};
 ghost use Rattle.lethe_disk.specs.Quiet.{IsQuiet};
 ghost use Rattle.lethe_script.specs.Grammar.{script_of};
@@ -125,16 +125,16 @@ fn read_all<S: Source>(alloc: Global, source: &mut S) -> Result<Vec<u8>, ReadRef
 
 /// Opens the store of the configuration.
 fn open_store<D: Disk>(alloc: Global, disk: D, config: &Config) -> Result<Engine<D>, OpenRefused<D>>
-    ensures sound { IfOk result (λ engine. IsSound D.tells (D.seen engine.disk) engine.state (parts_by_level engine.version)) }
+    ensures sound { IfOk result (λ engine. IsSound D.tells (view_of engine.core)) }
     ensures resumed { D.tells → (h : History) (change : Option Change) → IsLeft (D.seen disk) h change
-        → IfOk result (λ engine. IsResumed config.now h change (D.seen disk) (D.seen engine.disk) (D.faults engine.disk) engine.state (parts_by_level engine.version)) }
+        → IfOk result (λ engine. IsResumed config.now h change (D.seen disk) (view_of engine.core)) }
     ensures any_moment { D.tells → (h : History) (change : Option Change) → IsLeft (D.seen disk) h change
-        → MatchResult result (λ engine. Goes (IsKeptOr h change) (D.seen disk) (D.seen engine.disk)) (λ refused. Goes (IsKeptOr h change) (D.seen disk) (D.seen refused.disk)) }
+        → MatchResult result (λ engine. Goes (IsKeptOr h change) (D.seen disk) (D.seen engine.core.disk)) (λ refused. Goes (IsKeptOr h change) (D.seen disk) (D.seen refused.disk)) }
     ensures refused { IfErr result (λ refused. MayNotOpen D.tells config.now (D.seen disk).directory (D.faults disk) (D.faults refused.disk) refused.why) }
     ensures exact { D.tells → (why : RecoverRefused) → HasReason config.now (D.seen disk).directory why → IfOk result (λ engine. ⊥) }
     ensures untouched { D.tells → IfErr result (λ refused. IsUntold refused.why ⊎ IsQuiet (D.seen disk) (D.seen refused.disk)) }
     ensures drawn { D.tells → IfErr result (λ refused. (last : ℕ) → refused.why ≡ OpenWhy.Exhausted last → (D.seen disk).moment < (D.seen refused.disk).moment) }
-    ensures faults { IfOk result (λ engine. D.faults disk ≤ D.faults engine.disk) }
+    ensures faults { IfOk result (λ engine. D.faults disk ≤ D.faults engine.core.disk) }
 {
     Engine::open(alloc, disk, config)
 }
