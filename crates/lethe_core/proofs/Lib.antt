@@ -1,3 +1,4 @@
 pub mod Histories
 pub mod Standing
 pub mod Hindered
+pub mod Carried
