@@ -7,3 +7,5 @@ pub mod Stepped
 pub mod Next
 pub mod Recorded
 pub mod Roomed
+pub mod Counted
+pub mod Descending
