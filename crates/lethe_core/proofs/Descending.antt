@@ -1,8 +1,7 @@
 -- How far entries have to go down: a merge makes it less, and there is a bound on it.
-use Rattle.std.proofs.Common.{◌≡◌, ◌≢◌, ℕ, ◌+◌, ◌-◌, ◌*◌, ◌^◌, ◌<◌, ◌≤◌, Bool, true, false, cond, eqb, List, [], ◌∷◌, ◌++◌, map, length, All, Contains, refl, sym, ap, ◌∙◌, subst, arith}
-use Rattle.std.specs.Prelude.{filter, flat_map, not, sum_by}
+use Rattle.std.proofs.Common.{◌≡◌, ◌≢◌, ℕ, ◌+◌, ◌-◌, ◌*◌, ◌^◌, ◌<◌, ◌≤◌, Bool, cond, List, [], ◌∷◌, ◌++◌, map, length, All, Contains, refl, sym, ap, ◌∙◌, subst, arith}
+use Rattle.std.specs.Prelude.{filter, not, sum_by}
 use Rattle.std.proofs.Math.Nat.{mul-le-mul_left}
-use Rattle.std.proofs.lemmas.Bool.Decides.{nat_tests}
 use Rattle.std.proofs.lemmas.List.{length-map}
 use Rattle.std.proofs.lemmas.List.Elements.{All-head, All-tail, All-contains, Contains-append_left, Contains-append_right}
 use Rattle.std.proofs.lemmas.List.Filters.{sum_by-filter_both}
@@ -11,7 +10,7 @@ use Rattle.std.proofs.lemmas.List.Sums.{sum_by-append, sum_by-cons, sum_by-le}
 use Rattle.lethe_base.specs.declared.pending.Pending.{Pending}
 use Rattle.lethe_cover.proofs.Common.{⊎_elim, first_is}
 use Rattle.lethe_cover.proofs.Lists.{all_from, in_middle, in_rest}
-use Rattle.lethe_follows.specs.Merged.{IsMerged, IsMergeIn, StoredMerge, at, entries_in, inputs_of, others_of}
+use Rattle.lethe_follows.specs.Merged.{IsMerged, IsMergeIn, StoredMerge, entries_in, inputs_of, others_of}
 use Rattle.lethe_header.specs.Facts.{lines_of}
 use Rattle.lethe_header.specs.Headers as headers
 use Rattle.lethe_header.specs.declared.header.PageLine.{PageLine}
@@ -26,6 +25,7 @@ use Rattle.lethe_stored.proofs.Leveled.{from_level}
 use Rattle.lethe_version.specs.Order.{is_kept}
 use Rattle.lethe_core.specs.Descent.{steps_down}
 use Rattle.lethe_core.proofs.Counted.{entries_by, all_counted, cut_long, some_counted}
+use Rattle.lethe_core.proofs.Sums.{kept_sum, part_sum, scaled, two_levels}
 
 -- The bound
 
@@ -53,51 +53,12 @@ few_steps s coherent =
     let files = ap length coherent.files in
     omega (arith, all, files, length-map s.files cited_of, coherent.spelled.files.few)
 
--- Sums
-
-module _ {X : Type 0} where
-  -- of what is filtered
-  kept_sum : (f : X → ℕ) (p : X → Bool) (xs : List X) → sum_by f (filter p xs) ≡ sum_by (λ x. cond (p x) (f x) 0) xs
-  kept_sum f p [] = refl
-  kept_sum f p (x ∷ xs) = by (p x) ∙ ap (λ n. cond (p x) (f x) 0 + n) (kept_sum f p xs) ∙ sym (sum_by-cons (λ x. cond (p x) (f x) 0) x xs)
-    where
-      by : (b : Bool) → sum_by f (cond b (x ∷ filter p xs) (filter p xs)) ≡ cond b (f x) 0 + sum_by f (filter p xs)
-      by true = sum_by-cons f x (filter p xs)
-      by false = omega arith
-
-  two_sums : (f g h : X → ℕ) → ((x : X) → f x + g x ≤ h x) → (xs : List X) → sum_by f xs + sum_by g xs ≤ sum_by h xs
-  two_sums f g h each [] = omega arith
-  two_sums f g h each (x ∷ xs) = omega (arith, each x, two_sums f g h each xs, sum_by-cons f x xs, sum_by-cons g x xs, sum_by-cons h x xs)
-
-  -- of so many times as much
-  scaled : (times : ℕ) (f g : X → ℕ) (xs : List X) → All (λ x. f x ≡ times * g x) xs → sum_by f xs ≡ times * sum_by g xs
-  scaled times f g [] each = omega arith
-  scaled times f g (x ∷ xs) each =
-      let here = All-head (λ x. f x ≡ times * g x) x xs each in
-      let rest = scaled times f g xs (All-tail (λ x. f x ≡ times * g x) x xs each) in
-      omega (arith, here, rest, sum_by-cons f x xs, ap (λ n. times * n) (sum_by-cons g x xs))
-
-  -- of what is among others
-  part_sum : (f : X → ℕ) (before xs behind : List X) → sum_by f xs ≤ sum_by f (before ++ (xs ++ behind))
-  part_sum f before xs behind = omega (arith, sum_by-append f before (xs ++ behind), sum_by-append f xs behind)
-
--- two levels have no file in common
-pub two_levels : (f : StoredFile → ℕ) (level : ℕ) (files : List StoredFile) → sum_by f (at level files) + sum_by f (at (level + 1) files) ≤ sum_by f files
-two_levels f level files =
-    let one = kept_sum f (λ file. eqb file.level level) files in
-    let two = kept_sum f (λ file. eqb file.level (level + 1)) files in
-    let both = two_sums (λ file. cond (eqb file.level level) (f file) 0) (λ file. cond (eqb file.level (level + 1)) (f file) 0) f (λ file. apart file) files in
-    omega (arith, one, two, both)
-  where
-    apart : (file : StoredFile) → cond (eqb file.level level) (f file) 0 + cond (eqb file.level (level + 1)) (f file) 0 ≤ f file
-    apart file = grind (arith, nat_tests)
-
 -- A merge
 
 descends : (steps made sources met others gone : ℕ) → made ≤ sources + met → 1 ≤ sources → (steps + 1) * sources + steps * met ≤ gone → steps * made + others < others + gone
 descends steps made sources met others gone few some least = omega (arith, mul-le-mul_left steps few, some, least)
 
-module _ (s t : Stored) (m : StoredMerge) (applied : List Pending) (alone : Bool) (upto : ℕ) (coherent : IsCoherent s) (begun : IsMergeIn s m) (is : IsMerged s m applied alone upto t) where
+module _ (s : Stored) (m : StoredMerge) (coherent : IsCoherent s) (begun : IsMergeIn s m) where
   abbrev deepest : ℕ
   deepest = s.manifest.config.levels
 
@@ -146,17 +107,20 @@ module _ (s t : Stored) (m : StoredMerge) (applied : List Pending) (alone : Bool
   is_file : (file : StoredFile) → Contains s.files file → IsFile s.manifest.next file
   is_file file there = All-contains (IsFile s.manifest.next) s.files file coherent.each there
 
-  pub inputs_counted : sum_by entries_by m.sources + sum_by entries_by m.met ≡ length (entries_in (inputs_of m))
+  inputs_counted : sum_by entries_by m.sources + sum_by entries_by m.met ≡ length (entries_in (inputs_of m))
   inputs_counted =
       sym (sum_by-append entries_by m.sources m.met)
       ∙ all_counted s.manifest.next (inputs_of m) (all_from (IsFile s.manifest.next) (inputs_of m) (λ file there. is_file file (input_in s coherent m begun file there)))
 
-  made_counted : sum_by entries_by is.made ≤ sum_by entries_by m.sources + sum_by entries_by m.met
-  made_counted =
-      let entries = merged (entries_in (inputs_of m)) applied alone in
-      let made = all_counted is.number is.made is.new.each in
-      let cut = cut_long s.manifest.config entries is.made is.woven.cut in
-      omega (arith, made, cut, length-merged applied alone (entries_in (inputs_of m)), inputs_counted)
+  -- the inputs have no more entries than all files
+  pub inputs_few : length (entries_in (inputs_of m)) ≤ length (entries_in s.files)
+  inputs_few =
+      let levels = two_levels entries_by m.level s.files in
+      let from = ap (sum_by entries_by) begun.from in
+      let into = ap (sum_by entries_by) begun.into in
+      let sources = part_sum entries_by m.newer m.sources m.older in
+      let met = part_sum entries_by m.lower m.met m.higher in
+      omega (arith, levels, from, into, sources, met, inputs_counted, all_counted s.manifest.next s.files coherent.each)
 
   some_source : 1 ≤ sum_by entries_by m.sources
   some_source = by m.sources some (λ file there. some_counted s.manifest.next file (is_file file (source_in file there).0))
@@ -168,19 +132,27 @@ module _ (s t : Stored) (m : StoredMerge) (applied : List Pending) (alone : Bool
       by [] some each = absurd (some refl)
       by (file ∷ files) some each = omega (arith, each file (first_is file files file refl), sum_by-cons entries_by file files)
 
-  pub goes_down : steps_down deepest t.files < steps_down deepest s.files
-  goes_down =
-      let others = others_of s m in
-      let new = sum_by-IsPermutation weight (is.made ++ others) t.files is.files in
-      let parts = sum_by-append weight is.made others in
-      let old = sum_by-filter_both stays gone (λ file. refl) weight s.files in
-      let made = at_level (m.level + 1) is.made (λ file there. All-contains (λ (file : StoredFile). file.level ≡ m.level + 1) is.made file is.level there) in
-      let sources = at_level m.level m.sources (λ file there. (source_in file there).1) in
-      let met = at_level (m.level + 1) m.met (λ file there. (met_in file there).1) in
-      let low = begun.level in
-      let steps = deepest - (m.level + 1) in
-      let more : deepest - m.level ≡ steps + 1 = omega (arith, low) in
-      let sources_more : sum_by weight m.sources ≡ (steps + 1) * sum_by entries_by m.sources = sources ∙ ap (λ n. n * sum_by entries_by m.sources) more in
-      let least : (steps + 1) * sum_by entries_by m.sources + steps * sum_by entries_by m.met ≤ sum_by weight (filter gone s.files) = omega (arith, lost_least, sources_more, met) in
-      let less = descends steps (sum_by entries_by is.made) (sum_by entries_by m.sources) (sum_by entries_by m.met) (sum_by weight others) (sum_by weight (filter gone s.files)) made_counted some_source least in
-      omega (arith, new, parts, old, made, less)
+  module _ (t : Stored) (applied : List Pending) (alone : Bool) (upto : ℕ) (is : IsMerged s m applied alone upto t) where
+    made_counted : sum_by entries_by is.made ≤ sum_by entries_by m.sources + sum_by entries_by m.met
+    made_counted =
+        let entries = merged (entries_in (inputs_of m)) applied alone in
+        let made = all_counted is.number is.made is.new.each in
+        let cut = cut_long s.manifest.config entries is.made is.woven.cut in
+        omega (arith, made, cut, length-merged applied alone (entries_in (inputs_of m)), inputs_counted)
+
+    pub goes_down : steps_down deepest t.files < steps_down deepest s.files
+    goes_down =
+        let others = others_of s m in
+        let new = sum_by-IsPermutation weight (is.made ++ others) t.files is.files in
+        let parts = sum_by-append weight is.made others in
+        let old = sum_by-filter_both stays gone (λ file. refl) weight s.files in
+        let made = at_level (m.level + 1) is.made (λ file there. All-contains (λ (file : StoredFile). file.level ≡ m.level + 1) is.made file is.level there) in
+        let sources = at_level m.level m.sources (λ file there. (source_in file there).1) in
+        let met = at_level (m.level + 1) m.met (λ file there. (met_in file there).1) in
+        let low = begun.level in
+        let steps = deepest - (m.level + 1) in
+        let more : deepest - m.level ≡ steps + 1 = omega (arith, low) in
+        let sources_more : sum_by weight m.sources ≡ (steps + 1) * sum_by entries_by m.sources = sources ∙ ap (λ n. n * sum_by entries_by m.sources) more in
+        let least : (steps + 1) * sum_by entries_by m.sources + steps * sum_by entries_by m.met ≤ sum_by weight (filter gone s.files) = omega (arith, lost_least, sources_more, met) in
+        let less = descends steps (sum_by entries_by is.made) (sum_by entries_by m.sources) (sum_by entries_by m.met) (sum_by weight others) (sum_by weight (filter gone s.files)) made_counted some_source least in
+        omega (arith, new, parts, old, made, less)

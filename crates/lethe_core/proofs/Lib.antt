@@ -8,4 +8,7 @@ pub mod Next
 pub mod Recorded
 pub mod Roomed
 pub mod Counted
+pub mod Sums
 pub mod Descending
+pub mod Keyed
+pub mod Places
