@@ -13,7 +13,6 @@ use Rattle.lethe_segment.specs.Segments.{segment_bytes}
 use Rattle.lethe_commit.specs.declared.objects.Object.{Object}
 use Rattle.lethe_commit.specs.Append.{EndsAt}
 use Rattle.lethe_commit.specs.Place.{name_of, insert_all}
-use Rattle.lethe_commit.specs.Switch.{IsTakenBack}
 use Rattle.lethe_commit.proofs.Creations.{object_beside_all, object_contained}
 use Rattle.lethe_stored.specs.Encodes.{Encodes}
 use Rattle.lethe_stored.specs.Kept.{IsFor, IsKept}
@@ -25,10 +24,10 @@ use Rattle.lethe_advance.specs.Settled.{IsSettled, HasOnly}
 use Rattle.lethe_advance.specs.Steps.{IsStep, IsSegmentFrom, MayAdvance}
 use Rattle.lethe_advance.specs.declared.step.Step.{Step}
 use Rattle.lethe_advance.proofs.Placed.{written_absent}
-use Rattle.lethe_advance.proofs.Standing.{settled_back, only_back, ends_empty}
+use Rattle.lethe_advance.proofs.Standing.{ends_empty}
 use Rattle.lethe_state.specs.Room.{IsFrozen}
-use Rattle.lethe_state.specs.declared.state.State.{State}
 use Rattle.lethe_core.specs.Running.{IsRunning}
+use Rattle.lethe_core.specs.View.{View, loose_in}
 
 -- a crash leaves what was stored or what is stored next, and both stand for the history
 pub step_moments : (h : History) (s t : Stored) (old new : Seen) → IsCoherent s → IsCoherent t → IsFor h s → IsFor h t → Goes (λ c. Encodes c s ⊎ Encodes c t) old new → Goes (λ c. IsKept c h) old new
@@ -39,21 +38,9 @@ step_moments h s t old new coherent next stands after goes = goes_weaker (λ c. 
     ]) goes
 
 -- a step goes on from what is stored
-pub may_advance : (disk : Seen) (s t : Stored) (state : State) (headers : List Header) (step : Step) → IsRunning disk s state → IsStep s [] t [] headers step → MayAdvance disk s [] t [] headers step
-may_advance disk s t state headers step running is = record { settled = running.settled; only = running.only; step_is = is }
-
--- where all that was done is taken back, the disk is in the store's hands as before
-pub running_back : (old new : Seen) (s : Stored) (state : State) → IsTakenBack old new → IsRunning old s state → IsRunning new s state
-running_back old new s state back running = record {
-  settled = settled_back old new s back running.settled;
-  only = only_back old new s [] back running.only;
-  ends = record {
-    ascends = running.ends.ascends;
-    spelled = λ c here. running.ends.spelled c (back.images c here);
-    place = running.ends.place;
-  };
-  current = running.current;
-}
+pub may_advance : (view : View) (s t : Stored) (left : List (Name × List ℕ)) (headers : List Header) (step : Step) → IsRunning view s → IsStep s (loose_in view.flight) t left headers step
+    → MayAdvance view.disk s (loose_in view.flight) t left headers step
+may_advance view s t left headers step running is = record { settled = running.settled; only = running.only; step_is = is }
 
 -- a segment that is stored has a number that was drawn
 segment_below : (s : Stored) (segment : Segment) → IsCoherent s → Contains (segments_of s) segment → segment.no < s.manifest.next
@@ -70,7 +57,7 @@ segment_below s segment coherent there =
       | inr last ↦ Contains-append_right (map number_of (option_to_list s.frozen)) (s.active.no ∷ []) segment.no (one_of last)
     ]
 
-module _ (s t : Stored) (headers : List Header) (step : Step) (is : IsStep s [] t [] headers step) (coherent : IsCoherent s) (old new : Seen) (settled : IsSettled new t)
+module _ (s t : Stored) (loose left : List (Name × List ℕ)) (headers : List Header) (step : Step) (is : IsStep s loose t left headers step) (coherent : IsCoherent s) (old new : Seen) (settled : IsSettled new t)
     (kept : (name : Name) → Contains (part_names t) name → object new.directory name ≡ object (insert_all step.objects.items old.directory) name) where
   -- no object is written under a name that has been drawn
   apart : (name : Name) → name.no < s.manifest.next → IsNoneOf (map name_of step.objects.items) name
@@ -94,7 +81,7 @@ module _ (s t : Stored) (headers : List Header) (step : Step) (is : IsStep s [] 
       })
 
   -- the active segment is a new one
-  pub frozen_ends : IsFrozen s t → HasOnly s [] old.directory → EndsAt new (segment_name t.active.no) t.active.no t.active.records 11
+  pub frozen_ends : IsFrozen s t → HasOnly s loose old.directory → EndsAt new (segment_name t.active.no) t.active.no t.active.records 11
   frozen_ends frozen only =
       let drawn = frozen.drawn in
       let number : t.active.no ≡ frozen.segment = ap (λ (x : Stored). x.active.no) frozen.is in
@@ -113,7 +100,7 @@ module _ (s t : Stored) (headers : List Header) (step : Step) (is : IsStep s [] 
           → object (insert_all step.objects.items old.directory) (segment_name t.active.no) ≡ Some (segment_bytes t.active.no t.active.records)
       placed there =
           let made = from_map {Y = Name × List ℕ} (λ (m : Object). (m.name, m.bytes)) step.objects.items (segment_name t.active.no, segment_bytes t.active.no t.active.records) there in
-          let inside = object_contained step.objects.items old.directory made.0 made.1 (written_absent s t [] [] headers step coherent is old.directory only) in
+          let inside = object_contained step.objects.items old.directory made.0 made.1 (written_absent s t loose left headers step coherent is old.directory only) in
           let name : made.0.name ≡ segment_name t.active.no = ap (λ (p : Name × List ℕ). p.0) made.2 in
           let bytes : made.0.bytes ≡ segment_bytes t.active.no t.active.records = ap (λ (p : Name × List ℕ). p.1) made.2 in
           ap (object (insert_all step.objects.items old.directory)) (sym name) ∙ inside ∙ ap Some bytes

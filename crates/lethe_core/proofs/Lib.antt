@@ -1,10 +1,8 @@
 pub mod Histories
 pub mod Standing
-pub mod Likes
-pub mod Carried
 pub mod Hindered
-pub mod Stepped
-pub mod Next
+pub mod Carried
+pub mod Likes
 pub mod Recorded
 pub mod Roomed
 pub mod Counted
@@ -12,3 +10,4 @@ pub mod Sums
 pub mod Descending
 pub mod Keyed
 pub mod Places
+pub mod Short
