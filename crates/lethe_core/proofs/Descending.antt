@@ -45,10 +45,10 @@ pub few_steps : (s : Stored) → IsCoherent s → steps_down s.manifest.config.l
 few_steps s coherent =
     let deepest = s.manifest.config.levels in
     let each : All (λ file. (deepest - file.level) * entries_by file ≤ 6 * 2 ^ 24) s.files = all_from (λ file. (deepest - file.level) * entries_by file ≤ 6 * 2 ^ 24) s.files (λ file there.
-        let few = file_few file (All-contains (IsFile s.manifest.next) s.files file coherent.each there).spelled in
-        let levels = coherent.spelled.config.levels.1 in
-        let steps : deepest - file.level ≤ 6 = omega (arith, levels) in
-        grind (arith, few, steps)) in
+    let few = file_few file (All-contains (IsFile s.manifest.next) s.files file coherent.each there).spelled in
+    let levels = coherent.spelled.config.levels.1 in
+    let steps : deepest - file.level ≤ 6 = omega (arith, levels) in
+    grind (arith, few, steps)) in
     let all = sum_by-le (λ file. (deepest - file.level) * entries_by file) (6 * 2 ^ 24) s.files each in
     let files = ap length coherent.files in
     omega (arith, all, files, length-map s.files cited_of, coherent.spelled.files.few)
