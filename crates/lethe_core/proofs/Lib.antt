@@ -2,3 +2,12 @@ pub mod Histories
 pub mod Standing
 pub mod Hindered
 pub mod Carried
+pub mod Likes
+pub mod Recorded
+pub mod Roomed
+pub mod Counted
+pub mod Sums
+pub mod Descending
+pub mod Keyed
+pub mod Places
+pub mod Short
