@@ -2,3 +2,5 @@ pub mod Histories
 pub mod Standing
 pub mod Hindered
 pub mod Carried
+pub mod Stepped
+pub mod Next
