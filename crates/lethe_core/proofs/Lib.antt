@@ -1,6 +1,9 @@
 pub mod Histories
 pub mod Standing
 pub mod Hindered
+pub mod Carried
+pub mod Stepped
+pub mod Next
 pub mod Crowded
 pub mod Likes
 pub mod Recorded
