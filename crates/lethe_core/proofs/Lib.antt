@@ -7,3 +7,9 @@ pub mod Next
 pub mod Crowded
 pub mod Likes
 pub mod Recorded
+pub mod Counted
+pub mod Sums
+pub mod Descending
+pub mod Keyed
+pub mod Places
+pub mod Short
