@@ -7,3 +7,4 @@ pub mod Stepped
 pub mod Next
 pub mod Recorded
 pub mod Roomed
+pub mod Merged

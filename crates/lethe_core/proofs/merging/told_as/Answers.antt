@@ -1,0 +1,1 @@
+use Rattle.lethe_core.proofs.Merged.{installed_for}
