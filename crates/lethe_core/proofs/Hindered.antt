@@ -1,35 +1,73 @@
--- A step that went wrong.
-use Rattle.std.proofs.Common.{◌≡◌, ◌<◌, ℕ, ◌+◌, List, Some, None, refl, sym, ap, ◌∙◌, subst, arith}
+-- Steps that went wrong, and steps one after another: what they keep.
+use Rattle.std.proofs.Common.{◌≡◌, ◌≤◌, ◌<◌, ◌⊎◌, inl, inr, ℕ, ◌+◌, List, Option, Some, None, Result, Ok, Err, refl, sym, ap, ◌∙◌, subst, arith}
+use Rattle.std.specs.Prelude.{IfSome}
+use Rattle.std.proofs.lemmas.List.Elements.{All-weaker}
 use Rattle.lethe_base.specs.History.{History, Change}
 use Rattle.lethe_base.specs.Limits.{max_place}
 use Rattle.lethe_base.specs.declared.call.Call.{Call}
+use Rattle.lethe_base.specs.declared.call.Call.TheVariants.{Work}
 use Rattle.lethe_base.specs.declared.call.Did.TheVariants.{Failed}
 use Rattle.lethe_base.specs.declared.config.Fields.{Fields}
+use Rattle.lethe_base.specs.declared.name.Kind.TheVariants.{Page}
+use Rattle.lethe_base.specs.declared.name.Name.{Name}
 use Rattle.lethe_base.specs.declared.refused.Refused.{Refused}
 use Rattle.lethe_base.specs.declared.refused.Refused.TheVariants.{Fault, Stopped, Backwards, Pinned, NothingDue, Cancelled, Exhausted, ReadFault, NoMemory, Damaged}
-use Rattle.lethe_disk.specs.Disk.{Seen, Image}
+use Rattle.lethe_disk.specs.Disk.{Image}
 use Rattle.lethe_disk.specs.Goes.{Goes}
+use Rattle.lethe_disk.proofs.Going.{goes_then}
 use Rattle.lethe_stored.specs.Files.{Parts}
 use Rattle.lethe_stored.specs.Kept.{IsKept}
 use Rattle.lethe_stored.specs.Stored.{Stored}
-use Rattle.lethe_manifest.specs.declared.manifest.Manifest.{Manifest}
-use Rattle.lethe_state.specs.Records.{IsLike, halted}
+use Rattle.lethe_advance.specs.Settled.{AreDrawn, names_in}
+use Rattle.lethe_state.specs.Records.{halted}
+use Rattle.lethe_state.specs.Remembered.{Remembers}
 use Rattle.lethe_state.specs.Writable.{IsWritable}
 use Rattle.lethe_state.specs.declared.state.State.{State}
-use Rattle.lethe_core.specs.Changes.{HasReason, refused_to}
-use Rattle.lethe_core.specs.Running.{IsRunning, IsSmall, IsSound}
+use Rattle.lethe_core.specs.Changes.{refused_to}
+use Rattle.lethe_core.specs.Keeps.{Keeps, MayStep}
+use Rattle.lethe_core.specs.Reasons.{HasReason}
+use Rattle.lethe_core.specs.Running.{IsFlying, IsSmall, IsSound}
 use Rattle.lethe_core.specs.StandsNow.{StandsNow, retried}
-use Rattle.lethe_core.specs.Steps.{IsHindered}
-use Rattle.lethe_core.proofs.Standing.{left_at_end, moments_or, open_stands, stands_done, stands_for, stands_running, stopped_stands}
-use Rattle.lethe_core.proofs.Likes.{halted_remembered, like_remembered, like_running, like_small}
-use Rattle.lethe_core.proofs.Carried.{running_back}
+use Rattle.lethe_core.specs.Steps.{IsHindered, stepped_to}
+use Rattle.lethe_core.specs.View.{Flying, View}
+use Rattle.lethe_core.proofs.Standing.{beside, is_beside, left_at_end, moments_or, sound_back, stands_back, stands_done, stands_for, stands_moments, stopped_stands}
 
-pub runs_not : (at : ℕ) → Some at ≡ None → ⊥
-runs_not at e = cc
+-- Numbers that are drawn
+
+pub drawn_on : (first next : ℕ) (names : List Name) → first ≤ next → AreDrawn first names → AreDrawn next names
+drawn_on first next names more is = record {
+  each = All-weaker (λ (name : Name). (name.kind ≡ Page) × (name.no < first)) (λ (name : Name). (name.kind ≡ Page) × (name.no < next)) (λ name at. let below = at.1 in (at.0, omega (arith, below, more))) names is.each;
+  once = is.once;
+}
+
+-- a job in flight stays within the limits
+pub flies_on : (old new : State) → new.manifest.config.levels ≡ old.manifest.config.levels → old.next ≤ new.next → (flight : Option Flying) → IfSome flight (IsFlying old) → IfSome flight (IsFlying new)
+flies_on old new levels more None is = tt
+flies_on old new levels more (Some flying) is = record {
+  level = let below = is.level in omega (arith, below, levels);
+  upto = is.upto;
+  erases = is.erases;
+  drawn = drawn_on old.next new.next (names_in flying.written) more is.drawn;
+}
 
 -- A store that was stopped
 
-pub writable_halted : (state : State) → state.count < max_place → IsWritable state → IsWritable (halted state)
+runs_not : (at : ℕ) → Some at ≡ None → ⊥
+runs_not at e = cc
+
+pub halted_remembered : (s : Stored) (state : State) (levels : List (List Parts)) → Remembers s state levels → Remembers s (halted state) levels
+halted_remembered s state levels is = record {
+  coherent = is.coherent;
+  manifest = is.manifest;
+  pending = is.pending;
+  active = is.active;
+  records = is.records;
+  frozen = is.frozen;
+  files = is.files;
+  counted = let le = is.counted in omega (arith, le);
+}
+
+writable_halted : (state : State) → state.count < max_place → IsWritable state → IsWritable (halted state)
 writable_halted state fits is = record {
   manifest = is.manifest;
   segments = is.segments;
@@ -42,53 +80,46 @@ writable_halted state fits is = record {
   last = is.last;
 }
 
-pub small_halted : (state : State) → IsSmall state → IsSmall (halted state)
+small_halted : (state : State) → IsSmall state → IsSmall (halted state)
 small_halted state is = record { active = is.active; records = is.records; frozen = is.frozen }
 
-pub sound_halted : (Tells : Type 0) (start finish : Seen) (state : State) (levels : List (List Parts)) → state.count < max_place → IsSound Tells start state levels → IsSound Tells finish (halted state) levels
-sound_halted Tells start finish state levels fits sound = record {
-  writable = writable_halted state fits sound.writable;
-  small = small_halted state sound.small;
+pub sound_halted : (Tells : Type 0) (old new : View) → old.state.count < max_place → IsSound Tells old → IsSound Tells (beside old new (halted old.state))
+sound_halted Tells old new fits sound = record {
+  writable = writable_halted old.state fits sound.writable;
+  small = small_halted old.state sound.small;
   count = sound.count;
-  held = λ told. let held = sound.held told in (held.0, halted_remembered held.0 state levels held.1, λ runs. absurd (runs_not (state.count + 1) runs));
-}
-
-pub sound_back : (Tells : Type 0) (start finish : Seen) (state : State) (levels : List (List Parts)) → (Tells → (s : Stored) → IsRunning start s state → IsRunning finish s state) → IsSound Tells start state levels → IsSound Tells finish state levels
-sound_back Tells start finish state levels back sound = record {
-  writable = sound.writable;
-  small = sound.small;
-  count = sound.count;
-  held = λ told. let held = sound.held told in (held.0, held.1, λ runs. back told held.0 (held.2 runs));
+  flies = flies_on old.state (halted old.state) refl (omega arith) old.flight sound.flies;
+  held = λ told. let held = sound.held told in (held.0, halted_remembered held.0 old.state old.levels held.1, λ runs. absurd (runs_not (old.state.count + 1) runs));
 }
 
 -- A step that was hindered
 
-module _ (Tells : Type 0) (old new : State) (start finish : Seen) (before now : ℕ) where
-  pub hindered_sound : (levels : List (List Parts)) → old.count < max_place → IsSound Tells start old levels → (why : Refused) → IsHindered Tells old new start finish before now why → IsSound Tells finish new levels
-  hindered_sound levels fits sound (Fault place b a) is = subst (λ state. IsSound Tells finish state levels) (sym is.4) (sound_halted Tells start finish old levels fits sound)
-  hindered_sound levels fits sound NoMemory is = subst (λ state. IsSound Tells finish state levels) (sym is.0) (sound_back Tells start finish old levels (λ told s running. running_back start finish s old (is.1 told) running) sound)
-  hindered_sound levels fits sound (Stopped at) is = absurd is
-  hindered_sound levels fits sound (Backwards clock) is = absurd is
-  hindered_sound levels fits sound (Pinned pin limit) is = absurd is
-  hindered_sound levels fits sound NothingDue is = absurd is
-  hindered_sound levels fits sound (Cancelled begun other) is = absurd is
-  hindered_sound levels fits sound (Exhausted last) is = absurd is
-  hindered_sound levels fits sound (ReadFault b a) is = absurd is
-  hindered_sound levels fits sound (Damaged name) is = absurd is
+module _ (Tells : Type 0) (old new : View) (before : ℕ) where
+  pub hindered_sound : old.state.count < max_place → IsSound Tells old → (why : Refused) → IsHindered Tells old new before why → IsSound Tells new
+  hindered_sound fits sound (Fault place b a) is = subst (IsSound Tells) (is_beside old new (halted old.state) is.4 is.5) (sound_halted Tells old new fits sound)
+  hindered_sound fits sound NoMemory is = sound_back Tells old new is.2 is.0 is.1 sound
+  hindered_sound fits sound (Stopped at) is = absurd is
+  hindered_sound fits sound (Backwards clock) is = absurd is
+  hindered_sound fits sound (Pinned pin limit) is = absurd is
+  hindered_sound fits sound NothingDue is = absurd is
+  hindered_sound fits sound (Cancelled begun other) is = absurd is
+  hindered_sound fits sound (Exhausted last) is = absurd is
+  hindered_sound fits sound (ReadFault b a) is = absurd is
+  hindered_sound fits sound (Damaged name) is = absurd is
 
-  pub hindered_reason : old.stopped ≡ None → (why : Refused) → IsHindered Tells old new start finish before now why → HasReason old before now why
-  hindered_reason runs (Fault place b a) is = (runs, is.0, is.1, is.2, is.3)
-  hindered_reason runs NoMemory is = tt
-  hindered_reason runs (Stopped at) is = absurd is
-  hindered_reason runs (Backwards clock) is = absurd is
-  hindered_reason runs (Pinned pin limit) is = absurd is
-  hindered_reason runs NothingDue is = absurd is
-  hindered_reason runs (Cancelled begun other) is = absurd is
-  hindered_reason runs (Exhausted last) is = absurd is
-  hindered_reason runs (ReadFault b a) is = absurd is
-  hindered_reason runs (Damaged name) is = absurd is
+  pub hindered_reason : (Short : Type 0) → old.state.stopped ≡ None → (why : Refused) → IsHindered Tells old new before why → HasReason Short old.state before new.faults why
+  hindered_reason Short runs (Fault place b a) is = (runs, is.0, is.1, is.2, is.3)
+  hindered_reason Short runs NoMemory is = tt
+  hindered_reason Short runs (Stopped at) is = absurd is
+  hindered_reason Short runs (Backwards clock) is = absurd is
+  hindered_reason Short runs (Pinned pin limit) is = absurd is
+  hindered_reason Short runs NothingDue is = absurd is
+  hindered_reason Short runs (Cancelled begun other) is = absurd is
+  hindered_reason Short runs (Exhausted last) is = absurd is
+  hindered_reason Short runs (ReadFault b a) is = absurd is
+  hindered_reason Short runs (Damaged name) is = absurd is
 
-  pub hindered_next : (why : Refused) → IsHindered Tells old new start finish before now why → new.next ≡ old.next
+  pub hindered_next : (why : Refused) → IsHindered Tells old new before why → new.state.next ≡ old.state.next
   hindered_next (Fault place b a) is = ap (λ (state : State). state.next) is.4
   hindered_next NoMemory is = ap (λ (state : State). state.next) is.0
   hindered_next (Stopped at) is = absurd is
@@ -100,23 +131,20 @@ module _ (Tells : Type 0) (old new : State) (start finish : Seen) (before now : 
   hindered_next (ReadFault b a) is = absurd is
   hindered_next (Damaged name) is = absurd is
 
-  module _ (config : Fields) (h : History) (levels : List (List Parts)) (stands : StandsNow config h start old levels) (runs : old.stopped ≡ None) where
-    halted_stands : old.count < max_place → Goes (λ c. IsKept c h) start finish → Image finish finish.directory → (caller : ℕ) (call : Call) (b a : ℕ)
-        → StandsNow config (refused_to h caller call (Fault 0 b a)) finish (halted old) levels
+  module _ (config : Fields) (h : History) (stands : StandsNow config h old) (runs : old.state.stopped ≡ None) where
+    halted_stands : old.state.count < max_place → Goes (λ c. IsKept c h) old.disk new.disk → Image new.disk new.disk.directory → (caller : ℕ) (call : Call) (b a : ℕ)
+        → StandsNow config (refused_to h caller call (Fault 0 b a)) (beside old new (halted old.state))
     halted_stands fits goes here caller call b a =
         let change : Change = record { caller = caller; call = call; did = Failed b a } in
-        stopped_stands config h change b a finish stands.stored (halted old) levels stands.legal (stands_done config h start old levels stands runs) (subst (λ n. n < max_place) stands.count fits)
-        refl (ap (λ n. n + 1) stands.count) (ap (λ n. Some (n + 1)) stands.count) (halted_remembered stands.stored old levels stands.remembers) stands.config_is
-        (stands_for config h start old levels stands runs) (left_at_end h (retried change) start finish here (moments_or h (retried change) start finish goes))
+        let s = stands.stored in
+        stopped_stands config h change b a (beside old new (halted old.state)) s stands.legal (stands_done config h old stands runs) (subst (λ n. n < max_place) stands.count fits)
+        refl (ap (λ n. n + 1) stands.count) (ap (λ n. Some (n + 1)) stands.count) (halted_remembered s old.state old.levels stands.remembers) stands.config_is
+        (stands_for config h old stands runs) (left_at_end h (retried change) old.disk new.disk here (moments_or h (retried change) old.disk new.disk goes)) stands.counted
 
-    pub back_stands : (Tells → (s : Stored) → IsRunning start s old → IsRunning finish s old) → Tells → StandsNow config h finish old levels
-    back_stands back told = open_stands config h finish stands.stored old levels stands.legal (stands_done config h start old levels stands runs) stands.count stands.remembers stands.config_is
-        (stands_for config h start old levels stands runs) (back told stands.stored (stands_running config h start old levels stands runs))
-
-    pub hindered_stands : Tells → old.count < max_place → Goes (λ c. IsKept c h) start finish → Image finish finish.directory → (caller : ℕ) (call : Call) (why : Refused)
-        → IsHindered Tells old new start finish before now why → StandsNow config (refused_to h caller call why) finish new levels
-    hindered_stands told fits goes here caller call (Fault place b a) is = subst (λ state. StandsNow config (refused_to h caller call (Fault place b a)) finish state levels) (sym is.4) (halted_stands fits goes here caller call b a)
-    hindered_stands told fits goes here caller call NoMemory is = subst (λ state. StandsNow config h finish state levels) (sym is.0) (back_stands (λ told s running. running_back start finish s old (is.1 told) running) told)
+    pub hindered_stands : Tells → old.state.count < max_place → Goes (λ c. IsKept c h) old.disk new.disk → Image new.disk new.disk.directory → (caller : ℕ) (call : Call) (why : Refused)
+        → IsHindered Tells old new before why → StandsNow config (refused_to h caller call why) new
+    hindered_stands told fits goes here caller call (Fault place b a) is = subst (StandsNow config (refused_to h caller call (Fault place b a))) (is_beside old new (halted old.state) is.4 is.5) (halted_stands fits goes here caller call b a)
+    hindered_stands told fits goes here caller call NoMemory is = stands_back old new (is.2 told) config h is.0 is.1 stands
     hindered_stands told fits goes here caller call (Stopped at) is = absurd is
     hindered_stands told fits goes here caller call (Backwards clock) is = absurd is
     hindered_stands told fits goes here caller call (Pinned pin limit) is = absurd is
@@ -126,21 +154,50 @@ module _ (Tells : Type 0) (old new : State) (start finish : Seen) (before now : 
     hindered_stands told fits goes here caller call (ReadFault b a) is = absurd is
     hindered_stands told fits goes here caller call (Damaged name) is = absurd is
 
--- Where memory was reserved
+-- What is kept
 
-pub like_sound : (Tells : Type 0) (start finish : Seen) (old mid : State) (levels : List (List Parts)) → IsLike old mid → (Tells → (s : Stored) → IsRunning start s old → IsRunning finish s old) → IsWritable mid → IsSound Tells start old levels
-    → IsSound Tells finish mid levels
-like_sound Tells start finish old mid levels like back writable sound = record {
-  writable = writable;
-  small = like_small old mid like sound.small;
-  count = sound.count ∙ ap (λ (m : Manifest). m.config.levels + 1) (sym like.manifest);
-  held = λ told.
-      let held = sound.held told in
-      (held.0, like_remembered held.0 old mid like levels held.1, λ runs. like_running finish held.0 old mid like (back told held.0 (held.2 (sym like.stopped ∙ runs))));
+-- `itself` of the disk gives the image that a read gives
+pub hindered_keeps : {T : Type 0} (Tells : Type 0) (old new : View) (before : ℕ) → MayStep Tells old before → (why : Refused) → IsHindered Tells old new before why
+    → (Tells → (config : Fields) (h : History) → StandsNow config h old → Goes (λ c. IsKept c h) old.disk new.disk) → (Tells → Image new.disk new.disk.directory)
+    → (Tells → old.disk.moment ≤ new.disk.moment) → old.faults ≤ new.faults → Keeps {T = T} Tells old new (Err why)
+hindered_keeps Tells old new before may why is goes itself later faults = record {
+  sound = hindered_sound Tells old new before may.fits may.sound why is;
+  stands = λ told config h stands caller call. hindered_stands Tells old new before config h stands may.runs told may.fits (goes told config h stands) (itself told) caller call why is;
+  any_moment = goes;
+  numbers = λ told. let same = hindered_next Tells old new before why is in let on = later told in omega (arith, same, on);
+  faults = faults;
 }
 
-pub like_stands : (config : Fields) (h : History) (start finish : Seen) (old mid : State) (levels : List (List Parts)) → IsLike old mid → StandsNow config h start old levels → old.stopped ≡ None
-    → ((s : Stored) → IsRunning start s old → IsRunning finish s old) → StandsNow config h finish mid levels
-like_stands config h start finish old mid levels like stands runs back =
-    open_stands config h finish stands.stored mid levels stands.legal (stands_done config h start old levels stands runs) (like.count ∙ stands.count) (like_remembered stands.stored old mid like levels stands.remembers) stands.config_is
-    (stands_for config h start old levels stands runs) (like_running finish stands.stored old mid like (back stands.stored (stands_running config h start old levels stands runs)))
+-- where nothing was done, and the result is in no history
+pub keeps_itself : {T : Type 0} (Tells : Type 0) (view : View) → IsSound Tells view → view.state.stopped ≡ None → (result : Result T Refused)
+    → ((h : History) (caller : ℕ) (call : Call) → stepped_to h caller call result ≡ h) → Keeps Tells view view result
+keeps_itself Tells view sound runs result same = record {
+  sound = sound;
+  stands = λ told config h stands caller call. subst (λ g. StandsNow config g view) (sym (same h caller call)) stands;
+  any_moment = λ told config h stands. stands_moments config h view stands runs;
+  numbers = λ told. omega arith;
+  faults = omega arith;
+}
+
+-- one step, which is in no history, and then another
+pub keeps_then : {A B : Type 0} (Tells : Type 0) (a b c : View) (first : Result A Refused) → ((h : History) (caller : ℕ) (call : Call) → stepped_to h caller call first ≡ h) → Keeps Tells a b first
+    → (second : Result B Refused) → Keeps Tells b c second → Keeps Tells a c second
+keeps_then Tells a b c first same one second two =
+    let mid : Tells → (config : Fields) (h : History) → StandsNow config h a → StandsNow config h b
+            = λ told config h stands. subst (λ g. StandsNow config g b) (same h 0 Work) (one.stands told config h stands 0 Work) in
+    record {
+      sound = two.sound;
+      stands = λ told config h stands caller call. two.stands told config h (mid told config h stands) caller call;
+      any_moment = λ told config h stands. goes_then (λ d. IsKept d h) a.disk b.disk c.disk (one.any_moment told config h stands) (two.any_moment told config h (mid told config h stands));
+      numbers = λ told. let early = one.numbers told in let late = two.numbers told in omega (arith, early, late);
+      faults = let early = one.faults in let late = two.faults in omega (arith, early, late);
+    }
+
+-- a refusal is told on
+pub keeps_refused : {A B : Type 0} (Tells : Type 0) (old new : View) (why : Refused) → Keeps {T = A} Tells old new (Err why) → Keeps {T = B} Tells old new (Err why)
+keeps_refused Tells old new why is = record { sound = is.sound; stands = is.stands; any_moment = is.any_moment; numbers = is.numbers; faults = is.faults }
+
+-- a refusal before the step is in no history
+pub refused_before : (h : History) (caller : ℕ) (call : Call) (why : Refused) → (why ≡ Exhausted max_place) ⊎ (why ≡ NoMemory) → refused_to h caller call why ≡ h
+refused_before h caller call why (inl short) = ap (refused_to h caller call) short
+refused_before h caller call why (inr memory) = ap (refused_to h caller call) memory

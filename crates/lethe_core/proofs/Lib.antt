@@ -1,10 +1,7 @@
 pub mod Histories
 pub mod Standing
-pub mod Likes
-pub mod Carried
 pub mod Hindered
-pub mod Stepped
-pub mod Next
+pub mod Likes
 pub mod Recorded
 pub mod Roomed
 pub mod Merged

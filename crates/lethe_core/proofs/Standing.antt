@@ -1,5 +1,6 @@
 -- What stands where the disk is in the store's hands.
 use Rattle.std.proofs.Common.{◌≡◌, ◌<◌, inl, inr, ℕ, ◌+◌, List, [], ◌∷◌, ◌++◌, length, Option, Some, None, refl, sym, ◌∙◌, subst, arith}
+use Rattle.std.specs.Prelude.{IfSome}
 use Rattle.std.proofs.lemmas.List.{length_push}
 use Rattle.lethe_base.specs.History.{History, Change, AreDone, IsLegal}
 use Rattle.lethe_base.specs.Limits.{max_place}
@@ -10,16 +11,18 @@ use Rattle.lethe_disk.specs.Disk.{Seen, Image, IsIdle}
 use Rattle.lethe_disk.specs.Goes.{Goes}
 use Rattle.lethe_disk.proofs.Going.{goes_quiet, goes_weaker}
 use Rattle.lethe_disk.proofs.Quieting.{quiet_itself}
+use Rattle.lethe_commit.specs.Switch.{IsTakenBack}
 use Rattle.lethe_stored.specs.Encodes.{Encodes}
-use Rattle.lethe_stored.specs.Files.{Parts}
 use Rattle.lethe_stored.specs.Kept.{IsFor, IsKept}
 use Rattle.lethe_stored.specs.Left.{IsLeft, IsKeptOr, IsHistoryOr}
 use Rattle.lethe_stored.specs.Stored.{Stored}
-use Rattle.lethe_advance.specs.Settled.{HasOnly}
+use Rattle.lethe_advance.proofs.Standing.{only_back, settled_back}
 use Rattle.lethe_state.specs.Remembered.{Remembers}
 use Rattle.lethe_state.specs.declared.state.State.{State}
-use Rattle.lethe_core.specs.Running.{IsRunning, IsSound}
-use Rattle.lethe_core.specs.StandsNow.{IsOpenOrStopped, StandsNow, retried}
+use Rattle.lethe_core.specs.Running.{Holds, IsRunning, IsSound}
+use Rattle.lethe_core.specs.StandsNow.{IsCounted, IsOpenOrStopped, StandsNow, retried}
+use Rattle.lethe_core.specs.Steps.{IsBeside}
+use Rattle.lethe_core.specs.View.{View, loose_in}
 use Rattle.lethe_core.proofs.Histories.{all_done, last_failed, legal_failed}
 
 -- A history is one of those that it may become
@@ -46,8 +49,8 @@ left_moments h change disk left = goes_quiet (IsKeptOr h change) disk disk (quie
 
 -- A store that takes changes
 
-module _ (h : History) (disk : Seen) (s : Stored) (state : State) (running : IsRunning disk s state) (stands : IsFor h s) where
-  kept_image : (c : Directory) → Image disk c → IsKept c h
+module _ (h : History) (view : View) (s : Stored) (running : IsRunning view s) (stands : IsFor h s) where
+  kept_image : (c : Directory) → Image view.disk c → IsKept c h
   kept_image c here = inr (record {
     s = s;
     coherent = running.settled.coherent;
@@ -55,50 +58,57 @@ module _ (h : History) (disk : Seen) (s : Stored) (state : State) (running : IsR
     stands = stands;
   })
 
-  pub running_moments : Goes (λ c. IsKept c h) disk disk
-  running_moments = goes_quiet (λ c. IsKept c h) disk disk (quiet_itself disk) kept_image
+  pub running_moments : Goes (λ c. IsKept c h) view.disk view.disk
+  running_moments = goes_quiet (λ c. IsKept c h) view.disk view.disk (quiet_itself view.disk) kept_image
 
-module _ (config : Fields) (h : History) (disk : Seen) (state : State) (levels : List (List Parts)) (stands : StandsNow config h disk state levels) (runs : state.stopped ≡ None) where
-  held_open : AreDone h × IsRunning disk stands.stored state
-  held_open = subst (IsOpenOrStopped disk h stands.stored state) runs stands.held
+module _ (config : Fields) (h : History) (view : View) (stands : StandsNow config h view) (runs : view.state.stopped ≡ None) where
+  held_open : AreDone h × IsRunning view stands.stored
+  held_open = subst (IsOpenOrStopped view h stands.stored) runs stands.held
 
   pub stands_done : AreDone h
   stands_done = held_open.0
 
-  pub stands_running : IsRunning disk stands.stored state
-  stands_running = held_open.1
+  pub stands_holds : Holds view stands.stored
+  stands_holds = record { remembers = stands.remembers; running = held_open.1 }
 
   pub stands_for : IsFor h stands.stored
   stands_for = subst (λ g. IsFor g stands.stored) (all_done h stands_done) stands.stands
 
-  pub stands_moments : Goes (λ c. IsKept c h) disk disk
-  stands_moments = running_moments h disk stands.stored state stands_running stands_for
+  pub stands_moments : Goes (λ c. IsKept c h) view.disk view.disk
+  stands_moments = running_moments h view stands.stored held_open.1 stands_for
 
 -- what a store that takes changes stands for
-pub open_stands : (config : Fields) (h : History) (disk : Seen) (s : Stored) (state : State) (levels : List (List Parts)) → IsLegal h → AreDone h → state.count ≡ length h → Remembers s state levels → s.manifest.config ≡ config
-    → IsFor h s → IsRunning disk s state → StandsNow config h disk state levels
-open_stands config h disk s state levels legal done count remembers config_is stands running = record {
+pub open_stands : (config : Fields) (h : History) (view : View) (s : Stored) → IsLegal h → AreDone h → view.state.count ≡ length h → s.manifest.config ≡ config → IsFor h s → Holds view s
+    → IfSome view.flight (λ flying. IsCounted flying.task) → StandsNow config h view
+open_stands config h view s legal done count config_is stands holds counted = record {
   legal = legal;
   count = count;
   stored = s;
-  remembers = remembers;
+  remembers = holds.remembers;
   config_is = config_is;
   stands = subst (λ g. IsFor g s) (sym (all_done h done)) stands;
-  held = subst (IsOpenOrStopped disk h s state) (sym running.current.runs) (done, running);
+  held = subst (IsOpenOrStopped view h s) (sym holds.running.current.runs) (done, holds.running);
+  counted = counted;
 }
 
+-- it stands for the same history where what is stored next does
+pub next_stands_now : (config : Fields) (h : History) (old new : View) (stands : StandsNow config h old) → old.state.stopped ≡ None → (t : Stored) → new.state.count ≡ old.state.count
+    → t.manifest.config ≡ stands.stored.manifest.config → IsFor h t → Holds new t → IfSome new.flight (λ flying. IsCounted flying.task) → StandsNow config h new
+next_stands_now config h old new stands runs t count same for holds counted =
+    open_stands config h new t stands.legal (stands_done config h old stands runs) (count ∙ stands.count) (same ∙ stands.config_is) for holds counted
+
 -- and one in which the disk failed in one more change
-pub stopped_stands : (config : Fields) (h : History) (change : Change) (before behind : ℕ) (disk : Seen) (s : Stored) (state : State) (levels : List (List Parts)) → IsLegal h → AreDone h → length h < max_place
-    → change.did ≡ Failed before behind → state.count ≡ length h + 1 → state.stopped ≡ Some (length h + 1) → Remembers s state levels → s.manifest.config ≡ config
-    → IsFor h s → IsLeft disk h (retried change) → StandsNow config (h ++ change ∷ []) disk state levels
-stopped_stands config h change before behind disk s state levels legal done few failed count stopped remembers config_is stands left = record {
+pub stopped_stands : (config : Fields) (h : History) (change : Change) (before behind : ℕ) (view : View) (s : Stored) → IsLegal h → AreDone h → length h < max_place → change.did ≡ Failed before behind
+    → view.state.count ≡ length h + 1 → view.state.stopped ≡ Some (length h + 1) → Remembers s view.state view.levels → s.manifest.config ≡ config → IsFor h s → IsLeft view.disk h (retried change)
+    → IfSome view.flight (λ flying. IsCounted flying.task) → StandsNow config (h ++ change ∷ []) view
+stopped_stands config h change before behind view s legal done few failed count stopped remembers config_is stands left counted = record {
   legal = legal_failed h change before behind legal done few failed;
   count = count ∙ sym (length_push h change);
   stored = s;
   remembers = remembers;
   config_is = config_is;
   stands = subst (λ g. IsFor g s) (sym (last_failed h change before behind done failed)) stands;
-  held = subst (IsOpenOrStopped disk (h ++ change ∷ []) s state) (sym stopped) (record {
+  held = subst (IsOpenOrStopped view (h ++ change ∷ []) s) (sym stopped) (record {
     before = h;
     change = change;
     history = refl;
@@ -110,36 +120,47 @@ stopped_stands config h change before behind disk s state levels legal done few 
     failed = failed;
     left = left;
   });
+  counted = counted;
 }
 
--- A disk that wasn't touched
+-- A disk that has what it had
 
-module _ (old new : Seen) (idle : IsIdle old new) where
-  idle_image : (c : Directory) → Image new c → Image old c
-  idle_image c here = (idle.left old.moment c).0 (subst (λ m. new.left m c) idle.moment here)
+-- all but the disk, and this state, are as they were
+abbrev pub beside : View → View → State → View
+beside old new state = record old { disk = new.disk; faults = new.faults; state = state }
 
-  pub idle_running : (s : Stored) (state : State) → IsRunning old s state → IsRunning new s state
-  idle_running s state running = record {
-    settled = record {
-      synced = λ c here. running.settled.synced c (idle_image c here) ∙ sym idle.directory;
-      coherent = running.settled.coherent;
-      encodes = subst (λ d. Encodes d s) (sym idle.directory) running.settled.encodes;
-    };
-    only = subst (HasOnly s []) (sym idle.directory) running.only;
+pub is_beside : (old new : View) (state : State) → new.state ≡ state → IsBeside old new → beside old new state ≡ new
+is_beside old new state same rest = λ i. record new { state = (sym same) i; levels = (sym rest.levels) i; flight = (sym rest.flight) i }
+
+pub idle_back : (old new : Seen) → IsIdle old new → IsTakenBack old new
+idle_back old new idle = record { directory = idle.directory; images = λ c here. (idle.left old.moment c).0 (subst (λ m. new.left m c) idle.moment here) }
+
+module _ (old new : View) (back : IsTakenBack old.disk new.disk) where
+  back_beside : (s : Stored) → IsRunning old s → IsRunning (beside old new old.state) s
+  back_beside s running = record {
+    settled = settled_back old.disk new.disk s back running.settled;
+    only = only_back old.disk new.disk s (loose_in old.flight) back running.only;
+    uncited = running.uncited;
+    rising = running.rising;
     ends = record {
       ascends = running.ends.ascends;
-      spelled = λ c here. running.ends.spelled c (idle_image c here);
+      spelled = λ c here. running.ends.spelled c (back.images c here);
       place = running.ends.place;
     };
     current = running.current;
+    tasked = running.tasked;
   }
 
-  idle_left : (h : History) (change : Option Change) → IsLeft old h change → IsLeft new h change
-  idle_left h change left = record { now = subst (IsKeptOr h change) (sym idle.directory) left.now; images = λ c here. left.images c (idle_image c here) }
+  -- where all that was done is taken back, the disk is in the store's hands as before
+  pub running_back : (s : Stored) → new.state ≡ old.state → IsBeside old new → IsRunning old s → IsRunning new s
+  running_back s same rest running = subst (λ view. IsRunning view s) (is_beside old new old.state same rest) (back_beside s running)
 
-  idle_held : (h : History) (s : Stored) (state : State) (stopped : Option ℕ) → IsOpenOrStopped old h s state stopped → IsOpenOrStopped new h s state stopped
-  idle_held h s state None held = (held.0, idle_running s state held.1)
-  idle_held h s state (Some at) held = record {
+  left_back : (h : History) (change : Option Change) → IsLeft old.disk h change → IsLeft new.disk h change
+  left_back h change left = record { now = subst (IsKeptOr h change) (sym back.directory) left.now; images = λ c here. left.images c (back.images c here) }
+
+  held_back : (h : History) (s : Stored) (stopped : Option ℕ) → IsOpenOrStopped old h s stopped → IsOpenOrStopped (beside old new old.state) h s stopped
+  held_back h s None held = (held.0, back_beside s held.1)
+  held_back h s (Some at) held = record {
     before = held.before;
     change = held.change;
     history = held.history;
@@ -149,24 +170,26 @@ module _ (old new : Seen) (idle : IsIdle old new) where
     faults_before = held.faults_before;
     faults = held.faults;
     failed = held.failed;
-    left = idle_left held.before (retried held.change) held.left;
+    left = left_back held.before (retried held.change) held.left;
   }
 
-pub idle_stands : (config : Fields) (h : History) (old new : Seen) (state : State) (levels : List (List Parts)) → IsIdle old new → StandsNow config h old state levels → StandsNow config h new state levels
-idle_stands config h old new state levels idle stands = record {
-  legal = stands.legal;
-  count = stands.count;
-  stored = stands.stored;
-  remembers = stands.remembers;
-  config_is = stands.config_is;
-  stands = stands.stands;
-  held = idle_held old new idle h stands.stored state state.stopped stands.held;
-}
+  pub stands_back : (config : Fields) (h : History) → new.state ≡ old.state → IsBeside old new → StandsNow config h old → StandsNow config h new
+  stands_back config h same rest stands = subst (StandsNow config h) (is_beside old new old.state same rest) (record {
+    legal = stands.legal;
+    count = stands.count;
+    stored = stands.stored;
+    remembers = stands.remembers;
+    config_is = stands.config_is;
+    stands = stands.stands;
+    held = held_back h stands.stored old.state.stopped stands.held;
+    counted = stands.counted;
+  })
 
-pub idle_sound : (Tells : Type 0) (old new : Seen) (state : State) (levels : List (List Parts)) → (Tells → IsIdle old new) → IsSound Tells old state levels → IsSound Tells new state levels
-idle_sound Tells old new state levels idle sound = record {
+pub sound_back : (Tells : Type 0) (old new : View) → (Tells → IsTakenBack old.disk new.disk) → new.state ≡ old.state → IsBeside old new → IsSound Tells old → IsSound Tells new
+sound_back Tells old new back same rest sound = subst (IsSound Tells) (is_beside old new old.state same rest) (record {
   writable = sound.writable;
   small = sound.small;
   count = sound.count;
-  held = λ told. let held = sound.held told in (held.0, held.1, λ runs. idle_running old new (idle told) held.0 state (held.2 runs));
-}
+  flies = sound.flies;
+  held = λ told. let held = sound.held told in (held.0, held.1, λ runs. back_beside old new (back told) held.0 (held.2 runs));
+})
