@@ -1,31 +1,42 @@
-use Rattle.std.proofs.Common.{rules, ◌≡◌, ◌≤◌, ◌+◌, ◌⊎◌, ◌↔◌, true, false, IsTrue, List, Ok, None, All, IfOk, IfErr, OnOk, ℕ, ◌-◌, ◌*◌, ◌<◌, length, ◌/◌, ◌%◌, Bool, nat_eq, nat_lt, [], ◌∷◌, ◌++◌, slice_index_or, slice_set, bit_and, bit_or, Fits, w8, w32, w64, Bor, MutBor}
+use Rattle.std.proofs.Common.{rules, ◌≡◌, ◌≤◌, ◌+◌, ◌⊎◌, ◌↔◌, true, false, IsTrue, List, Ok, Err, None, All, IfOk, IfErr, OnOk, ℕ, ◌-◌, ◌*◌, ◌<◌, length, sym, ap, subst}
 use Rattle.lethe_base.specs.History.{History}
 use Rattle.lethe_base.specs.declared.config.Fields.{Fields}
-use Rattle.lethe_base.specs.declared.refused.Refused.TheVariants as refused
-use Rattle.lethe_header.specs.Headers as header
 use Rattle.lethe_stored.specs.Stored.{Stored}
-use Rattle.lethe_state.specs.Room.{IsStepFrom}
-use Rattle.lethe_state.specs.Writable.{segments_for}
-use Rattle.lethe_core.specs.Descent.{steps_down}
-use Rattle.lethe_job.specs.Jobs.{told_as}
-use Rattle.lethe_job.specs.Tasks.{PlainTask, inputs_in, pages_in}
-use Rattle.lethe_core.specs.Keeps.{Keeps, MayStep}
-use Rattle.lethe_core.specs.Merges.{AreOutcomes, HasNoMerge, IsCrowded, IsOutcome, IsShortToMerge, IsUncrowded, MayMerge, Outcome, pages_of}
-use Rattle.lethe_core.specs.Reasons.{HasReason, IsUnreadable}
-use Rattle.lethe_core.specs.Running.{Holds, IsSound}
-use Rattle.lethe_core.specs.StandsNow.{IsCounted, StandsNow}
-use Rattle.lethe_core.specs.Steps.{IsSteady}
-use Rattle.lethe_core.specs.View.{view_of}
+use Rattle.lethe_advance.specs.Shown.{parts_by_level}
+use Rattle.lethe_state.specs.Room.{under}
+use Rattle.lethe_state.specs.declared.state.State.{State}
+use Rattle.lethe_job.specs.Tasks.{PlainTask}
+use Rattle.lethe_core.specs.Keeps.{Keeps}
+use Rattle.lethe_core.specs.Merges.{MayMerge}
+use Rattle.lethe_core.specs.Running.{Holds}
+use Rattle.lethe_core.specs.View.{View, view_of}
+use Rattle.lethe_core.proofs.Hindered.{hindered_keeps}
+use Rattle.lethe_core.proofs.Merged.{merge_keeps, merge_moments, merged_holds, merged_view}
 use Rattle.lethe_core.proofs.holding.Core.merge_now.Goals as goal
 
--- src/merging.rt:164:9
 pub returns-in_err-carry_out-clause-keeps : goal.returns-in_err-carry_out-clause-keeps
-returns-in_err-carry_out-clause-keeps g c = ?
+returns-in_err-carry_out-clause-keeps g c =
+    let old = view_of c.args.self.now in
+    let new = view_of c.carry_out.new.self in
+    let laws = g.met.D.Disk g.world.𝓛 g.world.𝓜 g.world.𝓡 ((λ s x. x), (λ x. x), (λ x. x), λ x. x) in
+    let why = c.in_err-carry_out.field-0.0 in
+    let refusal : c.from_residual.result ≡ Err why = search rules in
+    subst (Keeps {T = Unit {0}} g.D.Disk.tells old new) (sym refusal) (hindered_keeps g.D.Disk.tells old new c.args.before c.requires.may why c.in_err-carry_out.ensures.refused
+    (merge_moments old new.disk new.faults new.levels c.args.headers.items c.args.step g.D.Disk.tells c.args.before c.requires.may c.requires.from c.requires.merges c.carry_out.ensures.moments)
+    (λ told. laws.itself told c.carry_out.new.self.disk) c.carry_out.ensures.later c.carry_out.ensures.faults)
 
--- src/merging.rt:144:5
-pub returns-clause-keeps : goal.returns-clause-keeps
-returns-clause-keeps g c = ?
-
--- src/merging.rt:144:5
 pub returns-clause-done : goal.returns-clause-done
 returns-clause-done g c = ?
+
+pub returns-clause-keeps : goal.returns-clause-keeps
+returns-clause-keeps g c =
+    let old = view_of c.args.self.now in
+    let mid = view_of c.carry_out.new.self in
+    let step = c.args.step in
+    let headers = c.args.headers.items in
+    let moments = merge_moments old mid.disk mid.faults mid.levels headers step g.D.Disk.tells c.args.before c.requires.may c.requires.from c.requires.merges c.carry_out.ensures.moments in
+    let P : State → Type 0 = λ state. (g.D.Disk.tells → (s : Stored) (task : PlainTask) (t : Stored) → Holds old s → MayMerge old s task t headers step → Holds (record (merged_view old mid.disk mid.faults mid.levels step) { state = under step.manifest state }) t)
+        → Keeps {T = Unit {0}} g.D.Disk.tells old (record (merged_view old mid.disk mid.faults mid.levels step) { state = under step.manifest state }) (Ok tt) in
+    subst P (sym c.in_ok-carry_out.ensures.state)
+    (λ behind. merge_keeps old mid.disk mid.faults mid.levels headers step g.D.Disk.tells c.args.before c.requires.may c.requires.from c.requires.merges behind c.carry_out.ensures.levels moments c.in_ok-carry_out.ensures.calls c.carry_out.ensures.faults)
+    (returns-clause-done g c)
