@@ -4,4 +4,5 @@ pub mod Hindered
 pub mod Likes
 pub mod Recorded
 pub mod Roomed
+pub mod Carried
 pub mod Merged
