@@ -1,1 +1,0 @@
-use Rattle.lethe_core.proofs.Merged.{installed_for}
