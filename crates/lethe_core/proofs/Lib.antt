@@ -13,3 +13,4 @@ pub mod Descending
 pub mod Keyed
 pub mod Places
 pub mod Short
+pub mod Merged
