@@ -2,12 +2,15 @@ pub mod Histories
 pub mod Standing
 pub mod Hindered
 pub mod Carried
+pub mod Stepped
+pub mod Next
+pub mod Crowded
 pub mod Likes
 pub mod Recorded
-pub mod Roomed
 pub mod Counted
 pub mod Sums
 pub mod Descending
 pub mod Keyed
 pub mod Places
 pub mod Short
+pub mod Merged
