@@ -1,9 +1,8 @@
 -- A whole run of events.
-use Rattle.std.specs.Prelude.{◌≡◌, ◌⊎◌, ◌≤◌, ◌+◌, ◌-◌, ◌^◌, ℕ, List, Vec, ◌++◌, length, Option, Some, None, Result, OnOk, IfErr, IfSome, false}
+use Rattle.std.specs.Prelude.{◌≡◌, ◌⊎◌, ◌≤◌, ◌+◌, ◌-◌, ◌^◌, ℕ, List, ◌++◌, length, Option, Some, None, option_map, Result, OnOk, IfErr, IfSome, false}
 use Rattle.lethe_base.specs.History.{History}
 use Rattle.lethe_base.specs.Limits.{max_place}
 use Rattle.lethe_base.specs.declared.refused.Refused.{Refused}
-use Rattle.lethe_build.specs.declared.draft.Draft.{Draft}
 use Rattle.lethe_disk.specs.declared.disk.Disk.{Ghosts}
 use Rattle.lethe_flush.specs.Made.{pages_in}
 use Rattle.lethe_stored.specs.Stored.{Stored}
@@ -35,12 +34,12 @@ pub record IsTheirs {D Page Port : Type 0} {kind : Ghosts D Page Port} (Tells : 
   pub works : IfSome jobs.there (λ numbered. numbered.job.refused ≡ false → IsAtWork Tells view numbered.job)
 
 -- how many pages of a job are left to be written; more than any job has where they aren't made yet
-abbrev pub pages_left_of : Option (Vec Draft) → ℕ → ℕ
+abbrev pub pages_left_of : Option ℕ → ℕ → ℕ
 pages_left_of None written = 2 ^ 64
-pages_left_of (Some drafts) written = length (pages_in drafts.items) - written
+pages_left_of (Some pages) written = pages - written
 
 abbrev pub pages_left : {D Page Port : Type 0} {kind : Ghosts D Page Port} → Job D Page Port kind → ℕ
-pages_left job = pages_left_of job.drafts job.written
+pages_left job = pages_left_of (option_map (λ drafts. length (pages_in drafts.items)) job.drafts) job.written
 
 -- what is stored stays while pages of a job are written
 pub record IsWritingOn (PortsFail : Type 0) (old new : View) (before now : ℕ) (s t : Stored) (result : Result (Unit {0}) Refused) : Type 0 where

@@ -94,8 +94,6 @@ fn write_next<D: Disk>(
         → (t : Stored) × IsKnown (view_of engine.new.core) t × StandsFor config opened (stepped_to h 0 Work result) (view_of engine.new.core)
         × IsWriteOut D.ports_fail (going_of number job.old) h (moment_of (view_of engine.old.core) s fetches faults begun (Some (going_of number job.old))) result
         (stepped_to h 0 Work result) (moment_of (view_of engine.new.core) t fetches faults begun (Some (going_of number job.new))) }
-    ensures count { OnOk result (engine.new.core.state.count ≡ engine.old.core.state.count) }
-    ensures runs { OnOk result (engine.old.core.state.stopped ≡ engine.new.core.state.stopped) }
     ensures faults { D.faults engine.old.core.disk ≤ D.faults engine.new.core.disk }
 {
     match job.next_piece(alloc)? {
@@ -144,8 +142,8 @@ fn install_whole<D: Disk>(
 ) -> Result<(), Refused>
     requires sound { IsSound D.tells (view_of engine.old.core) }
     requires works { IsAtWork D.tells (view_of engine.old.core) numbered.job }
-    ensures sound { IsSound D.tells (view_of engine.new.core) }
     requires none { jobs.old.there ≡ None }
+    ensures sound { IsSound D.tells (view_of engine.new.core) }
     ensures jobs { IsTheirs D.tells (view_of engine.new.core) jobs.new }
     ensures step { D.tells → (config : Fields) (opened : Opened) (h : History) → StandsFor config opened h (view_of engine.old.core) → (s : Stored) → IsKnown (view_of engine.old.core) s → (fetches faults : ℕ)
         → (t : Stored) × IsKnown (view_of engine.new.core) t × StandsFor config opened (stepped_to h 0 Work result) (view_of engine.new.core)
@@ -186,7 +184,6 @@ fn write_rest<D: Disk>(
     ensures step { D.tells → (config : Fields) (opened : Opened) (h : History) → StandsFor config opened h (view_of engine.old.core) → (s : Stored) → IsKnown (view_of engine.old.core) s
         → (t : Stored) × IsKnown (view_of engine.new.core) t × StandsFor config opened (stepped_to h 0 Work result) (view_of engine.new.core)
         × IsWritingOn D.ports_fail (view_of engine.old.core) (view_of engine.new.core) (D.port_faults job.old.port) (D.port_faults job.new.port) s t result }
-    ensures runs { OnOk result (engine.old.core.state.stopped ≡ engine.new.core.state.stopped) }
     ensures faults { D.faults engine.old.core.disk ≤ D.faults engine.new.core.disk }
 {
     while write_next(engine, alloc, job)? {}
