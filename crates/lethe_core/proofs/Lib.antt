@@ -2,3 +2,4 @@ pub mod Histories
 pub mod Standing
 pub mod Hindered
 pub mod Carried
+pub mod Pages
