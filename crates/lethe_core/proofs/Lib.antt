@@ -3,3 +3,4 @@ pub mod Standing
 pub mod Hindered
 pub mod Carried
 pub mod Pages
+pub mod Begun
