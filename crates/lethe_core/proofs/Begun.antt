@@ -1,10 +1,10 @@
 -- A job that was begun is in flight.
-use Rattle.std.proofs.Common.{◌≡◌, ◌≢◌, ◌≤◌, ◌<◌, ◌++◌, ℕ, List, [], All, Option, Some, None, refl, ap, ◌∙◌, subst, sym, arith}
+use Rattle.std.proofs.Common.{◌≡◌, ◌≢◌, ◌≤◌, ◌<◌, ◌++◌, ℕ, List, [], All, Some, None, refl, subst, sym, arith}
 use Rattle.std.specs.Prelude.{Contains}
 use Rattle.std.proofs.lemmas.List.Elements.{All-contains, All-nil, All-weaker}
 use Rattle.lethe_base.specs.History.{History}
 use Rattle.lethe_base.specs.Layout.{entries_of}
-use Rattle.lethe_base.specs.Limits.{max_place, max_time}
+use Rattle.lethe_base.specs.Limits.{max_time}
 use Rattle.lethe_base.specs.declared.config.Fields.{Fields}
 use Rattle.lethe_base.specs.declared.entry.Entry.{Entry}
 use Rattle.lethe_base.specs.declared.name.Kind.TheVariants as kinds
@@ -16,11 +16,10 @@ use Rattle.lethe_stored.specs.Files.{StoredFile, file_of}
 use Rattle.lethe_stored.specs.Kept.{IsFor}
 use Rattle.lethe_stored.specs.Stored.{IsCited, IsCoherent, Stored, count_of}
 use Rattle.lethe_stored.proofs.Lists.{all_from, from_flat, in_flat, no_pairs}
-use Rattle.lethe_advance.specs.Settled.{AreDrawn, HasOnly}
+use Rattle.lethe_advance.specs.Settled.{HasOnly}
 use Rattle.lethe_follows.specs.Merged.{entries_in, inputs_of}
 use Rattle.lethe_follows.proofs.Merging.{all_counted}
 use Rattle.lethe_install.proofs.Beside.{input_in}
-use Rattle.lethe_state.specs.Writable.{IsWritable}
 use Rattle.lethe_job.specs.Tasks.{IsBegunIn, PlainTask, inputs_in}
 use Rattle.lethe_core.specs.Running.{Holds, IsFlying, IsRunning, IsSound}
 use Rattle.lethe_core.specs.StandsNow.{IsCounted, StandsNow}

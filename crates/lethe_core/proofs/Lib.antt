@@ -4,3 +4,4 @@ pub mod Hindered
 pub mod Carried
 pub mod Pages
 pub mod Begun
+pub mod Removed
