@@ -5,3 +5,15 @@ pub mod Carried
 pub mod Pages
 pub mod Begun
 pub mod Removed
+pub mod Stepped
+pub mod Next
+pub mod Crowded
+pub mod Likes
+pub mod Recorded
+pub mod Counted
+pub mod Sums
+pub mod Descending
+pub mod Keyed
+pub mod Places
+pub mod Short
+pub mod Merged

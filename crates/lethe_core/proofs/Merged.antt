@@ -1,0 +1,147 @@
+-- The step of a merge that was carried out.
+use Rattle.std.proofs.Common.{◌≡◌, ◌≤◌, ℕ, ◌+◌, List, [], ◌++◌, length, All, Option, None, Result, Ok, refl, sym, ap, ◌∙◌, subst, arith}
+use Rattle.std.proofs.lemmas.List.Elements.{All-nil}
+use Rattle.lethe_base.specs.History.{History}
+use Rattle.lethe_base.specs.declared.config.Fields.{Fields}
+use Rattle.lethe_base.specs.declared.entry.Entry.{Entry}
+use Rattle.lethe_base.specs.declared.name.Name.{Name}
+use Rattle.lethe_disk.specs.Disk.{Seen}
+use Rattle.lethe_disk.specs.Goes.{Goes}
+use Rattle.lethe_header.specs.declared.header.Header.{Header}
+use Rattle.lethe_manifest.specs.declared.manifest.Manifest.{Manifest}
+use Rattle.lethe_commit.specs.Append.{EndsAt}
+use Rattle.lethe_follows.specs.Merged.{StoredMerge, entries_in, inputs_of}
+use Rattle.lethe_follows.proofs.MergeRising.{merged_rises}
+use Rattle.lethe_follows.proofs.Merging.{merged_for}
+use Rattle.lethe_stored.specs.Files.{Parts}
+use Rattle.lethe_stored.specs.Kept.{IsFor, IsKept}
+use Rattle.lethe_stored.specs.Levels.{HasFiles}
+use Rattle.lethe_stored.specs.Stored.{IsCited, IsCoherent, Stored, pending_of, segment_name}
+use Rattle.lethe_advance.specs.Settled.{HasOnly, IsSettled}
+use Rattle.lethe_advance.specs.Steps.{IsStep}
+use Rattle.lethe_advance.specs.declared.step.Step.{Step}
+use Rattle.lethe_state.specs.Remembered.{IsCurrent, Remembers}
+use Rattle.lethe_state.specs.Room.{IsStepFrom, under}
+use Rattle.lethe_state.specs.Writable.{IsWritable, segments_for}
+use Rattle.lethe_state.specs.declared.state.State.{State}
+use Rattle.lethe_install.proofs.Remembering.{install_remembered}
+use Rattle.lethe_job.specs.Tasks.{IsTaskIn, PlainTask, inputs_in}
+use Rattle.lethe_core.specs.Keeps.{Keeps, MayStep}
+use Rattle.lethe_core.specs.Merges.{IsInstalled, MayMerge}
+use Rattle.lethe_core.specs.Running.{Holds, IsRunning, IsSmall}
+use Rattle.lethe_core.specs.StandsNow.{IsCounted, StandsNow}
+use Rattle.lethe_core.specs.View.{View, loose_in}
+use Rattle.lethe_core.proofs.Standing.{next_stands_now, stands_for, stands_holds}
+
+-- Its outcome stands for the same history
+
+-- the files that the task merges, as the merge has them
+pub inputs_same : (s : Stored) (m : StoredMerge) (task : PlainTask) → IsTaskIn s m task → inputs_in task ≡ inputs_of m
+inputs_same s m task is = λ i. is.sources i ++ is.met i
+
+pub installed_for : (h : History) (s : Stored) (task : PlainTask) (t : Stored) → IsCoherent s → IsFor h s → IsCounted task → IsInstalled s task t → IsFor h t
+installed_for h s task t coherent stands counted is =
+    let low = subst (λ files. All (λ (entry : Entry). entry.seq ≤ task.upto) (entries_in files)) (inputs_same s is.m task is.tasked) counted in
+    merged_for h s coherent stands is.m is.tasked.merge task.alone is.tasked.clear is.tasked.bottom task.upto is.tasked.upto low t is.merged_is
+
+-- The state under the manifest of a step
+
+writable_under : (state : State) (step : Step) → IsStepFrom (segments_for state.frozen) state step → IsWritable state → IsWritable (under step.manifest state)
+writable_under state step from is = record {
+  manifest = from.spelled;
+  segments = from.segments_are;
+  pending = is.pending;
+  active = is.active;
+  frozen = is.frozen;
+  count = is.count;
+  records = is.records;
+  drawn = omega arith;
+  last = from.spelled.next;
+}
+
+small_under : (manifest : Manifest) (state : State) → manifest.config ≡ state.manifest.config → IsSmall state → IsSmall (under manifest state)
+small_under manifest state config is =
+    let same : manifest.config.buffer ≡ state.manifest.config.buffer = ap (λ (f : Fields). f.buffer) config in
+    let records = is.records in
+    let frozen = is.frozen in
+    record { active = is.active; records = omega (arith, same, records); frozen = omega (arith, same, frozen) }
+
+-- The view behind the step: no job is in flight
+
+abbrev pub merged_view : View → Seen → ℕ → List (List Parts) → Step → View
+merged_view old disk faults levels step = record { disk = disk; faults = faults; state = under step.manifest old.state; levels = levels; flight = None }
+
+module _ (old : View) (disk : Seen) (faults : ℕ) (levels : List (List Parts)) (headers : List Header) (step : Step) where
+  abbrev new : View
+  new = merged_view old disk faults levels step
+
+  module _ (s t : Stored) (task : PlainTask) (holds : Holds old s) (may : MayMerge old s task t headers step) (files : HasFiles t levels) where
+    merged_both : Remembers t new.state levels × IsCurrent t new.state
+    merged_both = subst (λ manifest. Remembers t (under manifest old.state) levels × IsCurrent t (under manifest old.state)) (sym may.step_is.manifest)
+        (install_remembered s t may.installed.m (pending_of s) task.alone task.upto old.state old.levels levels holds.remembers holds.running.current may.installed.merged_is refl
+        may.step_is.coherent.spelled may.step_is.coherent files)
+
+    pub merged_holds : IsSettled disk t → HasOnly t [] disk.directory → EndsAt disk (segment_name t.active.no) t.active.no t.active.records old.state.end → Holds new t
+    merged_holds settled only ends =
+        let m = may.installed.m in
+        let coherent = holds.remembers.coherent in
+        let merge = may.installed.tasked.merge in
+        record {
+          remembers = merged_both.0;
+          running = record {
+            settled = settled;
+            only = only;
+            uncited = All-nil (λ (named : Name × List ℕ). IsCited t named.0 → ⊥);
+            rising = merged_rises s coherent holds.running.rising m merge (pending_of s) task.alone task.upto t may.installed.merged_is;
+            ends = ends;
+            current = merged_both.1;
+            tasked = tt;
+          };
+        }
+
+  -- What the step keeps
+
+  module _ (Tells : Type 0) (before : ℕ) (can : MayStep Tells old before) (from : IsStepFrom (segments_for old.state.frozen) old.state step)
+      (merges : Tells → (s : Stored) → Holds old s → (task : PlainTask) × (t : Stored) × MayMerge old s task t headers step × ((config : Fields) (h : History) → StandsNow config h old → IsCounted task)) where
+    pub merge_moments : (Tells → (s t : Stored) (left : List (Name × List ℕ)) → IsRunning old s → IsStep s (loose_in old.flight) t left headers step → (h : History) → IsFor h s → IsFor h t → Goes (λ c. IsKept c h) old.disk disk)
+        → Tells → (config : Fields) (h : History) → StandsNow config h old → Goes (λ c. IsKept c h) old.disk disk
+    merge_moments moments told config h stands =
+        let s = stands.stored in
+        let holds = stands_holds config h old stands can.runs in
+        let for = stands_for config h old stands can.runs in
+        let next = merges told s holds in
+        moments told s next.1 [] holds.running next.2.step_is h for (installed_for h s next.0 next.1 holds.remembers.coherent for (next.3 config h stands) next.2.installed)
+
+    module _ (behind : Tells → (s : Stored) (task : PlainTask) (t : Stored) → Holds old s → MayMerge old s task t headers step → Holds new t) where
+      merge_stands : Tells → (config : Fields) (h : History) → StandsNow config h old → StandsNow config h new
+      merge_stands told config h stands =
+          let s = stands.stored in
+          let holds = stands_holds config h old stands can.runs in
+          let next = merges told s holds in
+          next_stands_now config h old new stands can.runs next.1 refl next.2.step_is.config
+          (installed_for h s next.0 next.1 holds.remembers.coherent (stands_for config h old stands can.runs) (next.3 config h stands) next.2.installed) (behind told s next.0 next.1 holds next.2) tt
+
+      pub merge_keeps : length levels ≡ length old.levels → (Tells → (config : Fields) (h : History) → StandsNow config h old → Goes (λ c. IsKept c h) old.disk disk)
+          → (Tells → old.disk.moment + length step.objects.items + 6 ≤ disk.moment) → old.faults ≤ faults → Keeps {T = Unit {0}} Tells old new (Ok tt)
+      merge_keeps count moments calls rise = record {
+        sound = record {
+          writable = writable_under old.state step from can.sound.writable;
+          small = small_under step.manifest old.state from.config can.sound.small;
+          count = count ∙ can.sound.count ∙ ap (λ (f : Fields). f.levels + 1) (sym from.config);
+          flies = tt;
+          held = λ told.
+              let held = can.sound.held told in
+              let holds : Holds old held.0 = record { remembers = held.1; running = held.2 can.runs } in
+              let next = merges told held.0 holds in
+              let after = behind told held.0 next.0 next.1 holds next.2 in
+              (next.1, after.remembers, λ runs. after.running);
+        };
+        stands = λ told config h stands caller call. merge_stands told config h stands;
+        any_moment = moments;
+        numbers = λ told.
+            let made = calls told in
+            let number = from.numbers in
+            let next = from.next in
+            omega (arith, made, number, next);
+        faults = rise;
+      }

@@ -1,0 +1,57 @@
+use Rattle.std.proofs.Common.{rules, ◌≡◌, ◌≤◌, ◌+◌, ◌⊎◌, ◌↔◌, true, false, IsTrue, List, [], Ok, Err, None, All, IfOk, IfErr, OnOk, ℕ, ◌-◌, ◌*◌, ◌<◌, length, sym, ap, subst}
+use Rattle.lethe_base.specs.History.{History}
+use Rattle.lethe_base.specs.declared.config.Fields.{Fields}
+use Rattle.lethe_stored.specs.Stored.{Stored}
+use Rattle.lethe_advance.specs.Shown.{parts_by_level}
+use Rattle.lethe_state.specs.Room.{under}
+use Rattle.lethe_state.specs.declared.state.State.{State}
+use Rattle.lethe_job.specs.Tasks.{PlainTask}
+use Rattle.lethe_core.specs.Keeps.{Keeps}
+use Rattle.lethe_core.specs.Merges.{MayMerge}
+use Rattle.lethe_core.specs.Running.{Holds}
+use Rattle.lethe_core.specs.View.{View, loose_in, view_of}
+use Rattle.lethe_core.proofs.Carried.{active_ends}
+use Rattle.lethe_core.proofs.Hindered.{hindered_keeps}
+use Rattle.lethe_core.proofs.Merged.{merge_keeps, merge_moments, merged_holds, merged_view}
+use Rattle.lethe_core.proofs.holding.Core.merge_now.Goals as goal
+
+pub returns-in_err-carry_out-clause-keeps : goal.returns-in_err-carry_out-clause-keeps
+returns-in_err-carry_out-clause-keeps g c =
+    let old = view_of c.args.self.now in
+    let new = view_of c.carry_out.new.self in
+    let laws = g.met.D.Disk g.world.𝓛 g.world.𝓜 g.world.𝓡 ((λ s x. x), (λ x. x), (λ x. x), λ x. x) in
+    let why = c.in_err-carry_out.field-0.0 in
+    let refusal : c.from_residual.result ≡ Err why = search rules in
+    subst (Keeps {T = Unit {0}} g.D.Disk.tells old new) (sym refusal) (hindered_keeps g.D.Disk.tells old new c.args.before c.requires.may why c.in_err-carry_out.ensures.refused
+    (merge_moments old new.disk new.faults new.levels c.args.headers.items c.args.step g.D.Disk.tells c.args.before c.requires.may c.requires.from c.requires.merges c.carry_out.ensures.moments)
+    (λ told. laws.itself told c.carry_out.new.self.disk) c.carry_out.ensures.later c.carry_out.ensures.faults)
+
+pub returns-clause-done : goal.returns-clause-done
+returns-clause-done g c = λ told s task t holds may.
+    let old = view_of c.args.self.now in
+    let mid = view_of c.carry_out.new.self in
+    let step = c.args.step in
+    let headers = c.args.headers.items in
+    let laws = g.met.D.Disk g.world.𝓛 g.world.𝓜 g.world.𝓡 ((λ s x. x), (λ x. x), (λ x. x), λ x. x) in
+    let loose = loose_in old.flight in
+    let running = holds.running in
+    let is = may.step_is in
+    let done = c.in_ok-carry_out.ensures.done told s t [] running is in
+    let kept = c.in_ok-carry_out.ensures.kept told s t [] running is in
+    let files = c.in_ok-carry_out.ensures.files told s t [] running is holds.remembers.files in
+    let ends = active_ends s t loose [] headers step is holds.remembers.coherent old.disk mid.disk done.0 kept old.state.end may.installed.merged_is.active (laws.itself told c.args.self.now.disk) running.ends in
+    subst (λ (state : State). Holds (record (merged_view old mid.disk mid.faults mid.levels step) { state = under step.manifest state }) t) (sym c.in_ok-carry_out.ensures.state)
+    (merged_holds old mid.disk mid.faults mid.levels headers step s t task holds may files done.0 done.1 ends)
+
+pub returns-clause-keeps : goal.returns-clause-keeps
+returns-clause-keeps g c =
+    let old = view_of c.args.self.now in
+    let mid = view_of c.carry_out.new.self in
+    let step = c.args.step in
+    let headers = c.args.headers.items in
+    let moments = merge_moments old mid.disk mid.faults mid.levels headers step g.D.Disk.tells c.args.before c.requires.may c.requires.from c.requires.merges c.carry_out.ensures.moments in
+    let P : State → Type 0 = λ state. (g.D.Disk.tells → (s : Stored) (task : PlainTask) (t : Stored) → Holds old s → MayMerge old s task t headers step → Holds (record (merged_view old mid.disk mid.faults mid.levels step) { state = under step.manifest state }) t)
+        → Keeps {T = Unit {0}} g.D.Disk.tells old (record (merged_view old mid.disk mid.faults mid.levels step) { state = under step.manifest state }) (Ok tt) in
+    subst P (sym c.in_ok-carry_out.ensures.state)
+    (λ behind. merge_keeps old mid.disk mid.faults mid.levels headers step g.D.Disk.tells c.args.before c.requires.may c.requires.from c.requires.merges behind c.carry_out.ensures.levels moments c.in_ok-carry_out.ensures.calls c.carry_out.ensures.faults)
+    (returns-clause-done g c)
