@@ -2,6 +2,9 @@ pub mod Histories
 pub mod Standing
 pub mod Hindered
 pub mod Carried
+pub mod Pages
+pub mod Begun
+pub mod Removed
 pub mod Stepped
 pub mod Next
 pub mod Crowded

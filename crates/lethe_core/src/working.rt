@@ -83,14 +83,16 @@ impl<D: Disk> Core<D> {
         ensures page { D.tells → OnOk result ((D.seen self.new.disk).directory ≡ insert (D.seen self.old.disk).directory (page_name self.old.state.next) bytes.now) }
         ensures calls { D.tells → OnOk result ((D.seen self.new.disk).moment ≡ (D.seen self.old.disk).moment + 2) }
     {
-        let Some(flight) = &mut self.flight else {
-            unreachable!()
-        };
         let number = self.state.next;
         if MAX_PLACE <= number {
             return Err(Refused::Exhausted { last: MAX_PLACE });
         }
-        match write_page(&mut self.disk, &mut flight.written, number, bytes) {
+        let Some(mut flight) = self.flight.take() else {
+            unreachable!()
+        };
+        let placed = write_page(&mut self.disk, &mut flight.written, number, bytes);
+        self.flight = Some(flight);
+        match placed {
             Ok(()) => {
                 self.state.next = number + 1;
                 Ok(())

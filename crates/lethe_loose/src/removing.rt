@@ -2,11 +2,12 @@
 ghost use Rattle.std.specs.Prelude.{◌≡◌, ◌+◌, ℕ, List, [], length, OnOk, IsErrOf};
 ghost use Rattle.lethe_base.specs.declared.name.Name.{Name};
 ghost use Rattle.lethe_disk.specs.declared.disk.DiskRefused.TheVariants.{NoMemory};
+ghost use Rattle.lethe_disk.specs.Directory.{SameBeside};
 ghost use Rattle.lethe_disk.specs.Disk.{HasCause};
 ghost use Rattle.lethe_disk.specs.Goes.{Goes};
 ghost use Rattle.lethe_stored.specs.Stored.{Stored};
 ghost use Rattle.lethe_stored.specs.Encodes.{Encodes};
-ghost use Rattle.lethe_advance.specs.Settled.{IsSettled, HasOnly};
+ghost use Rattle.lethe_advance.specs.Settled.{IsSettled, HasOnly, names_in};
 ghost use Rattle.lethe_loose.specs.Loose.{MayRemove};
 
 use crate::Written;
@@ -30,6 +31,9 @@ pub fn remove_pages<D: Disk>(disk: &mut D, written: Written) -> Result<(), DiskR
     // Acknowledged: each crash leaves what is stored and nothing else.
     ensures done { D.tells → (s : Stored) → MayRemove (D.seen disk.old) s written
         → OnOk result (IsSettled (D.seen disk.new) s × HasOnly s [] (D.seen disk.new).directory) }
+
+    // Each object but the pages is as it was.
+    ensures others { D.tells → OnOk result (SameBeside (names_in written) (D.seen disk.old).directory (D.seen disk.new).directory) }
 
     ensures calls { D.tells → OnOk result ((D.seen disk.new).moment ≡ (D.seen disk.old).moment + length written + 1) }
     ensures no_memory { IsErrOf result NoMemory → ⊥ }

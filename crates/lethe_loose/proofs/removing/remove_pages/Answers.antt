@@ -1,9 +1,11 @@
 use Rattle.std.proofs.Common.{◌≡◌, [], sym, ap, ◌∙◌, subst}
+use Rattle.lethe_disk.specs.Directory.{SameBeside, object}
 use Rattle.lethe_disk.specs.Disk.{IsSynced}
 use Rattle.lethe_disk.specs.Runs.{Leads}
-use Rattle.lethe_disk.proofs.Quieting.{on_ok_both}
+use Rattle.lethe_disk.proofs.Quieting.{on_ok, on_ok_both}
 use Rattle.lethe_commit.specs.Clear.{ArePresent, IsCleared, remove_all}
-use Rattle.lethe_advance.specs.Settled.{IsSettled, HasOnly}
+use Rattle.lethe_commit.proofs.Removals.{cleared_others}
+use Rattle.lethe_advance.specs.Settled.{IsSettled, HasOnly, names_in}
 use Rattle.lethe_loose.proofs.Pages.{pages_present, remove_moments, settled_alone}
 use Rattle.lethe_loose.proofs.removing.remove_pages.Goals as goal
 
@@ -26,3 +28,11 @@ returns-clause-done g c = λ told s may.
     on_ok_both c.clear.result (IsSynced s1) (s1.directory ≡ remove_all c.names.result.now s0.directory) (IsSettled s1 s × HasOnly s [] s1.directory)
     (c.clear.ensures.synced told) (c.clear.ensures.done told) (λ synced done.
     settled_alone s0 s c.args.written may s1 synced (done ∙ ap (λ l. remove_all l s0.directory) c.names.ensures))
+
+pub returns-clause-others : goal.returns-clause-others
+returns-clause-others g c = λ told.
+    let s0 = g.D.Disk.seen c.args.disk.now in
+    let s1 = g.D.Disk.seen c.clear.new.disk in
+    let names = names_in c.args.written in
+    on_ok c.clear.result (s1.directory ≡ remove_all c.names.result.now s0.directory) (SameBeside names s0.directory s1.directory) (c.clear.ensures.done told) (λ done name none.
+    ap (λ d. object d name) (done ∙ ap (λ l. remove_all l s0.directory) c.names.ensures) ∙ cleared_others names s0.directory name none)

@@ -1,0 +1,106 @@
+-- A job that was begun is in flight.
+use Rattle.std.proofs.Common.{◌≡◌, ◌≢◌, ◌≤◌, ◌<◌, ◌++◌, ℕ, List, [], All, Some, None, refl, subst, sym, arith}
+use Rattle.std.specs.Prelude.{Contains}
+use Rattle.std.proofs.lemmas.List.Elements.{All-contains, All-nil, All-weaker}
+use Rattle.lethe_base.specs.History.{History}
+use Rattle.lethe_base.specs.Layout.{entries_of}
+use Rattle.lethe_base.specs.Limits.{max_time}
+use Rattle.lethe_base.specs.declared.config.Fields.{Fields}
+use Rattle.lethe_base.specs.declared.entry.Entry.{Entry}
+use Rattle.lethe_base.specs.declared.name.Kind.TheVariants as kinds
+use Rattle.lethe_base.specs.declared.name.Name.{Name}
+use Rattle.lethe_base.specs.declared.pending.Pending.{Pending}
+use Rattle.lethe_disk.specs.Disk.{IsIdle, Seen}
+use Rattle.lethe_manifest.specs.Manifests.{IsErase}
+use Rattle.lethe_stored.specs.Files.{StoredFile, file_of}
+use Rattle.lethe_stored.specs.Kept.{IsFor}
+use Rattle.lethe_stored.specs.Stored.{IsCited, IsCoherent, Stored, count_of}
+use Rattle.lethe_stored.proofs.Lists.{all_from, from_flat, in_flat, no_pairs}
+use Rattle.lethe_advance.specs.Settled.{HasOnly}
+use Rattle.lethe_follows.specs.Merged.{entries_in, inputs_of}
+use Rattle.lethe_follows.proofs.Merging.{all_counted}
+use Rattle.lethe_install.proofs.Beside.{input_in}
+use Rattle.lethe_job.specs.Tasks.{IsBegunIn, PlainTask, inputs_in}
+use Rattle.lethe_core.specs.Running.{Holds, IsFlying, IsRunning, IsSound}
+use Rattle.lethe_core.specs.StandsNow.{IsCounted, StandsNow}
+use Rattle.lethe_core.specs.View.{Flying, View, loose_in}
+use Rattle.lethe_core.proofs.Standing.{idle_back, next_stands_now, running_back, sound_back, stands_back, stands_for, stands_holds}
+
+-- the inputs are files that are stored, whose entries' places are all counted
+begun_counted : (h : History) (s : Stored) (task : PlainTask) → IsCoherent s → IsFor h s → IsBegunIn s task → IsCounted task
+begun_counted h s task coherent stands is =
+    let inputs : inputs_in task ≡ inputs_of is.m = λ i. is.is.sources i ++ is.is.met i in
+    all_from (λ (entry : Entry). entry.seq ≤ task.upto) (entries_in (inputs_in task)) (λ entry there.
+        let found = from_flat (λ (file : StoredFile). entries_of (file_of file)) (inputs_in task) entry there in
+        let file = input_in s coherent is.m is.is.merge found.0 (subst (λ files. Contains files found.0) inputs found.1) in
+        let counted = All-contains (λ (entry : Entry). entry.seq ≤ count_of s) (entries_in s.files) entry (all_counted h s coherent stands)
+            (in_flat (λ (file : StoredFile). entries_of (file_of file)) s.files found.0 entry file found.2) in
+        let upto = is.counted in
+        omega (arith, counted, upto))
+
+module _ (Tells : Type 0) (old : View) (task : PlainTask) (free : old.flight ≡ None) (runs : old.state.stopped ≡ None) (sound : IsSound Tells old) (begun : (s : Stored) → Holds old s → IsBegunIn s task) where
+  abbrev flying : Flying
+  flying = record { task = task; written = [] }
+
+  abbrev now : View
+  now = record old { flight = Some flying }
+
+  begun_running : (s : Stored) → Holds old s → IsRunning now s
+  begun_running s holds =
+      let is = begun s holds in
+      let running = holds.running in
+      record {
+        settled = running.settled;
+        only = subst (λ flight. HasOnly s (loose_in flight) old.disk.directory) free running.only;
+        uncited = All-nil (λ (named : Name × List ℕ). IsCited s named.0 → ⊥);
+        rising = running.rising;
+        ends = running.ends;
+        current = running.current;
+        tasked = (is.m, is.is);
+      }
+
+  pub begun_holds : (s : Stored) → Holds old s → Holds now s
+  begun_holds s holds = record { remembers = holds.remembers; running = begun_running s holds }
+
+  pub begun_stands : (config : Fields) (h : History) → StandsNow config h old → StandsNow config h now
+  begun_stands config h stands =
+      let s = stands.stored in
+      let holds = stands_holds config h old stands runs in
+      let for = stands_for config h old stands runs in
+      next_stands_now config h old now stands runs s refl refl for (begun_holds s holds) (begun_counted h s task holds.remembers.coherent for (begun s holds))
+
+  begun_flies : task.level < old.state.manifest.config.levels → task.upto ≡ old.state.count → task.erases ≡ old.state.pending → IsFlying old.state flying
+  begun_flies level upto erases = record {
+    level = level;
+    upto = let few = sound.writable.count in omega (arith, upto, few);
+    erases = subst (All (λ (erase : Pending). erase.time ≤ max_time)) (sym erases)
+        (All-weaker IsErase (λ (erase : Pending). erase.time ≤ max_time) (λ erase is. is.time) old.state.pending sound.writable.pending.each);
+    drawn = record { each = All-nil (λ (name : Name). (name.kind ≡ kinds.Page) × (name.no < old.state.next)); once = no_pairs (λ a b. a ≢ b) };
+  }
+
+  pub begun_sound : task.level < old.state.manifest.config.levels → task.upto ≡ old.state.count → task.erases ≡ old.state.pending → IsSound Tells now
+  begun_sound level upto erases = record {
+    writable = sound.writable;
+    small = sound.small;
+    count = sound.count;
+    flies = begun_flies level upto erases;
+    held = λ told. let held = sound.held told in (held.0, held.1, λ runs. begun_running held.0 (record { remembers = held.1; running = held.2 runs }));
+  }
+
+-- The disk has what it had
+
+abbrev beside_disk : View → Seen → ℕ → View
+beside_disk view disk faults = record view { disk = disk; faults = faults }
+
+pub idle_sound : (Tells : Type 0) (view : View) (disk : Seen) (faults : ℕ) → (Tells → IsIdle view.disk disk) → IsSound Tells view → IsSound Tells (beside_disk view disk faults)
+idle_sound Tells view disk faults idle sound = sound_back Tells view (beside_disk view disk faults) (λ told. idle_back view.disk disk (idle told)) refl (record { levels = refl; flight = refl }) sound
+
+module _ (view : View) (disk : Seen) (faults : ℕ) (idle : IsIdle view.disk disk) where
+  pub idle_holds : (s : Stored) → Holds view s → Holds (beside_disk view disk faults) s
+  idle_holds s holds = record {
+    remembers = holds.remembers;
+    running = running_back view (beside_disk view disk faults) (idle_back view.disk disk idle) s refl (record { levels = refl; flight = refl }) holds.running;
+  }
+
+  pub idle_stands : (config : Fields) (h : History) → StandsNow config h view → StandsNow config h (beside_disk view disk faults)
+  idle_stands config h stands = stands_back view (beside_disk view disk faults) (idle_back view.disk disk idle) config h refl (record { levels = refl; flight = refl }) stands

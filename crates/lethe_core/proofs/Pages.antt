@@ -1,0 +1,184 @@
+-- A page of the job in flight is written beside what is stored.
+use Rattle.std.proofs.Common.{◌≡◌, ◌≤◌, ◌+◌, ℕ, List, Option, Some, None, Result, Ok, Err, refl, sym, ap, ◌∙◌, subst, arith, inr}
+use Rattle.std.specs.Prelude.{IfSome, OnErr, option_map}
+use Rattle.std.specs.FinMap.{insert}
+use Rattle.lethe_base.specs.History.{History}
+use Rattle.lethe_base.specs.Limits.{max_place}
+use Rattle.lethe_base.specs.declared.config.Fields.{Fields}
+use Rattle.lethe_base.specs.declared.name.Kind.TheVariants as kinds
+use Rattle.lethe_base.specs.declared.name.Name.{Name}
+use Rattle.lethe_base.specs.declared.refused.Refused.{Refused}
+use Rattle.lethe_disk.specs.Directory.{object}
+use Rattle.lethe_disk.specs.Disk.{Image, Seen}
+use Rattle.lethe_disk.specs.Goes.{Goes}
+use Rattle.lethe_disk.specs.declared.disk.Disk.{Ghosts}
+use Rattle.lethe_disk.proofs.Going.{goes_weaker}
+use Rattle.lethe_disk.proofs.Objects.{object_beside_insert}
+use Rattle.lethe_file.specs.Agreement.{page_name}
+use Rattle.lethe_manifest.specs.declared.manifest.Manifest.{Manifest}
+use Rattle.lethe_commit.specs.Append.{EndsAt}
+use Rattle.lethe_stored.specs.Encodes.{Encodes}
+use Rattle.lethe_stored.specs.Files.{Parts}
+use Rattle.lethe_stored.specs.Kept.{IsFor, IsKept}
+use Rattle.lethe_stored.specs.Stored.{IsCoherent, Stored, segment_name}
+use Rattle.lethe_advance.specs.Settled.{AreDrawn, AreUncited, HasOnly, IsSettled, names_in}
+use Rattle.lethe_loose.specs.Loose.{MayRemove, MayWrite}
+use Rattle.lethe_state.specs.Remembered.{Remembers}
+use Rattle.lethe_state.specs.Writable.{IsWritable}
+use Rattle.lethe_state.specs.declared.state.State.{State}
+use Rattle.lethe_core.specs.Keeps.{Keeps, MayStep}
+use Rattle.lethe_core.specs.Running.{Holds, IsFlying, IsRunning, IsSound, IsTasked}
+use Rattle.lethe_core.specs.StandsNow.{IsCounted, StandsNow}
+use Rattle.lethe_core.specs.Steps.{IsHindered}
+use Rattle.lethe_core.specs.View.{Flying, View, flying_of, loose_in, view_of}
+use Rattle.lethe_core.specs.declared.flight.Flight.{Flight}
+use Rattle.lethe_core.specs.declared.holding.Core.{Core}
+use Rattle.lethe_core.proofs.Hindered.{hindered_keeps}
+use Rattle.lethe_core.proofs.Standing.{next_stands_now, stands_for, stands_holds}
+
+-- the job that was taken out is the one in flight
+pub flying_is : {D Page Port : Type 0} {kind : Ghosts D Page Port} (core : Core D Page Port kind) (took : Option (Flight D Page Port kind)) (flight : Flight D Page Port kind)
+    → took ≡ core.flight → took ≡ Some flight → (view_of core).flight ≡ Some (flying_of flight)
+flying_is core took flight from is = ap (option_map flying_of) (sym from ∙ is)
+
+pub on_err : {T E : Type 0} (result : Result T E) (why : E) (P : Type 0) → result ≡ Err why → OnErr result P → P
+on_err result why P is on = subst (λ r. OnErr r P) is on
+
+-- where the active segment's object is as it was, the segment ends where it did
+pub ends_stay : (old new : Seen) (s : Stored) (at : ℕ) → IsSettled new s → object new.directory (segment_name s.active.no) ≡ object old.directory (segment_name s.active.no) → Image old old.directory
+    → EndsAt old (segment_name s.active.no) s.active.no s.active.records at → EndsAt new (segment_name s.active.no) s.active.no s.active.records at
+ends_stay old new s at settled same here ends = record {
+  ascends = ends.ascends;
+  spelled = λ c image. ap (λ d. object d (segment_name s.active.no)) (settled.synced c image) ∙ same ∙ ends.spelled old.directory here;
+  place = ends.place;
+}
+
+-- a crash leaves what is stored, which stands for the history
+stored_moments : (h : History) (s : Stored) (old new : Seen) → IsCoherent s → IsFor h s → Goes (λ c. Encodes c s) old new → Goes (λ c. IsKept c h) old new
+stored_moments h s old new coherent stands goes = goes_weaker (λ c. Encodes c s) (λ c. IsKept c h) old new (λ c is. inr (record { s = s; coherent = coherent; encodes = is; stands = stands })) goes
+
+-- a number more is drawn
+abbrev drawn : State → State
+drawn state = record state { next = state.next + 1 }
+
+drawn_writable : (state : State) → state.next + 1 ≤ max_place → IsWritable state → IsWritable (drawn state)
+drawn_writable state fits is = record {
+  manifest = is.manifest;
+  segments = is.segments;
+  pending = is.pending;
+  active = is.active;
+  frozen = is.frozen;
+  count = is.count;
+  records = is.records;
+  drawn = let below = is.drawn in omega (arith, below);
+  last = fits;
+}
+
+drawn_remembered : (s : Stored) (state : State) (levels : List (List Parts)) → Remembers s state levels → Remembers s (drawn state) levels
+drawn_remembered s state levels is = record {
+  coherent = is.coherent;
+  manifest = is.manifest;
+  pending = is.pending;
+  active = is.active;
+  records = is.records;
+  frozen = is.frozen;
+  files = is.files;
+  counted = is.counted;
+}
+
+-- A store that takes changes
+
+module _ (Tells : Type 0) (old : View) (sound : IsSound Tells old) where
+  -- it holds something
+  pub held_now : Tells → old.state.stopped ≡ None → (s : Stored) × Holds old s
+  held_now told runs = let held = sound.held told in (held.0, record { remembers = held.1; running = held.2 runs })
+
+  -- where a crash leaves what is stored, it leaves what is kept
+  pub kept_moments : (disk : Seen) → old.state.stopped ≡ None → ((s : Stored) → Holds old s → Goes (λ c. Encodes c s) old.disk disk)
+      → (config : Fields) (h : History) → StandsNow config h old → Goes (λ c. IsKept c h) old.disk disk
+  kept_moments disk runs goes config h stands =
+      let holds = stands_holds config h old stands runs in
+      stored_moments h stands.stored old.disk disk holds.remembers.coherent (stands_for config h old stands runs) (goes stands.stored holds)
+
+  -- and so where the step was hindered
+  pub refused_keeps : (new : View) (before : ℕ) → MayStep Tells old before → (Tells → (s : Stored) → Holds old s → Goes (λ c. Encodes c s) old.disk new.disk) → (Tells → Image new.disk new.disk.directory)
+      → old.faults ≤ new.faults → (why : Refused) → IsHindered Tells old new before why → Keeps {T = Unit {0}} Tells old new (Err why)
+  refused_keeps new before may goes itself rose why is = hindered_keeps Tells old new before may why is (λ told. kept_moments new.disk may.runs (goes told)) itself
+      (λ told. let held = held_now told may.runs in (goes told held.0 held.1).later) rose
+
+-- The pages of the job in flight
+
+module _ (Tells : Type 0) (old : View) (flying : Flying) (is : old.flight ≡ Some flying) (sound : IsSound Tells old) where
+  pub flies : IsFlying old.state flying
+  flies = subst (λ f. IfSome f (IsFlying old.state)) is sound.flies
+
+  only_written : (s : Stored) → Holds old s → HasOnly s flying.written old.disk.directory
+  only_written s holds = subst (λ f. HasOnly s (loose_in f) old.disk.directory) is holds.running.only
+
+  uncited_written : (s : Stored) → Holds old s → AreUncited s flying.written
+  uncited_written s holds = subst (λ f. AreUncited s (loose_in f)) is holds.running.uncited
+
+  later : (s : Stored) → Holds old s → s.manifest.next ≤ old.state.next
+  later s holds = subst (λ (m : Manifest). m.next ≤ old.state.next) holds.remembers.manifest sound.writable.drawn
+
+  pub may_write : (s : Stored) → Holds old s → MayWrite old.disk s flying.written old.state.next
+  may_write s holds = record { settled = holds.running.settled; only = only_written s holds; drawn = flies.drawn; later = later s holds }
+
+  pub may_remove : (s : Stored) → Holds old s → MayRemove old.disk s flying.written
+  may_remove s holds = record { settled = holds.running.settled; only = only_written s holds; uncited = uncited_written s holds; once = flies.drawn.once }
+
+  -- a page that wasn't written isn't among them
+  pub as_written : (written : List (Name × List ℕ)) → written ≡ flying.written → Some (record flying { written = written }) ≡ old.flight
+  as_written written same = ap (λ l. Some (record flying { written = l })) same ∙ sym is
+
+  module _ (disk : Seen) (faults : ℕ) (written : List (Name × List ℕ)) (bytes : List ℕ) (here : Tells → Image old.disk old.disk.directory) (fits : old.state.next + 1 ≤ max_place)
+      (done : Tells → (s : Stored) → MayWrite old.disk s flying.written old.state.next → IsSettled disk s × HasOnly s written disk.directory)
+      (loose : (s : Stored) → IsCoherent s → s.manifest.next ≤ old.state.next → AreUncited s flying.written → AreUncited s written)
+      (more : AreDrawn old.state.next (names_in flying.written) → AreDrawn (old.state.next + 1) (names_in written))
+      (page : Tells → disk.directory ≡ insert old.disk.directory (page_name old.state.next) bytes) where
+    abbrev now : View
+    now = record old { disk = disk; faults = faults; state = drawn old.state; flight = Some (record flying { written = written }) }
+
+    segment_stays : Tells → (number : ℕ) → object disk.directory (segment_name number) ≡ object old.disk.directory (segment_name number)
+    segment_stays told number = ap (λ d. object d (segment_name number)) (page told) ∙ object_beside_insert old.disk.directory (page_name old.state.next) bytes (segment_name number)
+        (λ e. let clash : kinds.Segment ≡ kinds.Page = ap (λ (n : Name). n.kind) e in cc)
+
+    written_running : Tells → (s : Stored) → Holds old s → IsRunning now s
+    written_running told s holds =
+        let after = done told s (may_write s holds) in
+        record {
+          settled = after.0;
+          only = after.1;
+          uncited = loose s holds.remembers.coherent (later s holds) (uncited_written s holds);
+          rising = holds.running.rising;
+          ends = ends_stay old.disk disk s old.state.end after.0 (segment_stays told s.active.no) (here told) holds.running.ends;
+          current = record { runs = holds.running.current.runs; count = holds.running.current.count };
+          tasked = subst (λ f. IfSome f (IsTasked s)) is holds.running.tasked;
+        }
+
+    pub written_holds : Tells → (s : Stored) → Holds old s → Holds now s
+    written_holds told s holds = record { remembers = drawn_remembered s old.state old.levels holds.remembers; running = written_running told s holds }
+
+    written_sound : IsSound Tells now
+    written_sound = record {
+      writable = drawn_writable old.state fits sound.writable;
+      small = record { active = sound.small.active; records = sound.small.records; frozen = sound.small.frozen };
+      count = sound.count;
+      flies = record { level = flies.level; upto = flies.upto; erases = flies.erases; drawn = more flies.drawn };
+      held = λ told.
+          let held = sound.held told in
+          (held.0, drawn_remembered held.0 old.state old.levels held.1, λ runs. written_running told held.0 (record { remembers = held.1; running = held.2 runs }));
+    }
+
+    pub written_keeps : old.state.stopped ≡ None → (Tells → (s : Stored) → MayWrite old.disk s flying.written old.state.next → Goes (λ c. Encodes c s) old.disk disk)
+        → (Tells → disk.moment ≡ old.disk.moment + 2) → old.faults ≤ faults → Keeps Tells old now (Ok (tt {0}))
+    written_keeps runs goes calls rose = record {
+      sound = written_sound;
+      stands = λ told config h stands caller call.
+          let holds = stands_holds config h old stands runs in
+          next_stands_now config h old now stands runs stands.stored refl refl (stands_for config h old stands runs) (written_holds told stands.stored holds)
+          (subst (λ f. IfSome f (λ (flying : Flying). IsCounted flying.task)) is stands.counted);
+      any_moment = λ told. kept_moments Tells old sound disk runs (λ s holds. goes told s (may_write s holds));
+      numbers = λ told. let two = calls told in omega (arith, two);
+      faults = rose;
+    }

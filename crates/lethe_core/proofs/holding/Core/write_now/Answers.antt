@@ -1,0 +1,72 @@
+use Rattle.std.proofs.Common.{◌≡◌, ◌≤◌, ◌+◌, Err, refl, ap, ◌∙◌, arith}
+use Rattle.lethe_base.specs.Counts.{Rose}
+use Rattle.lethe_base.specs.Limits.{max_place}
+use Rattle.lethe_base.specs.declared.refused.Refused.TheVariants as refused
+use Rattle.lethe_disk.specs.declared.disk.DiskRefused.TheVariants.{Failed, NoMemory}
+use Rattle.lethe_commit.proofs.Placing.{refused_at_once}
+use Rattle.lethe_core.specs.View.{flying_of, view_of}
+use Rattle.lethe_core.proofs.Hindered.{keeps_itself}
+use Rattle.lethe_core.proofs.Pages.{as_written, flying_is, may_write, on_err, refused_keeps, written_holds, written_keeps}
+use Rattle.lethe_core.proofs.holding.Core.write_now.Goals as goal
+
+pub returns-then-number-ge-MAX_PLACE-clause-keeps : goal.returns-then-number-ge-MAX_PLACE-clause-keeps
+returns-then-number-ge-MAX_PLACE-clause-keeps g c = keeps_itself {T = Unit {0}} g.D.Disk.tells (view_of c.args.self.now) c.requires.may.sound c.requires.may.runs (Err (refused.Exhausted max_place)) (λ h caller call. refl)
+
+pub returns-in-Ok-clause-keeps : goal.returns-in-Ok-clause-keeps
+returns-in-Ok-clause-keeps g c =
+    let self = c.args.self.now in
+    let laws = g.met.D.Disk g.world.𝓛 g.world.𝓜 g.world.𝓡 ((λ s x. x), (λ x. x), (λ x. x), λ x. x) in
+    let disk = c.write_page-placed.new.disk in
+    let is = flying_is self c.take.result c.in-Some.flight c.take.ensures.value c.in-Some.is in
+    let low = c.if-number-ge-MAX_PLACE.false in
+    let fits : self.state.next + 1 ≤ max_place = omega (arith, low) in
+    written_keeps g.D.Disk.tells (view_of self) (flying_of c.in-Some.flight) is c.requires.may.sound (g.D.Disk.seen disk) (g.D.Disk.faults disk) c.write_page-placed.new.written c.args.bytes.now
+    (λ told. laws.itself told self.disk) fits c.in-Ok.ensures.done c.in-Ok.ensures.loose c.in-Ok.ensures.drawn c.in-Ok.ensures.others
+    c.requires.may.runs c.in-Ok.ensures.any_moment c.in-Ok.ensures.calls c.in-Ok.ensures.cause.later
+
+pub returns-in-Ok-clause-held : goal.returns-in-Ok-clause-held
+returns-in-Ok-clause-held g c =
+    let self = c.args.self.now in
+    let laws = g.met.D.Disk g.world.𝓛 g.world.𝓜 g.world.𝓡 ((λ s x. x), (λ x. x), (λ x. x), λ x. x) in
+    let disk = c.write_page-placed.new.disk in
+    let is = flying_is self c.take.result c.in-Some.flight c.take.ensures.value c.in-Some.is in
+    let low = c.if-number-ge-MAX_PLACE.false in
+    let fits : self.state.next + 1 ≤ max_place = omega (arith, low) in
+    written_holds g.D.Disk.tells (view_of self) (flying_of c.in-Some.flight) is c.requires.may.sound (g.D.Disk.seen disk) (g.D.Disk.faults disk) c.write_page-placed.new.written c.args.bytes.now
+    (λ told. laws.itself told self.disk) fits c.in-Ok.ensures.done c.in-Ok.ensures.loose c.in-Ok.ensures.drawn c.in-Ok.ensures.others
+
+pub returns-in-Err-Failed-clause-keeps : goal.returns-in-Err-Failed-clause-keeps
+returns-in-Err-Failed-clause-keeps g c =
+    let self = c.args.self.now in
+    let laws = g.met.D.Disk g.world.𝓛 g.world.𝓜 g.world.𝓡 ((λ s x. x), (λ x. x), (λ x. x), λ x. x) in
+    let may = c.requires.may in
+    let flying = flying_of c.in-Some.flight in
+    let written = c.write_page-placed.new.written in
+    let is = flying_is self c.take.result c.in-Some.flight c.take.ensures.value c.in-Some.is in
+    let why : c.in-Err-Failed.field-0 ≡ Failed = rw c.in-Err-Failed.is at c.in-Err-Failed.field-0-is in
+    let failed : c.write_page-placed.result ≡ Err Failed = c.in-Err-Failed.is ∙ ap (λ e. Err e) why in
+    let kept = on_err c.write_page-placed.result Failed (written ≡ c.in-Some.flight.written) failed c.write_page-placed.ensures.kept in
+    let rose = c.write_page-placed.ensures.cause.failed failed in
+    let from = may.told_from in
+    let told : Rose c.args.before (g.D.Disk.faults c.write_page-placed.new.disk) = omega (arith, rose, from) in
+    refused_keeps g.D.Disk.tells (view_of self) may.sound _ c.args.before may
+    (λ told s holds. c.write_page-placed.ensures.any_moment told s (may_write g.D.Disk.tells (view_of self) flying is may.sound s holds))
+    (λ told. laws.itself told c.write_page-placed.new.disk) c.write_page-placed.ensures.cause.later (refused.Fault c.stop-place.result c.args.before c.faults.result)
+    (c.stop-place.ensures.place, refl, c.faults.ensures, told, c.stop-place.ensures.is, record { levels = refl; flight = as_written g.D.Disk.tells (view_of self) flying is may.sound written kept })
+
+pub returns-in-Err-NoMemory-clause-keeps : goal.returns-in-Err-NoMemory-clause-keeps
+returns-in-Err-NoMemory-clause-keeps g c =
+    let self = c.args.self.now in
+    let laws = g.met.D.Disk g.world.𝓛 g.world.𝓜 g.world.𝓡 ((λ s x. x), (λ x. x), (λ x. x), λ x. x) in
+    let may = c.requires.may in
+    let flying = flying_of c.in-Some.flight in
+    let written = c.write_page-placed.new.written in
+    let is = flying_is self c.take.result c.in-Some.flight c.take.ensures.value c.in-Some.is in
+    let why : c.in-Err-NoMemory.field-0 ≡ NoMemory = rw c.in-Err-NoMemory.is at c.in-Err-NoMemory.field-0-is in
+    let failed : c.write_page-placed.result ≡ Err NoMemory = c.in-Err-NoMemory.is ∙ ap (λ e. Err e) why in
+    let kept = on_err c.write_page-placed.result NoMemory (written ≡ c.in-Some.flight.written) failed c.write_page-placed.ensures.kept in
+    refused_keeps g.D.Disk.tells (view_of self) may.sound _ c.args.before may
+    (λ told s holds. c.write_page-placed.ensures.any_moment told s (may_write g.D.Disk.tells (view_of self) flying is may.sound s holds))
+    (λ told. laws.itself told c.write_page-placed.new.disk) c.write_page-placed.ensures.cause.later refused.NoMemory
+    (refl, record { levels = refl; flight = as_written g.D.Disk.tells (view_of self) flying is may.sound written kept },
+        λ told. refused_at_once (g.D.Disk.seen self.disk) (g.D.Disk.seen c.write_page-placed.new.disk) (c.write_page-placed.ensures.no_memory told failed))
