@@ -5,3 +5,5 @@ pub mod Counting
 pub mod Opened
 pub mod Prefixes
 pub mod Onward
+pub mod Steps
+pub mod AtWork

@@ -1,0 +1,139 @@
+-- A job at work, where one page more is written, where it is installed and where it is given up.
+use Rattle.std.proofs.Common.{◌≡◌, ◌<◌, ℕ, ◌+◌, ◌^◌, List, [], ◌∷◌, ◌++◌, length, get_or, take, Option, Some, None, Vec, Result, Ok, Err, refl, sym, ap, ◌∙◌, subst, length-append, drop-cons, arith}
+use Rattle.std.specs.Prelude.{IfSome, IsSome, OnOk}
+use Rattle.std.specs.List.{zip}
+use Rattle.std.specs.declared.alloc.Global.{Global}
+use Rattle.std.proofs.lemmas.List.{length-map, map-append}
+use Rattle.std.proofs.lemmas.Option.{IfSome_then}
+use Rattle.lethe_base.specs.History.{History}
+use Rattle.lethe_base.specs.declared.config.Fields.{Fields}
+use Rattle.lethe_base.specs.declared.name.Name.{Name}
+use Rattle.lethe_base.specs.declared.refused.Refused.{Refused}
+use Rattle.lethe_build.specs.declared.draft.Draft.{Draft}
+use Rattle.lethe_disk.specs.declared.disk.Disk.{Ghosts}
+use Rattle.lethe_stored.specs.Stored.{Stored}
+use Rattle.lethe_advance.specs.Settled.{names_in}
+use Rattle.lethe_flush.specs.Made.{pages_in, written_pages}
+use Rattle.lethe_flush.proofs.Adding.{pages_few}
+use Rattle.lethe_flush.proofs.Zips.{zip_cut, zip_joined}
+use Rattle.lethe_job.specs.Jobs.{AreOutputs}
+use Rattle.lethe_job.specs.Tasks.{PlainTask, plain_task}
+use Rattle.lethe_job.specs.declared.job.Job.{Job}
+use Rattle.lethe_job.specs.declared.job.Piece.{Piece}
+use Rattle.lethe_core.specs.Jobs.{IsAtWork, with_page}
+use Rattle.lethe_core.specs.Merges.{IsInstalled}
+use Rattle.lethe_core.specs.Running.{Holds}
+use Rattle.lethe_core.specs.StandsNow.{IsOpenOrStopped, StandsNow}
+use Rattle.lethe_core.specs.View.{Flying, View}
+use Rattle.lethe_engine.specs.Jobs.{IsNextPage}
+use Rattle.lethe_engine.specs.StandsFor.{Opened, StandsFor}
+
+-- the value, where there is one
+some_there : {X : Type 0} (P : X → Type 0) (o : Option X) → IsSome o → IfSome o P → (x : X) × (o ≡ Some x) × P x
+some_there P None some is = absurd cc
+some_there P (Some x) some is = (x, refl, is)
+
+-- what is said of it
+some_at : {X : Type 0} (P : X → Type 0) (o : Option X) (x : X) → o ≡ Some x → IfSome o P → P x
+some_at P o x is = subst (λ o. IfSome o P) is
+
+-- the first pages with one more are the first pages
+
+names_more : (written : List (Name × List ℕ)) (name : Name) (bytes : List ℕ) → names_in (written ++ (name, bytes) ∷ []) ≡ names_in written ++ name ∷ []
+names_more written name bytes = map-append (λ (named : Name × List ℕ). named.0) written ((name, bytes) ∷ [])
+
+first_more : (pages : List (List ℕ)) (names : List Name) (name : Name) → length names < length pages
+    → zip (names ++ name ∷ []) (take (length (names ++ name ∷ [])) pages) ≡ zip names (take (length names) pages) ++ (name, get_or pages (length names) []) ∷ []
+first_more pages names name left =
+    zip_cut (names ++ name ∷ []) pages ∙ zip_joined names (name ∷ []) pages
+    ∙ (λ i. sym (zip_cut names pages) i ++ zip (name ∷ []) (drop-cons pages (length names) [] left i))
+
+pub written_more : (drafts : List Draft) (written : List (Name × List ℕ)) (name : Name) (at : ℕ) → length written ≡ at → at < length (pages_in drafts) → written ≡ written_pages (names_in written) drafts
+    → written ++ (name, get_or (pages_in drafts) at []) ∷ [] ≡ written_pages (names_in (written ++ (name, get_or (pages_in drafts) at []) ∷ [])) drafts
+written_more drafts written name at count left is =
+    let page : Name × List ℕ = (name, get_or (pages_in drafts) at []) in
+    let many : length (names_in written) ≡ at = length-map written (λ (named : Name × List ℕ). named.0) ∙ count in
+    ap (λ (w : List (Name × List ℕ)). w ++ page ∷ []) is
+    ∙ ap (λ (n : ℕ). written_pages (names_in written) drafts ++ (name, get_or (pages_in drafts) n []) ∷ []) (sym many)
+    ∙ sym (first_more (pages_in drafts) (names_in written) name (omega (arith, many, left)))
+    ∙ ap (λ (names : List Name). written_pages names drafts) (sym (names_more written name (get_or (pages_in drafts) at [])))
+
+module _ {D Page Port : Type 0} {kind : Ghosts D Page Port} (Tells : Type 0) (old : View) (job : Job D Page Port kind) (works : IsAtWork Tells old job) where
+  module _ (piece : Piece) (next : IsNextPage job piece) where
+    -- the drafts' pages are few
+    pub page_fits : job.written + 1 < 2 ^ 64
+    page_fits =
+        let there = some_there (λ (drafts : Vec Draft Global). job.written < length (pages_in drafts.items)) job.drafts next.made next.left in
+        let made : AreOutputs Tells (plain_task job.task.value) (there.0).items = some_at (λ (drafts : Vec Draft Global). AreOutputs Tells (plain_task job.task.value) drafts.items) job.drafts there.0 there.1 works.job_is.made in
+        let few = made.few in
+        let upto = pages_few (there.0).items in
+        let left = there.2 in
+        omega (arith, few, upto, left)
+
+    pub one_more : (new : View) (name : Name) (result : Result (Unit {0}) Refused)
+        → IfSome old.flight (λ flying. IfSome job.drafts (λ drafts. OnOk result (new.flight ≡ Some (with_page flying (name, get_or (pages_in drafts.items) job.written [])))))
+        → OnOk result (IsAtWork Tells new (record job { written = job.written + 1 }))
+    one_more new name (Err why) is = tt
+    one_more new name (Ok done) is =
+        let there = some_there (λ (drafts : Vec Draft Global). job.written < length (pages_in drafts.items)) job.drafts next.made next.left in
+        let drafts : Vec Draft Global = there.0 in
+        let flying : Flying = works.flies.flying in
+        let page : Name × List ℕ = (name, get_or (pages_in drafts.items) job.written []) in
+        let flight : IfSome job.drafts (λ drafts. new.flight ≡ Some (with_page flying (name, get_or (pages_in drafts.items) job.written []))) =
+        some_at (λ (flying : Flying). IfSome job.drafts (λ drafts. new.flight ≡ Some (with_page flying (name, get_or (pages_in drafts.items) job.written [])))) old.flight flying works.flies.is is in
+        let was : flying.written ≡ written_pages (names_in flying.written) drafts.items = some_at (λ (drafts : Vec Draft Global). flying.written ≡ written_pages (names_in flying.written) drafts.items) job.drafts drafts there.1 works.pages in
+        let count = works.count in
+        record {
+          flies = record {
+            flying = with_page flying page;
+            is = some_at (λ (drafts : Vec Draft Global). new.flight ≡ Some (with_page flying (name, get_or (pages_in drafts.items) job.written []))) job.drafts drafts there.1 flight;
+            task = works.flies.task;
+          };
+          asked = works.asked;
+          job_is = record {
+            made = works.job_is.made;
+            few = IfSome_then job.drafts next.left (λ drafts left. omega (arith, left));
+            unmade = λ none. absurd (let clash : Some drafts ≡ None = sym there.1 ∙ none in cc);
+          };
+          count = omega (arith, count, length-append flying.written (page ∷ []));
+          pages = subst (λ o. IfSome o (λ (drafts : Vec Draft Global). flying.written ++ page ∷ [] ≡ written_pages (names_in (flying.written ++ page ∷ [])) drafts.items)) (sym there.1)
+              (written_more drafts.items flying.written name job.written count there.2 was);
+        }
+
+  -- what was installed is the outcome of its task
+  pub outcome_of : (s : Stored) (new : View) → IfSome old.flight (λ flying. (t : Stored) × IsInstalled s flying.task t × Holds new t) → (t : Stored) × IsInstalled s (plain_task job.task.value) t × Holds new t
+  outcome_of s new is =
+      subst (λ (task : PlainTask). (t : Stored) × IsInstalled s task t × Holds new t) (sym works.flies.task)
+      (some_at (λ (flying : Flying). (t : Stored) × IsInstalled s flying.task t × Holds new t) old.flight works.flies.flying works.flies.is is)
+
+-- A store that was stopped forgets its job
+
+module _ (config : Fields) (view : View) (place : ℕ) (stopped : view.state.stopped ≡ Some place) where
+  abbrev free : View
+  free = record view { flight = None }
+
+  left_stopped : (h : History) (s : Stored) → IsOpenOrStopped view h s view.state.stopped → IsOpenOrStopped free h s view.state.stopped
+  left_stopped h s held = subst (IsOpenOrStopped free h s) (sym stopped) (subst (IsOpenOrStopped view h s) stopped held)
+
+  forgets_now : (h : History) → StandsNow config h view → StandsNow config h free
+  forgets_now h stands = record {
+    legal = stands.legal;
+    count = stands.count;
+    stored = stands.stored;
+    remembers = stands.remembers;
+    config_is = stands.config_is;
+    stands = stands.stands;
+    held = left_stopped h stands.stored stands.held;
+    counted = tt;
+  }
+
+  pub forgets_for : (opened : Opened) (h : History) → StandsFor config opened h view → StandsFor config opened h free
+  forgets_for opened h stands = record {
+    now = forgets_now h stands.now;
+    begins = stands.begins;
+    later = stands.later;
+    images = stands.images;
+    numbers = stands.numbers;
+    since = stands.since;
+    counts = stands.counts;
+  }
