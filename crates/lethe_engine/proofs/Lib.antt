@@ -6,3 +6,4 @@ pub mod Opened
 pub mod Reasons
 pub mod Prefixes
 pub mod Onward
+pub mod Answered

@@ -1,11 +1,17 @@
--- The counts of faults with which a failure is told.
-use Rattle.std.proofs.Common.{◌≡◌, ◌⊎◌, inl, inr, ℕ, Result, Ok, Err}
+-- What the reasons of refusals say: the counts of faults with which a failure is told, and that what wasn't begun is in no history.
+use Rattle.std.proofs.Common.{◌≡◌, inl, inr, ℕ, Result, Ok, Err, refl}
 use Rattle.std.specs.Prelude.{IfErr}
 use Rattle.lethe_base.specs.Counts.{Rose}
+use Rattle.lethe_base.specs.History.{History}
+use Rattle.lethe_base.specs.declared.call.Call.{Call}
 use Rattle.lethe_base.specs.declared.refused.Refused.{Refused}
 use Rattle.lethe_base.specs.declared.refused.Refused.TheVariants.{Fault, Stopped, Backwards, Pinned, NothingDue, Cancelled, Exhausted, ReadFault, NoMemory, Damaged}
+use Rattle.lethe_state.specs.Records.{MayRefuse}
 use Rattle.lethe_state.specs.declared.state.State.{State}
-use Rattle.lethe_core.specs.Reasons.{HasReason, IsUnreadable}
+use Rattle.lethe_core.specs.Changes.{refused_to}
+use Rattle.lethe_core.specs.Reasons.{HasReason, IsShortOfRoom, IsUnreadable}
+use Rattle.lethe_core.specs.View.{View}
+use Rattle.lethe_engine.specs.Refusals.{HasReasonOfChange}
 
 -- the failure of a disk is told with these counts, which rose
 abbrev pub IsTold : ℕ → ℕ → Refused → Type 0
@@ -48,3 +54,20 @@ unreadable_told Tells PortsFail first last before now (Exhausted place) is = tt
 unreadable_told Tells PortsFail first last before now (ReadFault b a) is = tt
 unreadable_told Tells PortsFail first last before now NoMemory is = tt
 unreadable_told Tells PortsFail first last before now (Damaged name) is = tt
+
+pub changes_told : (Tells PortsFail : Type 0) (old new : View) (first last : ℕ) (why : Refused) → HasReasonOfChange Tells PortsFail old new first last why → IsTold old.faults new.faults why
+changes_told Tells PortsFail old new first last why (inl is) = reason_told (IsShortOfRoom Tells old.state new) old.state old.faults new.faults why is
+changes_told Tells PortsFail old new first last why (inr is) = unreadable_told Tells PortsFail first last old.faults new.faults why is.1
+
+-- a call that wasn't begun is in no history
+pub unbegun : (state : State) (h : History) (caller : ℕ) (call : Call) (why : Refused) → MayRefuse state why → refused_to h caller call why ≡ h
+unbegun state h caller call (Fault place before now) may = absurd may
+unbegun state h caller call (Stopped at) may = refl
+unbegun state h caller call (Backwards clock) may = refl
+unbegun state h caller call (Pinned pin limit) may = refl
+unbegun state h caller call NothingDue may = refl
+unbegun state h caller call (Cancelled begun now) may = refl
+unbegun state h caller call (Exhausted last) may = refl
+unbegun state h caller call (ReadFault before now) may = refl
+unbegun state h caller call NoMemory may = refl
+unbegun state h caller call (Damaged name) may = refl
