@@ -68,7 +68,7 @@ returns-clause-written g c = λ told s holds.
     let t = room.0 in
     let mid : View = view_of c.make_room.new.self in
     let new : View = view_of c.record.new.self in
-    let is = c.put_record-next.ensures.is ∙ put_same t mid.state mid.levels room.3.remembers room.3.running.current c.args.key c.args.dkey c.args.value in
+    let is = put_same mid t room.3 c.args.key c.args.dkey c.args.value c.put_record-next.result c.put_record-next.ensures.is in
     on_ok c.record.result _ _ (c.record.ensures.written told t room.3) (λ done. (t, room.1, room.2, subst (λ next. Holds new (appended t next)) is done.0, room.4))
 
 pub returns-clause-room : goal.returns-clause-room
@@ -77,7 +77,7 @@ returns-clause-room g c = λ told s holds has.
     let room = c.in_ok-make_room.ensures.room (sees_room s old.state old.levels holds.remembers has) in
     let same = room.0 in
     let still = subst (λ core. Holds (view_of core) s) (sym same) holds in
-    let is = c.put_record-next.ensures.is ∙ put_same s c.make_room.new.self.state (view_of c.make_room.new.self).levels still.remembers still.running.current c.args.key c.args.dkey c.args.value in
+    let is = put_same (view_of c.make_room.new.self) s still c.args.key c.args.dkey c.args.value c.put_record-next.result c.put_record-next.ensures.is in
     on_ok_both c.record.result _ _ _ (c.record.ensures.written told s still) (c.record.ensures.calls told) (λ done calls. (
       done.1 ∙ ap (λ core. with_record (g.D.Disk.seen core.disk).directory s c.put_record-next.result) same ∙ ap (with_record old.disk.directory s) is,
       calls ∙ ap (λ core. (g.D.Disk.seen core.disk).moment + 4) same,
