@@ -15,7 +15,6 @@ use Rattle.lethe_base.specs.declared.name.Name.{Name}
 use Rattle.lethe_base.specs.declared.pending.Pending.{Pending}
 use Rattle.lethe_base.specs.declared.refused.Refused.{Refused}
 use Rattle.lethe_base.specs.declared.refused.Refused.TheVariants.{ReadFault, Damaged, NoMemory}
-use Rattle.lethe_disk.specs.Disk.{Seen}
 use Rattle.lethe_disk.specs.declared.cursor.ReadRefused.{ReadRefused}
 use Rattle.lethe_disk.specs.declared.cursor.ReadRefused.TheVariants as disk
 use Rattle.lethe_disk.specs.declared.disk.Disk.{Ghosts}
@@ -44,7 +43,9 @@ use Rattle.lethe_state.proofs.Leveled.{parts_from}
 use Rattle.lethe_state.specs.Remembered.{IsFrozenIn, Remembers}
 use Rattle.lethe_state.specs.declared.state.State.{State}
 use Rattle.lethe_engine.specs.Reads.{IsReadRefusal, listed, told_as}
-use Rattle.lethe_engine.specs.StandsFor.{StandsNow}
+use Rattle.lethe_core.specs.StandsNow.{StandsNow}
+use Rattle.lethe_core.specs.View.{view_of}
+use Rattle.lethe_core.specs.declared.holding.Core.{Core}
 use Rattle.lethe_core.proofs.Histories.{after_without}
 
 -- The files as readers have them
@@ -120,20 +121,23 @@ abbrev pub IsScanned : State → Option Buffered → List Pending → List (List
 IsScanned state older erases files lo hi pairs = (entries : List Entry) × AreReadBetween lo hi state.active.entries (frozen_entries (λ (buffer : Buffered). buffer.entries) older) files entries
     × (by_keys pairs ≡ pairs_of (merged entries erases true))
 
-module _ {D Page Port : Type 0} {kind : Ghosts D Page Port} (version : Version D Page Port kind) (config : Fields) (h : History) (seen : Seen) (state : State) (stands : StandsNow config h seen state (parts_by_level version)) where
-  pub stored_sound : All IsSound (files_of version)
-  stored_sound = files_sound version stands.stored state stands.remembers
+module _ {D Page Port : Type 0} {kind : Ghosts D Page Port} (core : Core D Page Port kind) (config : Fields) (h : History) (stands : StandsNow config h (view_of core)) where
+  abbrev files : List (List (List Entry))
+  files = map entries_of (files_of core.version)
 
-  module _ (older : Option Buffered) (erases : List Pending) (older_is : older ≡ state.frozen) (erases_are : erases ≡ state.pending) where
-    pub found : (key : Bytes) (held : Option Pair) → IsGot state older erases (map entries_of (files_of version)) key held → answer (after h) (Get key) ≡ Found held
+  pub stored_sound : All IsSound (files_of core.version)
+  stored_sound = files_sound core.version stands.stored core.state stands.remembers
+
+  module _ (older : Option Buffered) (erases : List Pending) (older_is : older ≡ core.state.frozen) (erases_are : erases ≡ core.state.pending) where
+    pub found : (key : Bytes) (held : Option Pair) → IsGot core.state older erases files key held → answer (after h) (Get key) ≡ Found held
     found key held given =
-        let is = subst (λ o. IsGot state o state.pending (map entries_of (files_of version)) key held) older_is (subst (λ l. IsGot state older l (map entries_of (files_of version)) key held) erases_are given) in
-        ap (λ st. answer st (Get key)) (sym (after_without h)) ∙ sym (got version stands.stored state stands.remembers (without_failed h) stands.stands key held is.0 is.1 is.2)
+        let is = subst (λ o. IsGot core.state o core.state.pending files key held) older_is (subst (λ l. IsGot core.state older l files key held) erases_are given) in
+        ap (λ st. answer st (Get key)) (sym (after_without h)) ∙ sym (got core.version stands.stored core.state stands.remembers (without_failed h) stands.stands key held is.0 is.1 is.2)
 
-    pub listed_between : (lo hi : Bytes) (pairs : List (Bytes × ℕ × Bytes)) → IsScanned state older erases (map entries_of (files_of version)) lo hi pairs → answer (after h) (Scan lo hi) ≡ listed pairs
+    pub listed_between : (lo hi : Bytes) (pairs : List (Bytes × ℕ × Bytes)) → IsScanned core.state older erases files lo hi pairs → answer (after h) (Scan lo hi) ≡ listed pairs
     listed_between lo hi pairs given =
-        let is = subst (λ o. IsScanned state o state.pending (map entries_of (files_of version)) lo hi pairs) older_is (subst (λ l. IsScanned state older l (map entries_of (files_of version)) lo hi pairs) erases_are given) in
-        ap (λ st. answer st (Scan lo hi)) (sym (after_without h)) ∙ sym (scanned version stands.stored state stands.remembers (without_failed h) stands.stands lo hi pairs is.0 is.1 is.2)
+        let is = subst (λ o. IsScanned core.state o core.state.pending files lo hi pairs) older_is (subst (λ l. IsScanned core.state older l files lo hi pairs) erases_are given) in
+        ap (λ st. answer st (Scan lo hi)) (sym (after_without h)) ∙ sym (scanned core.version stands.stored core.state stands.remembers (without_failed h) stands.stands lo hi pairs is.0 is.1 is.2)
 
 -- Refusals
 

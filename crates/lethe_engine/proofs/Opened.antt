@@ -1,7 +1,9 @@
 -- A store that was opened.
-use Rattle.std.proofs.Common.{◌≡◌, ◌≤◌, ◌+◌, ◌⊎◌, inl, inr, ℕ, List, [], length, Option, refl, sym, ap, ◌∙◌, subst, arith}
+use Rattle.std.proofs.Common.{◌≡◌, ◌≤◌, ◌+◌, ◌⊎◌, inl, inr, ℕ, List, [], length, Option, None, refl, sym, ap, ◌∙◌, subst, arith}
+use Rattle.std.proofs.lemmas.List.Elements.{All-nil}
 use Rattle.lethe_base.specs.History.{History, Change}
 use Rattle.lethe_base.specs.declared.config.Fields.{Fields}
+use Rattle.lethe_base.specs.declared.name.Name.{Name}
 use Rattle.lethe_disk.specs.Disk.{Seen}
 use Rattle.lethe_disk.specs.Quiet.{IsQuiet}
 use Rattle.lethe_commit.specs.Append.{EndsAt}
@@ -14,7 +16,8 @@ use Rattle.lethe_recover.specs.declared.opening.OpenWhy.TheVariants.{Damaged, Ot
 use Rattle.lethe_stored.specs.Files.{Parts}
 use Rattle.lethe_stored.specs.Kept.{IsFor}
 use Rattle.lethe_stored.specs.Left.{IsHistoryOr}
-use Rattle.lethe_stored.specs.Stored.{Stored, segment_name}
+use Rattle.lethe_stored.specs.Levels.{AreRising}
+use Rattle.lethe_stored.specs.Stored.{Stored, IsCited, segment_name}
 use Rattle.lethe_advance.specs.Settled.{IsSettled, HasOnly}
 use Rattle.lethe_manifest.specs.declared.manifest.Manifest.{Manifest}
 use Rattle.lethe_state.specs.Remembered.{IsCurrent, IsFresh, Remembers}
@@ -22,27 +25,37 @@ use Rattle.lethe_state.specs.Room.{frozen_len}
 use Rattle.lethe_state.specs.declared.state.State.{State}
 use Rattle.lethe_engine.specs.Opening.{IsResumed, IsUntold}
 use Rattle.lethe_core.specs.Running.{IsRunning, IsSmall}
+use Rattle.lethe_core.specs.View.{View}
 use Rattle.lethe_engine.proofs.Onward.{opened_for}
 use Rattle.lethe_core.proofs.Standing.{open_stands}
 
-pub opened_running : (disk : Seen) (s : Stored) (state : State) → IsSettled disk s → HasOnly s [] disk.directory → s.active.records ≡ [] → EndsAt disk (segment_name s.active.no) s.active.no [] 11 → state.end ≡ 11 → IsCurrent s state
-    → IsRunning disk s state
-opened_running disk s state settled only none ends end_is current = record {
+-- no job is in flight
+abbrev pub fresh_view : Seen → ℕ → State → List (List Parts) → View
+fresh_view disk faults state levels = record { disk = disk; faults = faults; state = state; levels = levels; flight = None }
+
+pub opened_running : (disk : Seen) (faults : ℕ) (s : Stored) (state : State) (levels : List (List Parts)) → IsSettled disk s → HasOnly s [] disk.directory → AreRising s.files → s.active.records ≡ []
+    → EndsAt disk (segment_name s.active.no) s.active.no [] 11 → state.end ≡ 11 → IsCurrent s state → IsRunning (fresh_view disk faults state levels) s
+opened_running disk faults s state levels settled only rising none ends end_is current = record {
   settled = settled;
   only = only;
+  uncited = All-nil (λ (named : Name × List ℕ). IsCited s named.0 → ⊥);
+  rising = rising;
   ends = subst (EndsAt disk (segment_name s.active.no) s.active.no s.active.records) (sym end_is) (subst (λ records. EndsAt disk (segment_name s.active.no) s.active.no records 11) (sym none) ends);
   current = current;
+  tasked = tt;
 }
 
-pub resumed : (config : Fields) (h g : History) (change : Option Change) (start finish : Seen) (faults : ℕ) (s : Stored) (state : State) (levels : List (List Parts)) → IsHistoryOr h change g → IsRunning finish s state → Remembers s state levels
-    → s.manifest.config ≡ config → IsFor g s → ((next : ℕ) → IsNextNumber start.directory next → state.next + start.moment ≤ next + finish.moment) → IsResumed config h change start finish faults state levels
-resumed config h g change start finish faults s state levels either running remembers config_is stands numbers = record {
-  history = g;
-  either = either;
-  stands = λ next is. opened_for config g start finish next faults state levels
-      (open_stands config g finish s state levels stands.legal stands.done (running.current.count ∙ stands.count) remembers config_is stands running) running.current.runs (numbers next is);
-  runs = running.current.runs;
-}
+pub resumed : (config : Fields) (h g : History) (change : Option Change) (start finish : Seen) (faults : ℕ) (s : Stored) (state : State) (levels : List (List Parts)) → IsHistoryOr h change g
+    → IsRunning (fresh_view finish faults state levels) s → Remembers s state levels → s.manifest.config ≡ config → IsFor g s
+    → ((next : ℕ) → IsNextNumber start.directory next → state.next + start.moment ≤ next + finish.moment) → IsResumed config h change start (fresh_view finish faults state levels)
+resumed config h g change start finish faults s state levels either running remembers config_is stands numbers =
+    let view : View = fresh_view finish faults state levels in
+    record {
+      history = g;
+      either = either;
+      stands = λ next is. opened_for config g start next view
+          (open_stands config g view s stands.legal stands.done (running.current.count ∙ stands.count) config_is stands (record { remembers = remembers; running = running }) tt) running.current.runs (numbers next is);
+    }
 
 -- damage, another configuration and numbers that ran out leave the disk as it was
 pub untouched_by : (Tells : Type 0) (config : Fields) (old new : Seen) (before now : ℕ) (why : OpenWhy) → Tells → MayNotOpen Tells config old.directory before now why

@@ -1,4 +1,4 @@
-use Rattle.std.proofs.Common.{◌≡◌, ◌+◌, ap, Err, sym, ◌∙◌, arith}
+use Rattle.std.proofs.Common.{◌≡◌, ◌+◌, ap, Err, refl, sym, ◌∙◌, arith}
 use Rattle.std.proofs.lemmas.List.{length-map}
 use Rattle.lethe_manifest.specs.declared.manifest.Manifest.{Manifest}
 use Rattle.lethe_version.specs.Versions.{levels_of}
@@ -11,18 +11,20 @@ returns-in-Ok-opened-clause-sound g c =
     let fresh = c.in-Ok-opened.ensures.fresh in
     let told = c.in-Ok.ensures.spelled in
     let version = c.in-Ok.field-0.version in
+    let disk = c.open.new.disk in
     record {
       writable = c.in-Ok-opened.ensures.writable;
       small = small_fresh c.in-Ok.field-0.manifest c.in-Ok-opened.state fresh;
       count = length-map (levels_of version) _ ∙ told.levels ∙ ap (λ fields. fields.levels + 1) (sym told.config_is ∙ ap (λ (m : Manifest). m.config) (sym fresh.manifest_is));
+      flies = tt;
       held = λ tells.
           let is = c.in-Ok.ensures.opened tells in
           let remembers = c.in-Ok-opened.ensures.remembers is.s (parts_by_level version) is.settled.coherent is.told.files (sym is.told.manifest) is.told.frozen is.told.active is.told.erases in
-          (is.s, remembers.0, λ runs. opened_running (g.D.Disk.seen c.open.new.disk) is.s c.in-Ok-opened.state is.settled is.only is.told.active is.ends c.in-Ok-opened.ensures.end remembers.1);
+          (is.s, remembers.0, λ runs. opened_running (g.D.Disk.seen disk) (g.D.Disk.faults disk) is.s c.in-Ok-opened.state (parts_by_level version) is.settled is.only is.rising is.told.active is.ends c.in-Ok-opened.ensures.end remembers.1);
     }
 
 pub returns-in-Ok-opened-clause-runs : goal.returns-in-Ok-opened-clause-runs
-returns-in-Ok-opened-clause-runs g c = c.in-Ok-opened.ensures.fresh.stopped
+returns-in-Ok-opened-clause-runs g c = (c.in-Ok-opened.ensures.fresh.stopped, refl)
 
 pub returns-in-Ok-opened-clause-numbers : goal.returns-in-Ok-opened-clause-numbers
 returns-in-Ok-opened-clause-numbers g c = λ told next is.
@@ -37,7 +39,7 @@ returns-in-Ok-opened-clause-resumed g c = λ tells h change left.
     let again = c.in-Ok.ensures.resumed tells h change left in
     let is = again.is in
     let remembers = c.in-Ok-opened.ensures.remembers is.s levels is.settled.coherent is.told.files (sym is.told.manifest) is.told.frozen is.told.active is.told.erases in
-    resumed c.args.config.now h again.history change (g.D.Disk.seen c.args.disk) seen (g.D.Disk.faults c.open.new.disk) is.s state levels again.either (opened_running seen is.s state is.settled is.only is.told.active is.ends c.in-Ok-opened.ensures.end remembers.1) remembers.0 is.config_is again.stands
+    resumed c.args.config.now h again.history change (g.D.Disk.seen c.args.disk) seen (g.D.Disk.faults c.open.new.disk) is.s state levels again.either (opened_running seen (g.D.Disk.faults c.open.new.disk) is.s state levels is.settled is.only is.rising is.told.active is.ends c.in-Ok-opened.ensures.end remembers.1) remembers.0 is.config_is again.stands
     (λ next from. returns-in-Ok-opened-clause-numbers g c tells next from)
 
 pub returns-in-Err-clause-untouched : goal.returns-in-Err-clause-untouched

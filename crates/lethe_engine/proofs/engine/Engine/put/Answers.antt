@@ -1,113 +1,85 @@
-use Rattle.std.proofs.Common.{rules, ◌≡◌, ◌<◌, ◌≤◌, ◌+◌, Err, length, refl, sym, ap, ◌∙◌, subst, arith}
+use Rattle.std.proofs.Common.{rules, ◌≡◌, ◌≤◌, ◌<◌, ◌+◌, ℕ, None, List, Err, refl, sym, ap, ◌∙◌, subst, arith}
 use Rattle.std.specs.Prelude.{IfErr}
+use Rattle.lethe_base.specs.History.{History}
 use Rattle.lethe_base.specs.Limits.{max_place}
 use Rattle.lethe_base.specs.declared.call.Call.TheVariants as call
-use Rattle.lethe_disk.proofs.Going.{goes_then}
-use Rattle.lethe_disk.proofs.Quieting.{on_ok, on_ok_both}
+use Rattle.lethe_base.specs.declared.config.Fields.{Fields}
 use Rattle.lethe_cover.specs.Steps.{with_done}
+use Rattle.lethe_disk.proofs.Quieting.{on_ok, on_ok_both}
 use Rattle.lethe_stored.specs.Kept.{IsFor}
-use Rattle.lethe_stored.specs.Left.{IsKeptOr}
-use Rattle.lethe_stored.specs.Stored.{Stored, IsCoherent, appended}
-use Rattle.lethe_advance.specs.Shown.{parts_by_level}
-use Rattle.lethe_state.specs.Remembered.{Remembers}
-use Rattle.lethe_state.specs.Room.{IsRoomMade}
-use Rattle.lethe_state.proofs.Recording.{put_recorded}
-use Rattle.lethe_core.specs.Changes.{answered_to, put_over, with_record, written_by}
-use Rattle.lethe_core.specs.Running.{IsRunning}
-use Rattle.lethe_engine.specs.StandsFor.{StandsFor, StandsNow}
-use Rattle.lethe_engine.proofs.Onward.{answered_for, put_works}
-use Rattle.lethe_engine.proofs.Overs.{put_same}
-use Rattle.lethe_core.proofs.Roomed.{reasons_same, sees_room, unbegun}
-use Rattle.lethe_core.proofs.Standing.{moments_or, stands_for, stands_moments, stands_running}
+use Rattle.lethe_stored.specs.Stored.{Stored, appended}
+use Rattle.lethe_core.specs.Changes.{put_over, with_record}
+use Rattle.lethe_core.specs.Merges.{IsRoomMadeBy, Outcome, pages_of}
+use Rattle.lethe_core.specs.Reasons.{HasReason}
+use Rattle.lethe_core.specs.Running.{Holds}
+use Rattle.lethe_core.specs.View.{View, view_of}
+use Rattle.lethe_core.proofs.Roomed.{sees_room}
+use Rattle.lethe_engine.proofs.Answered.{changed_for, changed_moments, unbegun_for, unbegun_moments, unroomed_for, unroomed_moments}
+use Rattle.lethe_engine.proofs.Onward.{put_works}
+use Rattle.lethe_engine.proofs.Overs.{put_for, put_same}
 use Rattle.lethe_engine.proofs.engine.Engine.put.Goals as goal
-
-pub returns-in_err-may_change-clause-any_moment : goal.returns-in_err-may_change-clause-any_moment
-returns-in_err-may_change-clause-any_moment g c = λ told config h stands runs caller.
-    moments_or h (written_by caller (call.Put c.args.key c.args.dkey c.args.value) c.from_residual.result) (g.D.Disk.seen c.args.self.now.disk) (g.D.Disk.seen c.args.self.now.disk) (stands_moments config h (g.D.Disk.seen c.args.self.now.disk) c.args.self.now.state (parts_by_level c.args.self.now.version) stands runs)
-
-pub returns-in_err-make_room-clause-any_moment : goal.returns-in_err-make_room-clause-any_moment
-returns-in_err-make_room-clause-any_moment g c = λ told config h stands runs caller.
-    moments_or h (written_by caller (call.Put c.args.key c.args.dkey c.args.value) c.from_residual-in_err-make_room.result) (g.D.Disk.seen c.args.self.now.disk) (g.D.Disk.seen c.make_room.new.self.disk) (c.make_room.ensures.any_moment told config h stands)
-
-pub returns-clause-any_moment : goal.returns-clause-any_moment
-returns-clause-any_moment g c = λ told config h stands still caller.
-    let mid = c.in_ok-make_room.ensures.stands told config h stands caller (call.Put c.args.key c.args.dkey c.args.value) in
-    let runs = c.in_ok-make_room.ensures.ready.stopped ∙ c.in_ok-may_change.ensures.fits.0 in
-    let running = stands_running config h (g.D.Disk.seen c.make_room.new.self.disk) c.make_room.new.self.state (parts_by_level c.make_room.new.self.version) mid runs in
-    let for = stands_for config h (g.D.Disk.seen c.make_room.new.self.disk) c.make_room.new.self.state (parts_by_level c.make_room.new.self.version) mid runs in
-    let few : length h < max_place = subst (λ n. n < max_place) (sym c.in_ok-make_room.ensures.ready.count ∙ mid.count) c.in_ok-may_change.ensures.fits.1 in
-    let change = written_by caller (call.Put c.args.key c.args.dkey c.args.value) c.record.result in
-    goes_then (IsKeptOr h change) (g.D.Disk.seen c.args.self.now.disk) (g.D.Disk.seen c.make_room.new.self.disk) (g.D.Disk.seen c.record.new.self.disk) (moments_or h change (g.D.Disk.seen c.args.self.now.disk) (g.D.Disk.seen c.make_room.new.self.disk) (c.make_room.ensures.any_moment told config h stands))
-    (c.record.ensures.any_moment told config h caller (call.Put c.args.key c.args.dkey c.args.value) mid ((subst (λ r. IsCoherent (appended mid.stored r) × IsFor (with_done h caller (call.Put c.args.key c.args.dkey c.args.value)) (appended mid.stored r)) (sym c.put_record-next.ensures.is)
-    (put_recorded h mid.stored c.make_room.new.self.state (parts_by_level c.make_room.new.self.version) mid.remembers running.current for few caller c.args.key (search rules) c.args.dkey c.args.value c.ranges.dkey.fits (search rules)))).1)
-
-pub returns-clause-why : goal.returns-clause-why
-returns-clause-why g c =
-    subst (λ n. IfErr c.record.result (HasReason c.args.self.now.state n (g.D.Disk.faults c.record.new.self.disk))) c.faults-before.ensures
-    (reasons_same c.args.self.now.state c.make_room.new.self.state c.faults-before.result (g.D.Disk.faults c.record.new.self.disk) c.record.result c.in_ok-make_room.ensures.ready.stopped c.in_ok-make_room.ensures.ready.count c.record.ensures.why c.record.ensures.unexhausted)
 
 pub returns-in_err-may_change-clause-stands : goal.returns-in_err-may_change-clause-stands
 returns-in_err-may_change-clause-stands g c = λ told config opened h stands caller.
-    let why = c.in_err-may_change.field-0.0 in
-    let refusal : c.from_residual.result ≡ Err why = search rules in
-    subst (λ after. StandsFor config opened after (g.D.Disk.seen c.args.self.now.disk) (g.D.Disk.faults c.args.self.now.disk) c.args.self.now.state (parts_by_level c.args.self.now.version)) (sym (ap (answered_to h caller (call.Put c.args.key c.args.dkey c.args.value)) refusal ∙ unbegun c.args.self.now.state h caller (call.Put c.args.key c.args.dkey c.args.value) why c.in_err-may_change.ensures.refused)) stands
+    unbegun_for config opened h caller (call.Put c.args.key c.args.dkey c.args.value) (view_of c.args.self.now.core) c.from_residual.result c.in_err-may_change.field-0.0 (search rules) c.in_err-may_change.ensures.refused stands
+
+pub returns-in_err-may_change-clause-any_moment : goal.returns-in_err-may_change-clause-any_moment
+returns-in_err-may_change-clause-any_moment g c = λ told config h stands runs caller.
+    unbegun_moments g.D.Disk.tells told config h caller (call.Put c.args.key c.args.dkey c.args.value) (view_of c.args.self.now.core) runs c.from_residual.result stands
 
 pub returns-in_err-make_room-clause-stands : goal.returns-in_err-make_room-clause-stands
 returns-in_err-make_room-clause-stands g c = λ told config opened h stands caller.
-    let why = c.in_err-make_room.field-0.0 in
-    let refusal : c.from_residual-in_err-make_room.result ≡ Err why = search rules in
-    let old = c.args.self.now in
-    let new = c.make_room.new.self in
-    let runs = c.in_ok-may_change.ensures.fits.0 in
-    let reasons : IfErr c.from_residual-in_err-make_room.result (HasReason old.state (g.D.Disk.faults old.disk) (g.D.Disk.faults new.disk)) = search rules in
-    answered_for config opened h (g.D.Disk.seen old.disk) (g.D.Disk.seen new.disk) (g.D.Disk.faults old.disk) (g.D.Disk.faults new.disk) old.state new.state (parts_by_level old.version) (parts_by_level new.version)
-    stands runs c.make_room.ensures.faults (c.make_room.ensures.numbers told) caller (call.Put c.args.key c.args.dkey c.args.value) (put_works c.args.key c.args.dkey c.args.value) c.from_residual-in_err-make_room.result reasons
-    (returns-in_err-make_room-clause-any_moment g c told config h stands.now runs caller)
-    (subst (λ after. StandsNow config after (g.D.Disk.seen c.make_room.new.self.disk) c.make_room.new.self.state (parts_by_level c.make_room.new.self.version)) (sym (ap (answered_to h caller (call.Put c.args.key c.args.dkey c.args.value)) refusal)) (c.in_err-make_room.ensures.stands told config h stands.now caller (call.Put c.args.key c.args.dkey c.args.value)))
+    unroomed_for g.D.Disk.tells told config h caller (call.Put c.args.key c.args.dkey c.args.value) (view_of c.args.self.now.core) c.in_ok-may_change.ensures.fits.0 opened stands
+    (put_works c.args.key c.args.dkey c.args.value) g.D.Disk.ports_fail (g.D.Disk.port_faults c.args.port.now) (g.D.Disk.port_faults c.make_room.new.port) (view_of c.make_room.new.self)
+    c.from_residual-in_err-make_room.result c.in_err-make_room.field-0.0 (search rules) c.in_err-make_room.ensures.keeps (search rules)
+
+pub returns-in_err-make_room-clause-any_moment : goal.returns-in_err-make_room-clause-any_moment
+returns-in_err-make_room-clause-any_moment g c = λ told config h stands runs caller.
+    unroomed_moments g.D.Disk.tells told config h caller (call.Put c.args.key c.args.dkey c.args.value) (view_of c.args.self.now.core) runs (view_of c.make_room.new.self) c.make_room.result
+    c.from_residual-in_err-make_room.result c.make_room.ensures.keeps stands
+
+pub returns-clause-any_moment : goal.returns-clause-any_moment
+returns-clause-any_moment g c = λ told config h stands runs caller.
+    let Put = call.Put c.args.key c.args.dkey c.args.value in
+    let mid : View = view_of c.make_room.new.self in
+    let ready = c.in_ok-make_room.ensures.ready in
+    let fits = c.in_ok-may_change.ensures.fits in
+    let still = c.in_ok-make_room.ensures.keeps.stands told config h stands caller Put in
+    changed_moments g.D.Disk.tells told config h caller Put (view_of c.args.self.now.core) runs mid (view_of c.record.new.self) c.make_room.result c.record.result c.make_room.ensures.keeps stands
+    (c.record.ensures.any_moment told config h caller Put still
+    (put_for config h mid still (ready.stopped ∙ fits.0) (subst (λ n. n < max_place) (sym ready.count) fits.1) caller c.args.key (search rules) c.args.dkey c.args.value c.ranges.dkey.fits (search rules) c.put_record-next.result c.put_record-next.ensures.is))
 
 pub returns-clause-stands : goal.returns-clause-stands
 returns-clause-stands g c = λ told config opened h stands caller.
-    let mid = c.in_ok-make_room.ensures.stands told config h stands.now caller (call.Put c.args.key c.args.dkey c.args.value) in
-    let runs = c.in_ok-make_room.ensures.ready.stopped ∙ c.in_ok-may_change.ensures.fits.0 in
-    let running = stands_running config h (g.D.Disk.seen c.make_room.new.self.disk) c.make_room.new.self.state (parts_by_level c.make_room.new.self.version) mid runs in
-    let for = stands_for config h (g.D.Disk.seen c.make_room.new.self.disk) c.make_room.new.self.state (parts_by_level c.make_room.new.self.version) mid runs in
-    let few : length h < max_place = subst (λ n. n < max_place) (sym c.in_ok-make_room.ensures.ready.count ∙ mid.count) c.in_ok-may_change.ensures.fits.1 in
-    let old = c.args.self.now in
-    let new = c.record.new.self in
-    let was = c.in_ok-may_change.ensures.fits.0 in
-    let made = c.make_room.ensures.faults in
-    let later : g.D.Disk.faults old.disk ≤ g.D.Disk.faults new.disk = let more = c.record.ensures.faults in omega (arith, made, more) in
-    let numbers : new.state.next + (g.D.Disk.seen old.disk).moment ≤ old.state.next + (g.D.Disk.seen new.disk).moment =
-    let first = c.make_room.ensures.numbers told in
-    let second = c.record.ensures.numbers told in
-    omega (arith, first, second) in
-    answered_for config opened h (g.D.Disk.seen old.disk) (g.D.Disk.seen new.disk) (g.D.Disk.faults old.disk) (g.D.Disk.faults new.disk) old.state new.state (parts_by_level old.version) (parts_by_level new.version)
-    stands was later numbers caller (call.Put c.args.key c.args.dkey c.args.value) (put_works c.args.key c.args.dkey c.args.value) c.record.result (returns-clause-why g c) (returns-clause-any_moment g c told config h stands.now was caller)
-    (c.record.ensures.stands told config h caller (call.Put c.args.key c.args.dkey c.args.value) refl mid ((subst (λ r. IsCoherent (appended mid.stored r) × IsFor (with_done h caller (call.Put c.args.key c.args.dkey c.args.value)) (appended mid.stored r)) (sym c.put_record-next.ensures.is)
-    (put_recorded h mid.stored c.make_room.new.self.state (parts_by_level c.make_room.new.self.version) mid.remembers running.current for few caller c.args.key (search rules) c.args.dkey c.args.value c.ranges.dkey.fits (search rules)))).1)
+    let Put = call.Put c.args.key c.args.dkey c.args.value in
+    let mid : View = view_of c.make_room.new.self in
+    let new : View = view_of c.record.new.self in
+    let ready = c.in_ok-make_room.ensures.ready in
+    let fits = c.in_ok-may_change.ensures.fits in
+    let still = c.in_ok-make_room.ensures.keeps.stands told config h stands.now caller Put in
+    let for = put_for config h mid still (ready.stopped ∙ fits.0) (subst (λ n. n < max_place) (sym ready.count) fits.1) caller c.args.key (search rules) c.args.dkey c.args.value c.ranges.dkey.fits (search rules) c.put_record-next.result c.put_record-next.ensures.is in
+    changed_for g.D.Disk.tells told config h caller Put (view_of c.args.self.now.core) fits.0 opened stands (put_works c.args.key c.args.dkey c.args.value) mid new c.in_ok-make_room.field-0 c.record.result
+    c.in_ok-make_room.ensures.keeps c.record.ensures.faults (c.record.ensures.numbers told) (subst (λ n. IfErr c.record.result (HasReason ⊥ mid.state n new.faults)) c.faults-before.ensures c.record.ensures.why)
+    (c.record.ensures.any_moment told config h caller Put still for) (c.record.ensures.stands told config h caller Put refl still for)
 
 pub returns-clause-written : goal.returns-clause-written
-returns-clause-written g c = λ told s remembers running.
-    let room = c.in_ok-make_room.ensures.done told s remembers running in
+returns-clause-written g c = λ told s holds.
+    let room = c.in_ok-make_room.ensures.done told s holds in
     let t = room.0 in
-    on_ok c.record.result (Remembers (appended t c.put_record-next.result) c.record.new.self.state (parts_by_level c.record.new.self.version) × IsRunning (g.D.Disk.seen c.record.new.self.disk) (appended t c.put_record-next.result) c.record.new.self.state × ((g.D.Disk.seen c.record.new.self.disk).directory ≡ with_record (g.D.Disk.seen c.make_room.new.self.disk).directory t c.put_record-next.result))
-    ((t : Stored) × IsRoomMade s t × Remembers (appended t (put_over t c.args.key c.args.dkey c.args.value)) c.record.new.self.state (parts_by_level c.record.new.self.version) × IsRunning (g.D.Disk.seen c.record.new.self.disk) (appended t (put_over t c.args.key c.args.dkey c.args.value)) c.record.new.self.state)
-    (c.record.ensures.written told t room.2 room.3)
-    (λ done.
-    let is = c.put_record-next.ensures.is ∙ put_same t c.make_room.new.self.state (parts_by_level c.make_room.new.self.version) room.2 room.3.current c.args.key c.args.dkey c.args.value in
-    (t, room.1, subst (λ r. Remembers (appended t r) c.record.new.self.state (parts_by_level c.record.new.self.version)) is done.0, subst (λ r. IsRunning (g.D.Disk.seen c.record.new.self.disk) (appended t r) c.record.new.self.state) is done.1))
+    let mid : View = view_of c.make_room.new.self in
+    let new : View = view_of c.record.new.self in
+    let is = put_same mid t room.3 c.args.key c.args.dkey c.args.value c.put_record-next.result c.put_record-next.ensures.is in
+    on_ok c.record.result _ _ (c.record.ensures.written told t room.3) (λ done. (t, room.1, room.2, subst (λ next. Holds new (appended t next)) is done.0, room.4))
 
 pub returns-clause-room : goal.returns-clause-room
-returns-clause-room g c = λ told s remembers running has.
-    let same = c.in_ok-make_room.ensures.room (sees_room s c.args.self.now.state (parts_by_level c.args.self.now.version) remembers has) in
-    let back = sym same in
-    let still = subst (λ engine. Remembers s engine.state (parts_by_level engine.version)) back remembers in
-    let runs = subst (λ engine. IsRunning (g.D.Disk.seen engine.disk) s engine.state) back running in
-    on_ok_both c.record.result (Remembers (appended s c.put_record-next.result) c.record.new.self.state (parts_by_level c.record.new.self.version) × IsRunning (g.D.Disk.seen c.record.new.self.disk) (appended s c.put_record-next.result) c.record.new.self.state × ((g.D.Disk.seen c.record.new.self.disk).directory ≡ with_record (g.D.Disk.seen c.make_room.new.self.disk).directory s c.put_record-next.result)) ((g.D.Disk.seen c.record.new.self.disk).moment ≡ (g.D.Disk.seen c.make_room.new.self.disk).moment + 4)
-    (((g.D.Disk.seen c.record.new.self.disk).directory ≡ with_record (g.D.Disk.seen c.args.self.now.disk).directory s (put_over s c.args.key c.args.dkey c.args.value)) × ((g.D.Disk.seen c.record.new.self.disk).moment ≡ (g.D.Disk.seen c.args.self.now.disk).moment + 4))
-    (c.record.ensures.written told s still runs) (c.record.ensures.calls told)
-    (λ done calls.
-    let is = c.put_record-next.ensures.is ∙ put_same s c.make_room.new.self.state (parts_by_level c.make_room.new.self.version) still runs.current c.args.key c.args.dkey c.args.value in (
-      done.2 ∙ ap (λ engine. with_record (g.D.Disk.seen engine.disk).directory s c.put_record-next.result) same ∙ ap (with_record (g.D.Disk.seen c.args.self.now.disk).directory s) is,
-      calls ∙ ap (λ engine. (g.D.Disk.seen engine.disk).moment + 4) same,
+returns-clause-room g c = λ told s holds has.
+    let old : View = view_of c.args.self.now.core in
+    let room = c.in_ok-make_room.ensures.room (sees_room s old.state old.levels holds.remembers has) in
+    let same = room.0 in
+    let still = subst (λ core. Holds (view_of core) s) (sym same) holds in
+    let is = put_same (view_of c.make_room.new.self) s still c.args.key c.args.dkey c.args.value c.put_record-next.result c.put_record-next.ensures.is in
+    on_ok_both c.record.result _ _ _ (c.record.ensures.written told s still) (c.record.ensures.calls told) (λ done calls. (
+      done.1 ∙ ap (λ core. with_record (g.D.Disk.seen core.disk).directory s c.put_record-next.result) same ∙ ap (with_record old.disk.directory s) is,
+      calls ∙ ap (λ core. (g.D.Disk.seen core.disk).moment + 4) same,
+      room.1,
     ))

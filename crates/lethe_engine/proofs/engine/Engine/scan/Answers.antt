@@ -5,16 +5,14 @@ use Rattle.lethe_engine.proofs.engine.Engine.scan.Goals as goal
 
 pub returns-in-Ok-clause-answer : goal.returns-in-Ok-clause-answer
 returns-in-Ok-clause-answer g c = λ told config h stands.
-    let version = c.args.self.now.version in
-    let seen = g.D.Disk.seen c.args.self.now.disk in
-    let state = c.args.self.now.state in
-    listed_between version config h seen state stands (option_copied c.as_ref.result) c.items.result.now c.as_ref.ensures.value c.items.ensures c.args.lo.now c.args.hi.now c.in-Ok.pairs.items
-    (c.in-Ok.ensures.listed told (stored_sound version config h seen state stands))
+    let core = c.args.self.now.core in
+    listed_between core config h stands (option_copied c.as_ref.result) c.items.result.now c.as_ref.ensures.value c.items.ensures c.args.lo.now c.args.hi.now c.in-Ok.pairs.items
+    (c.in-Ok.ensures.listed told (stored_sound core config h stands))
 
 pub returns-in-Err-clause-undamaged : goal.returns-in-Err-clause-undamaged
 returns-in-Err-clause-undamaged g c = λ told sound name is.
     let held = sound.held told in
-    c.in-Err.ensures.undamaged told (files_sound c.args.self.now.version held.0 c.args.self.now.state held.1) name
+    c.in-Err.ensures.undamaged told (files_sound c.args.self.now.core.version held.0 c.args.self.now.core.state held.1) name
     (ap Err (damage_told c.in-Err.why name (sym c.told_as.ensures ∙ err_told is)))
 
 pub returns-in-Err-clause-fault : goal.returns-in-Err-clause-fault

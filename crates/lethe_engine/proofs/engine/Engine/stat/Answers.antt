@@ -12,7 +12,7 @@ use Rattle.lethe_engine.proofs.engine.Engine.stat.Goals as goal
 
 pub loop-level-preserved : goal.loop-level-preserved
 loop-level-preserved g c =
-    let levels = levels_of c.args.self.now.version in
+    let levels = levels_of c.args.self.now.core.version in
     let i = c.loop-level.level in
     let within : i < length levels = omega (arith, c.loop-level-test.true, c.levels-level-end.ensures) in
     let shared = c.files.result.now in
@@ -38,7 +38,7 @@ returns-clause-stat g c = λ config h stands.
 
 pub returns-clause-shape : goal.returns-clause-shape
 returns-clause-shape g c = λ s is.
-    let version = c.args.self.now.version in
+    let version = c.args.self.now.core.version in
     let levels = levels_of version in
     let all : length levels ≤ c.loop-level.level = omega (arith, c.loop-level-test.false, c.levels-level-end.ensures) in
     let whole = take_all c.loop-level.level levels all in
