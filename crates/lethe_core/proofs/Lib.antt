@@ -6,3 +6,5 @@ pub mod Recorded
 pub mod Roomed
 pub mod Carried
 pub mod Merged
+pub mod Installing
+pub mod Unread
