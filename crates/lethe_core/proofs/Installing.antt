@@ -1,5 +1,5 @@
 -- From the drafts of a task's outputs to the step that installs them.
-use Rattle.std.proofs.Common.{◌≡◌, ◌≤◌, ℕ, List, [], All, Contains, Some, sym, ap, ◌∙◌, subst, arith}
+use Rattle.std.proofs.Common.{◌≡◌, ◌≤◌, ℕ, List, [], All, Contains, Some, None, sym, ap, ◌∙◌, subst, arith}
 use Rattle.std.specs.Prelude.{IfSome}
 use Rattle.std.proofs.lemmas.List.Elements.{All-contains}
 use Rattle.lethe_base.specs.History.{History}
@@ -17,7 +17,7 @@ use Rattle.lethe_follows.specs.Merged.{IsMerged, StoredMerge, entries_in, inputs
 use Rattle.lethe_follows.proofs.Merging.{all_counted}
 use Rattle.lethe_header.specs.declared.header.Header.{Header}
 use Rattle.lethe_install.proofs.Beside.{input_in}
-use Rattle.lethe_job.specs.Tasks.{AreSound, IsTaskIn, PlainTask, inputs_in}
+use Rattle.lethe_job.specs.Tasks.{AreSound, IsBegunIn, IsTaskIn, PlainTask, inputs_in}
 use Rattle.lethe_merge.specs.Merge.{merged}
 use Rattle.lethe_stored.specs.Files.{IsFile, Parts, StoredFile, file_of}
 use Rattle.lethe_stored.specs.Kept.{IsFor}
@@ -31,9 +31,10 @@ use Rattle.lethe_state.specs.declared.state.State.{State}
 use Rattle.lethe_core.specs.Jobs.{AreOutputsOf}
 use Rattle.lethe_core.specs.Merges.{MayMerge}
 use Rattle.lethe_core.specs.Running.{Holds, IsTasked}
-use Rattle.lethe_core.specs.StandsNow.{IsCounted}
+use Rattle.lethe_core.specs.StandsNow.{IsCounted, StandsNow}
 use Rattle.lethe_core.specs.View.{Flying, View, loose_in}
 use Rattle.lethe_core.proofs.Merged.{inputs_same}
+use Rattle.lethe_core.proofs.Standing.{stands_for, stands_holds}
 
 -- The inputs of a task are files that are stored
 
@@ -91,3 +92,21 @@ module _ (view : View) (flying : Flying) (flies : view.flight ≡ Some flying) (
       let its = subst (λ names. Installs view.state view.levels flying.task names drafts headers step) names (subst (λ task. Installs view.state view.levels task written drafts headers step) same installs) in
       let next = next_merge view flying.task (names_in flying.written) drafts headers step its (ap loose_in flies ∙ outputs.pages) of s tasked.0 holds tasked.1 in
       (next.0, next.2)
+
+-- for the merge that is due, where no job is in flight
+module _ (view : View) (task : PlainTask) (begins : (s : Stored) → Holds view s → IsBegunIn s task) where
+  pub begun_sound : (s : Stored) → Holds view s → AreSound (inputs_in task)
+  begun_sound s holds = let begun = begins s holds in sound_inputs s holds.remembers.coherent begun.m task begun.is
+
+  pub begun_counted : view.state.stopped ≡ None → (config : Fields) (h : History) → StandsNow config h view → IsCounted task
+  begun_counted runs config h stands =
+      let holds = stands_holds config h view stands runs in
+      let begun = begins stands.stored holds in
+      counted_inputs stands.stored holds.remembers.coherent begun.m task begun.is h (stands_for config h view stands runs) begun.counted
+
+  module _ (free : view.flight ≡ None) (Tells : Type 0) (drafts : List Draft) (headers : List Header) (step : Step) (installs : Installs view.state view.levels task [] drafts headers step)
+      (of : Tells → AreSound (inputs_in task) → AreDraftsOf task.config (merged (entries_in (inputs_in task)) task.erases task.alone) drafts) where
+    pub next_outcome : Tells → (s : Stored) (holds : Holds view s) → (t : Stored) × IsMerged s (begins s holds).m (pending_of s) task.alone task.upto t × MayMerge view s task t headers step
+    next_outcome told s holds =
+        let begun = begins s holds in
+        next_merge view task [] drafts headers step installs (ap loose_in free) (of told (begun_sound s holds)) s begun.m holds begun.is
