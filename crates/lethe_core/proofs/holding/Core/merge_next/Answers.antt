@@ -1,8 +1,8 @@
-use Rattle.std.proofs.Common.{rules, ◌≡◌, ◌⊎◌, inl, None, Err, [], refl, sym, ap, ◌∙◌, subst, arith}
-use Rattle.std.specs.Prelude.{Bool, IfErr, option_map}
+use Rattle.std.proofs.Common.{rules, ◌≡◌, ◌⊎◌, inl, Some, None, Err, [], refl, sym, ap, ◌∙◌, subst, arith}
+use Rattle.std.specs.Prelude.{Bool, IfErr, IfSome, option_map}
 use Rattle.lethe_base.specs.declared.refused.Refused.{Refused}
 use Rattle.lethe_stored.specs.Stored.{Stored}
-use Rattle.lethe_job.specs.Tasks.{plain_task}
+use Rattle.lethe_job.specs.Tasks.{IsBegunIn, plain_task}
 use Rattle.lethe_core.specs.Changes.{refused_to}
 use Rattle.lethe_core.specs.Keeps.{Keeps}
 use Rattle.lethe_core.specs.Merges.{IsShortToMerge}
@@ -31,11 +31,14 @@ returns-in-Err-outcome-clause-why g c =
     let Short = IsShortToMerge g.D.Disk.tells view in
     let earlier = g.D.Disk.port_faults c.args.port.now in
     let later = g.D.Disk.port_faults c.outcome.new.port in
+    let task = plain_task c.in-Ok-Some.task in
+    let found : c.in-Ok-Some.field-0 ≡ Some c.in-Ok-Some.task = cc in
+    let begins : (s : Stored) → Holds view s → IsBegunIn s task = λ s holds. subst (λ found. IfSome found (λ task. IsBegunIn s (plain_task task))) found (c.in-Ok-Some.ensures.some s holds) in
     subst (λ (why : Refused). HasReason Short view.state c.args.before view.faults why ⊎ IsUnreadable g.D.Disk.tells g.D.Disk.ports_fail earlier later why) (sym c.told_as.ensures)
     (told_reason Short g.D.Disk.tells g.D.Disk.ports_fail view.state c.args.before view.faults earlier later c.in-Err-outcome.why c.in-Err-outcome.ensures.cause c.in-Err-outcome.ensures.can_fail (λ told name is.
     let held = c.requires.may.sound.held told in
     let holds : Holds view held.0 = record { remembers = held.1; running = held.2 c.requires.may.runs } in
-    c.in-Err-outcome.ensures.undamaged told (begun_sound view (plain_task c.in-Ok-Some.task) c.in-Ok-Some.ensures.some held.0 holds) name (ap Err is)))
+    c.in-Err-outcome.ensures.undamaged told (begun_sound view task begins held.0 holds) name (ap Err is)))
 
 pub returns-in_err-headers-clause-keeps : goal.returns-in_err-headers-clause-keeps
 returns-in_err-headers-clause-keeps g c =
@@ -50,7 +53,8 @@ returns-in_err-headers-clause-why g c =
     let view = view_of c.args.self.now in
     let Short = IsShortToMerge g.D.Disk.tells view in
     let task = plain_task c.in-Ok-Some.task in
-    let begins = c.in-Ok-Some.ensures.some in
+    let found : c.in-Ok-Some.field-0 ≡ Some c.in-Ok-Some.task = cc in
+    let begins : (s : Stored) → Holds view s → IsBegunIn s task = λ s holds. subst (λ found. IfSome found (λ task. IsBegunIn s (plain_task task))) found (c.in-Ok-Some.ensures.some s holds) in
     let why = c.in_err-headers.field-0.0 in
     let refusal : c.from_residual.result ≡ Err why = search rules in
     let earlier = g.D.Disk.port_faults c.args.port.now in
@@ -66,7 +70,8 @@ pub merge_now-requires-clause-merges : goal.merge_now-requires-clause-merges
 merge_now-requires-clause-merges g c κs within = λ told s holds.
     let view = view_of c.args.self.now in
     let task = plain_task c.in-Ok-Some.task in
-    let begins = c.in-Ok-Some.ensures.some in
+    let found : c.in-Ok-Some.field-0 ≡ Some c.in-Ok-Some.task = cc in
+    let begins : (s : Stored) → Holds view s → IsBegunIn s task = λ s holds. subst (λ found. IfSome found (λ task. IsBegunIn s (plain_task task))) found (c.in-Ok-Some.ensures.some s holds) in
     let next = next_outcome view task begins (ap (option_map flying_of) c.requires.free) g.D.Disk.tells c.in-Ok.drafts.items c.in_ok-headers.headers.items c.in_ok-headers.step c.in_ok-headers.ensures.installs c.in-Ok.ensures.drafts told s holds in
     (task, next.0, next.2, begun_counted view task begins c.requires.may.runs)
 
@@ -82,7 +87,8 @@ pub returns-clause-done : goal.returns-clause-done
 returns-clause-done g c = λ told s holds is.
     let view = view_of c.args.self.now in
     let task = plain_task c.in-Ok-Some.task in
-    let begins = c.in-Ok-Some.ensures.some in
+    let found : c.in-Ok-Some.field-0 ≡ Some c.in-Ok-Some.task = cc in
+    let begins : (s : Stored) → Holds view s → IsBegunIn s task = λ s holds. subst (λ found. IfSome found (λ task. IsBegunIn s (plain_task task))) found (c.in-Ok-Some.ensures.some s holds) in
     let next = next_outcome view task begins (ap (option_map flying_of) c.requires.free) g.D.Disk.tells c.in-Ok.drafts.items c.in_ok-headers.headers.items c.in_ok-headers.step c.in_ok-headers.ensures.installs c.in-Ok.ensures.drafts told s holds in (
       record { task = task; to = next.0 },
       record { begun = begins s holds; merged_is = next.1 },
