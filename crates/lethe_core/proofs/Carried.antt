@@ -1,5 +1,5 @@
 -- A step is carried out on the disk.
-use Rattle.std.proofs.Common.{◌≡◌, ◌<◌, ◌≤◌, ◌⊎◌, inl, inr, ℕ, List, [], ◌∷◌, map, Some, sym, ap, ◌∙◌, subst, arith}
+use Rattle.std.proofs.Common.{◌≡◌, ◌<◌, ◌≤◌, ◌⊎◌, inl, inr, ℕ, ◌+◌, List, [], ◌∷◌, map, length, Some, sym, ap, ◌∙◌, subst, arith}
 use Rattle.std.specs.Prelude.{Contains, option_to_list}
 use Rattle.std.proofs.lemmas.List.Elements.{All-contains, Contains-append_left, Contains-append_right, Contains-append_cases, Contains-push}
 use Rattle.lethe_base.specs.History.{History}
@@ -16,6 +16,7 @@ use Rattle.lethe_commit.specs.Place.{name_of, insert_all}
 use Rattle.lethe_commit.proofs.Creations.{object_beside_all, object_contained}
 use Rattle.lethe_stored.specs.Encodes.{Encodes}
 use Rattle.lethe_stored.specs.Kept.{IsFor, IsKept}
+use Rattle.lethe_stored.specs.Levels.{HasFiles}
 use Rattle.lethe_stored.specs.Stored.{Stored, Segment, IsCoherent, number_of, segments_of, segment_numbers, segment_name, part_names}
 use Rattle.lethe_stored.proofs.Frame.{none_of, same_no}
 use Rattle.lethe_stored.proofs.Lists.{from_map, in_map}
@@ -41,6 +42,18 @@ step_moments h s t old new coherent next stands after goes = goes_weaker (λ c. 
 pub may_advance : (view : View) (s t : Stored) (left : List (Name × List ℕ)) (headers : List Header) (step : Step) → IsRunning view s → IsStep s (loose_in view.flight) t left headers step
     → MayAdvance view.disk s (loose_in view.flight) t left headers step
 may_advance view s t left headers step running is = record { settled = running.settled; only = running.only; step_is = is }
+
+-- What is known of a step once it is carried out. The new view may have another state.
+pub record IsCarried (Tells : Type 0) (old new : View) (headers : List Header) (step : Step) : Type 0 where
+  pub moments : Tells → (s t : Stored) (left : List (Name × List ℕ)) → IsRunning old s → IsStep s (loose_in old.flight) t left headers step → (h : History) → IsFor h s → IsFor h t → Goes (λ c. IsKept c h) old.disk new.disk
+  pub done : Tells → (s t : Stored) (left : List (Name × List ℕ)) → IsRunning old s → IsStep s (loose_in old.flight) t left headers step → IsSettled new.disk t × HasOnly t left new.disk.directory
+  pub kept : Tells → (s t : Stored) (left : List (Name × List ℕ)) → IsRunning old s → IsStep s (loose_in old.flight) t left headers step
+      → (name : Name) → Contains (part_names t) name → object new.disk.directory name ≡ object (insert_all step.objects.items old.disk.directory) name
+  pub files : Tells → (s t : Stored) (left : List (Name × List ℕ)) → IsRunning old s → IsStep s (loose_in old.flight) t left headers step → HasFiles s old.levels → HasFiles t new.levels
+  pub levels : length new.levels ≡ length old.levels
+  pub flight : new.flight ≡ old.flight
+  pub calls : Tells → old.disk.moment + length step.objects.items + 6 ≤ new.disk.moment
+  pub faults : old.faults ≤ new.faults
 
 -- a segment that is stored has a number that was drawn
 segment_below : (s : Stored) (segment : Segment) → IsCoherent s → Contains (segments_of s) segment → segment.no < s.manifest.next

@@ -1,6 +1,7 @@
--- What is remembered where memory was reserved, and where the disk failed.
-use Rattle.std.proofs.Common.{◌≡◌, ◌≤◌, ◌<◌, ◌+◌, ℕ, List, length, sym, ap, ◌∙◌, subst, arith}
-use Rattle.lethe_disk.specs.Disk.{Seen}
+-- What a store is where memory was reserved.
+use Rattle.std.proofs.Common.{◌≡◌, ◌≤◌, ◌<◌, ◌+◌, ℕ, List, None, length, refl, sym, ap, ◌∙◌, subst, arith}
+use Rattle.lethe_base.specs.History.{History}
+use Rattle.lethe_base.specs.declared.config.Fields.{Fields}
 use Rattle.lethe_mem.specs.Buffered.{Buffered}
 use Rattle.lethe_manifest.specs.declared.manifest.Manifest.{Manifest}
 use Rattle.lethe_segment.specs.declared.record.Record.{Record}
@@ -10,47 +11,27 @@ use Rattle.lethe_flush.proofs.Newest.{inserts_few}
 use Rattle.lethe_stored.specs.Files.{Parts}
 use Rattle.lethe_stored.specs.Replayed.{AreNewestOf}
 use Rattle.lethe_stored.specs.Stored.{Stored, segment_name}
-use Rattle.lethe_state.specs.Records.{Enters, IsLike, IsNext, halted}
-use Rattle.lethe_state.specs.Remembered.{IsCurrent, IsFrozenIn, Remembers}
+use Rattle.lethe_state.specs.Records.{Enters, IsLike, IsNext}
+use Rattle.lethe_state.specs.Remembered.{IsFrozenIn, Remembers}
 use Rattle.lethe_state.specs.Room.{frozen_len}
+use Rattle.lethe_state.specs.Writable.{IsWritable}
 use Rattle.lethe_state.specs.declared.state.State.{State}
-use Rattle.lethe_core.specs.Running.{IsRunning, IsSmall}
+use Rattle.lethe_core.specs.Running.{Holds, IsRunning, IsSmall, IsSound}
+use Rattle.lethe_core.specs.StandsNow.{StandsNow}
+use Rattle.lethe_core.specs.View.{View}
+use Rattle.lethe_core.proofs.Hindered.{flies_on}
+use Rattle.lethe_core.proofs.Standing.{next_stands_now, stands_for, stands_holds}
 
-module _ (s : Stored) (old new : State) (like : IsLike old new) where
-  pub like_remembered : (levels : List (List Parts)) → Remembers s old levels → Remembers s new levels
-  like_remembered levels is = record {
-    coherent = is.coherent;
-    manifest = like.manifest ∙ is.manifest;
-    pending = like.pending ∙ is.pending;
-    active = subst (AreNewestOf s.active.records) (sym like.active) is.active;
-    records = like.records ∙ is.records;
-    frozen = subst (IsFrozenIn s.frozen) (sym like.frozen) is.frozen;
-    files = is.files;
-    counted = let le = is.counted in let same = like.count in omega (arith, le, same);
-  }
-
-  pub like_current : IsCurrent s old → IsCurrent s new
-  like_current is = record { runs = like.stopped ∙ is.runs; count = like.count ∙ is.count }
-
-pub halted_remembered : (s : Stored) (state : State) (levels : List (List Parts)) → Remembers s state levels → Remembers s (halted state) levels
-halted_remembered s state levels is = record {
+like_remembered : (s : Stored) (old new : State) (levels : List (List Parts)) → IsLike old new → Remembers s old levels → Remembers s new levels
+like_remembered s old new levels like is = record {
   coherent = is.coherent;
-  manifest = is.manifest;
-  pending = is.pending;
-  active = is.active;
-  records = is.records;
-  frozen = is.frozen;
+  manifest = like.manifest ∙ is.manifest;
+  pending = like.pending ∙ is.pending;
+  active = subst (AreNewestOf s.active.records) (sym like.active) is.active;
+  records = like.records ∙ is.records;
+  frozen = subst (IsFrozenIn s.frozen) (sym like.frozen) is.frozen;
   files = is.files;
-  counted = let le = is.counted in omega (arith, le);
-}
-
--- the disk is in the store's hands as before
-pub like_running : (disk : Seen) (s : Stored) (old new : State) → IsLike old new → IsRunning disk s old → IsRunning disk s new
-like_running disk s old new like is = record {
-  settled = is.settled;
-  only = is.only;
-  ends = subst (EndsAt disk (segment_name s.active.no) s.active.no s.active.records) (sym like.end_is) is.ends;
-  current = like_current s old new like is.current;
+  counted = let le = is.counted in let same = like.count in omega (arith, le, same);
 }
 
 pub like_small : (old new : State) → IsLike old new → IsSmall old → IsSmall new
@@ -64,7 +45,44 @@ like_small old new like small =
     let rest = small.frozen in
     record { active = omega (arith, entries, records, few); records = omega (arith, records, buffer, room); frozen = omega (arith, older, buffer, rest) }
 
--- one entry more at most
+-- the same store with that memory
+abbrev pub with_state : View → State → View
+with_state view state = record view { state = state }
+
+module _ (view : View) (new : State) (like : IsLike view.state new) where
+  like_running : (s : Stored) → IsRunning view s → IsRunning (with_state view new) s
+  like_running s is = record {
+    settled = is.settled;
+    only = is.only;
+    uncited = is.uncited;
+    rising = is.rising;
+    ends = subst (EndsAt view.disk (segment_name s.active.no) s.active.no s.active.records) (sym like.end_is) is.ends;
+    current = record { runs = like.stopped ∙ is.current.runs; count = like.count ∙ is.current.count };
+    tasked = is.tasked;
+  }
+
+  pub like_holds : (s : Stored) → Holds view s → Holds (with_state view new) s
+  like_holds s is = record { remembers = like_remembered s view.state new view.levels like is.remembers; running = like_running s is.running }
+
+  pub like_sound : (Tells : Type 0) → IsWritable new → IsSound Tells view → IsSound Tells (with_state view new)
+  like_sound Tells writable sound =
+      let next = like.next in
+      record {
+        writable = writable;
+        small = like_small view.state new like sound.small;
+        count = sound.count ∙ ap (λ (m : Manifest). m.config.levels + 1) (sym like.manifest);
+        flies = flies_on view.state new (ap (λ (m : Manifest). m.config.levels) like.manifest) (omega (arith, next)) view.flight sound.flies;
+        held = λ told.
+            let held = sound.held told in
+            (held.0, like_remembered held.0 view.state new view.levels like held.1, λ runs. like_running held.0 (held.2 (sym like.stopped ∙ runs)));
+      }
+
+  pub like_stands : (config : Fields) (h : History) → StandsNow config h view → view.state.stopped ≡ None → StandsNow config h (with_state view new)
+  like_stands config h stands runs = next_stands_now config h view (with_state view new) stands runs stands.stored like.count refl (stands_for config h view stands runs)
+      (like_holds stands.stored (stands_holds config h view stands runs)) stands.counted
+
+-- With one record more
+
 enters_few : (next : Record) (old new : Buffered) → Enters next old.entries new.entries → length new.entries ≤ length old.entries + 1
 enters_few (of.Entry entry) old new enters = inserts_few entry old.entries new.entries old.ascending enters
 enters_few (of.Blind place) old new enters = let same : length new.entries ≡ length old.entries = ap length enters in omega (arith, same)

@@ -1,0 +1,122 @@
+-- What a step of a store comes to whose job in flight stays.
+use Rattle.std.proofs.Common.{◌≡◌, ◌<◌, ℕ, ◌+◌, List, [], Option, Some, None, Ok, refl, sym, ap, ◌∙◌, subst, arith}
+use Rattle.std.specs.Prelude.{IfSome}
+use Rattle.std.proofs.lemmas.List.Elements.{All-nil}
+use Rattle.lethe_base.specs.History.{History}
+use Rattle.lethe_base.specs.declared.config.Fields.{Fields}
+use Rattle.lethe_base.specs.declared.name.Kind.TheVariants.{Page}
+use Rattle.lethe_base.specs.declared.name.Name.{Name}
+use Rattle.lethe_disk.specs.Goes.{Goes}
+use Rattle.lethe_header.specs.declared.header.Header.{Header}
+use Rattle.lethe_manifest.specs.declared.manifest.Manifest.{Manifest}
+use Rattle.lethe_stored.specs.Files.{Parts}
+use Rattle.lethe_stored.specs.Kept.{IsFor, IsKept}
+use Rattle.lethe_stored.specs.Stored.{Stored, froze}
+use Rattle.lethe_stored.proofs.Freezing.{froze_for}
+use Rattle.lethe_advance.specs.Settled.{AreDrawn, AreUncited, names_in}
+use Rattle.lethe_advance.specs.Steps.{IsStep}
+use Rattle.lethe_advance.specs.declared.step.Step.{Step}
+use Rattle.lethe_state.specs.Remembered.{IsCurrent, Remembers}
+use Rattle.lethe_state.specs.Room.{IsFlushed, IsFrozen, IsStepFrom}
+use Rattle.lethe_state.specs.Writable.{IsWritable}
+use Rattle.lethe_state.specs.declared.state.State.{State}
+use Rattle.lethe_core.specs.Keeps.{Keeps, MayStep}
+use Rattle.lethe_core.specs.Running.{Holds, IsFlying, IsRunning, IsSmall}
+use Rattle.lethe_core.specs.StandsNow.{IsCounted, StandsNow}
+use Rattle.lethe_core.specs.View.{Flying, View, loose_in}
+use Rattle.lethe_core.proofs.Carried.{IsCarried}
+use Rattle.lethe_core.proofs.Hindered.{flies_on}
+use Rattle.lethe_core.proofs.Standing.{next_stands_now, stands_for, stands_holds}
+
+pub frozen_for : (h : History) (s t : Stored) (state : State) (levels : List (List Parts)) → Remembers s state levels → s.frozen ≡ None → IsFor h s → IsFrozen s t → IsFor h t
+frozen_for h s t state levels remembers none stands is = subst (IsFor h) (sym is.is) (froze_for s remembers.coherent is.segment (is.segment + 1) none h stands)
+
+-- Pages that are loose
+
+none_drawn : (next : ℕ) → AreDrawn next (names_in [])
+none_drawn next = record { each = All-nil (λ (name : Name). (name.kind ≡ Page) × (name.no < next)); once = λ i j d lt below. absurd (omega (arith, below)) }
+
+pub flying_drawn : (state : State) (flight : Option Flying) → IfSome flight (IsFlying state) → AreDrawn state.next (names_in (loose_in flight))
+flying_drawn state None flies = none_drawn state.next
+flying_drawn state (Some flying) flies = flies.drawn
+
+-- Steps that the state gives
+
+module _ (view : View) (flies : IfSome view.flight (IsFlying view.state)) (headers : List Header) (step : Step) where
+  pub flushed_next : ((s : Stored) → Remembers s view.state view.levels → IsCurrent s view.state → (loose : List (Name × List ℕ)) → AreDrawn view.state.next (names_in loose) → AreUncited s loose
+      → (t : Stored) × IsFlushed s t × IsStep s loose t loose headers step) → (s : Stored) → Holds view s → (t : Stored) × IsFlushed s t × IsStep s (loose_in view.flight) t (loose_in view.flight) headers step
+  flushed_next flushes s holds = flushes s holds.remembers holds.running.current (loose_in view.flight) (flying_drawn view.state view.flight flies) holds.running.uncited
+
+  pub frozen_next : IsWritable view.state → headers ≡ [] → ((s : Stored) (levels : List (List Parts)) → Remembers s view.state levels → IsCurrent s view.state → (loose : List (Name × List ℕ))
+      → AreDrawn view.state.next (names_in loose) → AreUncited s loose → IsStep s loose (froze s view.state.next (view.state.next + 1)) loose [] step)
+      → (s : Stored) → Holds view s → (t : Stored) × IsFrozen s t × IsStep s (loose_in view.flight) t (loose_in view.flight) headers step
+  frozen_next writable none freezes s holds =
+      let loose = loose_in view.flight in
+      let t = froze s view.state.next (view.state.next + 1) in
+      let drawn = writable.drawn in
+      let cited : view.state.manifest.next ≡ s.manifest.next = ap (λ (m : Manifest). m.next) holds.remembers.manifest in (
+        t,
+        record { segment = view.state.next; drawn = omega (arith, drawn, cited); is = refl },
+        subst (λ headers. IsStep s loose t loose headers step) (sym none)
+            (freezes s view.levels holds.remembers holds.running.current loose (flying_drawn view.state view.flight flies) holds.running.uncited),
+      )
+
+-- A step that was carried out
+
+module _ (P : Stored → Stored → Type 0) (Tells : Type 0) (old : View) (headers : List Header) (step : Step) (before : ℕ) (may : MayStep Tells old before)
+    (next_is : (s : Stored) → Holds old s → (t : Stored) × P s t × IsStep s (loose_in old.flight) t (loose_in old.flight) headers step) where
+  -- what is stored is known to be there
+  pub next_step : Tells → (s t : Stored) × (left : List (Name × List ℕ)) × IsRunning old s × IsStep s (loose_in old.flight) t left headers step
+  next_step told =
+      let held = may.sound.held told in
+      let running = held.2 may.runs in
+      let t = next_is held.0 (record { remembers = held.1; running = running }) in
+      (held.0, t.0, loose_in old.flight, running, t.2)
+
+  module _ (new : View) (stays : (h : History) (s t : Stored) → Holds old s → IsFor h s → P s t → IsFor h t) where
+    -- a crash at any moment leaves what stands for the history
+    pub next_moments : (Tells → (s t : Stored) (left : List (Name × List ℕ)) → IsRunning old s → IsStep s (loose_in old.flight) t left headers step → (h : History) → IsFor h s → IsFor h t → Goes (λ c. IsKept c h) old.disk new.disk)
+        → Tells → (config : Fields) (h : History) → StandsNow config h old → Goes (λ c. IsKept c h) old.disk new.disk
+    next_moments moments told config h stands =
+        let s = stands.stored in
+        let holds = stands_holds config h old stands may.runs in
+        let for = stands_for config h old stands may.runs in
+        let t = next_is s holds in
+        moments told s t.0 (loose_in old.flight) holds.running t.2 h for (stays h s t.0 holds for t.1)
+
+    module _ (carried : IsCarried Tells old new headers step)
+        (behind : Tells → (s t : Stored) → Holds old s → P s t → IsStep s (loose_in old.flight) t (loose_in old.flight) headers step → Holds new t) where
+      pub next_done : Tells → (s : Stored) → Holds old s → (t : Stored) × P s t × Holds new t
+      next_done told s holds = let t = next_is s holds in (t.0, t.1, behind told s t.0 holds t.1 t.2)
+
+      next_stands : Tells → new.state.count ≡ old.state.count → (config : Fields) (h : History) → StandsNow config h old → StandsNow config h new
+      next_stands told count config h stands =
+          let s = stands.stored in
+          let holds = stands_holds config h old stands may.runs in
+          let t = next_is s holds in
+          next_stands_now config h old new stands may.runs t.0 count t.2.config (stays h s t.0 holds (stands_for config h old stands may.runs) t.1) (behind told s t.0 holds t.1 t.2)
+          (subst (λ flight. IfSome flight (λ (flying : Flying). IsCounted flying.task)) (sym carried.flight) stands.counted)
+
+      pub next_keeps : (segments : ℕ) → IsStepFrom segments old.state step → new.state.manifest ≡ step.manifest → new.state.next ≡ step.manifest.next → new.state.count ≡ old.state.count
+          → IsWritable new.state → IsSmall new.state → Keeps {T = Unit {0}} Tells old new (Ok tt)
+      next_keeps segments from manifest next count writable small =
+          let config : new.state.manifest.config ≡ old.state.manifest.config = ap (λ (m : Manifest). m.config) manifest ∙ from.config in
+          let number = from.numbers in
+          let above = from.next in
+          record {
+            sound = record {
+              writable = writable;
+              small = small;
+              count = carried.levels ∙ may.sound.count ∙ ap (λ (fields : Fields). fields.levels + 1) (sym config);
+              flies = subst (λ flight. IfSome flight (IsFlying new.state)) (sym carried.flight)
+                  (flies_on old.state new.state (ap (λ (fields : Fields). fields.levels) config) (omega (arith, number, above, next)) old.flight may.sound.flies);
+              held = λ told.
+                  let held = may.sound.held told in
+                  let done = next_done told held.0 (record { remembers = held.1; running = held.2 may.runs }) in
+                  (done.0, done.2.remembers, λ runs. done.2.running);
+            };
+            stands = λ told config h stands caller call. next_stands told count config h stands;
+            any_moment = next_moments carried.moments;
+            numbers = λ told. let made = carried.calls told in omega (arith, made, number, above, next);
+            faults = carried.faults;
+          }
