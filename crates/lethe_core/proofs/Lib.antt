@@ -17,3 +17,5 @@ pub mod Keyed
 pub mod Places
 pub mod Short
 pub mod Merged
+pub mod Installing
+pub mod Unread
