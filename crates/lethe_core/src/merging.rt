@@ -45,7 +45,6 @@ impl<D: Disk> Core<D> {
         ensures why { IfErr result (λ why. HasReason (IsShortToMerge D.tells (view_of self.new)) self.old.state before (D.faults self.new.disk) why
             ⊎ IsUnreadable D.tells D.ports_fail (D.port_faults port.old) (D.port_faults port.new) why) }
         ensures flight { self.new.flight ≡ self.old.flight }
-        ensures later { D.fetches port.old ≤ D.fetches port.new }
         ensures port_faults { D.port_faults port.old ≤ D.port_faults port.new }
     {
         if self.flight.is_some() || !self.is_crowded() {
@@ -80,7 +79,6 @@ impl<D: Disk> Core<D> {
         ensures why { IfErr result (λ why. HasReason (IsShortToMerge D.tells (view_of self.new)) self.old.state before (D.faults self.new.disk) why
             ⊎ IsUnreadable D.tells D.ports_fail (D.port_faults port.old) (D.port_faults port.new) why) }
         ensures free { self.new.flight ≡ None }
-        ensures later { D.fetches port.old ≤ D.fetches port.new }
         ensures port_faults { D.port_faults port.old ≤ D.port_faults port.new }
     {
         // Each merge brings an entry a level down, so there are no more of them than levels that the entries have still to go.
@@ -123,7 +121,6 @@ impl<D: Disk> Core<D> {
         ensures why { IfErr result (λ why. HasReason (IsShortToMerge D.tells (view_of self.new)) self.old.state before (D.faults self.new.disk) why
             ⊎ IsUnreadable D.tells D.ports_fail (D.port_faults port.old) (D.port_faults port.new) why) }
         ensures free { self.new.flight ≡ None }
-        ensures later { D.fetches port.old ≤ D.fetches port.new }
         ensures port_faults { D.port_faults port.old ≤ D.port_faults port.new }
     {
         let task = match self.next_task(alloc) {

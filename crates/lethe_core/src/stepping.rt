@@ -48,7 +48,6 @@ impl<D: Disk> Core<D> {
         ensures why { IfErr result (λ why. HasReason (IsShortOfRoom D.tells self.old.state (view_of self.new)) self.old.state before (D.faults self.new.disk) why
             ⊎ IsUnreadable D.tells D.ports_fail (D.port_faults port.old) (D.port_faults port.new) why) }
         ensures flight { self.new.flight ≡ self.old.flight }
-        ensures later { D.fetches port.old ≤ D.fetches port.new }
         ensures port_faults { D.port_faults port.old ≤ D.port_faults port.new }
     {
         if self.state.has_room() {

@@ -37,7 +37,6 @@ pub(crate) fn answer<D: Disk>(
         × IsStep D.ports_fail h (moment_of (view_of engine.old.core) s (D.fetches port.old) (D.port_faults port.old) jobs.old.begun (there_of jobs.old)) event result g (moment_of (view_of engine.new.core) t (D.fetches port.new) (D.port_faults port.new) jobs.new.begun (there_of jobs.new)) }
     ensures faults { D.faults engine.old.core.disk ≤ D.faults engine.new.core.disk }
     ensures begun { jobs.new.begun ≤ jobs.old.begun + 1 }
-    ensures later { D.fetches port.old ≤ D.fetches port.new }
 {
     match event {
         Event::Put { key, dkey, value } => placed(engine.put(alloc, port, key, dkey, value)),

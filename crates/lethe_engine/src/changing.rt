@@ -76,7 +76,6 @@ impl<D: Disk> Engine<D> {
         // Numbers are drawn no faster than device calls are made.
         ensures numbers { D.tells → self.new.core.state.next + (D.seen self.old.core.disk).moment ≤ self.old.core.state.next + (D.seen self.new.core.disk).moment }
         ensures faults { D.faults self.old.core.disk ≤ D.faults self.new.core.disk }
-        ensures later { D.fetches port.old ≤ D.fetches port.new }
         ensures port_faults { D.port_faults port.old ≤ D.port_faults port.new }
     {
         self.core.state.may_change()?;
@@ -133,7 +132,6 @@ impl<D: Disk> Engine<D> {
         // Numbers are drawn no faster than device calls are made.
         ensures numbers { D.tells → self.new.core.state.next + (D.seen self.old.core.disk).moment ≤ self.old.core.state.next + (D.seen self.new.core.disk).moment }
         ensures faults { D.faults self.old.core.disk ≤ D.faults self.new.core.disk }
-        ensures later { D.fetches port.old ≤ D.fetches port.new }
         ensures port_faults { D.port_faults port.old ≤ D.port_faults port.new }
     {
         self.core.state.may_change()?;
