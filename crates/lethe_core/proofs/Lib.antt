@@ -14,3 +14,5 @@ pub mod Keyed
 pub mod Places
 pub mod Short
 pub mod Merged
+pub mod Outcomes
+pub mod Retold
