@@ -1,5 +1,5 @@
 -- Steps that went wrong, and steps one after another: what they keep.
-use Rattle.std.proofs.Common.{◌≡◌, ◌≤◌, ◌<◌, ◌⊎◌, inl, inr, ℕ, ◌+◌, List, Option, Some, None, Result, Ok, Err, refl, sym, ap, ◌∙◌, subst, arith}
+use Rattle.std.proofs.Common.{◌≡◌, ◌≤◌, ◌<◌, ◌⊎◌, inl, inr, ℕ, ◌+◌, List, Option, Some, None, Result, Err, refl, sym, ap, subst, arith}
 use Rattle.std.specs.Prelude.{IfSome}
 use Rattle.std.proofs.lemmas.List.Elements.{All-weaker}
 use Rattle.lethe_base.specs.History.{History, Change}
@@ -11,7 +11,7 @@ use Rattle.lethe_base.specs.declared.config.Fields.{Fields}
 use Rattle.lethe_base.specs.declared.name.Kind.TheVariants.{Page}
 use Rattle.lethe_base.specs.declared.name.Name.{Name}
 use Rattle.lethe_base.specs.declared.refused.Refused.{Refused}
-use Rattle.lethe_base.specs.declared.refused.Refused.TheVariants.{Fault, Stopped, Backwards, Pinned, NothingDue, Cancelled, Exhausted, ReadFault, NoMemory, Damaged}
+use Rattle.lethe_base.specs.declared.refused.Refused.TheVariants.{Fault, Exhausted, NoMemory}
 use Rattle.lethe_disk.specs.Disk.{Image}
 use Rattle.lethe_disk.specs.Goes.{Goes}
 use Rattle.lethe_disk.proofs.Going.{goes_then}
@@ -98,38 +98,17 @@ module _ (Tells : Type 0) (old new : View) (before : ℕ) where
   pub hindered_sound : old.state.count < max_place → IsSound Tells old → (why : Refused) → IsHindered Tells old new before why → IsSound Tells new
   hindered_sound fits sound (Fault place b a) is = subst (IsSound Tells) (is_beside old new (halted old.state) is.4 is.5) (sound_halted Tells old new fits sound)
   hindered_sound fits sound NoMemory is = sound_back Tells old new is.2 is.0 is.1 sound
-  hindered_sound fits sound (Stopped at) is = absurd is
-  hindered_sound fits sound (Backwards clock) is = absurd is
-  hindered_sound fits sound (Pinned pin limit) is = absurd is
-  hindered_sound fits sound NothingDue is = absurd is
-  hindered_sound fits sound (Cancelled begun other) is = absurd is
-  hindered_sound fits sound (Exhausted last) is = absurd is
-  hindered_sound fits sound (ReadFault b a) is = absurd is
-  hindered_sound fits sound (Damaged name) is = absurd is
+  hindered_sound fits sound why is = absurd is
 
   pub hindered_reason : (Short : Type 0) → old.state.stopped ≡ None → (why : Refused) → IsHindered Tells old new before why → HasReason Short old.state before new.faults why
   hindered_reason Short runs (Fault place b a) is = (runs, is.0, is.1, is.2, is.3)
   hindered_reason Short runs NoMemory is = tt
-  hindered_reason Short runs (Stopped at) is = absurd is
-  hindered_reason Short runs (Backwards clock) is = absurd is
-  hindered_reason Short runs (Pinned pin limit) is = absurd is
-  hindered_reason Short runs NothingDue is = absurd is
-  hindered_reason Short runs (Cancelled begun other) is = absurd is
-  hindered_reason Short runs (Exhausted last) is = absurd is
-  hindered_reason Short runs (ReadFault b a) is = absurd is
-  hindered_reason Short runs (Damaged name) is = absurd is
+  hindered_reason Short runs why is = absurd is
 
   pub hindered_next : (why : Refused) → IsHindered Tells old new before why → new.state.next ≡ old.state.next
   hindered_next (Fault place b a) is = ap (λ (state : State). state.next) is.4
   hindered_next NoMemory is = ap (λ (state : State). state.next) is.0
-  hindered_next (Stopped at) is = absurd is
-  hindered_next (Backwards clock) is = absurd is
-  hindered_next (Pinned pin limit) is = absurd is
-  hindered_next NothingDue is = absurd is
-  hindered_next (Cancelled begun other) is = absurd is
-  hindered_next (Exhausted last) is = absurd is
-  hindered_next (ReadFault b a) is = absurd is
-  hindered_next (Damaged name) is = absurd is
+  hindered_next why is = absurd is
 
   module _ (config : Fields) (h : History) (stands : StandsNow config h old) (runs : old.state.stopped ≡ None) where
     halted_stands : old.state.count < max_place → Goes (λ c. IsKept c h) old.disk new.disk → Image new.disk new.disk.directory → (caller : ℕ) (call : Call) (b a : ℕ)
@@ -145,14 +124,7 @@ module _ (Tells : Type 0) (old new : View) (before : ℕ) where
         → IsHindered Tells old new before why → StandsNow config (refused_to h caller call why) new
     hindered_stands told fits goes here caller call (Fault place b a) is = subst (StandsNow config (refused_to h caller call (Fault place b a))) (is_beside old new (halted old.state) is.4 is.5) (halted_stands fits goes here caller call b a)
     hindered_stands told fits goes here caller call NoMemory is = stands_back old new (is.2 told) config h is.0 is.1 stands
-    hindered_stands told fits goes here caller call (Stopped at) is = absurd is
-    hindered_stands told fits goes here caller call (Backwards clock) is = absurd is
-    hindered_stands told fits goes here caller call (Pinned pin limit) is = absurd is
-    hindered_stands told fits goes here caller call NothingDue is = absurd is
-    hindered_stands told fits goes here caller call (Cancelled begun other) is = absurd is
-    hindered_stands told fits goes here caller call (Exhausted last) is = absurd is
-    hindered_stands told fits goes here caller call (ReadFault b a) is = absurd is
-    hindered_stands told fits goes here caller call (Damaged name) is = absurd is
+    hindered_stands told fits goes here caller call why is = absurd is
 
 -- What is kept
 

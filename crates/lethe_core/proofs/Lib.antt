@@ -16,3 +16,5 @@ pub mod Short
 pub mod Merged
 pub mod Outcomes
 pub mod Retold
+pub mod Installing
+pub mod Unread

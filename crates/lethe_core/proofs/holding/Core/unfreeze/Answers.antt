@@ -7,7 +7,6 @@ use Rattle.lethe_core.specs.Running.{Holds}
 use Rattle.lethe_core.specs.View.{view_of}
 use Rattle.lethe_core.proofs.Hindered.{keeps_itself}
 use Rattle.lethe_core.proofs.Stepped.{frozen_there, not_frozen}
-use Rattle.lethe_core.proofs.Next.{next_keeps}
 use Rattle.lethe_core.proofs.holding.Core.unfreeze.Goals as goal
 
 pub returns-then-is_none-clause-keeps : goal.returns-then-is_none-clause-keeps

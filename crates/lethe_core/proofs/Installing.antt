@@ -1,0 +1,112 @@
+-- From the drafts of a task's outputs to the step that installs them.
+use Rattle.std.proofs.Common.{◌≡◌, ◌≤◌, ℕ, List, [], All, Contains, Some, None, sym, ap, ◌∙◌, subst, arith}
+use Rattle.std.specs.Prelude.{IfSome}
+use Rattle.std.proofs.lemmas.List.Elements.{All-contains}
+use Rattle.lethe_base.specs.History.{History}
+use Rattle.lethe_base.specs.Layout.{entries_of}
+use Rattle.lethe_base.specs.declared.config.Fields.{Fields}
+use Rattle.lethe_base.specs.declared.entry.Entry.{Entry}
+use Rattle.lethe_base.specs.declared.name.Name.{Name}
+use Rattle.lethe_base.specs.declared.pending.Pending.{Pending}
+use Rattle.lethe_build.specs.Drafts.{AreDraftsOf}
+use Rattle.lethe_build.specs.declared.draft.Draft.{Draft}
+use Rattle.lethe_cover.proofs.Lists.{all_from, flat_from, flat_in}
+use Rattle.lethe_file.specs.Agreement.{FileAgrees}
+use Rattle.lethe_flush.specs.Made.{written_pages}
+use Rattle.lethe_follows.specs.Merged.{IsMerged, StoredMerge, entries_in, inputs_of}
+use Rattle.lethe_follows.proofs.Merging.{all_counted}
+use Rattle.lethe_header.specs.declared.header.Header.{Header}
+use Rattle.lethe_install.proofs.Beside.{input_in}
+use Rattle.lethe_job.specs.Tasks.{AreSound, IsBegunIn, IsTaskIn, PlainTask, inputs_in}
+use Rattle.lethe_merge.specs.Merge.{merged}
+use Rattle.lethe_stored.specs.Files.{IsFile, Parts, StoredFile, file_of}
+use Rattle.lethe_stored.specs.Kept.{IsFor}
+use Rattle.lethe_stored.specs.Levels.{AreRising}
+use Rattle.lethe_stored.specs.Stored.{IsCoherent, Stored, count_of, pending_of}
+use Rattle.lethe_advance.specs.Settled.{AreUncited, names_in}
+use Rattle.lethe_advance.specs.Steps.{IsStep}
+use Rattle.lethe_advance.specs.declared.step.Step.{Step}
+use Rattle.lethe_state.specs.Remembered.{IsCurrent, Remembers}
+use Rattle.lethe_state.specs.declared.state.State.{State}
+use Rattle.lethe_core.specs.Jobs.{AreOutputsOf}
+use Rattle.lethe_core.specs.Merges.{MayMerge}
+use Rattle.lethe_core.specs.Running.{Holds, IsTasked}
+use Rattle.lethe_core.specs.StandsNow.{IsCounted, StandsNow}
+use Rattle.lethe_core.specs.View.{Flying, View, loose_in}
+use Rattle.lethe_core.proofs.Merged.{inputs_same}
+use Rattle.lethe_core.proofs.Standing.{stands_for, stands_holds}
+
+-- The inputs of a task are files that are stored
+
+module _ (s : Stored) (coherent : IsCoherent s) (m : StoredMerge) (task : PlainTask) (is : IsTaskIn s m task) where
+  stored_input : (file : StoredFile) → Contains (inputs_in task) file → Contains s.files file
+  stored_input file there = input_in s coherent m is.merge file (subst (λ files. Contains files file) (inputs_same s m task is) there)
+
+  -- so their pages agree with their headers
+  pub sound_inputs : AreSound (inputs_in task)
+  sound_inputs = all_from (λ (file : StoredFile). FileAgrees file.header.tiles file.pages) (inputs_in task)
+      (λ file there. (All-contains (IsFile s.manifest.next) s.files file coherent.each (stored_input file there)).agrees)
+
+  -- and the places of all their entries are counted
+  pub counted_inputs : (h : History) → IsFor h s → task.upto ≡ count_of s → IsCounted task
+  counted_inputs h stands counted = all_from (λ (entry : Entry). entry.seq ≤ task.upto) (entries_in (inputs_in task)) (λ entry there.
+      let entries : StoredFile → List Entry = λ file. entries_of (file_of file) in
+      let found = flat_from entries (inputs_in task) entry there in
+      let stored = flat_in entries s.files found.0 entry (stored_input found.0 found.1) found.2 in
+      let low = All-contains (λ (entry : Entry). entry.seq ≤ count_of s) (entries_in s.files) entry (all_counted h s coherent stands) stored in
+      omega (arith, low, counted))
+
+-- Installing
+
+-- what the installing of a task's outputs promises, the first of whose pages were written under these names
+abbrev pub Installs : State → List (List Parts) → PlainTask → List Name → List Draft → List Header → Step → Type 0
+Installs state levels task written drafts headers step = (s : Stored) (m : StoredMerge) → Remembers s state levels → IsCurrent s state → AreRising s.files → IsTaskIn s m task → AreUncited s (written_pages written drafts)
+    → AreDraftsOf s.manifest.config (merged (entries_in (inputs_of m)) (pending_of s) task.alone) drafts
+    → (t : Stored) × IsMerged s m (pending_of s) task.alone task.upto t × IsStep s (written_pages written drafts) t [] headers step
+
+-- where these pages are the loose ones, it is a step that may be carried out
+pub next_merge : (view : View) (task : PlainTask) (written : List Name) (drafts : List Draft) (headers : List Header) (step : Step) → Installs view.state view.levels task written drafts headers step
+    → loose_in view.flight ≡ written_pages written drafts → AreDraftsOf task.config (merged (entries_in (inputs_in task)) task.erases task.alone) drafts
+    → (s : Stored) (m : StoredMerge) → Holds view s → IsTaskIn s m task → (t : Stored) × IsMerged s m (pending_of s) task.alone task.upto t × MayMerge view s task t headers step
+next_merge view task written drafts headers step installs loose of s m holds is =
+    let Are : Fields → List StoredFile → List Pending → Type 0 = λ config files erases. AreDraftsOf config (merged (entries_in files) erases task.alone) drafts in
+    let erased : Are task.config (inputs_in task) (pending_of s) = subst (Are task.config (inputs_in task)) is.erases of in
+    let filed : Are task.config (inputs_of m) (pending_of s) = subst (λ files. Are task.config files (pending_of s)) (inputs_same s m task is) erased in
+    let all : Are s.manifest.config (inputs_of m) (pending_of s) = subst (λ config. Are config (inputs_of m) (pending_of s)) is.config filed in
+    let made = installs s m holds.remembers holds.running.current holds.running.rising is (subst (AreUncited s) loose holds.running.uncited) all in (
+      made.0,
+      made.1,
+      record {
+        installed = record { m = m; tasked = is; merged_is = made.1 };
+        step_is = subst (λ pages. IsStep s pages made.0 [] headers step) (sym loose) made.2;
+      },
+    )
+
+-- for the job in flight
+module _ (view : View) (flying : Flying) (flies : view.flight ≡ Some flying) (Tells : Type 0) (drafts : List Draft) (headers : List Header) (step : Step) (outputs : AreOutputsOf Tells flying drafts) where
+  pub next_install : (task : PlainTask) (written : List Name) → Installs view.state view.levels task written drafts headers step → task ≡ flying.task → written ≡ names_in flying.written → Tells → (s : Stored) → Holds view s
+      → (t : Stored) × MayMerge view s flying.task t headers step
+  next_install task written installs same names told s holds =
+      let tasked = subst (λ flight. IfSome flight (IsTasked s)) flies holds.running.tasked in
+      let of = outputs.outputs.told told (sound_inputs s holds.remembers.coherent tasked.0 flying.task tasked.1) in
+      let its = subst (λ names. Installs view.state view.levels flying.task names drafts headers step) names (subst (λ task. Installs view.state view.levels task written drafts headers step) same installs) in
+      let next = next_merge view flying.task (names_in flying.written) drafts headers step its (ap loose_in flies ∙ outputs.pages) of s tasked.0 holds tasked.1 in
+      (next.0, next.2)
+
+-- for the merge that is due, where no job is in flight
+module _ (view : View) (task : PlainTask) (begins : (s : Stored) → Holds view s → IsBegunIn s task) where
+  pub begun_sound : (s : Stored) → Holds view s → AreSound (inputs_in task)
+  begun_sound s holds = let begun = begins s holds in sound_inputs s holds.remembers.coherent begun.m task begun.is
+
+  pub begun_counted : view.state.stopped ≡ None → (config : Fields) (h : History) → StandsNow config h view → IsCounted task
+  begun_counted runs config h stands =
+      let holds = stands_holds config h view stands runs in
+      let begun = begins stands.stored holds in
+      counted_inputs stands.stored holds.remembers.coherent begun.m task begun.is h (stands_for config h view stands runs) begun.counted
+
+  module _ (free : view.flight ≡ None) (Tells : Type 0) (drafts : List Draft) (headers : List Header) (step : Step) (installs : Installs view.state view.levels task [] drafts headers step)
+      (of : Tells → AreSound (inputs_in task) → AreDraftsOf task.config (merged (entries_in (inputs_in task)) task.erases task.alone) drafts) where
+    pub next_outcome : Tells → (s : Stored) (holds : Holds view s) → (t : Stored) × IsMerged s (begins s holds).m (pending_of s) task.alone task.upto t × MayMerge view s task t headers step
+    next_outcome told s holds =
+        let begun = begins s holds in
+        next_merge view task [] drafts headers step installs (ap loose_in free) (of told (begun_sound s holds)) s begun.m holds begun.is

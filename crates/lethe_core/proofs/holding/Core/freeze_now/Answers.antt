@@ -1,0 +1,85 @@
+use Rattle.std.proofs.Common.{rules, ◌≡◌, Err, sym, ap, ◌∙◌, subst}
+use Rattle.std.specs.Prelude.{option_map}
+use Rattle.lethe_state.specs.Room.{IsFrozen, IsFrozenWith}
+use Rattle.lethe_state.specs.declared.state.State.{State}
+use Rattle.lethe_core.specs.Keeps.{Keeps}
+use Rattle.lethe_core.specs.Steps.{stepped_to}
+use Rattle.lethe_core.specs.View.{flying_of, view_of}
+use Rattle.lethe_core.proofs.Carried.{IsCarried}
+use Rattle.lethe_core.proofs.Hindered.{hindered_keeps, keeps_itself, refused_before}
+use Rattle.lethe_core.proofs.Next.{frozen_for, frozen_next, next_done, next_keeps, next_moments, next_step}
+use Rattle.lethe_core.proofs.Stepped.{frozen_holds, not_frozen, small_frozen}
+use Rattle.lethe_core.proofs.holding.Core.freeze_now.Goals as goal
+
+pub returns-in_err-step-clause-keeps : goal.returns-in_err-step-clause-keeps
+returns-in_err-step-clause-keeps g c =
+    let why = c.in_err-step.field-0.0 in
+    let refusal : c.from_residual.result ≡ Err why = search rules in
+    keeps_itself g.D.Disk.tells (view_of c.args.self.now) c.requires.may.sound c.requires.may.runs c.from_residual.result
+    (λ h caller call. ap (stepped_to h caller call) refusal ∙ refused_before h caller call why c.in_err-step.ensures.refused)
+
+pub carry_out-requires-clause-step : goal.carry_out-requires-clause-step
+carry_out-requires-clause-step g c κs within =
+    let old = view_of c.args.self.now in
+    let headers = c.new.result.items in
+    let step = c.in_ok-step.step in
+    next_step IsFrozen g.D.Disk.tells old headers step c.args.before c.requires.may (frozen_next old c.requires.may.sound.flies headers step c.requires.may.sound.writable c.new.ensures.items c.in_ok-step.ensures.freezes)
+
+pub returns-in_err-carry_out-clause-keeps : goal.returns-in_err-carry_out-clause-keeps
+returns-in_err-carry_out-clause-keeps g c =
+    let old = view_of c.args.self.now in
+    let new = view_of c.carry_out.new.self in
+    let headers = c.new.result.items in
+    let step = c.in_ok-step.step in
+    let why = c.in_err-carry_out.field-0.0 in
+    let laws = g.met.D.Disk g.world.𝓛 g.world.𝓜 g.world.𝓡 ((λ s x. x), (λ x. x), (λ x. x), λ x. x) in
+    let refusal : c.from_residual-in_err-carry_out.result ≡ Err why = search rules in
+    let goes = next_moments IsFrozen g.D.Disk.tells old headers step c.args.before c.requires.may (frozen_next old c.requires.may.sound.flies headers step c.requires.may.sound.writable c.new.ensures.items c.in_ok-step.ensures.freezes)
+    new (λ h s t holds for is. frozen_for h s t old.state old.levels holds.remembers (not_frozen s old.state old.levels holds.remembers c.requires.unfrozen) for is) c.carry_out.ensures.moments in
+    subst (Keeps {T = Unit {0}} g.D.Disk.tells old new) (sym refusal)
+    (hindered_keeps g.D.Disk.tells old new c.args.before c.requires.may why c.in_err-carry_out.ensures.refused goes (λ told. laws.itself told c.carry_out.new.self.disk) c.carry_out.ensures.later c.carry_out.ensures.faults)
+
+pub returns-clause-keeps : goal.returns-clause-keeps
+returns-clause-keeps g c =
+    let old = view_of c.args.self.now in
+    let new = view_of (record c.carry_out.new.self { state = c.freeze.new.self }) in
+    let headers = c.new.result.items in
+    let step = c.in_ok-step.step in
+    let with = subst (λ (state : State). IsFrozenWith step.manifest state new.state) c.in_ok-carry_out.ensures.state c.freeze.ensures.is in
+    let carried : IsCarried g.D.Disk.tells old new headers step = record {
+      moments = c.carry_out.ensures.moments;
+      done = c.in_ok-carry_out.ensures.done;
+      kept = c.in_ok-carry_out.ensures.kept;
+      files = c.in_ok-carry_out.ensures.files;
+      levels = c.carry_out.ensures.levels;
+      flight = ap (option_map flying_of) c.carry_out.ensures.flight;
+      calls = c.in_ok-carry_out.ensures.calls;
+      faults = c.carry_out.ensures.faults;
+    } in
+    let from = c.in_ok-step.ensures.step in
+    next_keeps IsFrozen g.D.Disk.tells old headers step c.args.before c.requires.may (frozen_next old c.requires.may.sound.flies headers step c.requires.may.sound.writable c.new.ensures.items c.in_ok-step.ensures.freezes)
+    new (λ h s t holds for is. frozen_for h s t old.state old.levels holds.remembers (not_frozen s old.state old.levels holds.remembers c.requires.unfrozen) for is) carried
+    (λ told s t holds made is. frozen_holds g.D.Disk.tells s t old new headers step carried told holds is made c.requires.unfrozen with)
+    2 from with.manifest_is with.next (c.freeze.ensures.is.count ∙ ap (λ (state : State). state.count) c.in_ok-carry_out.ensures.state) c.freeze.ensures.writable
+    (small_frozen step.manifest old.state new.state with from.config c.requires.may.sound.small)
+
+pub returns-clause-done : goal.returns-clause-done
+returns-clause-done g c =
+    let old = view_of c.args.self.now in
+    let new = view_of (record c.carry_out.new.self { state = c.freeze.new.self }) in
+    let headers = c.new.result.items in
+    let step = c.in_ok-step.step in
+    let with = subst (λ (state : State). IsFrozenWith step.manifest state new.state) c.in_ok-carry_out.ensures.state c.freeze.ensures.is in
+    let carried : IsCarried g.D.Disk.tells old new headers step = record {
+      moments = c.carry_out.ensures.moments;
+      done = c.in_ok-carry_out.ensures.done;
+      kept = c.in_ok-carry_out.ensures.kept;
+      files = c.in_ok-carry_out.ensures.files;
+      levels = c.carry_out.ensures.levels;
+      flight = ap (option_map flying_of) c.carry_out.ensures.flight;
+      calls = c.in_ok-carry_out.ensures.calls;
+      faults = c.carry_out.ensures.faults;
+    } in
+    next_done IsFrozen g.D.Disk.tells old headers step c.args.before c.requires.may (frozen_next old c.requires.may.sound.flies headers step c.requires.may.sound.writable c.new.ensures.items c.in_ok-step.ensures.freezes)
+    new (λ h s t holds for is. frozen_for h s t old.state old.levels holds.remembers (not_frozen s old.state old.levels holds.remembers c.requires.unfrozen) for is) carried
+    (λ told s t holds made is. frozen_holds g.D.Disk.tells s t old new headers step carried told holds is made c.requires.unfrozen with)

@@ -1,0 +1,44 @@
+use Rattle.std.proofs.Common.{rules, ◌≡◌, Some, Err, sym, ap, subst}
+use Rattle.std.specs.Prelude.{IfSome, OnOk, option_map}
+use Rattle.lethe_flush.proofs.Results.{ok_weaker}
+use Rattle.lethe_stored.specs.Stored.{Stored}
+use Rattle.lethe_job.specs.Tasks.{plain_task}
+use Rattle.lethe_core.specs.Jobs.{AreOutputsOf}
+use Rattle.lethe_core.specs.Keeps.{Keeps}
+use Rattle.lethe_core.specs.Merges.{IsInstalled}
+use Rattle.lethe_core.specs.Running.{Holds}
+use Rattle.lethe_core.specs.StandsNow.{IsCounted}
+use Rattle.lethe_core.specs.View.{flying_of, view_of}
+use Rattle.lethe_core.proofs.Hindered.{keeps_itself, refused_before}
+use Rattle.lethe_core.proofs.Installing.{next_install}
+use Rattle.lethe_core.proofs.holding.Core.install_now.Goals as goal
+
+pub returns-in_err-headers-clause-keeps : goal.returns-in_err-headers-clause-keeps
+returns-in_err-headers-clause-keeps g c =
+    let view = view_of c.args.self.now in
+    let why = c.in_err-headers.field-0.0 in
+    let refusal : c.from_residual.result ≡ Err why = search rules in
+    subst (Keeps {T = Unit {0}} g.D.Disk.tells view view) (sym refusal)
+    (keeps_itself g.D.Disk.tells view c.requires.may.sound c.requires.may.runs (Err why) (λ h caller call. refused_before h caller call why c.in_err-headers.ensures.refused))
+
+pub merge_now-requires-clause-merges : goal.merge_now-requires-clause-merges
+merge_now-requires-clause-merges g c κs within = λ told s holds.
+    let view = view_of c.args.self.now in
+    let flying = flying_of c.in-Some.flight in
+    let flies : view.flight ≡ Some flying = ap (option_map flying_of) c.in-Some.is in
+    let outputs = subst (λ flight. IfSome flight (λ flying. AreOutputsOf g.D.Disk.tells flying c.args.drafts.items)) flies c.requires.outputs in
+    let next = next_install view flying flies g.D.Disk.tells c.args.drafts.items c.in_ok-headers.headers.items c.in_ok-headers.step outputs (plain_task c.deref.result.now) c.names.result.now c.in_ok-headers.ensures.installs
+    (ap plain_task c.deref.ensures) c.names.ensures told s holds in
+    (flying.task, next.0, next.1, λ config h stands. subst (λ flight. IfSome flight (λ flying. IsCounted flying.task)) flies stands.counted)
+
+pub returns-clause-done : goal.returns-clause-done
+returns-clause-done g c = λ told s holds.
+    let view = view_of c.args.self.now in
+    let after = view_of c.merge_now.new.self in
+    let flying = flying_of c.in-Some.flight in
+    let flies : view.flight ≡ Some flying = ap (option_map flying_of) c.in-Some.is in
+    let outputs = subst (λ flight. IfSome flight (λ flying. AreOutputsOf g.D.Disk.tells flying c.args.drafts.items)) flies c.requires.outputs in
+    let next = next_install view flying flies g.D.Disk.tells c.args.drafts.items c.in_ok-headers.headers.items c.in_ok-headers.step outputs (plain_task c.deref.result.now) c.names.result.now c.in_ok-headers.ensures.installs
+    (ap plain_task c.deref.ensures) c.names.ensures told s holds in
+    subst (λ flight. IfSome flight (λ flying. OnOk c.merge_now.result ((t : Stored) × IsInstalled s flying.task t × Holds after t))) (sym flies)
+    (ok_weaker c.merge_now.result _ _ (c.merge_now.ensures.done told s flying.task next.0 holds next.1) (λ done holds. (next.0, next.1.installed, holds)))

@@ -1,0 +1,97 @@
+use Rattle.std.proofs.Common.{rules, ◌≡◌, ◌⊎◌, inl, Some, None, Err, [], refl, sym, ap, ◌∙◌, subst, arith}
+use Rattle.std.specs.Prelude.{Bool, IfErr, IfSome, option_map}
+use Rattle.lethe_base.specs.declared.refused.Refused.{Refused}
+use Rattle.lethe_stored.specs.Stored.{Stored}
+use Rattle.lethe_job.specs.Tasks.{IsBegunIn, plain_task}
+use Rattle.lethe_core.specs.Changes.{refused_to}
+use Rattle.lethe_core.specs.Keeps.{Keeps}
+use Rattle.lethe_core.specs.Merges.{IsShortToMerge}
+use Rattle.lethe_core.specs.Reasons.{HasReason, IsUnreadable}
+use Rattle.lethe_core.specs.Running.{Holds}
+use Rattle.lethe_core.specs.View.{flying_of, view_of}
+use Rattle.lethe_core.proofs.Hindered.{keeps_itself, keeps_refused, refused_before}
+use Rattle.lethe_core.proofs.Installing.{begun_counted, begun_sound, next_outcome}
+use Rattle.lethe_core.proofs.Unread.{short_reason, told_before, told_reason}
+use Rattle.lethe_core.proofs.holding.Core.merge_next.Goals as goal
+
+pub returns-in-Ok-None-clause-keeps : goal.returns-in-Ok-None-clause-keeps
+returns-in-Ok-None-clause-keeps g c = keeps_itself g.D.Disk.tells (view_of c.args.self.now) c.requires.may.sound c.requires.may.runs _ (λ h caller call. refl)
+
+pub returns-in-Err-clause-keeps : goal.returns-in-Err-clause-keeps
+returns-in-Err-clause-keeps g c = keeps_itself g.D.Disk.tells (view_of c.args.self.now) c.requires.may.sound c.requires.may.runs _ (λ h caller call. refl)
+
+pub returns-in-Err-outcome-clause-keeps : goal.returns-in-Err-outcome-clause-keeps
+returns-in-Err-outcome-clause-keeps g c =
+    keeps_itself g.D.Disk.tells (view_of c.args.self.now) c.requires.may.sound c.requires.may.runs _ (λ h caller call. ap (refused_to h caller call) c.told_as.ensures ∙ told_before h caller call c.in-Err-outcome.why)
+
+pub returns-in-Err-outcome-clause-why : goal.returns-in-Err-outcome-clause-why
+returns-in-Err-outcome-clause-why g c =
+    let core = c.args.self.now in
+    let view = view_of core in
+    let Short = IsShortToMerge g.D.Disk.tells view in
+    let earlier = g.D.Disk.port_faults c.args.port.now in
+    let later = g.D.Disk.port_faults c.outcome.new.port in
+    let task = plain_task c.in-Ok-Some.task in
+    let found : c.in-Ok-Some.field-0 ≡ Some c.in-Ok-Some.task = cc in
+    let begins : (s : Stored) → Holds view s → IsBegunIn s task = λ s holds. subst (λ found. IfSome found (λ task. IsBegunIn s (plain_task task))) found (c.in-Ok-Some.ensures.some s holds) in
+    subst (λ (why : Refused). HasReason Short view.state c.args.before view.faults why ⊎ IsUnreadable g.D.Disk.tells g.D.Disk.ports_fail earlier later why) (sym c.told_as.ensures)
+    (told_reason Short g.D.Disk.tells g.D.Disk.ports_fail view.state c.args.before view.faults earlier later c.in-Err-outcome.why c.in-Err-outcome.ensures.cause c.in-Err-outcome.ensures.can_fail (λ told name is.
+    let held = c.requires.may.sound.held told in
+    let holds : Holds view held.0 = record { remembers = held.1; running = held.2 c.requires.may.runs } in
+    c.in-Err-outcome.ensures.undamaged told (begun_sound view task begins held.0 holds) name (ap Err is)))
+
+pub returns-in_err-headers-clause-keeps : goal.returns-in_err-headers-clause-keeps
+returns-in_err-headers-clause-keeps g c =
+    let view = view_of c.args.self.now in
+    let why = c.in_err-headers.field-0.0 in
+    let refusal : c.from_residual.result ≡ Err why = search rules in
+    subst (Keeps {T = Bool} g.D.Disk.tells view view) (sym refusal)
+    (keeps_itself g.D.Disk.tells view c.requires.may.sound c.requires.may.runs (Err why) (λ h caller call. refused_before h caller call why c.in_err-headers.ensures.refused))
+
+pub returns-in_err-headers-clause-why : goal.returns-in_err-headers-clause-why
+returns-in_err-headers-clause-why g c =
+    let view = view_of c.args.self.now in
+    let Short = IsShortToMerge g.D.Disk.tells view in
+    let task = plain_task c.in-Ok-Some.task in
+    let found : c.in-Ok-Some.field-0 ≡ Some c.in-Ok-Some.task = cc in
+    let begins : (s : Stored) → Holds view s → IsBegunIn s task = λ s holds. subst (λ found. IfSome found (λ task. IsBegunIn s (plain_task task))) found (c.in-Ok-Some.ensures.some s holds) in
+    let why = c.in_err-headers.field-0.0 in
+    let refusal : c.from_residual.result ≡ Err why = search rules in
+    let earlier = g.D.Disk.port_faults c.args.port.now in
+    let later = g.D.Disk.port_faults c.outcome.new.port in
+    subst (λ result. IfErr result (λ why. HasReason Short view.state c.args.before view.faults why ⊎ IsUnreadable g.D.Disk.tells g.D.Disk.ports_fail earlier later why)) (sym refusal)
+    (inl (short_reason Short view.state c.args.before view.faults c.requires.may.runs why c.in_err-headers.ensures.refused (λ is. record {
+      drafts = c.in-Ok.drafts.items;
+      short = let short = c.in_err-headers.ensures.exhausted (ap Err is) in omega (arith, short);
+      are = λ told s holds. (task, begins s holds, c.in-Ok.ensures.drafts told (begun_sound view task begins s holds));
+    })))
+
+pub merge_now-requires-clause-merges : goal.merge_now-requires-clause-merges
+merge_now-requires-clause-merges g c κs within = λ told s holds.
+    let view = view_of c.args.self.now in
+    let task = plain_task c.in-Ok-Some.task in
+    let found : c.in-Ok-Some.field-0 ≡ Some c.in-Ok-Some.task = cc in
+    let begins : (s : Stored) → Holds view s → IsBegunIn s task = λ s holds. subst (λ found. IfSome found (λ task. IsBegunIn s (plain_task task))) found (c.in-Ok-Some.ensures.some s holds) in
+    let next = next_outcome view task begins (ap (option_map flying_of) c.requires.free) g.D.Disk.tells c.in-Ok.drafts.items c.in_ok-headers.headers.items c.in_ok-headers.step c.in_ok-headers.ensures.installs c.in-Ok.ensures.drafts told s holds in
+    (task, next.0, next.2, begun_counted view task begins c.requires.may.runs)
+
+pub returns-in_err-merge_now-clause-keeps : goal.returns-in_err-merge_now-clause-keeps
+returns-in_err-merge_now-clause-keeps g c =
+    let old = view_of c.args.self.now in
+    let new = view_of c.merge_now.new.self in
+    let why = c.in_err-merge_now.field-0.0 in
+    let refusal : c.from_residual-in_err-merge_now.result ≡ Err why = search rules in
+    subst (Keeps {T = Bool} g.D.Disk.tells old new) (sym refusal) (keeps_refused {A = Unit {0}} {B = Bool} g.D.Disk.tells old new why c.in_err-merge_now.ensures.keeps)
+
+pub returns-clause-done : goal.returns-clause-done
+returns-clause-done g c = λ told s holds is.
+    let view = view_of c.args.self.now in
+    let task = plain_task c.in-Ok-Some.task in
+    let found : c.in-Ok-Some.field-0 ≡ Some c.in-Ok-Some.task = cc in
+    let begins : (s : Stored) → Holds view s → IsBegunIn s task = λ s holds. subst (λ found. IfSome found (λ task. IsBegunIn s (plain_task task))) found (c.in-Ok-Some.ensures.some s holds) in
+    let next = next_outcome view task begins (ap (option_map flying_of) c.requires.free) g.D.Disk.tells c.in-Ok.drafts.items c.in_ok-headers.headers.items c.in_ok-headers.step c.in_ok-headers.ensures.installs c.in-Ok.ensures.drafts told s holds in (
+      record { task = task; to = next.0 },
+      record { begun = begins s holds; merged_is = next.1 },
+      c.in_ok-merge_now.ensures.done told s task next.0 holds next.2,
+      c.in-Ok.ensures.fetches,
+    )
