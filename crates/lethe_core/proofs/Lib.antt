@@ -17,5 +17,7 @@ pub mod Keyed
 pub mod Places
 pub mod Short
 pub mod Merged
+pub mod Outcomes
+pub mod Retold
 pub mod Installing
 pub mod Unread

@@ -38,6 +38,11 @@ IsUnreadable Tells PortsFail before now (Pinned pin limit) = ⊥
 IsUnreadable Tells PortsFail before now NothingDue = ⊥
 IsUnreadable Tells PortsFail before now (Cancelled begun other) = ⊥
 
+-- the same refusal of several reads, with the count of a port's faults before the first of them
+abbrev pub told_since : ℕ → Refused → Refused
+told_since earlier (ReadFault before now) = ReadFault earlier now
+told_since earlier why = why
+
 -- Numbers run out for making room: those of a segment and a manifest, and where a buffer is frozen first those of its files' objects and of the
 -- manifest that cites them.
 abbrev pub IsShortFor : Option Buffered → State → Type 0

@@ -12,7 +12,7 @@ ghost use Rattle.lethe_job.specs.Jobs.{told_as};
 ghost use Rattle.lethe_job.specs.Tasks.{PlainTask, inputs_in, pages_in};
 ghost use Rattle.lethe_core.specs.Keeps.{Keeps, MayStep};
 ghost use Rattle.lethe_core.specs.Merges.{AreOutcomes, HasNoMerge, IsCrowded, IsOutcome, IsShortToMerge, IsUncrowded, MayMerge, Outcome, pages_of};
-ghost use Rattle.lethe_core.specs.Reasons.{HasReason, IsUnreadable};
+ghost use Rattle.lethe_core.specs.Reasons.{HasReason, IsUnreadable, told_since};
 ghost use Rattle.lethe_core.specs.Running.{Holds, IsSound};
 ghost use Rattle.lethe_core.specs.StandsNow.{IsCounted, StandsNow};
 ghost use Rattle.lethe_core.specs.Steps.{IsSteady};
@@ -81,10 +81,14 @@ impl<D: Disk> Core<D> {
         ensures free { self.new.flight ≡ None }
         ensures port_faults { D.port_faults port.old ≤ D.port_faults port.new }
     {
+        let earlier = D::port_faults(port);
+
         // Each merge brings an entry a level down, so there are no more of them than levels that the entries have still to go.
         for _ in 0..self.most_merges(alloc)?.saturating_add(1) {
-            if !self.merge_next(alloc, port, before)? {
-                return Ok(());
+            match self.merge_next(alloc, port, before) {
+                Ok(true) => {}
+                Ok(false) => return Ok(()),
+                Err(why) => return Err(told_since(why, earlier)),
             }
         }
         Ok(())
@@ -174,5 +178,18 @@ fn told_as(why: ReadRefused) -> Refused
         ReadRefused::ReadFault { before, after } => Refused::ReadFault { before, after },
         ReadRefused::Damaged { name } => Refused::Damaged { name },
         ReadRefused::NoMemory => Refused::NoMemory,
+    }
+}
+
+/// The same refusal of several reads, with the count of a port's faults before the first of them.
+fn told_since(why: Refused, earlier: u64) -> Refused
+    ensures { result ≡ told_since earlier why }
+{
+    match why {
+        Refused::ReadFault { after, .. } => Refused::ReadFault {
+            before: earlier,
+            after,
+        },
+        why => why,
     }
 }

@@ -1,0 +1,137 @@
+-- Merges one after another.
+use Rattle.std.proofs.Common.{◌≡◌, ◌≤◌, ◌<◌, ℕ, ◌+◌, ◌^◌, ◌-◌, min, List, [], ◌∷◌, ◌++◌, Ok, refl, sym, ap, ◌∙◌, subst, arith}
+use Rattle.std.specs.Prelude.{Bool, true, sum_by}
+use Rattle.std.proofs.lemmas.List.Sums.{sum_by-append}
+use Rattle.lethe_base.specs.declared.config.Fields.{Fields}
+use Rattle.lethe_manifest.specs.declared.manifest.Manifest.{Manifest}
+use Rattle.lethe_stored.specs.Stored.{Stored, pending_of}
+use Rattle.lethe_job.specs.Tasks.{inputs_in, pages_in}
+use Rattle.lethe_core.specs.Descent.{steps_down}
+use Rattle.lethe_core.specs.Keeps.{Keeps, MayStep}
+use Rattle.lethe_core.specs.Merges.{AreOutcomes, HasNoMerge, IsOutcome, Outcome, pages_of}
+use Rattle.lethe_core.specs.Running.{Holds}
+use Rattle.lethe_core.specs.Steps.{IsSteady}
+use Rattle.lethe_core.specs.View.{View}
+use Rattle.lethe_core.proofs.Descending.{few_steps, goes_down}
+use Rattle.lethe_core.proofs.Hindered.{keeps_itself, keeps_then}
+
+-- as the outcomes of all merges that are due, but others may be due behind them
+abbrev pub AreSome : Stored → List Outcome → Stored → Type 0
+AreSome s [] t = t ≡ s
+AreSome s (outcome ∷ more) t = IsOutcome s outcome × AreSome outcome.to more t
+
+some_more : (s : Stored) (outcomes : List Outcome) (t : Stored) (next : Outcome) → AreSome s outcomes t → IsOutcome t next → AreSome s (outcomes ++ next ∷ []) next.to
+some_more s [] t next are is = (subst (λ x. IsOutcome x next) are is, refl)
+some_more s (outcome ∷ more) t next are is = (are.0, some_more outcome.to more t next are.1 is)
+
+some_ended : (s : Stored) (outcomes : List Outcome) (t : Stored) → AreSome s outcomes t → HasNoMerge t → AreOutcomes s outcomes t
+some_ended s [] t are none = (subst HasNoMerge are none, are)
+some_ended s (outcome ∷ more) t are none = (are.0, some_ended outcome.to more t are.1 none)
+
+-- what is stored behind so many merges, whose pages were fetched
+pub record AreBehind (s : Stored) (new : View) (count fetched : ℕ) : Type 0 where
+  pub outcomes : List Outcome
+  pub to : Stored
+  pub are : AreSome s outcomes to
+  pub holds : Holds new to
+  pub pages : pages_of outcomes ≡ fetched
+  pub down : steps_down s.manifest.config.levels to.files + count ≤ steps_down s.manifest.config.levels s.files
+
+-- Of a store that has carried out so many merges: what it keeps and what is stored, by its port's counts of fetches and of faults.
+pub record HasMerged (Tells : Type 0) (old new : View) (count fetches fetches' faults faults' : ℕ) : Type 0 where
+  pub keeps : Keeps {T = Unit {0}} Tells old new (Ok tt)
+  pub steady : IsSteady old.state new.state
+  pub behind : Tells → (s : Stored) → Holds old s → (fetched : ℕ) × AreBehind s new count fetched × (fetches' ≡ fetches + fetched)
+  pub later : fetches ≤ fetches'
+  pub port_faults : faults ≤ faults'
+
+pub none_merged : (Tells : Type 0) (view : View) (before fetches faults : ℕ) → MayStep Tells view before → HasMerged Tells view view 0 fetches fetches faults faults
+none_merged Tells view before fetches faults may = record {
+  keeps = keeps_itself Tells view may.sound may.runs (Ok tt) (λ h caller call. refl);
+  steady = record { stopped = refl; count = refl; records = refl; config = refl };
+  behind = λ told s holds. (0, record { outcomes = []; to = s; are = refl; holds = holds; pages = refl; down = omega arith }, omega arith);
+  later = omega arith;
+  port_faults = omega arith;
+}
+
+-- what is stored has the configuration of the store that remembers it
+config_held : (view : View) (s : Stored) → Holds view s → s.manifest.config ≡ view.state.manifest.config
+config_held view s holds = ap (λ (m : Manifest). m.config) (sym holds.remembers.manifest)
+
+module _ (Tells : Type 0) (old mid : View) (before count f0 f1 p0 p1 : ℕ) (merged : HasMerged Tells old mid count f0 f1 p0 p1) where
+  pub merged_may : MayStep Tells old before → MayStep Tells mid before
+  merged_may may =
+      let count_is = merged.steady.count in
+      let rose = merged.keeps.faults in
+      record {
+        sound = merged.keeps.sound;
+        runs = merged.steady.stopped ∙ may.runs;
+        fits = let below = may.fits in omega (arith, below, count_is);
+        told_from = let told = may.told_from in omega (arith, told, rose);
+      }
+
+  merged_steady : (new : View) → IsSteady mid.state new.state → IsSteady old.state new.state
+  merged_steady new steady = record {
+    stopped = steady.stopped ∙ merged.steady.stopped;
+    count = steady.count ∙ merged.steady.count;
+    records = steady.records ∙ merged.steady.records;
+    config = steady.config ∙ merged.steady.config;
+  }
+
+  levels_same : (s t : Stored) → Holds old s → Holds mid t → t.manifest.config.levels ≡ s.manifest.config.levels
+  levels_same s t first then = ap (λ (fields : Fields). fields.levels) (config_held mid t then ∙ merged.steady.config ∙ sym (config_held old s first))
+
+  pub once_more : (new : View) (f2 p2 : ℕ) → Keeps {T = Bool} Tells mid new (Ok true) → IsSteady mid.state new.state
+      → (Tells → (t : Stored) → Holds mid t → (next : Outcome) × IsOutcome t next × Holds new next.to × (f2 ≡ f1 + pages_in (inputs_in next.task))) → f1 ≤ f2 → p1 ≤ p2
+      → HasMerged Tells old new (count + 1) f0 f2 p0 p2
+  once_more new f2 p2 keeps steady done later faults = record {
+    keeps = let both = keeps_then Tells old mid new _ (λ h caller call. refl) merged.keeps (Ok true) keeps in
+        record { sound = both.sound; stands = both.stands; any_moment = both.any_moment; numbers = both.numbers; faults = both.faults };
+    steady = merged_steady new steady;
+    behind = λ told s holds.
+        let had = merged.behind told s holds in
+        let are = had.1 in
+        let t = are.to in
+        let made = done told t are.holds in
+        let next = made.0 in
+        let is = made.1 in
+        let more = pages_in (inputs_in next.task) in
+        let lower : steps_down t.manifest.config.levels next.to.files < steps_down t.manifest.config.levels t.files =
+            goes_down t is.begun.m are.holds.remembers.coherent is.begun.is.merge next.to (pending_of t) next.task.alone next.task.upto is.merged_is in
+        let below = subst (λ levels. steps_down levels next.to.files < steps_down levels t.files) (levels_same s t holds are.holds) lower in
+        let down = are.down in
+        let all = sum_by-append (λ (outcome : Outcome). pages_in (inputs_in outcome.task)) are.outcomes (next ∷ []) in
+        let pages = are.pages in
+        let first = had.2 in
+        let then = made.3 in (
+          had.0 + more,
+          record {
+            outcomes = are.outcomes ++ next ∷ [];
+            to = next.to;
+            are = some_more s are.outcomes t next are.are is;
+            holds = made.2;
+            pages = omega (arith, all, pages);
+            down = omega (arith, below, down);
+          },
+          omega (arith, first, then),
+        );
+    later = let early = merged.later in omega (arith, early, later);
+    port_faults = let early = merged.port_faults in omega (arith, early, faults);
+  }
+
+  -- no merge is due any more
+  pub no_more : Tells → (s : Stored) → Holds old s → ((t : Stored) → Holds mid t → HasNoMerge t)
+      → (t : Stored) × (outcomes : List Outcome) × AreOutcomes s outcomes t × Holds mid t × (f1 ≡ f0 + pages_of outcomes)
+  no_more told s holds none =
+      let had = merged.behind told s holds in
+      let are = had.1 in
+      let pages = are.pages in
+      let fetched = had.2 in
+      (are.to, are.outcomes, some_ended s are.outcomes are.to are.are (none are.to are.holds), are.holds, omega (arith, pages, fetched))
+
+  -- there are no more merges than steps down
+  pub too_many : Tells → (s : Stored) → Holds old s → (most : ℕ) → most ≡ steps_down s.manifest.config.levels s.files → min (most + 1) (2 ^ 64 - 1) ≤ count → ⊥
+  too_many told s holds most most_is many =
+      let down = (merged.behind told s holds).1.down in
+      let few = few_steps s holds.remembers.coherent in
+      omega (arith, down, few, most_is, many)

@@ -1,0 +1,81 @@
+-- A refusal behind steps that were carried out is one of the whole.
+use Rattle.std.proofs.Common.{◌≡◌, ◌≤◌, ◌⊎◌, inl, inr, ℕ, ◌+◌, Ok, Err, refl, sym, ap, ◌∙◌, subst, arith}
+use Rattle.lethe_base.specs.History.{History}
+use Rattle.lethe_base.specs.declared.call.Call.{Call}
+use Rattle.lethe_base.specs.declared.refused.Refused.{Refused}
+use Rattle.lethe_base.specs.declared.refused.Refused.TheVariants.{Fault, Stopped, Backwards, Pinned, NothingDue, Cancelled, Exhausted, ReadFault, NoMemory, Damaged}
+use Rattle.lethe_state.specs.declared.state.State.{State}
+use Rattle.lethe_core.specs.Changes.{refused_to}
+use Rattle.lethe_core.specs.Keeps.{Keeps}
+use Rattle.lethe_core.specs.Reasons.{HasReason, IsUnreadable, told_since}
+use Rattle.lethe_core.specs.StandsNow.{StandsNow}
+use Rattle.lethe_core.specs.Steps.{IsSteady}
+use Rattle.lethe_core.specs.View.{View}
+use Rattle.lethe_core.proofs.Hindered.{keeps_then}
+
+-- whatever count of a port's faults it is told with, the history behind it is the same
+since_same : (h : History) (caller : ℕ) (call : Call) (earlier : ℕ) (why : Refused) → refused_to h caller call why ≡ refused_to h caller call (told_since earlier why)
+since_same h caller call earlier (Fault place before now) = refl
+since_same h caller call earlier (Stopped at) = refl
+since_same h caller call earlier (Backwards clock) = refl
+since_same h caller call earlier (Pinned pin limit) = refl
+since_same h caller call earlier NothingDue = refl
+since_same h caller call earlier (Cancelled begun now) = refl
+since_same h caller call earlier (Exhausted last) = refl
+since_same h caller call earlier (ReadFault before now) = refl
+since_same h caller call earlier NoMemory = refl
+since_same h caller call earlier (Damaged name) = refl
+
+pub keeps_since : {A : Type 0} (Tells : Type 0) (old mid new : View) → Keeps {T = Unit {0}} Tells old mid (Ok tt) → (why : Refused) (earlier : ℕ) → Keeps {T = A} Tells mid new (Err why)
+    → Keeps {T = Unit {0}} Tells old new (Err (told_since earlier why))
+keeps_since {A} Tells old mid new before why earlier keeps =
+    let both : Keeps {T = A} Tells old new (Err why) = keeps_then Tells old mid new _ (λ h caller call. refl) before (Err why) keeps in
+    record {
+      sound = both.sound;
+      stands = λ told config h stands caller call. subst (λ g. StandsNow config g new) (since_same h caller call earlier why) (both.stands told config h stands caller call);
+      any_moment = both.any_moment;
+      numbers = both.numbers;
+      faults = both.faults;
+    }
+
+-- its reason is one of the whole
+pub reason_behind : (Short : Type 0) (old mid : State) (before now : ℕ) → IsSteady old mid → (why : Refused) → HasReason Short mid before now why → HasReason Short old before now why
+reason_behind Short old mid before now steady (Fault place b a) is = (sym steady.stopped ∙ is.0, is.1 ∙ ap (λ n. n + 1) steady.count, is.2, is.3, is.4)
+reason_behind Short old mid before now steady (Stopped at) is = sym steady.stopped ∙ is
+reason_behind Short old mid before now steady (Exhausted last) is = (sym steady.stopped ∙ is.0, is.1, elim is.2 [ | inl full ↦ inl (sym steady.count ∙ full) | inr short ↦ inr short ])
+reason_behind Short old mid before now steady NoMemory is = tt
+reason_behind Short old mid before now steady (Backwards clock) is = is
+reason_behind Short old mid before now steady (Pinned pin limit) is = is
+reason_behind Short old mid before now steady NothingDue is = is
+reason_behind Short old mid before now steady (Cancelled begun other) is = is
+reason_behind Short old mid before now steady (ReadFault b a) is = is
+reason_behind Short old mid before now steady (Damaged name) is = is
+
+reason_since : (Short : Type 0) (state : State) (before now earlier : ℕ) (why : Refused) → HasReason Short state before now why → HasReason Short state before now (told_since earlier why)
+reason_since Short state before now earlier (Fault place b a) is = is
+reason_since Short state before now earlier (Stopped at) is = is
+reason_since Short state before now earlier (Exhausted last) is = is
+reason_since Short state before now earlier NoMemory is = is
+reason_since Short state before now earlier (Backwards clock) is = is
+reason_since Short state before now earlier (Pinned pin limit) is = is
+reason_since Short state before now earlier NothingDue is = is
+reason_since Short state before now earlier (Cancelled begun other) is = is
+reason_since Short state before now earlier (ReadFault b a) is = absurd is
+reason_since Short state before now earlier (Damaged name) is = is
+
+unreadable_since : (Tells PortsFail : Type 0) (earlier mid now : ℕ) → earlier ≤ mid → (why : Refused) → IsUnreadable Tells PortsFail mid now why → IsUnreadable Tells PortsFail earlier now (told_since earlier why)
+unreadable_since Tells PortsFail earlier mid now later (ReadFault b a) is = (is.0, refl, is.2, let rose = is.3 in omega (arith, later, rose))
+unreadable_since Tells PortsFail earlier mid now later (Damaged name) is = is
+unreadable_since Tells PortsFail earlier mid now later (Fault place b a) is = absurd is
+unreadable_since Tells PortsFail earlier mid now later (Stopped at) is = absurd is
+unreadable_since Tells PortsFail earlier mid now later (Exhausted last) is = absurd is
+unreadable_since Tells PortsFail earlier mid now later NoMemory is = absurd is
+unreadable_since Tells PortsFail earlier mid now later (Backwards clock) is = absurd is
+unreadable_since Tells PortsFail earlier mid now later (Pinned pin limit) is = absurd is
+unreadable_since Tells PortsFail earlier mid now later NothingDue is = absurd is
+unreadable_since Tells PortsFail earlier mid now later (Cancelled begun other) is = absurd is
+
+pub either_since : (Short Tells PortsFail : Type 0) (old mid : State) (before now earlier between later : ℕ) → IsSteady old mid → earlier ≤ between → (why : Refused)
+    → HasReason Short mid before now why ⊎ IsUnreadable Tells PortsFail between later why → HasReason Short old before now (told_since earlier why) ⊎ IsUnreadable Tells PortsFail earlier later (told_since earlier why)
+either_since Short Tells PortsFail old mid before now earlier between later steady rose why (inl is) = inl (reason_since Short old before now earlier why (reason_behind Short old mid before now steady why is))
+either_since Short Tells PortsFail old mid before now earlier between later steady rose why (inr is) = inr (unreadable_since Tells PortsFail earlier between later rose why is)

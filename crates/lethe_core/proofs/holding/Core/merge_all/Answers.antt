@@ -1,0 +1,75 @@
+use Rattle.std.proofs.Common.{rules, ◌≡◌, ◌⊎◌, inr, Ok, Err, sym, ap, ◌∙◌, subst, arith}
+use Rattle.std.specs.Prelude.{Bool, true}
+use Rattle.lethe_base.specs.declared.refused.Refused.{Refused}
+use Rattle.lethe_core.specs.Keeps.{Keeps}
+use Rattle.lethe_core.specs.Merges.{IsShortToMerge}
+use Rattle.lethe_core.specs.Reasons.{HasReason, IsUnreadable, told_since}
+use Rattle.lethe_core.specs.Running.{Holds}
+use Rattle.lethe_core.specs.Steps.{stepped_to}
+use Rattle.lethe_core.specs.View.{view_of}
+use Rattle.lethe_core.proofs.Hindered.{keeps_itself, refused_before}
+use Rattle.lethe_core.proofs.Outcomes.{merged_may, no_more, none_merged, once_more, too_many}
+use Rattle.lethe_core.proofs.Retold.{either_since, keeps_since}
+use Rattle.lethe_core.proofs.holding.Core.merge_all.Goals as goal
+
+pub returns-in_err-most_merges-clause-keeps : goal.returns-in_err-most_merges-clause-keeps
+returns-in_err-most_merges-clause-keeps g c =
+    let why = c.in_err-most_merges.field-0.0 in
+    let refusal : c.from_residual.result ≡ Err why = search rules in
+    keeps_itself g.D.Disk.tells (view_of c.args.self.now) c.requires.may.sound c.requires.may.runs c.from_residual.result
+    (λ h caller call. ap (stepped_to h caller call) refusal ∙ refused_before h caller call why (inr c.in_err-most_merges.ensures.refused))
+
+pub loop-init : goal.loop-init
+loop-init g c = record { merged = none_merged g.D.Disk.tells (view_of c.args.self.now) c.args.before (g.D.Disk.fetches c.args.port.now) (g.D.Disk.port_faults c.args.port.now) c.requires.may; free = c.requires.free }
+
+pub loop-preserved : goal.loop-preserved
+loop-preserved g c =
+    let ok : c.merge_next.result ≡ Ok true = c.in-Ok-true.is ∙ ap Ok c.in-Ok-true.field-0-test in
+    record {
+      merged = once_more g.D.Disk.tells (view_of c.args.self.now) (view_of c.loop.self) c.args.before c.loop.counter (g.D.Disk.fetches c.args.port.now) (g.D.Disk.fetches c.loop.port)
+          (g.D.Disk.port_faults c.args.port.now) (g.D.Disk.port_faults c.loop.port) c.loop.invariant.merged
+          (view_of c.merge_next.new.self) (g.D.Disk.fetches c.merge_next.new.port) (g.D.Disk.port_faults c.merge_next.new.port)
+          (subst (Keeps {T = Bool} g.D.Disk.tells (view_of c.loop.self) (view_of c.merge_next.new.self)) ok c.merge_next.ensures.keeps) c.in-Ok-true.ensures.steady
+          (λ told t holds. c.merge_next.ensures.done told t holds ok) c.merge_next.ensures.later c.merge_next.ensures.port_faults;
+      free = c.merge_next.ensures.free;
+    }
+
+pub merge_next-requires-clause-may : goal.merge_next-requires-clause-may
+merge_next-requires-clause-may g c κs within = merged_may g.D.Disk.tells _ _ c.args.before _ _ _ _ _ c.loop.invariant.merged c.requires.may
+
+pub returns-in-Ok-false-clause-keeps : goal.returns-in-Ok-false-clause-keeps
+returns-in-Ok-false-clause-keeps g c =
+    let same = (c.merge_next.ensures.ended (c.in-Ok-false.is ∙ ap Ok c.in-Ok-false.field-0-test)).0 in
+    subst (λ core. Keeps {T = Unit {0}} g.D.Disk.tells (view_of c.args.self.now) (view_of core) (Ok tt)) (sym same) c.loop.invariant.merged.keeps
+
+pub returns-in-Ok-false-clause-done : goal.returns-in-Ok-false-clause-done
+returns-in-Ok-false-clause-done g c = λ told s holds.
+    let ended = c.merge_next.ensures.ended (c.in-Ok-false.is ∙ ap Ok c.in-Ok-false.field-0-test) in
+    let done = no_more g.D.Disk.tells (view_of c.args.self.now) (view_of c.loop.self) c.args.before c.loop.counter (g.D.Disk.fetches c.args.port.now) (g.D.Disk.fetches c.loop.port)
+        (g.D.Disk.port_faults c.args.port.now) (g.D.Disk.port_faults c.loop.port) c.loop.invariant.merged told s holds ended.2 in
+    (done.0, done.1, done.2, subst (λ core. Holds (view_of core) done.0) (sym ended.0) done.3, ended.1 ∙ done.4)
+
+pub returns-in-Err-clause-keeps : goal.returns-in-Err-clause-keeps
+returns-in-Err-clause-keeps g c =
+    let old = view_of c.args.self.now in
+    let mid = view_of c.loop.self in
+    let new = view_of c.merge_next.new.self in
+    subst (λ (why : Refused). Keeps {T = Unit {0}} g.D.Disk.tells old new (Err why)) (sym c.told_since.ensures)
+    (keeps_since g.D.Disk.tells old mid new c.loop.invariant.merged.keeps c.in-Err.why c.port_faults-earlier.result (subst (Keeps {T = Bool} g.D.Disk.tells mid new) c.in-Err.is c.merge_next.ensures.keeps))
+
+pub returns-in-Err-clause-why : goal.returns-in-Err-clause-why
+returns-in-Err-clause-why g c =
+    let new = c.merge_next.new.self in
+    let Short = IsShortToMerge g.D.Disk.tells (view_of new) in
+    let now = g.D.Disk.faults new.disk in
+    let later = g.D.Disk.port_faults c.merge_next.new.port in
+    let either = either_since Short g.D.Disk.tells g.D.Disk.ports_fail c.args.self.now.state c.loop.self.state c.args.before now (g.D.Disk.port_faults c.args.port.now) (g.D.Disk.port_faults c.loop.port) later
+        c.loop.invariant.merged.steady c.loop.invariant.merged.port_faults c.in-Err.why c.in-Err.ensures.why in
+    subst (λ (why : Refused). HasReason Short c.args.self.now.state c.args.before now why ⊎ IsUnreadable g.D.Disk.tells g.D.Disk.ports_fail (g.D.Disk.port_faults c.args.port.now) later why)
+    (sym (c.told_since.ensures ∙ ap (λ earlier. told_since earlier c.in-Err.why) c.port_faults-earlier.ensures)) either
+
+pub returns-clause-done : goal.returns-clause-done
+returns-clause-done g c = λ told s holds.
+    absurd (too_many g.D.Disk.tells (view_of c.args.self.now) (view_of c.loop.self) c.args.before c.loop.counter (g.D.Disk.fetches c.args.port.now) (g.D.Disk.fetches c.loop.port)
+    (g.D.Disk.port_faults c.args.port.now) (g.D.Disk.port_faults c.loop.port) c.loop.invariant.merged told s holds c.in_ok-most_merges.field-0 (c.in_ok-most_merges.ensures.most s holds)
+    (let over = c.loop-test.false in let end = c.saturating_add-end.ensures in omega (arith, over, end)))

@@ -1,0 +1,11 @@
+use Rattle.std.proofs.Common.{◌≡◌, None}
+use Rattle.lethe_core.specs.View.{view_of}
+use Rattle.lethe_core.proofs.Outcomes.{HasMerged}
+use Rattle.lethe_core.proofs.holding.Core.merge_all.Given as goal
+
+-- a merge in each round so far
+abbrev pub invariant-loop : goal.invariant-loop
+invariant-loop g l = record {
+  merged : HasMerged g.D.Disk.tells (view_of l.fn.self) (view_of l.self) l.counter (g.D.Disk.fetches l.fn.port) (g.D.Disk.fetches l.port) (g.D.Disk.port_faults l.fn.port) (g.D.Disk.port_faults l.port);
+  free : l.self.flight ≡ None;
+}
