@@ -112,7 +112,7 @@ impl<D: Disk> Engine<D> {
     pub fn into_disk(self) -> D
         ensures { result ≡ self.core.disk }
     {
-        let Core { disk, .. } = self.core;
-        disk
+        let core = self.core;
+        core.disk
     }
 }
