@@ -2,6 +2,7 @@ pub mod ScanLaws
 pub mod Histories
 pub mod Images
 pub mod Steps
+pub mod Looks
 pub mod Runs
 pub mod Options
 pub mod Serving
