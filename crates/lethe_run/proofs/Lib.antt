@@ -1,6 +1,8 @@
 pub mod ScanLaws
 pub mod Histories
 pub mod Images
+pub mod Outcomes
+pub mod Shorts
 pub mod Steps
 pub mod Looks
 pub mod Runs

@@ -5,7 +5,6 @@ use Rattle.std.proofs.lemmas.List.{take_all}
 use Rattle.lethe_base.specs.History.{History, after}
 use Rattle.lethe_base.specs.Read.{Read, Answer, answer}
 use Rattle.lethe_base.specs.declared.config.Fields.{Fields}
-use Rattle.lethe_base.specs.declared.memory.NoMemory.{NoMemory}
 use Rattle.lethe_base.specs.declared.name.Name.{Name}
 use Rattle.lethe_base.specs.declared.refused.Refused.{Refused}
 use Rattle.lethe_base.specs.declared.refused.Refused.TheVariants as refused
@@ -19,7 +18,7 @@ use Rattle.lethe_run.specs.Replies.{unread_of}
 use Rattle.lethe_run.specs.Serving.{IsOn, IsAnswered}
 use Rattle.lethe_run.specs.Transcript.{Course, Start, course, Answers, Follows, read_of, IsAnswerAt, IsStatAt}
 use Rattle.lethe_run.proofs.Images.{goes_still}
-use Rattle.lethe_run.proofs.Steps.{Outcome, told_of}
+use Rattle.lethe_run.proofs.Outcomes.{Outcome, told_of}
 
 module _ {config : Fields} (Ports : Type 0) (begin : Start) (opened h : History) (caller : ℕ) (act : Act) (view : View) (on : IsOn config begin opened h view) where
   abbrev Here : Course

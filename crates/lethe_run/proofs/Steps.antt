@@ -1,28 +1,23 @@
 -- A change is answered.
 use Rattle.std.proofs.Common.{◌≡◌, ◌⊎◌, inl, inr, ◌≤◌, ℕ, suc, ◌+◌, [], ◌∷◌, ◌++◌, length, Option, Some, None, Result, Ok, Err, IsSomeAnd, refl, sym, ap, ◌∙◌, subst, arith, add-one, append-nil}
-use Rattle.std.specs.Prelude.{IsSome, IfOk, IfErr, MatchResult}
+use Rattle.std.specs.Prelude.{IsSome}
 use Rattle.std.proofs.lemmas.List.{length-append}
 use Rattle.lethe_base.specs.Counts.{Rose}
-use Rattle.lethe_base.specs.History.{History, Change, change_at, AreDone, after}
+use Rattle.lethe_base.specs.History.{History, Change, change_at, AreDone}
 use Rattle.lethe_base.specs.Limits.{max_place}
 use Rattle.lethe_build.specs.Built.{most_numbers}
-use Rattle.lethe_base.specs.Read.{answer}
 use Rattle.lethe_base.specs.declared.call.Call.{Call}
 use Rattle.lethe_base.specs.declared.config.Fields.{Fields}
 use Rattle.lethe_base.specs.declared.call.Did.TheVariants.{Done, Failed}
-use Rattle.lethe_base.specs.declared.memory.NoMemory.{NoMemory}
 use Rattle.lethe_base.specs.declared.refused.Refused.{Refused}
 use Rattle.lethe_base.specs.declared.refused.Refused.TheVariants as refused
 use Rattle.lethe_base.proofs.Histories.{change_at-push}
 use Rattle.lethe_cover.specs.Steps.{with_done, with_failed}
 use Rattle.lethe_disk.specs.Directory.{Directory}
-use Rattle.lethe_mem.specs.Buffered.{Buffered}
 use Rattle.lethe_state.specs.Room.{frozen_len}
 use Rattle.lethe_core.specs.Changes.{done_by, answered_to, refused_to, tried_by, written_by}
 use Rattle.lethe_core.specs.Merges.{IsShortToMerge}
-use Rattle.lethe_core.specs.Reasons as reasons
 use Rattle.lethe_core.specs.Reasons.{HasReason, IsShortOfRoom, IsUnreadable}
-use Rattle.lethe_core.specs.Running.{IsSound}
 use Rattle.lethe_core.specs.StandsNow.{IsOpenOrStopped, StandsNow}
 use Rattle.lethe_core.specs.View.{View}
 use Rattle.lethe_engine.specs.Refusals.{HasReasonOfChange}
@@ -35,22 +30,10 @@ use Rattle.lethe_run.specs.declared.reply.Reply.{Reply}
 use Rattle.lethe_run.specs.declared.reply.Reply.TheVariants as reply
 use Rattle.lethe_run.specs.Replies.{refusal_of, reply_of}
 use Rattle.lethe_run.specs.Serving.{IsOn, GoesOn, IsAnswered, opened_in}
-use Rattle.lethe_run.specs.Transcript.{Course, Start, Told, IsShort, course, IsFailedAt, IsFaultOf, WasStopped, Answers, Follows, call_of}
-use Rattle.lethe_run.proofs.Images.{done_runs, stopped_by}
-
--- what is known of a result
-pub ok_of : {T E : Type 0} (P : T → Type 0) (r : Result T E) → IfOk r P → (x : T) → r ≡ Ok x → P x
-ok_of P r p x is = subst (λ q. IfOk q P) is p
-
-pub err_of : {T E : Type 0} (P : E → Type 0) (r : Result T E) → IfErr r P → (x : E) → r ≡ Err x → P x
-err_of P r p x is = subst (λ q. IfErr q P) is p
-
--- a frozen buffer is none or no greater than a configuration lets it be
-pub few_frozen : (Tells : Type 0) (view : View) → IsSound Tells view → frozen_len view.state.frozen ≤ 16384
-few_frozen Tells view sound = let few = sound.small.frozen in let most = sound.writable.manifest.config.buffer.1 in omega (arith, few, most)
-
-abbrev pub told_of : History → Course → Told
-told_of h c = record { history = h; course = c }
+use Rattle.lethe_run.specs.Transcript.{Course, Start, course, IsFailedAt, IsFaultOf, WasStopped, Answers, Follows, call_of}
+use Rattle.lethe_run.proofs.Images.{stopped_by}
+use Rattle.lethe_run.proofs.Shorts.{short_of}
+use Rattle.lethe_run.proofs.Outcomes.{Outcome, told_of}
 
 -- a failed change stays one when the count of faults rises
 stopped_later : (Ports : Type 0) (begin : Start) (h : History) (now moment later behind at : ℕ) → now ≤ later → WasStopped (told_of h (course Ports begin now moment)) at → WasStopped (told_of h (course Ports begin later behind)) at
@@ -65,14 +48,6 @@ longer h change = omega (arith, length-append h (change ∷ []))
 
 asked : (act : Act) (call : Call) → call_of act ≡ Some call → IsSome (call_of act)
 asked act call is = subst IsSome (sym is) refl
-
--- what comes of an act
-abbrev pub Outcome : Fields → Type 0 → Start → History → History → ℕ → Act → Result Reply NoMemory → View → View → Type 0
-Outcome config Ports begin opened h caller act result old new = MatchResult result
-    (λ reply. (g : History) × IsAnswered config Ports begin opened h g caller act reply old new)
-    (λ why. GoesOn opened h h old.disk new.disk × IsOn config begin opened h new)
-
--- A change
 
 module _ {config : Fields} (Tells Ports : Type 0) (told : Tells) (begin : Start) (opened h : History) (caller : ℕ) (act : Act) (call : Call) (is : call_of act ≡ Some call) (old new : View)
     (on : IsOn config begin opened h old) (later : old.faults ≤ new.faults) (small : frozen_len old.state.frozen ≤ 16384)
@@ -92,29 +67,6 @@ module _ {config : Fields} (Tells Ports : Type 0) (told : Tells) (begin : Start)
 
   kept_for : (P : Directory → Type 0) (g : History) → Stands g → Goes P old.disk new.disk → Goes (IsKeptFor opened g) old.disk new.disk
   kept_for P g stands run = record { later = run.later; past = run.past; each = λ m c low high left. let since = on.stands.later in stands.images m c (omega (arith, since, low)) high left }
-
-  short : old.disk.moment ≤ new.disk.moment → reasons.IsShort old.state → IsShort (length h) Now
-  short goes few = by old.state.frozen few
-    where
-      by : (frozen : Option Buffered) → reasons.IsShortFor frozen old.state → IsShort (length h) Now
-      by None freezes = let before = on.stands.numbers in let low = on.moment_since in let since = on.stands.later in omega (arith, before, low, since, goes, freezes)
-      by (Some buffer) flushes =
-          let before = on.stands.numbers in
-          let low = on.moment_since in
-          let since = on.stands.later in
-          let drawn = flushes.drafted.few in
-          let reach = flushes.short in
-          omega (arith, before, low, since, goes, drawn, reach, small)
-
-  -- or for a merge behind that
-  short_of : AreDone h → Stands h → old.disk.moment ≤ new.disk.moment → IsShortOfRoom Tells old.state new → IsShort (length h) Now
-  short_of done stands goes (inl few) = short goes few
-  short_of done stands goes (inr few) =
-      let reach = merges stands.now (done_runs config h new stands.now done) few in
-      let drawn = stands.numbers in
-      let low = on.moment_since in
-      let since = on.stands.later in
-      omega (arith, reach, drawn, low, since, goes)
 
   -- it wasn't begun
   not_made : (r : Reply) → Still → Answers (told_of h Now) caller act r → Follows Now (length h) r (length h) → (g : History) × IsAnswered config Ports begin opened h g caller act r old new
@@ -177,7 +129,7 @@ module _ {config : Fields} (Tells Ports : Type 0) (told : Tells) (begin : Start)
         let all : length h ≡ max_place = sym on.stands.now.count ∙ full in
         not_made (reply.Exhausted last) (unmade stands run) (asked act call is, (last_is, inl all)) (inl (all ∙ sym last_is), refl)
     exhausted last stands run last_is (inr few) =
-        let short = short_of done stands run.later few in
+        let short = short_of Tells Ports begin opened h old new on small merges run.later done stands few in
         not_made (reply.Exhausted last) (unmade stands run) (asked act call is, (last_is, inr short)) (inr short, refl)
 
   none_some : (at : ℕ) → old.state.stopped ≡ None → old.state.stopped ≡ Some at → ⊥

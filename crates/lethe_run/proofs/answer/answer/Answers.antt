@@ -13,7 +13,9 @@ use Rattle.lethe_run.specs.Replies.{reply_of, unread_of}
 use Rattle.lethe_run.specs.Serving.{IsOn, GoesOn, IsAnswered, opened_in}
 use Rattle.lethe_run.proofs.Images.{goes_still}
 use Rattle.lethe_run.proofs.Looks.{reads, read_answer, stat_answer, unread}
-use Rattle.lethe_run.proofs.Steps.{Outcome, changes, ok_of, err_of, few_frozen}
+use Rattle.lethe_run.proofs.Outcomes.{Outcome, ok_of, err_of}
+use Rattle.lethe_run.proofs.Shorts.{few_frozen}
+use Rattle.lethe_run.proofs.Steps.{changes}
 use Rattle.lethe_run.proofs.answer.answer.Goals as goal
 
 pub returns-in-Put-clause-served : goal.returns-in-Put-clause-served

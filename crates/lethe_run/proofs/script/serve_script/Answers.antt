@@ -10,7 +10,7 @@ pub returns-in-Ok-clause-ends : goal.returns-in-Ok-clause-ends
 returns-in-Ok-clause-ends g c =
     let result = c.serve_phases.result in
     ends_idle g.D.Disk.tells g.D.Disk.ports_fail (view_of c.args.engine.core) (view_of c.new_port.new.self.core) c.new_port.ensures.idle c.new_port.ensures.stands (g.D.Disk.seen result.1) (g.D.Disk.faults result.1)
-        (g.K.Sink.taken c.args.sink.now) (g.K.Sink.taken c.serve_phases.new.sink) (Rose (g.K.Sink.faults c.args.sink.now) (g.K.Sink.faults c.serve_phases.new.sink)) c.args.phases result.0 c.serve_phases.ensures.ends
+    (g.K.Sink.taken c.args.sink.now) (g.K.Sink.taken c.serve_phases.new.sink) (Rose (g.K.Sink.faults c.args.sink.now) (g.K.Sink.faults c.serve_phases.new.sink)) c.args.phases result.0 c.serve_phases.ensures.ends
 
 pub returns-in-Err-clause-ends : goal.returns-in-Err-clause-ends
 returns-in-Err-clause-ends g c =
