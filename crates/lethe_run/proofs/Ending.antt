@@ -7,13 +7,13 @@ use Rattle.std.proofs.lemmas.List.{length-append, take-append-le}
 use Rattle.lethe_base.specs.Keys.{Bytes}
 use Rattle.lethe_base.specs.History.{History, Change}
 use Rattle.lethe_base.specs.declared.config.Fields.{Fields}
+use Rattle.lethe_core.specs.StandsNow.{IsOpenOrStopped}
+use Rattle.lethe_core.specs.View.{View}
 use Rattle.lethe_disk.specs.Disk.{Seen}
-use Rattle.lethe_state.specs.declared.state.State.{State}
 use Rattle.lethe_engine.specs.Opening.{IsResumed}
-use Rattle.lethe_engine.specs.StandsFor.{IsKeptFor, IsOpenOrStopped}
+use Rattle.lethe_engine.specs.StandsFor.{IsKeptFor}
 use Rattle.lethe_disk.specs.Goes.{Goes}
 use Rattle.lethe_build.specs.Drafts.{numbers_for}
-use Rattle.lethe_stored.specs.Files.{Parts}
 use Rattle.lethe_stored.specs.Left.{IsLeft, IsKeptOr}
 use Rattle.lethe_load.specs.Refused.{HasReason}
 use Rattle.lethe_load.specs.declared.refused.RecoverRefused.{RecoverRefused}
@@ -122,51 +122,52 @@ said_not_opened run end why config asks not (inr silent) = subst (EndsWith run) 
 
 -- A script that was carried out
 
-module _ (run : Run) (config : Fields) (asks : Asks run config) (phases : List (List Order)) (script : (P : List (List Order) → Type 0) → P phases → OnScript run P) (mid : Seen) (state : State) (levels : List (List Parts)) (counted : ℕ) (up : run.faults_before ≤ counted)
-    (resumed : run.Tells → (h : History) (change : Option Change) → IsLeft run.start h change → IsResumed config h change run.start mid counted state levels)
-    (moments : run.Tells → (h : History) (change : Option Change) → IsLeft run.start h change → Goes (IsKeptOr h change) run.start mid)
+module _ (run : Run) (config : Fields) (asks : Asks run config) (phases : List (List Order)) (script : (P : List (List Order) → Type 0) → P phases → OnScript run P) (mid : View) (up : run.faults_before ≤ mid.faults)
+    (runs : mid.state.stopped ≡ None)
+    (resumed : run.Tells → (h : History) (change : Option Change) → IsLeft run.start h change → IsResumed config h change run.start mid)
+    (moments : run.Tells → (h : History) (change : Option Change) → IsLeft run.start h change → Goes (IsKeptOr h change) run.start mid.disk)
     (sound : run.Tells → (why : RecoverRefused) → HasReason config run.start.directory why → ⊥) where
   abbrev begin_at : ℕ → Start
   begin_at next = record { faults = run.faults_before; next = next; moment = run.start.moment }
 
-  on : run.Tells → (h : History) (change : Option Change) → (r : IsResumed config h change run.start mid counted state levels) → run.start.moment ≤ mid.moment → (next : ℕ) → IsNextNumber run.start.directory next
-      → IsOn config (begin_at next) counted r.history r.history mid state levels
+  on : run.Tells → (h : History) (change : Option Change) → (r : IsResumed config h change run.start mid) → run.start.moment ≤ mid.disk.moment → (next : ℕ) → IsNextNumber run.start.directory next
+      → IsOn config (begin_at next) r.history r.history mid
   on told h change r later next is =
       let stands = r.stands next is in
       record {
-        done = (subst (IsOpenOrStopped mid r.history stands.now.stored state) r.runs stands.now.held).0;
-        moment = mid.moment;
-        counted = counted;
+        done = (subst (IsOpenOrStopped mid r.history stands.now.stored) runs stands.now.held).0;
+        moment = mid.disk.moment;
+        counted = mid.faults;
         stands = stands;
         faults_since = up;
         moment_since = later;
       }
 
-  carried_out : (left : History) (change : Option Change) (r : IsResumed config left change run.start mid counted state levels) (next : ℕ) (front : List (List Order)) (lines : List (List Line)) → Goes (IsKeptOr left change) run.start mid
-      → IsCarried config (course_of run next) r.history front lines mid run.finish
+  carried_out : (left : History) (change : Option Change) (r : IsResumed config left change run.start mid) (next : ℕ) (front : List (List Order)) (lines : List (List Line)) → Goes (IsKeptOr left change) run.start mid.disk
+      → IsCarried config (course_of run next) r.history front lines mid.disk run.finish
       → IsCarriedOut config (course_of run next) run.start run.finish left change front lines
   carried_out left change r next front lines opening c = record {
     opened = r.history;
     either = r.either;
     history = c.history;
     served = c.served;
-    any_moment = goes_then (IsKeptMeanwhile left change r.history c.history) run.start mid run.finish
-        (goes_weaker (IsKeptOr left change) (IsKeptMeanwhile left change r.history c.history) run.start mid (λ d kept. (kept.0, inl kept.1, kept.2)) opening)
-        (goes_weaker (IsKeptFor r.history c.history) (IsKeptMeanwhile left change r.history c.history) mid run.finish (λ d kept. (kept.0, inr kept.1, kept.2)) c.any_moment);
+    any_moment = goes_then (IsKeptMeanwhile left change r.history c.history) run.start mid.disk run.finish
+        (goes_weaker (IsKeptOr left change) (IsKeptMeanwhile left change r.history c.history) run.start mid.disk (λ d kept. (kept.0, inl kept.1, kept.2)) opening)
+        (goes_weaker (IsKeptFor r.history c.history) (IsKeptMeanwhile left change r.history c.history) mid.disk run.finish (λ d kept. (kept.0, inr kept.1, kept.2)) c.any_moment);
     leaves = c.leaves;
     config_is = c.config_is;
   }
 
-  carries : (front : List (List Order)) (lines : List (List Line)) → Serves run.Tells run.PortsFail mid run.finish state levels counted run.faults front lines → Carries run config front lines
+  carries : (front : List (List Order)) (lines : List (List Line)) → Serves run.Tells run.PortsFail mid run.finish run.faults front lines → Carries run config front lines
   carries front lines served = λ told left change is next drawn.
       let r = resumed told left change is in
       let opening = moments told left change is in
       carried_out left change r next front lines opening (served told config (begin_at next) r.history (on told left change r opening.later next drawn))
 
-  all : (refused : Bool) → All run.Tells run.PortsFail mid run.finish state levels counted run.faults run.taken_before run.taken phases refused → ends.Answered run config refused
+  all : (refused : Bool) → All run.Tells run.PortsFail mid run.finish run.faults run.taken_before run.taken phases refused → ends.Answered run config refused
   all refused a = record { lines = a.lines; script = script (λ p. Carries run config p a.lines) (carries phases a.lines a.served); written = a.written; is = a.is; sound = sound }
 
-  pub script_ended : (status : Status) → ScriptEnds run.Tells run.PortsFail mid run.finish state levels counted run.faults run.taken_before run.taken run.SinkRose phases status → EndsWith run status
+  pub script_ended : (status : Status) → ScriptEnds run.Tells run.PortsFail mid run.finish run.faults run.taken_before run.taken run.SinkRose phases status → EndsWith run status
   script_ended Answered e = (config, asks, all false e)
   script_ended Refused e = (config, asks, inl (all true e))
   script_ended WriteFault e = (

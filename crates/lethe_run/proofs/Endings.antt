@@ -4,12 +4,11 @@ use Rattle.std.specs.Io.KnownBytes.{Appends}
 use Rattle.lethe_base.specs.Keys.{Bytes}
 use Rattle.lethe_base.specs.History.{History}
 use Rattle.lethe_base.specs.declared.config.Fields.{Fields}
-use Rattle.lethe_disk.specs.Disk.{Seen, Image, IsIdle}
+use Rattle.lethe_disk.specs.Disk.{Image, IsIdle, Seen}
 use Rattle.lethe_disk.specs.Goes.{Goes}
 use Rattle.lethe_disk.proofs.Going.{goes_then}
 use Rattle.lethe_engine.specs.StandsFor.{IsKeptFor, Opened, StandsFor}
-use Rattle.lethe_state.specs.declared.state.State.{State}
-use Rattle.lethe_stored.specs.Files.{Parts}
+use Rattle.lethe_core.specs.View.{View}
 use Rattle.lethe_script.specs.declared.order.Order.{Order}
 use Rattle.lethe_wire.specs.Causes.{AppendsFront}
 use Rattle.lethe_run.specs.declared.reply.Line.{Line}
@@ -36,36 +35,35 @@ pub part_whole : (orders items part rest : List Order) → items ≡ orders → 
 part_whole orders items part rest is parts none = sym (append-nil part) ∙ ap (λ l. part ++ l) (sym none) ∙ sym parts ∙ is
 
 -- what serving a phase gave
-abbrev pub Phase : Type 0 → Type 0 → Seen → Seen → State → State → List (List Parts) → List (List Parts) → ℕ → ℕ → List Order → Bool → List Line → Type 0
-Phase Tells Ports now then state state' levels levels' f0 f1 orders whole more = Tells → (config : Fields) (begin : Start) (opened start : History) → IsOn config begin f0 opened start now state levels
-    → (h : History) × (part : List Order) × (rest : List Order) × (orders ≡ part ++ rest) × ((whole ≡ true) → rest ≡ []) × IsPhase config Ports begin f1 opened start h part more now then state' levels'
+abbrev pub Phase : Type 0 → Type 0 → View → View → List Order → Bool → List Line → Type 0
+Phase Tells Ports now then orders whole more = Tells → (config : Fields) (begin : Start) (opened start : History) → IsOn config begin opened start now
+    → (h : History) × (part : List Order) × (rest : List Order) × (orders ≡ part ++ rest) × ((whole ≡ true) → rest ≡ []) × IsPhase config Ports begin opened start h part more now then
 
 -- what the phases before gave
-abbrev pub Before : Type 0 → Type 0 → Seen → Seen → State → State → List (List Parts) → List (List Parts) → ℕ → ℕ → List (List Order) → List (List Line) → Type 0
-Before Tells Ports start now first state levels0 levels before f0 yielded lines = Tells → (config : Fields) (begin : Start) (opened : History) → IsOn config begin before opened opened start first levels0
-    → SoFar config Ports begin f0 opened yielded lines start now state levels
+abbrev pub Before : Type 0 → Type 0 → View → View → List (List Order) → List (List Line) → Type 0
+Before Tells Ports start now yielded lines = Tells → (config : Fields) (begin : Start) (opened : History) → IsOn config begin opened opened start → SoFar config Ports begin opened yielded lines start now
 
-module _ (Tells Ports : Type 0) (start now then : Seen) (first state state' : State) (levels0 levels levels' : List (List Parts)) (before f0 f1 : ℕ) (up : before ≤ f0) (later : f0 ≤ f1) (itself : Tells → Image then then.directory)
+module _ (Tells Ports : Type 0) (start now then : View) (later : now.faults ≤ then.faults) (itself : Tells → Image then.disk then.disk.directory)
     (phases yielded rest : List (List Order)) (orders : List Order) (are : phases ≡ yielded ++ orders ∷ rest) (lines : List (List Line)) (more : List Line) (whole : Bool)
-    (so_far : Before Tells Ports start now first state levels0 levels before f0 yielded lines) (phase : Phase Tells Ports now then state state' levels levels' f0 f1 orders whole more) where
-  pub next_so_far : whole ≡ true → Before Tells Ports start then first state' levels0 levels' before f1 (yielded ++ orders ∷ []) (lines ++ more ∷ [])
+    (so_far : Before Tells Ports start now yielded lines) (phase : Phase Tells Ports now then orders whole more) where
+  pub next_so_far : whole ≡ true → Before Tells Ports start then (yielded ++ orders ∷ []) (lines ++ more ∷ [])
   next_so_far is told config begin opened on =
       let prior = so_far told config begin opened on in
       let next = phase told config begin opened prior.history prior.stands in
-      subst (λ p. SoFar config Ports begin f1 opened (yielded ++ p ∷ []) (lines ++ more ∷ []) start then state' levels') (part_whole orders orders next.1 next.2 refl next.3 (next.4 is))
-      (so_far_more Ports begin f0 f1 opened next.0 yielded lines next.1 more start now then state state' levels levels' later prior next.5)
+      subst (λ p. SoFar config Ports begin opened (yielded ++ p ∷ []) (lines ++ more ∷ []) start then) (part_whole orders orders next.1 next.2 refl next.3 (next.4 is))
+      (so_far_more Ports begin opened next.0 yielded lines next.1 more start now then later prior next.5)
 
-  pub behind : (old new : Option Bytes) → whole ≡ true → AppendsFront old new (text_of (lines ++ more ∷ [])) → Behind Tells Ports start then first levels0 before f1 old new phases
+  pub behind : (old new : Option Bytes) → whole ≡ true → AppendsFront old new (text_of (lines ++ more ∷ [])) → Behind Tells Ports start then.disk then.faults old new phases
   behind old new is written = record {
     lines = lines ++ more ∷ [];
     count = suc (length yielded);
     served = λ told config begin opened on.
-        subst (λ p. IsCarried config (course Ports begin f1 then.moment) opened p (lines ++ more ∷ []) start then) (sym (ap (take (suc (length yielded))) are ∙ take_more yielded orders rest))
-        (carried Ports begin f1 opened (yielded ++ orders ∷ []) (lines ++ more ∷ []) start then state' levels' (itself told) (next_so_far is told config begin opened on));
+        subst (λ p. IsCarried config (course Ports begin then.faults then.disk.moment) opened p (lines ++ more ∷ []) start.disk then.disk) (sym (ap (take (suc (length yielded))) are ∙ take_more yielded orders rest))
+        (carried Ports begin opened (yielded ++ orders ∷ []) (lines ++ more ∷ []) start then (itself told) (next_so_far is told config begin opened on));
     written = written;
   }
 
-  pub inside : (old new : Option Bytes) → AppendsFront old new (text_of (lines ++ more ∷ [])) → Inside Tells Ports start then first levels0 before f1 old new phases
+  pub inside : (old new : Option Bytes) → AppendsFront old new (text_of (lines ++ more ∷ [])) → Inside Tells Ports start then.disk then.faults old new phases
   inside old new written = record {
     lines = lines ++ more ∷ [];
     served = λ told config begin opened on.
@@ -79,14 +77,14 @@ module _ (Tells Ports : Type 0) (start now then : Seen) (first state state' : St
             there = ap (λ p. slice_get p (length yielded)) are ∙ get_behind yielded orders rest ∙ ap Some next.3;
             is = ap (λ l. l ++ next.1 ∷ []) (sym (ap (take (length yielded)) are ∙ take_front yielded (orders ∷ rest)));
           }),
-          carried Ports begin f1 opened (yielded ++ next.1 ∷ []) (lines ++ more ∷ []) start then state' levels' (itself told)
-              (so_far_more Ports begin f0 f1 opened next.0 yielded lines next.1 more start now then state state' levels levels' later prior next.5),
+          carried Ports begin opened (yielded ++ next.1 ∷ []) (lines ++ more ∷ []) start then (itself told)
+              (so_far_more Ports begin opened next.0 yielded lines next.1 more start now then later prior next.5),
         );
     written = written;
   }
 
   pub cut_ends : (old new : Option Bytes) (Rose SinkRose : Type 0) (status : Status) → (Rose → SinkRose) → AppendsFront old new (text_of (lines ++ more ∷ [])) → IsCutBy (whole ≡ true) Rose status
-      → ScriptEnds Tells Ports start then first levels0 before f1 old new SinkRose phases status
+      → ScriptEnds Tells Ports start then.disk then.faults old new SinkRose phases status
   cut_ends old new Rose SinkRose NoMemory rose written cut = inside old new written
   cut_ends old new Rose SinkRose WriteFault rose written cut = (rose cut.1, behind old new cut.0 written)
   cut_ends old new Rose SinkRose Answered rose written cut = absurd cut
@@ -98,26 +96,26 @@ module _ (Tells Ports : Type 0) (start now then : Seen) (first state state' : St
   cut_ends old new Rose SinkRose OtherConfig rose written cut = absurd cut
 
 -- all were answered
-pub all_ends : (Tells Ports : Type 0) (start then : Seen) (first state' : State) (levels0 levels' : List (List Parts)) (before f1 : ℕ) (itself : Tells → Image then then.directory) (phases : List (List Order)) (lines : List (List Line)) (old new : Option Bytes) (SinkRose : Type 0) (refused : Bool)
-    → Before Tells Ports start then first state' levels0 levels' before f1 phases lines → Appends old new (text_of lines) → has_refusal lines ≡ refused → ScriptEnds Tells Ports start then first levels0 before f1 old new SinkRose phases (cond refused Refused Answered)
-all_ends Tells Ports start then first state' levels0 levels' before f1 itself phases lines old new SinkRose true so_far written is = record {
+pub all_ends : (Tells Ports : Type 0) (start then : View) (itself : Tells → Image then.disk then.disk.directory) (phases : List (List Order)) (lines : List (List Line)) (old new : Option Bytes) (SinkRose : Type 0) (refused : Bool)
+    → Before Tells Ports start then phases lines → Appends old new (text_of lines) → has_refusal lines ≡ refused → ScriptEnds Tells Ports start then.disk then.faults old new SinkRose phases (cond refused Refused Answered)
+all_ends Tells Ports start then itself phases lines old new SinkRose true so_far written is = record {
   lines = lines;
-  served = λ told config begin opened on. carried Ports begin f1 opened phases lines start then state' levels' (itself told) (so_far told config begin opened on);
+  served = λ told config begin opened on. carried Ports begin opened phases lines start then (itself told) (so_far told config begin opened on);
   written = written;
   is = is;
 }
-all_ends Tells Ports start then first state' levels0 levels' before f1 itself phases lines old new SinkRose false so_far written is = record {
+all_ends Tells Ports start then itself phases lines old new SinkRose false so_far written is = record {
   lines = lines;
-  served = λ told config begin opened on. carried Ports begin f1 opened phases lines start then state' levels' (itself told) (so_far told config begin opened on);
+  served = λ told config begin opened on. carried Ports begin opened phases lines start then (itself told) (so_far told config begin opened on);
   written = written;
   is = is;
 }
 
 -- Making a port is nothing on the disk
 
-module _ (Tells Ports : Type 0) (start mid : Seen) (state : State) (levels : List (List Parts)) (before : ℕ) (idle : Tells → IsIdle start mid)
-    (stands : Tells → (config : Fields) (opened : Opened) (h : History) → StandsFor config opened h start before state levels → StandsFor config opened h mid before state levels) where
-  on_idle : Tells → (config : Fields) (begin : Start) (opened : History) → IsOn config begin before opened opened start state levels → IsOn config begin before opened opened mid state levels
+module _ (Tells Ports : Type 0) (start mid : View) (idle : Tells → IsIdle start.disk mid.disk)
+    (stands : Tells → (config : Fields) (opened : Opened) (h : History) → StandsFor config opened h start → StandsFor config opened h mid) where
+  on_idle : Tells → (config : Fields) (begin : Start) (opened : History) → IsOn config begin opened opened start → IsOn config begin opened opened mid
   on_idle told config begin opened on = record {
     done = on.done;
     moment = on.moment;
@@ -128,30 +126,30 @@ module _ (Tells Ports : Type 0) (start mid : Seen) (state : State) (levels : Lis
   }
 
   module _ (finish : Seen) (now : ℕ) where
-    longer_moments : Tells → {config : Fields} (begin : Start) (opened : History) (phases : List (List Order)) (lines : List (List Line)) → IsOn config begin before opened opened start state levels
-        → IsCarried config (course Ports begin now finish.moment) opened phases lines mid finish → IsCarried config (course Ports begin now finish.moment) opened phases lines start finish
+    longer_moments : Tells → {config : Fields} (begin : Start) (opened : History) (phases : List (List Order)) (lines : List (List Line)) → IsOn config begin opened opened start
+        → IsCarried config (course Ports begin now finish.moment) opened phases lines mid.disk finish → IsCarried config (course Ports begin now finish.moment) opened phases lines start.disk finish
     longer_moments told begin opened phases lines on c = record {
       history = c.history;
       served = c.served;
-      any_moment = goes_then (IsKeptFor opened c.history) start mid finish (first c.history c.any_moment) c.any_moment;
+      any_moment = goes_then (IsKeptFor opened c.history) start.disk mid.disk finish (first c.history c.any_moment) c.any_moment;
       leaves = c.leaves;
       config_is = c.config_is;
     }
       where
-        first : (h : History) → Goes (IsKeptFor opened h) mid finish → Goes (IsKeptFor opened h) start mid
+        first : (h : History) → Goes (IsKeptFor opened h) mid.disk finish → Goes (IsKeptFor opened h) start.disk mid.disk
         first h goes = record {
           later = let same = (idle told).moment in omega (arith, same);
           past = λ m c le. (idle told).left m c;
-          each = λ m c low high left. goes.each mid.moment c (omega arith) goes.later ((goes.past mid.moment c (omega arith)).1 (subst (λ n. mid.left n c) (let same = (idle told).moment in omega (arith, same, low, high)) left));
+          each = λ m c low high left. goes.each mid.disk.moment c (omega arith) goes.later ((goes.past mid.disk.moment c (omega arith)).1 (subst (λ n. mid.disk.left n c) (let same = (idle told).moment in omega (arith, same, low, high)) left));
         }
 
-    serves_idle : (phases : List (List Order)) (lines : List (List Line)) → Serves Tells Ports mid finish state levels before now phases lines → Serves Tells Ports start finish state levels before now phases lines
+    serves_idle : (phases : List (List Order)) (lines : List (List Line)) → Serves Tells Ports mid finish now phases lines → Serves Tells Ports start finish now phases lines
     serves_idle phases lines served told config begin opened on = longer_moments told begin opened phases lines on (served told config begin opened (on_idle told config begin opened on))
 
-    all_idle : (old new : Option Bytes) (phases : List (List Order)) (refused : Bool) → All Tells Ports mid finish state levels before now old new phases refused → All Tells Ports start finish state levels before now old new phases refused
+    all_idle : (old new : Option Bytes) (phases : List (List Order)) (refused : Bool) → All Tells Ports mid finish now old new phases refused → All Tells Ports start finish now old new phases refused
     all_idle old new phases refused a = record { lines = a.lines; served = serves_idle phases a.lines a.served; written = a.written; is = a.is }
 
-    pub ends_idle : (old new : Option Bytes) (SinkRose : Type 0) (phases : List (List Order)) (status : Status) → ScriptEnds Tells Ports mid finish state levels before now old new SinkRose phases status → ScriptEnds Tells Ports start finish state levels before now old new SinkRose phases status
+    pub ends_idle : (old new : Option Bytes) (SinkRose : Type 0) (phases : List (List Order)) (status : Status) → ScriptEnds Tells Ports mid finish now old new SinkRose phases status → ScriptEnds Tells Ports start finish now old new SinkRose phases status
     ends_idle old new SinkRose phases Answered e = all_idle old new phases false e
     ends_idle old new SinkRose phases Refused e = all_idle old new phases true e
     ends_idle old new SinkRose phases WriteFault e = (e.0, record { lines = e.1.lines; count = e.1.count; served = serves_idle (take e.1.count phases) e.1.lines e.1.served; written = e.1.written })
@@ -169,14 +167,14 @@ module _ (Tells Ports : Type 0) (start mid : Seen) (state : State) (levels : Lis
     ends_idle old new SinkRose phases OtherConfig e = absurd e
 
   -- where there was no memory for it, nothing is served
-  pub none_served : (Tells → Image mid mid.directory) → (old : Option Bytes) (phases : List (List Order)) → AppendsFront old old [] → Inside Tells Ports start mid state levels before before old old phases
+  pub none_served : (Tells → Image mid.disk mid.disk.directory) → (old : Option Bytes) (phases : List (List Order)) → AppendsFront old old [] → Inside Tells Ports start mid.disk mid.faults old old phases
   none_served itself old phases none = record {
     lines = [];
     served = λ told config begin opened on. (
       [],
       inl refl,
-      longer_moments mid before told begin opened [] [] on
-          (carried Ports begin before opened [] [] mid mid state levels (itself told) (so_far_start Ports begin before opened mid state levels (on_idle told config begin opened on))),
+      longer_moments mid.disk mid.faults told begin opened [] [] on
+          (carried Ports begin opened [] [] mid mid (itself told) (so_far_start Ports begin opened mid (on_idle told config begin opened on))),
     );
     written = none;
   }

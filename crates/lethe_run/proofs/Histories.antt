@@ -4,7 +4,7 @@ use Rattle.std.specs.Prelude.{filter, slice_get}
 use Rattle.lethe_base.specs.History.{History, Change, AreDone}
 use Rattle.lethe_base.specs.declared.call.Did.TheVariants.{Failed}
 use Rattle.lethe_stored.specs.Left.{is_done}
-use Rattle.lethe_engine.proofs.Histories.{head_done, tail_done}
+use Rattle.lethe_core.proofs.Histories.{head_done, tail_done}
 use Rattle.lethe_run.specs.Carried.{failed_in}
 
 failed_none : (h more : History) → AreDone h → failed_in (h ++ more) ≡ failed_in more

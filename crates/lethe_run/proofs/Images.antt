@@ -1,5 +1,5 @@
 -- Of a store that stands for a history, each image is kept for a prefix of what a crash may make of it.
-use Rattle.std.proofs.Common.{◌≡◌, ◌⊎◌, inl, inr, ℕ, suc, Bool, true, false, cond, List, [], ◌∷◌, ◌++◌, length, Option, Some, None, refl, sym, ap, ◌∙◌, subst, append_assoc, append-nil, arith}
+use Rattle.std.proofs.Common.{◌≡◌, ◌⊎◌, inl, inr, ℕ, suc, Bool, true, false, cond, [], ◌∷◌, ◌++◌, length, Option, Some, None, refl, sym, ap, ◌∙◌, subst, append_assoc, append-nil, arith}
 use Rattle.std.specs.Prelude.{Contains}
 use Rattle.std.proofs.lemmas.List.{length-append}
 use Rattle.std.proofs.lemmas.List.Elements.{All-contains, Contains-push}
@@ -9,13 +9,13 @@ use Rattle.lethe_base.specs.declared.config.Fields.{Fields}
 use Rattle.lethe_base.specs.declared.call.Did.TheVariants.{Done, Failed}
 use Rattle.lethe_base.proofs.Histories.{change_at-push}
 use Rattle.lethe_disk.specs.Directory.{Directory}
-use Rattle.lethe_disk.specs.Disk.{Seen, Image}
-use Rattle.lethe_state.specs.declared.state.State.{State}
-use Rattle.lethe_engine.specs.Sound.{IsRunning}
-use Rattle.lethe_engine.specs.StandsFor.{HasCounts, IsKeptFor, IsOpenOrStopped, retried}
-use Rattle.lethe_engine.proofs.Histories.{all_done, last_failed}
+use Rattle.lethe_disk.specs.Disk.{Image}
+use Rattle.lethe_core.specs.Running.{IsRunning}
+use Rattle.lethe_core.specs.StandsNow.{IsOpenOrStopped, StandsNow, retried}
+use Rattle.lethe_core.specs.View.{View}
+use Rattle.lethe_core.proofs.Histories.{all_done, last_failed}
+use Rattle.lethe_engine.specs.StandsFor.{HasCounts, IsKeptFor}
 use Rattle.lethe_stored.specs.Encodes.{Encodes}
-use Rattle.lethe_stored.specs.Files.{Parts}
 use Rattle.lethe_stored.specs.Kept.{IsFor, IsKept}
 use Rattle.lethe_stored.specs.Left.{IsLeft, IsHistoryOr, IsKeptOr, as_done, is_work, without_failed}
 use Rattle.lethe_stored.specs.Stored.{Stored}
@@ -58,28 +58,36 @@ retried_kept : (before : History) (change : Change) (d : Directory) → IsKeptOr
 retried_kept before change d kept = (kept.0, elim (retried_cases before kept.0 change kept.1) [ inl old ↦ inl old | inr new ↦ inr new.1 ], kept.2)
 
 -- a store that takes changes has the one image
-kept_open : (h : History) (disk : Seen) (s : Stored) (state : State) → AreDone h → IsRunning disk s state → IsFor (without_failed h) s → (d : Directory) → Image disk d → IsKept d h
-kept_open h disk s state done running stands d here = inr (record {
+kept_open : (h : History) (view : View) (s : Stored) → AreDone h → IsRunning view s → IsFor (without_failed h) s → (d : Directory) → Image view.disk d → IsKept d h
+kept_open h view s done running stands d here = inr (record {
   s = s;
   coherent = running.settled.coherent;
   encodes = subst (λ c. Encodes c s) (sym (running.settled.synced d here)) running.settled.encodes;
   stands = subst (λ g. IsFor g s) (all_done h done) stands;
 })
 
-module _ {config : Fields} (begin : Start) (faults : ℕ) (opened h : History) (disk : Seen) (state : State) (levels : List (List Parts)) (on : IsOn config begin faults opened h disk state levels) where
-  pub each_kept : (d : Directory) → Image disk d → IsKeptFor opened h d
-  each_kept d here = on.stands.images disk.moment d on.stands.later (omega arith) here
+-- a store that stands for a history of which nothing failed takes changes
+pub done_runs : (config : Fields) (h : History) (view : View) → StandsNow config h view → AreDone h → view.state.stopped ≡ None
+done_runs config h view stands done = by view.state.stopped stands.held
+  where
+    by : (stopped : Option ℕ) → IsOpenOrStopped view h stands.stored stopped → stopped ≡ None
+    by None held = refl
+    by (Some at) held = absurd (clash_did held.faults_before held.faults (sym (subst AreDone held.history done (suc (length held.before)) held.change (change_at-push held.before held.change)) ∙ held.failed))
+
+module _ {config : Fields} (begin : Start) (opened h : History) (view : View) (on : IsOn config begin opened h view) where
+  pub each_kept : (d : Directory) → Image view.disk d → IsKeptFor opened h d
+  each_kept d here = on.stands.images view.disk.moment d on.stands.later (omega arith) here
 
   -- where nothing is done
-  pub goes_still : GoesOn opened h h disk disk
-  goes_still = record { kept = λ k of. of; any_moment = goes_quiet (IsKeptFor opened h) disk disk (quiet_itself disk) each_kept }
+  pub goes_still : GoesOn opened h h view.disk view.disk
+  goes_still = record { kept = λ k of. of; any_moment = goes_quiet (IsKeptFor opened h) view.disk view.disk (quiet_itself view.disk) each_kept }
 
   -- the change that stopped it, and its counts
-  stopped_at : (Ports : Type 0) (at : ℕ) → IsOpenOrStopped disk h on.stands.now.stored state (Some at) → WasStopped (record { history = h; course = course Ports begin faults disk.moment }) at
+  stopped_at : (Ports : Type 0) (at : ℕ) → IsOpenOrStopped view h on.stands.now.stored (Some at) → WasStopped (record { history = h; course = course Ports begin view.faults view.disk.moment }) at
   stopped_at Ports at now =
       let there = failed_added opened now.before on.stands.begins.0 now.change now.faults_before now.faults on.done now.failed (sym now.history ∙ on.stands.begins.1) in
-      let counts : HasCounts on.counted faults (Failed now.faults_before now.faults) =
-      subst (HasCounts on.counted faults) now.failed (All-contains (λ (c : Change). HasCounts on.counted faults c.did) on.stands.begins.0 now.change on.stands.counts there) in
+      let counts : HasCounts on.counted view.faults (Failed now.faults_before now.faults) =
+      subst (HasCounts on.counted view.faults) now.failed (All-contains (λ (c : Change). HasCounts on.counted view.faults c.did) on.stands.begins.0 now.change on.stands.counts there) in
       let place : at ≡ suc (length now.before) = let is = now.place in omega (arith, is, ap length now.history, length-append now.before (now.change ∷ [])) in
       record {
         before = now.faults_before;
@@ -94,36 +102,36 @@ module _ {config : Fields} (begin : Start) (faults : ℕ) (opened h : History) (
         };
       }
 
-  pub stopped_by : (Ports : Type 0) (at : ℕ) → state.stopped ≡ Some at → WasStopped (record { history = h; course = course Ports begin faults disk.moment }) at
-  stopped_by Ports at stop = stopped_at Ports at (subst (IsOpenOrStopped disk h on.stands.now.stored state) stop on.stands.now.held)
+  pub stopped_by : (Ports : Type 0) (at : ℕ) → view.state.stopped ≡ Some at → WasStopped (record { history = h; course = course Ports begin view.faults view.disk.moment }) at
+  stopped_by Ports at stop = stopped_at Ports at (subst (IsOpenOrStopped view h on.stands.now.stored) stop on.stands.now.held)
 
   -- what the disk is left for
-  left_by : Image disk disk.directory → (stopped : Option ℕ) → IsOpenOrStopped disk h on.stands.now.stored state stopped → IsLeft disk (without_failed h) (failed_in h)
+  left_by : Image view.disk view.disk.directory → (stopped : Option ℕ) → IsOpenOrStopped view h on.stands.now.stored stopped → IsLeft view.disk (without_failed h) (failed_in h)
   left_by itself None now =
-      let kept : (d : Directory) → Image disk d → IsKeptOr h None d = λ d here. (h, refl, kept_open h disk on.stands.now.stored state now.0 now.1 on.stands.now.stands d here) in
+      let kept : (d : Directory) → Image view.disk d → IsKeptOr h None d = λ d here. (h, refl, kept_open h view on.stands.now.stored now.0 now.1 on.stands.now.stands d here) in
       (let same = sym (all_done h now.0) in
       let none = sym (none_failed h now.0) in
-      subst (IsLeft disk (without_failed h)) none (subst (λ x. IsLeft disk x None) same (record { now = kept disk.directory itself; images = kept })))
+      subst (IsLeft view.disk (without_failed h)) none (subst (λ x. IsLeft view.disk x None) same (record { now = kept view.disk.directory itself; images = kept })))
   left_by itself (Some at) now =
       let rest = last_failed now.before now.change now.faults_before now.faults now.done now.failed in
       let last = one_failed now.before now.change now.faults_before now.faults now.done now.failed in
       let history = now.history in
-      let left : IsLeft disk now.before (Some now.change) = record { now = retried_kept now.before now.change disk.directory now.left.now; images = λ c here. retried_kept now.before now.change c (now.left.images c here) } in
-      subst (λ x. IsLeft disk (without_failed x) (failed_in x)) (sym history) (subst (IsLeft disk (without_failed (now.before ++ now.change ∷ []))) (sym last) (subst (λ x. IsLeft disk x (Some now.change)) (sym rest) left))
+      let left : IsLeft view.disk now.before (Some now.change) = record { now = retried_kept now.before now.change view.disk.directory now.left.now; images = λ c here. retried_kept now.before now.change c (now.left.images c here) } in
+      subst (λ x. IsLeft view.disk (without_failed x) (failed_in x)) (sym history) (subst (IsLeft view.disk (without_failed (now.before ++ now.change ∷ []))) (sym last) (subst (λ x. IsLeft view.disk x (Some now.change)) (sym rest) left))
 
-  pub leaves : Image disk disk.directory → IsLeft disk (without_failed h) (failed_in h)
-  leaves itself = left_by itself state.stopped on.stands.now.held
+  pub leaves : Image view.disk view.disk.directory → IsLeft view.disk (without_failed h) (failed_in h)
+  leaves itself = left_by itself view.state.stopped on.stands.now.held
 
   -- unless a change failed, it has the configuration
-  config_by : (stopped : Option ℕ) → IsOpenOrStopped disk h on.stands.now.stored state stopped → failed_in h ≡ None → HasConfig config disk.directory
+  config_by : (stopped : Option ℕ) → IsOpenOrStopped view h on.stands.now.stored stopped → failed_in h ≡ None → HasConfig config view.disk.directory
   config_by None now none = record {
     manifest = on.stands.now.stored.manifest;
-    gated = encodes_gated disk.directory on.stands.now.stored now.1.settled.coherent now.1.settled.encodes;
+    gated = encodes_gated view.disk.directory on.stands.now.stored now.1.settled.coherent now.1.settled.encodes;
     is = on.stands.now.config_is;
   }
   config_by (Some at) now none =
       let last = one_failed now.before now.change now.faults_before now.faults now.done now.failed in
       let clash : None ≡ Some now.change = sym none ∙ ap failed_in now.history ∙ last in cc
 
-  pub has_config : failed_in h ≡ None → HasConfig config disk.directory
-  has_config = config_by state.stopped on.stands.now.held
+  pub has_config : failed_in h ≡ None → HasConfig config view.disk.directory
+  has_config = config_by view.state.stopped on.stands.now.held

@@ -1,7 +1,10 @@
 pub mod ScanLaws
 pub mod Histories
 pub mod Images
+pub mod Outcomes
+pub mod Shorts
 pub mod Steps
+pub mod Looks
 pub mod Runs
 pub mod Options
 pub mod Serving

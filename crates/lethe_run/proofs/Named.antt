@@ -4,6 +4,7 @@ use Rattle.std.specs.Prelude.{IsOk, IsErr, Contains, sum_by, is_some}
 use Rattle.std.specs.List.{list_any}
 use Rattle.lethe_base.specs.Counts.{Rose}
 use Rattle.lethe_base.specs.Limits.{max_place}
+use Rattle.lethe_build.specs.Built.{most_numbers}
 use Rattle.lethe_base.specs.History.{History, Change}
 use Rattle.lethe_base.specs.declared.call.Call.{Call}
 use Rattle.lethe_base.specs.declared.config.Fields.{Fields}
@@ -50,7 +51,7 @@ ok_err r x y a b = let clash : Ok x ≡ Err y = sym a ∙ b in cc
 
 -- Where no count rose and there are places, each change is done
 
-module _ (told : Told) (calm : Rose told.course.before told.course.now → ⊥) (ports : told.course.PortsFail → ⊥) (enough : IsShort told.course → ⊥) where
+module _ (told : Told) (calm : Rose told.course.before told.course.now → ⊥) (ports : told.course.PortsFail → ⊥) (most : ℕ) (room : most ≤ max_place) (enough : (n : ℕ) → n ≤ most → IsShort n told.course → ⊥) where
   no_fault : (place before after : ℕ) → IsFailedAt told place before after → ⊥
   no_fault place before after f = calm (let rose = f.rose in let from = f.from in let upto = f.upto in omega (arith, rose, from, upto))
 
@@ -58,38 +59,39 @@ module _ (told : Told) (calm : Rose told.course.before told.course.now → ⊥) 
   fault_of caller place before after None f = f
   fault_of caller place before after (Some call) f = no_fault place before after f.fails
 
-  done_line : (n next : ℕ) (caller by : ℕ) (act : Act) (r : Reply) → n < max_place → Answers told by act r → Follows told.course n r next → (is_refusal (line.Answer caller r) ≡ false) × (next ≤ n + 1)
-  done_line n next caller by act (reply.Done place) room a f = (refl, omega arith)
-  done_line n next caller by act (reply.Got point held) room a f = (refl, omega arith)
-  done_line n next caller by act (reply.Scanned point pairs) room a f = (refl, omega arith)
-  done_line n next caller by act (reply.Counted point stat) room a f = (refl, omega arith)
-  done_line n next caller by act (reply.Fault place before after) room a f = absurd (fault_of by place before after (call_of act) a)
-  done_line n next caller by act (reply.Stopped at) room a f = absurd (no_fault at a.1.before a.1.after a.1.fails)
-  done_line n next caller by act (reply.Exhausted last) room a f = absurd (elim f.0 [ inl here ↦ (let all = a.1.0 in omega (arith, here, all, room)) | inr few ↦ enough few ])
-  done_line n next caller by act reply.ReadFault room a f = absurd (ports a.1)
-  done_line n next caller by act (reply.Damaged page) room a f = absurd a
+  done_line : (n next : ℕ) (caller by : ℕ) (act : Act) (r : Reply) → n < most → Answers told by act r → Follows told.course n r next → (is_refusal (line.Answer caller r) ≡ false) × (next ≤ n + 1)
+  done_line n next caller by act (reply.Done place) below a f = (refl, omega arith)
+  done_line n next caller by act (reply.Got point held) below a f = (refl, omega arith)
+  done_line n next caller by act (reply.Scanned point pairs) below a f = (refl, omega arith)
+  done_line n next caller by act (reply.Counted point stat) below a f = (refl, omega arith)
+  done_line n next caller by act (reply.Fault place before after) below a f = absurd (fault_of by place before after (call_of act) a)
+  done_line n next caller by act (reply.Stopped at) below a f = absurd (no_fault at a.1.before a.1.after a.1.fails)
+  done_line n next caller by act (reply.Exhausted last) below a f = absurd (elim f.0 [ inl here ↦ (let all = a.1.0 in omega (arith, here, all, room, below)) | inr few ↦ enough n (omega (arith, below)) few ])
+  done_line n next caller by act reply.ReadFault below a f = absurd (ports a.1)
+  done_line n next caller by act (reply.Damaged page) below a f = absurd a
 
-  done_lines : (n m : ℕ) (orders : List Order) (lines : List Line) → n + length orders ≤ max_place → Answered told orders lines → InTurn told.course n lines m → (list_any is_refusal lines ≡ false) × (m ≤ n + length orders)
-  done_lines n m [] [] room a t = (refl, omega (arith, t))
-  done_lines n m [] (l ∷ lines) room a t = absurd a
-  done_lines n m (order ∷ orders) [] room a t = absurd a
-  done_lines n m (order ∷ orders) (line.Answer caller r ∷ lines) room a t =
-      let first = done_line n t.0 caller order.caller order.act r (omega (arith, room)) a.1 t.1 in
+  done_lines : (n m : ℕ) (orders : List Order) (lines : List Line) → n + length orders ≤ most → Answered told orders lines → InTurn told.course n lines m → (list_any is_refusal lines ≡ false) × (m ≤ n + length orders)
+  done_lines n m [] [] few a t = (refl, omega (arith, t))
+  done_lines n m [] (l ∷ lines) few a t = absurd a
+  done_lines n m (order ∷ orders) [] few a t = absurd a
+  done_lines n m (order ∷ orders) (line.Answer caller r ∷ lines) few a t =
+      let first = done_line n t.0 caller order.caller order.act r (omega (arith, few)) a.1 t.1 in
       let step = first.1 in
-      let rest = done_lines t.0 m orders lines (omega (arith, room, step)) a.2 t.2 in
+      let rest = done_lines t.0 m orders lines (omega (arith, few, step)) a.2 t.2 in
       let upto = rest.1 in
       (ap (λ b. b || list_any is_refusal lines) first.0 ∙ rest.0, omega (arith, step, upto))
 
-phases_done : (c : Course) → (Rose c.before c.now → ⊥) → (c.PortsFail → ⊥) → (IsShort c → ⊥) → (start h : History) (phases : List (List Order)) (lines : List (List Line)) → length start + sum_by (λ orders. length orders) phases ≤ max_place
+phases_done : (c : Course) → (Rose c.before c.now → ⊥) → (c.PortsFail → ⊥) → (most : ℕ) → most ≤ max_place → ((n : ℕ) → n ≤ most → IsShort n c → ⊥) → (start h : History) (phases : List (List Order)) (lines : List (List Line))
+    → length start + sum_by (λ orders. length orders) phases ≤ most
     → AreServed c start phases lines h → has_refusal lines ≡ false
-phases_done c calm ports enough start h [] [] room served = refl
-phases_done c calm ports enough start h [] (l ∷ lines) room served = absurd served
-phases_done c calm ports enough start h (p ∷ phases) [] room served = absurd served
-phases_done c calm ports enough start h (p ∷ phases) (l ∷ lines) room served =
+phases_done c calm ports most room enough start h [] [] few served = refl
+phases_done c calm ports most room enough start h [] (l ∷ lines) few served = absurd served
+phases_done c calm ports most room enough start h (p ∷ phases) [] few served = absurd served
+phases_done c calm ports most room enough start h (p ∷ phases) (l ∷ lines) few served =
     let size = sum_by-cons (λ (orders : List Order). length orders) p phases in
-    let first = done_lines (record { history = served.0; course = c }) calm ports enough (length start) (length served.0) p l (omega (arith, room, size)) served.1.answered served.1.alone in
+    let first = done_lines (record { history = served.0; course = c }) calm ports most room enough (length start) (length served.0) p l (omega (arith, few, size)) served.1.answered served.1.alone in
     let upto = first.1 in
-    ap (λ b. b || has_refusal lines) first.0 ∙ phases_done c calm ports enough served.0 h phases lines (omega (arith, room, size, upto)) served.2
+    ap (λ b. b || has_refusal lines) first.0 ∙ phases_done c calm ports most room enough served.0 h phases lines (omega (arith, few, size, upto)) served.2
 
 opened_short : (left : History) (change : Option Change) (opened : History) → IsHistoryOr left change opened → length opened ≤ length left + 1
 opened_short left None opened is = let same = ap length is in omega (arith, same)
@@ -101,11 +103,12 @@ true_false true a b = cc
 true_false false a b = cc
 
 pub no_refusal : (run : Run) (config : Fields) (phases : List (List Order)) (lines : List (List Line)) (left : History) (change : Option Change) → (Rose run.faults_before run.faults → ⊥) → (run.PortsFail → ⊥)
-    → (next : ℕ) → next + (run.finish.moment - run.start.moment) + most_of_a_change < max_place → length left + 1 + sum_by (λ orders. length orders) phases ≤ max_place
+    → (next : ℕ) → next + (run.finish.moment - run.start.moment) + most_of_a_change + most_numbers (length left + 1 + sum_by (λ orders. length orders) phases) < max_place
+    → length left + 1 + sum_by (λ orders. length orders) phases ≤ max_place
     → has_refusal lines ≡ true → IsCarriedOut config (course_of run next) run.start run.finish left change phases lines → ⊥
 no_refusal run config phases lines left change calm ports next few room refused c =
     let short = opened_short left change c.opened c.either in
-    true_false (has_refusal lines) refused (phases_done (course_of run next) calm ports (λ none. omega (arith, none, few)) c.opened c.history phases lines (omega (arith, room, short)) c.served)
+    true_false (has_refusal lines) refused (phases_done (course_of run next) calm ports (length left + 1 + sum_by (λ orders. length orders) phases) room (λ n within none. omega (arith, within, none, few)) c.opened c.history phases lines (omega (arith, short)) c.served)
 
 -- Why a store that was left for a history wasn't opened
 
@@ -158,7 +161,8 @@ module _ (run : Run) where
   Complete n config = (run.SourceRose → ⊥) → (run.SinkRose → ⊥) → (Rose run.faults_before run.faults → ⊥) → (run.PortsFail → ⊥)
       → IfSome run.source (λ bytes. (phases : List (List Order)) → script_of bytes ≡ Ok phases → OnLeft run (λ left change.
       ((kept : Fields) → HasOtherConfig config run.start.directory kept → ⊥) → (IsExhausted run.start.directory → ⊥)
-      → ((next : ℕ) → IsNextNumber run.start.directory next → next + (run.finish.moment - run.start.moment) + most_of_a_change < max_place)
+      → ((next : ℕ) → IsNextNumber run.start.directory next
+      → next + (run.finish.moment - run.start.moment) + most_of_a_change + most_numbers (length left + 1 + sum_by (λ orders. length orders) phases) < max_place)
       → length left + 1 + sum_by (λ orders. length orders) phases ≤ max_place → Contains (0 ∷ 7 ∷ []) n))
 
   -- neither all answered nor refused

@@ -1,5 +1,5 @@
 -- One phase after another.
-use Rattle.std.proofs.Common.{◌≡◌, ◌≤◌, ℕ, Bool, true, false, ◌||◌, List, [], ◌∷◌, ◌++◌, Option, Some, None, refl, sym, ap, ◌∙◌, subst, append_assoc, append-nil}
+use Rattle.std.proofs.Common.{◌≡◌, ◌≤◌, Bool, true, false, ◌||◌, List, [], ◌∷◌, ◌++◌, Option, Some, None, refl, sym, ap, ◌∙◌, subst, append_assoc, append-nil}
 use Rattle.std.specs.List.{list_any}
 use Rattle.std.specs.Io.KnownBytes.{Appends}
 use Rattle.std.proofs.lemmas.List.Folds.{list_any-append}
@@ -7,9 +7,8 @@ use Rattle.std.proofs.lemmas.Grind.{flat_map-append}
 use Rattle.lethe_base.specs.History.{History}
 use Rattle.lethe_base.specs.declared.config.Fields.{Fields}
 use Rattle.lethe_base.specs.Keys.{Bytes}
-use Rattle.lethe_disk.specs.Disk.{Seen, Image}
-use Rattle.lethe_state.specs.declared.state.State.{State}
-use Rattle.lethe_stored.specs.Files.{Parts}
+use Rattle.lethe_core.specs.View.{View}
+use Rattle.lethe_disk.specs.Disk.{Image}
 use Rattle.lethe_engine.specs.StandsFor.{IsKeptFor}
 use Rattle.lethe_disk.proofs.Going.{goes_then, goes_weaker}
 use Rattle.lethe_script.specs.declared.order.Order.{Order}
@@ -60,14 +59,14 @@ pub refusal_more : (lines : List (List Line)) (more : List Line) → has_refusal
 refusal_more lines more = list_any-append (list_any is_refusal) lines (more ∷ []) ∙ ap (λ b. has_refusal lines || b) (or_false (list_any is_refusal more))
 
 -- the phases so far
-pub record SoFar (config : Fields) (Ports : Type 0) (begin : Start) (faults : ℕ) (opened : History) (phases : List (List Order)) (lines : List (List Line)) (start now : Seen) (state : State) (levels : List (List Parts)) : Type 0 where
+pub record SoFar (config : Fields) (Ports : Type 0) (begin : Start) (opened : History) (phases : List (List Order)) (lines : List (List Line)) (start now : View) : Type 0 where
   pub history : History
-  pub served : AreServed (course Ports begin faults now.moment) opened phases lines history
-  pub goes : GoesOn opened opened history start now
-  pub stands : IsOn config begin faults opened history now state levels
+  pub served : AreServed (course Ports begin now.faults now.disk.moment) opened phases lines history
+  pub goes : GoesOn opened opened history start.disk now.disk
+  pub stands : IsOn config begin opened history now
 
-pub so_far_start : {config : Fields} (Ports : Type 0) (begin : Start) (faults : ℕ) (opened : History) (disk : Seen) (state : State) (levels : List (List Parts)) → IsOn config begin faults opened opened disk state levels → SoFar config Ports begin faults opened [] [] disk disk state levels
-so_far_start Ports begin faults opened disk state levels on = record { history = opened; served = refl; goes = goes_still begin faults opened opened disk state levels on; stands = on }
+pub so_far_start : {config : Fields} (Ports : Type 0) (begin : Start) (opened : History) (view : View) → IsOn config begin opened opened view → SoFar config Ports begin opened [] [] view view
+so_far_start Ports begin opened view on = record { history = opened; served = refl; goes = goes_still begin opened opened view on; stands = on }
 
 phases_more : (c : Course) (start middle h : History) (phases : List (List Order)) (lines : List (List Line)) (orders : List Order) (more : List Line)
     → AreServed c start phases lines middle → IsServed c middle orders more h → AreServed c start (phases ++ orders ∷ []) (lines ++ more ∷ []) h
@@ -76,27 +75,27 @@ phases_more c start middle h [] (l ∷ lines) orders more served last = absurd s
 phases_more c start middle h (p ∷ phases) [] orders more served last = absurd served
 phases_more c start middle h (p ∷ phases) (l ∷ lines) orders more served last = (served.0, served.1, phases_more c served.0 middle h phases lines orders more served.2 last)
 
-pub so_far_more : {config : Fields} (Ports : Type 0) (begin : Start) (f0 f1 : ℕ) (opened h : History) (phases : List (List Order)) (lines : List (List Line)) (part : List Order) (more : List Line) (start now then : Seen) (state state' : State) (levels levels' : List (List Parts)) → f0 ≤ f1
-    → (so_far : SoFar config Ports begin f0 opened phases lines start now state levels) → IsPhase config Ports begin f1 opened so_far.history h part more now then state' levels'
-    → SoFar config Ports begin f1 opened (phases ++ part ∷ []) (lines ++ more ∷ []) start then state' levels'
-so_far_more Ports begin f0 f1 opened h phases lines part more start now then state state' levels levels' le so_far phase = record {
+pub so_far_more : {config : Fields} (Ports : Type 0) (begin : Start) (opened h : History) (phases : List (List Order)) (lines : List (List Line)) (part : List Order) (more : List Line) (start now then : View) → now.faults ≤ then.faults
+    → (so_far : SoFar config Ports begin opened phases lines start now) → IsPhase config Ports begin opened so_far.history h part more now then
+    → SoFar config Ports begin opened (phases ++ part ∷ []) (lines ++ more ∷ []) start then
+so_far_more Ports begin opened h phases lines part more start now then le so_far phase = record {
   history = h;
-  served = phases_more (course Ports begin f1 then.moment) opened so_far.history h phases lines part more
-      (served_later Ports begin f0 f1 now.moment then.moment le phase.goes.any_moment.later opened so_far.history phases lines so_far.served) phase.served;
+  served = phases_more (course Ports begin then.faults then.disk.moment) opened so_far.history h phases lines part more
+      (served_later Ports begin now.faults then.faults now.disk.moment then.disk.moment le phase.goes.any_moment.later opened so_far.history phases lines so_far.served) phase.served;
   goes = record {
     kept = λ k cut. phase.goes.kept k (so_far.goes.kept k cut);
-    any_moment = goes_then (IsKeptFor opened h) start now then
-        (goes_weaker (IsKeptFor opened so_far.history) (IsKeptFor opened h) start now (λ d kept. (kept.0, phase.goes.kept kept.0 kept.1, kept.2)) so_far.goes.any_moment) phase.goes.any_moment;
+    any_moment = goes_then (IsKeptFor opened h) start.disk now.disk then.disk
+        (goes_weaker (IsKeptFor opened so_far.history) (IsKeptFor opened h) start.disk now.disk (λ d kept. (kept.0, phase.goes.kept kept.0 kept.1, kept.2)) so_far.goes.any_moment) phase.goes.any_moment;
   };
   stands = phase.stands;
 }
 
-pub carried : {config : Fields} (Ports : Type 0) (begin : Start) (faults : ℕ) (opened : History) (phases : List (List Order)) (lines : List (List Line)) (start now : Seen) (state : State) (levels : List (List Parts)) → Image now now.directory → SoFar config Ports begin faults opened phases lines start now state levels
-    → IsCarried config (course Ports begin faults now.moment) opened phases lines start now
-carried Ports begin faults opened phases lines start now state levels itself so_far = record {
+pub carried : {config : Fields} (Ports : Type 0) (begin : Start) (opened : History) (phases : List (List Order)) (lines : List (List Line)) (start now : View) → Image now.disk now.disk.directory → SoFar config Ports begin opened phases lines start now
+    → IsCarried config (course Ports begin now.faults now.disk.moment) opened phases lines start.disk now.disk
+carried Ports begin opened phases lines start now itself so_far = record {
   history = so_far.history;
   served = so_far.served;
   any_moment = so_far.goes.any_moment;
-  leaves = leaves begin faults opened so_far.history now state levels so_far.stands itself;
-  config_is = has_config begin faults opened so_far.history now state levels so_far.stands;
+  leaves = leaves begin opened so_far.history now so_far.stands itself;
+  config_is = has_config begin opened so_far.history now so_far.stands;
 }

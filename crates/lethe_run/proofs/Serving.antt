@@ -9,12 +9,10 @@ use Rattle.lethe_base.specs.History.{History, IsLegal, after}
 use Rattle.lethe_base.specs.Read.{Read, Answer, answer}
 use Rattle.lethe_base.specs.Read as answers
 use Rattle.lethe_base.proofs.Histories.{change_at-append}
-use Rattle.lethe_disk.specs.Disk.{Seen}
 use Rattle.lethe_engine.specs.Reads.{listed}
 use Rattle.lethe_engine.specs.StandsFor.{IsKeptFor}
 use Rattle.lethe_engine.specs.declared.telling.Stat.{Stat}
-use Rattle.lethe_state.specs.declared.state.State.{State}
-use Rattle.lethe_stored.specs.Files.{Parts}
+use Rattle.lethe_core.specs.View.{View}
 use Rattle.lethe_disk.proofs.Going.{goes_then, goes_weaker}
 use Rattle.lethe_script.specs.declared.order.Order.{Order}
 use Rattle.lethe_script.specs.declared.order.Act.{Act}
@@ -24,12 +22,10 @@ use Rattle.lethe_run.specs.declared.reply.Reply.{Reply}
 use Rattle.lethe_run.specs.declared.reply.Reply.TheVariants.{Done, Got, Scanned, Counted, Fault, Stopped, Exhausted, ReadFault, Damaged}
 use Rattle.lethe_run.specs.Serving.{IsOn, GoesOn, IsAnswered, IsPhase}
 use Rattle.lethe_run.proofs.Images.{goes_still}
+use Rattle.lethe_run.proofs.Outcomes.{told_of}
 use Rattle.lethe_run.specs.Transcript.{Course, Start, Told, IsShort, course, call_of, read_of, IsDoneAt, IsAnswerAt, IsStatAt, IsFailedAt, IsFaultOf, Answers, Answered, place_of, places_behind, is_of, Sees, Follows, InTurn, IsServed, AreServed}
 
 -- What a line says of a history it says of a longer one, and when the count of faults rises, unless the places were used up: then nothing follows.
-
-abbrev told_of : History → Course → Told
-told_of h c = record { history = h; course = c }
 
 answer_before : (h more : History) (point : ℕ) (read : Read) (given : Answer) → IsAnswerAt h point read given → IsAnswerAt (h ++ more) point read given
 answer_before h more point read given a = record {
@@ -52,9 +48,9 @@ stat_before h more point stat a = record {
   is = a.is ∙ ap (λ l. (after l).clock) (sym (take-append-le point h more a.within));
 }
 
--- numbers that ran out have run out when more device calls were made
-short_later : (Ports : Type 0) (begin : Start) (f0 f1 m0 m1 : ℕ) → m0 ≤ m1 → IsShort (course Ports begin f0 m0) → IsShort (course Ports begin f1 m1)
-short_later Ports begin f0 f1 m0 m1 le few = omega (arith, few, le)
+-- numbers that ran out have run out when more device calls and changes were made
+short_later : (Ports : Type 0) (begin : Start) (f0 f1 m0 m1 n m : ℕ) → m0 ≤ m1 → n ≤ m → IsShort n (course Ports begin f0 m0) → IsShort m (course Ports begin f1 m1)
+short_later Ports begin f0 f1 m0 m1 n m le more few = omega (arith, few, le, more)
 
 module _ (h more : History) (legal : IsLegal (h ++ more)) (Ports : Type 0) (begin : Start) (f0 f1 m0 m1 : ℕ) (le : f0 ≤ f1) (on : m0 ≤ m1) where
   abbrev First : Course
@@ -90,7 +86,7 @@ module _ (h more : History) (legal : IsLegal (h ++ more)) (Ports : Type 0) (begi
       a.1.0,
       elim a.1.1 [
         | inl all ↦ inl (let few = legal.few in omega (arith, few, all, length-append h more))
-        | inr few ↦ inr (short_later Ports begin f0 f1 m0 m1 on few)
+        | inr few ↦ inr (short_later Ports begin f0 f1 m0 m1 (length h) (length (h ++ more)) on (omega (arith, length-append h more)) few)
       ],
     ),
   )
@@ -124,7 +120,7 @@ module _ (Ports : Type 0) (begin : Start) (f0 f1 m0 m1 : ℕ) (on : m0 ≤ m1) w
   follows_later n m (Counted point stat) f = f
   follows_later n m (Fault place b a) f = f
   follows_later n m (Stopped at) f = f
-  follows_later n m (Exhausted last) f = (elim f.0 [ inl all ↦ inl all | inr few ↦ inr (short_later Ports begin f0 f1 m0 m1 on few) ], f.1)
+  follows_later n m (Exhausted last) f = (elim f.0 [ inl all ↦ inl all | inr few ↦ inr (short_later Ports begin f0 f1 m0 m1 n n on (omega arith) few) ], f.1)
   follows_later n m ReadFault f = f
   follows_later n m (Damaged page) f = f
 
@@ -133,20 +129,20 @@ module _ (Ports : Type 0) (begin : Start) (f0 f1 m0 m1 : ℕ) (on : m0 ≤ m1) w
   in_turn_later n m (line.Answer caller reply ∷ lines) t = (t.0, follows_later n t.0 reply t.1, in_turn_later t.0 m lines t.2)
 
 -- the lines so far
-pub record IsBuilt (config : Fields) (Ports : Type 0) (begin : Start) (faults : ℕ) (opened start : History) (orders : List Order) (lines : List Line) (h : History) (old now : Seen) (state : State) (levels : List (List Parts)) : Type 0 where
+pub record IsBuilt (config : Fields) (Ports : Type 0) (begin : Start) (opened start : History) (orders : List Order) (lines : List Line) (h : History) (old now : View) : Type 0 where
   pub begins : (added : History) × (h ≡ start ++ added)
-  pub answered : Answered (told_of h (course Ports begin faults now.moment)) orders lines
-  pub alone : InTurn (course Ports begin faults now.moment) (length start) lines (length h)
-  pub goes : GoesOn opened start h old now
-  pub stands : IsOn config begin faults opened h now state levels
+  pub answered : Answered (told_of h (course Ports begin now.faults now.disk.moment)) orders lines
+  pub alone : InTurn (course Ports begin now.faults now.disk.moment) (length start) lines (length h)
+  pub goes : GoesOn opened start h old.disk now.disk
+  pub stands : IsOn config begin opened h now
 
-module _ {config : Fields} (Ports : Type 0) (begin : Start) (f0 f1 : ℕ) (le : f0 ≤ f1) (opened start h : History) (orders : List Order) (lines : List Line) (old now then : Seen) (state state' : State) (levels levels' : List (List Parts))
-    (built : IsBuilt config Ports begin f0 opened start orders lines h old now state levels) where
+module _ {config : Fields} (Ports : Type 0) (begin : Start) (opened start h : History) (orders : List Order) (lines : List Line) (old now then : View) (le : now.faults ≤ then.faults)
+    (built : IsBuilt config Ports begin opened start orders lines h old now) where
   abbrev Then : Course
-  Then = course Ports begin f1 then.moment
+  Then = course Ports begin then.faults then.disk.moment
 
-  pub built_more : (g : History) (order : Order) (reply : Reply) → IsAnswered config Ports begin f1 opened h g order.caller order.act reply now then state' levels'
-      → IsBuilt config Ports begin f1 opened start (orders ++ order ∷ []) (lines ++ line.Answer order.caller reply ∷ []) g old then state' levels'
+  pub built_more : (g : History) (order : Order) (reply : Reply) → IsAnswered config Ports begin opened h g order.caller order.act reply now then
+      → IsBuilt config Ports begin opened start (orders ++ order ∷ []) (lines ++ line.Answer order.caller reply ∷ []) g old then
   built_more g order reply is =
       let more = is.grows.0 in
       let whole = is.grows.1 in
@@ -155,25 +151,25 @@ module _ {config : Fields} (Ports : Type 0) (begin : Start) (f0 f1 : ℕ) (le : 
       record {
         begins = (built.begins.0 ++ more, whole ∙ ap (λ l. l ++ more) built.begins.1 ∙ append_assoc start built.begins.0 more);
         answered = answered_more (told_of g Then) orders lines order reply
-            (subst (λ x. Answered (told_of x Then) orders lines) (sym whole) (answered_before h more (subst IsLegal whole legal) Ports begin f0 f1 now.moment then.moment le on orders lines built.answered)) is.answers;
-        alone = in_turn_more Then (length start) lines (length h) (length g) order.caller reply (in_turn_later Ports begin f0 f1 now.moment then.moment on (length start) (length h) lines built.alone) is.follows;
+            (subst (λ x. Answered (told_of x Then) orders lines) (sym whole) (answered_before h more (subst IsLegal whole legal) Ports begin now.faults then.faults now.disk.moment then.disk.moment le on orders lines built.answered)) is.answers;
+        alone = in_turn_more Then (length start) lines (length h) (length g) order.caller reply (in_turn_later Ports begin now.faults then.faults now.disk.moment then.disk.moment on (length start) (length h) lines built.alone) is.follows;
         goes = record {
           kept = λ k cut. is.goes.kept k (built.goes.kept k cut);
-          any_moment = goes_then (IsKeptFor opened g) old now then
-              (goes_weaker (IsKeptFor opened h) (IsKeptFor opened g) old now (λ d kept. (kept.0, is.goes.kept kept.0 kept.1, kept.2)) built.goes.any_moment) is.goes.any_moment;
+          any_moment = goes_then (IsKeptFor opened g) old.disk now.disk then.disk
+              (goes_weaker (IsKeptFor opened h) (IsKeptFor opened g) old.disk now.disk (λ d kept. (kept.0, is.goes.kept kept.0 kept.1, kept.2)) built.goes.any_moment) is.goes.any_moment;
         };
         stands = is.stands;
       }
 
   -- the same when nothing was answered
-  pub built_still : GoesOn opened h h now then → IsOn config begin f1 opened h then state' levels' → IsBuilt config Ports begin f1 opened start orders lines h old then state' levels'
+  pub built_still : GoesOn opened h h now.disk then.disk → IsOn config begin opened h then → IsBuilt config Ports begin opened start orders lines h old then
   built_still goes stands =
       let on = goes.any_moment.later in
       record {
         begins = built.begins;
-        answered = subst (λ x. Answered (told_of x Then) orders lines) (append-nil h) (answered_before h [] (subst IsLegal (sym (append-nil h)) stands.stands.now.legal) Ports begin f0 f1 now.moment then.moment le on orders lines built.answered);
-        alone = in_turn_later Ports begin f0 f1 now.moment then.moment on (length start) (length h) lines built.alone;
-        goes = record { kept = built.goes.kept; any_moment = goes_then (IsKeptFor opened h) old now then built.goes.any_moment goes.any_moment };
+        answered = subst (λ x. Answered (told_of x Then) orders lines) (append-nil h) (answered_before h [] (subst IsLegal (sym (append-nil h)) stands.stands.now.legal) Ports begin now.faults then.faults now.disk.moment then.disk.moment le on orders lines built.answered);
+        alone = in_turn_later Ports begin now.faults then.faults now.disk.moment then.disk.moment on (length start) (length h) lines built.alone;
+        goes = record { kept = built.goes.kept; any_moment = goes_then (IsKeptFor opened h) old.disk now.disk then.disk built.goes.any_moment goes.any_moment };
         stands = stands;
       }
 
@@ -247,23 +243,23 @@ module _ (c : Course) where
       place_next n t.0 m caller reply lines t.1 (in_turn_up t.0 m lines t.2) (places_in_turn t.0 m lines t.2)
 
 -- the lines of a whole phase
-pub phase_of : {config : Fields} (Ports : Type 0) (begin : Start) (faults : ℕ) (opened start h : History) (orders : List Order) (lines : List Line) (old now : Seen) (state : State) (levels : List (List Parts)) → IsBuilt config Ports begin faults opened start orders lines h old now state levels
-    → IsPhase config Ports begin faults opened start h orders lines old now state levels
-phase_of Ports begin faults opened start h orders lines old now state levels built = record {
+pub phase_of : {config : Fields} (Ports : Type 0) (begin : Start) (opened start h : History) (orders : List Order) (lines : List Line) (old now : View) → IsBuilt config Ports begin opened start orders lines h old now
+    → IsPhase config Ports begin opened start h orders lines old now
+phase_of Ports begin opened start h orders lines old now built = record {
   served = record {
     begins = built.begins;
     legal = built.stands.stands.now.legal;
     answered = built.answered;
-    once = subst (λ l. IsPermutation (places_behind (length start) (length h - length start)) l) (sym (places_in_turn (course Ports begin faults now.moment) (length start) (length h) lines built.alone)) (IsPermutation-refl (places_behind (length start) (length h - length start)));
-    seen = λ caller. sees_in_turn (course Ports begin faults now.moment) (is_of caller) (length start) (length start) (length h) lines (omega arith) built.alone;
+    once = subst (λ l. IsPermutation (places_behind (length start) (length h - length start)) l) (sym (places_in_turn (course Ports begin now.faults now.disk.moment) (length start) (length h) lines built.alone)) (IsPermutation-refl (places_behind (length start) (length h - length start)));
+    seen = λ caller. sees_in_turn (course Ports begin now.faults now.disk.moment) (is_of caller) (length start) (length start) (length h) lines (omega arith) built.alone;
     alone = built.alone;
   };
   goes = built.goes;
   stands = built.stands;
 }
 
-pub built_start : {config : Fields} (Ports : Type 0) (begin : Start) (faults : ℕ) (opened start : History) (disk : Seen) (state : State) (levels : List (List Parts)) → IsOn config begin faults opened start disk state levels → IsBuilt config Ports begin faults opened start [] [] start disk disk state levels
-built_start Ports begin faults opened start disk state levels on = record { begins = ([], sym (append-nil start)); answered = tt; alone = refl; goes = goes_still begin faults opened start disk state levels on; stands = on }
+pub built_start : {config : Fields} (Ports : Type 0) (begin : Start) (opened start : History) (view : View) → IsOn config begin opened start view → IsBuilt config Ports begin opened start [] [] start view view
+built_start Ports begin opened start view on = record { begins = ([], sym (append-nil start)); answered = tt; alone = refl; goes = goes_still begin opened start view on; stands = on }
 
 -- the same when the counts have risen
 

@@ -39,9 +39,9 @@ pub(crate) enum Reply {
     Exhausted {
         last: u64,
     },
-    /// A read isn't answered, since a fetch of a page failed.
+    /// A read isn't answered, or a change isn't made, since a fetch of a page failed.
     ReadFault,
-    /// A read isn't answered, since the page of this number is damaged.
+    /// A read isn't answered, or a change isn't made, since the page of this number is damaged.
     Damaged {
         no: u64,
     },

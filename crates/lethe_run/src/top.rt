@@ -1,5 +1,5 @@
 //! The top call.
-ghost use Rattle.std.specs.Prelude.{◌≡◌, ◌≤◌, ◌<◌, ◌+◌, ◌⊎◌, ℕ, Option, map, IfErr, IfOk, IfSome, MatchResult, IsErrOf};
+ghost use Rattle.std.specs.Prelude.{◌≡◌, ◌≤◌, ◌<◌, ◌+◌, ◌⊎◌, ℕ, Option, None, map, IfErr, IfOk, IfSome, MatchResult, IsErrOf};
 ghost use Rattle.std.specs.String.{string_bytes};
 ghost use Rattle.lethe_base.specs.Counts.{Rose};
 ghost use Rattle.lethe_base.specs.History.{History, Change};
@@ -126,6 +126,7 @@ fn read_all<S: Source>(alloc: Global, source: &mut S) -> Result<Vec<u8>, ReadRef
 /// Opens the store of the configuration.
 fn open_store<D: Disk>(alloc: Global, disk: D, config: &Config) -> Result<Engine<D>, OpenRefused<D>>
     ensures sound { IfOk result (λ engine. IsSound D.tells (view_of engine.core)) }
+    ensures runs { IfOk result (λ engine. engine.core.state.stopped ≡ None) }
     ensures resumed { D.tells → (h : History) (change : Option Change) → IsLeft (D.seen disk) h change
         → IfOk result (λ engine. IsResumed config.now h change (D.seen disk) (view_of engine.core)) }
     ensures any_moment { D.tells → (h : History) (change : Option Change) → IsLeft (D.seen disk) h change

@@ -4,7 +4,7 @@ use Rattle.std.proofs.lemmas.List.{map-id}
 use Rattle.std.proofs.lemmas.Iterator.Consumers.{YieldsList-end}
 use Rattle.std.proofs.lemmas.Iterator.Adapters.{YieldsList-from_vec}
 use Rattle.lethe_base.specs.Counts.{Rose}
-use Rattle.lethe_advance.specs.Shown.{parts_by_level}
+use Rattle.lethe_core.specs.View.{view_of}
 use Rattle.lethe_run.specs.Scripts.{ScriptEnds}
 use Rattle.lethe_run.specs.Transcript.{is_refusal}
 use Rattle.lethe_run.proofs.Endings.{Phase, Before, next_so_far, cut_ends, all_ends}
@@ -14,7 +14,6 @@ use Rattle.lethe_run.proofs.script.serve_phases.Goals as goal
 
 pub loop-orders-init : goal.loop-orders-init
 loop-orders-init g c =
-    let e = c.args.engine in
     record {
       sound = c.requires;
       sink = omega arith;
@@ -23,27 +22,21 @@ loop-orders-init g c =
         [],
         appends_none (g.K.Sink.taken c.args.sink.now),
         refl,
-        λ told config begin opened on. so_far_start g.D.Disk.ports_fail begin (g.D.Disk.faults e.disk) opened (g.D.Disk.seen e.disk) e.state (parts_by_level e.version) on,
+        λ told config begin opened on. so_far_start g.D.Disk.ports_fail begin opened (view_of c.args.engine.core) on,
       );
     }
 
 pub loop-orders-preserved : goal.loop-orders-preserved
 loop-orders-preserved g c =
-    let old = c.args.engine in
-    let mid = c.loop-orders.engine in
-    let new = c.serve_phase-served.new.engine in
-    let l0 = parts_by_level old.version in
-    let l1 = parts_by_level mid.version in
-    let l2 = parts_by_level new.version in
-    let f0 = g.D.Disk.faults old.disk in
-    let f1 = g.D.Disk.faults mid.disk in
-    let f2 = g.D.Disk.faults new.disk in
+    let old = view_of c.args.engine.core in
+    let mid = view_of c.loop-orders.engine.core in
+    let new = view_of c.serve_phase-served.new.engine.core in
     let so_far = c.loop-orders.invariant.lines in
     let more = c.serve_phase-served.result.lines.items in
     let whole = c.serve_phase-served.result.whole in
     let laws = g.met.D.Disk g.world.𝓛 g.world.𝓜 g.world.𝓡 ((λ s x. x), (λ x. x), (λ x. x), λ x. x) in
-    let phase : Phase g.D.Disk.tells g.D.Disk.ports_fail (g.D.Disk.seen mid.disk) (g.D.Disk.seen new.disk) mid.state new.state l1 l2 f1 f2 c.in-Some.orders whole more =
-    subst (λ o. Phase g.D.Disk.tells g.D.Disk.ports_fail (g.D.Disk.seen mid.disk) (g.D.Disk.seen new.disk) mid.state new.state l1 l2 f1 f2 o whole more) c.into_vec.ensures c.serve_phase-served.ensures.served in
+    let phase : Phase g.D.Disk.tells g.D.Disk.ports_fail mid new c.in-Some.orders whole more =
+    subst (λ o. Phase g.D.Disk.tells g.D.Disk.ports_fail mid new o whole more) c.into_vec.ensures c.serve_phase-served.ensures.served in
     record {
       sound = c.serve_phase-served.ensures.sound;
       sink = let a = c.loop-orders.invariant.sink in let b = c.print_phase.ensures.faults in omega (arith, a, b);
@@ -52,29 +45,22 @@ loop-orders-preserved g c =
         so_far.0 ++ more ∷ [],
         whole_text (g.K.Sink.taken c.args.sink.now) (g.K.Sink.taken c.loop-orders.sink) (g.K.Sink.taken c.print_phase.new.sink) so_far.0 more so_far.1 c.in_default.ensures.ok.1,
         refusal_more so_far.0 more ∙ ap (λ b. b || list_any is_refusal more) so_far.2 ∙ sym (search rules),
-        next_so_far g.D.Disk.tells g.D.Disk.ports_fail (g.D.Disk.seen old.disk) (g.D.Disk.seen mid.disk) (g.D.Disk.seen new.disk) old.state mid.state new.state l0 l1 l2 f0 f1 f2
-            c.loop-orders.invariant.faults c.serve_phase-served.ensures.faults (λ told. laws.itself told new.disk) (c.loop-orders.yielded ++ c.in-Some.orders ∷ []) c.loop-orders.yielded [] c.in-Some.orders refl so_far.0 more
+        next_so_far g.D.Disk.tells g.D.Disk.ports_fail old mid new c.serve_phase-served.ensures.faults (λ told. laws.itself told c.serve_phase-served.new.engine.core.disk) (c.loop-orders.yielded ++ c.in-Some.orders ∷ []) c.loop-orders.yielded [] c.in-Some.orders refl so_far.0 more
             whole so_far.3 phase c.in_default.ensures.ok.0,
       );
     }
 
 pub returns-in-Err-clause-ends : goal.returns-in-Err-clause-ends
 returns-in-Err-clause-ends g c =
-    let old = c.args.engine in
-    let mid = c.loop-orders.engine in
-    let new = c.serve_phase-served.new.engine in
-    let l0 = parts_by_level old.version in
-    let l1 = parts_by_level mid.version in
-    let l2 = parts_by_level new.version in
-    let f0 = g.D.Disk.faults old.disk in
-    let f1 = g.D.Disk.faults mid.disk in
-    let f2 = g.D.Disk.faults new.disk in
+    let old = view_of c.args.engine.core in
+    let mid = view_of c.loop-orders.engine.core in
+    let new = view_of c.serve_phase-served.new.engine.core in
     let so_far = c.loop-orders.invariant.lines in
     let more = c.serve_phase-served.result.lines.items in
     let whole = c.serve_phase-served.result.whole in
     let laws = g.met.D.Disk g.world.𝓛 g.world.𝓜 g.world.𝓡 ((λ s x. x), (λ x. x), (λ x. x), λ x. x) in
-    let phase : Phase g.D.Disk.tells g.D.Disk.ports_fail (g.D.Disk.seen mid.disk) (g.D.Disk.seen new.disk) mid.state new.state l1 l2 f1 f2 c.in-Some.orders whole more =
-    subst (λ o. Phase g.D.Disk.tells g.D.Disk.ports_fail (g.D.Disk.seen mid.disk) (g.D.Disk.seen new.disk) mid.state new.state l1 l2 f1 f2 o whole more) c.into_vec.ensures c.serve_phase-served.ensures.served in
+    let phase : Phase g.D.Disk.tells g.D.Disk.ports_fail mid new c.in-Some.orders whole more =
+    subst (λ o. Phase g.D.Disk.tells g.D.Disk.ports_fail mid new o whole more) c.into_vec.ensures c.serve_phase-served.ensures.served in
     let s0 = g.K.Sink.faults c.args.sink.now in
     let s1 = g.K.Sink.faults c.loop-orders.sink in
     let s2 = g.K.Sink.faults c.print_phase.new.sink in
@@ -84,18 +70,15 @@ returns-in-Err-clause-ends g c =
     let rest = c.next.new.self.rest.items in
     let are : c.args.phases ≡ c.loop-orders.yielded ++ c.in-Some.orders ∷ rest =
     sym c.into_vec-orders-items.ensures ∙ sym c.into_iter-orders-iterator.ensures.into_iter_gives.0 ∙ taken_front c.into_iter-orders-iterator.result c.loop-orders.yielded c.loop-orders.orders-iterator c.loop-orders.yielded_by ∙ ap (λ r. c.loop-orders.yielded ++ r) c.in-Some.ensures.steps.0 in
-    subst (λ d. ScriptEnds g.D.Disk.tells g.D.Disk.ports_fail (g.D.Disk.seen old.disk) (g.D.Disk.seen d) old.state l0 f0 (g.D.Disk.faults d) t0 t2 (Rose s0 s2) c.args.phases c.in-Err.status) (sym c.into_disk.ensures)
-    (cut_ends g.D.Disk.tells g.D.Disk.ports_fail (g.D.Disk.seen old.disk) (g.D.Disk.seen mid.disk) (g.D.Disk.seen new.disk) old.state mid.state new.state l0 l1 l2 f0 f1 f2
-    c.loop-orders.invariant.faults c.serve_phase-served.ensures.faults (λ told. laws.itself told new.disk) c.args.phases c.loop-orders.yielded rest c.in-Some.orders are so_far.0 more
+    subst (λ d. ScriptEnds g.D.Disk.tells g.D.Disk.ports_fail old (g.D.Disk.seen d) (g.D.Disk.faults d) t0 t2 (Rose s0 s2) c.args.phases c.in-Err.status) (sym c.into_disk.ensures)
+    (cut_ends g.D.Disk.tells g.D.Disk.ports_fail old mid new c.serve_phase-served.ensures.faults (λ told. laws.itself told c.serve_phase-served.new.engine.core.disk) c.args.phases c.loop-orders.yielded rest c.in-Some.orders are so_far.0 more
     whole so_far.3 phase t0 t2 (Rose s1 s2) (Rose s0 s2) c.in-Err.status (λ rose. omega (arith, rose, low))
     (front_text t0 (g.K.Sink.taken c.loop-orders.sink) t2 so_far.0 more so_far.1 c.print_phase.ensures.front) c.in-Err.ensures.err)
 
 pub returns-clause-ends : goal.returns-clause-ends
 returns-clause-ends g c =
-    let old = c.args.engine in
-    let mid = c.loop-orders.engine in
-    let l0 = parts_by_level old.version in
-    let l1 = parts_by_level mid.version in
+    let old = view_of c.args.engine.core in
+    let mid = view_of c.loop-orders.engine.core in
     let so_far = c.loop-orders.invariant.lines in
     let laws = g.met.D.Disk g.world.𝓛 g.world.𝓜 g.world.𝓡 ((λ s x. x), (λ x. x), (λ x. x), λ x. x) in
     let gives = c.into_iter-orders-iterator.ensures.into_iter_gives in
@@ -103,11 +86,9 @@ returns-clause-ends g c =
     let whole : c.loop-orders.yielded ≡ c.args.phases = sym (map-id c.loop-orders.yielded) ∙ ended.0 ∙ c.into_vec-orders-items.ensures in
     let s0 = g.K.Sink.faults c.args.sink.now in
     let s1 = g.K.Sink.faults c.loop-orders.sink in
-    let f0 = g.D.Disk.faults old.disk in
-    let f1 = g.D.Disk.faults mid.disk in
     let t0 = g.K.Sink.taken c.args.sink.now in
     let t1 = g.K.Sink.taken c.loop-orders.sink in
-    subst (λ d. ScriptEnds g.D.Disk.tells g.D.Disk.ports_fail (g.D.Disk.seen old.disk) (g.D.Disk.seen d) old.state l0 f0 (g.D.Disk.faults d) t0 t1 (Rose s0 s1) c.args.phases c.status_of.result) (sym c.into_disk-2.ensures)
-    (subst (λ st. ScriptEnds g.D.Disk.tells g.D.Disk.ports_fail (g.D.Disk.seen old.disk) (g.D.Disk.seen mid.disk) old.state l0 f0 f1 t0 t1 (Rose s0 s1) c.args.phases st) (sym c.status_of.ensures)
-    (all_ends g.D.Disk.tells g.D.Disk.ports_fail (g.D.Disk.seen old.disk) (g.D.Disk.seen mid.disk) old.state mid.state l0 l1 f0 f1 (λ told. laws.itself told mid.disk) c.args.phases so_far.0 t0 t1 (Rose s0 s1) c.loop-orders.refused
-    (subst (λ p. Before g.D.Disk.tells g.D.Disk.ports_fail (g.D.Disk.seen old.disk) (g.D.Disk.seen mid.disk) old.state mid.state l0 l1 f0 f1 p so_far.0) whole so_far.3) so_far.1 so_far.2))
+    subst (λ d. ScriptEnds g.D.Disk.tells g.D.Disk.ports_fail old (g.D.Disk.seen d) (g.D.Disk.faults d) t0 t1 (Rose s0 s1) c.args.phases c.status_of.result) (sym c.into_disk-2.ensures)
+    (subst (λ st. ScriptEnds g.D.Disk.tells g.D.Disk.ports_fail old mid.disk mid.faults t0 t1 (Rose s0 s1) c.args.phases st) (sym c.status_of.ensures)
+    (all_ends g.D.Disk.tells g.D.Disk.ports_fail old mid (λ told. laws.itself told c.loop-orders.engine.core.disk) c.args.phases so_far.0 t0 t1 (Rose s0 s1) c.loop-orders.refused
+    (subst (λ p. Before g.D.Disk.tells g.D.Disk.ports_fail old mid p so_far.0) whole so_far.3) so_far.1 so_far.2))

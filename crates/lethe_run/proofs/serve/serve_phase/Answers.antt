@@ -1,7 +1,7 @@
 use Rattle.std.proofs.Common.{rules, ◌≡◌, ◌+◌, true, cond, ◌∷◌, ◌++◌, refl, sym, [], ap, subst, ◌∙◌, arith, append-nil}
 use Rattle.lethe_run.specs.declared.reply.Line.TheVariants.{Answer}
 use mathlib.Core.Bool.{false≢true}
-use Rattle.lethe_advance.specs.Shown.{parts_by_level}
+use Rattle.lethe_core.specs.View.{view_of}
 use Rattle.lethe_run.specs.Serving.{IsPhase}
 use Rattle.std.specs.Prelude.{is_ok, vec_len}
 use Rattle.std.proofs.lemmas.List.{length_push, map-id}
@@ -13,32 +13,26 @@ use Rattle.lethe_run.proofs.serve.serve_phase.Goals as goal
 
 pub returns-in_default-clause-served : goal.returns-in_default-clause-served
 returns-in_default-clause-served g c = λ told config begin opened start on.
-    let e = c.args.engine.now in
-    let disk = g.D.Disk.seen e.disk in
-    let levels = parts_by_level e.version in
-    let Ports = g.D.Disk.ports_fail in
-    let faults = g.D.Disk.faults e.disk in (
+    let view = view_of c.args.engine.now.core in
+    let Ports = g.D.Disk.ports_fail in (
       start,
       [],
       c.args.orders.items,
       refl,
       (λ is. absurd (false≢true is)),
-      subst (λ l. IsPhase config Ports begin faults opened start start [] l disk disk e.state levels) (sym c.new.ensures.items)
-          (phase_of Ports begin faults opened start start [] [] disk disk e.state levels (built_start Ports begin faults opened start disk e.state levels on)),
+      subst (λ l. IsPhase config Ports begin opened start start [] l view view) (sym c.new.ensures.items)
+          (phase_of Ports begin opened start start [] [] view view (built_start Ports begin opened start view on)),
     )
 
 pub loop-order-init : goal.loop-order-init
 loop-order-init g c =
-    let e = c.args.engine.now in
-    let disk = g.D.Disk.seen e.disk in
-    let levels = parts_by_level e.version in
+    let view = view_of c.args.engine.now.core in
     record {
       sound = c.requires;
       served = λ told config begin opened start on.
-          let Ports = g.D.Disk.ports_fail in
-          let faults = g.D.Disk.faults e.disk in (
+          let Ports = g.D.Disk.ports_fail in (
             start,
-            subst (λ l. IsBuilt config Ports begin faults opened start [] l start disk disk e.state levels) (sym c.in-Ok.ensures.items) (built_start Ports begin faults opened start disk e.state levels on),
+            subst (λ l. IsBuilt config Ports begin opened start [] l start view view) (sym c.in-Ok.ensures.items) (built_start Ports begin opened start view on),
           );
       faults = omega arith;
       room = search rules;
@@ -47,26 +41,21 @@ loop-order-init g c =
 
 pub loop-order-preserved : goal.loop-order-preserved
 loop-order-preserved g c =
-    let old = c.args.engine.now in
-    let mid = c.loop-order.engine in
-    let new = c.answer.new.engine in
+    let old = view_of c.args.engine.now.core in
+    let mid = view_of c.loop-order.engine.core in
+    let new = view_of c.answer.new.engine.core in
     let order = c.in-Some.order in
     let reply = c.in-Ok-answer.reply in
     let pushed : c.push.new.self.items ≡ c.loop-order.lines.items ++ Answer order.caller reply ∷ [] = search rules in
     record {
       sound = c.answer.ensures.sound;
       served = λ told config begin opened start on.
-          let f0 = g.D.Disk.faults mid.disk in
-          let f1 = g.D.Disk.faults new.disk in
-          let s0 = g.D.Disk.seen old.disk in
-          let s1 = g.D.Disk.seen mid.disk in
-          let s2 = g.D.Disk.seen new.disk in
           let Ports = g.D.Disk.ports_fail in
           let so_far = c.loop-order.invariant.served told config begin opened start on in
           let answered = c.in-Ok-answer.ensures.served told config begin opened so_far.0 order.caller so_far.1.stands in (
             answered.0,
-            subst (λ l. IsBuilt config Ports begin f1 opened start (c.loop-order.yielded ++ order ∷ []) l answered.0 s0 s2 new.state (parts_by_level new.version)) (sym pushed)
-                (built_more Ports begin f0 f1 c.answer.ensures.faults opened start so_far.0 c.loop-order.yielded c.loop-order.lines.items s0 s1 s2 mid.state new.state (parts_by_level mid.version) (parts_by_level new.version) so_far.1 answered.0 order reply answered.1),
+            subst (λ l. IsBuilt config Ports begin opened start (c.loop-order.yielded ++ order ∷ []) l answered.0 old new) (sym pushed)
+                (built_more Ports begin opened start so_far.0 c.loop-order.yielded c.loop-order.lines.items old mid new c.answer.ensures.faults so_far.1 answered.0 order reply answered.1),
           );
       faults = let a = c.loop-order.invariant.faults in let b = c.answer.ensures.faults in omega (arith, a, b);
       room = let room = c.loop-order.invariant.room in let more = c.push.ensures.capacity in omega (arith, room, more);
@@ -77,15 +66,10 @@ loop-order-preserved g c =
 
 pub returns-in-Err-clause-served : goal.returns-in-Err-clause-served
 returns-in-Err-clause-served g c = λ told config begin opened start on.
-    let old = c.args.engine.now in
-    let mid = c.loop-order.engine in
-    let new = c.answer.new.engine in
+    let old = view_of c.args.engine.now.core in
+    let mid = view_of c.loop-order.engine.core in
+    let new = view_of c.answer.new.engine.core in
     let order = c.in-Some.order in
-    let f0 = g.D.Disk.faults mid.disk in
-    let f1 = g.D.Disk.faults new.disk in
-    let s0 = g.D.Disk.seen old.disk in
-    let s1 = g.D.Disk.seen mid.disk in
-    let s2 = g.D.Disk.seen new.disk in
     let Ports = g.D.Disk.ports_fail in
     let so_far = c.loop-order.invariant.served told config begin opened start on in
     let still = c.in-Err.ensures.served told config begin opened so_far.0 order.caller so_far.1.stands in
@@ -96,14 +80,14 @@ returns-in-Err-clause-served g c = λ told config begin opened start on.
       order ∷ c.next.new.self.rest.items,
       whole,
       (λ is. absurd (false≢true is)),
-      phase_of Ports begin f1 opened start so_far.0 c.loop-order.yielded c.loop-order.lines.items s0 s2 new.state (parts_by_level new.version)
-          (built_still Ports begin f0 f1 c.answer.ensures.faults opened start so_far.0 c.loop-order.yielded c.loop-order.lines.items s0 s1 s2 mid.state new.state (parts_by_level mid.version) (parts_by_level new.version) so_far.1 still.0 still.1),
+      phase_of Ports begin opened start so_far.0 c.loop-order.yielded c.loop-order.lines.items old new
+          (built_still Ports begin opened start so_far.0 c.loop-order.yielded c.loop-order.lines.items old mid new c.answer.ensures.faults so_far.1 still.0 still.1),
     )
 
 pub returns-clause-served : goal.returns-clause-served
 returns-clause-served g c = λ told config begin opened start on.
-    let old = c.args.engine.now in
-    let mid = c.loop-order.engine in
+    let old = view_of c.args.engine.now.core in
+    let mid = view_of c.loop-order.engine.core in
     let so_far = c.loop-order.invariant.served told config begin opened start on in
     let gives = c.into_iter-order-iterator.ensures.into_iter_gives in
     let ended = YieldsList-end (YieldsList-from_vec c.args.orders.items gives.0 (gives.1 ∙ search rules)) c.loop-order.yielded c.loop-order.order-iterator c.loop-order.yielded_by c.next.result c.next.new.self c.in-None.is c.next.ensures.steps in
@@ -113,5 +97,5 @@ returns-clause-served g c = λ told config begin opened start on.
       [],
       whole,
       (λ is. refl),
-      phase_of g.D.Disk.ports_fail begin (g.D.Disk.faults mid.disk) opened start so_far.0 c.loop-order.yielded c.loop-order.lines.items (g.D.Disk.seen old.disk) (g.D.Disk.seen mid.disk) mid.state (parts_by_level mid.version) so_far.1,
+      phase_of g.D.Disk.ports_fail begin opened start so_far.0 c.loop-order.yielded c.loop-order.lines.items old mid so_far.1,
     )

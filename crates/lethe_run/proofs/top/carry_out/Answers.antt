@@ -1,7 +1,7 @@
 use Rattle.std.proofs.Common.{refl, sym, ap, ◌∙◌, subst}
 use Rattle.lethe_script.specs.Grammar.{script_of}
 use Rattle.lethe_script.specs.Reading.{FailsScript}
-use Rattle.lethe_advance.specs.Shown.{parts_by_level}
+use Rattle.lethe_core.specs.View.{view_of}
 use Rattle.lethe_run.proofs.Ending.{said_bad_words, said_bad_script, said_not_opened, script_ended, on_script, no_script, drawn_by}
 use Rattle.lethe_run.proofs.top.carry_out.Goals as goal
 
@@ -17,10 +17,9 @@ returns-in-Err-Bad g c =
 
 pub returns-in-Ok-open_store : goal.returns-in-Ok-open_store
 returns-in-Ok-open_store g c =
-    let e = c.in-Ok-open_store.engine in
     script_ended _ c.in-Some.config (sym c.in-Some.ensures) c.in-Ok-read_script.script.phases
     (λ P p. on_script (g.S.Source.left c.args.source.now) c.in-Ok.bytes.items c.in-Ok-read_script.script.phases P c.in-Ok.ensures.ok (ap script_of (sym c.deref.ensures.value) ∙ c.in-Ok-read_script.ensures.script) p)
-    (g.D.Disk.seen e.disk) e.state (parts_by_level e.version) (g.D.Disk.faults e.disk) c.in-Ok-open_store.ensures.faults c.in-Ok-open_store.ensures.resumed c.in-Ok-open_store.ensures.any_moment c.in-Ok-open_store.ensures.exact
+    (view_of c.in-Ok-open_store.engine.core) c.in-Ok-open_store.ensures.faults c.in-Ok-open_store.ensures.runs c.in-Ok-open_store.ensures.resumed c.in-Ok-open_store.ensures.any_moment c.in-Ok-open_store.ensures.exact
     c.serve_script.result.0 c.serve_script.ensures.ends
 
 pub returns : goal.returns

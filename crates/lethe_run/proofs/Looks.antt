@@ -1,0 +1,48 @@
+-- What only looks at the store is answered.
+use Rattle.std.proofs.Common.{◌≡◌, inl, ℕ, [], length, refl, sym, ap, ◌∙◌, arith, append-nil}
+use Rattle.std.specs.Prelude.{IsSome}
+use Rattle.std.proofs.lemmas.List.{take_all}
+use Rattle.lethe_base.specs.History.{History, after}
+use Rattle.lethe_base.specs.Read.{Read, Answer, answer}
+use Rattle.lethe_base.specs.declared.config.Fields.{Fields}
+use Rattle.lethe_base.specs.declared.name.Name.{Name}
+use Rattle.lethe_base.specs.declared.refused.Refused.{Refused}
+use Rattle.lethe_base.specs.declared.refused.Refused.TheVariants as refused
+use Rattle.lethe_core.specs.View.{View}
+use Rattle.lethe_engine.specs.Reads.{IsReadRefusal}
+use Rattle.lethe_engine.specs.declared.telling.Stat.{Stat}
+use Rattle.lethe_script.specs.declared.order.Act.{Act}
+use Rattle.lethe_run.specs.declared.reply.Reply.{Reply}
+use Rattle.lethe_run.specs.declared.reply.Reply.TheVariants as reply
+use Rattle.lethe_run.specs.Replies.{unread_of}
+use Rattle.lethe_run.specs.Serving.{IsOn, IsAnswered}
+use Rattle.lethe_run.specs.Transcript.{Course, Start, course, Answers, Follows, read_of, IsAnswerAt, IsStatAt}
+use Rattle.lethe_run.proofs.Images.{goes_still}
+use Rattle.lethe_run.proofs.Outcomes.{Outcome, told_of}
+
+module _ {config : Fields} (Ports : Type 0) (begin : Start) (opened h : History) (caller : ℕ) (act : Act) (view : View) (on : IsOn config begin opened h view) where
+  abbrev Here : Course
+  Here = course Ports begin view.faults view.disk.moment
+
+  pub read_answer : (read : Read) (point : ℕ) (given : Answer) → point ≡ view.state.count → answer (after h) read ≡ given → IsAnswerAt h point read given
+  read_answer read point given at is = let all = at ∙ on.stands.now.count in record { within = omega (arith, all); is = sym is ∙ ap (λ l. answer (after l) read) (sym (take_all point h (omega (arith, all)))) }
+
+  pub stat_answer : (point : ℕ) (stat : Stat) → point ≡ view.state.count → stat.clock ≡ (after h).clock → IsStatAt h point stat
+  stat_answer point stat at is = let all = at ∙ on.stands.now.count in record { within = omega (arith, all); is = is ∙ ap (λ l. (after l).clock) (sym (take_all point h (omega (arith, all)))) }
+
+  pub reads : (r : Reply) → Answers (told_of h Here) caller act r → Follows Here (length h) r (length h) → (g : History) × IsAnswered config Ports begin opened h g caller act r view view
+  reads r what follows = (h, record { grows = ([], sym (append-nil h)); answers = what; follows = follows; goes = goes_still begin opened h view on; stands = on })
+
+  -- a read that is refused
+  pub unread : IsSome (read_of act) → (why : Refused) → IsReadRefusal why → ((before behind : ℕ) → why ≡ refused.ReadFault before behind → Ports) → ((name : Name) → why ≡ refused.Damaged name → ⊥)
+      → Outcome config Ports begin opened h caller act (unread_of why) view view
+  unread is (refused.ReadFault before behind) reason fails sound = reads reply.ReadFault (inl is, fails before behind refl) refl
+  unread is (refused.Damaged name) reason fails sound = absurd (sound name refl)
+  unread is refused.NoMemory reason fails sound = (goes_still begin opened h view on, on)
+  unread is (refused.Fault place before behind) reason fails sound = absurd reason
+  unread is (refused.Stopped at) reason fails sound = absurd reason
+  unread is (refused.Exhausted last) reason fails sound = absurd reason
+  unread is (refused.Backwards clock) reason fails sound = absurd reason
+  unread is (refused.Pinned pin limit) reason fails sound = absurd reason
+  unread is refused.NothingDue reason fails sound = absurd reason
+  unread is (refused.Cancelled begun other) reason fails sound = absurd reason

@@ -1,0 +1,27 @@
+-- What comes of an act, in the words of the proofs.
+use Rattle.std.proofs.Common.{◌≡◌, ℕ, Result, Ok, Err, subst}
+use Rattle.std.specs.Prelude.{IfOk, IfErr, MatchResult}
+use Rattle.lethe_base.specs.History.{History}
+use Rattle.lethe_base.specs.declared.config.Fields.{Fields}
+use Rattle.lethe_base.specs.declared.memory.NoMemory.{NoMemory}
+use Rattle.lethe_core.specs.View.{View}
+use Rattle.lethe_script.specs.declared.order.Act.{Act}
+use Rattle.lethe_run.specs.declared.reply.Reply.{Reply}
+use Rattle.lethe_run.specs.Serving.{IsOn, GoesOn, IsAnswered}
+use Rattle.lethe_run.specs.Transcript.{Course, Start, Told}
+
+-- what is known of a result
+pub ok_of : {T E : Type 0} (P : T → Type 0) (r : Result T E) → IfOk r P → (x : T) → r ≡ Ok x → P x
+ok_of P r p x is = subst (λ q. IfOk q P) is p
+
+pub err_of : {T E : Type 0} (P : E → Type 0) (r : Result T E) → IfErr r P → (x : E) → r ≡ Err x → P x
+err_of P r p x is = subst (λ q. IfErr q P) is p
+
+abbrev pub told_of : History → Course → Told
+told_of h c = record { history = h; course = c }
+
+-- what comes of an act
+abbrev pub Outcome : Fields → Type 0 → Start → History → History → ℕ → Act → Result Reply NoMemory → View → View → Type 0
+Outcome config Ports begin opened h caller act result old new = MatchResult result
+    (λ reply. (g : History) × IsAnswered config Ports begin opened h g caller act reply old new)
+    (λ why. GoesOn opened h h old.disk new.disk × IsOn config begin opened h new)
