@@ -42,7 +42,6 @@ pub record HasMerged (Tells : Type 0) (old new : View) (count fetches fetches' f
   pub keeps : Keeps {T = Unit {0}} Tells old new (Ok tt)
   pub steady : IsSteady old.state new.state
   pub behind : Tells → (s : Stored) → Holds old s → (fetched : ℕ) × AreBehind s new count fetched × (fetches' ≡ fetches + fetched)
-  pub later : fetches ≤ fetches'
   pub port_faults : faults ≤ faults'
 
 pub none_merged : (Tells : Type 0) (view : View) (before fetches faults : ℕ) → MayStep Tells view before → HasMerged Tells view view 0 fetches fetches faults faults
@@ -50,7 +49,6 @@ none_merged Tells view before fetches faults may = record {
   keeps = keeps_itself Tells view may.sound may.runs (Ok tt) (λ h caller call. refl);
   steady = record { stopped = refl; count = refl; records = refl; config = refl };
   behind = λ told s holds. (0, record { outcomes = []; to = s; are = refl; holds = holds; pages = refl; down = omega arith }, omega arith);
-  later = omega arith;
   port_faults = omega arith;
 }
 
@@ -82,9 +80,9 @@ module _ (Tells : Type 0) (old mid : View) (before count f0 f1 p0 p1 : ℕ) (mer
   levels_same s t first then = ap (λ (fields : Fields). fields.levels) (config_held mid t then ∙ merged.steady.config ∙ sym (config_held old s first))
 
   pub once_more : (new : View) (f2 p2 : ℕ) → Keeps {T = Bool} Tells mid new (Ok true) → IsSteady mid.state new.state
-      → (Tells → (t : Stored) → Holds mid t → (next : Outcome) × IsOutcome t next × Holds new next.to × (f2 ≡ f1 + pages_in (inputs_in next.task))) → f1 ≤ f2 → p1 ≤ p2
+      → (Tells → (t : Stored) → Holds mid t → (next : Outcome) × IsOutcome t next × Holds new next.to × (f2 ≡ f1 + pages_in (inputs_in next.task))) → p1 ≤ p2
       → HasMerged Tells old new (count + 1) f0 f2 p0 p2
-  once_more new f2 p2 keeps steady done later faults = record {
+  once_more new f2 p2 keeps steady done faults = record {
     keeps = let both = keeps_then Tells old mid new _ (λ h caller call. refl) merged.keeps (Ok true) keeps in
         record { sound = both.sound; stands = both.stands; any_moment = both.any_moment; numbers = both.numbers; faults = both.faults };
     steady = merged_steady new steady;
@@ -115,7 +113,6 @@ module _ (Tells : Type 0) (old mid : View) (before count f0 f1 p0 p1 : ℕ) (mer
           },
           omega (arith, first, then),
         );
-    later = let early = merged.later in omega (arith, early, later);
     port_faults = let early = merged.port_faults in omega (arith, early, faults);
   }
 

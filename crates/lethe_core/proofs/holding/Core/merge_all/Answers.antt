@@ -30,7 +30,7 @@ loop-preserved g c =
           (g.D.Disk.port_faults c.args.port.now) (g.D.Disk.port_faults c.loop.port) c.loop.invariant.merged
           (view_of c.merge_next.new.self) (g.D.Disk.fetches c.merge_next.new.port) (g.D.Disk.port_faults c.merge_next.new.port)
           (subst (Keeps {T = Bool} g.D.Disk.tells (view_of c.loop.self) (view_of c.merge_next.new.self)) ok c.merge_next.ensures.keeps) c.in-Ok-true.ensures.steady
-          (λ told t holds. c.merge_next.ensures.done told t holds ok) c.merge_next.ensures.later c.merge_next.ensures.port_faults;
+          (λ told t holds. c.merge_next.ensures.done told t holds ok) c.merge_next.ensures.port_faults;
       free = c.merge_next.ensures.free;
     }
 
