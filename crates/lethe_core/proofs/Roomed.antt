@@ -1,5 +1,6 @@
 -- Room for a record.
 use Rattle.std.proofs.Common.{◌≡◌, ◌<◌, ◌⊎◌, inl, inr, List, [], Option, Some, None, refl, sym, ap, ◌∙◌, subst, arith}
+use Rattle.std.specs.Prelude.{Bool, IsSome, IsTrue, false, option_map}
 use Rattle.lethe_base.specs.declared.config.Fields.{Fields}
 use Rattle.lethe_manifest.specs.declared.manifest.Manifest.{Manifest}
 use Rattle.lethe_stored.specs.Stored.{Stored}
@@ -35,6 +36,13 @@ room_ready old middle cleared new unfrozen frozen merged some =
       stopped = merged.stopped ∙ frozen.stopped ∙ unfrozen.steady.stopped;
       count = merged.count ∙ frozen.count ∙ unfrozen.steady.count;
     }
+
+pub clash : (b : Bool) → IsTrue b → b ≡ false → ⊥
+clash b on off = cc
+
+pub some_mapped : {A B : Type 0} (f : A → B) (o : Option A) → IsSome o → option_map f o ≡ None → ⊥
+some_mapped f None some none = cc
+some_mapped f (Some x) some none = cc
 
 -- Merges where level 0 is crowded and no job is in flight
 
