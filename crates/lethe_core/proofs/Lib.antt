@@ -18,6 +18,7 @@ pub mod Places
 pub mod Short
 pub mod Merged
 pub mod Outcomes
-pub mod Retold
+pub mod Behind
 pub mod Installing
 pub mod Unread
+pub mod Roomed

@@ -12,6 +12,7 @@ use Rattle.lethe_core.specs.Merges.{AreOutcomes, HasNoMerge, IsOutcome, Outcome,
 use Rattle.lethe_core.specs.Running.{Holds}
 use Rattle.lethe_core.specs.Steps.{IsSteady}
 use Rattle.lethe_core.specs.View.{View}
+use Rattle.lethe_core.proofs.Behind.{next_may}
 use Rattle.lethe_core.proofs.Descending.{few_steps, goes_down}
 use Rattle.lethe_core.proofs.Hindered.{keeps_itself, keeps_then}
 
@@ -58,15 +59,7 @@ config_held view s holds = ap (λ (m : Manifest). m.config) (sym holds.remembers
 
 module _ (Tells : Type 0) (old mid : View) (before count f0 f1 p0 p1 : ℕ) (merged : HasMerged Tells old mid count f0 f1 p0 p1) where
   pub merged_may : MayStep Tells old before → MayStep Tells mid before
-  merged_may may =
-      let count_is = merged.steady.count in
-      let rose = merged.keeps.faults in
-      record {
-        sound = merged.keeps.sound;
-        runs = merged.steady.stopped ∙ may.runs;
-        fits = let below = may.fits in omega (arith, below, count_is);
-        told_from = let told = may.told_from in omega (arith, told, rose);
-      }
+  merged_may may = next_may Tells old mid before (Ok tt) may merged.keeps merged.steady.stopped merged.steady.count
 
   merged_steady : (new : View) → IsSteady mid.state new.state → IsSteady old.state new.state
   merged_steady new steady = record {

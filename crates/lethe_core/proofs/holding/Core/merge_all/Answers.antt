@@ -9,7 +9,7 @@ use Rattle.lethe_core.specs.Steps.{stepped_to}
 use Rattle.lethe_core.specs.View.{view_of}
 use Rattle.lethe_core.proofs.Hindered.{keeps_itself, refused_before}
 use Rattle.lethe_core.proofs.Outcomes.{merged_may, no_more, none_merged, once_more, too_many}
-use Rattle.lethe_core.proofs.Retold.{either_since, keeps_since}
+use Rattle.lethe_core.proofs.Behind.{either_since, keeps_since}
 use Rattle.lethe_core.proofs.holding.Core.merge_all.Goals as goal
 
 pub returns-in_err-most_merges-clause-keeps : goal.returns-in_err-most_merges-clause-keeps

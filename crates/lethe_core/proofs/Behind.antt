@@ -1,17 +1,44 @@
--- A refusal behind steps that were carried out is one of the whole.
-use Rattle.std.proofs.Common.{◌≡◌, ◌≤◌, ◌⊎◌, inl, inr, ℕ, ◌+◌, Ok, Err, refl, sym, ap, ◌∙◌, subst, arith}
+-- Steps behind others that were carried out: they may be done, and their refusals are those of the whole.
+use Rattle.std.proofs.Common.{◌≡◌, ◌≤◌, ◌⊎◌, inl, inr, ℕ, ◌+◌, Ok, Err, Result, refl, sym, ap, ◌∙◌, subst, arith}
 use Rattle.lethe_base.specs.History.{History}
 use Rattle.lethe_base.specs.declared.call.Call.{Call}
 use Rattle.lethe_base.specs.declared.refused.Refused.{Refused}
 use Rattle.lethe_base.specs.declared.refused.Refused.TheVariants.{Fault, Stopped, Backwards, Pinned, NothingDue, Cancelled, Exhausted, ReadFault, NoMemory, Damaged}
 use Rattle.lethe_state.specs.declared.state.State.{State}
 use Rattle.lethe_core.specs.Changes.{refused_to}
-use Rattle.lethe_core.specs.Keeps.{Keeps}
+use Rattle.lethe_core.specs.Keeps.{Keeps, MayStep}
 use Rattle.lethe_core.specs.Reasons.{HasReason, IsUnreadable, told_since}
 use Rattle.lethe_core.specs.StandsNow.{StandsNow}
 use Rattle.lethe_core.specs.Steps.{IsSteady}
 use Rattle.lethe_core.specs.View.{View}
 use Rattle.lethe_core.proofs.Hindered.{keeps_then}
+
+-- the next step may be done
+pub next_may : {T : Type 0} (Tells : Type 0) (old mid : View) (before : ℕ) (result : Result T Refused) → MayStep Tells old before → Keeps Tells old mid result → mid.state.stopped ≡ old.state.stopped
+    → mid.state.count ≡ old.state.count → MayStep Tells mid before
+next_may Tells old mid before result may keeps stopped count =
+    let rose = keeps.faults in
+    record {
+      sound = keeps.sound;
+      runs = stopped ∙ may.runs;
+      fits = let below = may.fits in omega (arith, below, count);
+      told_from = let told = may.told_from in omega (arith, told, rose);
+    }
+
+-- its reason is one of the whole
+pub reason_behind : (Short Other : Type 0) (old mid : State) (before now : ℕ) → mid.stopped ≡ old.stopped → mid.count ≡ old.count → (Short → Other) → (why : Refused) → HasReason Short mid before now why → HasReason Other old before now why
+reason_behind Short Other old mid before now stopped count wider (Fault place b a) is = (sym stopped ∙ is.0, is.1 ∙ ap (λ n. n + 1) count, is.2, is.3, is.4)
+reason_behind Short Other old mid before now stopped count wider (Stopped at) is = sym stopped ∙ is
+reason_behind Short Other old mid before now stopped count wider (Exhausted last) is = (sym stopped ∙ is.0, is.1, elim is.2 [ | inl full ↦ inl (sym count ∙ full) | inr short ↦ inr (wider short) ])
+reason_behind Short Other old mid before now stopped count wider NoMemory is = tt
+reason_behind Short Other old mid before now stopped count wider (Backwards clock) is = is
+reason_behind Short Other old mid before now stopped count wider (Pinned pin limit) is = is
+reason_behind Short Other old mid before now stopped count wider NothingDue is = is
+reason_behind Short Other old mid before now stopped count wider (Cancelled begun other) is = is
+reason_behind Short Other old mid before now stopped count wider (ReadFault b a) is = is
+reason_behind Short Other old mid before now stopped count wider (Damaged name) is = is
+
+-- Reads that were refused, told with the count of faults before the first of them
 
 -- whatever count of a port's faults it is told with, the history behind it is the same
 since_same : (h : History) (caller : ℕ) (call : Call) (earlier : ℕ) (why : Refused) → refused_to h caller call why ≡ refused_to h caller call (told_since earlier why)
@@ -37,19 +64,6 @@ keeps_since {A} Tells old mid new before why earlier keeps =
       numbers = both.numbers;
       faults = both.faults;
     }
-
--- its reason is one of the whole
-pub reason_behind : (Short : Type 0) (old mid : State) (before now : ℕ) → IsSteady old mid → (why : Refused) → HasReason Short mid before now why → HasReason Short old before now why
-reason_behind Short old mid before now steady (Fault place b a) is = (sym steady.stopped ∙ is.0, is.1 ∙ ap (λ n. n + 1) steady.count, is.2, is.3, is.4)
-reason_behind Short old mid before now steady (Stopped at) is = sym steady.stopped ∙ is
-reason_behind Short old mid before now steady (Exhausted last) is = (sym steady.stopped ∙ is.0, is.1, elim is.2 [ | inl full ↦ inl (sym steady.count ∙ full) | inr short ↦ inr short ])
-reason_behind Short old mid before now steady NoMemory is = tt
-reason_behind Short old mid before now steady (Backwards clock) is = is
-reason_behind Short old mid before now steady (Pinned pin limit) is = is
-reason_behind Short old mid before now steady NothingDue is = is
-reason_behind Short old mid before now steady (Cancelled begun other) is = is
-reason_behind Short old mid before now steady (ReadFault b a) is = is
-reason_behind Short old mid before now steady (Damaged name) is = is
 
 reason_since : (Short : Type 0) (state : State) (before now earlier : ℕ) (why : Refused) → HasReason Short state before now why → HasReason Short state before now (told_since earlier why)
 reason_since Short state before now earlier (Fault place b a) is = is
@@ -77,5 +91,5 @@ unreadable_since Tells PortsFail earlier mid now later (Cancelled begun other) i
 
 pub either_since : (Short Tells PortsFail : Type 0) (old mid : State) (before now earlier between later : ℕ) → IsSteady old mid → earlier ≤ between → (why : Refused)
     → HasReason Short mid before now why ⊎ IsUnreadable Tells PortsFail between later why → HasReason Short old before now (told_since earlier why) ⊎ IsUnreadable Tells PortsFail earlier later (told_since earlier why)
-either_since Short Tells PortsFail old mid before now earlier between later steady rose why (inl is) = inl (reason_since Short old before now earlier why (reason_behind Short old mid before now steady why is))
+either_since Short Tells PortsFail old mid before now earlier between later steady rose why (inl is) = inl (reason_since Short old before now earlier why (reason_behind Short Short old mid before now steady.stopped steady.count (λ short. short) why is))
 either_since Short Tells PortsFail old mid before now earlier between later steady rose why (inr is) = inr (unreadable_since Tells PortsFail earlier between later rose why is)

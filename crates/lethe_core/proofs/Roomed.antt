@@ -1,0 +1,55 @@
+-- Room for a record.
+use Rattle.std.proofs.Common.{◌≡◌, ◌<◌, ◌⊎◌, inl, inr, List, [], Option, Some, None, refl, sym, ap, ◌∙◌, subst, arith}
+use Rattle.std.specs.Prelude.{Bool, IsSome, IsTrue, false, option_map}
+use Rattle.lethe_base.specs.declared.config.Fields.{Fields}
+use Rattle.lethe_manifest.specs.declared.manifest.Manifest.{Manifest}
+use Rattle.lethe_stored.specs.Stored.{Stored}
+use Rattle.lethe_state.specs.Room.{HasRoom}
+use Rattle.lethe_state.specs.declared.state.State.{State}
+use Rattle.lethe_core.specs.Merges.{AreOutcomes, IsCrowded, IsUncrowded, Outcome}
+use Rattle.lethe_core.specs.Running.{Holds}
+use Rattle.lethe_core.specs.Steps.{IsEmptied, IsReady, IsReadyToFreeze, IsSteady}
+use Rattle.lethe_core.specs.View.{Flying, View}
+
+-- there is room in what is stored exactly where the store sees it
+module _ (view : View) (s : Stored) (holds : Holds view s) where
+  pub sees_room : HasRoom s → view.state.records < view.state.manifest.config.buffer
+  sees_room room =
+      let records = holds.remembers.records in
+      let buffer : view.state.manifest.config.buffer ≡ s.manifest.config.buffer = ap (λ (m : Manifest). m.config.buffer) holds.remembers.manifest in
+      omega (arith, records, buffer, room)
+
+  pub has_room : view.state.records < view.state.manifest.config.buffer → HasRoom s
+  has_room room =
+      let records = holds.remembers.records in
+      let buffer : view.state.manifest.config.buffer ≡ s.manifest.config.buffer = ap (λ (m : Manifest). m.config.buffer) holds.remembers.manifest in
+      omega (arith, records, buffer, room)
+
+-- a freeze makes room, and merges leave it
+pub room_ready : (old middle cleared new : State) → IsReadyToFreeze old middle → IsEmptied middle cleared → IsSteady cleared new → 0 < old.manifest.config.buffer → IsReady old new
+room_ready old middle cleared new unfrozen frozen merged some =
+    let records = merged.records in
+    let none = frozen.records in
+    let buffer : new.manifest.config.buffer ≡ old.manifest.config.buffer = ap (λ (fields : Fields). fields.buffer) (merged.config ∙ frozen.config ∙ unfrozen.steady.config) in
+    record {
+      room = omega (arith, records, none, buffer, some);
+      stopped = merged.stopped ∙ frozen.stopped ∙ unfrozen.steady.stopped;
+      count = merged.count ∙ frozen.count ∙ unfrozen.steady.count;
+    }
+
+pub clash : (b : Bool) → IsTrue b → b ≡ false → ⊥
+clash b on off = cc
+
+pub some_mapped : {A B : Type 0} (f : A → B) (o : Option A) → IsSome o → option_map f o ≡ None → ⊥
+some_mapped f None some none = cc
+some_mapped f (Some x) some none = cc
+
+-- Merges where level 0 is crowded and no job is in flight
+
+pub still_uncrowded : (flight : Option Flying) (s : Stored) → (flight ≡ None → IsCrowded s → ⊥) → IsUncrowded flight s [] s
+still_uncrowded None s few = inr (few refl, refl, refl)
+still_uncrowded (Some flying) s few = (refl, refl)
+
+pub merged_uncrowded : (flight : Option Flying) (s : Stored) (outcomes : List Outcome) (t : Stored) → flight ≡ None → IsCrowded s → AreOutcomes s outcomes t → IsUncrowded flight s outcomes t
+merged_uncrowded None s outcomes t free many are = inl (many, are)
+merged_uncrowded (Some flying) s outcomes t free many are = absurd (cc)
