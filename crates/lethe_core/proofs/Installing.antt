@@ -1,5 +1,5 @@
 -- From the drafts of a task's outputs to the step that installs them.
-use Rattle.std.proofs.Common.{◌≡◌, ◌≤◌, ℕ, List, [], All, Contains, Some, None, sym, ap, ◌∙◌, subst, arith}
+use Rattle.std.proofs.Common.{◌≡◌, ◌≤◌, List, [], Contains, Some, None, sym, ap, ◌∙◌, subst, arith}
 use Rattle.std.specs.Prelude.{IfSome}
 use Rattle.std.proofs.lemmas.List.Elements.{All-contains}
 use Rattle.lethe_base.specs.History.{History}

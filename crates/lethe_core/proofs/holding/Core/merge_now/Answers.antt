@@ -1,15 +1,12 @@
-use Rattle.std.proofs.Common.{rules, ◌≡◌, ◌≤◌, ◌+◌, ◌⊎◌, ◌↔◌, true, false, IsTrue, List, [], Ok, Err, None, All, IfOk, IfErr, OnOk, ℕ, ◌-◌, ◌*◌, ◌<◌, length, sym, ap, subst}
-use Rattle.lethe_base.specs.History.{History}
-use Rattle.lethe_base.specs.declared.config.Fields.{Fields}
+use Rattle.std.proofs.Common.{rules, ◌≡◌, [], Ok, Err, sym, subst}
 use Rattle.lethe_stored.specs.Stored.{Stored}
-use Rattle.lethe_advance.specs.Shown.{parts_by_level}
 use Rattle.lethe_state.specs.Room.{under}
 use Rattle.lethe_state.specs.declared.state.State.{State}
 use Rattle.lethe_job.specs.Tasks.{PlainTask}
 use Rattle.lethe_core.specs.Keeps.{Keeps}
 use Rattle.lethe_core.specs.Merges.{MayMerge}
 use Rattle.lethe_core.specs.Running.{Holds}
-use Rattle.lethe_core.specs.View.{View, loose_in, view_of}
+use Rattle.lethe_core.specs.View.{loose_in, view_of}
 use Rattle.lethe_core.proofs.Carried.{active_ends}
 use Rattle.lethe_core.proofs.Hindered.{hindered_keeps}
 use Rattle.lethe_core.proofs.Merged.{merge_keeps, merge_moments, merged_holds, merged_view}
