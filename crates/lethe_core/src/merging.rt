@@ -36,7 +36,7 @@ impl<D: Disk> Core<D> {
         port: &mut D::Port,
         before: u64,
     ) -> Result<(), Refused>
-        requires { MayStep D.tells (view_of self.old) before }
+        requires may { MayStep D.tells (view_of self.old) before }
         ensures keeps { Keeps D.tells (view_of self.old) (view_of self.new) result }
         ensures done { D.tells → (s : Stored) → Holds (view_of self.old) s
             → OnOk result ((t : Stored) × (outcomes : List Outcome) × IsUncrowded (view_of self.old).flight s outcomes t × Holds (view_of self.new) t

@@ -33,13 +33,13 @@ freeze_now-requires-clause-may g c κs within =
     let steady = c.in_ok-unfreeze.ensures.ready.steady in
     next_may g.D.Disk.tells (view_of c.args.self.now) (view_of c.unfreeze.new.self) c.args.before c.unfreeze.result c.requires c.unfreeze.ensures.keeps steady.stopped steady.count
 
-pub merge_due-requires : goal.merge_due-requires
-merge_due-requires g c =
+pub merge_due-requires-clause-may : goal.merge_due-requires-clause-may
+merge_due-requires-clause-may g c κs within =
     let middle = view_of c.unfreeze.new.self in
     let steady = c.in_ok-unfreeze.ensures.ready.steady in
     let empty = c.in_ok-freeze_now.ensures.ready in
     let may = next_may g.D.Disk.tells (view_of c.args.self.now) middle c.args.before c.unfreeze.result c.requires c.unfreeze.ensures.keeps steady.stopped steady.count in
-    (search rules, search rules, search rules, search rules, next_may g.D.Disk.tells middle (view_of c.freeze_now.new.self) c.args.before c.freeze_now.result may c.freeze_now.ensures.keeps empty.stopped empty.count)
+    next_may g.D.Disk.tells middle (view_of c.freeze_now.new.self) c.args.before c.freeze_now.result may c.freeze_now.ensures.keeps empty.stopped empty.count
 
 -- The frozen buffer could not be flushed
 

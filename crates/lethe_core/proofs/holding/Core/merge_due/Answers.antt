@@ -11,7 +11,7 @@ use Rattle.lethe_core.proofs.holding.Core.merge_due.Goals as goal
 use Rattle.lethe_core.proofs.holding.Core.merge_due.Goals.{then-is_some-via-then-is_some, then-is_some-via-else-is_some+then-not-is_crowded}
 
 pub returns-then-is_some-clause-keeps : goal.returns-then-is_some-clause-keeps
-returns-then-is_some-clause-keeps g c = keeps_itself g.D.Disk.tells (view_of c.args.self.now) c.requires.sound c.requires.runs _ (λ h caller call. refl)
+returns-then-is_some-clause-keeps g c = keeps_itself g.D.Disk.tells (view_of c.args.self.now) c.requires.may.sound c.requires.may.runs _ (λ h caller call. refl)
 
 pub returns-then-is_some-clause-done : goal.returns-then-is_some-clause-done
 returns-then-is_some-clause-done g c = λ told s holds.
