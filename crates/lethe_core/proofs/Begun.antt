@@ -31,12 +31,12 @@ begun_counted : (h : History) (s : Stored) (task : PlainTask) → IsCoherent s �
 begun_counted h s task coherent stands is =
     let inputs : inputs_in task ≡ inputs_of is.m = λ i. is.is.sources i ++ is.is.met i in
     all_from (λ (entry : Entry). entry.seq ≤ task.upto) (entries_in (inputs_in task)) (λ entry there.
-        let found = from_flat (λ (file : StoredFile). entries_of (file_of file)) (inputs_in task) entry there in
-        let file = input_in s coherent is.m is.is.merge found.0 (subst (λ files. Contains files found.0) inputs found.1) in
-        let counted = All-contains (λ (entry : Entry). entry.seq ≤ count_of s) (entries_in s.files) entry (all_counted h s coherent stands)
-            (in_flat (λ (file : StoredFile). entries_of (file_of file)) s.files found.0 entry file found.2) in
-        let upto = is.counted in
-        omega (arith, counted, upto))
+    let found = from_flat (λ (file : StoredFile). entries_of (file_of file)) (inputs_in task) entry there in
+    let file = input_in s coherent is.m is.is.merge found.0 (subst (λ files. Contains files found.0) inputs found.1) in
+    let counted = All-contains (λ (entry : Entry). entry.seq ≤ count_of s) (entries_in s.files) entry (all_counted h s coherent stands)
+    (in_flat (λ (file : StoredFile). entries_of (file_of file)) s.files found.0 entry file found.2) in
+    let upto = is.counted in
+    omega (arith, counted, upto))
 
 module _ (Tells : Type 0) (old : View) (task : PlainTask) (free : old.flight ≡ None) (runs : old.state.stopped ≡ None) (sound : IsSound Tells old) (begun : (s : Stored) → Holds old s → IsBegunIn s task) where
   abbrev flying : Flying

@@ -29,7 +29,7 @@ next_may Tells old mid before result may keeps stopped count =
 pub reason_behind : (Short Other : Type 0) (old mid : State) (before now : ℕ) → mid.stopped ≡ old.stopped → mid.count ≡ old.count → (Short → Other) → (why : Refused) → HasReason Short mid before now why → HasReason Other old before now why
 reason_behind Short Other old mid before now stopped count wider (Fault place b a) is = (sym stopped ∙ is.0, is.1 ∙ ap (λ n. n + 1) count, is.2, is.3, is.4)
 reason_behind Short Other old mid before now stopped count wider (Stopped at) is = sym stopped ∙ is
-reason_behind Short Other old mid before now stopped count wider (Exhausted last) is = (sym stopped ∙ is.0, is.1, elim is.2 [ | inl full ↦ inl (sym count ∙ full) | inr short ↦ inr (wider short) ])
+reason_behind Short Other old mid before now stopped count wider (Exhausted last) is = (sym stopped ∙ is.0, is.1, elim is.2 [ inl full ↦ inl (sym count ∙ full) | inr short ↦ inr (wider short) ])
 reason_behind Short Other old mid before now stopped count wider NoMemory is = tt
 reason_behind Short Other old mid before now stopped count wider (Backwards clock) is = is
 reason_behind Short Other old mid before now stopped count wider (Pinned pin limit) is = is

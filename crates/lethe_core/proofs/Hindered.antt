@@ -156,7 +156,7 @@ pub keeps_then : {A B : Type 0} (Tells : Type 0) (a b c : View) (first : Result 
     → (second : Result B Refused) → Keeps Tells b c second → Keeps Tells a c second
 keeps_then Tells a b c first same one second two =
     let mid : Tells → (config : Fields) (h : History) → StandsNow config h a → StandsNow config h b
-            = λ told config h stands. subst (λ g. StandsNow config g b) (same h 0 Work) (one.stands told config h stands 0 Work) in
+    = λ told config h stands. subst (λ g. StandsNow config g b) (same h 0 Work) (one.stands told config h stands 0 Work) in
     record {
       sound = two.sound;
       stands = λ told config h stands caller call. two.stands told config h (mid told config h stands) caller call;

@@ -88,7 +88,7 @@ module _ (Tells : Type 0) (old mid : View) (before count f0 f1 p0 p1 : ℕ) (mer
         let is = made.1 in
         let more = pages_in (inputs_in next.task) in
         let lower : steps_down t.manifest.config.levels next.to.files < steps_down t.manifest.config.levels t.files =
-            goes_down t is.begun.m are.holds.remembers.coherent is.begun.is.merge next.to (pending_of t) next.task.alone next.task.upto is.merged_is in
+        goes_down t is.begun.m are.holds.remembers.coherent is.begun.is.merge next.to (pending_of t) next.task.alone next.task.upto is.merged_is in
         let below = subst (λ levels. steps_down levels next.to.files < steps_down levels t.files) (levels_same s t holds are.holds) lower in
         let down = are.down in
         let all = sum_by-append (λ (outcome : Outcome). pages_in (inputs_in outcome.task)) are.outcomes (next ∷ []) in

@@ -132,7 +132,7 @@ module _ (view : View) (s : Stored) (holds : Holds view s) (next : Record) (spel
     loose_there : All (HasObject disk'.directory) (loose_in view.flight)
     loose_there =
         let apart : All (λ named. named.0 ≡ segment_name s.active.no → ⊥) (loose_in view.flight) =
-            All-weaker (λ named. IsCited s named.0 → ⊥) (λ named. named.0 ≡ segment_name s.active.no → ⊥) (λ named uncited same. uncited (inr (inr (subst (Contains (part_names s)) (sym same) (active_part s))))) (loose_in view.flight) running.uncited in
+        All-weaker (λ named. IsCited s named.0 → ⊥) (λ named. named.0 ≡ segment_name s.active.no → ⊥) (λ named uncited same. uncited (inr (inr (subst (Contains (part_names s)) (sym same) (active_part s))))) (loose_in view.flight) running.uncited in
         subst (λ d. All (HasObject d) (loose_in view.flight)) (sym inserted) (all_beside view.disk.directory (segment_name s.active.no) (segment_bytes s.active.no (longer (addition s next))) (loose_in view.flight) apart running.only.there)
 
     pub holds_longer : (end : ℕ) → IsSynced disk' → EndsAt disk' (segment_name number) s.active.no (longer (addition s next)) end → IsNext next end view.state state' → Holds (moved view disk' faults' state') (appended s next)

@@ -63,12 +63,7 @@ impl<D: Disk> Core<D> {
     }
 
     /// Carries out the merges that are due, one after another until none is, where no job is in flight.
-    fn merge_all(
-        &mut self,
-        alloc: Global,
-        port: &mut D::Port,
-        before: u64,
-    ) -> Result<(), Refused>
+    fn merge_all(&mut self, alloc: Global, port: &mut D::Port, before: u64) -> Result<(), Refused>
         requires may { MayStep D.tells (view_of self.old) before }
         requires free { self.old.flight ≡ None }
         ensures keeps { Keeps D.tells (view_of self.old) (view_of self.new) result }

@@ -48,7 +48,7 @@ returns-clause-sound g c =
     let erases = subst (λ found. IfSome found (λ task. task.erases ≡ old.state.pending)) c.in-Some.is c.in_ok-task.ensures.erases in
     subst (λ f. IsSound g.D.Disk.tells (record old { disk = seen; faults = faults; flight = Some f })) (sym same)
     (idle_sound g.D.Disk.tells (record old { flight = Some flying }) seen faults c.port.ensures.idle
-        (begun_sound g.D.Disk.tells old task (ap (option_map flying_of) c.requires.free) c.requires.runs c.requires.sound begun level upto erases))
+    (begun_sound g.D.Disk.tells old task (ap (option_map flying_of) c.requires.free) c.requires.runs c.requires.sound begun level upto erases))
 
 pub returns-clause-stands : goal.returns-clause-stands
 returns-clause-stands g c = λ told config h stands.
@@ -62,7 +62,7 @@ returns-clause-stands g c = λ told config h stands.
     let begun : (s : Stored) → Holds old s → IsBegunIn s task = λ s holds. subst (λ found. IfSome found (λ task. IsBegunIn s (plain_task task))) c.in-Some.is (c.in_ok-task.ensures.some s holds) in
     subst (λ f. StandsNow config h (record old { disk = seen; faults = faults; flight = Some f })) (sym same)
     (idle_stands (record old { flight = Some flying }) seen faults (c.port.ensures.idle told) config h
-        (begun_stands g.D.Disk.tells old task (ap (option_map flying_of) c.requires.free) c.requires.runs c.requires.sound begun config h stands))
+    (begun_stands g.D.Disk.tells old task (ap (option_map flying_of) c.requires.free) c.requires.runs c.requires.sound begun config h stands))
 
 pub returns-clause-held : goal.returns-clause-held
 returns-clause-held g c = λ told s holds.
@@ -76,7 +76,7 @@ returns-clause-held g c = λ told s holds.
     let begun : (s : Stored) → Holds old s → IsBegunIn s task = λ s holds. subst (λ found. IfSome found (λ task. IsBegunIn s (plain_task task))) c.in-Some.is (c.in_ok-task.ensures.some s holds) in
     subst (λ f. Holds (record old { disk = seen; faults = faults; flight = Some f }) s) (sym same)
     (idle_holds (record old { flight = Some flying }) seen faults (c.port.ensures.idle told) s
-        (begun_holds g.D.Disk.tells old task (ap (option_map flying_of) c.requires.free) c.requires.runs c.requires.sound begun s holds))
+    (begun_holds g.D.Disk.tells old task (ap (option_map flying_of) c.requires.free) c.requires.runs c.requires.sound begun s holds))
 
 pub returns-clause-works : goal.returns-clause-works
 returns-clause-works g c = record {

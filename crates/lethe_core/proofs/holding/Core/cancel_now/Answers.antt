@@ -26,7 +26,7 @@ returns-in-Ok-clause-keeps g c =
     let is = flying_is self c.take.result c.in-Some.flight c.take.ensures.value c.in-Some.is in
     subst (λ f. Keeps g.D.Disk.tells (view_of self) (view_of (record self { disk = disk; flight = f })) (Ok (tt {0}))) (sym c.take.ensures.after)
     (removed_keeps g.D.Disk.tells (view_of self) (flying_of c.in-Some.flight) is may.sound (g.D.Disk.seen disk) (g.D.Disk.faults disk) (λ told. laws.itself told self.disk)
-        c.in-Ok.ensures.done c.in-Ok.ensures.others may.runs c.in-Ok.ensures.any_moment c.in-Ok.ensures.cause.later)
+    c.in-Ok.ensures.done c.in-Ok.ensures.others may.runs c.in-Ok.ensures.any_moment c.in-Ok.ensures.cause.later)
 
 pub returns-in-Ok-clause-held : goal.returns-in-Ok-clause-held
 returns-in-Ok-clause-held g c = λ told s holds.
@@ -36,7 +36,7 @@ returns-in-Ok-clause-held g c = λ told s holds.
     let is = flying_is self c.take.result c.in-Some.flight c.take.ensures.value c.in-Some.is in
     subst (λ f. Holds (view_of (record self { disk = disk; flight = f })) s) (sym c.take.ensures.after)
     (removed_holds g.D.Disk.tells (view_of self) (flying_of c.in-Some.flight) is c.requires.may.sound (g.D.Disk.seen disk) (g.D.Disk.faults disk) (λ told. laws.itself told self.disk)
-        c.in-Ok.ensures.done c.in-Ok.ensures.others told s holds)
+    c.in-Ok.ensures.done c.in-Ok.ensures.others told s holds)
 
 pub returns-clause-keeps : goal.returns-clause-keeps
 returns-clause-keeps g c =
@@ -53,7 +53,7 @@ returns-clause-keeps g c =
     let why = Fault c.stop-place.result c.args.before c.faults.result in
     subst (λ f. Keeps {T = Unit {0}} g.D.Disk.tells old (view_of (record self { disk = disk; state = state; flight = f })) (Err why)) (sym c.take.ensures.after)
     (grounded_keeps {T = Unit {0}} g.D.Disk.tells old (record old { disk = g.D.Disk.seen disk; faults = g.D.Disk.faults disk; state = state }) (Err why) (self.state.count + 1) (ap (λ (s : State). s.stopped) c.stop-place.ensures.is)
-        (refused_keeps g.D.Disk.tells old may.sound (record old { disk = g.D.Disk.seen disk; faults = g.D.Disk.faults disk; state = state }) c.args.before may
-            (λ told s holds. c.remove_pages.ensures.any_moment told s (may_remove g.D.Disk.tells old (flying_of c.in-Some.flight) is may.sound s holds))
-            (λ told. laws.itself told disk) c.remove_pages.ensures.cause.later why
-            (c.stop-place.ensures.place, refl, c.faults.ensures, told, c.stop-place.ensures.is, record { levels = refl; flight = refl })))
+    (refused_keeps g.D.Disk.tells old may.sound (record old { disk = g.D.Disk.seen disk; faults = g.D.Disk.faults disk; state = state }) c.args.before may
+    (λ told s holds. c.remove_pages.ensures.any_moment told s (may_remove g.D.Disk.tells old (flying_of c.in-Some.flight) is may.sound s holds))
+    (λ told. laws.itself told disk) c.remove_pages.ensures.cause.later why
+    (c.stop-place.ensures.place, refl, c.faults.ensures, told, c.stop-place.ensures.is, record { levels = refl; flight = refl })))

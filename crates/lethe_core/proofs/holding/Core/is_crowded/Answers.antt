@@ -14,7 +14,7 @@ returns g c = λ told s holds.
     let version = c.args.self.now.version in
     let count = c.requires.count in
     let many : length c.files.result.now ≡ length (get_or (parts_by_level version) 0 []) =
-        sym (length-map c.files.result.now _) ∙ ap length (c.files.ensures []) ∙ sym (many_shown version 0 (omega (arith, count))) in
+    sym (length-map c.files.result.now _) ∙ ap length (c.files.ensures []) ∙ sym (many_shown version 0 (omega (arith, count))) in
     let both = crowded_at (view_of c.args.self.now) s holds (length c.files.result.now) many in (
       λ is. both.0 (subst (λ n. n ≤ length c.files.result.now) ratio (leb-true _ _ is)),
       λ is. le-leb _ _ (subst (λ n. n ≤ length c.files.result.now) (sym ratio) (both.1 is)),

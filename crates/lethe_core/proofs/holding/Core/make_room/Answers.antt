@@ -88,7 +88,7 @@ returns-in_err-freeze_now-clause-why g c =
 -- Both were
 
 pub returns-clause-keeps : goal.returns-clause-keeps
-returns-clause-keeps g c = 
+returns-clause-keeps g c =
     let old = view_of c.args.self.now in
     let middle = view_of c.unfreeze.new.self in
     let cleared = view_of c.freeze_now.new.self in

@@ -46,7 +46,7 @@ pub returns-in-Ok-false-clause-done : goal.returns-in-Ok-false-clause-done
 returns-in-Ok-false-clause-done g c = λ told s holds.
     let ended = c.merge_next.ensures.ended (c.in-Ok-false.is ∙ ap Ok c.in-Ok-false.field-0-test) in
     let done = no_more g.D.Disk.tells (view_of c.args.self.now) (view_of c.loop.self) c.args.before c.loop.counter (g.D.Disk.fetches c.args.port.now) (g.D.Disk.fetches c.loop.port)
-        (g.D.Disk.port_faults c.args.port.now) (g.D.Disk.port_faults c.loop.port) c.loop.invariant.merged told s holds ended.2 in
+    (g.D.Disk.port_faults c.args.port.now) (g.D.Disk.port_faults c.loop.port) c.loop.invariant.merged told s holds ended.2 in
     (done.0, done.1, done.2, subst (λ core. Holds (view_of core) done.0) (sym ended.0) done.3, ended.1 ∙ done.4)
 
 pub returns-in-Err-clause-keeps : goal.returns-in-Err-clause-keeps
@@ -64,7 +64,7 @@ returns-in-Err-clause-why g c =
     let now = g.D.Disk.faults new.disk in
     let later = g.D.Disk.port_faults c.merge_next.new.port in
     let either = either_since Short g.D.Disk.tells g.D.Disk.ports_fail c.args.self.now.state c.loop.self.state c.args.before now (g.D.Disk.port_faults c.args.port.now) (g.D.Disk.port_faults c.loop.port) later
-        c.loop.invariant.merged.steady c.loop.invariant.merged.port_faults c.in-Err.why c.in-Err.ensures.why in
+    c.loop.invariant.merged.steady c.loop.invariant.merged.port_faults c.in-Err.why c.in-Err.ensures.why in
     subst (λ (why : Refused). HasReason Short c.args.self.now.state c.args.before now why ⊎ IsUnreadable g.D.Disk.tells g.D.Disk.ports_fail (g.D.Disk.port_faults c.args.port.now) later why)
     (sym (c.told_since.ensures ∙ ap (λ earlier. told_since earlier c.in-Err.why) c.port_faults-earlier.ensures)) either
 

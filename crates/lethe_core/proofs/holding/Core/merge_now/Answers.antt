@@ -48,7 +48,7 @@ returns-clause-keeps g c =
     let headers = c.args.headers.items in
     let moments = merge_moments old mid.disk mid.faults mid.levels headers step g.D.Disk.tells c.args.before c.requires.may c.requires.from c.requires.merges c.carry_out.ensures.moments in
     let P : State → Type 0 = λ state. (g.D.Disk.tells → (s : Stored) (task : PlainTask) (t : Stored) → Holds old s → MayMerge old s task t headers step → Holds (record (merged_view old mid.disk mid.faults mid.levels step) { state = under step.manifest state }) t)
-        → Keeps {T = Unit {0}} g.D.Disk.tells old (record (merged_view old mid.disk mid.faults mid.levels step) { state = under step.manifest state }) (Ok tt) in
+    → Keeps {T = Unit {0}} g.D.Disk.tells old (record (merged_view old mid.disk mid.faults mid.levels step) { state = under step.manifest state }) (Ok tt) in
     subst P (sym c.in_ok-carry_out.ensures.state)
     (λ behind. merge_keeps old mid.disk mid.faults mid.levels headers step g.D.Disk.tells c.args.before c.requires.may c.requires.from c.requires.merges behind c.carry_out.ensures.levels moments c.in_ok-carry_out.ensures.calls c.carry_out.ensures.faults)
     (returns-clause-done g c)

@@ -144,7 +144,7 @@ returns-in-Err-Failed-clause-numbers g c = λ told.
     let holds : Holds old held.0 = record { remembers = held.1; running = held.2 c.requires.may.runs } in
     let same = c.prepare.ensures.same in
     let is_ready = ready (with_state old c.prepare.new.self) held.0 (like_holds old c.prepare.new.self same held.0 holds) c.args.next c.requires.spelled (c.requires.place ∙ ap (λ n. n + 1) (sym same.count)) c.requires.entry
-        c.active_number-no.result c.active_number-no.ensures c.deref.result.now (c.deref.ensures.value ∙ c.in-Ok.ensures.body) in
+    c.active_number-no.result c.active_number-no.ensures c.deref.result.now (c.deref.ensures.value ∙ c.in-Ok.ensures.body) in
     let later = (c.append.ensures.any_moment told (addition held.0 c.args.next) is_ready).later in
     let next : c.stop-place.new.self.next ≡ c.args.self.now.state.next = ap (λ (state : State). state.next) c.stop-place.ensures.is ∙ same.next in
     omega (arith, later, next)

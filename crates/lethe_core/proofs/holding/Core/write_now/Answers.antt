@@ -67,6 +67,8 @@ returns-in-Err-NoMemory-clause-keeps g c =
     let kept = on_err c.write_page-placed.result NoMemory (written ≡ c.in-Some.flight.written) failed c.write_page-placed.ensures.kept in
     refused_keeps g.D.Disk.tells (view_of self) may.sound _ c.args.before may
     (λ told s holds. c.write_page-placed.ensures.any_moment told s (may_write g.D.Disk.tells (view_of self) flying is may.sound s holds))
-    (λ told. laws.itself told c.write_page-placed.new.disk) c.write_page-placed.ensures.cause.later refused.NoMemory
-    (refl, record { levels = refl; flight = as_written g.D.Disk.tells (view_of self) flying is may.sound written kept },
-        λ told. refused_at_once (g.D.Disk.seen self.disk) (g.D.Disk.seen c.write_page-placed.new.disk) (c.write_page-placed.ensures.no_memory told failed))
+    (λ told. laws.itself told c.write_page-placed.new.disk) c.write_page-placed.ensures.cause.later refused.NoMemory (
+      refl,
+      record { levels = refl; flight = as_written g.D.Disk.tells (view_of self) flying is may.sound written kept },
+      λ told. refused_at_once (g.D.Disk.seen self.disk) (g.D.Disk.seen c.write_page-placed.new.disk) (c.write_page-placed.ensures.no_memory told failed),
+    )
