@@ -92,12 +92,7 @@ impl<D: Disk> Engine<D> {
     /// # Errors
     ///
     /// As for `put`.
-    pub fn delete(
-        &mut self,
-        alloc: Global,
-        port: &mut D::Port,
-        key: Key,
-    ) -> Result<u64, Refused>
+    pub fn delete(&mut self, alloc: Global, port: &mut D::Port, key: Key) -> Result<u64, Refused>
         // Opening gives this, and each call leaves it so.
         requires { IsSound D.tells (view_of self.old.core) }
         ensures sound { IsSound D.tells (view_of self.new.core) }
