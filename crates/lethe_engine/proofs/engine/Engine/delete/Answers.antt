@@ -79,7 +79,7 @@ returns-clause-written g c = λ told s holds.
 pub returns-clause-room : goal.returns-clause-room
 returns-clause-room g c = λ told s holds has.
     let old : View = view_of c.args.self.now.core in
-    let room = c.in_ok-make_room.ensures.room (sees_room s old.state old.levels holds.remembers has) in
+    let room = c.in_ok-make_room.ensures.room (sees_room old s holds has) in
     let same = room.0 in
     let mid : View = view_of c.make_room.new.self in
     let still = subst (λ core. Holds (view_of core) s) (sym same) holds in
