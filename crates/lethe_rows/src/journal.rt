@@ -70,8 +70,8 @@ fn take_call(alloc: Global, disk: &mut MemDisk) -> Result<(), Fail>
     }
 }
 
-// Takes so many more calls of the disk, which change nothing: so it has taken as many at least.
-fn take_calls(alloc: Global, disk: &mut MemDisk, calls: u64) -> Result<(), Fail>
+/// Takes so many more calls of the disk, which change nothing: so it has taken as many at least.
+pub(crate) fn take_calls(alloc: Global, disk: &mut MemDisk, calls: u64) -> Result<(), Fail>
     ensures { OnOk result (calls ≤ calls_of disk.new) }
 {
     let mut done = 0;

@@ -9,7 +9,7 @@ use std::alloc::Global;
 use std::test::Fail;
 
 /// The words of a small configuration: four records fill a buffer, two entries a page.
-const SMALL: [&str; 15] = [
+pub(crate) const SMALL: [&str; 15] = [
     "run",
     "--threshold",
     "100",
@@ -215,8 +215,8 @@ fn front_of(rt: &HostRuntime, disk: MemDisk) -> Result<Option<usize>, Fail> {
     Ok(None)
 }
 
-// How many lines say that a change is done.
-fn done_lines(text: &[u8]) -> usize {
+/// How many lines say that a change is done.
+pub(crate) fn done_lines(text: &[u8]) -> usize {
     let mut done: usize = 0;
     for line in text.split(|byte| *byte == b'\n') {
         if line.starts_with(b"1 ok ") {

@@ -10,6 +10,10 @@ mod faults;
 #[cfg(test)]
 mod files;
 #[cfg(test)]
+mod generated;
+#[cfg(test)]
+mod generated_crashes;
+#[cfg(test)]
 mod journal;
 #[cfg(test)]
 mod levels;

@@ -1,0 +1,270 @@
+//! Scripts that are made from a seed, and what a plain map prints for them.
+ghost use Rattle.std.specs.Prelude.{◌<◌, length};
+
+use crate::levels::SMALL;
+use crate::run::{Left, run_over};
+use lethe_memdisk::MemDisk;
+use std::alloc::Global;
+use std::collections::BTreeMap;
+use std::str;
+use std::test::Fail;
+
+/// The letters of the keys.
+const LETTERS: [&str; 6] = ["a", "b", "c", "d", "e", "f"];
+
+/// A range that has all keys.
+pub(crate) const ALL: (&str, &str) = ("a", "g");
+
+// Numbers that follow from a seed.
+#[derive(Drop)]
+struct Dice(u64);
+
+impl Dice {
+    // The next number, which is below the bound.
+    fn below(&mut self, bound: usize) -> usize
+        requires { 0 < bound }
+        ensures { result < bound }
+    {
+        self.0 = self
+            .0
+            .wrapping_mul(6_364_136_223_846_793_005)
+            .wrapping_add(1_442_695_040_888_963_407);
+        (self.0 >> 33) as usize % bound
+    }
+
+    fn one_of(&mut self, words: &[&'static str]) -> &'static str
+        requires { 0 < length words.now }
+    {
+        words[self.below(words.len())]
+    }
+
+    // A key of one to three of the letters.
+    fn key(&mut self, alloc: Global, letters: &[&'static str]) -> Result<String, Fail>
+        requires { 0 < length letters.now }
+    {
+        let mut key = String::new(alloc);
+        for _ in 0..=self.below(3) {
+            key.push_str(self.one_of(letters))?;
+        }
+        Ok(key)
+    }
+
+    // The words of a small configuration: few entries make a file, and few files a full level.
+    fn words(&mut self, alloc: Global) -> Result<Vec<&'static str>, Fail> {
+        let mut words = SMALL;
+        let page = self.one_of(&["1", "2"]);
+        let tile = self.one_of(&["1", "2"]);
+        words[4] = self.one_of(&["2", "3", "4", "5"]);
+        words[6] = page;
+        words[8] = tile;
+        // A buffer has at most the entries of a file, of two tiles.
+        words[12] = match (page, tile) {
+            ("1", "1") => "2",
+            _ => self.one_of(&["2", "3", "4"]),
+        };
+        let mut words = words.to_vec(alloc)?;
+        if self.below(2) == 0 {
+            words.push("--pick")?;
+            words.push("sd")?;
+        }
+        Ok(words)
+    }
+}
+
+/// Lines of a script, and what is printed for them.
+#[derive(Drop)]
+pub(crate) struct Lines {
+    pub script: String,
+    pub text: String,
+}
+
+impl Lines {
+    fn new(alloc: Global) -> Lines {
+        Lines {
+            script: String::new(alloc),
+            text: String::new(alloc),
+        }
+    }
+
+    fn add(&mut self, script: &str, text: &str) -> Result<(), Fail> {
+        self.script.push_str(script)?;
+        self.text.push_str(text)?;
+        Ok(())
+    }
+}
+
+// A plain map from a key to its delete key and the place of its put, which the value names.
+#[derive(Drop)]
+struct Plain {
+    alloc: Global,
+    map: BTreeMap<String, (usize, usize)>,
+    // How many changes there were.
+    place: usize,
+}
+
+impl Plain {
+    fn put(&mut self, lines: &mut Lines, key: String, due: usize) -> Result<(), Fail> {
+        let place = self.place.saturating_add(1);
+        let line = format!(in self.alloc; "1 put {key} {due} v{place}\n")?;
+        lines.add(&line, &format!(in self.alloc; "1 ok {place}\n")?)?;
+        self.map.insert(key, (due, place))?;
+        self.place = place;
+        Ok(())
+    }
+
+    fn delete(&mut self, lines: &mut Lines, key: String) -> Result<(), Fail> {
+        let place = self.place.saturating_add(1);
+        let line = format!(in self.alloc; "1 del {key}\n")?;
+        lines.add(&line, &format!(in self.alloc; "1 ok {place}\n")?)?;
+        self.map.remove(&key);
+        self.place = place;
+        Ok(())
+    }
+
+    fn get(&self, lines: &mut Lines, key: String) -> Result<(), Fail> {
+        let at = self.place;
+        let line = format!(in self.alloc; "1 get {key}\n")?;
+        let text = match self.map.get(&key) {
+            Some((due, place)) => format!(in self.alloc; "1 at {at} val {due} v{place}\n")?,
+            None => format!(in self.alloc; "1 at {at} none\n")?,
+        };
+        lines.add(&line, &text)
+    }
+
+    // What a scan of this range prints.
+    fn scanned(&self, low: &str, high: &str) -> Result<String, Fail> {
+        let at = self.place;
+        let mut count: usize = 0;
+        let mut pairs = String::new(self.alloc);
+        for (key, (due, place)) in self.map.iter() {
+            if low <= key.as_str() && key.as_str() < high {
+                count = count.saturating_add(1);
+                pairs.push_str(&format!(in self.alloc; " {key} {due} v{place}")?)?;
+            }
+        }
+        Ok(format!(in self.alloc; "1 at {at} scan {count}{pairs}\n")?)
+    }
+
+    // One more line: a change three times of five.
+    fn add_line(
+        &mut self,
+        dice: &mut Dice,
+        letters: &[&'static str],
+        lines: &mut Lines,
+    ) -> Result<(), Fail>
+        requires { 0 < length letters.now }
+    {
+        let key = dice.key(self.alloc, letters)?;
+        match dice.below(20) {
+            0..11 => self.put(lines, key, dice.below(9)),
+            11..14 => self.delete(lines, key),
+            14..17 => self.get(lines, key),
+            _ => {
+                let other = dice.key(self.alloc, letters)?;
+                let (low, high) = if key < other {
+                    (key, other)
+                } else {
+                    (other, key)
+                };
+                let line = format!(in self.alloc; "1 scan {low} {high}\n")?;
+                lines.add(&line, &self.scanned(&low, &high)?)
+            }
+        }
+    }
+}
+
+/// A script for a small configuration.
+#[derive(Drop)]
+pub(crate) struct Generated {
+    seed: u64,
+    words: Vec<&'static str>,
+    /// Its lines, ten by ten.
+    pub parts: Vec<Lines>,
+    /// What a scan of all keys prints behind no change, behind the first, and so on.
+    pub scans: Vec<String>,
+}
+
+impl Generated {
+    /// The script of a seed, of so many times ten lines.
+    pub(crate) fn of(alloc: Global, seed: u64, parts: usize) -> Result<Generated, Fail> {
+        let mut dice = Dice(seed);
+        let mut made = Generated {
+            seed,
+            words: dice.words(alloc)?,
+            parts: Vec::new(alloc),
+            scans: Vec::new(alloc),
+        };
+        // With two letters the keys come again soon.
+        let letters = if dice.below(2) == 0 {
+            &LETTERS[..2]
+        } else {
+            &LETTERS[..]
+        };
+        let mut plain = Plain {
+            alloc,
+            map: BTreeMap::new(alloc),
+            place: 0,
+        };
+        made.scans.push(plain.scanned(ALL.0, ALL.1)?)?;
+        for _ in 0..parts {
+            let mut lines = Lines::new(alloc);
+            for _ in 0..10 {
+                plain.add_line(&mut dice, letters, &mut lines)?;
+                if made.scans.len() == plain.place {
+                    made.scans.push(plain.scanned(ALL.0, ALL.1)?)?;
+                }
+            }
+            made.parts.push(lines)?;
+        }
+        Ok(made)
+    }
+
+    /// The whole script.
+    pub(crate) fn whole(&self, alloc: Global) -> Result<Lines, Fail> {
+        let mut whole = Lines::new(alloc);
+        for lines in &self.parts {
+            whole.add(&lines.script, &lines.text)?;
+        }
+        Ok(whole)
+    }
+
+    /// Runs a script with its configuration. Nothing of the source and the sink fails.
+    pub(crate) fn run(&self, rt: &HostRuntime, script: &str, disk: MemDisk) -> Result<Left, Fail> {
+        let bytes = script.as_bytes().to_vec(rt.alloc())?;
+        run_over(rt, &self.words, bytes, &[], &[], disk)
+    }
+
+    // Runs lines of it, which print what the map gives, and hands the disk back.
+    fn answered(&self, rt: &HostRuntime, lines: &Lines, disk: MemDisk) -> Result<MemDisk, Fail> {
+        let left = self.run(rt, &lines.script, disk)?;
+        let printed = left.printed;
+        if printed.status != 0 || printed.text.as_slice() != lines.text.as_bytes() {
+            let seed = self.seed;
+            let text = str::from_utf8(&printed.text)?;
+            return Err(Fail::new(format_args!("seed {seed}: {text}")));
+        }
+        Ok(left.disk)
+    }
+}
+
+/// A disk with room for a script and its merges.
+pub(crate) fn roomy_disk(alloc: Global) -> Result<MemDisk, Fail> {
+    Ok(MemDisk::new(alloc, 20_000, Vec::new(alloc))?)
+}
+
+#[test]
+fn generated_scripts_print_what_a_map_gives(rt: HostRuntime) -> Result<(), Fail> {
+    let alloc = rt.alloc();
+    for seed in 0..100 {
+        // Long scripts have the keys for deep levels.
+        let parts = if seed % 10 == 0 { 30 } else { 6 };
+        let made = Generated::of(alloc, seed, parts)?;
+        made.answered(&rt, &made.whole(alloc)?, roomy_disk(alloc)?)?;
+        // The same, opened again for each part.
+        let mut disk = roomy_disk(alloc)?;
+        for lines in &made.parts {
+            disk = made.answered(&rt, lines, disk)?;
+        }
+    }
+    Ok(())
+}
