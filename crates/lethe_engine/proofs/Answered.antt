@@ -10,7 +10,7 @@ use Rattle.lethe_disk.specs.Goes.{Goes}
 use Rattle.lethe_disk.proofs.Going.{goes_then}
 use Rattle.lethe_stored.specs.Left.{IsKeptOr}
 use Rattle.lethe_state.specs.Records.{MayRefuse}
-use Rattle.lethe_core.specs.Changes.{answered_to, refused_to, written_by}
+use Rattle.lethe_core.specs.Changes.{answered_to, written_by}
 use Rattle.lethe_core.specs.Keeps.{Keeps}
 use Rattle.lethe_core.specs.Reasons.{HasReason}
 use Rattle.lethe_core.specs.StandsNow.{StandsNow}

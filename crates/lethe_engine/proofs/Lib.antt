@@ -1,4 +1,3 @@
-pub mod Results
 pub mod Overs
 pub mod Answering
 pub mod Counting

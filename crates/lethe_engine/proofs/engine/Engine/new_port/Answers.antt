@@ -1,5 +1,4 @@
 use Rattle.std.proofs.Common.{refl}
-use Rattle.lethe_core.specs.Steps.{IsBeside}
 use Rattle.lethe_core.specs.View.{View, view_of}
 use Rattle.lethe_core.proofs.Standing.{idle_back, sound_back, stands_back}
 use Rattle.lethe_engine.proofs.Onward.{idle_for}

@@ -1,15 +1,10 @@
-use Rattle.std.proofs.Common.{rules, ◌≡◌, ◌≤◌, ◌<◌, ◌+◌, ℕ, None, List, Err, refl, sym, ap, ◌∙◌, subst, arith}
+use Rattle.std.proofs.Common.{rules, ◌<◌, ◌+◌, refl, sym, ap, ◌∙◌, subst}
 use Rattle.std.specs.Prelude.{IfErr}
-use Rattle.lethe_base.specs.History.{History}
 use Rattle.lethe_base.specs.Limits.{max_place}
 use Rattle.lethe_base.specs.declared.call.Call.TheVariants as call
-use Rattle.lethe_base.specs.declared.config.Fields.{Fields}
-use Rattle.lethe_cover.specs.Steps.{with_done}
 use Rattle.lethe_disk.proofs.Quieting.{on_ok, on_ok_both}
-use Rattle.lethe_stored.specs.Kept.{IsFor}
-use Rattle.lethe_stored.specs.Stored.{Stored, appended}
-use Rattle.lethe_core.specs.Changes.{put_over, with_record}
-use Rattle.lethe_core.specs.Merges.{IsRoomMadeBy, Outcome, pages_of}
+use Rattle.lethe_stored.specs.Stored.{appended}
+use Rattle.lethe_core.specs.Changes.{with_record}
 use Rattle.lethe_core.specs.Reasons.{HasReason}
 use Rattle.lethe_core.specs.Running.{Holds}
 use Rattle.lethe_core.specs.View.{View, view_of}
