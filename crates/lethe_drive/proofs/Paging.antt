@@ -1,0 +1,134 @@
+-- What asking a job for its next page and writing it comes to.
+use Rattle.std.proofs.Common.{◌≡◌, ◌↔◌, ◌≤◌, ◌<◌, ◌⊎◌, inl, inr, ℕ, ◌+◌, Bool, true, false, List, [], length, Option, Some, None, Result, Ok, Err, Vec, refl, sym, ap, ◌∙◌, subst, arith}
+use Rattle.std.specs.Prelude.{IfSome, IsSome, slice_index_or}
+use Rattle.std.specs.declared.alloc.Global.{Global}
+use Rattle.lethe_base.specs.History.{History}
+use Rattle.lethe_base.specs.Limits.{max_place}
+use Rattle.lethe_base.specs.declared.call.Call.TheVariants.{Work}
+use Rattle.lethe_base.specs.declared.config.Fields.{Fields}
+use Rattle.lethe_base.specs.declared.refused.Refused.{Refused}
+use Rattle.lethe_build.specs.declared.draft.Draft.{Draft}
+use Rattle.lethe_disk.specs.declared.disk.Disk.{Ghosts}
+use Rattle.lethe_file.specs.Agreement.{page_name}
+use Rattle.lethe_flush.specs.Made.{pages_in}
+use Rattle.lethe_stored.specs.Stored.{Stored}
+use Rattle.lethe_job.specs.Jobs.{IsJob, IsUnread}
+use Rattle.lethe_job.specs.Tasks.{AreSound, inputs_in, plain_task}
+use Rattle.lethe_job.specs.declared.job.Job.{Job}
+use Rattle.lethe_core.specs.Changes.{refused_to}
+use Rattle.lethe_core.specs.Jobs.{IsAtWork, with_page}
+use Rattle.lethe_core.specs.Reasons.{HasReason, IsUnreadable}
+use Rattle.lethe_core.specs.Steps.{stepped_to}
+use Rattle.lethe_core.specs.View.{Flying, View}
+use Rattle.lethe_drive.specs.Answers.{HasNoPage, HasWritten, IsJobRefusal, IsWriteOut}
+use Rattle.lethe_engine.specs.StandsFor.{Opened, StandsFor}
+use Rattle.lethe_drive.specs.Moments.{IsKnown, Moment, going_of, moment_of}
+use Rattle.lethe_drive.proofs.Reasons.{unread_cause}
+use Rattle.lethe_drive.proofs.Writing.{nothing_in, outputs_for, some_of, spoilt}
+
+module _ {D Page Port : Type 0} {kind : Ghosts D Page Port} (Tells PortsFail : Type 0) (h : History) (old : View) (s : Stored) (number fetches faults begun : ℕ) (job mid : Job D Page Port kind)
+    (task : mid.task.value ≡ job.task.value) where
+  abbrev before : Moment
+  before = moment_of old s fetches faults begun (Some (going_of number job))
+
+  abbrev behind : View → Stored → Job D Page Port kind → Moment
+  behind new t after = moment_of new t fetches faults begun (Some (going_of number after))
+
+  -- what a store that stood for a history and held this comes to
+  abbrev pub Paged : Fields → Opened → View → Job D Page Port kind → Result Bool Refused → Type 0
+  Paged config opened new after result = (t : Stored) × IsKnown new t × StandsFor config opened (stepped_to h 0 Work result) new
+      × IsWriteOut PortsFail (going_of number job) h before result (stepped_to h 0 Work result) (behind new t after)
+
+  -- the engine refused the page
+  pub page_refused : (new : View) (t : Stored) (why : Refused) → HasReason (max_place ≤ old.state.next) old.state old.faults new.faults why → mid.refused ≡ true
+      → IsWriteOut PortsFail (going_of number job) h before (Err why) (refused_to h 0 Work why) (behind new t mid)
+  page_refused new t why is refused = record {
+    history = refl;
+    answers = (record { port_faults = kind.port_faults mid.port; there = spoilt Tells PortsFail job mid task number refused }, inl (old.faults, new.faults, omega arith, omega arith, is));
+    begun = refl;
+    port = record { fetches = refl; port_faults = refl };
+  }
+
+  unread_reason : (why : Refused) → HasReason (max_place ≤ old.state.next) old.state old.faults old.faults why ⊎ IsUnreadable (Unit {0}) PortsFail (kind.port_faults job.port) (kind.port_faults mid.port) why
+      → IsJobRefusal PortsFail (max_place ≤ old.state.next) before (going_of number job) (kind.port_faults mid.port) (behind old s mid) why
+  unread_reason why (inl is) = inl (old.faults, old.faults, omega arith, omega arith, is)
+  unread_reason why (inr is) = inr is
+
+  -- the inputs could not be read
+  pub page_unread : Tells → AreSound (inputs_in (plain_task job.task.value)) → (why : Refused)
+      → IsUnread Tells PortsFail (inputs_in (plain_task job.task.value)) (kind.port_faults job.port) (kind.port_faults mid.port) why → mid.refused ≡ true
+      → IsWriteOut PortsFail (going_of number job) h before (Err why) (refused_to h 0 Work why) (behind old s mid)
+  page_unread told sound why is refused = record {
+    history = refl;
+    answers = (
+      record { port_faults = kind.port_faults mid.port; there = spoilt Tells PortsFail job mid task number refused },
+      unread_reason why (unread_cause Tells PortsFail (max_place ≤ old.state.next) (inputs_in (plain_task job.task.value)) (kind.port_faults job.port) (kind.port_faults mid.port)
+        old.state old.faults old.faults told sound why is),
+    );
+    begun = refl;
+    port = record { fetches = refl; port_faults = refl };
+  }
+
+  module _ (told : Tells) (sound : AreSound (inputs_in (plain_task job.task.value))) (works : IsAtWork Tells old job) (written : mid.written ≡ job.written) (made : IsSome mid.drafts) (is : IsJob Tells mid) where
+    abbrev flying : Flying
+    flying = works.flies.flying
+
+    abbrev drafts : Vec Draft Global
+    drafts = (some_of mid.drafts made).0
+
+    drafts_are : mid.drafts ≡ Some drafts
+    drafts_are = (some_of mid.drafts made).1
+
+    -- the next page was written
+    pub page_written : (new : View) (after : Job D Page Port kind) → IfSome mid.drafts (λ drafts. job.written < length (pages_in drafts.items))
+        → IfSome old.flight (λ flying. IfSome mid.drafts (λ drafts. new.flight ≡ Some (with_page flying (page_name old.state.next, slice_index_or (pages_in drafts.items) mid.written []))))
+        → IsWriteOut PortsFail (going_of number job) h before (Ok true) h (behind new s after)
+    page_written new after left page =
+        let P : Option (Vec Draft Global) → Type 0 = λ o. IfSome o (λ drafts. job.written < length (pages_in drafts.items)) in
+        let few : job.written < length (pages_in drafts.items) = subst P drafts_are left in
+        let count = works.count in
+        let Q : Option Flying → Type 0 = λ o. IfSome o (λ flying. IfSome mid.drafts (λ drafts. new.flight ≡ Some (with_page flying (page_name old.state.next, slice_index_or (pages_in drafts.items) mid.written [])))) in
+        let R : Option (Vec Draft Global) → Type 0 = λ o. IfSome o (λ drafts. new.flight ≡ Some (with_page flying (page_name old.state.next, slice_index_or (pages_in drafts.items) mid.written []))) in
+        let put : new.flight ≡ Some (with_page flying (page_name old.state.next, slice_index_or (pages_in drafts.items) mid.written [])) = subst R drafts_are (subst Q works.flies.is page) in
+        record {
+          history = refl;
+          answers = record {
+            flying = flying;
+            flies = works.flies.is;
+            drafts = drafts.items;
+            outputs = outputs_for Tells PortsFail job mid task told sound is drafts drafts_are;
+            left = let low : length flying.written < length (pages_in drafts.items) = omega arith in low;
+            flight = put ∙ (λ i. Some (with_page flying (page_name old.state.next, slice_index_or (pages_in drafts.items) ((written ∙ sym count) i) [])));
+            stored = refl;
+          };
+          begun = refl;
+          port = record { fetches = refl; port_faults = refl };
+        }
+
+    -- none was left
+    pub no_page : IfSome mid.drafts (λ drafts. job.written < length (pages_in drafts.items) → ⊥) → IsWriteOut PortsFail (going_of number job) h before (Ok false) h (behind old s mid)
+    no_page left =
+        let P : Option (Vec Draft Global) → Type 0 = λ o. IfSome o (λ drafts. job.written < length (pages_in drafts.items) → ⊥) in
+        let over : job.written < length (pages_in drafts.items) → ⊥ = subst P drafts_are left in
+        let Q : Option (Vec Draft Global) → Type 0 = λ o. IfSome o (λ drafts. mid.written ≤ length (pages_in drafts.items)) in
+        let few : mid.written ≤ length (pages_in drafts.items) = subst Q drafts_are is.few in
+        let count = works.count in
+        record {
+          history = refl;
+          answers = record {
+            flying = flying;
+            flies = works.flies.is;
+            drafts = drafts.items;
+            outputs = outputs_for Tells PortsFail job mid task told sound is drafts drafts_are;
+            all = count ∙ whole job.written mid.written (length (pages_in drafts.items)) written few over;
+            flight = refl;
+            stored = refl;
+            state = refl;
+            calls = refl;
+          };
+          begun = refl;
+          port = record { fetches = refl; port_faults = refl };
+        }
+      where
+        whole : (first written all : ℕ) → written ≡ first → written ≤ all → (first < all → ⊥) → first ≡ all
+        whole first written all same few over = omega arith

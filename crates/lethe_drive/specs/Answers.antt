@@ -1,0 +1,227 @@
+-- What a call of a run answers, by the moments before and behind it and the histories for which the store stands there.
+use Rattle.std.specs.Prelude.{◌≡◌, ◌⊎◌, ◌↔◌, ◌≤◌, ◌<◌, ℕ, ◌+◌, ◌-◌, Bool, true, false, List, [], ◌∷◌, length, sum_by, slice_index_or, Option, Some, None, IsSome, Result, Ok, Err, IfErr}
+use Rattle.lethe_base.specs.History.{History, after}
+use Rattle.lethe_base.specs.Keys.{Bytes}
+use Rattle.lethe_base.specs.Limits.{max_place}
+use Rattle.lethe_base.specs.Read.{Read, Answer, answer}
+use Rattle.lethe_base.specs.declared.call.Call.{Call}
+use Rattle.lethe_base.specs.declared.call.Call.TheVariants as call
+use Rattle.lethe_base.specs.declared.refused.Refused.{Refused}
+use Rattle.lethe_base.specs.declared.refused.Refused.TheVariants.{Fault, Stopped, Backwards, Pinned, NothingDue, Cancelled, Exhausted, ReadFault, NoMemory, Damaged}
+use Rattle.lethe_build.specs.Drafts.{AreDraftsOf, numbers_for}
+use Rattle.lethe_build.specs.declared.draft.Draft.{Draft}
+use Rattle.lethe_cover.specs.Steps.{with_done}
+use Rattle.lethe_file.specs.Agreement.{page_name}
+use Rattle.lethe_flush.specs.Made as made
+use Rattle.lethe_follows.specs.Merged.{entries_in}
+use Rattle.lethe_header.specs.declared.header.Header.{Header}
+use Rattle.lethe_merge.specs.Merge.{merged}
+use Rattle.lethe_segment.specs.declared.record.Record.{Record}
+use Rattle.lethe_stored.specs.Stored.{Stored, appended}
+use Rattle.lethe_state.specs.Records.{headers_in}
+use Rattle.lethe_state.specs.Room.{IsFlushed, IsFrozen, IsShortToFlush, IsShortToFreeze}
+use Rattle.lethe_job.specs.Tasks.{PlainTask, IsBegunIn, inputs_in}
+use Rattle.lethe_core.specs.Changes.{refused_to}
+use Rattle.lethe_core.specs.Jobs.{with_page}
+use Rattle.lethe_core.specs.Merges.{HasNoMerge, IsInstalled, IsRoomMadeBy, Outcome, pages_of}
+use Rattle.lethe_core.specs.Reasons.{HasReason, IsShort, IsUnreadable}
+use Rattle.lethe_core.specs.Steps.{stepped_to}
+use Rattle.lethe_core.specs.View.{Flying}
+use Rattle.lethe_engine.specs.Work.{HasNoFlush, HasNoFreeze}
+use Rattle.lethe_drive.specs.Moments.{AreJobsSame, Going, IsAllButPort, IsPortSame, Moment}
+
+-- a store that was stopped refuses
+abbrev pub StopsIn : {T : Type 0} → Moment → Result T Refused → Type 0
+StopsIn old result = (at : ℕ) → old.state.stopped ≡ Some at → result ≡ Err (Stopped at)
+
+-- the drafts of a task's outputs
+abbrev pub AreOutputsFor : PlainTask → List Draft → Type 0
+AreOutputsFor task drafts = AreDraftsOf task.config (merged (entries_in (inputs_in task)) task.erases task.alone) drafts
+
+-- the numbers of the objects of the merge that is due, and of a manifest, can't be drawn
+pub record IsShortToMerge (m : Moment) : Type 0 where
+  pub task : PlainTask
+  pub begun : IsBegunIn m.stored task
+  pub drafts : List Draft
+  pub are : AreOutputsFor task drafts
+  pub short : max_place ≤ m.state.next + sum_by numbers_for drafts
+
+-- Changes
+
+-- A change takes the next place: room was made, each page of what was merged was fetched once, and the record stands behind the others.
+pub record IsChanged (call : Call) (IsNext : Stored → List Header → Record → Type 0) (h : History) (old : Moment) (place : ℕ) (g : History) (new : Moment) : Type 0 where
+  pub place_is : place ≡ length h + 1
+  pub history : g ≡ with_done h 0 call
+  pub cleared : Stored
+  pub outcomes : List Outcome
+  pub room : IsRoomMadeBy old.flight old.stored outcomes cleared
+  pub next : Record
+  pub next_is : IsNext cleared (headers_in new.levels) next
+  pub stored : new.stored ≡ appended cleared next
+  pub fetches : new.fetches ≡ old.fetches + pages_of outcomes
+
+-- it is refused for a reason, and is in the history where the disk failed in it
+pub record IsUnchanged (PortsFail : Type 0) (call : Call) (h : History) (old : Moment) (why : Refused) (g : History) (new : Moment) : Type 0 where
+  pub history : g ≡ refused_to h 0 call why
+  pub reason : HasReason (IsShort old.state ⊎ IsShortToMerge new) old.state old.faults new.faults why ⊎ ((old.state.stopped ≡ None) × IsUnreadable (Unit {0}) PortsFail old.port_faults new.port_faults why)
+
+abbrev pub ChangeAnswers : Type 0 → Call → (Stored → List Header → Record → Type 0) → History → Moment → Result ℕ Refused → History → Moment → Type 0
+ChangeAnswers PortsFail call IsNext h old (Ok place) g new = IsChanged call IsNext h old place g new
+ChangeAnswers PortsFail call IsNext h old (Err why) g new = IsUnchanged PortsFail call h old why g new
+
+pub record IsChange (PortsFail : Type 0) (call : Call) (IsNext : Stored → List Header → Record → Type 0) (h : History) (old : Moment) (result : Result ℕ Refused) (g : History) (new : Moment) : Type 0 where
+  pub answers : ChangeAnswers PortsFail call IsNext h old result g new
+  pub stops : StopsIn old result
+  pub last : old.state.stopped ≡ None → old.state.count ≡ max_place → result ≡ Err (Exhausted max_place)
+  pub jobs : AreJobsSame old new
+
+-- Reads
+
+-- it answers what the map has, or a fetch failed or there was no memory, and nothing but the port's counts changes
+abbrev pub ReadAnswers : {T : Type 0} → Type 0 → Read → (T → Answer) → History → Moment → Result T Refused → Moment → Type 0
+ReadAnswers PortsFail read told h old (Ok given) new = answer (after h) read ≡ told given
+ReadAnswers PortsFail read told h old (Err why) new = (why ≡ NoMemory) ⊎ IsUnreadable (Unit {0}) PortsFail old.port_faults new.port_faults why
+
+pub record IsRead {T : Type 0} (PortsFail : Type 0) (read : Read) (told : T → Answer) (h : History) (old : Moment) (result : Result T Refused) (g : History) (new : Moment) : Type 0 where
+  pub history : g ≡ h
+  pub answers : ReadAnswers PortsFail read told h old result new
+  pub same : IsAllButPort old new
+
+-- Freezes and flushes
+
+-- It is false exactly where there is nothing to do, and then nothing is done.
+pub record IsWork (Nothing : Moment → Type 0) (Does : Stored → Stored → Type 0) (Short : Type 0) (h : History) (old : Moment) (result : Result Bool Refused) (g : History) (new : Moment) : Type 0 where
+  pub history : g ≡ stepped_to h 0 call.Work result
+  pub idle : (result ≡ Ok false) ↔ Nothing old
+  pub same : result ≡ Ok false → IsAllButPort old new
+  pub done : result ≡ Ok true → Does old.stored new.stored
+  pub why : IfErr result (HasReason Short old.state old.faults new.faults)
+  pub stops : StopsIn old result
+  pub jobs : AreJobsSame old new
+  pub port : IsPortSame old new
+
+-- Jobs
+
+-- the job has the next number and the task that is due, and is in flight with no page
+pub record HasBegun (old : Moment) (number : ℕ) (new : Moment) : Type 0 where
+  pub number_is : number ≡ old.begun
+  pub task : PlainTask
+  pub begun : IsBegunIn old.stored task
+  pub flight : new.flight ≡ Some (record { task = task; written = [] })
+  pub there : new.there ≡ Some (record { number = number; refused = false; task = task; port_faults = 0 })
+  pub count : new.begun ≡ old.begun + 1
+
+-- why no job was begun
+abbrev pub IsUnbegun : Moment → Refused → Type 0
+IsUnbegun old (Stopped at) = old.state.stopped ≡ Some at
+IsUnbegun old NothingDue = (old.state.stopped ≡ None) × (IsSome old.flight ⊎ HasNoMerge old.stored)
+IsUnbegun old NoMemory = Unit {0}
+IsUnbegun old (Fault place before after) = ⊥
+IsUnbegun old (Backwards clock) = ⊥
+IsUnbegun old (Pinned pin limit) = ⊥
+IsUnbegun old (Cancelled begun now) = ⊥
+IsUnbegun old (Exhausted last) = ⊥
+IsUnbegun old (ReadFault before after) = ⊥
+IsUnbegun old (Damaged name) = ⊥
+
+abbrev pub BeginAnswers : Moment → Result ℕ Refused → Moment → Type 0
+BeginAnswers old (Ok number) new = HasBegun old number new
+BeginAnswers old (Err why) new = IsUnbegun old why × AreJobsSame old new
+
+pub record IsBegin (h : History) (old : Moment) (result : Result ℕ Refused) (g : History) (new : Moment) : Type 0 where
+  pub history : g ≡ h
+  pub answers : BeginAnswers old result new
+  pub stops : StopsIn old result
+  pub busy : old.state.stopped ≡ None → IsSome old.flight → result ≡ Err NothingDue
+  pub stored : new.stored ≡ old.stored
+  pub state : new.state ≡ old.state
+  pub calls : new.calls ≡ old.calls
+  pub port : IsPortSame old new
+
+-- Why a job's call was refused that may have read its inputs: of several device calls one failed, between these counts of faults.
+abbrev pub IsJobRefusal : Type 0 → Type 0 → Moment → Going → ℕ → Moment → Refused → Type 0
+IsJobRefusal PortsFail Short old going port_faults new why =
+    ((before : ℕ) × (now : ℕ) × (old.faults ≤ before) × (now ≤ new.faults) × HasReason Short old.state before now why)
+    ⊎ IsUnreadable (Unit {0}) PortsFail going.port_faults port_faults why
+
+-- it can only be given up
+pub record IsSpoilt (going : Going) (new : Moment) : Type 0 where
+  pub port_faults : ℕ
+  pub there : new.there ≡ Some (record going { refused = true; port_faults = port_faults })
+
+-- the next page of the outputs was written, under the next number
+pub record HasWritten (old : Moment) (going : Going) (new : Moment) : Type 0 where
+  pub flying : Flying
+  pub flies : old.flight ≡ Some flying
+  pub drafts : List Draft
+  pub outputs : AreOutputsFor going.task drafts
+  pub left : length flying.written < length (made.pages_in drafts)
+  pub flight : new.flight ≡ Some (with_page flying (page_name old.state.next, slice_index_or (made.pages_in drafts) (length flying.written) []))
+  pub stored : new.stored ≡ old.stored
+
+-- none was left, and nothing was done
+pub record HasNoPage (old : Moment) (going : Going) (new : Moment) : Type 0 where
+  pub flying : Flying
+  pub flies : old.flight ≡ Some flying
+  pub drafts : List Draft
+  pub outputs : AreOutputsFor going.task drafts
+  pub all : length flying.written ≡ length (made.pages_in drafts)
+  pub flight : new.flight ≡ old.flight
+  pub stored : new.stored ≡ old.stored
+  pub state : new.state ≡ old.state
+  pub calls : new.calls ≡ old.calls
+
+abbrev pub WriteAnswers : Type 0 → Moment → Going → Result Bool Refused → Moment → Type 0
+WriteAnswers PortsFail old going (Ok true) new = HasWritten old going new
+WriteAnswers PortsFail old going (Ok false) new = HasNoPage old going new
+WriteAnswers PortsFail old going (Err why) new = (spoilt : IsSpoilt going new) × IsJobRefusal PortsFail (max_place ≤ old.state.next) old going spoilt.port_faults new why
+
+pub record IsWriteOut (PortsFail : Type 0) (going : Going) (h : History) (old : Moment) (result : Result Bool Refused) (g : History) (new : Moment) : Type 0 where
+  pub history : g ≡ stepped_to h 0 call.Work result
+  pub answers : WriteAnswers PortsFail old going result new
+  pub begun : new.begun ≡ old.begun
+  pub port : IsPortSame old new
+
+-- the numbers of a page, or those of the headers and a manifest, can't be drawn
+abbrev pub IsShortToInstall : Going → Moment → Type 0
+IsShortToInstall going new = (max_place ≤ new.state.next) ⊎ ((drafts : List Draft) × AreOutputsFor going.task drafts × (max_place ≤ new.state.next + (sum_by numbers_for drafts - length (made.pages_in drafts))))
+
+-- what is stored is the outcome of its task, and it has ended
+pub record HasInstalled (old : Moment) (going : Going) (new : Moment) : Type 0 where
+  pub installed : IsInstalled old.stored going.task new.stored
+  pub flight : new.flight ≡ None
+  pub there : new.there ≡ None
+
+abbrev pub InstallAnswers : Type 0 → Moment → Going → Result (Unit {0}) Refused → Moment → Type 0
+InstallAnswers PortsFail old going (Ok done) new = HasInstalled old going new
+InstallAnswers PortsFail old going (Err why) new = (spoilt : IsSpoilt going new) × IsJobRefusal PortsFail (IsShortToInstall going new) old going spoilt.port_faults new why
+
+pub record IsInstall (PortsFail : Type 0) (going : Going) (h : History) (old : Moment) (result : Result (Unit {0}) Refused) (g : History) (new : Moment) : Type 0 where
+  pub history : g ≡ stepped_to h 0 call.Work result
+  pub answers : InstallAnswers PortsFail old going result new
+  pub begun : new.begun ≡ old.begun
+  pub port : IsPortSame old new
+
+-- the reason for which giving up is refused: an earlier call failed, or the disk failed in this one
+abbrev pub IsKeptUp : Moment → Moment → Refused → Type 0
+IsKeptUp old new (Fault place before after) = HasReason ⊥ old.state old.faults new.faults (Fault place before after)
+IsKeptUp old new (Stopped at) = old.state.stopped ≡ Some at
+IsKeptUp old new (Backwards clock) = ⊥
+IsKeptUp old new (Pinned pin limit) = ⊥
+IsKeptUp old new NothingDue = ⊥
+IsKeptUp old new (Cancelled begun now) = ⊥
+IsKeptUp old new (Exhausted last) = ⊥
+IsKeptUp old new (ReadFault before after) = ⊥
+IsKeptUp old new NoMemory = ⊥
+IsKeptUp old new (Damaged name) = ⊥
+
+-- The job has ended, and is in flight no more, but where the last place is taken. What is stored stays.
+pub record IsCancel (h : History) (old : Moment) (result : Result (Unit {0}) Refused) (g : History) (new : Moment) : Type 0 where
+  pub history : g ≡ stepped_to h 0 call.Work result
+  pub why : IfErr result (IsKeptUp old new)
+  pub stops : StopsIn old result
+  pub there : new.there ≡ None
+  pub free : (old.state.stopped ≡ None → old.state.count < max_place) → new.flight ≡ None
+  pub stored : (done : Unit {0}) → result ≡ Ok done → new.stored ≡ old.stored
+  pub begun : new.begun ≡ old.begun
+  pub port : IsPortSame old new

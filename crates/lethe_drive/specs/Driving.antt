@@ -1,0 +1,52 @@
+-- A whole run of events.
+use Rattle.std.specs.Prelude.{◌≡◌, ◌⊎◌, ◌≤◌, ◌+◌, ◌-◌, ◌^◌, ℕ, List, ◌++◌, length, Option, Some, None, option_map, Result, OnOk, IfErr, IfSome, false}
+use Rattle.lethe_base.specs.History.{History}
+use Rattle.lethe_base.specs.Limits.{max_place}
+use Rattle.lethe_base.specs.declared.refused.Refused.{Refused}
+use Rattle.lethe_disk.specs.declared.disk.Disk.{Ghosts}
+use Rattle.lethe_flush.specs.Made.{pages_in}
+use Rattle.lethe_stored.specs.Stored.{Stored}
+use Rattle.lethe_job.specs.Tasks.{AreSound, inputs_in, plain_task}
+use Rattle.lethe_job.specs.declared.job.Job.{Job}
+use Rattle.lethe_core.specs.Reasons.{HasReason, IsUnreadable}
+use Rattle.lethe_core.specs.Jobs.{IsAtWork, IsInFlight}
+use Rattle.lethe_core.specs.View.{View}
+use Rattle.lethe_drive.specs.Moments.{IsMoment, Moment}
+use Rattle.lethe_drive.specs.Steps.{Steps, cancels_for}
+use Rattle.lethe_drive.specs.declared.jobs.Jobs.{Jobs}
+use Rattle.lethe_drive.specs.declared.event.Event.{Event}
+use Rattle.lethe_drive.specs.declared.event.Reply.{Reply}
+
+-- The events are answered one after another, and then the jobs that haven't ended are given up, whose replies stand behind those of the events.
+pub record IsDriven (PortsFail : Type 0) (h : History) (start : Moment) (events : List Event) (replies : List Reply) (g : History) (finish : Moment) : Type 0 where
+  pub begins : IsMoment start
+  pub history : History
+  pub middle : Moment
+  pub answered : List Reply
+  pub steps : Steps PortsFail h start events answered history middle
+  pub given_up : List Reply
+  pub cancels : Steps PortsFail history middle (cancels_for middle.there) given_up g finish
+  pub replies_are : replies ≡ answered ++ given_up
+  pub ended : finish.there ≡ None
+
+-- The job that hasn't ended is in flight, and unless one of its calls was refused the pages that were written are the first of its outputs. The pages of its inputs
+-- agree with their headers.
+pub record IsTheirs {D Page Port : Type 0} {kind : Ghosts D Page Port} (Tells : Type 0) (view : View) (jobs : Jobs D Page Port kind) : Type 0 where
+  pub flies : IfSome jobs.there (λ numbered. IsInFlight view numbered.job)
+  pub works : IfSome jobs.there (λ numbered. numbered.job.refused ≡ false → IsAtWork Tells view numbered.job)
+  pub reads : IfSome jobs.there (λ numbered. Tells → AreSound (inputs_in (plain_task numbered.job.task.value)))
+
+-- how many pages of a job are left to be written; more than any job has where they aren't made yet
+abbrev pub pages_left_of : Option ℕ → ℕ → ℕ
+pages_left_of None written = 2 ^ 64
+pages_left_of (Some pages) written = pages - written
+
+abbrev pub pages_left : {D Page Port : Type 0} {kind : Ghosts D Page Port} → Job D Page Port kind → ℕ
+pages_left job = pages_left_of (option_map (λ drafts. length (pages_in drafts.items)) job.drafts) job.written
+
+-- what is stored stays while pages of a job are written
+pub record IsWritingOn (PortsFail : Type 0) (old new : View) (before now : ℕ) (s t : Stored) (result : Result (Unit {0}) Refused) : Type 0 where
+  pub done : OnOk result (t ≡ s)
+  pub count : OnOk result (new.state.count ≡ old.state.count)
+  pub why : IfErr result (λ why. ((b : ℕ) × (n : ℕ) × (old.faults ≤ b) × (n ≤ new.faults) × HasReason (max_place ≤ new.state.next) old.state b n why)
+      ⊎ IsUnreadable (Unit {0}) PortsFail before now why)

@@ -1,0 +1,5 @@
+pub mod Moments
+pub mod Replies
+pub mod Answers
+pub mod Steps
+pub mod Driving

@@ -1,0 +1,98 @@
+-- What is told of a store between two calls of a run, as plain data.
+use Rattle.std.specs.Prelude.{◌≡◌, ℕ, Bool, List, Option, None, option_map}
+use Rattle.lethe_disk.specs.Directory.{Directory}
+use Rattle.lethe_disk.specs.declared.disk.Disk.{Ghosts}
+use Rattle.lethe_stored.specs.Encodes.{Encodes}
+use Rattle.lethe_stored.specs.Files.{Parts}
+use Rattle.lethe_stored.specs.Stored.{Stored}
+use Rattle.lethe_advance.specs.Settled.{HasOnly}
+use Rattle.lethe_state.specs.Remembered.{Remembers, IsCurrent}
+use Rattle.lethe_state.specs.declared.state.State.{State}
+use Rattle.lethe_job.specs.Tasks.{PlainTask, plain_task}
+use Rattle.lethe_job.specs.declared.job.Job.{Job}
+use Rattle.lethe_core.specs.Running.{Holds}
+use Rattle.lethe_core.specs.View.{Flying, View, loose_in}
+use Rattle.lethe_drive.specs.declared.jobs.Jobs.{Jobs}
+
+-- a job that was begun and hasn't ended: its number, whether one of its calls was refused, its task, and its port's count of faults
+pub record Going : Type 0 where
+  pub number : ℕ
+  pub refused : Bool
+  pub task : PlainTask
+  pub port_faults : ℕ
+
+-- The store with what is stored, its disk's directory, the device calls that the disk has taken and its count of faults; the port's counts; and the jobs of the run.
+pub record Moment : Type 0 where
+  pub stored : Stored
+  pub state : State
+  pub levels : List (List Parts)
+  pub flight : Option Flying
+  pub directory : Directory
+  pub calls : ℕ
+  pub faults : ℕ
+  pub fetches : ℕ
+  pub port_faults : ℕ
+  pub begun : ℕ
+  pub there : Option Going
+
+-- the store remembers what is stored, and unless something has failed the disk is in its hands
+pub record IsKnown (view : View) (s : Stored) : Type 0 where
+  pub remembers : Remembers s view.state view.levels
+  pub held : view.state.stopped ≡ None → Holds view s
+
+-- It remembers what is stored, and unless something has failed the directory has that and the pages of the job in flight, and nothing else.
+pub record IsMoment (m : Moment) : Type 0 where
+  pub remembers : Remembers m.stored m.state m.levels
+  pub current : m.state.stopped ≡ None → IsCurrent m.stored m.state
+  pub encodes : m.state.stopped ≡ None → Encodes m.directory m.stored
+  pub only : m.state.stopped ≡ None → HasOnly m.stored (loose_in m.flight) m.directory
+
+abbrev pub going_of : {D Page Port : Type 0} {kind : Ghosts D Page Port} → ℕ → Job D Page Port kind → Going
+going_of {kind = kind} number job = record {
+  number = number;
+  refused = job.refused;
+  task = plain_task job.task.value;
+  port_faults = kind.port_faults job.port;
+}
+
+abbrev pub there_of : {D Page Port : Type 0} {kind : Ghosts D Page Port} → Jobs D Page Port kind → Option Going
+there_of jobs = option_map (λ numbered. going_of numbered.number numbered.job) jobs.there
+
+-- read off a store, a port with these counts, how many jobs were begun, and the one that hasn't ended
+abbrev pub moment_of : View → Stored → ℕ → ℕ → ℕ → Option Going → Moment
+moment_of view stored fetches port_faults begun there = record {
+  stored = stored;
+  state = view.state;
+  levels = view.levels;
+  flight = view.flight;
+  directory = view.disk.directory;
+  calls = view.disk.moment;
+  faults = view.faults;
+  fetches = fetches;
+  port_faults = port_faults;
+  begun = begun;
+  there = there;
+}
+
+-- the same store and jobs, whatever the port's counts
+pub record IsAllButPort (old new : Moment) : Type 0 where
+  pub stored : new.stored ≡ old.stored
+  pub state : new.state ≡ old.state
+  pub levels : new.levels ≡ old.levels
+  pub flight : new.flight ≡ old.flight
+  pub directory : new.directory ≡ old.directory
+  pub calls : new.calls ≡ old.calls
+  pub faults : new.faults ≡ old.faults
+  pub begun : new.begun ≡ old.begun
+  pub there : new.there ≡ old.there
+
+-- the jobs are as they were
+pub record AreJobsSame (old new : Moment) : Type 0 where
+  pub flight : new.flight ≡ old.flight
+  pub begun : new.begun ≡ old.begun
+  pub there : new.there ≡ old.there
+
+-- the port's counts are as they were
+pub record IsPortSame (old new : Moment) : Type 0 where
+  pub fetches : new.fetches ≡ old.fetches
+  pub port_faults : new.port_faults ≡ old.port_faults

@@ -1,0 +1,71 @@
+-- The steps of a run of events.
+use Rattle.std.specs.Prelude.{◌≡◌, ◌⊎◌, ℕ, Bool, false, List, [], ◌∷◌, Option, Some, None, Result}
+use Rattle.lethe_base.specs.History.{History}
+use Rattle.lethe_base.specs.Keys.{Bytes}
+use Rattle.lethe_base.specs.Read as reads
+use Rattle.lethe_base.specs.declared.call.Call.TheVariants as call
+use Rattle.lethe_base.specs.declared.refused.Refused.{Refused}
+use Rattle.lethe_header.specs.declared.header.Header.{Header}
+use Rattle.lethe_segment.specs.declared.record.Record.{Record}
+use Rattle.lethe_stored.specs.Stored.{Stored}
+use Rattle.lethe_state.specs.Room.{IsFlushed, IsFrozen, IsShortToFlush, IsShortToFreeze}
+use Rattle.lethe_core.specs.Changes.{put_over}
+use Rattle.lethe_engine.specs.Deletes.{IsDeleteOver}
+use Rattle.lethe_engine.specs.Reads.{listed}
+use Rattle.lethe_engine.specs.Work.{HasNoFlush, HasNoFreeze}
+use Rattle.lethe_drive.specs.Answers.{IsBegin, IsCancel, IsChange, IsInstall, IsRead, IsWork, IsWriteOut}
+use Rattle.lethe_drive.specs.Moments.{Going, IsMoment, Moment}
+use Rattle.lethe_drive.specs.Replies.{flagged, got, numbered, paired, placed, united}
+use Rattle.lethe_drive.specs.declared.event.Event.{Event}
+use Rattle.lethe_drive.specs.declared.event.Event.TheVariants.{Put, Delete, Get, Scan, Freeze, Flush, Begin, WriteOut, Install, Cancel}
+use Rattle.lethe_drive.specs.declared.event.Reply.{Reply}
+use Rattle.lethe_drive.specs.declared.event.Reply.TheVariants.{NoSuch}
+
+-- a job of that number was begun and hasn't ended
+abbrev pub IsThere : ℕ → Moment → Going → Type 0
+IsThere number m going = (m.there ≡ Some going) × (going.number ≡ number)
+
+-- and none of its calls was refused
+abbrev pub IsAsked : ℕ → Moment → Going → Type 0
+IsAsked number m going = IsThere number m going × (going.refused ≡ false)
+
+-- there is no such job: nothing is done
+pub record IsNoSuch (There : Going → Type 0) (h : History) (old : Moment) (reply : Reply) (g : History) (new : Moment) : Type 0 where
+  pub none : (going : Going) → There going → ⊥
+  pub is : reply ≡ NoSuch
+  pub history : g ≡ h
+  pub same : new ≡ old
+
+-- one event, answered by this reply, brings the store from one history and moment to another
+abbrev pub IsStep : Type 0 → History → Moment → Event → Reply → History → Moment → Type 0
+IsStep PortsFail h old (Put key dkey value) reply g new =
+    (result : Result ℕ Refused) × (reply ≡ placed result) × IsChange PortsFail (call.Put key dkey value) (λ s headers next. next ≡ put_over s key dkey value) h old result g new
+IsStep PortsFail h old (Delete key) reply g new =
+    (result : Result ℕ Refused) × (reply ≡ placed result) × IsChange PortsFail (call.Delete key) (λ s headers next. IsDeleteOver s headers key next) h old result g new
+IsStep PortsFail h old (Get key) reply g new = (result : Result (Option (ℕ × Bytes)) Refused) × (reply ≡ got result) × IsRead PortsFail (reads.Get key) reads.Found h old result g new
+IsStep PortsFail h old (Scan lo hi) reply g new = (result : Result (List (Bytes × ℕ × Bytes)) Refused) × (reply ≡ paired result) × IsRead PortsFail (reads.Scan lo hi) listed h old result g new
+IsStep PortsFail h old Freeze reply g new = (result : Result Bool Refused) × (reply ≡ flagged result) × IsWork (λ m. HasNoFreeze m.state) IsFrozen (IsShortToFreeze old.state) h old result g new
+IsStep PortsFail h old Flush reply g new = (result : Result Bool Refused) × (reply ≡ flagged result) × IsWork (λ m. HasNoFlush m.state) IsFlushed (IsShortToFlush old.state) h old result g new
+IsStep PortsFail h old Begin reply g new = (result : Result ℕ Refused) × (reply ≡ numbered result) × IsBegin h old result g new
+IsStep PortsFail h old (WriteOut job) reply g new =
+    IsNoSuch (IsAsked job old) h old reply g new
+    ⊎ ((going : Going) × IsAsked job old going × (result : Result Bool Refused) × (reply ≡ flagged result) × IsWriteOut PortsFail going h old result g new)
+IsStep PortsFail h old (Install job) reply g new =
+    IsNoSuch (IsAsked job old) h old reply g new
+    ⊎ ((going : Going) × IsAsked job old going × (result : Result (Unit {0}) Refused) × (reply ≡ united result) × IsInstall PortsFail going h old result g new)
+IsStep PortsFail h old (Cancel job) reply g new =
+    IsNoSuch (IsThere job old) h old reply g new
+    ⊎ ((going : Going) × IsThere job old going × (result : Result (Unit {0}) Refused) × (reply ≡ united result) × IsCancel h old result g new)
+
+-- the events, one after another, each with its reply
+abbrev pub Steps : Type 0 → History → Moment → List Event → List Reply → History → Moment → Type 0
+Steps PortsFail h old [] [] g new = (g ≡ h) × (new ≡ old)
+Steps PortsFail h old [] (reply ∷ replies) g new = ⊥
+Steps PortsFail h old (event ∷ events) [] g new = ⊥
+Steps PortsFail h old (event ∷ events) (reply ∷ replies) g new =
+    (next : History) × (middle : Moment) × IsMoment middle × IsStep PortsFail h old event reply next middle × Steps PortsFail next middle events replies g new
+
+-- the cancels of the jobs that haven't ended, in the order of their numbers
+abbrev pub cancels_for : Option Going → List Event
+cancels_for None = []
+cancels_for (Some going) = Cancel going.number ∷ []

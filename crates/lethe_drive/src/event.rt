@@ -1,0 +1,43 @@
+//! What a run of events asks of a store, and what it answers.
+
+use lethe_base::{Key, List, Refused, Value};
+
+/// One event.
+#[derive(Debug, Drop)]
+pub enum Event {
+    Put { key: Key, dkey: u64, value: Value },
+    Delete { key: Key },
+    Get { key: Key },
+    /// From `lo` up to `hi` excluded.
+    Scan { lo: Key, hi: Key },
+    Freeze,
+    Flush,
+    /// Begins a job. Jobs are numbered from 0, in the order in which they were begun.
+    Begin,
+    /// Takes the job's next page and writes it.
+    WriteOut { job: usize },
+    /// Takes and writes the pages that are left, and installs the job.
+    Install { job: usize },
+    /// Gives the job up.
+    Cancel { job: usize },
+}
+
+/// The reply to an event.
+#[derive(Debug, Drop)]
+pub enum Reply {
+    /// The place of a change in the store's history.
+    Place(u64),
+    /// The delete key and the value of a key.
+    Got(Option<(u64, Value)>),
+    /// Keys with their delete keys and values, ascending.
+    Pairs(List<(Key, u64, Value)>),
+    /// Whether there was anything to freeze or to flush, or a page to write.
+    Flag(bool),
+    /// The number of a job that was begun.
+    Job(usize),
+    /// A job was installed or given up.
+    Unit,
+    Refused(Refused),
+    /// The event names a job that isn't there: it was never begun, it has ended, or one of its calls was refused and the event doesn't give it up.
+    NoSuch,
+}

@@ -1,0 +1,30 @@
+//! The jobs of a run.
+
+ghost use Rattle.std.specs.Prelude.{◌≡◌, option_map};
+ghost use Rattle.lethe_drive.specs.Moments.{there_of};
+
+use lethe_disk::Disk;
+use lethe_job::Job;
+
+/// A job that was begun and hasn't ended.
+#[derive(Drop)]
+pub struct Numbered<D: Disk> {
+    pub number: usize,
+    pub job: Job<D>,
+}
+
+/// The jobs of a run: how many were begun, and the one that hasn't ended. A store has one in flight at a time.
+#[derive(Drop)]
+pub struct Jobs<D: Disk> {
+    pub begun: usize,
+    pub there: Option<Numbered<D>>,
+}
+
+impl<D: Disk> Jobs<D> {
+    /// The number of the job that hasn't ended.
+    pub fn number(&self) -> Option<usize>
+        ensures { result ≡ option_map (λ going. going.number) (there_of self.now) }
+    {
+        self.there.as_ref().map(|numbered| numbered.number)
+    }
+}
