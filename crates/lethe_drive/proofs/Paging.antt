@@ -63,7 +63,7 @@ module _ {D Page Port : Type 0} {kind : Ghosts D Page Port} (Tells PortsFail : T
     answers = (
       record { port_faults = kind.port_faults mid.port; there = spoilt Tells PortsFail job mid task number refused },
       unread_reason why (unread_cause Tells PortsFail (max_place ≤ old.state.next) (inputs_in (plain_task job.task.value)) (kind.port_faults job.port) (kind.port_faults mid.port)
-        old.state old.faults old.faults told sound why is),
+          old.state old.faults old.faults told sound why is),
     );
     begun = refl;
     port = record { fetches = refl; port_faults = refl };

@@ -14,7 +14,7 @@ use Rattle.lethe_engine.specs.StandsFor.{Opened, StandsFor}
 abbrev pub opened_as : History → Seen → Seen → ℕ → ℕ → Opened
 opened_as h start finish next faults = record { history = h; began = start.moment; moment = finish.moment; next = next; faults = faults }
 
--- It takes changes, has no job in flight, and stands for the history that the disk was left for, or for that with the change carried out.
+-- It stands for the history that the disk was left for, or for that with the change carried out.
 pub record IsResumed (config : Fields) (h : History) (change : Option Change) (start : Seen) (view : View) : Type 0 where
   pub history : History
   pub either : IsHistoryOr h change history
