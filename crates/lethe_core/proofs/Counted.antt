@@ -1,5 +1,5 @@
 -- How many entries files have, and how many objects their drafts make.
-use Rattle.std.proofs.Common.{◌≡◌, ℕ, ◌+◌, ◌*◌, ◌<◌, ◌≤◌, List, [], ◌∷◌, ◌++◌, map, length, All, refl, sym, ap, ◌∙◌, subst, append_assoc, length-append, arith}
+use Rattle.std.proofs.Common.{◌≡◌, ℕ, ◌+◌, ◌<◌, ◌≤◌, List, [], ◌∷◌, ◌++◌, map, length, All, refl, sym, ap, ◌∙◌, length-append, arith}
 use Rattle.std.specs.Prelude.{flat_map, sum_by}
 use Rattle.std.specs.List.{AllZip}
 use Rattle.std.proofs.lemmas.List.Concat.{flat_map-append}
@@ -11,10 +11,10 @@ use Rattle.lethe_base.specs.declared.config.Fields.{Fields}
 use Rattle.lethe_base.specs.declared.entry.Entry.{Entry}
 use Rattle.lethe_base.specs.declared.shape.FileFacts.{FileFacts}
 use Rattle.lethe_build.specs.Built.{most_numbers, pages_of}
-use Rattle.lethe_build.specs.Drafts.{AreDraftsOf, IsDraft, IsDraftOf, numbers_for}
+use Rattle.lethe_build.specs.Drafts.{AreDraftsOf, IsDraftOf, numbers_for}
 use Rattle.lethe_build.specs.declared.draft.Draft.{Draft}
 use Rattle.lethe_build.proofs.Whole.{tile_long}
-use Rattle.lethe_file.specs.Agreement.{Agrees, FileAgrees}
+use Rattle.lethe_file.specs.Agreement.{Agrees}
 use Rattle.lethe_file.specs.Agreement as agreement
 use Rattle.lethe_follows.specs.Merged.{entries_in}
 use Rattle.lethe_follows.specs.Woven.{AreCutOf}

@@ -1,9 +1,8 @@
 -- Level 0 as a store has it.
-use Rattle.std.proofs.Common.{◌≡◌, ◌<◌, ◌≤◌, ◌*◌, ℕ, List, [], length, map, get_or, sym, ap, ◌∙◌, arith}
+use Rattle.std.proofs.Common.{◌≡◌, ◌<◌, ◌≤◌, ◌*◌, ℕ, List, [], length, map, get_or, ap, ◌∙◌, arith}
 use Rattle.std.specs.Prelude.{◌↔◌}
 use Rattle.std.proofs.lemmas.List.{get_or-map, length-map}
 use Rattle.std.proofs.lemmas.List.Sorted.{length_permutation}
-use Rattle.lethe_base.specs.declared.config.Fields.{Fields}
 use Rattle.lethe_disk.specs.declared.disk.Disk.{Ghosts}
 use Rattle.lethe_manifest.specs.declared.manifest.Manifest.{Manifest}
 use Rattle.lethe_stored.specs.Files.{Parts}
@@ -11,7 +10,6 @@ use Rattle.lethe_stored.specs.Levels.{HasFiles}
 use Rattle.lethe_stored.specs.Stored.{Stored}
 use Rattle.lethe_advance.specs.Shown.{parts_by_level, parts_in}
 use Rattle.lethe_follows.specs.Merged.{at}
-use Rattle.lethe_file.specs.declared.view.FileView.{FileView}
 use Rattle.lethe_version.specs.Versions.{levels_of}
 use Rattle.lethe_version.specs.declared.version.Version.{Version}
 use Rattle.lethe_core.specs.Merges.{IsCrowded}

@@ -1,5 +1,5 @@
 -- Room for a record.
-use Rattle.std.proofs.Common.{◌≡◌, ◌<◌, ◌⊎◌, inl, inr, List, [], Option, Some, None, refl, sym, ap, ◌∙◌, subst, arith}
+use Rattle.std.proofs.Common.{◌≡◌, ◌<◌, inl, inr, List, [], Option, Some, None, refl, ap, ◌∙◌, arith}
 use Rattle.std.specs.Prelude.{Bool, IsSome, IsTrue, false, option_map}
 use Rattle.lethe_base.specs.declared.config.Fields.{Fields}
 use Rattle.lethe_manifest.specs.declared.manifest.Manifest.{Manifest}

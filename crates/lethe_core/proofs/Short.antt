@@ -1,19 +1,17 @@
 -- A merge is refused for want of numbers only where they nearly run out.
-use Rattle.std.proofs.Common.{◌≡◌, ℕ, ◌+◌, ◌≤◌, ◌++◌, length, None, ap, sym, ◌∙◌, arith}
-use Rattle.std.proofs.lemmas.List.Sums.{sum_by-append}
+use Rattle.std.proofs.Common.{◌≡◌, ◌+◌, ◌≤◌, ◌++◌, length, None, ap, arith}
 use Rattle.lethe_base.specs.History.{History}
 use Rattle.lethe_base.specs.Limits.{max_place}
 use Rattle.lethe_base.specs.declared.config.Fields.{Fields}
 use Rattle.lethe_build.specs.Built.{most_numbers}
-use Rattle.lethe_follows.specs.Merged.{StoredMerge, IsMergeIn, entries_in, inputs_of}
-use Rattle.lethe_job.specs.Tasks.{PlainTask, IsBegunIn, inputs_in}
+use Rattle.lethe_follows.specs.Merged.{entries_in, inputs_of}
+use Rattle.lethe_job.specs.Tasks.{inputs_in}
 use Rattle.lethe_merge.specs.Merge.{merged}
 use Rattle.lethe_merge.proofs.Gathers.{length-merged}
-use Rattle.lethe_stored.specs.Stored.{Stored, IsCoherent}
 use Rattle.lethe_core.specs.Merges.{IsShortToMerge}
 use Rattle.lethe_core.specs.StandsNow.{StandsNow}
 use Rattle.lethe_core.specs.View.{View}
-use Rattle.lethe_core.proofs.Counted.{all_counted, entries_by, numbers_fit}
+use Rattle.lethe_core.proofs.Counted.{numbers_fit}
 use Rattle.lethe_core.proofs.Descending.{inputs_few}
 use Rattle.lethe_core.proofs.Places.{entries_few}
 use Rattle.lethe_core.proofs.Standing.{stands_for, stands_holds}

@@ -1,5 +1,5 @@
 -- A store on which changes can be made.
-use Rattle.std.specs.Prelude.{◌≡◌, ◌≤◌, ◌<◌, ◌+◌, List, [], length, All, None, IfSome}
+use Rattle.std.specs.Prelude.{◌≡◌, ◌≤◌, ◌<◌, ◌+◌, length, All, None, IfSome}
 use Rattle.lethe_base.specs.Limits.{max_place, max_time}
 use Rattle.lethe_commit.specs.Append.{EndsAt}
 use Rattle.lethe_follows.specs.Merged.{StoredMerge}

@@ -1,5 +1,5 @@
 -- Which history a store stands for now.
-use Rattle.std.specs.Prelude.{◌≡◌, ◌≤◌, ℕ, List, ◌∷◌, [], ◌++◌, length, All, Option, Some, None, IfSome, if◌then◌else◌}
+use Rattle.std.specs.Prelude.{◌≡◌, ◌≤◌, ℕ, ◌∷◌, [], ◌++◌, length, All, Option, Some, None, IfSome, if◌then◌else◌}
 use Rattle.lethe_base.specs.History.{History, Change, IsLegal, AreDone}
 use Rattle.lethe_base.specs.declared.call.Did.TheVariants.{Failed}
 use Rattle.lethe_base.specs.declared.config.Fields.{Fields}

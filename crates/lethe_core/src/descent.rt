@@ -1,5 +1,5 @@
 //! How far entries have still to go down.
-ghost use Rattle.std.specs.Prelude.{◌≡◌, ◌*◌, ◌-◌, ◌^◌, min, map, sum_by};
+ghost use Rattle.std.specs.Prelude.{◌≡◌, ◌*◌, ◌-◌, ◌^◌, min, map};
 ghost use Rattle.lethe_header.specs.Headers.{entries_in};
 ghost use Rattle.lethe_stored.specs.Files.{lines_in};
 ghost use Rattle.lethe_core.specs.Descent.{steps_down};

@@ -1,6 +1,5 @@
 //! What a store has.
-ghost use Rattle.std.specs.Prelude.{◌≡◌, ◌<◌, ◌-◌, None, Some, Ok, length, slice_index, IfOk, IfSome};
-ghost use Rattle.lethe_base.specs.Limits.{max_place};
+ghost use Rattle.std.specs.Prelude.{◌≡◌, ◌<◌, ◌-◌, None, Ok, length, slice_index, IfOk, IfSome};
 ghost use Rattle.lethe_stored.specs.Stored.{Stored};
 ghost use Rattle.lethe_state.specs.Writable.{IsWritable};
 ghost use Rattle.lethe_job.specs.Tasks.{IsBegunIn, plain_task};

@@ -1,5 +1,5 @@
 //! Merges that a store carries out itself, and the step of a merge.
-ghost use Rattle.std.specs.Prelude.{◌≡◌, ◌≤◌, ◌+◌, ◌⊎◌, ◌↔◌, true, false, IsTrue, List, Ok, None, All, IfOk, IfErr, OnOk};
+ghost use Rattle.std.specs.Prelude.{◌≡◌, ◌≤◌, ◌+◌, ◌⊎◌, ◌↔◌, true, false, IsTrue, List, Ok, None, All, IfOk, IfErr, OnErr, OnOk};
 ghost use Rattle.lethe_base.specs.History.{History};
 ghost use Rattle.lethe_base.specs.declared.config.Fields.{Fields};
 ghost use Rattle.lethe_base.specs.declared.refused.Refused.TheVariants as refused;
@@ -155,6 +155,7 @@ impl<D: Disk> Core<D> {
         ensures steady { OnOk result (IsSteady self.old.state self.new.state) }
         ensures free { OnOk result (self.new.flight ≡ None) }
         ensures kept { IfErr result (λ why. self.new.flight ≡ self.old.flight) }
+        ensures drawn { OnErr result (self.new.state.next ≡ self.old.state.next) }
         ensures why { IfErr result (HasReason ⊥ self.old.state before (D.faults self.new.disk)) }
     {
         self.carry_out(alloc, before, headers, &step)?;

@@ -1,5 +1,5 @@
 //! Freezing, flushing and making room, as steps of a call.
-ghost use Rattle.std.specs.Prelude.{◌≡◌, ◌≤◌, ◌<◌, ◌+◌, ◌⊎◌, ℕ, List, [], None, length, Contains, All, IfErr, IsSome, OnOk};
+ghost use Rattle.std.specs.Prelude.{◌≡◌, ◌≤◌, ◌<◌, ◌+◌, ◌⊎◌, ℕ, List, None, length, Contains, All, IfErr, IsSome, OnOk};
 ghost use Rattle.lethe_base.specs.declared.name.Name.{Name};
 ghost use Rattle.lethe_base.specs.History.{History};
 ghost use Rattle.lethe_disk.specs.Directory.{object};

@@ -1,5 +1,5 @@
 //! The steps of a job: begun, written page by page, installed or given up.
-ghost use Rattle.std.specs.Prelude.{◌≡◌, ◌≤◌, ◌+◌, ◌-◌, ℕ, Ok, Some, None, length, sum_by, IfOk, IfErr, IfSome, IsErrOf, IsSome, OnOk};
+ghost use Rattle.std.specs.Prelude.{◌≡◌, ◌≤◌, ◌+◌, ◌-◌, Ok, Some, None, length, sum_by, IfOk, IfErr, IfSome, IsErrOf, IsSome, OnErr, OnOk};
 ghost use Rattle.std.specs.FinMap.{insert};
 ghost use Rattle.lethe_base.specs.History.{History};
 ghost use Rattle.lethe_base.specs.Limits.{max_place};
@@ -76,6 +76,7 @@ impl<D: Disk> Core<D> {
         ensures held { D.tells → (s : Stored) → Holds (view_of self.old) s → OnOk result (Holds (view_of self.new) s) }
         ensures written { IfSome (view_of self.old).flight (λ flying. OnOk result ((view_of self.new).flight ≡ Some (with_page flying (page_name self.old.state.next, bytes.now)))) }
         ensures kept { IfErr result (λ why. (view_of self.new).flight ≡ (view_of self.old).flight) }
+        ensures drawn { OnErr result (self.new.state.next ≡ self.old.state.next) }
         ensures steady { OnOk result (IsSteady self.old.state self.new.state) }
         ensures why { IfErr result (HasReason (max_place ≤ self.old.state.next) self.old.state before (D.faults self.new.disk)) }
 
@@ -125,6 +126,7 @@ impl<D: Disk> Core<D> {
         ensures steady { OnOk result (IsSteady self.old.state self.new.state) }
         ensures free { OnOk result (self.new.flight ≡ None) }
         ensures kept { IfErr result (λ why. self.new.flight ≡ self.old.flight) }
+        ensures drawn { OnErr result (self.new.state.next ≡ self.old.state.next) }
         ensures why { IfErr result (HasReason (IfSome (view_of self.old).flight (λ flying. max_place ≤ self.old.state.next + (sum_by numbers_for drafts.items - length flying.written)))
             self.old.state before (D.faults self.new.disk)) }
     {

@@ -1,20 +1,16 @@
 -- What is known of a store between two calls of a run.
-use Rattle.std.proofs.Common.{◌≡◌, ℕ, List, [], ◌∷◌, ◌++◌, Option, Some, None, Result, Ok, Err, refl, sym, ap, ◌∙◌, subst}
-use Rattle.std.specs.Prelude.{IfSome, IsErrAnd, IsSome}
+use Rattle.std.proofs.Common.{◌≡◌, ℕ, [], ◌∷◌, ◌++◌, Option, Some, None, Result, Ok, Err, refl, sym, ap, ◌∙◌, subst}
+use Rattle.std.specs.Prelude.{IsErrAnd}
 use Rattle.lethe_base.specs.History.{AreDone, Change, History}
 use Rattle.lethe_base.specs.declared.call.Did.TheVariants.{Done, Failed}
 use Rattle.lethe_base.specs.declared.config.Fields.{Fields}
-use Rattle.lethe_disk.specs.declared.disk.Disk.{Ghosts}
 use Rattle.lethe_stored.specs.Stored.{Stored}
-use Rattle.lethe_core.specs.Jobs.{IsAtWork, IsInFlight}
 use Rattle.lethe_core.specs.Running.{Holds}
 use Rattle.lethe_core.specs.StandsNow.{IsOpenOrStopped, IsStopped, StandsNow}
 use Rattle.lethe_core.specs.View.{View}
 use Rattle.lethe_core.proofs.Histories.{head_done, tail_done}
 use Rattle.lethe_core.proofs.Standing.{stands_holds}
 use Rattle.lethe_engine.specs.StandsFor.{Opened, StandsFor}
-use Rattle.lethe_job.specs.declared.job.Job.{Job}
-use Rattle.lethe_drive.specs.Driving.{IsTheirs}
 use Rattle.lethe_drive.specs.Moments.{Going, IsKnown, IsMoment, moment_of}
 use Rattle.lethe_drive.specs.declared.jobs.Jobs.{Jobs}
 

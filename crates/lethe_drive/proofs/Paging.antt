@@ -1,5 +1,5 @@
 -- What asking a job for its next page and writing it comes to.
-use Rattle.std.proofs.Common.{◌≡◌, ◌↔◌, ◌≤◌, ◌<◌, ◌⊎◌, inl, inr, ℕ, ◌+◌, Bool, true, false, List, [], length, Option, Some, None, Result, Ok, Err, Vec, refl, sym, ap, ◌∙◌, subst, arith}
+use Rattle.std.proofs.Common.{◌≡◌, ◌≤◌, ◌<◌, ◌⊎◌, inl, inr, ℕ, Bool, true, false, [], length, Option, Some, Result, Ok, Err, Vec, refl, sym, ◌∙◌, subst, arith}
 use Rattle.std.specs.Prelude.{IfSome, IsSome, slice_index_or}
 use Rattle.std.specs.declared.alloc.Global.{Global}
 use Rattle.lethe_base.specs.History.{History}
@@ -20,11 +20,11 @@ use Rattle.lethe_core.specs.Jobs.{IsAtWork, with_page}
 use Rattle.lethe_core.specs.Reasons.{HasReason, IsUnreadable}
 use Rattle.lethe_core.specs.Steps.{stepped_to}
 use Rattle.lethe_core.specs.View.{Flying, View}
-use Rattle.lethe_drive.specs.Answers.{HasNoPage, HasWritten, IsJobRefusal, IsWriteOut}
+use Rattle.lethe_drive.specs.Answers.{IsJobRefusal, IsWriteOut}
 use Rattle.lethe_engine.specs.StandsFor.{Opened, StandsFor}
 use Rattle.lethe_drive.specs.Moments.{IsKnown, Moment, going_of, moment_of}
 use Rattle.lethe_drive.proofs.Reasons.{unread_cause}
-use Rattle.lethe_drive.proofs.Writing.{nothing_in, outputs_for, some_of, spoilt}
+use Rattle.lethe_drive.proofs.Writing.{outputs_for, some_of, spoilt}
 
 module _ {D Page Port : Type 0} {kind : Ghosts D Page Port} (Tells PortsFail : Type 0) (h : History) (old : View) (s : Stored) (number fetches faults begun : ℕ) (job mid : Job D Page Port kind)
     (task : mid.task.value ≡ job.task.value) where

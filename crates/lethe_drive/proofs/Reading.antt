@@ -1,5 +1,5 @@
 -- Reads: a get and a scan.
-use Rattle.std.proofs.Common.{◌≡◌, ◌⊎◌, inl, inr, ℕ, Option, Result, Ok, Err, refl, sym, subst}
+use Rattle.std.proofs.Common.{◌≡◌, ◌⊎◌, inl, inr, ℕ, Option, Result, Ok, Err, refl, subst}
 use Rattle.std.specs.Prelude.{IfErr, IfOk, IsErrOf}
 use Rattle.lethe_base.specs.Counts.{Rose}
 use Rattle.lethe_base.specs.History.{History, after}

@@ -1,6 +1,5 @@
 -- The reasons of refusals, as a run tells them.
-use Rattle.std.proofs.Common.{◌≡◌, ◌⊎◌, inl, inr, ℕ, ◌+◌, List, Option, Some, None, Result, Ok, Err, refl, sym, ap, ◌∙◌, subst}
-use Rattle.std.specs.Prelude.{IsErrOf}
+use Rattle.std.proofs.Common.{◌≡◌, ◌⊎◌, inl, inr, ℕ, ◌+◌, List, None, Result, Err, refl, sym, ap, ◌∙◌, subst}
 use Rattle.lethe_base.specs.Counts.{Rose}
 use Rattle.lethe_base.specs.History.{History}
 use Rattle.lethe_base.specs.Limits.{max_place}

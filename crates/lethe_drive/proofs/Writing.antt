@@ -1,31 +1,21 @@
 -- The pages of a job: the next one is written, or none is left.
-use Rattle.std.proofs.Common.{◌≡◌, ◌↔◌, ◌≤◌, ◌<◌, ◌⊎◌, inl, inr, ℕ, suc, ◌+◌, ◌-◌, ◌^◌, Bool, true, false, List, [], ◌∷◌, length, Option, Some, None, Result, Ok, Err, Vec, refl, sym, ap, ◌∙◌, subst, arith}
-use Rattle.std.specs.Prelude.{IfSome, IsSome, is_some, option_map, slice_index_or, sum_by}
+use Rattle.std.proofs.Common.{◌≡◌, ◌↔◌, ◌<◌, ℕ, ◌+◌, true, false, List, [], ◌∷◌, length, Option, Some, None, Vec, refl, sym, ap, ◌∙◌, subst, arith}
+use Rattle.std.specs.Prelude.{IfSome, IsSome, is_some, option_map}
 use Rattle.std.specs.declared.alloc.Global.{Global}
-use Rattle.lethe_base.specs.History.{History}
-use Rattle.lethe_base.specs.Limits.{max_place}
-use Rattle.lethe_base.specs.declared.call.Call.TheVariants.{Work}
 use Rattle.lethe_base.specs.declared.name.Name.{Name}
-use Rattle.lethe_base.specs.declared.refused.Refused.{Refused}
-use Rattle.lethe_build.specs.Drafts.{numbers_for}
 use Rattle.lethe_build.specs.declared.draft.Draft.{Draft}
 use Rattle.lethe_disk.specs.declared.disk.Disk.{Ghosts}
-use Rattle.lethe_file.specs.Agreement.{page_name}
 use Rattle.lethe_flush.specs.Made.{pages_in, written_pages}
 use Rattle.lethe_flush.proofs.Adding.{pages_few}
-use Rattle.lethe_stored.specs.Stored.{Stored}
 use Rattle.lethe_advance.specs.Settled.{names_in}
-use Rattle.lethe_job.specs.Jobs.{AreOutputs, IsJob, IsUnread}
+use Rattle.lethe_job.specs.Jobs.{AreOutputs, IsJob}
 use Rattle.lethe_job.specs.Tasks.{AreSound, PlainTask, inputs_in, plain_task}
 use Rattle.lethe_job.specs.declared.job.Job.{Job}
-use Rattle.lethe_core.specs.Changes.{refused_to}
-use Rattle.lethe_core.specs.Jobs.{IsAtWork, with_page}
-use Rattle.lethe_core.specs.Reasons.{HasReason, IsUnreadable}
-use Rattle.lethe_core.specs.View.{Flying, View}
-use Rattle.lethe_drive.specs.Answers.{AreOutputsFor, IsJobRefusal, IsSpoilt, IsWriteOut}
+use Rattle.lethe_core.specs.Jobs.{IsAtWork}
+use Rattle.lethe_core.specs.View.{View}
+use Rattle.lethe_drive.specs.Answers.{AreOutputsFor}
 use Rattle.lethe_drive.specs.Driving.{pages_left, pages_left_of}
-use Rattle.lethe_drive.specs.Moments.{IsKnown, going_of, moment_of}
-use Rattle.lethe_drive.proofs.Reasons.{unread_cause}
+use Rattle.lethe_drive.specs.Moments.{going_of}
 
 pub nothing_in : false ≡ true → ⊥
 nothing_in e = cc

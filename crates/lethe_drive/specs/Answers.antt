@@ -1,7 +1,6 @@
 -- What a call of a run answers, by the moments before and behind it and the histories for which the store stands there.
-use Rattle.std.specs.Prelude.{◌≡◌, ◌⊎◌, ◌↔◌, ◌≤◌, ◌<◌, ℕ, ◌+◌, ◌-◌, Bool, true, false, List, [], ◌∷◌, length, sum_by, slice_index_or, Option, Some, None, IsSome, Result, Ok, Err, IfErr}
+use Rattle.std.specs.Prelude.{◌≡◌, ◌⊎◌, ◌↔◌, ◌≤◌, ◌<◌, ℕ, ◌+◌, ◌-◌, Bool, true, false, List, [], length, sum_by, slice_index_or, Some, None, IsSome, Result, Ok, Err, IfErr}
 use Rattle.lethe_base.specs.History.{History, after}
-use Rattle.lethe_base.specs.Keys.{Bytes}
 use Rattle.lethe_base.specs.Limits.{max_place}
 use Rattle.lethe_base.specs.Read.{Read, Answer, answer}
 use Rattle.lethe_base.specs.declared.call.Call.{Call}
@@ -19,7 +18,6 @@ use Rattle.lethe_merge.specs.Merge.{merged}
 use Rattle.lethe_segment.specs.declared.record.Record.{Record}
 use Rattle.lethe_stored.specs.Stored.{Stored, appended}
 use Rattle.lethe_state.specs.Records.{headers_in}
-use Rattle.lethe_state.specs.Room.{IsFlushed, IsFrozen, IsShortToFlush, IsShortToFreeze}
 use Rattle.lethe_job.specs.Tasks.{PlainTask, IsBegunIn, inputs_in}
 use Rattle.lethe_core.specs.Changes.{refused_to}
 use Rattle.lethe_core.specs.Jobs.{with_page}
@@ -27,7 +25,6 @@ use Rattle.lethe_core.specs.Merges.{HasNoMerge, IsInstalled, IsRoomMadeBy, Outco
 use Rattle.lethe_core.specs.Reasons.{HasReason, IsShort, IsUnreadable}
 use Rattle.lethe_core.specs.Steps.{stepped_to}
 use Rattle.lethe_core.specs.View.{Flying}
-use Rattle.lethe_engine.specs.Work.{HasNoFlush, HasNoFreeze}
 use Rattle.lethe_drive.specs.Moments.{AreJobsSame, Going, IsAllButPort, IsPortSame, Moment}
 
 -- a store that was stopped refuses

@@ -5,9 +5,6 @@ use Rattle.lethe_base.specs.Keys.{Bytes}
 use Rattle.lethe_base.specs.Read as reads
 use Rattle.lethe_base.specs.declared.call.Call.TheVariants as call
 use Rattle.lethe_base.specs.declared.refused.Refused.{Refused}
-use Rattle.lethe_header.specs.declared.header.Header.{Header}
-use Rattle.lethe_segment.specs.declared.record.Record.{Record}
-use Rattle.lethe_stored.specs.Stored.{Stored}
 use Rattle.lethe_state.specs.Room.{IsFlushed, IsFrozen, IsShortToFlush, IsShortToFreeze}
 use Rattle.lethe_core.specs.Changes.{put_over}
 use Rattle.lethe_engine.specs.Deletes.{IsDeleteOver}

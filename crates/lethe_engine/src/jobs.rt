@@ -94,6 +94,8 @@ impl<D: Disk> Engine<D> {
         ensures works { OnOk result (IsAtWork D.tells (view_of self.new.core) job.new) }
         ensures written { OnOk result (job.new.written ≡ job.old.written + 1) }
         ensures held { D.tells → (s : Stored) → Holds (view_of self.old.core) s → OnOk result (Holds (view_of self.new.core) s) }
+        ensures next_page { IfSome (view_of self.old.core).flight (λ flying. IfSome job.old.drafts (λ drafts.
+            OnOk result ((view_of self.new.core).flight ≡ Some (with_page flying (page_name self.old.core.state.next, slice_index_or (pages_in drafts.items) job.old.written []))))) }
         ensures page { D.tells → IfSome job.old.drafts (λ drafts. OnOk result ((D.seen self.new.core.disk).directory
             ≡ insert (D.seen self.old.core.disk).directory (page_name self.old.core.state.next) (slice_index_or (pages_in drafts.items) job.old.written []))) }
 
@@ -104,6 +106,7 @@ impl<D: Disk> Engine<D> {
 
         // A refusal has its reason.
         ensures why { IfErr result (HasReasonOfWork (max_place ≤ self.old.core.state.next) (view_of self.old.core) (view_of self.new.core)) }
+        ensures drawn { OnErr result (self.new.core.state.next ≡ self.old.core.state.next) }
         ensures stopped { (at : ℕ) → self.old.core.state.stopped ≡ Some at → IsErrOf result (refused.Stopped at) × (self.new ≡ self.old) }
 
         // A crash at any moment of the call leaves what is kept for the history.
@@ -141,6 +144,7 @@ impl<D: Disk> Engine<D> {
         ensures page { D.tells → IfSome job.now.drafts (λ drafts. OnOk result ((D.seen self.new.core.disk).directory
             ≡ insert (D.seen self.old.core.disk).directory (page_name self.old.core.state.next) (slice_index_or (pages_in drafts.items) job.now.written []))) }
         ensures why { IfErr result (HasReasonOfWork (max_place ≤ self.old.core.state.next) (view_of self.old.core) (view_of self.new.core)) }
+        ensures drawn { OnErr result (self.new.core.state.next ≡ self.old.core.state.next) }
         ensures stopped { (at : ℕ) → self.old.core.state.stopped ≡ Some at → IsErrOf result (refused.Stopped at) × (self.new ≡ self.old) }
         ensures any_moment { D.tells → (config : Fields) (h : History) → StandsNow config h (view_of self.old.core)
             → self.old.core.state.stopped ≡ None → Goes (λ c. IsKept c h) (D.seen self.old.core.disk) (D.seen self.new.core.disk) }
@@ -177,7 +181,9 @@ impl<D: Disk> Engine<D> {
 
         // A refusal has its reason. The job stays in flight, and can only be given up.
         ensures back { IfErr result (λ back. IsInFlight (view_of self.new.core) back.0 × (back.0.refused ≡ true)) }
+        ensures handed { IfErr result (λ back. back.0.task ≡ job.task) }
         ensures why { IfErr result (λ back. HasReasonOfWork (IsShortToInstall (view_of self.old.core) job) (view_of self.old.core) (view_of self.new.core) back.1) }
+        ensures drawn { OnErr result (self.new.core.state.next ≡ self.old.core.state.next) }
         ensures stopped { (at : ℕ) → self.old.core.state.stopped ≡ Some at → IfErr result (λ back. back.1 ≡ refused.Stopped at) × OnOk result ⊥ × (self.new ≡ self.old) }
 
         // A crash at any moment of the call leaves what is kept for the history.
@@ -213,6 +219,7 @@ impl<D: Disk> Engine<D> {
         ensures why { IfErr result (HasReasonOfWork
             (IfSome (view_of self.old.core).flight (λ flying. max_place ≤ self.old.core.state.next + (sum_by numbers_for drafts.items - length flying.written)))
             (view_of self.old.core) (view_of self.new.core)) }
+        ensures drawn { OnErr result (self.new.core.state.next ≡ self.old.core.state.next) }
         ensures stopped { (at : ℕ) → self.old.core.state.stopped ≡ Some at → IsErrOf result (refused.Stopped at) × (self.new ≡ self.old) }
         ensures any_moment { D.tells → (config : Fields) (h : History) → StandsNow config h (view_of self.old.core)
             → self.old.core.state.stopped ≡ None → Goes (λ c. IsKept c h) (D.seen self.old.core.disk) (D.seen self.new.core.disk) }

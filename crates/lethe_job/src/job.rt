@@ -1,5 +1,5 @@
 //! A job that runs.
-ghost use Rattle.std.specs.Prelude.{◌≡◌, ◌+◌, ◌≤◌, ◌<◌, ◌^◌, ◌↔◌, true, false, length, sum_by, All, IfOk, IfErr, IfSome, OnOk, OnErr, None, IsSome};
+ghost use Rattle.std.specs.Prelude.{◌≡◌, ◌+◌, ◌≤◌, ◌<◌, ◌^◌, ◌↔◌, true, false, length, sum_by, All, IfOk, IfErr, IfSome, IsOk, OnOk, OnErr, None, IsSome};
 ghost use Rattle.lethe_base.specs.Limits.{max_time};
 ghost use Rattle.lethe_build.specs.Drafts.{numbers_for};
 ghost use Rattle.lethe_flush.specs.Made as made;
@@ -66,6 +66,7 @@ impl<D: Disk> Job<D> {
         ensures err { OnErr result (self.new.refused ≡ true) }
         ensures kept { IsSome self.old.drafts → self.new.drafts ≡ self.old.drafts }
         ensures still { IsSome self.old.drafts → self.new.port ≡ self.old.port }
+        ensures ready { IsSome self.old.drafts → IsOk result }
         ensures fetches { self.old.drafts ≡ None → OnOk result (D.fetches self.new.port ≡ D.fetches self.old.port + pages_in (inputs_in (plain_task self.old.task.value))) }
         ensures at_most { D.fetches self.new.port ≤ D.fetches self.old.port + pages_in (inputs_in (plain_task self.old.task.value)) }
         ensures later { D.port_faults self.old.port ≤ D.port_faults self.new.port }
@@ -103,6 +104,7 @@ impl<D: Disk> Job<D> {
         ensures err { OnErr result (self.new.refused ≡ true) }
         ensures kept { IsSome self.old.drafts → self.new.drafts ≡ self.old.drafts }
         ensures still { IsSome self.old.drafts → self.new.port ≡ self.old.port }
+        ensures ready { IsSome self.old.drafts → IsOk result }
 
         // The next page is the first that isn't written.
         ensures place { IfOk result (λ next. IfSome next (λ piece. piece.place ≡ self.old.written)) }

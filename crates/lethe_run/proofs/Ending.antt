@@ -29,7 +29,7 @@ use Rattle.lethe_run.specs.declared.status.Status.{Status}
 use Rattle.lethe_run.specs.declared.status.Status.TheVariants.{Answered, BadWords, BadScript, ReadFault, WriteFault, Refused, NoMemory, Damaged, OtherConfig}
 use Rattle.lethe_run.specs.Carried.{IsKeptMeanwhile, IsCarriedOut}
 use Rattle.lethe_run.specs.Ends as ends
-use Rattle.lethe_run.specs.Ends.{Run, Asks, IsCommand, IsNoCommand, OnLeft, OnScript, Carries, IsBegun, course_of, IsNoScript, IsNotOpened, Refuses, IsAsked, IsUnbegun, IsOpenFault, StoppedBehind, StoppedInside}
+use Rattle.lethe_run.specs.Ends.{Run, Asks, IsCommand, IsNoCommand, OnLeft, OnScript, Carries, IsBegun, course_of, IsNoScript, IsNotOpened}
 use Rattle.lethe_run.specs.Printed.{bad_words, bad_line, open_line}
 use Rattle.lethe_run.specs.Scripts.{Serves, All, ScriptEnds}
 use Rattle.lethe_run.specs.Serving.{IsOn, IsCarried}

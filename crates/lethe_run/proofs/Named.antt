@@ -35,7 +35,7 @@ use Rattle.std.proofs.lemmas.List.{length_push}
 use Rattle.std.proofs.lemmas.List.Sums.{sum_by-cons}
 use Rattle.lethe_base.specs.declared.name.Name.{Name}
 use Rattle.lethe_load.proofs.Exact.{kept_undamaged}
-use Rattle.lethe_run.specs.Ends.{OnScript, Carries, Refuses, IsUnbegun}
+use Rattle.lethe_run.specs.Ends.{Carries}
 use Rattle.lethe_run.proofs.Ending.{some_then, some_now}
 
 ok_no_err : {T E : Type 0} (r : Result T E) (x : T) → r ≡ Ok x → IsErr r → ⊥

@@ -3,7 +3,7 @@ ghost use Rattle.std.specs.Prelude.{◌≡◌, map, option_map};
 ghost use Rattle.std.specs.List.{list_any};
 ghost use Rattle.std.specs.Str.{bytes_eq};
 ghost use Rattle.std.specs.String.{string_bytes};
-ghost use Rattle.lethe_run.specs.Asked.{config_of, are_options, fields_of, two_by_two, given_to, number_or, pick_or, pick_of, option_words, configured};
+ghost use Rattle.lethe_run.specs.Asked.{config_of, are_options, fields_of, two_by_two, given_to, number_or, pick_or, option_words, configured};
 
 use lethe_base::{Config, Fields, Pick};
 use lethe_script::read_number;

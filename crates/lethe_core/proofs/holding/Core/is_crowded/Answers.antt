@@ -3,7 +3,6 @@ use Rattle.std.proofs.lemmas.Bool.{leb-true, le-leb}
 use Rattle.std.proofs.lemmas.List.{length-map}
 use Rattle.lethe_base.specs.declared.config.Fields.{Fields}
 use Rattle.lethe_advance.specs.Shown.{parts_by_level}
-use Rattle.lethe_version.specs.Versions.{levels_of}
 use Rattle.lethe_core.specs.View.{view_of}
 use Rattle.lethe_core.proofs.Crowded.{crowded_at, many_shown}
 use Rattle.lethe_core.proofs.holding.Core.is_crowded.Goals as goal

@@ -4,7 +4,7 @@ use Rattle.std.proofs.lemmas.Result.{IfErr-weaker}
 use Rattle.lethe_base.specs.declared.refused.Refused.{Refused}
 use Rattle.lethe_disk.proofs.Quieting.{on_ok}
 use Rattle.lethe_stored.specs.Stored.{Stored}
-use Rattle.lethe_state.specs.Room.{HasRoom, IsFrozen, IsShortToFreeze}
+use Rattle.lethe_state.specs.Room.{HasRoom, IsShortToFreeze}
 use Rattle.lethe_core.specs.Keeps.{Keeps}
 use Rattle.lethe_core.specs.Merges.{IsRoomMadeBy, IsShortToMerge, IsUncrowded, Outcome, pages_of}
 use Rattle.lethe_core.specs.Reasons.{HasReason, IsShort, IsShortOfRoom, IsUnreadable}
@@ -12,7 +12,7 @@ use Rattle.lethe_core.specs.Running.{Holds}
 use Rattle.lethe_core.specs.Steps.{IsReady, IsSteady}
 use Rattle.lethe_core.specs.View.{Flying, flying_of, view_of}
 use Rattle.lethe_core.proofs.Behind.{next_may, reason_behind}
-use Rattle.lethe_core.proofs.Hindered.{keeps_itself, keeps_refused, keeps_then}
+use Rattle.lethe_core.proofs.Hindered.{keeps_itself, keeps_then}
 use Rattle.lethe_core.proofs.Roomed.{clash, has_room, room_ready, sees_room}
 use Rattle.lethe_core.proofs.holding.Core.make_room.Goals as goal
 

@@ -1,4 +1,5 @@
 use Rattle.std.proofs.Common.{rules, ◌≡◌, [], Ok, Err, sym, subst}
+use Rattle.std.specs.Prelude.{OnErr}
 use Rattle.lethe_stored.specs.Stored.{Stored}
 use Rattle.lethe_state.specs.Room.{under}
 use Rattle.lethe_state.specs.declared.state.State.{State}
@@ -8,7 +9,7 @@ use Rattle.lethe_core.specs.Merges.{MayMerge}
 use Rattle.lethe_core.specs.Running.{Holds}
 use Rattle.lethe_core.specs.View.{loose_in, view_of}
 use Rattle.lethe_core.proofs.Carried.{active_ends}
-use Rattle.lethe_core.proofs.Hindered.{hindered_keeps}
+use Rattle.lethe_core.proofs.Hindered.{hindered_keeps, hindered_next}
 use Rattle.lethe_core.proofs.Merged.{merge_keeps, merge_moments, merged_holds, merged_view}
 use Rattle.lethe_core.proofs.holding.Core.merge_now.Goals as goal
 
@@ -22,6 +23,14 @@ returns-in_err-carry_out-clause-keeps g c =
     subst (Keeps {T = Unit {0}} g.D.Disk.tells old new) (sym refusal) (hindered_keeps g.D.Disk.tells old new c.args.before c.requires.may why c.in_err-carry_out.ensures.refused
     (merge_moments old new.disk new.faults new.levels c.args.headers.items c.args.step g.D.Disk.tells c.args.before c.requires.may c.requires.from c.requires.merges c.carry_out.ensures.moments)
     (λ told. laws.itself told c.carry_out.new.self.disk) c.carry_out.ensures.later c.carry_out.ensures.faults)
+
+pub returns-in_err-carry_out-clause-drawn : goal.returns-in_err-carry_out-clause-drawn
+returns-in_err-carry_out-clause-drawn g c =
+    let old = view_of c.args.self.now in
+    let new = view_of c.carry_out.new.self in
+    let why = c.in_err-carry_out.field-0.0 in
+    let refusal : c.from_residual.result ≡ Err why = search rules in
+    subst (λ result. OnErr result (new.state.next ≡ old.state.next)) (sym refusal) (hindered_next g.D.Disk.tells old new c.args.before why c.in_err-carry_out.ensures.refused)
 
 pub returns-clause-done : goal.returns-clause-done
 returns-clause-done g c = λ told s task t holds may.

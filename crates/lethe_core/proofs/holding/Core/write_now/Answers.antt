@@ -4,6 +4,7 @@ use Rattle.lethe_base.specs.Limits.{max_place}
 use Rattle.lethe_base.specs.declared.refused.Refused.TheVariants as refused
 use Rattle.lethe_disk.specs.declared.disk.DiskRefused.TheVariants.{Failed, NoMemory}
 use Rattle.lethe_commit.proofs.Placing.{refused_at_once}
+use Rattle.lethe_state.specs.declared.state.State.{State}
 use Rattle.lethe_core.specs.View.{flying_of, view_of}
 use Rattle.lethe_core.proofs.Hindered.{keeps_itself}
 use Rattle.lethe_core.proofs.Pages.{as_written, flying_is, may_write, on_err, refused_keeps, written_holds, written_keeps}
@@ -53,6 +54,9 @@ returns-in-Err-Failed-clause-keeps g c =
     (λ told s holds. c.write_page-placed.ensures.any_moment told s (may_write g.D.Disk.tells (view_of self) flying is may.sound s holds))
     (λ told. laws.itself told c.write_page-placed.new.disk) c.write_page-placed.ensures.cause.later (refused.Fault c.stop-place.result c.args.before c.faults.result)
     (c.stop-place.ensures.place, refl, c.faults.ensures, told, c.stop-place.ensures.is, record { levels = refl; flight = as_written g.D.Disk.tells (view_of self) flying is may.sound written kept })
+
+pub returns-in-Err-Failed-clause-drawn : goal.returns-in-Err-Failed-clause-drawn
+returns-in-Err-Failed-clause-drawn g c = ap (λ (state : State). state.next) c.stop-place.ensures.is
 
 pub returns-in-Err-NoMemory-clause-keeps : goal.returns-in-Err-NoMemory-clause-keeps
 returns-in-Err-NoMemory-clause-keeps g c =
