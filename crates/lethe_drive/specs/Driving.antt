@@ -47,6 +47,5 @@ pages_left job = pages_left_of (option_map (λ drafts. length (pages_in drafts.i
 -- what is stored stays while pages of a job are written
 pub record IsWritingOn (PortsFail : Type 0) (old new : View) (before now : ℕ) (s t : Stored) (result : Result (Unit {0}) Refused) : Type 0 where
   pub done : OnOk result (t ≡ s)
-  pub count : OnOk result (new.state.count ≡ old.state.count)
   pub why : IfErr result (λ why. ((b : ℕ) × (n : ℕ) × (old.faults ≤ b) × (n ≤ new.faults) × HasReason (max_place ≤ new.state.next) old.state b n why)
       ⊎ IsUnreadable (Unit {0}) PortsFail before now why)

@@ -1,0 +1,90 @@
+//! Answering one event.
+ghost use Rattle.std.specs.Prelude.{◌≡◌, ◌≤◌, ◌<◌, ◌+◌, ◌^◌};
+ghost use Rattle.lethe_base.specs.History.{History};
+ghost use Rattle.lethe_base.specs.declared.config.Fields.{Fields};
+ghost use Rattle.lethe_stored.specs.Stored.{Stored};
+ghost use Rattle.lethe_core.specs.Running.{IsSound};
+ghost use Rattle.lethe_core.specs.View.{view_of};
+ghost use Rattle.lethe_engine.specs.StandsFor.{Opened, StandsFor};
+ghost use Rattle.lethe_drive.specs.Driving.{IsTheirs};
+ghost use Rattle.lethe_drive.specs.Moments.{IsKnown, moment_of, there_of};
+ghost use Rattle.lethe_drive.specs.Steps.{IsStep};
+ghost use Rattle.lethe_drive.specs.Replies as replies;
+
+use crate::event::{Event, Reply};
+use crate::jobs::Jobs;
+use crate::working::{begin, cancel, install, write_out};
+use lethe_base::{List, Refused};
+use lethe_disk::Disk;
+use lethe_engine::Engine;
+use std::alloc::Global;
+
+/// Makes the call that the event asks for.
+pub(crate) fn answer<D: Disk>(
+    engine: &mut Engine<D>,
+    alloc: Global,
+    port: &mut D::Port,
+    jobs: &mut Jobs<D>,
+    event: Event,
+) -> Reply
+    requires sound { IsSound D.tells (view_of engine.old.core) }
+    requires jobs { IsTheirs D.tells (view_of engine.old.core) jobs.old }
+    requires room { jobs.old.begun < 2 ^ 63 }
+    ensures sound { IsSound D.tells (view_of engine.new.core) }
+    ensures jobs { IsTheirs D.tells (view_of engine.new.core) jobs.new }
+    ensures step { D.tells → (config : Fields) (opened : Opened) (h : History) → StandsFor config opened h (view_of engine.old.core) → (s : Stored) → IsKnown (view_of engine.old.core) s
+        → (g : History) × (t : Stored) × IsKnown (view_of engine.new.core) t × StandsFor config opened g (view_of engine.new.core)
+        × IsStep D.ports_fail h (moment_of (view_of engine.old.core) s (D.fetches port.old) (D.port_faults port.old) jobs.old.begun (there_of jobs.old)) event result g (moment_of (view_of engine.new.core) t (D.fetches port.new) (D.port_faults port.new) jobs.new.begun (there_of jobs.new)) }
+    ensures faults { D.faults engine.old.core.disk ≤ D.faults engine.new.core.disk }
+    ensures begun { jobs.new.begun ≤ jobs.old.begun + 1 }
+{
+    match event {
+        Event::Put { key, dkey, value } => placed(engine.put(alloc, port, key, dkey, value)),
+        Event::Delete { key } => placed(engine.delete(alloc, port, key)),
+        Event::Get { key } => match engine.get(alloc, port, &key) {
+            Ok(held) => Reply::Got(held),
+            Err(why) => Reply::Refused(why),
+        },
+        Event::Scan { lo, hi } => match engine.scan(alloc, port, &lo, &hi) {
+            Ok(pairs) => Reply::Pairs(List::of(pairs)),
+            Err(why) => Reply::Refused(why),
+        },
+        Event::Freeze => flagged(engine.freeze(alloc)),
+        Event::Flush => flagged(engine.flush(alloc)),
+        Event::Begin => begin(engine, alloc, jobs),
+        Event::WriteOut { job } => write_out(engine, alloc, jobs, job),
+        Event::Install { job } => install(engine, alloc, jobs, job),
+        Event::Cancel { job } => cancel(engine, jobs, job),
+    }
+}
+
+/// The reply of a change.
+fn placed(answer: Result<u64, Refused>) -> Reply
+    ensures { result ≡ replies.placed answer }
+{
+    match answer {
+        Ok(place) => Reply::Place(place),
+        Err(why) => Reply::Refused(why),
+    }
+}
+
+/// The reply of a call that tells whether there was anything to do.
+pub(crate) fn flagged(answer: Result<bool, Refused>) -> Reply
+    ensures { result ≡ replies.flagged answer }
+{
+    match answer {
+        Ok(flag) => Reply::Flag(flag),
+        Err(why) => Reply::Refused(why),
+    }
+}
+
+/// The reply of a call that ends a job.
+pub(crate) fn united(answer: Result<(), Refused>) -> Reply
+    ensures { result ≡ replies.united answer }
+{
+
+    match answer {
+        Ok(()) => Reply::Unit,
+        Err(why) => Reply::Refused(why),
+    }
+}

@@ -1,0 +1,62 @@
+//! Driving a store through a run of events.
+ghost use Rattle.std.specs.Prelude.{◌≡◌, ◌≤◌, ℕ, None, IfOk, IfErr};
+ghost use Rattle.lethe_base.specs.History.{History};
+ghost use Rattle.lethe_base.specs.declared.config.Fields.{Fields};
+ghost use Rattle.lethe_stored.specs.Stored.{Stored};
+ghost use Rattle.lethe_core.specs.Running.{IsSound};
+ghost use Rattle.lethe_core.specs.View.{view_of};
+ghost use Rattle.lethe_engine.specs.StandsFor.{Opened, StandsFor};
+ghost use Rattle.lethe_drive.specs.Driving.{IsDriven};
+ghost use Rattle.lethe_drive.specs.Moments.{IsKnown, moment_of};
+
+use crate::answering::answer;
+use crate::event::{Event, Reply};
+use crate::jobs::Jobs;
+use crate::working::cancel;
+use lethe_base::NoMemory;
+use lethe_disk::Disk;
+use lethe_engine::Engine;
+use std::alloc::Global;
+
+/// Makes the calls that the events ask for, in order, and reads through the port. Jobs are numbered by their begin, from 0. At the end the jobs that haven't ended are
+/// given up, and the reply of each stands behind those of the events.
+///
+/// # Errors
+///
+/// `NoMemory` where there is no room for all replies: it is taken before the first event, and then nothing was made.
+pub fn drive<D: Disk>(
+    engine: &mut Engine<D>,
+    alloc: Global,
+    port: &mut D::Port,
+    events: Vec<Event>,
+) -> Result<Vec<Reply>, NoMemory>
+    // Opening gives this, and each call leaves it so.
+    requires sound { IsSound D.tells (view_of engine.old.core) }
+    ensures sound { IsSound D.tells (view_of engine.new.core) }
+
+    // Over a store that stands for a history, the replies are those of the steps from it to another, for which the store stands behind them.
+    ensures driven { D.tells → (config : Fields) (opened : Opened) (h : History) → StandsFor config opened h (view_of engine.old.core) → (s : Stored) → IsKnown (view_of engine.old.core) s
+        → IfOk result (λ replies. (g : History) × (t : Stored) × IsKnown (view_of engine.new.core) t × StandsFor config opened g (view_of engine.new.core)
+        × (begun : ℕ) × IsDriven D.ports_fail h (moment_of (view_of engine.old.core) s (D.fetches port.old) (D.port_faults port.old) 0 None) events.items replies.items g
+        (moment_of (view_of engine.new.core) t (D.fetches port.new) (D.port_faults port.new) begun None)) }
+    ensures untouched { IfErr result (λ why. (engine.new ≡ engine.old) × (port.new ≡ port.old)) }
+    ensures faults { D.faults engine.old.core.disk ≤ D.faults engine.new.core.disk }
+{
+    let count = events.len();
+    let Some(room) = count.checked_add(1) else {
+        return Err(NoMemory);
+    };
+    let mut replies = Vec::with_capacity(alloc, room)?;
+    let mut jobs = Jobs {
+        begun: 0,
+        there: None,
+    };
+    for event in events {
+        let reply = answer(engine, alloc, port, &mut jobs, event);
+        replies.push(reply).unwrap();
+    }
+    if let Some(number) = jobs.number() {
+        replies.push(cancel(engine, &mut jobs, number)).unwrap();
+    }
+    Ok(replies)
+}
