@@ -5,6 +5,8 @@ mod answering;
 mod driving;
 mod event;
 mod jobs;
+#[cfg(test)]
+mod tests;
 mod working;
 
 pub use driving::drive;
