@@ -1,0 +1,126 @@
+-- The pages of a job, written one after another: what is stored stays, and where one of them is refused so is the whole.
+use Rattle.std.proofs.Common.{◌≡◌, ◌≤◌, ◌⊎◌, inl, inr, ℕ, Bool, true, false, Option, Some, None, Result, Ok, Err, refl, sym, ap, subst, arith}
+use Rattle.std.specs.Prelude.{IsSome}
+use Rattle.lethe_base.specs.History.{History}
+use Rattle.lethe_base.specs.Limits.{max_place}
+use Rattle.lethe_base.specs.declared.call.Call.TheVariants.{Work}
+use Rattle.lethe_base.specs.declared.config.Fields.{Fields}
+use Rattle.lethe_base.specs.declared.refused.Refused.{Refused}
+use Rattle.lethe_base.specs.declared.refused.Refused.TheVariants.{Fault, Stopped, Backwards, Pinned, NothingDue, Cancelled, Exhausted, ReadFault, NoMemory, Damaged}
+use Rattle.lethe_disk.specs.declared.disk.Disk.{Ghosts}
+use Rattle.lethe_stored.specs.Stored.{Stored}
+use Rattle.lethe_job.specs.declared.job.Job.{Job}
+use Rattle.lethe_core.specs.Reasons.{HasReason, IsUnreadable}
+use Rattle.lethe_core.specs.Steps.{stepped_to}
+use Rattle.lethe_core.specs.View.{View}
+use Rattle.lethe_engine.specs.StandsFor.{Opened, StandsFor}
+use Rattle.lethe_drive.specs.Answers.{IsWriteOut}
+use Rattle.lethe_drive.specs.Driving.{IsWritingOn}
+use Rattle.lethe_drive.specs.Moments.{Going, IsKnown, Moment, going_of, moment_of}
+use Rattle.lethe_drive.proofs.Knowing.{count_same, stopped_same}
+use Rattle.lethe_drive.proofs.Reasons.{reason_on}
+
+-- the history for which a store stands and what it is known to have stored are as they were
+abbrev pub Rests : Type 0 → View → View → Type 0
+Rests Tells old new = Tells → (config : Fields) (opened : Opened) (h : History) → StandsFor config opened h old → (s : Stored) → IsKnown old s → StandsFor config opened h new × IsKnown new s
+
+same_stored : (PortsFail : Type 0) (going : Going) (h : History) (old : Moment) (wrote : Bool) (g : History) (new : Moment) → IsWriteOut PortsFail going h old (Ok wrote) g new → new.stored ≡ old.stored
+same_stored PortsFail going h old true g new is = is.answers.stored
+same_stored PortsFail going h old false g new is = is.answers.stored
+
+-- The reason of a refusal
+
+abbrev port_of : Option Going → ℕ
+port_of None = 0
+port_of (Some going) = going.port_faults
+
+-- no fetch failed
+unread : (PortsFail : Type 0) (first before now : ℕ) (why : Refused) → ((b n : ℕ) → why ≡ ReadFault b n → ⊥) → IsUnreadable (Unit {0}) PortsFail before now why → IsUnreadable (Unit {0}) PortsFail first now why
+unread PortsFail first before now (ReadFault b n) never is = absurd (never b n refl)
+unread PortsFail first before now (Damaged name) never is = is
+unread PortsFail first before now (Fault place b a) never is = is
+unread PortsFail first before now (Stopped at) never is = is
+unread PortsFail first before now (Exhausted last) never is = is
+unread PortsFail first before now NoMemory never is = is
+unread PortsFail first before now (Backwards clock) never is = is
+unread PortsFail first before now (Pinned pin limit) never is = is
+unread PortsFail first before now NothingDue never is = is
+unread PortsFail first before now (Cancelled begun other) never is = is
+
+unread_since : (PortsFail : Type 0) (first before now : ℕ) (why : Refused) → (before ≡ first) ⊎ ((b n : ℕ) → why ≡ ReadFault b n → ⊥)
+    → IsUnreadable (Unit {0}) PortsFail before now why → IsUnreadable (Unit {0}) PortsFail first now why
+unread_since PortsFail first before now why (inl same) is = subst (λ (n : ℕ). IsUnreadable (Unit {0}) PortsFail n now why) same is
+unread_since PortsFail first before now why (inr never) is = unread PortsFail first before now why never is
+
+module _ (PortsFail : Type 0) (old mid new : View) (faults : old.faults ≤ mid.faults) (drawn : new.state.next ≡ mid.state.next) (first before now : ℕ) (why : Refused)
+    (port : (before ≡ first) ⊎ ((b n : ℕ) → why ≡ ReadFault b n → ⊥)) (stopped : mid.state.stopped ≡ old.state.stopped) (count : mid.state.count ≡ old.state.count) where
+  -- it is one for what came before
+  since : ((b : ℕ) × (n : ℕ) × (mid.faults ≤ b) × (n ≤ new.faults) × HasReason (max_place ≤ mid.state.next) mid.state b n why) ⊎ IsUnreadable (Unit {0}) PortsFail before now why
+      → ((b : ℕ) × (n : ℕ) × (old.faults ≤ b) × (n ≤ new.faults) × HasReason (max_place ≤ new.state.next) old.state b n why) ⊎ IsUnreadable (Unit {0}) PortsFail first now why
+  since (inl is) =
+      let later = is.2 in
+      inl (
+        is.0,
+        is.1,
+        omega arith,
+        is.3,
+        reason_on (max_place ≤ mid.state.next) (max_place ≤ new.state.next) old.state mid.state is.0 is.1 stopped count why is.4
+            (λ last e runs short. subst (λ (n : ℕ). max_place ≤ n) (sym drawn) short),
+      )
+  since (inr is) = inr (unread_since PortsFail first before now why port is)
+
+-- A turn
+
+module _ {D Page Port : Type 0} {kind : Ghosts D Page Port} (Tells PortsFail : Type 0) (old mid new : View) (job after : Job D Page Port kind) where
+  -- the next page is written, or none is left
+  abbrev pub Turns : Result Bool Refused → Type 0
+  Turns result = Tells → (config : Fields) (opened : Opened) (h : History) → StandsFor config opened h mid → (s : Stored) → IsKnown mid s → (number fetches faults begun : ℕ)
+      → (t : Stored) × IsKnown new t × StandsFor config opened (stepped_to h 0 Work result) new
+      × IsWriteOut PortsFail (going_of number job) h (moment_of mid s fetches faults begun (Some (going_of number job))) result
+      (stepped_to h 0 Work result) (moment_of new t fetches faults begun (Some (going_of number after)))
+
+  -- what the turns come to
+  abbrev pub Comes : ℕ → Result (Unit {0}) Refused → Type 0
+  Comes first result = Tells → (config : Fields) (opened : Opened) (h : History) → StandsFor config opened h old → (s : Stored) → IsKnown old s
+      → (t : Stored) × IsKnown new t × StandsFor config opened (stepped_to h 0 Work result) new × IsWritingOn PortsFail old new first (kind.port_faults after.port) s t result
+
+  -- one more was acknowledged
+  pub rests_on : (wrote : Bool) → Rests Tells old mid → Turns (Ok wrote) → Rests Tells old new
+  rests_on wrote rests turn = λ told config opened h stands s known.
+      let so_far = rests told config opened h stands s known in
+      let turned = turn told config opened h so_far.0 s so_far.1 0 0 0 0 in (
+        turned.2,
+        subst (IsKnown new) (same_stored PortsFail (going_of 0 job) h (moment_of mid s 0 0 0 (Some (going_of 0 job))) wrote h (moment_of new turned.0 0 0 0 (Some (going_of 0 after))) turned.3) turned.1,
+      )
+
+  -- the last one was acknowledged
+  pub all_written : (first : ℕ) → Rests Tells old new → Comes first (Ok tt)
+  all_written first rests = λ told config opened h stands s known.
+      let in_the_end = rests told config opened h stands s known in
+      (s, in_the_end.1, in_the_end.0, record { done = refl; why = tt })
+
+  -- once its drafts are made a job reads no more
+  no_more_read : (first : Job D Page Port kind) (why : Refused) → (job.port ≡ first.port) ⊎ IsSome job.drafts → (IsSome job.drafts → (b n : ℕ) → ◌≡◌ {A = Result Bool Refused} (Err why) (Err (ReadFault b n)) → ⊥)
+      → (kind.port_faults job.port ≡ kind.port_faults first.port) ⊎ ((b n : ℕ) → why ≡ ReadFault b n → ⊥)
+  no_more_read first why (inl same) never = inl (ap kind.port_faults same)
+  no_more_read first why (inr made) never = inr (λ b n e. never made b n (λ i. Err (e i)))
+
+  -- one was refused
+  pub turn_refused : (first : Job D Page Port kind) (why : Refused) → Rests Tells old mid → Turns (Err why) → old.faults ≤ mid.faults → new.state.next ≡ mid.state.next
+      → (job.port ≡ first.port) ⊎ IsSome job.drafts → (IsSome job.drafts → (b n : ℕ) → ◌≡◌ {A = Result Bool Refused} (Err why) (Err (ReadFault b n)) → ⊥) → Comes (kind.port_faults first.port) (Err why)
+  turn_refused first why rests turn faults drawn port never = λ told config opened h stands s known.
+      let so_far = rests told config opened h stands s known in
+      let turned = turn told config opened h so_far.0 s so_far.1 0 0 0 0 in
+      let spoilt = turned.3.answers.0 in
+      let now : kind.port_faults after.port ≡ spoilt.port_faults = ap port_of spoilt.there in
+      let Cause : ℕ → Type 0 = λ n. ((b : ℕ) × (c : ℕ) × (old.faults ≤ b) × (c ≤ new.faults) × HasReason (max_place ≤ new.state.next) old.state b c why) ⊎ IsUnreadable (Unit {0}) PortsFail (kind.port_faults first.port) n why in (
+        turned.0,
+        turned.1,
+        turned.2,
+        record {
+          done = tt;
+          why = subst Cause (sym now)
+              (since PortsFail old mid new faults drawn (kind.port_faults first.port) (kind.port_faults job.port) spoilt.port_faults why (no_more_read first why port never)
+              (stopped_same config h old mid stands.now so_far.0.now) (count_same config h old mid stands.now so_far.0.now) turned.3.answers.1);
+        },
+      )

@@ -1,0 +1,38 @@
+use Rattle.std.proofs.Common.{rules, ◌≡◌, inr, true, false, Ok, Err, sym, ap, ◌∙◌, subst, arith}
+use Rattle.lethe_job.specs.Tasks.{AreSound, PlainTask, inputs_in, plain_task}
+use Rattle.lethe_core.specs.View.{view_of}
+use Rattle.lethe_drive.proofs.Resting.{Comes, Turns, all_written, rests_on, turn_refused}
+use Rattle.lethe_drive.proofs.working.write_rest.Goals as goal
+
+pub write_next-requires-clause-reads : goal.write_next-requires-clause-reads
+write_next-requires-clause-reads g c κs within = λ told.
+    let task : plain_task c.args.job.now.task.value ≡ plain_task c.loop.job.task.value = ap plain_task (sym c.loop.invariant.task) in
+    subst (λ (task : PlainTask). AreSound (inputs_in task)) task (c.requires.reads told)
+
+pub loop-preserved : goal.loop-preserved
+loop-preserved g c =
+    let ok : c.write_next.result ≡ Ok true = c.in_ok-write_next.was ∙ ap Ok c.if-branch.true in
+    record {
+      sound = c.write_next.ensures.sound;
+      works = c.in_ok-write_next.ensures.works;
+      task = c.write_next.ensures.task ∙ c.loop.invariant.task;
+      faults = let so_far = c.loop.invariant.faults in let more = c.write_next.ensures.faults in omega arith;
+      port = inr c.in_ok-write_next.ensures.made;
+      rests = rests_on g.D.Disk.tells g.D.Disk.ports_fail (view_of c.args.engine.now.core) (view_of c.loop.engine.core) (view_of c.write_next.new.engine.core) c.loop.job c.write_next.new.job true c.loop.invariant.rests
+          (subst (Turns g.D.Disk.tells g.D.Disk.ports_fail (view_of c.args.engine.now.core) (view_of c.loop.engine.core) (view_of c.write_next.new.engine.core) c.loop.job c.write_next.new.job) ok c.write_next.ensures.step);
+    }
+
+pub returns-in_err-write_next-clause-step : goal.returns-in_err-write_next-clause-step
+returns-in_err-write_next-clause-step g c =
+    let why = c.in_err-write_next.field-0.0 in
+    let refusal : c.from_residual.result ≡ Err why = search rules in
+    subst (Comes g.D.Disk.tells g.D.Disk.ports_fail (view_of c.args.engine.now.core) (view_of c.loop.engine.core) (view_of c.write_next.new.engine.core) c.loop.job c.write_next.new.job (g.D.Disk.port_faults c.args.job.now.port)) (sym refusal)
+    (turn_refused g.D.Disk.tells g.D.Disk.ports_fail (view_of c.args.engine.now.core) (view_of c.loop.engine.core) (view_of c.write_next.new.engine.core) c.loop.job c.write_next.new.job c.args.job.now why
+    c.loop.invariant.rests c.in_err-write_next.ensures.step c.loop.invariant.faults c.in_err-write_next.ensures.drawn c.loop.invariant.port (λ made b n is. ?))
+
+pub returns-clause-step : goal.returns-clause-step
+returns-clause-step g c =
+    let none : c.write_next.result ≡ Ok false = c.in_ok-write_next.was ∙ ap Ok c.if-branch.false in
+    all_written g.D.Disk.tells g.D.Disk.ports_fail (view_of c.args.engine.now.core) (view_of c.loop.engine.core) (view_of c.write_next.new.engine.core) c.loop.job c.write_next.new.job (g.D.Disk.port_faults c.args.job.now.port)
+    (rests_on g.D.Disk.tells g.D.Disk.ports_fail (view_of c.args.engine.now.core) (view_of c.loop.engine.core) (view_of c.write_next.new.engine.core) c.loop.job c.write_next.new.job false c.loop.invariant.rests
+    (subst (Turns g.D.Disk.tells g.D.Disk.ports_fail (view_of c.args.engine.now.core) (view_of c.loop.engine.core) (view_of c.write_next.new.engine.core) c.loop.job c.write_next.new.job) none c.write_next.ensures.step))

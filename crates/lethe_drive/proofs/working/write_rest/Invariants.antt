@@ -1,0 +1,22 @@
+use Rattle.std.proofs.Common.{◌≡◌, ◌≤◌, ◌⊎◌}
+use Rattle.std.specs.Prelude.{IsSome}
+use Rattle.lethe_core.specs.Jobs.{IsAtWork}
+use Rattle.lethe_core.specs.Running.{IsSound}
+use Rattle.lethe_core.specs.View.{view_of}
+use Rattle.lethe_drive.specs.Driving.{pages_left}
+use Rattle.lethe_drive.proofs.Resting.{Rests}
+use Rattle.lethe_drive.proofs.working.write_rest.Given as goal
+
+-- each turn so far wrote a page
+abbrev pub invariant-loop : goal.invariant-loop
+invariant-loop g l = record {
+  sound : IsSound g.D.Disk.tells (view_of l.engine.core);
+  works : IsAtWork g.D.Disk.tells (view_of l.engine.core) l.job;
+  task : l.job.task.value ≡ l.fn.job.task.value;
+  faults : g.D.Disk.faults l.fn.engine.core.disk ≤ g.D.Disk.faults l.engine.core.disk;
+  port : (l.job.port ≡ l.fn.job.port) ⊎ IsSome l.job.drafts;
+  rests : Rests g.D.Disk.tells (view_of l.fn.engine.core) (view_of l.engine.core);
+}
+
+abbrev pub decreases-loop : goal.decreases-loop
+decreases-loop g l = pages_left l.job
