@@ -1,8 +1,9 @@
 //! The events of jobs.
-ghost use Rattle.std.specs.Prelude.{◌≡◌, ◌≤◌, ◌<◌, ◌+◌, ◌^◌, ℕ, true, false, Ok, Some, None, IsSome, OnErr, OnOk};
+ghost use Rattle.std.specs.Prelude.{◌≡◌, ◌≤◌, ◌<◌, ◌+◌, ◌^◌, ℕ, true, false, Ok, Some, None, IsErrOf, IsSome, OnErr, OnOk};
 ghost use Rattle.lethe_base.specs.declared.call.Call.TheVariants.{Work};
 ghost use Rattle.lethe_base.specs.History.{History};
 ghost use Rattle.lethe_base.specs.declared.config.Fields.{Fields};
+ghost use Rattle.lethe_base.specs.declared.refused.Refused.TheVariants.{ReadFault};
 ghost use Rattle.lethe_stored.specs.Stored.{Stored};
 ghost use Rattle.lethe_job.specs.Tasks.{AreSound, inputs_in, plain_task};
 ghost use Rattle.lethe_core.specs.Jobs.{IsAtWork, IsInFlight, IsWhole};
@@ -91,7 +92,8 @@ fn write_next<D: Disk>(
     ensures refused { OnErr result (job.new.refused ≡ true) }
     ensures drawn { OnErr result (engine.new.core.state.next ≡ engine.old.core.state.next) }
     ensures task { job.new.task.value ≡ job.old.task.value }
-    ensures port { IsSome job.old.drafts → job.new.port ≡ job.old.port }
+    // Once its outputs are made nothing is read.
+    ensures read { IsSome job.old.drafts → (before now : ℕ) → IsErrOf result (ReadFault before now) → ⊥ }
     ensures made { OnOk result (IsSome job.new.drafts) }
     ensures step { D.tells → (config : Fields) (opened : Opened) (h : History) → StandsFor config opened h (view_of engine.old.core) → (s : Stored) → IsKnown (view_of engine.old.core) s → (number fetches faults begun : ℕ)
         → (t : Stored) × IsKnown (view_of engine.new.core) t × StandsFor config opened (stepped_to h 0 Work result) (view_of engine.new.core)

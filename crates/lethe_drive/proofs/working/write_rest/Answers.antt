@@ -28,7 +28,7 @@ returns-in_err-write_next-clause-step g c =
     let refusal : c.from_residual.result ≡ Err why = search rules in
     subst (Comes g.D.Disk.tells g.D.Disk.ports_fail (view_of c.args.engine.now.core) (view_of c.loop.engine.core) (view_of c.write_next.new.engine.core) c.loop.job c.write_next.new.job (g.D.Disk.port_faults c.args.job.now.port)) (sym refusal)
     (turn_refused g.D.Disk.tells g.D.Disk.ports_fail (view_of c.args.engine.now.core) (view_of c.loop.engine.core) (view_of c.write_next.new.engine.core) c.loop.job c.write_next.new.job c.args.job.now why
-    c.loop.invariant.rests c.in_err-write_next.ensures.step c.loop.invariant.faults c.in_err-write_next.ensures.drawn c.loop.invariant.port (λ made b n is. ?))
+    c.loop.invariant.rests c.in_err-write_next.ensures.step c.loop.invariant.faults c.in_err-write_next.ensures.drawn c.loop.invariant.port c.in_err-write_next.ensures.read)
 
 pub returns-clause-step : goal.returns-clause-step
 returns-clause-step g c =
