@@ -7,3 +7,4 @@ pub mod Paging
 pub mod Naming
 pub mod Giving
 pub mod Resting
+pub mod Stepping
