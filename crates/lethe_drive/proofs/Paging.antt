@@ -23,7 +23,8 @@ use Rattle.lethe_core.specs.View.{Flying, View}
 use Rattle.lethe_drive.specs.Answers.{IsJobRefusal, IsWriteOut}
 use Rattle.lethe_engine.specs.StandsFor.{Opened, StandsFor}
 use Rattle.lethe_drive.specs.Moments.{IsKnown, Moment, going_of, moment_of}
-use Rattle.lethe_drive.proofs.Reasons.{unread_cause}
+use Rattle.lethe_drive.proofs.Knowing.{known_of}
+use Rattle.lethe_drive.proofs.Reasons.{unread_cause, unread_history}
 use Rattle.lethe_drive.proofs.Writing.{outputs_for, some_of, spoilt}
 
 module _ {D Page Port : Type 0} {kind : Ghosts D Page Port} (Tells PortsFail : Type 0) (h : History) (old : View) (s : Stored) (number fetches faults begun : ℕ) (job mid : Job D Page Port kind)
@@ -49,6 +50,12 @@ module _ {D Page Port : Type 0} {kind : Ghosts D Page Port} (Tells PortsFail : T
     port = record { fetches = refl; port_faults = refl };
   }
 
+  pub refused_paged : (config : Fields) (opened : Opened) (new : View) (result : Result Bool Refused) (why : Refused) → result ≡ Err why → StandsFor config opened (refused_to h 0 Work why) new
+      → HasReason (max_place ≤ old.state.next) old.state old.faults new.faults why → mid.refused ≡ true → Paged config opened new mid result
+  refused_paged config opened new result why refusal stands is refused =
+      subst (Paged config opened new mid) (sym refusal)
+      (stands.now.stored, known_of config opened (refused_to h 0 Work why) new stands, stands, page_refused new stands.now.stored why is refused)
+
   unread_reason : (why : Refused) → HasReason (max_place ≤ old.state.next) old.state old.faults old.faults why ⊎ IsUnreadable (Unit {0}) PortsFail (kind.port_faults job.port) (kind.port_faults mid.port) why
       → IsJobRefusal PortsFail (max_place ≤ old.state.next) before (going_of number job) (kind.port_faults mid.port) (behind old s mid) why
   unread_reason why (inl is) = inl (old.faults, old.faults, omega arith, omega arith, is)
@@ -68,6 +75,17 @@ module _ {D Page Port : Type 0} {kind : Ghosts D Page Port} (Tells PortsFail : T
     begun = refl;
     port = record { fetches = refl; port_faults = refl };
   }
+
+  pub unread_paged : (config : Fields) (opened : Opened) → Tells → AreSound (inputs_in (plain_task job.task.value)) → StandsFor config opened h old → IsKnown old s → (result : Result Bool Refused) (why : Refused) → result ≡ Err why
+      → IsUnread Tells PortsFail (inputs_in (plain_task job.task.value)) (kind.port_faults job.port) (kind.port_faults mid.port) why → mid.refused ≡ true → Paged config opened old mid result
+  unread_paged config opened told sound stands known result why refusal is refused =
+      subst (Paged config opened old mid) (sym refusal) (
+        s,
+        known,
+        subst (λ (g : History). StandsFor config opened g old)
+            (sym (unread_history Tells PortsFail (inputs_in (plain_task job.task.value)) (kind.port_faults job.port) (kind.port_faults mid.port) h Work why is)) stands,
+        page_unread told sound why is refused,
+      )
 
   module _ (told : Tells) (sound : AreSound (inputs_in (plain_task job.task.value))) (works : IsAtWork Tells old job) (written : mid.written ≡ job.written) (made : IsSome mid.drafts) (is : IsJob Tells mid) where
     abbrev flying : Flying

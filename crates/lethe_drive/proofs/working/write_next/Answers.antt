@@ -1,0 +1,79 @@
+use Rattle.std.proofs.Common.{rules, ◌≡◌, Some, None, ◌∙◌}
+use Rattle.lethe_base.specs.declared.refused.Refused.TheVariants.{Stopped}
+use Rattle.lethe_core.specs.View.{View, view_of}
+use Rattle.lethe_drive.proofs.Knowing.{known_held, not_stopped, ok_or_err}
+use Rattle.lethe_drive.proofs.Paging.{no_page, page_written, refused_paged, unread_paged}
+use Rattle.lethe_drive.proofs.Writing.{fewer_left, left_of, none_left, still_works}
+use Rattle.lethe_drive.proofs.working.write_next.Goals as goal
+
+-- the outputs can't be made
+
+pub returns-in_err-piece-clause-step : goal.returns-in_err-piece-clause-step
+returns-in_err-piece-clause-step g c = λ told config opened h stands s known number fetches faults begun.
+    unread_paged g.D.Disk.tells g.D.Disk.ports_fail h (view_of c.args.engine.now.core) s number fetches faults begun c.args.job.now c.next_piece.new.self c.next_piece.ensures.task config opened
+    told (c.requires.reads told) stands known c.from_residual.result c.in_err-piece.field-0.0 (search rules) c.in_err-piece.ensures.unread c.in_err-piece.ensures.err
+
+-- there is a next page
+
+pub write_out-requires-clause-works : goal.write_out-requires-clause-works
+write_out-requires-clause-works g c κs within =
+    still_works g.D.Disk.tells g.D.Disk.ports_fail c.args.job.now c.next_piece.new.self c.next_piece.ensures.task c.next_piece.ensures.written c.next_piece.ensures.kept c.next_piece.ensures.job
+    (view_of c.args.engine.now.core) c.requires.works c.in_ok-piece.ensures.ok
+
+-- the engine refuses it
+
+pub returns-in_err-write_out-in-Some-clause-step : goal.returns-in_err-write_out-in-Some-clause-step
+returns-in_err-write_out-in-Some-clause-step g c = λ told config opened h stands s known number fetches faults begun.
+    let refused = c.in_err-write_out-in-Some.ensures in
+    let same : c.write_out.new.job.task.value ≡ c.next_piece.new.self.task.value = λ i. (c.write_out.ensures.same.1 i).value in
+    refused_paged g.D.Disk.tells g.D.Disk.ports_fail h (view_of c.args.engine.now.core) s number fetches faults begun c.args.job.now c.write_out.new.job (same ∙ c.next_piece.ensures.task)
+    config opened (view_of c.write_out.new.self.core) c.from_residual-in_err-write_out-in-Some.result c.in_err-write_out-in-Some.field-0.0 (search rules) (refused.stands told config opened h stands 0) refused.why refused.refused
+
+-- it is written
+
+pub returns-in_ok-write_out-in-Some-clause-fewer : goal.returns-in_ok-write_out-in-Some-clause-fewer
+returns-in_ok-write_out-in-Some-clause-fewer g c = λ done.
+    let mid = c.next_piece.new.self in
+    let next = c.in_ok-piece.field-0 in
+    let is : next ≡ Some c.in-Some.piece = cc in
+    let asked = c.in_ok-piece.ensures in
+    fewer_left g.D.Disk.tells g.D.Disk.ports_fail c.args.job.now mid c.next_piece.ensures.task c.next_piece.ensures.written c.next_piece.ensures.kept c.next_piece.ensures.job c.write_out.new.job asked.made
+    (left_of mid.drafts next c.in-Some.piece c.args.job.now.written is asked.left) c.write_out.ensures.same.0 c.in_ok-write_out-in-Some.ensures.written
+
+pub returns-in_ok-write_out-in-Some-clause-step : goal.returns-in_ok-write_out-in-Some-clause-step
+returns-in_ok-write_out-in-Some-clause-step g c = λ told config opened h stands s known number fetches faults begun.
+    let old : View = view_of c.args.engine.now.core in
+    let new : View = view_of c.write_out.new.self.core in
+    let mid = c.next_piece.new.self in
+    let next = c.in_ok-piece.field-0 in
+    let is : next ≡ Some c.in-Some.piece = cc in
+    let asked = c.in_ok-piece.ensures in
+    let written = c.in_ok-write_out-in-Some.ensures in
+    let runs = not_stopped old.state.stopped (λ at e. ok_or_err c.in_ok-write_out-in-Some.field-0 (Stopped at) (written.stopped at e).0) in (
+      s,
+      known_held new s (written.held told s (known.held runs)),
+      written.stands told config opened h stands 0,
+      page_written g.D.Disk.tells g.D.Disk.ports_fail h old s number fetches faults begun c.args.job.now mid c.next_piece.ensures.task told (c.requires.reads told) c.requires.works c.next_piece.ensures.written
+          asked.made c.next_piece.ensures.job new c.write_out.new.job (left_of mid.drafts next c.in-Some.piece c.args.job.now.written is asked.left) written.next_page,
+    )
+
+-- none is left
+
+pub returns-in-None-clause-works : goal.returns-in-None-clause-works
+returns-in-None-clause-works g c =
+    still_works g.D.Disk.tells g.D.Disk.ports_fail c.args.job.now c.next_piece.new.self c.next_piece.ensures.task c.next_piece.ensures.written c.next_piece.ensures.kept c.next_piece.ensures.job
+    (view_of c.args.engine.now.core) c.requires.works c.in_ok-piece.ensures.ok
+
+pub returns-in-None-clause-step : goal.returns-in-None-clause-step
+returns-in-None-clause-step g c = λ told config opened h stands s known number fetches faults begun.
+    let old : View = view_of c.args.engine.now.core in
+    let mid = c.next_piece.new.self in
+    let next = c.in_ok-piece.field-0 in
+    let is : next ≡ None = cc in
+    let asked = c.in_ok-piece.ensures in (
+      s,
+      known,
+      stands,
+      no_page g.D.Disk.tells g.D.Disk.ports_fail h old s number fetches faults begun c.args.job.now mid c.next_piece.ensures.task told (c.requires.reads told) c.requires.works c.next_piece.ensures.written asked.made
+          c.next_piece.ensures.job (none_left mid.drafts next c.args.job.now.written is asked.left),
+    )
