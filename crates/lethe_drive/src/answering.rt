@@ -82,7 +82,6 @@ pub(crate) fn flagged(answer: Result<bool, Refused>) -> Reply
 pub(crate) fn united(answer: Result<(), Refused>) -> Reply
     ensures { result ≡ replies.united answer }
 {
-
     match answer {
         Ok(()) => Reply::Unit,
         Err(why) => Reply::Refused(why),

@@ -197,11 +197,7 @@ fn write_rest<D: Disk>(
 }
 
 /// Gives the job up.
-pub(crate) fn cancel<D: Disk>(
-    engine: &mut Engine<D>,
-    jobs: &mut Jobs<D>,
-    number: usize,
-) -> Reply
+pub(crate) fn cancel<D: Disk>(engine: &mut Engine<D>, jobs: &mut Jobs<D>, number: usize) -> Reply
     requires sound { IsSound D.tells (view_of engine.old.core) }
     requires jobs { IsTheirs D.tells (view_of engine.old.core) jobs.old }
     ensures sound { IsSound D.tells (view_of engine.new.core) }
