@@ -1,5 +1,5 @@
 -- The job of a run that hasn't ended, and giving it up.
-use Rattle.std.proofs.Common.{◌≡◌, ◌<◌, ℕ, Bool, true, false, Option, Some, None, Result, Ok, Err, refl, sym, ◌∙◌, subst}
+use Rattle.std.proofs.Common.{◌≡◌, ◌<◌, ℕ, Bool, true, false, Option, Some, None, Result, Ok, Err, refl, sym, ap, ◌∙◌, subst}
 use Rattle.std.specs.Prelude.{IfErr, IfSome, OnErr, OnOk}
 use Rattle.lethe_base.specs.History.{History}
 use Rattle.lethe_base.specs.Limits.{max_place}
@@ -9,12 +9,14 @@ use Rattle.lethe_base.specs.declared.refused.Refused.{Refused}
 use Rattle.lethe_base.specs.declared.refused.Refused.TheVariants.{Fault, Stopped, Backwards, Pinned, NothingDue, Cancelled, Exhausted, ReadFault, NoMemory, Damaged}
 use Rattle.lethe_disk.specs.declared.disk.Disk.{Ghosts}
 use Rattle.lethe_stored.specs.Stored.{Stored}
-use Rattle.lethe_job.specs.Tasks.{AreSound, inputs_in, plain_task}
+use Rattle.lethe_job.specs.Tasks.{AreSound, IsBegunIn, PlainTask, inputs_in, plain_task}
+use Rattle.lethe_job.specs.declared.job.Job.{Job}
 use Rattle.lethe_core.specs.Jobs.{IsAtWork, IsInFlight}
 use Rattle.lethe_core.specs.Reasons.{HasReason}
-use Rattle.lethe_core.specs.Running.{Holds}
+use Rattle.lethe_core.specs.Running.{Holds, IsSound}
 use Rattle.lethe_core.specs.Steps.{stepped_to}
 use Rattle.lethe_core.specs.View.{View}
+use Rattle.lethe_core.proofs.Installing.{begun_sound}
 use Rattle.lethe_engine.specs.StandsFor.{Opened, StandsFor}
 use Rattle.lethe_drive.specs.Answers.{IsCancel, IsKeptUp}
 use Rattle.lethe_drive.specs.Driving.{IsTheirs}
@@ -25,6 +27,11 @@ use Rattle.lethe_drive.proofs.Knowing.{known_held, known_of, not_stopped, ok_or_
 use Rattle.lethe_drive.proofs.Writing.{nothing_in}
 
 -- What is known of the job
+
+-- a job that may be asked was refused nothing
+pub worked_on : {T P : Type 0} (refused : Bool) (result : Result T Refused) → refused ≡ false → OnErr result (refused ≡ true) → OnOk result P → P
+worked_on refused (Ok x) asked spoilt works = works
+worked_on refused (Err why) asked spoilt works = absurd (nothing_in (sym asked ∙ spoilt))
 
 module _ {D Page Port : Type 0} {kind : Ghosts D Page Port} (Tells : Type 0) (view : View) (jobs : Jobs D Page Port kind) (is : IsTheirs Tells view jobs) (numbered : Numbered D Page Port kind)
     (there : jobs.there ≡ Some numbered) where
@@ -37,15 +44,29 @@ module _ {D Page Port : Type 0} {kind : Ghosts D Page Port} (Tells : Type 0) (vi
   pub theirs_sound : Tells → AreSound (inputs_in (plain_task numbered.job.task.value))
   theirs_sound = subst (λ (o : Option (Numbered D Page Port kind)). IfSome o (λ numbered. Tells → AreSound (inputs_in (plain_task numbered.job.task.value)))) there is.reads
 
+  -- where it is put back
+  pub theirs_back : IsTheirs Tells view (record jobs { there = Some numbered })
+  theirs_back = record { flies = theirs_flies; works = theirs_asked; reads = theirs_sound }
+
+  -- behind a call of it
+  pub theirs_called : {T : Type 0} (new : View) (job : Job D Page Port kind) (result : Result T Refused) → IsInFlight new job → OnErr result (job.refused ≡ true) → OnOk result (IsAtWork Tells new job)
+      → job.task.value ≡ numbered.job.task.value → IsTheirs Tells new (record jobs { there = Some (record numbered { job = job }) })
+  theirs_called new job result flies spoilt works task = record {
+    flies = flies;
+    works = λ asked. worked_on job.refused result asked spoilt works;
+    reads = subst (λ (task : PlainTask). Tells → AreSound (inputs_in task)) (sym (ap plain_task task)) theirs_sound;
+  }
+
+-- what a job that was begun merges is stored
+pub begun_reads : (Tells : Type 0) (view : View) (task : PlainTask) → IsSound Tells view → view.state.stopped ≡ None → (Tells → (s : Stored) → Holds view s → IsBegunIn s task) → Tells → AreSound (inputs_in task)
+begun_reads Tells view task sound runs begun told =
+    let held = sound.held told in
+    begun_sound view task (begun told) held.0 (record { remembers = held.1; running = held.2 runs })
+
 -- no job is there
 pub theirs_none : {D Page Port : Type 0} {kind : Ghosts D Page Port} (Tells : Type 0) (view : View) (begun : ℕ) (there : Option (Numbered D Page Port kind)) → there ≡ None
     → IsTheirs {D = D} {Page = Page} {Port = Port} {kind = kind} Tells view (record { begun = begun; there = there })
 theirs_none Tells view begun there none = subst (λ there. IsTheirs Tells view (record { begun = begun; there = there })) (sym none) (record { flies = tt; works = tt; reads = tt })
-
--- a job that may be asked was refused nothing
-pub worked_on : {T P : Type 0} (refused : Bool) (result : Result T Refused) → refused ≡ false → OnErr result (refused ≡ true) → OnOk result P → P
-worked_on refused (Ok x) asked spoilt works = works
-worked_on refused (Err why) asked spoilt works = absurd (nothing_in (sym asked ∙ spoilt))
 
 -- where nothing happens to the job in flight
 pub theirs_on : {D Page Port : Type 0} {kind : Ghosts D Page Port} (Tells : Type 0) (old new : View) (jobs : Jobs D Page Port kind) → new.flight ≡ old.flight → IsTheirs Tells old jobs → IsTheirs Tells new jobs
@@ -68,23 +89,23 @@ theirs_on {D} {Page} {Port} {kind} Tells old new jobs same is = record {
 
 -- Giving it up
 
-module _ (config : Fields) (opened : Opened) (h : History) (old new : View) (s : Stored) (known : IsKnown old s) (fetches faults begun : ℕ) (there : Option Going) where
-  kept_up : (t : Stored) (g : Option Going) (why : Refused) → HasReason ⊥ old.state old.faults new.faults why → (why ≡ NoMemory → ⊥) → ((last : ℕ) → why ≡ Exhausted last → ⊥)
-      → IsKeptUp (moment_of old s fetches faults begun there) (moment_of new t fetches faults begun g) why
-  kept_up t g (Fault place before after) is memory numbers = is
-  kept_up t g (Stopped at) is memory numbers = is
-  kept_up t g NoMemory is memory numbers = memory refl
-  kept_up t g (Exhausted last) is memory numbers = numbers last refl
-  kept_up t g (Backwards clock) is memory numbers = is
-  kept_up t g (Pinned pin limit) is memory numbers = is
-  kept_up t g NothingDue is memory numbers = is
-  kept_up t g (Cancelled first now) is memory numbers = is
-  kept_up t g (ReadFault before after) is memory numbers = is
-  kept_up t g (Damaged name) is memory numbers = is
+module _ (config : Fields) (opened : Opened) (h : History) (old new : View) (s : Stored) (known : IsKnown old s) (fetches faults begun : ℕ) (there gone : Option Going) (none : gone ≡ None) where
+  kept_up : (t : Stored) (why : Refused) → HasReason ⊥ old.state old.faults new.faults why → (why ≡ NoMemory → ⊥) → ((last : ℕ) → why ≡ Exhausted last → ⊥)
+      → IsKeptUp (moment_of old s fetches faults begun there) (moment_of new t fetches faults begun gone) why
+  kept_up t (Fault place before after) is memory numbers = is
+  kept_up t (Stopped at) is memory numbers = is
+  kept_up t NoMemory is memory numbers = memory refl
+  kept_up t (Exhausted last) is memory numbers = numbers last refl
+  kept_up t (Backwards clock) is memory numbers = is
+  kept_up t (Pinned pin limit) is memory numbers = is
+  kept_up t NothingDue is memory numbers = is
+  kept_up t (Cancelled first now) is memory numbers = is
+  kept_up t (ReadFault before after) is memory numbers = is
+  kept_up t (Damaged name) is memory numbers = is
 
   abbrev pub GivenUp : Result (Unit {0}) Refused → Type 0
   GivenUp result = (t : Stored) × IsKnown new t × StandsFor config opened (stepped_to h 0 Work result) new
-      × IsCancel h (moment_of old s fetches faults begun there) result (stepped_to h 0 Work result) (moment_of new t fetches faults begun None)
+      × IsCancel h (moment_of old s fetches faults begun there) result (stepped_to h 0 Work result) (moment_of new t fetches faults begun gone)
 
   pub given_up : (result : Result (Unit {0}) Refused) → StandsFor config opened (stepped_to h 0 Work result) new → (Holds old s → OnOk result (Holds new s))
       → ((old.state.stopped ≡ None → old.state.count < max_place) → new.flight ≡ None) → IfErr result (HasReason ⊥ old.state old.faults new.faults) → (result ≡ Err NoMemory → ⊥)
@@ -98,7 +119,7 @@ module _ (config : Fields) (opened : Opened) (h : History) (old new : View) (s :
           history = refl;
           why = tt;
           stops = stopped;
-          there = refl;
+          there = none;
           free = free;
           stored = λ done e. refl;
           begun = refl;
@@ -111,9 +132,9 @@ module _ (config : Fields) (opened : Opened) (h : History) (old new : View) (s :
     behind,
     record {
       history = refl;
-      why = kept_up behind.now.stored None why is (λ e. memory (λ i. Err (e i))) (λ last e. numbers last (λ i. Err (e i)));
+      why = kept_up behind.now.stored why is (λ e. memory (λ i. Err (e i))) (λ last e. numbers last (λ i. Err (e i)));
       stops = stopped;
-      there = refl;
+      there = none;
       free = free;
       stored = λ done e. absurd (ok_or_err done why (sym e));
       begun = refl;

@@ -1,5 +1,5 @@
 -- Whether a run has a job of a number.
-use Rattle.std.proofs.Common.{◌≡◌, ℕ, true, false, Option, Some, None, refl, sym, ap, ◌∙◌}
+use Rattle.std.proofs.Common.{◌≡◌, ℕ, true, false, Some, None, refl, sym, ap, ◌∙◌}
 use Rattle.std.specs.Prelude.{option_map}
 use Rattle.std.proofs.lemmas.Option.{none-some, same_Some}
 use Rattle.lethe_base.specs.History.{History}
@@ -18,6 +18,10 @@ module _ {D Page Port : Type 0} {kind : Ghosts D Page Port} (jobs : Jobs D Page 
 
   pub there_none : jobs.there ≡ None → there_of jobs ≡ None
   there_none is = λ i. option_map (λ (numbered : Numbered D Page Port kind). going_of numbered.number numbered.job) (is i)
+
+  -- the job is put back
+  pub put_back : (numbered : Numbered D Page Port kind) → jobs.there ≡ Some numbered → record jobs { there = Some numbered } ≡ jobs
+  put_back numbered is = λ i. record jobs { there = sym is i }
 
   module _ (h : History) (view : View) (s : Stored) (fetches faults number : ℕ) where
     abbrev now : Moment

@@ -1,0 +1,69 @@
+use Rattle.std.proofs.Common.{◌≡◌, Ok, Err, None, refl}
+use Rattle.std.specs.Prelude.{option_map}
+use Rattle.lethe_base.specs.declared.refused.Refused.TheVariants.{NothingDue, Stopped}
+use Rattle.lethe_advance.specs.Shown.{parts_by_level}
+use Rattle.lethe_job.specs.Tasks.{plain_task}
+use Rattle.lethe_core.specs.View.{flying_of, view_of}
+use Rattle.lethe_drive.specs.Moments.{there_of}
+use Rattle.lethe_drive.proofs.Freezing.{has_begun, has_not_begun, known_idle, some_mapped}
+use Rattle.lethe_drive.proofs.Giving.{begun_reads, theirs_on}
+use Rattle.lethe_drive.proofs.Knowing.{known_held, not_stopped, ok_or_err, refused_as}
+use Rattle.lethe_drive.proofs.working.begin.Goals as goal
+
+pub returns-in-Ok-clause-jobs : goal.returns-in-Ok-clause-jobs
+returns-in-Ok-clause-jobs g c =
+    let old = view_of c.args.engine.now.core in
+    let is = c.in-Ok.ensures in
+    let runs : old.state.stopped ≡ None = not_stopped old.state.stopped (λ at e. ok_or_err c.in-Ok.job (Stopped at) (is.stopped at e).0) in
+    record {
+      flies = is.works.flies;
+      works = λ asked. is.works;
+      reads = begun_reads g.D.Disk.tells old (plain_task c.in-Ok.job.task.value) c.requires.sound runs (λ told s holds. (is.begun told s holds).0);
+    }
+
+pub returns-in-Ok-clause-step : goal.returns-in-Ok-clause-step
+returns-in-Ok-clause-step g c = λ told config opened h stands s known fetches faults.
+    let old = view_of c.args.engine.now.core in
+    let new = view_of c.begin.new.self.core in
+    let jobs = c.args.jobs.now in
+    let job = c.in-Ok.job in
+    let is = c.in-Ok.ensures in
+    let runs : old.state.stopped ≡ None = not_stopped old.state.stopped (λ at e. ok_or_err job (Stopped at) (is.stopped at e).0) in
+    let begun = is.begun told s (known.held runs) in (
+      h,
+      s,
+      known_held new s begun.1,
+      is.stands told config opened h stands,
+      (
+        Ok jobs.begun,
+        refl,
+        has_begun h old new s fetches faults jobs.begun (there_of jobs) is.same.0 (is.idle told) g.D.Disk.tells job runs
+            (λ busy. ok_or_err job NothingDue (is.busy runs (some_mapped flying_of c.args.engine.now.core.flight busy)).0) begun.0 is.works is.unmade.0 is.unmade.2,
+      ),
+    )
+
+pub returns-in-Err-clause-jobs : goal.returns-in-Err-clause-jobs
+returns-in-Err-clause-jobs g c =
+    theirs_on g.D.Disk.tells (view_of c.args.engine.now.core) (view_of c.begin.new.self.core) c.args.jobs.now (λ i. option_map flying_of (c.in-Err.ensures.kept i)) c.requires.jobs
+
+pub returns-in-Err-clause-step : goal.returns-in-Err-clause-step
+returns-in-Err-clause-step g c = λ told config opened h stands s known fetches faults.
+    let old = view_of c.args.engine.now.core in
+    let new = view_of c.begin.new.self.core in
+    let jobs = c.args.jobs.now in
+    let why = c.in-Err.why in
+    let is = c.in-Err.ensures in
+    let flight : new.flight ≡ old.flight = λ i. option_map flying_of (is.kept i) in
+    let levels : new.levels ≡ old.levels = λ i. parts_by_level (is.same.1 i) in (
+      h,
+      s,
+      known_idle old new s (is.idle told) is.same.0 levels flight known,
+      is.stands told config opened h stands,
+      (
+        Err why,
+        refl,
+        has_not_begun h old new s fetches faults jobs.begun (there_of jobs) is.same.0 (is.idle told) g.D.Disk.tells told known why is.why flight
+            (λ at e. refused_as c.begin.result why (Stopped at) c.in-Err.is (c.begin.ensures.stopped at e).0)
+            (λ runs busy. refused_as c.begin.result why NothingDue c.in-Err.is (c.begin.ensures.busy runs (some_mapped flying_of c.args.engine.now.core.flight busy)).0),
+      ),
+    )

@@ -1,0 +1,72 @@
+use Rattle.std.proofs.Common.{◌≡◌, inl, inr, Some, None, sym, ◌∙◌}
+use Rattle.std.specs.Prelude.{option_map}
+use Rattle.lethe_base.specs.declared.call.Call.TheVariants.{Work}
+use Rattle.lethe_core.specs.Steps.{stepped_to}
+use Rattle.lethe_core.specs.View.{flying_of, view_of}
+use Rattle.lethe_drive.specs.Moments.{going_of, moment_of, there_of}
+use Rattle.lethe_drive.specs.Steps.{IsThere}
+use Rattle.lethe_drive.proofs.Giving.{given_up, theirs_back, theirs_flies, theirs_none}
+use Rattle.lethe_drive.proofs.Naming.{no_such, none_there, other_there, put_back, there_is, there_none}
+use Rattle.lethe_drive.proofs.working.cancel.Goals as goal
+
+pub returns-in_default-clause-jobs : goal.returns-in_default-clause-jobs
+returns-in_default-clause-jobs g c = theirs_none g.D.Disk.tells (view_of c.args.engine.now.core) c.args.jobs.now.begun c.take.new.self c.take.ensures.after
+
+pub returns-in_default-clause-step : goal.returns-in_default-clause-step
+returns-in_default-clause-step g c = λ told config opened h stands s known fetches faults.
+    let view = view_of c.args.engine.now.core in
+    let jobs = c.args.jobs.now in
+    let number = c.args.number in
+    let none : jobs.there ≡ None = sym c.take.ensures.value ∙ c.in_default.is in
+    let left : c.take.new.self ≡ jobs.there = c.take.ensures.after ∙ sym none in (
+      h,
+      s,
+      known,
+      stands,
+      inl (no_such jobs h view s fetches faults number (IsThere number (moment_of view s fetches faults jobs.begun (there_of jobs))) (none_there jobs h view s fetches faults number none)
+          (record jobs { there = c.take.new.self }) (λ i. record jobs { there = left i })),
+    )
+
+pub returns-then-numbered-number-clause-jobs : goal.returns-then-numbered-number-clause-jobs
+returns-then-numbered-number-clause-jobs g c =
+    theirs_back g.D.Disk.tells (view_of c.args.engine.now.core) c.args.jobs.now c.requires.jobs c.in-Some.numbered (sym c.take.ensures.value ∙ c.in-Some.is)
+
+pub returns-then-numbered-number-clause-step : goal.returns-then-numbered-number-clause-step
+returns-then-numbered-number-clause-step g c = λ told config opened h stands s known fetches faults.
+    let view = view_of c.args.engine.now.core in
+    let jobs = c.args.jobs.now in
+    let number = c.args.number in
+    let there : jobs.there ≡ Some c.in-Some.numbered = sym c.take.ensures.value ∙ c.in-Some.is in (
+      h,
+      s,
+      known,
+      stands,
+      inl (no_such jobs h view s fetches faults number (IsThere number (moment_of view s fetches faults jobs.begun (there_of jobs)))
+          (other_there jobs h view s fetches faults number c.in-Some.numbered there c.if-numbered-number.true) (record jobs { there = Some c.in-Some.numbered }) (put_back jobs c.in-Some.numbered there)),
+    )
+
+pub cancel-requires-clause-flies : goal.cancel-requires-clause-flies
+cancel-requires-clause-flies g c = λ lifetimes outlive.
+    theirs_flies g.D.Disk.tells (view_of c.args.engine.now.core) c.args.jobs.now c.requires.jobs c.in-Some.numbered (sym c.take.ensures.value ∙ c.in-Some.is)
+
+pub returns-clause-jobs : goal.returns-clause-jobs
+returns-clause-jobs g c = theirs_none g.D.Disk.tells (view_of c.cancel.new.self.core) c.args.jobs.now.begun c.take.new.self c.take.ensures.after
+
+pub returns-clause-step : goal.returns-clause-step
+returns-clause-step g c = λ told config opened h stands s known fetches faults.
+    let old = view_of c.args.engine.now.core in
+    let new = view_of c.cancel.new.self.core in
+    let jobs = c.args.jobs.now in
+    let numbered = c.in-Some.numbered in
+    let there : jobs.there ≡ Some numbered = sym c.take.ensures.value ∙ c.in-Some.is in
+    let gone = record jobs { there = c.take.new.self } in
+    let is = c.cancel.ensures in
+    let given =
+    given_up config opened h old new s known fetches faults jobs.begun (there_of jobs) (there_of gone) (there_none gone c.take.ensures.after) c.cancel.result (is.stands told config opened h stands 0)
+    (is.held told s) (λ may i. option_map flying_of (is.free may i)) is.why is.no_memory is.exhausted (λ at e. (is.stopped at e).0) in (
+      stepped_to h 0 Work c.cancel.result,
+      given.0,
+      given.1,
+      given.2,
+      inr (going_of numbered.number numbered.job, (there_is jobs numbered there, c.if-numbered-number.false), c.cancel.result, c.united.ensures, given.3),
+    )
