@@ -8,3 +8,4 @@ pub mod Naming
 pub mod Giving
 pub mod Resting
 pub mod Stepping
+pub mod Installing

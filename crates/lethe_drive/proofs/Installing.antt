@@ -1,0 +1,168 @@
+-- Writing on and installing a job.
+use Rattle.std.proofs.Common.{◌≡◌, ◌≤◌, ◌⊎◌, inl, inr, ℕ, ◌+◌, ◌-◌, true, false, length, Option, Some, None, Result, Ok, Err, Vec, refl, sym, ap, ◌∙◌, subst, arith}
+use Rattle.std.specs.Prelude.{IfSome, option_map, sum_by}
+use Rattle.std.specs.declared.alloc.Global.{Global}
+use Rattle.lethe_base.specs.History.{History}
+use Rattle.lethe_base.specs.Limits.{max_place}
+use Rattle.lethe_base.specs.declared.call.Call.TheVariants.{Work}
+use Rattle.lethe_base.specs.declared.config.Fields.{Fields}
+use Rattle.lethe_base.specs.declared.refused.Refused.{Refused}
+use Rattle.lethe_build.specs.Drafts.{numbers_for}
+use Rattle.lethe_build.specs.declared.draft.Draft.{Draft}
+use Rattle.lethe_disk.specs.declared.disk.Disk.{Ghosts}
+use Rattle.lethe_flush.specs.Made.{pages_in}
+use Rattle.lethe_stored.specs.Stored.{Stored}
+use Rattle.lethe_job.specs.Tasks.{AreSound, PlainTask, inputs_in, plain_task}
+use Rattle.lethe_job.specs.declared.job.Job.{Job}
+use Rattle.lethe_core.specs.Changes.{refused_to}
+use Rattle.lethe_core.specs.Jobs.{IsAtWork, IsInFlight, IsWhole}
+use Rattle.lethe_core.specs.Merges.{IsInstalled}
+use Rattle.lethe_core.specs.Reasons.{HasReason, IsUnreadable}
+use Rattle.lethe_core.specs.Running.{Holds}
+use Rattle.lethe_core.specs.View.{View, flying_of, view_of}
+use Rattle.lethe_core.specs.declared.flight.Flight.{Flight}
+use Rattle.lethe_core.specs.declared.holding.Core.{Core}
+use Rattle.lethe_engine.specs.Jobs as engine
+use Rattle.lethe_engine.specs.StandsFor.{Opened, StandsFor}
+use Rattle.lethe_drive.specs.Answers.{IsInstall, IsJobRefusal, IsShortToInstall}
+use Rattle.lethe_drive.specs.Driving.{IsTheirs, IsWritingOn}
+use Rattle.lethe_drive.specs.Moments.{Going, IsKnown, Moment, going_of, moment_of, there_of}
+use Rattle.lethe_drive.specs.Replies.{united}
+use Rattle.lethe_drive.specs.Steps.{IsAsked, IsNoSuch, IsStep}
+use Rattle.lethe_drive.specs.declared.event.Event.TheVariants.{Install}
+use Rattle.lethe_drive.specs.declared.event.Reply.{Reply}
+use Rattle.lethe_drive.specs.declared.event.Reply.TheVariants.{NoSuch}
+use Rattle.lethe_drive.specs.declared.jobs.Jobs.{Jobs}
+use Rattle.lethe_drive.specs.declared.jobs.Numbered.{Numbered}
+use Rattle.lethe_drive.proofs.Knowing.{count_same, known_held, not_stopped, stopped_same}
+use Rattle.lethe_drive.proofs.Naming.{no_such, there_is}
+use Rattle.lethe_drive.proofs.Reasons.{reason_on}
+use Rattle.lethe_drive.proofs.Writing.{nothing_in, outputs_for, some_of, spoilt}
+
+module _ {D Page Port : Type 0} {kind : Ghosts D Page Port} where
+  -- no job is in flight
+  pub no_flight : (core : Core D Page Port kind) → core.flight ≡ None → (view_of core).flight ≡ None
+  no_flight core none = λ i. option_map (λ (flight : Flight D Page Port kind). flying_of flight) (none i)
+
+  -- the task of a job that is handed back
+  pub task_back : (job whole back : Job D Page Port kind) → whole.task.value ≡ job.task.value → back.task ≡ whole.task → back.task.value ≡ job.task.value
+  task_back job whole back task handed = let same : back.task.value ≡ whole.task.value = λ i. (handed i).value in same ∙ task
+
+  -- a job that was refused something is there still
+  pub theirs_spoilt : (Tells : Type 0) (view : View) (begun number : ℕ) (job back : Job D Page Port kind) → back.task.value ≡ job.task.value → (Tells → AreSound (inputs_in (plain_task job.task.value)))
+      → IsInFlight view back → back.refused ≡ true → IsTheirs {D = D} {Page = Page} {Port = Port} {kind = kind} Tells view (record { begun = begun; there = Some (record { number = number; job = back }) })
+  theirs_spoilt Tells view begun number job back task reads flies refused = record {
+    flies = flies;
+    works = λ asked. absurd (nothing_in (sym asked ∙ refused));
+    reads = λ told. subst (λ (task : PlainTask). AreSound (inputs_in task)) (sym (ap plain_task task)) (reads told);
+  }
+
+  module _ (Tells PortsFail : Type 0) (h : History) (old : View) (s : Stored) (number fetches faults begun : ℕ) (job : Job D Page Port kind) where
+    abbrev before : Moment
+    before = moment_of old s fetches faults begun (Some (going_of number job))
+
+    abbrev behind : View → Stored → Job D Page Port kind → Moment
+    behind new t back = moment_of new t fetches faults begun (Some (going_of number back))
+
+    -- why it was refused, with the job as it is behind that
+    abbrev Cause : View → Stored → Job D Page Port kind → Refused → Type 0
+    Cause new t back why = IsJobRefusal PortsFail (IsShortToInstall (going_of number job) (behind new t back)) before (going_of number job) (kind.port_faults back.port) (behind new t back) why
+
+    not_installed : (new : View) (t : Stored) (back : Job D Page Port kind) (why : Refused) → back.task.value ≡ job.task.value → back.refused ≡ true → Cause new t back why
+        → IsInstall PortsFail (going_of number job) h before (Err why) (refused_to h 0 Work why) (behind new t back)
+    not_installed new t back why task refused cause = record {
+      history = refl;
+      answers = (record { port_faults = kind.port_faults back.port; there = spoilt Tells PortsFail job back task number refused }, cause);
+      begun = refl;
+      port = record { fetches = refl; port_faults = refl };
+    }
+
+    unwritten : (new : View) (t : Stored) (back : Job D Page Port kind) (why : Refused)
+        → ((b : ℕ) × (n : ℕ) × (old.faults ≤ b) × (n ≤ new.faults) × HasReason (max_place ≤ new.state.next) old.state b n why)
+        ⊎ IsUnreadable (Unit {0}) PortsFail (kind.port_faults job.port) (kind.port_faults back.port) why → Cause new t back why
+    unwritten new t back why (inl is) =
+        inl (is.0, is.1, is.2, is.3, reason_on (max_place ≤ new.state.next) (IsShortToInstall (going_of number job) (behind new t back)) old.state old.state is.0 is.1 refl refl why is.4 (λ last e runs short. inl short))
+    unwritten new t back why (inr is) = inr is
+
+    -- a page that was left was not written
+    pub rest_refused : (new : View) (t : Stored) (back : Job D Page Port kind) (why : Refused) → back.task.value ≡ job.task.value → back.refused ≡ true
+        → IsWritingOn PortsFail old new (kind.port_faults job.port) (kind.port_faults back.port) s t (Err why)
+        → IsInstall PortsFail (going_of number job) h before (Err why) (refused_to h 0 Work why) (behind new t back)
+    rest_refused new t back why task refused is = not_installed new t back why task refused (unwritten new t back why is.why)
+
+    -- all pages are written
+    module _ (told : Tells) (sound : AreSound (inputs_in (plain_task job.task.value))) (mid : View) (whole : Job D Page Port kind) (task : whole.task.value ≡ job.task.value) (works : IsAtWork Tells mid whole)
+        (is : IsWhole whole) where
+      short_of : (new : View) (t : Stored) (back : Job D Page Port kind) → new.state.next ≡ mid.state.next → engine.IsShortToInstall mid whole → IsShortToInstall (going_of number job) (behind new t back)
+      short_of new t back drawn short =
+          let some = some_of whole.drafts is.made in
+          let drafts : Vec Draft Global = some.0 in
+          let P : Option (Vec Draft Global) → Type 0 = λ o. IfSome o (λ drafts. max_place ≤ mid.state.next + (sum_by numbers_for drafts.items - whole.written)) in
+          let few : max_place ≤ mid.state.next + (sum_by numbers_for drafts.items - whole.written) = subst P some.1 short in
+          let Q : Option (Vec Draft Global) → Type 0 = λ o. IfSome o (λ drafts. whole.written ≡ length (pages_in drafts.items)) in
+          let all : whole.written ≡ length (pages_in drafts.items) = subst Q some.1 is.all in
+          inr (
+            drafts.items,
+            outputs_for Tells PortsFail job whole task told sound works.job_is drafts some.1,
+            subst (λ (n : ℕ). max_place ≤ n + (sum_by numbers_for drafts.items - length (pages_in drafts.items))) (sym drawn)
+                (subst (λ (n : ℕ). max_place ≤ mid.state.next + (sum_by numbers_for drafts.items - n)) all few),
+          )
+
+      -- the engine refused to install it
+      pub install_refused : (config : Fields) (opened : Opened) → StandsFor config opened h old → StandsFor config opened h mid → old.faults ≤ mid.faults → (new : View) (t : Stored)
+          (back : Job D Page Port kind) (why : Refused) → back.task.value ≡ job.task.value → back.refused ≡ true → HasReason (engine.IsShortToInstall mid whole) mid.state mid.faults new.faults why
+          → new.state.next ≡ mid.state.next → IsInstall PortsFail (going_of number job) h before (Err why) (refused_to h 0 Work why) (behind new t back)
+      install_refused config opened was stands later new t back why same refused reason drawn =
+          not_installed new t back why same refused (inl (
+            mid.faults,
+            new.faults,
+            later,
+            omega arith,
+            reason_on (engine.IsShortToInstall mid whole) (IsShortToInstall (going_of number job) (behind new t back)) old.state mid.state mid.faults new.faults
+                (stopped_same config h old mid was.now stands.now) (count_same config h old mid was.now stands.now) why reason (λ last e runs short. short_of new t back drawn short),
+          ))
+
+    -- it was installed
+    pub installed_whole : (done : Unit {0}) (mid new : View) (whole : Job D Page Port kind) (m : Stored) (there : Option Going) → whole.task.value ≡ job.task.value → IsKnown mid m → m ≡ s
+        → ((at : ℕ) → mid.state.stopped ≡ Some at → ⊥) → (Holds mid m → (t : Stored) × IsInstalled m (plain_task whole.task.value) t × Holds new t) → new.flight ≡ None → there ≡ None
+        → (t : Stored) × IsKnown new t × IsInstall PortsFail (going_of number job) h before (Ok done) h (moment_of new t fetches faults begun there)
+    installed_whole done mid new whole m there task known same never install free none =
+        let made = install (known.held (not_stopped mid.state.stopped never)) in (
+          made.0,
+          known_held new made.0 made.2,
+          record {
+            history = refl;
+            answers = record {
+              installed = subst (λ (m : Stored). IsInstalled m (plain_task job.task.value) made.0) same (subst (λ (task : PlainTask). IsInstalled m task made.0) (ap plain_task task) made.1);
+              flight = free;
+              there = none;
+            };
+            begun = refl;
+            port = record { fetches = refl; port_faults = refl };
+          },
+        )
+
+  module _ (jobs : Jobs D Page Port kind) where
+    module _ (h : History) (view : View) (s : Stored) (fetches faults number : ℕ) where
+      abbrev now : Moment
+      now = moment_of view s fetches faults jobs.begun (there_of jobs)
+
+      -- it isn't what is asked for, and what was taken is there again
+      pub not_asked : ((going : Going) → IsAsked number now going → ⊥) → (there : Option (Numbered D Page Port kind)) → jobs.there ≡ there
+          → IsNoSuch (IsAsked number now) h now NoSuch h (moment_of view s fetches faults jobs.begun (there_of {D = D} {Page = Page} {Port = Port} {kind = kind} (record { begun = jobs.begun; there = there })))
+      not_asked never there is = no_such jobs h view s fetches faults number (IsAsked number now) never (record { begun = jobs.begun; there = there }) (λ i. record { begun = jobs.begun; there = (sym is) i })
+
+    -- the job that is there was asked to be installed
+    pub asked_to_install : (PortsFail : Type 0) (h g : History) (old : View) (s : Stored) (fetches faults number : ℕ) (numbered : Numbered D Page Port kind) (result : Result (Unit {0}) Refused) (reply : Reply)
+        (new : Moment) → jobs.there ≡ Some numbered → numbered.number ≡ number → numbered.job.refused ≡ false → reply ≡ united result
+        → IsInstall PortsFail (going_of numbered.number numbered.job) h (moment_of old s fetches faults jobs.begun (Some (going_of numbered.number numbered.job))) result g new
+        → IsStep PortsFail h (moment_of old s fetches faults jobs.begun (there_of jobs)) (Install number) reply g new
+    asked_to_install PortsFail h g old s fetches faults number numbered result reply new is same asked told install =
+        let there = there_is jobs numbered is in
+        inr (
+          going_of numbered.number numbered.job,
+          ((there, same), asked),
+          result,
+          told,
+          subst (λ (going : Option Going). IsInstall PortsFail (going_of numbered.number numbered.job) h (moment_of old s fetches faults jobs.begun going) result g new) (sym there) install,
+        )
