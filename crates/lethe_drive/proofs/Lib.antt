@@ -6,3 +6,4 @@ pub mod Writing
 pub mod Paging
 pub mod Naming
 pub mod Giving
+pub mod Changing
