@@ -9,3 +9,4 @@ pub mod Giving
 pub mod Resting
 pub mod Stepping
 pub mod Installing
+pub mod Changing

@@ -1,0 +1,239 @@
+use Rattle.std.proofs.Common.{◌≡◌, ℕ, List, Result, Ok, Err, Vec, Global, refl, sym, ap, ◌∙◌, subst, option_map}
+use Rattle.lethe_base.specs.History.{History}
+use Rattle.lethe_base.specs.Keys.{Bytes}
+use Rattle.lethe_base.specs.Read.{Answer, Read}
+use Rattle.lethe_base.specs.Read as reads
+use Rattle.lethe_base.specs.declared.call.Call.TheVariants as call
+use Rattle.lethe_base.specs.declared.config.Fields.{Fields}
+use Rattle.lethe_base.specs.declared.refused.Refused.{Refused}
+use Rattle.lethe_disk.proofs.Quieting.{on_ok}
+use Rattle.lethe_stored.specs.Stored.{Stored}
+use Rattle.lethe_state.specs.Room.{IsFlushed, IsFrozen, IsShortToFlush, IsShortToFreeze}
+use Rattle.lethe_core.specs.Changes.{answered_to, put_over}
+use Rattle.lethe_core.specs.Steps.{stepped_to}
+use Rattle.lethe_core.specs.View.{View, flying_of, view_of}
+use Rattle.lethe_engine.specs.Deletes.{IsDeleteOver}
+use Rattle.lethe_engine.specs.Reads.{listed}
+use Rattle.lethe_engine.specs.StandsFor.{Opened, StandsFor}
+use Rattle.lethe_engine.specs.Work.{HasNoFlush, HasNoFreeze}
+use Rattle.lethe_drive.specs.Answers.{IsRead, ReadAnswers}
+use Rattle.lethe_drive.specs.Moments.{IsKnown, Moment, moment_of, there_of}
+use Rattle.lethe_drive.specs.Replies.{got, paired}
+use Rattle.lethe_drive.specs.Steps.{IsStep}
+use Rattle.lethe_drive.specs.declared.event.Event.{Event}
+use Rattle.lethe_drive.specs.declared.event.Reply.{Reply}
+use Rattle.lethe_drive.specs.declared.event.Reply.TheVariants as reply
+use Rattle.lethe_drive.proofs.Changing.{changed}
+use Rattle.lethe_drive.proofs.Freezing.{worked}
+use Rattle.lethe_drive.proofs.Giving.{theirs_on}
+use Rattle.lethe_drive.proofs.Reading.{is_read}
+use Rattle.lethe_drive.proofs.answering.answer.Goals as goal
+
+-- what the call for an event comes to
+abbrev Comes : Type 0 → Fields → Opened → History → Moment → View → (Stored → Moment) → Reply → Event → Type 0
+Comes PortsFail config opened h before new behind reply event = (g : History) × (t : Stored) × IsKnown new t × StandsFor config opened g new × IsStep PortsFail h before event reply g (behind t)
+
+-- what a read gives, seen as another value
+abbrev seen_as : {T U : Type 0} → (T → U) → Result T Refused → Result U Refused
+seen_as see (Ok given) = Ok (see given)
+seen_as see (Err why) = Err why
+
+module _ {T U : Type 0} (see : T → U) (PortsFail : Type 0) (read : Read) (told : U → Answer) (h : History) (old new : Moment) where
+  answers_as : (result : Result T Refused) → ReadAnswers PortsFail read (λ given. told (see given)) h old result new → ReadAnswers PortsFail read told h old (seen_as see result) new
+  answers_as (Ok given) is = is
+  answers_as (Err why) is = is
+
+  read_as : (result : Result T Refused) (g : History) → IsRead PortsFail read (λ given. told (see given)) h old result g new → IsRead PortsFail read told h old (seen_as see result) g new
+  read_as result g is = record { history = is.history; answers = answers_as result is.answers; same = is.same }
+
+-- Put
+
+pub returns-in-Put-clause-jobs : goal.returns-in-Put-clause-jobs
+returns-in-Put-clause-jobs g c =
+    theirs_on g.D.Disk.tells (view_of c.args.engine.now.core) (view_of c.put.new.self.core) c.args.jobs.now (ap (option_map flying_of) c.put.ensures.flight) c.requires.jobs
+
+pub returns-in-Put-clause-step : goal.returns-in-Put-clause-step
+returns-in-Put-clause-step g c = λ told config opened h stands s known.
+    let old = view_of c.args.engine.now.core in
+    let new = view_of c.put.new.self.core in
+    let jobs = c.args.jobs.now in
+    let Put = call.Put c.in-Put.key c.in-Put.dkey c.in-Put.value in
+    let result = c.put.result in
+    let fetches = g.D.Disk.fetches c.put.new.port in
+    let faults = g.D.Disk.port_faults c.put.new.port in
+    let before = moment_of old s (g.D.Disk.fetches c.args.port.now) (g.D.Disk.port_faults c.args.port.now) jobs.begun (there_of jobs) in
+    let stood = c.put.ensures.stands told config opened h stands 0 in
+    let is = changed g.D.Disk.tells g.D.Disk.ports_fail told Put (λ s headers next. next ≡ put_over s c.in-Put.key c.in-Put.dkey c.in-Put.value) config opened h old new s known
+    (g.D.Disk.fetches c.args.port.now) fetches (g.D.Disk.port_faults c.args.port.now) faults jobs.begun (there_of jobs) stands (ap (option_map flying_of) c.put.ensures.flight)
+    result stood c.put.ensures.place c.put.ensures.why
+    (λ holds. on_ok result _ _ (c.put.ensures.written told s holds) (λ done. (done.0, done.1, put_over done.0 c.in-Put.key c.in-Put.dkey c.in-Put.value, done.2, refl, done.3, done.4)))
+    (λ at e. (c.put.ensures.stopped at e).0) (λ runs full. (c.put.ensures.exhausted runs full).0) in
+    subst (Comes g.D.Disk.ports_fail config opened h before new (λ t. moment_of new t fetches faults jobs.begun (there_of jobs)) c.placed.result) (sym c.in-Put.is)
+    (answered_to h 0 Put result, is.0, is.1, stood, (result, c.placed.ensures, is.2))
+
+-- Delete
+
+pub returns-in-Delete-clause-jobs : goal.returns-in-Delete-clause-jobs
+returns-in-Delete-clause-jobs g c =
+    theirs_on g.D.Disk.tells (view_of c.args.engine.now.core) (view_of c.delete.new.self.core) c.args.jobs.now (ap (option_map flying_of) c.delete.ensures.flight) c.requires.jobs
+
+pub returns-in-Delete-clause-step : goal.returns-in-Delete-clause-step
+returns-in-Delete-clause-step g c = λ told config opened h stands s known.
+    let old = view_of c.args.engine.now.core in
+    let new = view_of c.delete.new.self.core in
+    let jobs = c.args.jobs.now in
+    let Delete = call.Delete c.in-Delete.key in
+    let result = c.delete.result in
+    let fetches = g.D.Disk.fetches c.delete.new.port in
+    let faults = g.D.Disk.port_faults c.delete.new.port in
+    let before = moment_of old s (g.D.Disk.fetches c.args.port.now) (g.D.Disk.port_faults c.args.port.now) jobs.begun (there_of jobs) in
+    let stood = c.delete.ensures.stands told config opened h stands 0 in
+    let is = changed g.D.Disk.tells g.D.Disk.ports_fail told Delete (λ s headers next. IsDeleteOver s headers c.in-Delete.key next) config opened h old new s known
+    (g.D.Disk.fetches c.args.port.now) fetches (g.D.Disk.port_faults c.args.port.now) faults jobs.begun (there_of jobs) stands (ap (option_map flying_of) c.delete.ensures.flight)
+    result stood c.delete.ensures.place c.delete.ensures.why (c.delete.ensures.written told s)
+    (λ at e. (c.delete.ensures.stopped at e).0) (λ runs full. (c.delete.ensures.exhausted runs full).0) in
+    subst (Comes g.D.Disk.ports_fail config opened h before new (λ t. moment_of new t fetches faults jobs.begun (there_of jobs)) c.placed-in-Delete.result) (sym c.in-Delete.is)
+    (answered_to h 0 Delete result, is.0, is.1, stood, (result, c.placed-in-Delete.ensures, is.2))
+
+-- Get
+
+pub returns-in-Ok-clause-step : goal.returns-in-Ok-clause-step
+returns-in-Ok-clause-step g c = λ told config opened h stands s known.
+    let view = view_of c.args.engine.now.core in
+    let jobs = c.args.jobs.now in
+    let fetches = g.D.Disk.fetches c.get.new.port in
+    let faults = g.D.Disk.port_faults c.get.new.port in
+    let before = moment_of view s (g.D.Disk.fetches c.args.port.now) (g.D.Disk.port_faults c.args.port.now) jobs.begun (there_of jobs) in
+    let is = is_read g.D.Disk.ports_fail (reads.Get c.in-Get.key) reads.Found h view s (g.D.Disk.fetches c.args.port.now) fetches (g.D.Disk.port_faults c.args.port.now) faults jobs.begun (there_of jobs)
+    c.get.result (c.get.ensures.answer told config h stands.now) c.get.ensures.why c.get.ensures.fault c.get.ensures.can_fail (c.get.ensures.undamaged told c.requires.sound) in
+    subst (Comes g.D.Disk.ports_fail config opened h before view (λ t. moment_of view t fetches faults jobs.begun (there_of jobs)) (reply.Got c.in-Ok.held)) (sym c.in-Get.is)
+    (h, s, known, stands, (c.get.result, sym (ap got c.in-Ok.is), is))
+
+pub returns-in-Get-clause-step : goal.returns-in-Get-clause-step
+returns-in-Get-clause-step g c = λ told config opened h stands s known.
+    let view = view_of c.args.engine.now.core in
+    let jobs = c.args.jobs.now in
+    let fetches = g.D.Disk.fetches c.get.new.port in
+    let faults = g.D.Disk.port_faults c.get.new.port in
+    let before = moment_of view s (g.D.Disk.fetches c.args.port.now) (g.D.Disk.port_faults c.args.port.now) jobs.begun (there_of jobs) in
+    let is = is_read g.D.Disk.ports_fail (reads.Get c.in-Get.key) reads.Found h view s (g.D.Disk.fetches c.args.port.now) fetches (g.D.Disk.port_faults c.args.port.now) faults jobs.begun (there_of jobs)
+    c.get.result (c.get.ensures.answer told config h stands.now) c.get.ensures.why c.get.ensures.fault c.get.ensures.can_fail (c.get.ensures.undamaged told c.requires.sound) in
+    subst (Comes g.D.Disk.ports_fail config opened h before view (λ t. moment_of view t fetches faults jobs.begun (there_of jobs)) (reply.Refused c.in-Err.why)) (sym c.in-Get.is)
+    (h, s, known, stands, (c.get.result, sym (ap got c.in-Err.is), is))
+
+-- Scan
+
+abbrev items_in : Vec (Bytes × ℕ × Bytes) Global → List (Bytes × ℕ × Bytes)
+items_in pairs = pairs.items
+
+pub returns-in-Ok-scan-clause-step : goal.returns-in-Ok-scan-clause-step
+returns-in-Ok-scan-clause-step g c = λ told config opened h stands s known.
+    let view = view_of c.args.engine.now.core in
+    let jobs = c.args.jobs.now in
+    let Scan = reads.Scan c.in-Scan.lo c.in-Scan.hi in
+    let fetches = g.D.Disk.fetches c.scan.new.port in
+    let faults = g.D.Disk.port_faults c.scan.new.port in
+    let before = moment_of view s (g.D.Disk.fetches c.args.port.now) (g.D.Disk.port_faults c.args.port.now) jobs.begun (there_of jobs) in
+    let now = moment_of view s fetches faults jobs.begun (there_of jobs) in
+    let is = is_read g.D.Disk.ports_fail Scan (λ pairs. listed (items_in pairs)) h view s (g.D.Disk.fetches c.args.port.now) fetches (g.D.Disk.port_faults c.args.port.now) faults jobs.begun (there_of jobs)
+    c.scan.result (c.scan.ensures.answer told config h stands.now) c.scan.ensures.why c.scan.ensures.fault c.scan.ensures.can_fail (c.scan.ensures.undamaged told c.requires.sound) in
+    let told_as : reply.Pairs c.of.result ≡ paired (seen_as items_in c.scan.result) = ap reply.Pairs c.of.ensures ∙ sym (ap (λ result. paired (seen_as items_in result)) c.in-Ok-scan.is) in
+    subst (Comes g.D.Disk.ports_fail config opened h before view (λ t. moment_of view t fetches faults jobs.begun (there_of jobs)) (reply.Pairs c.of.result)) (sym c.in-Scan.is)
+    (h, s, known, stands, (seen_as items_in c.scan.result, told_as, read_as items_in g.D.Disk.ports_fail Scan listed h before now c.scan.result h is))
+
+pub returns-in-Scan-clause-step : goal.returns-in-Scan-clause-step
+returns-in-Scan-clause-step g c = λ told config opened h stands s known.
+    let view = view_of c.args.engine.now.core in
+    let jobs = c.args.jobs.now in
+    let Scan = reads.Scan c.in-Scan.lo c.in-Scan.hi in
+    let fetches = g.D.Disk.fetches c.scan.new.port in
+    let faults = g.D.Disk.port_faults c.scan.new.port in
+    let before = moment_of view s (g.D.Disk.fetches c.args.port.now) (g.D.Disk.port_faults c.args.port.now) jobs.begun (there_of jobs) in
+    let now = moment_of view s fetches faults jobs.begun (there_of jobs) in
+    let is = is_read g.D.Disk.ports_fail Scan (λ pairs. listed (items_in pairs)) h view s (g.D.Disk.fetches c.args.port.now) fetches (g.D.Disk.port_faults c.args.port.now) faults jobs.begun (there_of jobs)
+    c.scan.result (c.scan.ensures.answer told config h stands.now) c.scan.ensures.why c.scan.ensures.fault c.scan.ensures.can_fail (c.scan.ensures.undamaged told c.requires.sound) in
+    subst (Comes g.D.Disk.ports_fail config opened h before view (λ t. moment_of view t fetches faults jobs.begun (there_of jobs)) (reply.Refused c.in-Err-scan.why)) (sym c.in-Scan.is) (
+      h,
+      s,
+      known,
+      stands,
+      (seen_as items_in c.scan.result, sym (ap (λ result. paired (seen_as items_in result)) c.in-Err-scan.is), read_as items_in g.D.Disk.ports_fail Scan listed h before now c.scan.result h is),
+    )
+
+-- Freeze
+
+pub returns-in-Freeze-clause-jobs : goal.returns-in-Freeze-clause-jobs
+returns-in-Freeze-clause-jobs g c =
+    theirs_on g.D.Disk.tells (view_of c.args.engine.now.core) (view_of c.freeze.new.self.core) c.args.jobs.now (ap (option_map flying_of) c.freeze.ensures.flight) c.requires.jobs
+
+pub returns-in-Freeze-clause-step : goal.returns-in-Freeze-clause-step
+returns-in-Freeze-clause-step g c = λ told config opened h stands s known.
+    let old = view_of c.args.engine.now.core in
+    let new = view_of c.freeze.new.self.core in
+    let jobs = c.args.jobs.now in
+    let result = c.freeze.result in
+    let fetches = g.D.Disk.fetches c.args.port.now in
+    let faults = g.D.Disk.port_faults c.args.port.now in
+    let stood = c.freeze.ensures.stands told config opened h stands 0 in
+    let is = worked config opened h old new s known fetches faults jobs.begun (there_of jobs) HasNoFreeze IsFrozen (IsShortToFreeze old.state) (ap (option_map flying_of) c.freeze.ensures.flight)
+    result stood c.freeze.ensures.idle (λ none. (let same = c.freeze.ensures.same none in λ i. view_of (same i).core)) (c.freeze.ensures.done told s) c.freeze.ensures.why (λ at e. (c.freeze.ensures.stopped at e).0) in
+    subst (Comes g.D.Disk.ports_fail config opened h (moment_of old s fetches faults jobs.begun (there_of jobs)) new (λ t. moment_of new t fetches faults jobs.begun (there_of jobs)) c.flagged.result) (sym c.in-Freeze.is)
+    (stepped_to h 0 call.Work result, is.0, is.1, stood, (result, c.flagged.ensures, is.2))
+
+-- Flush
+
+pub returns-in-Flush-clause-jobs : goal.returns-in-Flush-clause-jobs
+returns-in-Flush-clause-jobs g c =
+    theirs_on g.D.Disk.tells (view_of c.args.engine.now.core) (view_of c.flush.new.self.core) c.args.jobs.now (ap (option_map flying_of) c.flush.ensures.flight) c.requires.jobs
+
+pub returns-in-Flush-clause-step : goal.returns-in-Flush-clause-step
+returns-in-Flush-clause-step g c = λ told config opened h stands s known.
+    let old = view_of c.args.engine.now.core in
+    let new = view_of c.flush.new.self.core in
+    let jobs = c.args.jobs.now in
+    let result = c.flush.result in
+    let fetches = g.D.Disk.fetches c.args.port.now in
+    let faults = g.D.Disk.port_faults c.args.port.now in
+    let stood = c.flush.ensures.stands told config opened h stands 0 in
+    let is = worked config opened h old new s known fetches faults jobs.begun (there_of jobs) HasNoFlush IsFlushed (IsShortToFlush old.state) (ap (option_map flying_of) c.flush.ensures.flight)
+    result stood c.flush.ensures.idle (λ none. (let same = c.flush.ensures.same none in λ i. view_of (same i).core)) (c.flush.ensures.done told s) c.flush.ensures.why (λ at e. (c.flush.ensures.stopped at e).0) in
+    subst (Comes g.D.Disk.ports_fail config opened h (moment_of old s fetches faults jobs.begun (there_of jobs)) new (λ t. moment_of new t fetches faults jobs.begun (there_of jobs)) c.flagged-in-Flush.result) (sym c.in-Flush.is)
+    (stepped_to h 0 call.Work result, is.0, is.1, stood, (result, c.flagged-in-Flush.ensures, is.2))
+
+-- Jobs
+
+pub returns-in-Begin-clause-step : goal.returns-in-Begin-clause-step
+returns-in-Begin-clause-step g c = λ told config opened h stands s known.
+    let jobs = c.args.jobs.now in
+    let new = c.begin.new.jobs in
+    let fetches = g.D.Disk.fetches c.args.port.now in
+    let faults = g.D.Disk.port_faults c.args.port.now in
+    subst (Comes g.D.Disk.ports_fail config opened h (moment_of (view_of c.args.engine.now.core) s fetches faults jobs.begun (there_of jobs)) (view_of c.begin.new.engine.core)
+    (λ t. moment_of (view_of c.begin.new.engine.core) t fetches faults new.begun (there_of new)) c.begin.result) (sym c.in-Begin.is) (c.begin.ensures.step told config opened h stands s known fetches faults)
+
+pub returns-in-WriteOut-clause-step : goal.returns-in-WriteOut-clause-step
+returns-in-WriteOut-clause-step g c = λ told config opened h stands s known.
+    let jobs = c.args.jobs.now in
+    let new = c.write_out.new.jobs in
+    let fetches = g.D.Disk.fetches c.args.port.now in
+    let faults = g.D.Disk.port_faults c.args.port.now in
+    subst (Comes g.D.Disk.ports_fail config opened h (moment_of (view_of c.args.engine.now.core) s fetches faults jobs.begun (there_of jobs)) (view_of c.write_out.new.engine.core)
+    (λ t. moment_of (view_of c.write_out.new.engine.core) t fetches faults new.begun (there_of new)) c.write_out.result) (sym c.in-WriteOut.is) (c.write_out.ensures.step told config opened h stands s known fetches faults)
+
+pub returns-in-Install-clause-step : goal.returns-in-Install-clause-step
+returns-in-Install-clause-step g c = λ told config opened h stands s known.
+    let jobs = c.args.jobs.now in
+    let new = c.install.new.jobs in
+    let fetches = g.D.Disk.fetches c.args.port.now in
+    let faults = g.D.Disk.port_faults c.args.port.now in
+    subst (Comes g.D.Disk.ports_fail config opened h (moment_of (view_of c.args.engine.now.core) s fetches faults jobs.begun (there_of jobs)) (view_of c.install.new.engine.core)
+    (λ t. moment_of (view_of c.install.new.engine.core) t fetches faults new.begun (there_of new)) c.install.result) (sym c.in-Install.is) (c.install.ensures.step told config opened h stands s known fetches faults)
+
+pub returns-clause-step : goal.returns-clause-step
+returns-clause-step g c = λ told config opened h stands s known.
+    let jobs = c.args.jobs.now in
+    let new = c.cancel.new.jobs in
+    let fetches = g.D.Disk.fetches c.args.port.now in
+    let faults = g.D.Disk.port_faults c.args.port.now in
+    subst (Comes g.D.Disk.ports_fail config opened h (moment_of (view_of c.args.engine.now.core) s fetches faults jobs.begun (there_of jobs)) (view_of c.cancel.new.engine.core)
+    (λ t. moment_of (view_of c.cancel.new.engine.core) t fetches faults new.begun (there_of new)) c.cancel.result) (sym c.in-Cancel.is) (c.cancel.ensures.step told config opened h stands s known fetches faults)
