@@ -12,7 +12,6 @@ use Rattle.lethe_core.proofs.Histories.{head_done, tail_done}
 use Rattle.lethe_core.proofs.Standing.{stands_holds}
 use Rattle.lethe_engine.specs.StandsFor.{Opened, StandsFor}
 use Rattle.lethe_drive.specs.Moments.{Going, IsKnown, IsMoment, moment_of}
-use Rattle.lethe_drive.specs.declared.jobs.Jobs.{Jobs}
 
 -- what a store that stands for a history remembers
 pub known_of : (config : Fields) (opened : Opened) (h : History) (view : View) (stands : StandsFor config opened h view) → IsKnown view stands.now.stored
