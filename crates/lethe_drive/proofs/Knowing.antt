@@ -1,6 +1,5 @@
 -- What is known of a store between two calls of a run.
 use Rattle.std.proofs.Common.{◌≡◌, ℕ, [], ◌∷◌, ◌++◌, Option, Some, None, Result, Ok, Err, refl, sym, ap, ◌∙◌, subst}
-use Rattle.std.specs.Prelude.{IsErrAnd}
 use Rattle.lethe_base.specs.History.{AreDone, Change, History}
 use Rattle.lethe_base.specs.declared.call.Did.TheVariants.{Done, Failed}
 use Rattle.lethe_base.specs.declared.config.Fields.{Fields}
@@ -64,11 +63,6 @@ module _ (config : Fields) (h : History) (old new : View) (was : StandsNow confi
 -- what is acknowledged is not refused
 pub ok_or_err : {T E : Type 0} (x : T) (e : E) → ◌≡◌ {A = Result T E} (Ok x) (Err e) → ⊥
 ok_or_err x e both = cc
-
--- what `?` hands on
-pub err_is : {T E : Type 0} (result : Result T E) (why : E) → IsErrAnd result (λ e. e ≡ why) → result ≡ Err why
-err_is (Ok x) why is = absurd is
-err_is (Err e) why is = λ i. Err (is i)
 
 -- the same refusal, as another result
 pub refused_as : {T U E : Type 0} (result : Result T E) (why other : E) → result ≡ Err why → result ≡ Err other → ◌≡◌ {A = Result U E} (Err why) (Err other)
