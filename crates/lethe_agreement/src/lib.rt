@@ -9,6 +9,3 @@ mod taken;
 pub use laws::sound_pages_agree;
 pub use sound::is_sound;
 pub use taken::TakenKeys;
-
-#[cfg(test)]
-mod tests;

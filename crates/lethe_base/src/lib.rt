@@ -43,6 +43,3 @@ pub use refused::Refused;
 pub use shape::{FileFacts, Shape};
 pub use value::{MAX_VALUE, Value, ValueRefused};
 pub use writing::{entry_len, write_entry};
-
-#[cfg(test)]
-mod tests;

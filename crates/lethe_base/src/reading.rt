@@ -184,6 +184,3 @@ pub fn read_entry(alloc: Global, bytes: &[u8], at: usize) -> Result<(Entry, usiz
 {
     read_parts(alloc, bytes, at)
 }
-
-#[cfg(test)]
-mod tests;

@@ -16,6 +16,3 @@ pub use built::Built;
 pub use draft::{Draft, numbers_for};
 pub use laws::{numbered_lines, numbered_tiles};
 pub use page::line_of;
-
-#[cfg(test)]
-mod tests;

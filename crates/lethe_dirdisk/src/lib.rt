@@ -17,6 +17,3 @@ pub use file_name::{read_file_name, spell_file_name};
 pub use laws::one_file_name;
 pub use opening::DirRefused;
 pub use page::{DirPage, DirPort};
-
-#[cfg(test)]
-mod tests;

@@ -5,8 +5,6 @@ mod answering;
 mod driving;
 mod event;
 mod jobs;
-#[cfg(test)]
-mod tests;
 mod working;
 
 pub use driving::drive;

@@ -10,6 +10,3 @@ mod working;
 
 pub use engine::{Engine, OpenRefused};
 pub use telling::Stat;
-
-#[cfg(test)]
-mod tests;

@@ -16,6 +16,3 @@ pub use claim::Claim;
 pub use laws::{choice_is_free, deadlines_rise, files_come_in_order, meeting_is_sharing};
 pub use level_times::cum;
 pub use plan::Plan;
-
-#[cfg(test)]
-mod tests;

@@ -16,6 +16,3 @@ mod view;
 pub use cursor::FileCursor;
 pub use laws::one_entry;
 pub use view::FileView;
-
-#[cfg(test)]
-mod tests;

@@ -17,6 +17,3 @@ pub use made::MadeFiles;
 pub use making::make_files;
 pub use pending::pending_of;
 pub use replaying::newest_of;
-
-#[cfg(test)]
-mod tests;

@@ -17,6 +17,3 @@ pub use laws::one_header;
 pub use reading::read_header;
 pub use refused::HeaderRefused;
 pub use writing::write_header;
-
-#[cfg(test)]
-mod tests;

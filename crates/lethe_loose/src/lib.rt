@@ -10,6 +10,3 @@ pub(crate) use contents::Contents;
 pub use removing::remove_pages;
 pub use writing::write_page;
 pub use written::Written;
-
-#[cfg(test)]
-mod tests;

@@ -15,6 +15,3 @@ pub use manifest::{Cited, LastCert, Manifest};
 pub use reading::read_manifest;
 pub use refused::ManifestRefused;
 pub use writing::write_manifest;
-
-#[cfg(test)]
-mod tests;

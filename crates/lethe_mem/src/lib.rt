@@ -8,6 +8,3 @@ mod vec_buffer;
 pub use buffer::{Buffer, first_from};
 pub use laws::{one_list, own_entries, pairs_answer};
 pub use vec_buffer::VecBuffer;
-
-#[cfg(test)]
-mod tests;

@@ -275,6 +275,3 @@ impl Disk for MemDisk {
         self.faults
     }
 }
-
-#[cfg(test)]
-mod tests;

@@ -13,6 +13,3 @@ pub use gathering::merge_entries;
 pub use laws::one_merged;
 pub use merger::Merger;
 pub use settling::settle;
-
-#[cfg(test)]
-mod tests;

@@ -14,6 +14,3 @@ pub use laws::one_page;
 pub use reading::read_page;
 pub use refused::PageRefused;
 pub use writing::write_page;
-
-#[cfg(test)]
-mod tests;

@@ -7,6 +7,3 @@ mod scanning;
 
 pub use found::get;
 pub use scanning::scan;
-
-#[cfg(test)]
-mod tests;

@@ -18,6 +18,3 @@ pub use beginning::begin;
 pub use opened::Opened;
 pub use opening::{OpenWhy, open};
 pub use tidying::tidy;
-
-#[cfg(test)]
-mod tests;

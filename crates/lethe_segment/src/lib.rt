@@ -13,6 +13,3 @@ pub use laws::{ascending_places, one_record, one_segment, spelling_holds};
 pub use record::Record;
 pub use replaying::{SegmentRefused, replay};
 pub use writing::{CLOSED_GATE, OPEN_GATE, write_record, write_segment};
-
-#[cfg(test)]
-mod tests;

@@ -13,6 +13,3 @@ pub use laws::{
     put_is_recorded, room_stands,
 };
 pub use state::State;
-
-#[cfg(test)]
-mod tests;

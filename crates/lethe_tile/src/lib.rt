@@ -12,6 +12,3 @@ pub use filter::Filter;
 pub use laws::one_weave;
 pub use ordering::is_ascending;
 pub use weaving::{Tile, weave};
-
-#[cfg(test)]
-mod tests;

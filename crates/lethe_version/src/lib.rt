@@ -14,6 +14,3 @@ pub use laws::one_newest;
 pub use opening::open_file;
 pub use shared::Shared;
 pub use version::Version;
-
-#[cfg(test)]
-mod tests;

@@ -1,6 +1,0 @@
-use Rattle.std.proofs.Common.{All}
-use Rattle.lethe_build.specs.Drafts.{IsDraft}
-use Rattle.lethe_build.proofs.tests.build_row.Given as goal
-
-abbrev pub invariant-loop-draft : goal.invariant-loop-draft
-invariant-loop-draft l = All IsDraft l.draft-iterator.rest.items

@@ -1,6 +1,0 @@
-use Rattle.std.proofs.Common.{All}
-use Rattle.lethe_base.specs.Spelling.{HasSpelling}
-use Rattle.lethe_build.proofs.tests.entries_of.Given as goal
-
-abbrev pub invariant-loop-word : goal.invariant-loop-word
-invariant-loop-word l = All HasSpelling l.entries.items
