@@ -25,19 +25,26 @@ fn tour(rt: &HostRuntime) -> Result<(), &'static str> {
     let mut engine = Engine::open(alloc, disk, &config).map_err(|_| "store")?;
     let mut port = engine.new_port(alloc).map_err(|_| "port")?;
 
-    for (name, day, text) in [
-        ("client:17", 20291231, "12 Elm Street"),
-        ("client:18", 20310401, "3 Oak Lane"),
-    ] {
-        let value = value(alloc, text)?;
-        engine.put(alloc, &mut port, key(alloc, name)?, day, value).map_err(|_| "put")?;
-    }
-    engine.delete(alloc, &mut port, key(alloc, "client:17")?).map_err(|_| "delete")?;
+    let (elm, oak) = (value(alloc, "12 Elm Street")?, value(alloc, "3 Oak Lane")?);
+    engine
+        .put(alloc, &mut port, key(alloc, "client:17")?, 20291231, elm)
+        .map_err(|_| "put")?;
+    engine
+        .put(alloc, &mut port, key(alloc, "client:18")?, 20310401, oak)
+        .map_err(|_| "put")?;
+    engine
+        .delete(alloc, &mut port, key(alloc, "client:17")?)
+        .map_err(|_| "delete")?;
 
-    let gone = engine.get(alloc, &mut port, &key(alloc, "client:17")?).map_err(|_| "get")?;
+    let gone = engine
+        .get(alloc, &mut port, &key(alloc, "client:17")?)
+        .map_err(|_| "get")?;
     println!(rt; "client:17 is there: {}", gone.is_some()).map_err(|_| "print")?;
     let (first, last) = (key(alloc, "client:")?, key(alloc, "client;")?);
-    for (key, day, value) in engine.scan(alloc, &mut port, &first, &last).map_err(|_| "scan")? {
+    let found = engine
+        .scan(alloc, &mut port, &first, &last)
+        .map_err(|_| "scan")?;
+    for (key, day, value) in found {
         let (key, value) = (text(key.bytes()), text(value.bytes()));
         println!(rt; "{key} until {day}: {value}").map_err(|_| "print")?;
     }
