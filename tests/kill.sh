@@ -3,7 +3,10 @@
 # the map after a front of that run's changes, and after all of them where the run had finished: so nothing is lost that a
 # finished run was answered. Tried with wrong bodies: where the disk's list of names leaves out gates or segments, the first kill
 # leaves a store that can't be read.
+# shellcheck source=tests/common.sh
 . "$(dirname -- "$0")/common.sh"
+needs python3
+needs_program
 python3 - "$program" "$work/store" "${1:-$(od -An -N4 -tu4 /dev/urandom | tr -d ' ')}" <<'END'
 import random
 import subprocess
