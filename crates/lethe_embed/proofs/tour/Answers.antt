@@ -1,0 +1,6 @@
+use denote.Param.Send.{sendable}
+use Rattle.lethe_dirdisk.proofs.Crossing.{port_send}
+use Rattle.lethe_embed.proofs.tour.Goals as goal
+
+pub open-requires-2-send-D-Port : goal.open-requires-2-send-D-Port
+open-requires-2-send-D-Port c κs = search (sendable, port_send)
