@@ -34,13 +34,20 @@ def need_program():
         stop("the program isn't built: ./lethe --build")
 
 
-def watch(pid, ended, seen):
-    """Notes what a process has handed to the system, until it has ended."""
-    while not ended.wait(0.01):
-        try:
-            with open(f"/proc/{pid}/io", encoding="ascii") as it:
-                seen.append(int(dict(row.split(": ") for row in it.read().splitlines())["wchar"]))
-        except (OSError, ValueError):
+def told(pid, file, name):
+    """A number that /proc tells of a process, or 0 where it doesn't."""
+    try:
+        with open(f"/proc/{pid}/{file}", encoding="ascii") as it:
+            return int(next((row.split()[1] for row in it if row.startswith(f"{name}:")), 0))
+    except (OSError, ValueError):
+        return 0
+
+
+def watch(pid, ended, peaks):
+    """Notes the greatest memory of a process so far, until it has ended: what wait4 tells is at least this program's own memory, from before the other began."""
+    while True:
+        peaks.append(told(pid, "status", "VmHWM") * 1024)
+        if ended.wait(0.002):
             return
 
 
@@ -49,21 +56,23 @@ def timed(store, text, *options):
     with tempfile.TemporaryFile() as source, tempfile.TemporaryFile() as sink:
         source.write(text)
         source.seek(0)
-        ended, seen = threading.Event(), [0]
+        ended, peaks = threading.Event(), []
         begun = time.monotonic()
         child = subprocess.Popen([LETHE, store, "run", *options], stdin=source, stdout=sink)
-        watcher = threading.Thread(target=watch, args=(child.pid, ended, seen))
+        watcher = threading.Thread(target=watch, args=(child.pid, ended, peaks))
         watcher.start()
-        _, status, used = os.wait4(child.pid, 0)
+        # Once it has ended, and isn't waited for yet, all that it has written is told.
+        os.waitid(os.P_PID, child.pid, os.WEXITED | os.WNOWAIT)
         taken = time.monotonic() - begun
+        written = told(child.pid, "io", "wchar")
         ended.set()
         watcher.join()
-        child.returncode = os.waitstatus_to_exitcode(status)
+        child.wait()
         sink.seek(0)
         answers = sink.read()
     if child.returncode:
         stop(f"the program ended with {child.returncode}: {answers[-200:]}")
-    return Run(taken, used.ru_maxrss * 1024, max(max(seen) - len(answers), 0), answers)
+    return Run(taken, max(peaks), max(written - len(answers), 0), answers)
 
 
 def scripts(lines):
