@@ -1,9 +1,12 @@
-# What the scripts of this folder share. Each is run by hand, as tests/NAME.sh, and ends with a line that begins with PASS
-# or FAIL and with status 0 or 1. They stand in no gate, since they need time, a file system of one's own or root.
-root=$(CDPATH= cd -- "$(dirname -- "$0")/.." && pwd)
+# shellcheck shell=sh
+# What the scripts of this folder share. tests/all runs them all, and each runs alone as tests/NAME.sh. It ends with a line that begins
+# with PASS, FAIL or SKIP, and with status 0, 1 or 77. They stand in no gate, since they need time, a file system of one's own or root.
+root=$(CDPATH='' cd -- "$(dirname -- "$0")/.." && pwd)
 this=$(basename -- "$0" .sh)
 work=$(mktemp -d) || exit 1
 trap 'rm -rf "$work"' EXIT
+trap 'exit 130' INT
+trap 'exit 143' TERM
 
 pass() {
     echo "PASS $this: $*"
@@ -15,9 +18,24 @@ fail() {
     exit 1
 }
 
-# Builds the program where it isn't built.
-"$root/lethe" >"$work/words"
-[ "$(cat "$work/words")" = "bad words" ] || fail "the program isn't there"
+# skip WHY: what it needs and lacks.
+skip() {
+    echo "SKIP $this: $*"
+    exit 77
+}
+
+# needs COMMAND..: skips where one isn't there.
+needs() {
+    for one in "$@"; do
+        command -v "$one" >/dev/null || skip "it needs the command $one, which isn't there"
+    done
+}
+
+# Skips where the proved program isn't built, or is older than the sources.
+needs_program() {
+    [ "$("$root/lethe" --version | tail -n 1)" = "proved program" ] || skip "it needs the proved program, which isn't built or is older than its sources: run ./lethe --build"
+}
+
 program=$root/crates/lethe_cli/out/lethe_cli
 
 # run FOLDER: carries out the script on standard input over the store in a folder.
@@ -26,4 +44,5 @@ run() {
 }
 
 # all: the line that reads every key of these scripts.
+# shellcheck disable=SC2034
 all='1 scan ! ~'

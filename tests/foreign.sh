@@ -1,6 +1,8 @@
 #!/bin/sh
 # A folder with a name that is no object's is refused, and left as it was.
+# shellcheck source=tests/common.sh
 . "$(dirname -- "$0")/common.sh"
+needs_program
 store=$work/store
 
 # Each name, what it is, and the bytes.

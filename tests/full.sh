@@ -1,10 +1,13 @@
 #!/bin/sh
 # A disk that is full gives a named fault, and loses nothing that was acknowledged. It needs root, for a file system of 1 MiB.
+# shellcheck source=tests/common.sh
 . "$(dirname -- "$0")/common.sh"
-[ "$(id -u)" = 0 ] || fail "it needs root, to mount a small file system"
+[ "$(id -u)" = 0 ] || skip "it needs root, to mount a small file system"
+needs mount umount
+needs_program
 small=$work/small
 mkdir "$small"
-mount -t tmpfs -o size=1M lethe_full "$small" || fail "no file system could be mounted"
+mount -t tmpfs -o size=1M lethe_full "$small" 2>/dev/null || skip "it needs to mount a small file system, which is refused here"
 trap 'umount "$small"; rm -rf "$work"' EXIT
 store=$small/store
 

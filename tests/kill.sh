@@ -1,9 +1,12 @@
 #!/bin/sh
-# Kills the program with signal 9 at a random moment of 200 runs over one folder, tests/kill.sh [SEED]. Behind each, the store is
+# Kills the program with signal 9 at a random moment of 200 runs over one folder, or as many as two minutes give, tests/kill.sh [SEED]. Behind each, the store is
 # the map after a front of that run's changes, and after all of them where the run had finished: so nothing is lost that a
 # finished run was answered. Tried with wrong bodies: where the disk's list of names leaves out gates or segments, the first kill
 # leaves a store that can't be read.
+# shellcheck source=tests/common.sh
 . "$(dirname -- "$0")/common.sh"
+needs python3
+needs_program
 python3 - "$program" "$work/store" "${1:-$(od -An -N4 -tu4 /dev/urandom | tr -d ' ')}" <<'END'
 import random
 import subprocess
@@ -13,6 +16,9 @@ import time
 LETHE, STORE, SEED = sys.argv[1], sys.argv[2], int(sys.argv[3])
 RUNS = 200
 LINES = 400
+SECONDS = 120
+# So many runs at least have to be killed between their first change and their last.
+ENOUGH = 10
 
 
 def fail(why):
@@ -55,11 +61,14 @@ def read():
 
 def main():
     rng = random.Random(SEED)
-    state, place, killed, midway, longest = {}, 0, 0, 0, 0.05
+    state, place, killed, midway, longest, first = {}, 0, 0, 0, None, time.monotonic()
     for turn in range(RUNS):
+        if time.monotonic() - first > SECONDS:
+            break
         script = list(changes(rng))
         begun = time.monotonic()
-        out, status = lethe("".join(spelled(*it) for it in script), rng.random() * longest * 1.2)
+        # The first run isn't killed: it tells how long one takes.
+        out, status = lethe("".join(spelled(*it) for it in script), longest and rng.random() * longest * 1.2)
         if status not in (None, 0):
             fail(f"run {turn}: status {status}, {out[-200:]!r}")
         if status == 0:
@@ -79,7 +88,10 @@ def main():
         killed += status is None
         midway += place < now < place + LINES
         place = now
-    print(f"PASS kill: seed {SEED}, {RUNS} runs, {killed} killed, {midway} of them between their first change and their last, {place} changes in the end")
+        turns = turn + 1
+    if midway < ENOUGH:
+        fail(f"only {midway} of {turns} runs were killed between their first change and their last, which says too little: the device is too slow or too busy")
+    print(f"PASS kill: seed {SEED}, {turns} runs, {killed} killed, {midway} of them between their first change and their last, {place} changes in the end")
 
 
 main()

@@ -1,7 +1,9 @@
 #!/bin/sh
 # What one run puts and deletes, the next one reads. Tried with wrong bodies: where the disk's list of names leaves out gates, the
 # second run ends with status 6, and where it leaves out segments, with status 8.
+# shellcheck source=tests/common.sh
 . "$(dirname -- "$0")/common.sh"
+needs_program
 store=$work/store
 
 [ "$(printf '1 put a 5 x\n1 put b 6 y\n1 del a\n1 put c 7 z\n' | run "$store")" = "$(printf '1 ok 1\n1 ok 2\n1 ok 3\n1 ok 4')" ] || fail "the first run"

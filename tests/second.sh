@@ -2,7 +2,9 @@
 # While a process has a folder, a second one is refused: while the first waits for its script, and all the time that it
 # carries a long one out. Tried with a wrong body: where the disk lets the lock go at its first sync, long before it is handed back,
 # a second process is let in while the first one runs.
+# shellcheck source=tests/common.sh
 . "$(dirname -- "$0")/common.sh"
+needs_program
 store=$work/store
 
 mkfifo "$work/script"
