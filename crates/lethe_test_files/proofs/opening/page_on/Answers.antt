@@ -8,7 +8,7 @@ use Rattle.lethe_disk.proofs.Objects.{object_inserted}
 use Rattle.lethe_memdisk.specs.Held.{Held, seen_of}
 use Rattle.lethe_commit.proofs.Listed.{listed, found_decides}
 use Rattle.lethe_disk.proofs.Objects.{absent_of}
-use Rattle.lethe_rows.proofs.files.page_on.Goals as goal
+use Rattle.lethe_test_files.proofs.opening.page_on.Goals as goal
 
 pub create-requires : goal.create-requires
 create-requires c =
