@@ -37,39 +37,52 @@ fn is_sound_at(
     Ok(is_sound(alloc, tile, line_at(tile, place), taken, bytes)?)
 }
 
+/// The place of a line, the bytes that are tried as its page, and whether they are told to be sound.
+type Row<'a> = (usize, &'a [u8], bool);
+
+/// The place of the first row of which something else is told, where the pages are tried in turn.
+fn first_other(alloc: Global, file: &[u8], rows: &[Row]) -> Result<Option<usize>, Fail> {
+    let header = header_of(alloc, file)?;
+    let mut taken = TakenKeys::new(alloc);
+    for (row, (place, bytes, sound)) in rows.iter().enumerate() {
+        if is_sound_at(alloc, &header, *place, &mut taken, bytes)? != *sound {
+            return Ok(Some(row));
+        }
+    }
+    Ok(None)
+}
+
 #[test]
 fn the_keys_of_sound_pages_are_taken(rt: HostRuntime) -> Result<(), Fail> {
-    let alloc = rt.alloc();
-    let header = header_of(alloc, &FILE)?;
-    let mut taken = TakenKeys::new(alloc);
-    assert!(rt; is_sound_at(alloc, &header, 0, &mut taken, &PAGE_AC)?);
-    assert!(rt; is_sound_at(alloc, &header, 1, &mut taken, &PAGE_BD)?);
-    assert!(rt; !is_sound_at(alloc, &header, 0, &mut taken, &PAGE_AC)?);
+    let rows: [Row; 3] = [
+        (0, &PAGE_AC, true),
+        (1, &PAGE_BD, true),
+        (0, &PAGE_AC, false),
+    ];
+    assert_eq!(rt; first_other(rt.alloc(), &FILE, &rows)?, None);
     Ok(())
 }
 
 #[test]
 fn other_bytes_are_unsound(rt: HostRuntime) -> Result<(), Fail> {
-    let alloc = rt.alloc();
-    let header = header_of(alloc, &FILE)?;
-    let mut taken = TakenKeys::new(alloc);
     let mut changed = PAGE_AC;
     changed[53] = b'y';
-    for bytes in [changed.as_slice(), &PAGE_AC[..53], &PAGE_BD, b""] {
-        assert!(rt; !is_sound_at(alloc, &header, 0, &mut taken, bytes)?);
-    }
-    assert!(rt; is_sound_at(alloc, &header, 0, &mut taken, &PAGE_AC)?);
+    let rows: [Row; 5] = [
+        (0, &changed, false),
+        (0, &PAGE_AC[..53], false),
+        (0, &PAGE_BD, false),
+        (0, b"", false),
+        (0, &PAGE_AC, true),
+    ];
+    assert_eq!(rt; first_other(rt.alloc(), &FILE, &rows)?, None);
     Ok(())
 }
 
 #[test]
 fn a_key_outside_of_the_tile_is_unsound(rt: HostRuntime) -> Result<(), Fail> {
-    let alloc = rt.alloc();
     let mut file = FILE;
     file[GREATEST_KEY] = b'c';
-    let header = header_of(alloc, &file)?;
-    let mut taken = TakenKeys::new(alloc);
-    assert!(rt; is_sound_at(alloc, &header, 0, &mut taken, &PAGE_AC)?);
-    assert!(rt; !is_sound_at(alloc, &header, 1, &mut taken, &PAGE_BD)?);
+    let rows: [Row; 2] = [(0, &PAGE_AC, true), (1, &PAGE_BD, false)];
+    assert_eq!(rt; first_other(rt.alloc(), &file, &rows)?, None);
     Ok(())
 }

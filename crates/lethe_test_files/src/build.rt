@@ -3,11 +3,13 @@ ghost use Rattle.std.specs.Prelude.{◌≤◌, All, IfOk};
 ghost use Rattle.lethe_base.specs.Limits.{max_place};
 ghost use Rattle.lethe_base.specs.Spelling.{HasSpelling};
 ghost use Rattle.lethe_build.specs.Drafts.{IsDraft};
+ghost use Rattle.lethe_header.specs.Headers.{HasSpelling as IsHeader};
 
 use crate::common::{FILE, PAGE_AC, PAGE_BD, key_of};
+use crate::opening::header_of;
 use lethe_base::{Body, Config, Entry, Fields, MAX_PLACE, Pick, Value, read_entry, write_entry};
 use lethe_build::{Built, Draft, drafts_of, numbers_for};
-use lethe_header::{read_header, write_header};
+use lethe_header::{Header, PageLine, write_header};
 use lethe_page::read_page;
 use lethe_tile::is_ascending;
 use std::alloc::Global;
@@ -129,41 +131,76 @@ fn build_row(alloc: Global, row: &[&str], config: &Config, first: u64) -> Result
     build_files(alloc, entries_of(alloc, row)?, config, first)
 }
 
-/// Files as a text: of each the numbers of its pages, and behind `:` that of its header.
+/// Adds the numbers of the file's pages, and behind `:` that of its header.
+fn write_numbers(text: &mut String, file: &Built) -> Result<(), Fail> {
+    for tile in file.header.tiles.items() {
+        for line in tile.pages.items() {
+            write!(text, "{} ", line.no)?;
+        }
+    }
+    write!(text, ":{} ", file.header.no)?;
+    Ok(())
+}
+
+/// The numbers of the files.
 fn numbers_in(alloc: Global, files: &[Built]) -> Result<String, Fail> {
     let mut text = String::new(alloc);
     for file in files {
-        for tile in file.header.tiles.items() {
-            for line in tile.pages.items() {
-                write!(text, "{} ", line.no)?;
-            }
-        }
-        write!(text, ":{} ", file.header.no)?;
+        write_numbers(&mut text, file)?;
     }
     Ok(text)
 }
 
+/// Whether what is read of the header is what the file says of it.
+fn is_header_of(alloc: Global, header: &Header, file: &Built) -> Result<bool, Fail>
+    requires { IsHeader header.now }
+{
+    let bytes = write_header(alloc, header)?;
+    Ok(header.no == file.header.no && bytes.as_slice() == file.header_bytes.items())
+}
+
+/// Whether what is read of the page is what the line says of it.
+fn is_page_of(alloc: Global, line: &PageLine, page: &[u8]) -> Result<bool, Fail> {
+    let (class, entries) = read_page(alloc, page).map_err(|_| "no entries")?;
+    Ok(class == line.class && entries.len() == line.entries as usize)
+}
+
 /// Whether what is read of the file's objects is what the file says of them.
 fn is_read_again(alloc: Global, file: &Built) -> Result<bool, Fail> {
-    let header = read_header(alloc, file.header_bytes.items()).map_err(|_| "no header")?;
-    let bytes = write_header(alloc, &header)?;
-    let mut same = header.no == file.header.no && bytes.as_slice() == file.header_bytes.items();
+    let header = header_of(alloc, file.header_bytes.items())?;
+    let mut same = is_header_of(alloc, &header, file)?;
     let mut pages = file.pages.items().iter();
     for tile in header.tiles.items() {
         for line in tile.pages.items() {
             let page = pages.next().ok_or("no page")?;
-            let (class, entries) = read_page(alloc, page.items()).map_err(|_| "no entries")?;
-            same = same && class == line.class && entries.len() == line.entries as usize;
+            same = same && is_page_of(alloc, line, page.items())?;
         }
     }
     Ok(same && pages.next().is_none())
 }
 
+/// The files of a row, with pages of `size` entries and tiles of `size` pages. What they say is read again of their bytes.
+fn built(alloc: Global, row: &[&str], size: u64, first: u64) -> Result<Vec<Built>, Fail> {
+    let files = build_row(alloc, row, &config_of(size, size)?, first)?;
+    for file in &files {
+        if !is_read_again(alloc, file)? {
+            Err("a file that isn't read again")?;
+        }
+    }
+    Ok(files)
+}
+
+/// The digest of `FILE`.
+const DIGEST: [u8; 32] =
+    *b"\x05u`\xed\x9d\x14\x80{\xc1\xd1a$\x80\xd7\xd2\x83v\x1d\x7f=\xca\xdb\x80%\xd8\xd5\x93\xc9\xd8\xa9\xc0\x06";
+
+/// The digest of the file of tombstones.
+const DIGEST_OF_TOMBS: [u8; 32] =
+    *b"\xa8Jq?\x81T\xe3ah\x9e\xd5^<\xc3\xe59\xbc\xac\x0e\x9a\xf4\xee\x02l\xc9\x93\x15\x13\xa7\xfd\x86<";
+
 #[test]
 fn one_file_is_built_of_four_entries(rt: HostRuntime) -> Result<(), Fail> {
-    let alloc = rt.alloc();
-    let row = ["a=11", "b=15", "c=12", "d=30"];
-    let files = build_row(alloc, &row, &config_of(2, 2)?, 1)?;
+    let files = built(rt.alloc(), &["a=11", "b=15", "c=12", "d=30"], 2, 1)?;
     let [file] = files.as_slice() else {
         return Err(Fail::new("one file"));
     };
@@ -173,41 +210,30 @@ fn one_file_is_built_of_four_entries(rt: HostRuntime) -> Result<(), Fail> {
     assert_eq!(rt; first.items(), PAGE_AC.as_slice());
     assert_eq!(rt; second.items(), PAGE_BD.as_slice());
     assert_eq!(rt; file.header_bytes.items(), FILE.as_slice());
-    assert_eq!(rt;
-        file.digest,
-        *b"\x05u`\xed\x9d\x14\x80{\xc1\xd1a$\x80\xd7\xd2\x83v\x1d\x7f=\xca\xdb\x80%\xd8\xd5\x93\xc9\xd8\xa9\xc0\x06"
-    );
-    assert!(rt; is_read_again(alloc, file)?);
+    assert_eq!(rt; file.digest, DIGEST);
     Ok(())
 }
 
 #[test]
 fn files_are_cut_and_numbered_in_turn(rt: HostRuntime) -> Result<(), Fail> {
     let alloc = rt.alloc();
-    let row = ["a=1", "b=2", "c=3", "d=4", "e=5"];
-    let files = build_row(alloc, &row, &config_of(1, 1)?, 4)?;
+    let files = built(alloc, &["a=1", "b=2", "c=3", "d=4", "e=5"], 1, 4)?;
     assert_eq!(rt;
         numbers_in(alloc, &files)?.as_str(),
         "4 5 :6 7 8 :9 10 :11 "
     );
-    for file in &files {
-        assert!(rt; is_read_again(alloc, file)?);
-    }
-    assert!(rt; build_row(alloc, &[], &config_of(1, 1)?, 4)?.is_empty());
+    assert!(rt; built(alloc, &[], 1, 4)?.is_empty());
     Ok(())
 }
 
 #[test]
 fn tombstones_are_a_page_of_their_own(rt: HostRuntime) -> Result<(), Fail> {
     let alloc = rt.alloc();
-    let row = ["a=9", "b-", "c=7", "d-", "e=5"];
-    let files = build_row(alloc, &row, &config_of(2, 2)?, 10)?;
+    let files = built(alloc, &["a=9", "b-", "c=7", "d-", "e=5"], 2, 10)?;
     assert_eq!(rt; numbers_in(alloc, &files)?.as_str(), "10 11 12 :13 ");
-    let file = files.first().ok_or("a file")?;
     assert_eq!(rt;
-        file.digest,
-        *b"\xa8Jq?\x81T\xe3ah\x9e\xd5^<\xc3\xe59\xbc\xac\x0e\x9a\xf4\xee\x02l\xc9\x93\x15\x13\xa7\xfd\x86<"
+        files.first().map(|file| file.digest),
+        Some(DIGEST_OF_TOMBS)
     );
-    assert!(rt; is_read_again(alloc, file)?);
     Ok(())
 }

@@ -1,6 +1,7 @@
 //! What several modules share: two pages and their file, keys and erases.
 
-use lethe_base::{Key, Pending, Range};
+use lethe_base::{Entry, Key, Pending, Range};
+use lethe_mem::{Buffer, VecBuffer};
 use std::alloc::Global;
 use std::test::Fail;
 
@@ -24,4 +25,11 @@ pub fn key_of(alloc: Global, text: &str) -> Result<Key, Fail> {
 pub fn erase_of(seq: u64, time: u64, lo: u64, hi: u64) -> Result<Pending, Fail> {
     let range = Range::new(lo, hi).ok_or("a range")?;
     Ok(Pending { seq, time, range })
+}
+
+/// Puts an entry into a buffer.
+pub fn insert(buffer: &mut VecBuffer, entry: Entry) -> Result<(), Fail> {
+    buffer.reserve()?;
+    buffer.insert(entry);
+    Ok(())
 }

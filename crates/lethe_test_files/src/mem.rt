@@ -1,6 +1,6 @@
 //! A buffer of entries.
 
-use crate::common::key_of;
+use crate::common::{insert, key_of};
 use lethe_base::{Body, Entry, Value};
 use lethe_mem::{Buffer, VecBuffer, first_from};
 use std::alloc::Global;
@@ -26,9 +26,9 @@ const KEPT: [(&str, u64, usize); 5] = [
     ("xx", 6, 5),
 ];
 
-fn put(alloc: Global, buffer: &mut VecBuffer, key: &str, seq: u64) -> Result<(), Fail> {
-    buffer.reserve()?;
-    buffer.insert(Entry {
+/// A put of the key at a place, which is its delete key too.
+fn put_of(alloc: Global, key: &str, seq: u64) -> Result<Entry, Fail> {
+    Ok(Entry {
         seq,
         key: key_of(alloc, key)?,
         body: Body::Put {
@@ -36,8 +36,7 @@ fn put(alloc: Global, buffer: &mut VecBuffer, key: &str, seq: u64) -> Result<(),
             value: Value::new(Vec::new(alloc))?,
         },
         since: None,
-    });
-    Ok(())
+    })
 }
 
 /// The place of the key's entry.
@@ -60,11 +59,11 @@ fn a_buffer_keeps_the_last_entry_of_each_key_in_order(rt: HostRuntime) -> Result
     let mut buffer = VecBuffer::new(alloc);
     assert!(rt; buffer.is_empty() && buffer.at(0).is_none());
     for (seq, key) in PUTS {
-        put(alloc, &mut buffer, key, seq)?;
+        insert(&mut buffer, put_of(alloc, key, seq)?)?;
     }
     let mut copy = buffer.copy()?;
-    put(alloc, &mut copy, "b", 8)?;
-    put(alloc, &mut copy, "m", 9)?;
+    insert(&mut copy, put_of(alloc, "b", 8)?)?;
+    insert(&mut copy, put_of(alloc, "m", 9)?)?;
     assert_eq!(rt; (buffer.len(), copy.len(), copy.is_empty()), (5, 6, false));
     for (place, (key, seq, lower)) in KEPT.into_iter().enumerate() {
         assert_eq!(rt; found(alloc, &buffer, key)?, Some(seq), "{key}");

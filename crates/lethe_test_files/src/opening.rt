@@ -38,13 +38,19 @@ fn page_on(alloc: Global, disk: &mut MemDisk, no: u64, bytes: &[u8]) -> Result<A
         kind: Kind::Page,
         no,
     };
-    let names = disk.names(alloc).map_err(|_| "no names")?;
+    let Ok(names) = disk.names(alloc) else {
+        return Err(Fail::new("names"));
+    };
     if names.contains(&name) {
         return Err(Fail::new("a new name"));
     }
-    disk.create(name, bytes).map_err(|_| "no object")?;
-    let page = disk.open_page(alloc, name).map_err(|_| "no open page")?;
-    Ok(Arc::new(alloc, page)?)
+    let Ok(()) = disk.create(name, bytes) else {
+        return Err(Fail::new("an object"));
+    };
+    match disk.open_page(alloc, name) {
+        Ok(page) => Ok(Arc::new(alloc, page)?),
+        Err(_) => Err(Fail::new("an open page")),
+    }
 }
 
 /// The bytes, of which the last one is another where the page is among those that are torn.

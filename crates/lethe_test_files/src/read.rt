@@ -1,9 +1,9 @@
 //! Gets and scans over two buffers.
 
-use crate::common::{erase_of, key_of};
+use crate::common::{erase_of, insert, key_of};
 use lethe_base::{Body, Entry, Key, Pending, Value};
 use lethe_disk::Disk;
-use lethe_mem::{Buffer, VecBuffer};
+use lethe_mem::VecBuffer;
 use lethe_memdisk::{MemDisk, MemPort};
 use lethe_read::{get, scan};
 use lethe_version::Version;
@@ -36,9 +36,7 @@ fn entry_of(alloc: Global, row: &Row) -> Result<Entry, Fail> {
 fn buffer_of(alloc: Global, rows: &[Row]) -> Result<VecBuffer, Fail> {
     let mut buffer = VecBuffer::new(alloc);
     for row in rows {
-        let entry = entry_of(alloc, row)?;
-        buffer.reserve()?;
-        buffer.insert(entry);
+        insert(&mut buffer, entry_of(alloc, row)?)?;
     }
     Ok(buffer)
 }
