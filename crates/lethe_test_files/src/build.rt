@@ -7,12 +7,15 @@ ghost use Rattle.lethe_header.specs.Headers.{HasSpelling as IsHeader};
 
 use crate::common::{FILE, PAGE_AC, PAGE_BD, key_of};
 use crate::opening::header_of;
-use lethe_base::{Body, Config, Entry, Fields, MAX_PLACE, Pick, Value, read_entry, write_entry};
+use lethe_base::{
+    Body, Config, Entry, Fields, List, MAX_PLACE, Pick, Value, read_entry, write_entry,
+};
 use lethe_build::{Built, Draft, drafts_of, numbers_for};
 use lethe_header::{Header, PageLine, write_header};
 use lethe_page::read_page;
 use lethe_tile::is_ascending;
 use std::alloc::Global;
+use std::slice;
 use std::test::Fail;
 
 /// Pages of `page` entries, tiles of `tile` pages and files of two tiles.
@@ -165,18 +168,30 @@ fn is_page_of(alloc: Global, line: &PageLine, page: &[u8]) -> Result<bool, Fail>
     Ok(class == line.class && entries.len() == line.entries as usize)
 }
 
+/// Whether what is read of the pages is what these lines say of them. It takes the pages from the front of what is left.
+fn are_pages_of(
+    alloc: Global,
+    lines: &[PageLine],
+    left: &mut slice::Iter<List<u8>>,
+) -> Result<bool, Fail> {
+    for line in lines {
+        let page = left.next().ok_or("no page")?;
+        if !is_page_of(alloc, line, page.items())? {
+            return Ok(false);
+        }
+    }
+    Ok(true)
+}
+
 /// Whether what is read of the file's objects is what the file says of them.
 fn is_read_again(alloc: Global, file: &Built) -> Result<bool, Fail> {
     let header = header_of(alloc, file.header_bytes.items())?;
     let mut same = is_header_of(alloc, &header, file)?;
-    let mut pages = file.pages.items().iter();
+    let mut left = file.pages.items().iter();
     for tile in header.tiles.items() {
-        for line in tile.pages.items() {
-            let page = pages.next().ok_or("no page")?;
-            same = same && is_page_of(alloc, line, page.items())?;
-        }
+        same = same && are_pages_of(alloc, tile.pages.items(), &mut left)?;
     }
-    Ok(same && pages.next().is_none())
+    Ok(same && left.next().is_none())
 }
 
 /// The files of a row, with pages of `size` entries and tiles of `size` pages. What they say is read again of their bytes.

@@ -1,7 +1,7 @@
 //! A page of a file and the tile of a key.
 
-use crate::common::{FILE, PAGE_AC, PAGE_BD, key_of};
-use crate::opening::{damaged, open_file};
+use crate::common::{FILE, PAGE_AC, PAGE_BD};
+use crate::opening::{damaged, found_in, open_file};
 use lethe_base::Entry;
 use lethe_disk::ReadRefused;
 use std::alloc::Global;
@@ -20,21 +20,33 @@ fn fetched(
     Ok(file.fetch_page(alloc, &mut port, place))
 }
 
+/// The place of the first entry that is fetched, and how many there are.
+fn told(
+    alloc: Global,
+    pages: &[&[u8]],
+    place: usize,
+) -> Result<Result<(u64, usize), ReadRefused>, Fail> {
+    match fetched(alloc, pages, place)? {
+        Ok(entries) => {
+            let first = entries.first().ok_or("an entry")?;
+            Ok(Ok((first.seq, entries.len())))
+        }
+        Err(why) => Ok(Err(why)),
+    }
+}
+
 #[test]
 fn a_page_is_read_where_it_is_the_one_of_its_line(rt: HostRuntime) -> Result<(), Fail> {
     let alloc = rt.alloc();
     for (place, seq) in [(0, 1), (1, 2)] {
-        let entries = fetched(alloc, &[&PAGE_AC, &PAGE_BD], place)?
-            .ok()
-            .ok_or("a page")?;
-        assert_eq!(rt; entries.first().map(|entry| entry.seq), Some(seq));
-        assert_eq!(rt; entries.len(), 2);
+        let told = told(alloc, &[&PAGE_AC, &PAGE_BD], place)?;
+        assert_eq!(rt; told, Ok((seq, 2)), "at {place}");
     }
     let mut torn = PAGE_AC;
     torn[53] = b'y';
     for bytes in [&PAGE_BD, &torn] {
-        let refused = fetched(alloc, &[bytes, &PAGE_BD], 0)?.err();
-        assert_eq!(rt; refused, Some(damaged(1)));
+        let told = told(alloc, &[bytes, &PAGE_BD], 0)?;
+        assert_eq!(rt; told, Err(damaged(1)));
     }
     Ok(())
 }
@@ -66,14 +78,14 @@ const FENCED: [(&str, bool); 6] = [
 #[test]
 fn a_tile_is_found_by_its_fence(rt: HostRuntime) -> Result<(), Fail> {
     let alloc = rt.alloc();
-    // Each page is torn, and the filters allow each key: so the first page of its tile is told of a key that has one.
-    let (file, mut port) = open_file(alloc, &without_filters(), &[&PAGE_AC, &PAGE_BD], &[1, 2])?;
-    for (text, fenced) in FENCED {
-        let found = file.find(alloc, &mut port, &key_of(alloc, text)?);
+    let file = without_filters();
+    for (key, fenced) in FENCED {
+        // Each page is torn, and the filters allow each key: so the first page of its tile is told of a key that has one.
+        let found = found_in(alloc, &file, &[&PAGE_AC, &PAGE_BD], &[1, 2], key)?;
         if fenced {
-            assert_eq!(rt; found.err(), Some(damaged(1)), "{text}");
+            assert_eq!(rt; found.err(), Some(damaged(1)), "{key}");
         } else {
-            assert!(rt; matches!(found, Ok(None)), "{text}");
+            assert!(rt; matches!(found, Ok(None)), "{key}");
         }
     }
     Ok(())

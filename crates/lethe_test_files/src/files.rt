@@ -2,11 +2,11 @@
 
 use crate::build::config_of;
 use crate::common::{PAGE_AC, PAGE_BD, key_of};
-use crate::opening::{damaged, open_file};
+use crate::opening::{damaged, found_in, header_of, open_file};
 use lethe_base::{Body, Entry};
 use lethe_disk::{Cursor, ReadRefused};
-use lethe_file::FileView;
-use lethe_header::{read_header, write_header};
+use lethe_file::{FileCursor, FileView};
+use lethe_header::write_header;
 use lethe_memdisk::{MemDisk, MemPort};
 use lethe_page::{read_page, write_page};
 use lethe_tile::{is_ascending, weave};
@@ -36,28 +36,47 @@ fn open_torn(alloc: Global, torn: &[u64]) -> Result<(FileView<MemDisk>, MemPort)
     open_file(alloc, &FILE, &PAGES, torn)
 }
 
-/// What a cursor gives, or why it is refused.
-fn entries_between(
+/// The next entry that is given.
+fn next_of(
     alloc: Global,
-    torn: &[u64],
-    lo: &str,
-    hi: Option<&str>,
+    cursor: &mut FileCursor<MemDisk>,
+    port: &mut MemPort,
+) -> Result<Option<Entry>, ReadRefused> {
+    cursor.next(alloc, port)
+}
+
+/// What a cursor gives, or why it is refused.
+fn given(
+    alloc: Global,
+    cursor: &mut FileCursor<MemDisk>,
+    port: &mut MemPort,
 ) -> Result<Result<Vec<Entry>, ReadRefused>, Fail> {
-    let (file, mut port) = open_torn(alloc, torn)?;
-    let hi = match hi {
-        Some(hi) => Some(key_of(alloc, hi)?),
-        None => None,
-    };
-    let mut cursor = file.cursor(alloc, &key_of(alloc, lo)?, hi.as_ref())?;
     let mut entries = Vec::new(alloc);
     for _ in 0..10 {
-        match cursor.next(alloc, &mut port) {
+        match next_of(alloc, cursor, port) {
             Ok(Some(entry)) => entries.push(entry)?,
             Ok(None) => return Ok(Ok(entries)),
             Err(why) => return Ok(Err(why)),
         }
     }
     Err(Fail::new("an end"))
+}
+
+/// What is given of the file between two keys, or why it is refused.
+fn entries_between(
+    alloc: Global,
+    torn: &[u64],
+    lo: &str,
+    hi: Option<&str>,
+) -> Result<Result<Vec<Entry>, ReadRefused>, Fail> {
+    let lo = key_of(alloc, lo)?;
+    let hi = match hi {
+        Some(hi) => Some(key_of(alloc, hi)?),
+        None => None,
+    };
+    let (file, mut port) = open_torn(alloc, torn)?;
+    let mut cursor = file.cursor(alloc, &lo, hi.as_ref())?;
+    given(alloc, &mut cursor, &mut port)
 }
 
 /// The keys, which are all of one letter.
@@ -69,16 +88,24 @@ fn letters(alloc: Global, entries: &[Entry]) -> Result<Vec<u8>, Fail> {
     Ok(letters)
 }
 
+/// What the header that is read of these bytes is written as.
+fn header_again(alloc: Global, bytes: &[u8]) -> Result<Vec<u8>, Fail> {
+    let header = header_of(alloc, bytes)?;
+    Ok(write_header(alloc, &header)?)
+}
+
+/// What the page that is read of these bytes is written as.
+fn page_again(alloc: Global, bytes: &[u8]) -> Result<Vec<u8>, Fail> {
+    let (class, entries) = read_page(alloc, bytes).map_err(|_| "no page")?;
+    Ok(write_page(alloc, class, &entries)?)
+}
+
 #[test]
 fn a_file_is_written_as_it_was_read(rt: HostRuntime) -> Result<(), Fail> {
     let alloc = rt.alloc();
-    let header = read_header(alloc, &FILE).ok().ok_or("a header")?;
-    let written = write_header(alloc, &header)?;
-    assert_eq!(rt; written.as_slice(), FILE.as_slice());
+    assert_eq!(rt; header_again(alloc, &FILE)?.as_slice(), FILE.as_slice());
     for page in PAGES {
-        let (class, entries) = read_page(alloc, page).ok().ok_or("a page")?;
-        let written = write_page(alloc, class, &entries)?;
-        assert_eq!(rt; written.as_slice(), page);
+        assert_eq!(rt; page_again(alloc, page)?.as_slice(), page);
     }
     Ok(())
 }
@@ -125,8 +152,7 @@ fn found(
     torn: &[u64],
     key: &str,
 ) -> Result<Result<Option<Entry>, ReadRefused>, Fail> {
-    let (file, mut port) = open_torn(alloc, torn)?;
-    Ok(file.find(alloc, &mut port, &key_of(alloc, key)?))
+    found_in(alloc, &FILE, &PAGES, torn, key)
 }
 
 #[test]

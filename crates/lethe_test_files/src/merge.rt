@@ -138,7 +138,7 @@ fn gives(alloc: Global, port: &mut MemPort, case: &Case) -> Result<bool, Fail> {
 
 /// The place of the first case in which something else is given.
 fn first_other(alloc: Global, cases: &[Case]) -> Result<Option<usize>, Fail> {
-    let mut port = MemDisk::new(alloc, 0, Vec::new(alloc))?.port(alloc)?;
+    let mut port = MemPort::new();
     for (place, case) in cases.iter().enumerate() {
         if !gives(alloc, &mut port, case)? {
             return Ok(Some(place));
@@ -340,16 +340,22 @@ fn a_put_that_an_erase_matches_is_given_as_a_tombstone(rt: HostRuntime) -> Resul
     Ok(())
 }
 
+/// A merger of two lists, the second of which has memory for one answer alone.
+fn weak_merger(alloc: Global) -> Result<Merger<MemDisk, Listed>, Fail> {
+    let strong = cursor_of(alloc, &[("a", 1, Some(1), None), ("c", 2, Some(1), None)])?;
+    let mut weak = cursor_of(alloc, &[("b", 3, Some(1), None), ("d", 4, Some(1), None)])?;
+    weak.answers = 1;
+    let mut cursors = Vec::new(alloc);
+    cursors.push(strong)?;
+    cursors.push(weak)?;
+    Ok(Merger::new(alloc, cursors, Vec::new(alloc), false)?)
+}
+
 #[test]
 fn a_refusal_of_a_cursor_is_handed_on(rt: HostRuntime) -> Result<(), Fail> {
     let alloc = rt.alloc();
-    let mut port = MemDisk::new(alloc, 0, Vec::new(alloc))?.port(alloc)?;
-    let mut cursors = Vec::new(alloc);
-    cursors.push(cursor_of(alloc, &[("a", 1, Some(1), None), ("c", 2, Some(1), None)])?)?;
-    let mut weak = cursor_of(alloc, &[("b", 3, Some(1), None), ("d", 4, Some(1), None)])?;
-    weak.answers = 1;
-    cursors.push(weak)?;
-    let mut merger = Merger::<MemDisk, Listed>::new(alloc, cursors, Vec::new(alloc), false)?;
+    let mut port = MemPort::new();
+    let mut merger = weak_merger(alloc)?;
     for seq in [1, 3] {
         let entry = next_of(alloc, &mut merger, &mut port)?.ok_or("an entry")?;
         assert_eq!(rt; entry.seq, seq);

@@ -2,7 +2,8 @@
 ghost use Rattle.std.specs.Prelude.{◌≡◌, ◌+◌, length, IfOk, OnOk};
 ghost use Rattle.lethe_header.specs.Headers.{HasSpelling};
 
-use lethe_base::{Kind, Name};
+use crate::common::key_of;
+use lethe_base::{Entry, Kind, Name};
 use lethe_disk::{Disk, ReadRefused};
 use lethe_file::FileView;
 use lethe_header::{Header, PageLine, read_header};
@@ -116,4 +117,16 @@ pub fn open_file(
     let file = add_file(alloc, &mut disk, header, pages, torn)?;
     let port = disk.port(alloc)?;
     Ok((file, port))
+}
+
+/// What is found of a key in the file on a disk of its own.
+pub fn found_in(
+    alloc: Global,
+    header: &[u8],
+    pages: &[&[u8]],
+    torn: &[u64],
+    key: &str,
+) -> Result<Result<Option<Entry>, ReadRefused>, Fail> {
+    let (file, mut port) = open_file(alloc, header, pages, torn)?;
+    Ok(file.find(alloc, &mut port, &key_of(alloc, key)?))
 }

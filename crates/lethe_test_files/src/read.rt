@@ -2,7 +2,6 @@
 
 use crate::common::{erase_of, insert, key_of};
 use lethe_base::{Body, Entry, Key, Pending, Value};
-use lethe_disk::Disk;
 use lethe_mem::VecBuffer;
 use lethe_memdisk::{MemDisk, MemPort};
 use lethe_read::{get, scan};
@@ -153,7 +152,7 @@ const ANSWERS: [(&str, Option<(u64, u8)>); 6] = [
 #[test]
 fn a_key_has_what_its_newest_entry_says(rt: HostRuntime) -> Result<(), Fail> {
     let alloc = rt.alloc();
-    let mut port = MemDisk::new(alloc, 0, Vec::new(alloc))?.port(alloc)?;
+    let mut port = MemPort::new();
     let store = store_of(alloc)?;
     let erases = [erase_of(6, 1, 13, 14)?, erase_of(6, 1, 20, 21)?];
     for (key, wanted) in ANSWERS {
@@ -181,7 +180,7 @@ const SCANS: [((&str, &str), &[Shown]); 6] = [
 #[test]
 fn a_scan_lists_the_pairs_of_its_range_in_order(rt: HostRuntime) -> Result<(), Fail> {
     let alloc = rt.alloc();
-    let mut port = MemDisk::new(alloc, 0, Vec::new(alloc))?.port(alloc)?;
+    let mut port = MemPort::new();
     let store = store_of(alloc)?;
     for (range, wanted) in SCANS {
         assert!(rt;

@@ -24,13 +24,24 @@ const TOLD: [(&str, bool); 7] = [
     ("e", false),
 ];
 
+/// A version of these files in level 0.
+fn version_of(alloc: Global, files: Vec<FileView<MemDisk>>) -> Result<Version<MemDisk>, Fail> {
+    let mut levels = Vec::new(alloc);
+    levels.push(files)?;
+    Ok(Version::of(alloc, levels)?)
+}
+
+/// Whether a page of the file may have the key.
+fn may_hold(alloc: Global, key: &str) -> Result<bool, Fail> {
+    let (file, _) = open_file(alloc, &FILE, &[&PAGE_AC, &PAGE_BD], &[])?;
+    let version = version_of(alloc, vec![in alloc; file]?)?;
+    Ok(version.may_hold(&key_of(alloc, key)?))
+}
+
 #[test]
 fn fences_and_filters_tell_which_keys_a_file_may_have(rt: HostRuntime) -> Result<(), Fail> {
-    let alloc = rt.alloc();
-    let (file, _) = open_file(alloc, &FILE, &[&PAGE_AC, &PAGE_BD], &[])?;
-    let version = Version::of(alloc, vec![in alloc; vec![in alloc; file]?]?)?;
-    for (text, told) in TOLD {
-        assert_eq!(rt; version.may_hold(&key_of(alloc, text)?), told, "{text}");
+    for (key, told) in TOLD {
+        assert_eq!(rt; may_hold(rt.alloc(), key)?, told, "{key}");
     }
     Ok(())
 }
@@ -114,11 +125,10 @@ fn two_files(
         since: 2,
         greatest: 8,
     };
-    let level = vec![in alloc;
-        file_of(alloc, &mut disk, &second, 1)?,
-        file_of(alloc, &mut disk, &first, 3)?,
-    ]?;
-    let version = Version::of(alloc, vec![in alloc; level]?)?;
+    let mut files = Vec::new(alloc);
+    files.push(file_of(alloc, &mut disk, &second, 1)?)?;
+    files.push(file_of(alloc, &mut disk, &first, 3)?)?;
+    let version = version_of(alloc, files)?;
     let port = disk.port(alloc)?;
     Ok((version, port))
 }
