@@ -9,7 +9,7 @@ use lethe_file::{FileCursor, FileView};
 use lethe_header::write_header;
 use lethe_memdisk::{MemDisk, MemPort};
 use lethe_page::{read_page, write_page};
-use lethe_tile::{is_ascending, weave};
+use lethe_tile::{Tile, is_ascending, weave};
 use std::alloc::Global;
 use std::test::Fail;
 
@@ -36,15 +36,6 @@ fn open_torn(alloc: Global, torn: &[u64]) -> Result<(FileView<MemDisk>, MemPort)
     open_file(alloc, &FILE, &PAGES, torn)
 }
 
-/// The next entry that is given.
-fn next_of(
-    alloc: Global,
-    cursor: &mut FileCursor<MemDisk>,
-    port: &mut MemPort,
-) -> Result<Option<Entry>, ReadRefused> {
-    cursor.next(alloc, port)
-}
-
 /// What a cursor gives, or why it is refused.
 fn given(
     alloc: Global,
@@ -53,7 +44,7 @@ fn given(
 ) -> Result<Result<Vec<Entry>, ReadRefused>, Fail> {
     let mut entries = Vec::new(alloc);
     for _ in 0..10 {
-        match next_of(alloc, cursor, port) {
+        match cursor.next(alloc, port) {
             Ok(Some(entry)) => entries.push(entry)?,
             Ok(None) => return Ok(Ok(entries)),
             Err(why) => return Ok(Err(why)),
@@ -110,27 +101,35 @@ fn a_file_is_written_as_it_was_read(rt: HostRuntime) -> Result<(), Fail> {
     Ok(())
 }
 
-#[test]
-fn what_is_read_in_order_is_woven_into_the_same_pages(rt: HostRuntime) -> Result<(), Fail> {
-    let alloc = rt.alloc();
-    let entries = entries_between(alloc, &[], "a", None)?
-        .ok()
-        .ok_or("entries")?;
+/// The tiles that all entries of the file are woven into.
+fn woven(alloc: Global) -> Result<Vec<Tile>, Fail> {
+    let entries = entries_between(alloc, &[], "a", None)?.map_err(|_| "no entries")?;
     if !is_ascending(&entries) {
         return Err(Fail::new("entries in order"));
     }
-    let config = config_of(2, 2)?;
-    let mut woven = Vec::new(alloc);
-    for tile in weave(alloc, entries, &config)? {
-        woven.extend_from_slice(tile.lo.bytes())?;
-        woven.extend_from_slice(tile.hi.bytes())?;
-        for page in tile.pages.items() {
-            woven.push(b'|')?;
-            woven.extend_from_slice(&letters(alloc, page.items())?)?;
-        }
-        woven.push(b';')?;
+    Ok(weave(alloc, entries, &config_of(2, 2)?)?)
+}
+
+/// Adds the least and the greatest key of a tile, and behind `|` the keys of each page.
+fn write_tile(alloc: Global, text: &mut Vec<u8>, tile: &Tile) -> Result<(), Fail> {
+    text.extend_from_slice(tile.lo.bytes())?;
+    text.extend_from_slice(tile.hi.bytes())?;
+    for page in tile.pages.items() {
+        text.push(b'|')?;
+        text.extend_from_slice(&letters(alloc, page.items())?)?;
     }
-    assert_eq!(rt; woven.as_slice(), b"ad|ac|bd;eh|e|fg|h;".as_slice());
+    text.push(b';')?;
+    Ok(())
+}
+
+#[test]
+fn what_is_read_in_order_is_woven_into_the_same_pages(rt: HostRuntime) -> Result<(), Fail> {
+    let alloc = rt.alloc();
+    let mut text = Vec::new(alloc);
+    for tile in &woven(alloc)? {
+        write_tile(alloc, &mut text, tile)?;
+    }
+    assert_eq!(rt; text.as_slice(), b"ad|ac|bd;eh|e|fg|h;".as_slice());
     Ok(())
 }
 
