@@ -4,11 +4,7 @@
 #[cfg(test)]
 mod appends;
 #[cfg(test)]
-mod copies;
-#[cfg(test)]
 mod faults;
-#[cfg(test)]
-mod files;
 #[cfg(test)]
 mod generated;
 #[cfg(test)]

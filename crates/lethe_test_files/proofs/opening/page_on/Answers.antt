@@ -8,23 +8,23 @@ use Rattle.lethe_disk.proofs.Objects.{object_inserted}
 use Rattle.lethe_memdisk.specs.Held.{Held, seen_of}
 use Rattle.lethe_commit.proofs.Listed.{listed, found_decides}
 use Rattle.lethe_disk.proofs.Objects.{absent_of}
-use Rattle.lethe_rows.proofs.files.page_on.Goals as goal
+use Rattle.lethe_test_files.proofs.opening.page_on.Goals as goal
 
 pub create-requires : goal.create-requires
 create-requires c =
     let d = (seen_of c.args.disk.now).directory in
     let name : Name = record { kind = Page; no = c.args.no } in
-    let is : c.deref-2.result.now ≡ keys d = c.deref-2.ensures.value ∙ c.in-Ok.ensures.done in
-    let found = found_decides c.deref-2.result.now name c.contains-2.result c.contains-2.ensures.cases in
+    let is : c.deref.result.now ≡ keys d = c.deref.ensures.value ∙ c.in-Ok.ensures.done in
+    let found = found_decides c.deref.result.now name c.contains.result c.contains.ensures.cases in
     let absent : object d name ≡ None = absent_of (object d name) (λ there.
-    let in_names : Contains c.deref-2.result.now name = subst (λ l. Contains l name) (sym is) ((listed d name).1 there) in
+    let in_names : Contains c.deref.result.now name = subst (λ l. Contains l name) (sym is) ((listed d name).1 there) in
     let held = found.1 in_names in
-    let not_so = c.if-contains-2.false in
+    let not_so = c.if-contains.false in
     cc) in
     ap (λ (held : Held). object (seen_of held).directory name) c.in-Ok.ensures.call.answer ∙ absent
 
 pub open_page-requires-clause-present : goal.open_page-requires-clause-present
 open_page-requires-clause-present c =
     let name : Name = record { kind = Page; no = c.args.no } in
-    let made = ap (λ (held : Held). object (seen_of held).directory name) c.in-Ok-create.ensures.answer ∙ object_inserted (seen_of c.names.new.self).directory name c.deref-3.result.now in
+    let made = ap (λ (held : Held). object (seen_of held).directory name) c.in-Ok-create.ensures.answer ∙ object_inserted (seen_of c.names.new.self).directory name c.args.bytes.now in
     subst (λ o. IsSome o) (sym made) refl

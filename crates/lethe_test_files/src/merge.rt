@@ -1,0 +1,476 @@
+//! Merged lists of entries.
+ghost use Rattle.std.specs.Prelude.{reverse};
+ghost use Rattle.lethe_base.specs.Entries.{IsAscending};
+
+use crate::common::{erase_of, key_of};
+use lethe_base::{Body, Entry, Pending, Value};
+use lethe_disk::{Cursor, Disk, ReadRefused};
+use lethe_memdisk::{MemDisk, MemPort};
+use lethe_merge::{Merger, merge_entries, settle};
+use lethe_tile::is_ascending;
+use std::alloc::Global;
+use std::test::Fail;
+
+/// Gives entries that it holds, of which the last comes first. It has memory for so many answers.
+#[derive(Drop)]
+struct Listed {
+    entries: Vec<Entry>,
+    answers: u64,
+}
+
+impl<D: Disk> Cursor<D> for Listed {
+    ghost may_ask = { λ _. Unit {0} };
+
+    ghost sound = { λ c. IsAscending (reverse c.entries.items) };
+
+    ghost left = { λ c. reverse c.entries.items };
+
+    ghost ascends = { λ c asked sound. sound };
+
+    fn next(&mut self, _alloc: Global, _port: &mut D::Port) -> Result<Option<Entry>, ReadRefused> {
+        if self.answers == 0 {
+            return Err(ReadRefused::NoMemory);
+        }
+        self.answers -= 1;
+        Ok(self.entries.pop())
+    }
+}
+
+/// An entry: its key, its place, its delete key unless it is a tombstone, and its `since`.
+type Row = (&'static str, u64, Option<u64>, Option<u64>);
+
+/// An erase: its place, its time, and its range.
+type Erase = (u64, u64, u64, u64);
+
+fn entry_of(alloc: Global, row: &Row) -> Result<Entry, Fail> {
+    let (key, seq, dkey, since) = *row;
+    let body = match dkey {
+        Some(dkey) => Body::Put {
+            dkey,
+            value: Value::new(Vec::new(alloc))?,
+        },
+        None => Body::Tomb,
+    };
+    Ok(Entry {
+        seq,
+        key: key_of(alloc, key)?,
+        body,
+        since,
+    })
+}
+
+fn cursor_of(alloc: Global, rows: &[Row]) -> Result<Listed, Fail> {
+    let mut entries = Vec::new(alloc);
+    for row in rows.iter().rev() {
+        entries.push(entry_of(alloc, row)?)?;
+    }
+    Ok(Listed {
+        entries,
+        answers: u64::MAX,
+    })
+}
+
+fn erases_of(alloc: Global, rows: &[Erase]) -> Result<Vec<Pending>, Fail> {
+    let mut erases = Vec::new(alloc);
+    for row in rows {
+        let (seq, time, lo, hi) = *row;
+        erases.push(erase_of(seq, time, lo, hi)?)?;
+    }
+    Ok(erases)
+}
+
+fn is_row(entry: &Entry, row: &Row) -> bool {
+    let (key, seq, dkey, since) = *row;
+    let same = match entry.body {
+        Body::Put { dkey: own, .. } => dkey == Some(own),
+        Body::Tomb => dkey.is_none(),
+    };
+    same && entry.seq == seq && entry.since == since && entry.key.bytes() == key.as_bytes()
+}
+
+fn are_rows(entries: &[Entry], rows: &[Row]) -> bool {
+    entries.len() == rows.len()
+        && entries
+            .iter()
+            .zip(rows)
+            .all(|(entry, row)| is_row(entry, row))
+}
+
+/// Lists that are merged, and what is given.
+#[derive(Drop)]
+struct Case {
+    lists: &'static [&'static [Row]],
+    erases: &'static [Erase],
+    alone: bool,
+    wanted: &'static [Row],
+}
+
+fn merger_of(alloc: Global, case: &Case) -> Result<Merger<MemDisk, Listed>, Fail> {
+    let mut cursors = Vec::new(alloc);
+    for list in case.lists {
+        cursors.push(cursor_of(alloc, list)?)?;
+    }
+    let erases = erases_of(alloc, case.erases)?;
+    Ok(Merger::new(alloc, cursors, erases, case.alone)?)
+}
+
+/// The next entry that is given.
+fn next_of(
+    alloc: Global,
+    merger: &mut Merger<MemDisk, Listed>,
+    port: &mut MemPort,
+) -> Result<Option<Entry>, ReadRefused> {
+    merger.next(alloc, port)
+}
+
+/// Whether the merger gives the entries that are wanted and then twice none.
+fn gives(alloc: Global, port: &mut MemPort, case: &Case) -> Result<bool, Fail> {
+    let mut merger = merger_of(alloc, case)?;
+    for row in case.wanted {
+        match next_of(alloc, &mut merger, port)? {
+            Some(entry) if is_row(&entry, row) => {}
+            _ => return Ok(false),
+        }
+    }
+    let end = next_of(alloc, &mut merger, port)?;
+    Ok(end.is_none() && next_of(alloc, &mut merger, port)?.is_none())
+}
+
+/// The place of the first case in which something else is given.
+fn first_other(alloc: Global, cases: &[Case]) -> Result<Option<usize>, Fail> {
+    let mut port = MemPort::new();
+    for (place, case) in cases.iter().enumerate() {
+        if !gives(alloc, &mut port, case)? {
+            return Ok(Some(place));
+        }
+    }
+    Ok(None)
+}
+
+const NEWER: &[Row] = &[("b", 7, Some(1), None), ("d", 9, None, Some(4))];
+
+const OLDER: &[Row] = &[
+    ("a", 1, Some(2), None),
+    ("b", 3, Some(3), Some(8)),
+    ("d", 2, Some(5), Some(3)),
+    ("e", 5, None, Some(6)),
+];
+
+const OLDEST: &[Row] = &[("b", 2, None, Some(6)), ("c", 4, Some(9), None)];
+
+/// What these three are merged into.
+const MERGED: &[Row] = &[
+    ("a", 1, Some(2), None),
+    ("b", 7, Some(1), Some(6)),
+    ("c", 4, Some(9), None),
+    ("d", 9, None, Some(3)),
+    ("e", 5, None, Some(6)),
+];
+
+/// The same where nothing lies below.
+const BARE: &[Row] = &[
+    ("a", 1, Some(2), None),
+    ("b", 7, Some(1), None),
+    ("c", 4, Some(9), None),
+];
+
+const DROPPED: &[Row] = &[("a", 5, None, Some(1)), ("b", 6, None, Some(2))];
+
+const NEWEST: [Case; 8] = [
+    Case {
+        lists: &[NEWER, OLDER, OLDEST],
+        erases: &[],
+        alone: false,
+        wanted: MERGED,
+    },
+    Case {
+        lists: &[OLDEST, NEWER, OLDER],
+        erases: &[],
+        alone: false,
+        wanted: MERGED,
+    },
+    Case {
+        lists: &[NEWER, OLDER, OLDEST],
+        erases: &[],
+        alone: true,
+        wanted: BARE,
+    },
+    Case {
+        lists: &[OLDER],
+        erases: &[],
+        alone: false,
+        wanted: OLDER,
+    },
+    Case {
+        lists: &[&[], OLDER, &[]],
+        erases: &[],
+        alone: false,
+        wanted: OLDER,
+    },
+    Case {
+        lists: &[&[], &[]],
+        erases: &[],
+        alone: true,
+        wanted: &[],
+    },
+    Case {
+        lists: &[],
+        erases: &[],
+        alone: false,
+        wanted: &[],
+    },
+    Case {
+        lists: &[DROPPED],
+        erases: &[],
+        alone: true,
+        wanted: &[],
+    },
+];
+
+#[test]
+fn of_each_key_its_newest_entry_is_given_with_the_least_time(rt: HostRuntime) -> Result<(), Fail> {
+    assert_eq!(rt; first_other(rt.alloc(), &NEWEST)?, None);
+    Ok(())
+}
+
+const FIRST: &[Row] = &[("a", 3, Some(1), None)];
+
+const SECOND: &[Row] = &[("a", 3, Some(2), Some(7))];
+
+const THIRD: &[Row] = &[("a", 3, None, Some(5))];
+
+/// Lists of entries of one place.
+const EQUAL: [Case; 3] = [
+    Case {
+        lists: &[FIRST, SECOND],
+        erases: &[],
+        alone: false,
+        wanted: &[("a", 3, Some(1), Some(7))],
+    },
+    Case {
+        lists: &[SECOND, FIRST],
+        erases: &[],
+        alone: false,
+        wanted: &[("a", 3, Some(2), Some(7))],
+    },
+    Case {
+        lists: &[THIRD, SECOND, FIRST],
+        erases: &[],
+        alone: false,
+        wanted: &[("a", 3, None, Some(5))],
+    },
+];
+
+#[test]
+fn of_equal_places_the_earlier_cursors_entry_is_given(rt: HostRuntime) -> Result<(), Fail> {
+    assert_eq!(rt; first_other(rt.alloc(), &EQUAL)?, None);
+    Ok(())
+}
+
+const PUT: &[Row] = &[("a", 4, Some(10), None)];
+
+const TIMED: &[Row] = &[("a", 4, Some(10), Some(6))];
+
+const BEHIND: &[Row] = &[("a", 9, Some(30), None)];
+
+/// Lists with erases.
+const ERASED: [Case; 9] = [
+    Case {
+        lists: &[PUT],
+        erases: &[(5, 8, 10, 11)],
+        alone: false,
+        wanted: &[("a", 4, None, Some(8))],
+    },
+    Case {
+        lists: &[PUT],
+        erases: &[(5, 8, 10, 11)],
+        alone: true,
+        wanted: &[],
+    },
+    // The erase stands before the put, at it, or has another range.
+    Case {
+        lists: &[PUT],
+        erases: &[(3, 8, 10, 11), (4, 8, 10, 11)],
+        alone: false,
+        wanted: PUT,
+    },
+    Case {
+        lists: &[PUT],
+        erases: &[(5, 8, 11, 12), (5, 8, 9, 10)],
+        alone: false,
+        wanted: PUT,
+    },
+    // The least of the times.
+    Case {
+        lists: &[PUT],
+        erases: &[(5, 8, 10, 11), (6, 7, 0, 99)],
+        alone: false,
+        wanted: &[("a", 4, None, Some(7))],
+    },
+    Case {
+        lists: &[TIMED],
+        erases: &[(5, 8, 10, 11)],
+        alone: false,
+        wanted: &[("a", 4, None, Some(6))],
+    },
+    // An entry below the newest one is matched, and the newest one isn't.
+    Case {
+        lists: &[BEHIND, PUT],
+        erases: &[(12, 8, 10, 20)],
+        alone: false,
+        wanted: &[("a", 9, Some(30), Some(8))],
+    },
+    Case {
+        lists: &[BEHIND, PUT],
+        erases: &[(12, 8, 10, 20)],
+        alone: true,
+        wanted: &[("a", 9, Some(30), None)],
+    },
+    Case {
+        lists: &[BEHIND, PUT],
+        erases: &[(12, 8, 30, 31)],
+        alone: false,
+        wanted: &[("a", 9, None, Some(8))],
+    },
+];
+
+#[test]
+fn a_put_that_an_erase_matches_is_given_as_a_tombstone(rt: HostRuntime) -> Result<(), Fail> {
+    assert_eq!(rt; first_other(rt.alloc(), &ERASED)?, None);
+    Ok(())
+}
+
+/// A merger of two lists, the second of which has memory for one answer alone.
+fn weak_merger(alloc: Global) -> Result<Merger<MemDisk, Listed>, Fail> {
+    let strong = cursor_of(alloc, &[("a", 1, Some(1), None), ("c", 2, Some(1), None)])?;
+    let mut weak = cursor_of(alloc, &[("b", 3, Some(1), None), ("d", 4, Some(1), None)])?;
+    weak.answers = 1;
+    let mut cursors = Vec::new(alloc);
+    cursors.push(strong)?;
+    cursors.push(weak)?;
+    Ok(Merger::new(alloc, cursors, Vec::new(alloc), false)?)
+}
+
+#[test]
+fn a_refusal_of_a_cursor_is_handed_on(rt: HostRuntime) -> Result<(), Fail> {
+    let alloc = rt.alloc();
+    let mut port = MemPort::new();
+    let mut merger = weak_merger(alloc)?;
+    for seq in [1, 3] {
+        let entry = next_of(alloc, &mut merger, &mut port)?.ok_or("an entry")?;
+        assert_eq!(rt; entry.seq, seq);
+    }
+    let refused = next_of(alloc, &mut merger, &mut port).err();
+    assert_eq!(rt; refused, Some(ReadRefused::NoMemory));
+    Ok(())
+}
+
+/// Entries, and what is left of them under the erases.
+#[derive(Drop)]
+struct Left {
+    entries: &'static [Row],
+    erases: &'static [Erase],
+    alone: bool,
+    wanted: &'static [Row],
+}
+
+fn entries_of(alloc: Global, rows: &[Row]) -> Result<Vec<Entry>, Fail> {
+    let mut entries = Vec::new(alloc);
+    for row in rows {
+        entries.push(entry_of(alloc, row)?)?;
+    }
+    Ok(entries)
+}
+
+const PAIR: &[Row] = &[("a", 4, Some(10), None), ("b", 9, Some(30), Some(6))];
+
+/// One list, whose keys ascend.
+const SETTLED: [Left; 4] = [
+    Left {
+        entries: PAIR,
+        erases: &[],
+        alone: false,
+        wanted: PAIR,
+    },
+    Left {
+        entries: PAIR,
+        erases: &[(5, 8, 10, 31)],
+        alone: false,
+        wanted: &[("a", 4, None, Some(8)), ("b", 9, Some(30), Some(6))],
+    },
+    Left {
+        entries: PAIR,
+        erases: &[],
+        alone: true,
+        wanted: &[("a", 4, Some(10), None), ("b", 9, Some(30), None)],
+    },
+    Left {
+        entries: PAIR,
+        erases: &[(5, 8, 10, 31)],
+        alone: true,
+        wanted: &[("b", 9, Some(30), None)],
+    },
+];
+
+/// What is left of a list whose keys ascend.
+fn settled(alloc: Global, row: &Left) -> Result<Vec<Entry>, Fail> {
+    let entries = entries_of(alloc, row.entries)?;
+    if !is_ascending(&entries) {
+        return Err(Fail::new("keys that ascend"));
+    }
+    let erases = erases_of(alloc, row.erases)?;
+    Ok(settle(alloc, entries, &erases, row.alone)?)
+}
+
+#[test]
+fn one_list_is_settled(rt: HostRuntime) -> Result<(), Fail> {
+    for (place, row) in SETTLED.iter().enumerate() {
+        let left = settled(rt.alloc(), row)?;
+        assert!(rt; are_rows(&left, row.wanted), "row {place}");
+    }
+    Ok(())
+}
+
+const MIXED: &[Row] = &[
+    ("b", 4, Some(3), Some(8)),
+    ("c", 6, None, Some(7)),
+    ("a", 5, Some(1), None),
+    ("b", 4, Some(2), Some(9)),
+    ("c", 2, Some(4), Some(6)),
+];
+
+/// Entries in any order, also two of one key.
+const GATHERED: [Left; 2] = [
+    Left {
+        entries: MIXED,
+        erases: &[],
+        alone: false,
+        wanted: &[
+            ("a", 5, Some(1), None),
+            ("b", 4, Some(3), Some(8)),
+            ("c", 6, None, Some(6)),
+        ],
+    },
+    Left {
+        entries: MIXED,
+        erases: &[(6, 5, 1, 2)],
+        alone: true,
+        wanted: &[("b", 4, Some(3), None)],
+    },
+];
+
+/// What is left of entries in any order.
+fn gathered(alloc: Global, row: &Left) -> Result<Vec<Entry>, Fail> {
+    let entries = entries_of(alloc, row.entries)?;
+    let erases = erases_of(alloc, row.erases)?;
+    Ok(merge_entries(alloc, entries, &erases, row.alone)?)
+}
+
+#[test]
+fn entries_in_any_order_are_merged(rt: HostRuntime) -> Result<(), Fail> {
+    for (place, row) in GATHERED.iter().enumerate() {
+        let left = gathered(rt.alloc(), row)?;
+        assert!(rt; are_rows(&left, row.wanted), "row {place}");
+    }
+    Ok(())
+}
