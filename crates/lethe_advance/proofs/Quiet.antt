@@ -1,12 +1,17 @@
 -- A switch behind calls that change nothing.
-use Rattle.std.proofs.Common.{ℕ, List, Option, inl, sym, ◌∙◌, subst, arith}
-use Rattle.lethe_disk.specs.Directory.{Directory, IsSame}
+use Rattle.std.proofs.Common.{◌≡◌, ℕ, List, Option, Some, inl, sym, ◌∙◌, subst, arith}
+use Rattle.std.specs.Prelude.{IfSome, IsSome}
+use Rattle.lethe_disk.specs.Directory.{Directory, IsSame, object}
 use Rattle.lethe_disk.specs.Disk.{Seen, Image}
 use Rattle.lethe_disk.specs.Quiet.{IsQuiet}
 use Rattle.lethe_disk.specs.Runs.{Leads}
 use Rattle.lethe_disk.proofs.Moments.{leads_leads, leads_weaker}
-use Rattle.lethe_commit.specs.Switch.{IsFree, IsSwitched, IsUnswitched, IsTakenBack}
+use Rattle.lethe_commit.specs.Switch.{IsFree, IsSwitched, IsUnswitched, IsTakenBack, manifest_name}
 use Rattle.lethe_commit.proofs.Exchange.{itself}
+
+-- the older manifest is there as before
+pub older_still : (older k : ℕ) (d c : Directory) → c ≡ d → Some older ≡ Some k → IsSome (object d (manifest_name older)) → IsSome (object c (manifest_name k))
+older_still older k d c same is there = subst (λ x. IsSome (object x (manifest_name k))) (sym same) (subst (λ (o : Option ℕ). IfSome o (λ n. IsSome (object d (manifest_name n)))) is there)
 
 module _ (old mid : Seen) (quiet : IsQuiet old mid) where
   pub image_back : (c : Directory) → Image mid c → Image old c

@@ -1,6 +1,6 @@
 -- The images of a disk through a step.
 use Rattle.std.proofs.Common.{◌≡◌, ◌⊎◌, ℕ, inl, inr, List, length, map, take, Some, refl, sym, ap, ◌∙◌, subst, arith}
-use Rattle.std.specs.Prelude.{All, Contains}
+use Rattle.std.specs.Prelude.{All, Contains, IsSome, is_some}
 use Rattle.std.proofs.lemmas.List.{take_all}
 use Rattle.lethe_base.specs.declared.name.Name.{Name}
 use Rattle.lethe_disk.specs.Directory.{Directory, object, SameBeside}
@@ -14,7 +14,7 @@ use Rattle.lethe_manifest.specs.declared.manifest.Manifest.{Manifest}
 use Rattle.lethe_commit.specs.declared.objects.Object.{Object}
 use Rattle.lethe_commit.specs.Clear.{ArePresent, IsCleared, remove_all}
 use Rattle.lethe_commit.specs.Place.{AreAbsent, name_of, insert_all}
-use Rattle.lethe_commit.specs.Switch.{IsFree, IsSwitched, HasNew, IsTakenBack, switched}
+use Rattle.lethe_commit.specs.Switch.{IsFree, IsSwitched, HasNew, IsTakenBack, manifest_name, switched}
 use Rattle.lethe_commit.proofs.Creations.{all_present, taken_back}
 use Rattle.lethe_commit.proofs.Removals.{cleared_others}
 use Rattle.lethe_stored.specs.Stored.{Stored, part_names}
@@ -40,6 +40,13 @@ module _ (s t : Stored) (loose left : List (Name × List ℕ)) (headers : List H
   abbrev Switches : Directory → Directory → Type 0
   Switches = IsSwitched t.manifest.no (manifest_bytes t.manifest) (Some s.manifest.no)
 
+  -- the manifest that the step names as the older one is what counts
+  pub exchanges_from : (a b : Seen) → Leads (IsSwitched step.manifest.no (manifest_bytes step.manifest) (Some step.older)) a b → Leads Exchanges a b
+  exchanges_from a b run = subst (λ (k : ℕ). Leads (IsSwitched step.manifest.no (manifest_bytes step.manifest) (Some k)) a b) may.step_is.older run
+
+  pub switched_from : (a b : Directory) → b ≡ switched step.manifest.no (manifest_bytes step.manifest) (Some step.older) a → b ≡ switched step.manifest.no (manifest_bytes step.manifest) (Some s.manifest.no) a
+  switched_from a b is = subst (λ (k : ℕ). b ≡ switched step.manifest.no (manifest_bytes step.manifest) (Some k) a) may.step_is.older is
+
   as_next : (d c : Directory) → Exchanges d c → Switches d c
   as_next d c came = subst (λ (m : Manifest). IsSwitched m.no (manifest_bytes m) (Some s.manifest.no) d c) may.step_is.manifest came
 
@@ -64,8 +71,12 @@ module _ (s t : Stored) (loose left : List (Name × List ℕ)) (headers : List H
         next_placed : HasParts s1.directory t
         next_placed = subst (λ d. HasParts d t) (sym placed) (next_there s t loose left headers step may.settled.coherent may.step_is s0.directory may.only may.settled.encodes)
 
-        pub free_placed : IsFree s1 step.manifest.no (Some s.manifest.no)
-        free_placed = subst (λ (m : Manifest). IsFree s1 m.no (Some s.manifest.no)) (sym may.step_is.manifest) (is_free s t loose left headers step may.settled.coherent may.step_is s0.directory may.only may.settled.encodes s1 synced placed)
+        pub free_placed : IsFree s1 step.manifest.no (Some step.older)
+        free_placed = subst (λ (k : ℕ). IsFree s1 step.manifest.no (Some k)) (sym may.step_is.older)
+            (subst (λ (m : Manifest). IsFree s1 m.no (Some s.manifest.no)) (sym may.step_is.manifest) (is_free s t loose left headers step may.settled.coherent may.step_is s0.directory may.only may.settled.encodes s1 synced placed))
+
+        pub older_placed : IsSome (object s1.directory (manifest_name step.older))
+        older_placed = subst (λ (k : ℕ). IsSome (object s1.directory (manifest_name k))) (sym may.step_is.older) (ap is_some still_placed.manifest)
 
         pub pages_placed : All (HasPages s1.directory) headers
         pages_placed = headers_present s t loose left headers step may.step_is s1.directory next_placed

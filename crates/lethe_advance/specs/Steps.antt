@@ -37,6 +37,7 @@ kept_files s step = filter (λ file. is_kept step.merged.items file.header) s.fi
 pub record IsStep (s : Stored) (loose : List (Name × List ℕ)) (t : Stored) (left : List (Name × List ℕ)) (headers : List Header) (step : Step) : Type 0 where
   pub coherent : IsCoherent t
   pub config : t.manifest.config ≡ s.manifest.config
+  pub older : step.older ≡ s.manifest.no
   pub manifest : step.manifest ≡ t.manifest
   -- the manifest's number and those of the objects have not been drawn
   pub later : s.manifest.next ≤ t.manifest.no

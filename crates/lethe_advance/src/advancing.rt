@@ -62,7 +62,7 @@ pub fn advance<D: Disk>(
     ensures files { D.tells → (s t : Stored) (loose left : List (Name × List ℕ)) → MayAdvance (D.seen disk.old) s loose t left headers.items step.now
         → HasFiles s (parts_by_level version.now) → IfOk result (λ next. HasFiles t (parts_by_level next)) }
     ensures levels { IfOk result (λ next. length (levels_of next) ≡ length (levels_of version.now)) }
-    ensures calls { D.tells → OnOk result ((D.seen disk.old).moment + length step.now.objects.items + 6 ≤ (D.seen disk.new).moment) }
+    ensures calls { D.tells → OnOk result ((D.seen disk.old).moment + length step.now.objects.items + 5 ≤ (D.seen disk.new).moment) }
     ensures no_memory { D.tells → IsErrOf result NoMemory → IsTakenBack (D.seen disk.old) (D.seen disk.new) }
     ensures cause { HasCause (D.faults disk.old) (D.faults disk.new) result }
 {

@@ -1,17 +1,18 @@
 //! Opening new files and switching to the manifest that cites them.
-ghost use Rattle.std.specs.Prelude.{◌≡◌, ◌+◌, ◌<◌, ◌≤◌, ℕ, Option, length, map, All, IfOk, OnOk, IsErrOf};
+ghost use Rattle.std.specs.Prelude.{◌≡◌, ◌+◌, ◌<◌, ◌≤◌, Some, IsSome, length, map, All, IfOk, OnOk, IsErrOf};
+ghost use Rattle.lethe_disk.specs.Directory.{object};
 ghost use Rattle.lethe_disk.specs.Disk.{Image, HasCause};
 ghost use Rattle.lethe_disk.specs.Quiet.{IsQuiet};
 ghost use Rattle.lethe_disk.specs.Runs.{Leads};
 ghost use Rattle.lethe_disk.specs.declared.disk.DiskRefused.TheVariants.{NoMemory};
 ghost use Rattle.lethe_header.specs.Headers as header;
 ghost use Rattle.lethe_manifest.specs.Manifests.{manifest_bytes, HasSpelling};
-ghost use Rattle.lethe_commit.specs.Switch.{IsFree, IsSwitched, HasNew, IsTakenBack, switched};
+ghost use Rattle.lethe_commit.specs.Switch.{IsFree, IsSwitched, HasNew, IsTakenBack, manifest_name, switched};
 ghost use Rattle.lethe_version.specs.Versions.{levels_of};
 ghost use Rattle.lethe_advance.specs.Shown.{HasPages, AreLevelsWith, parts_at, parts_in, parts_by_level};
 
 use crate::Step;
-use lethe_commit::switch;
+use lethe_commit::switch_from;
 use lethe_disk::{Disk, DiskRefused};
 use lethe_file::FileView;
 use lethe_header::Header;
@@ -35,25 +36,25 @@ pub fn exchange<D: Disk>(
     requires headers { All header.HasSpelling headers.items }
     requires level { step.now.level < length (levels_of version.now) }
     requires present { D.tells → All (HasPages (D.seen disk.old).directory) headers.items }
-    requires free { D.tells → (greatest : Option ℕ) × IsFree (D.seen disk.old) step.now.manifest.no greatest }
+    requires free { D.tells → IsFree (D.seen disk.old) step.now.manifest.no (Some step.now.older) }
+    requires older { D.tells → IsSome (object (D.seen disk.old).directory (manifest_name step.now.older)) }
 
     // A crash at any moment of the call leaves what a switch may leave.
-    ensures any_moment { D.tells → (greatest : Option ℕ) → IsFree (D.seen disk.old) step.now.manifest.no greatest
-        → Leads (IsSwitched step.now.manifest.no (manifest_bytes step.now.manifest) greatest) (D.seen disk.old) (D.seen disk.new) }
-    ensures done { D.tells → (greatest : Option ℕ) → IsFree (D.seen disk.old) step.now.manifest.no greatest
-        → OnOk result ((D.seen disk.new).directory ≡ switched step.now.manifest.no (manifest_bytes step.now.manifest) greatest (D.seen disk.old).directory) }
+    ensures any_moment { D.tells → Leads (IsSwitched step.now.manifest.no (manifest_bytes step.now.manifest) (Some step.now.older)) (D.seen disk.old) (D.seen disk.new) }
+    ensures done { D.tells → OnOk result ((D.seen disk.new).directory
+        ≡ switched step.now.manifest.no (manifest_bytes step.now.manifest) (Some step.now.older) (D.seen disk.old).directory) }
     ensures new { D.tells → OnOk result ((c : _) → Image (D.seen disk.new) c → HasNew step.now.manifest.no (manifest_bytes step.now.manifest) c) }
 
     ensures files { D.tells → IfOk result (λ next. AreLevelsWith step.now.merged.items step.now.level (map (parts_at (D.seen disk.old).directory) headers.items)
         (parts_by_level version.now) (parts_by_level next)) }
     ensures levels { IfOk result (λ next. length (levels_of next) ≡ length (levels_of version.now)) }
-    ensures calls { D.tells → OnOk result ((D.seen disk.old).moment + 5 ≤ (D.seen disk.new).moment) }
+    ensures calls { D.tells → OnOk result ((D.seen disk.old).moment + 4 ≤ (D.seen disk.new).moment) }
     ensures no_memory { D.tells → IsErrOf result NoMemory → IsTakenBack (D.seen disk.old) (D.seen disk.new) }
     ensures cause { HasCause (D.faults disk.old) (D.faults disk.new) result }
 {
     let files = open_files(alloc, disk, headers)?;
     let next = version.with(alloc, &step.merged, files, step.level)?;
-    switch(alloc, disk, &step.manifest)?;
+    switch_from(alloc, disk, Some(step.older), &step.manifest)?;
     Ok(next)
 }
 

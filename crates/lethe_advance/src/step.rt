@@ -13,6 +13,8 @@ pub struct Step {
     pub level: u64,
     /// The numbers of the files that go.
     pub merged: Vec<u64>,
+    /// The number of the manifest that counts until then.
+    pub older: u64,
     /// The manifest that will count.
     pub manifest: Manifest,
     /// The objects that aren't cited any more, apart from the older manifest and its gate.

@@ -65,6 +65,10 @@ pub placed_manifest : (number : ℕ) (bytes : List ℕ) (d : Directory) → obje
 placed_manifest number bytes d =
     object_beside_insert (insert d (manifest_name number) bytes) (gate_name number) [] (manifest_name number) (manifest≢gate number number) ∙ object_inserted d (manifest_name number) bytes
 
+-- the older two, where both are there
+pub both_present : (k : ℕ) (d : Directory) → IsSome (object d (gate_name k)) → IsSome (object d (manifest_name k)) → ArePresent (gate_name k ∷ manifest_name k ∷ []) d
+both_present k d gate manifest = (gate, (ap is_some (object_beside_remove d (gate_name k) (manifest_name k) (manifest≢gate k k)) ∙ manifest, tt))
+
 -- The run
 
 module _ (number : ℕ) (bytes : List ℕ) (greatest : Option ℕ) (s0 : Seen) (free : IsFree s0 number greatest) where
@@ -82,7 +86,7 @@ module _ (number : ℕ) (bytes : List ℕ) (greatest : Option ℕ) (s0 : Seen) (
       greatest_gate = λ d here. let e = listing.images d here in subst (HasGreatest greatest) (sym e.2) (free.greatest_gate e.0 e.1);
     }
 
-    same_run : Leads (IsUnswitched number) s0 s1
+    pub same_run : Leads (IsUnswitched number) s0 s1
     same_run =
         let start = after_start IsSame IsSame s0 (λ d here. refl) (λ d c here same. same) in
         leads_weaker IsSame (IsUnswitched number) s0 s1 (after_same IsSame IsSame result s0 s0 s1 start listing (λ d c here same. same)).each
@@ -91,6 +95,7 @@ module _ (number : ℕ) (bytes : List ℕ) (greatest : Option ℕ) (s0 : Seen) (
     pub listing_moments : Leads (IsSwitched number bytes greatest) s0 s1
     listing_moments = leads_weaker (IsUnswitched number) (IsSwitched number bytes greatest) s0 s1 same_run (λ d c here un. inl un)
 
+  module _ (s1 : Seen) (quiet : Leads (IsUnswitched number) s0 s1) where
     module _ (s2 : Seen) (placing : Leads (IsPlaced number bytes) s1 s2) where
       placed_switched : (d e c : Directory) → IsUnswitched number d e → IsPlaced number bytes e c → IsSwitched number bytes greatest d c
       placed_switched d e c un made = by_gate (object c (gate_name number)) refl
@@ -111,7 +116,7 @@ module _ (number : ℕ) (bytes : List ℕ) (greatest : Option ℕ) (s0 : Seen) (
           ]
 
       pub placing_moments : Leads (IsSwitched number bytes greatest) s0 s2
-      placing_moments = leads_leads (IsUnswitched number) (IsPlaced number bytes) (IsSwitched number bytes greatest) s0 s1 s2 same_run placing (λ d c un. inl un) (λ d e c here un made. placed_switched d e c un made)
+      placing_moments = leads_leads (IsUnswitched number) (IsPlaced number bytes) (IsSwitched number bytes greatest) s0 s1 s2 quiet placing (λ d c un. inl un) (λ d e c here un made. placed_switched d e c un made)
 
       module _ (synced : IsSynced s2) (done : s2.directory ≡ placed number bytes s0.directory) (here : Image s0 s0.directory) where
         apart : IsNoneOf (older_names greatest) (gate_name number) × IsNoneOf (older_names greatest) (manifest_name number)
@@ -166,6 +171,20 @@ module _ (number : ℕ) (bytes : List ℕ) (greatest : Option ℕ) (s0 : Seen) (
                   ],
                 );
               }
+
+        -- the older two are still there
+        pub older_present : ((k : ℕ) → greatest ≡ Some k → IsSome (object s0.directory (manifest_name k))) → ArePresent (older_names greatest) s2.directory
+        older_present there = by greatest (free.greatest_gate s0.directory here) there
+          where
+            by : (g : Option ℕ) → HasGreatest g s0.directory → ((k : ℕ) → g ≡ Some k → IsSome (object s0.directory (manifest_name k))) → ArePresent (older_names g) s2.directory
+            by None none there = tt
+            by (Some k) has there =
+                let below = greatest_below k number s0.directory has (free.no_gate s0.directory here) in
+                let gate : object s2.directory (gate_name k) ≡ object s0.directory (gate_name k)
+                = ap (λ x. object x (gate_name k)) done ∙ beside_placed number bytes s0.directory (gate_name k) (gate≢manifest k number, (gate≢gate k number (λ e. omega (arith, e, below)), tt)) in
+                let manifest : object s2.directory (manifest_name k) ≡ object s0.directory (manifest_name k)
+                = ap (λ x. object x (manifest_name k)) done ∙ beside_placed number bytes s0.directory (manifest_name k) (manifest≢manifest k number (λ e. omega (arith, e, below)), (manifest≢gate k number, tt)) in
+                both_present k s2.directory (ap is_some gate ∙ has.0) (ap is_some manifest ∙ there k refl)
 
         -- the names tell which gate was the greatest
         pub tells_older : (names : List Name) → names ≡ keys s0.directory → TellsOlder names greatest s2.directory
@@ -251,6 +270,3 @@ one_removed k d none = same_directory _ _ (λ other. elim (name_cases other (man
       ∙ sym (ap (object (remove (remove d (gate_name k)) (manifest_name k))) same ∙ object_removed (remove d (gate_name k)) (manifest_name k))
   | inr ne ↦ sym (object_beside_remove (remove d (gate_name k)) (manifest_name k) other ne)
 ])
-
-pub both_present : (k : ℕ) (d : Directory) → IsSome (object d (gate_name k)) → IsSome (object d (manifest_name k)) → ArePresent (gate_name k ∷ manifest_name k ∷ []) d
-both_present k d gate manifest = (gate, (ap is_some (object_beside_remove d (gate_name k) (manifest_name k) (manifest≢gate k k)) ∙ manifest, tt))

@@ -1,12 +1,12 @@
 //! Switching to a new manifest.
-ghost use Rattle.std.specs.Prelude.{◌≡◌, ◌+◌, ◌≤◌, ℕ, Option, OnOk, IsErrOf};
+ghost use Rattle.std.specs.Prelude.{◌≡◌, ◌+◌, ◌≤◌, ℕ, Option, Some, OnOk, IsErrOf, IsSome};
 ghost use Rattle.lethe_disk.specs.declared.disk.DiskRefused.TheVariants.{NoMemory};
-ghost use Rattle.lethe_disk.specs.Directory.{Directory};
+ghost use Rattle.lethe_disk.specs.Directory.{Directory, object};
 ghost use Rattle.lethe_disk.specs.Disk.{Image, IsSynced, HasCause};
 ghost use Rattle.lethe_disk.specs.Runs.{Leads, Throughout};
 ghost use Rattle.lethe_manifest.specs.Manifests.{manifest_bytes, HasSpelling};
-ghost use Rattle.lethe_commit.specs.Clear.{IsCleared, remove_all};
-ghost use Rattle.lethe_commit.specs.Switch.{IsFree, IsPlaced, IsSwitched, HasNew, HasOldOrNew, IsTakenBack, TellsOlder, older_names, placed, switched};
+ghost use Rattle.lethe_commit.specs.Clear.{ArePresent, IsCleared, remove_all};
+ghost use Rattle.lethe_commit.specs.Switch.{IsFree, IsPlaced, IsSwitched, HasNew, HasOldOrNew, IsTakenBack, TellsOlder, manifest_name, older_names, placed, switched};
 
 use crate::clearing::{clear, remove_each};
 use crate::gates::choose;
@@ -49,6 +49,80 @@ pub fn switch<D: Disk>(alloc: Global, disk: &mut D, manifest: &Manifest) -> Resu
 {
     let bytes = write_manifest(alloc, manifest)?;
     exchange(alloc, disk, manifest.no, &bytes)
+}
+
+/// The same where it is known which gate is the greatest, and that its manifest is there, or that there is no gate: so nothing is listed.
+///
+/// It takes four to six device calls: those of `switch` but for the list.
+///
+/// # Errors
+///
+/// As those of `switch`.
+pub fn switch_from<D: Disk>(
+    alloc: Global,
+    disk: &mut D,
+    older: Option<u64>,
+    manifest: &Manifest,
+) -> Result<(), DiskRefused>
+    requires spelled { HasSpelling manifest.now }
+    requires free { D.tells → IsFree (D.seen disk.old) manifest.now.no older }
+    requires there { D.tells → (number : ℕ) → older ≡ Some number → IsSome (object (D.seen disk.old).directory (manifest_name number)) }
+    ensures any_moment { D.tells → Leads (IsSwitched manifest.now.no (manifest_bytes manifest.now) older) (D.seen disk.old) (D.seen disk.new) }
+    ensures greatest { D.tells → Throughout (HasOldOrNew older manifest.now.no (manifest_bytes manifest.now)) (D.seen disk.old) (D.seen disk.new) }
+    ensures done { D.tells → OnOk result ((D.seen disk.new).directory ≡ switched manifest.now.no (manifest_bytes manifest.now) older (D.seen disk.old).directory) }
+    ensures new { D.tells → OnOk result ((c : Directory) → Image (D.seen disk.new) c → HasNew manifest.now.no (manifest_bytes manifest.now) c) }
+    ensures calls { D.tells → OnOk result ((D.seen disk.old).moment + 4 ≤ (D.seen disk.new).moment) }
+    ensures soon { D.tells → (D.seen disk.new).moment ≤ (D.seen disk.old).moment + 6 }
+    ensures no_memory { D.tells → IsErrOf result NoMemory → IsTakenBack (D.seen disk.old) (D.seen disk.new) }
+    ensures cause { HasCause (D.faults disk.old) (D.faults disk.new) result }
+{
+    let bytes = write_manifest(alloc, manifest)?;
+    exchange_from(disk, older, manifest.no, &bytes)
+}
+
+// Switches to the manifest of these bytes from the gate of this number, or from none.
+fn exchange_from<D: Disk>(
+    disk: &mut D,
+    older: Option<u64>,
+    number: u64,
+    bytes: &[u8],
+) -> Result<(), DiskRefused>
+    requires free { D.tells → IsFree (D.seen disk.old) number older }
+    requires there { D.tells → (k : ℕ) → older ≡ Some k → IsSome (object (D.seen disk.old).directory (manifest_name k)) }
+    ensures any_moment { D.tells → Leads (IsSwitched number bytes.now older) (D.seen disk.old) (D.seen disk.new) }
+    ensures done { D.tells → OnOk result ((D.seen disk.new).directory ≡ switched number bytes.now older (D.seen disk.old).directory) }
+    ensures new { D.tells → OnOk result ((c : Directory) → Image (D.seen disk.new) c → HasNew number bytes.now c) }
+    ensures calls { D.tells → OnOk result ((D.seen disk.old).moment + 4 ≤ (D.seen disk.new).moment) }
+    ensures soon { D.tells → (D.seen disk.new).moment ≤ (D.seen disk.old).moment + 6 }
+    ensures no_memory { D.tells → IsErrOf result NoMemory → IsTakenBack (D.seen disk.old) (D.seen disk.new) }
+    ensures cause { HasCause (D.faults disk.old) (D.faults disk.new) result }
+{
+    place_with_gate(disk, number, bytes)?;
+    remove_known(disk, older)
+}
+
+// Removes the gate of this number and then its manifest, if there is one.
+fn remove_known<D: Disk>(disk: &mut D, older: Option<u64>) -> Result<(), DiskRefused>
+    requires { D.tells → ArePresent (older_names older) (D.seen disk.old).directory }
+    ensures any_moment { D.tells → Leads (IsCleared (older_names older)) (D.seen disk.old) (D.seen disk.new) }
+    ensures done { D.tells → OnOk result ((D.seen disk.new).directory ≡ remove_all (older_names older) (D.seen disk.old).directory) }
+    ensures later { D.tells → (D.seen disk.old).moment ≤ (D.seen disk.new).moment }
+    ensures soon { D.tells → (D.seen disk.new).moment ≤ (D.seen disk.old).moment + 2 }
+    ensures no_memory { IsErrOf result NoMemory → ⊥ }
+    ensures cause { HasCause (D.faults disk.old) (D.faults disk.new) result }
+{
+    let Some(number) = older else {
+        return Ok(());
+    };
+    let gate = Name {
+        kind: Kind::Gate,
+        no: number,
+    };
+    let manifest = Name {
+        kind: Kind::Manifest,
+        no: number,
+    };
+    remove_each(disk, &[gate, manifest])
 }
 
 // Switches to the manifest of these bytes.

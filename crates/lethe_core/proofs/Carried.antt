@@ -52,7 +52,7 @@ pub record IsCarried (Tells : Type 0) (old new : View) (headers : List Header) (
   pub files : Tells → (s t : Stored) (left : List (Name × List ℕ)) → IsRunning old s → IsStep s (loose_in old.flight) t left headers step → HasFiles s old.levels → HasFiles t new.levels
   pub levels : length new.levels ≡ length old.levels
   pub flight : new.flight ≡ old.flight
-  pub calls : Tells → old.disk.moment + length step.objects.items + 6 ≤ new.disk.moment
+  pub calls : Tells → old.disk.moment + length step.objects.items + 5 ≤ new.disk.moment
   pub faults : old.faults ≤ new.faults
 
 -- a segment that is stored has a number that was drawn

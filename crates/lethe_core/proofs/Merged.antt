@@ -122,7 +122,7 @@ module _ (old : View) (disk : Seen) (faults : ℕ) (levels : List (List Parts)) 
           (installed_for h s next.0 next.1 holds.remembers.coherent (stands_for config h old stands can.runs) (next.3 config h stands) next.2.installed) (behind told s next.0 next.1 holds next.2) tt
 
       pub merge_keeps : length levels ≡ length old.levels → (Tells → (config : Fields) (h : History) → StandsNow config h old → Goes (λ c. IsKept c h) old.disk disk)
-          → (Tells → old.disk.moment + length step.objects.items + 6 ≤ disk.moment) → old.faults ≤ faults → Keeps {T = Unit {0}} Tells old new (Ok tt)
+          → (Tells → old.disk.moment + length step.objects.items + 5 ≤ disk.moment) → old.faults ≤ faults → Keeps {T = Unit {0}} Tells old new (Ok tt)
       merge_keeps count moments calls rise = record {
         sound = record {
           writable = writable_under old.state step from can.sound.writable;

@@ -131,7 +131,7 @@ impl<D: Disk> Core<D> {
         ensures levels { length (parts_by_level self.new.version) ≡ length (parts_by_level self.old.version) }
         ensures refused { IfErr result (IsHindered D.tells (view_of self.old) (view_of self.new) before) }
         ensures flight { self.new.flight ≡ self.old.flight }
-        ensures calls { D.tells → OnOk result ((D.seen self.old.disk).moment + length step.now.objects.items + 6 ≤ (D.seen self.new.disk).moment) }
+        ensures calls { D.tells → OnOk result ((D.seen self.old.disk).moment + length step.now.objects.items + 5 ≤ (D.seen self.new.disk).moment) }
         ensures later { D.tells → (D.seen self.old.disk).moment ≤ (D.seen self.new.disk).moment }
         ensures faults { D.faults self.old.disk ≤ D.faults self.new.disk }
     {

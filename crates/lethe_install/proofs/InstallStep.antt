@@ -305,6 +305,7 @@ module _ (s : Stored) (state : State) (levels : List (List Parts)) (is : Remembe
     is_step = record {
       coherent = coherent_then;
       config = refl;
+      older = stepped.older ∙ ap (λ (m : Manifest). m.no) is.manifest;
       manifest = manifest_is;
       later = later;
       fresh = all_from (λ (object : Object). s.manifest.next ≤ object.name.no) step.objects.items (λ object there. let high = fresh_no object there in omega (arith, high, drawn_before));

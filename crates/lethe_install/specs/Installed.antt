@@ -26,5 +26,6 @@ pub record IsInstallStep (state : State) (level : ℕ) (inputs : Inputs) (made :
   pub level_is : step.level ≡ level
   pub merged : step.merged.items ≡ inputs.numbers.items
   pub gone : step.gone.items ≡ inputs.names.items
+  pub older : step.older ≡ state.manifest.no
   pub manifest : step.manifest ≡ installing_manifest state (with_made level inputs.numbers.items inputs.above.items made.cited.items state.manifest.files) made.next
   pub few : length step.manifest.files < 2 ^ 32

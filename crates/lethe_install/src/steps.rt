@@ -151,6 +151,7 @@ fn step_of(
         objects,
         level,
         merged: numbers,
+        older: state.manifest.no,
         manifest,
         gone: names,
     };

@@ -48,6 +48,9 @@ pub fn load<D: Disk>(
     ensures exact { D.tells → (why : RecoverRefused) → HasReason config.now (D.seen disk.old).directory why
         → MatchResult result (λ read. ⊥) (λ told. (told ≡ why) ⊎ IsInterrupted (D.faults disk.old) (D.faults disk.new) told) }
 
+    // The disk's names are told.
+    ensures listed { D.tells → IfOk result (λ read. read.names.items ≡ keys (D.seen disk.new).directory) }
+
     ensures quiet { D.tells → IsQuiet (D.seen disk.old) (D.seen disk.new) }
     ensures faults { D.faults disk.old ≤ D.faults disk.new }
 {
@@ -62,6 +65,7 @@ fn load_greatest<D: Disk>(
     ensures spelled { IfOk result (λ read. IsSpelledOut config.now (shown read)) }
     ensures found { D.tells → IfOk result (λ read. IsLoaded config.now (D.seen disk.old).directory (shown read)) }
     ensures refused { IfErr result (MayRefuse D.tells config.now (D.seen disk.old).directory (D.faults disk.old) (D.faults disk.new)) }
+    ensures listed { D.tells → IfOk result (λ read. read.names.items ≡ keys (D.seen disk.new).directory) }
     ensures quiet { D.tells → IsQuiet (D.seen disk.old) (D.seen disk.new) }
     ensures faults { D.faults disk.old ≤ D.faults disk.new }
 {
@@ -76,8 +80,9 @@ fn load_greatest<D: Disk>(
             manifest: None,
             segments: List::of(Vec::new(alloc)),
             files: Vec::new(alloc),
+            names: listing.names,
         }),
-        Some(number) => load_gated(alloc, disk, &listing, number, config),
+        Some(number) => load_gated(alloc, disk, listing, number, config),
     }
 }
 
@@ -91,27 +96,28 @@ fn is_same(kept: &Config, config: &Config) -> bool
 fn load_gated<D: Disk>(
     alloc: Global,
     disk: &mut D,
-    listing: &Listing,
+    listing: Listing,
     number: u64,
     config: &Config,
 ) -> Result<Recovered<D>, RecoverRefused>
-    requires since { listing.now.faults ≤ D.faults disk.old }
-    requires listed { D.tells → listing.now.names.items ≡ keys (D.seen disk.old).directory }
+    requires since { listing.faults ≤ D.faults disk.old }
+    requires listed { D.tells → listing.names.items ≡ keys (D.seen disk.old).directory }
     requires greatest { D.tells → HasGreatest (Some number) (D.seen disk.old).directory }
     ensures spelled { IfOk result (λ read. IsSpelledOut config.now (shown read)) }
     ensures found { D.tells → IfOk result (λ read. IsRead config.now (D.seen disk.old).directory (shown read)) }
-    ensures refused { IfErr result (MayRefuse D.tells config.now (D.seen disk.old).directory listing.now.faults (D.faults disk.new)) }
+    ensures refused { IfErr result (MayRefuse D.tells config.now (D.seen disk.old).directory listing.faults (D.faults disk.new)) }
+    ensures names { IfOk result (λ read. read.names ≡ listing.names) }
     ensures quiet { D.tells → IsQuiet (D.seen disk.old) (D.seen disk.new) }
     ensures faults { D.faults disk.old ≤ D.faults disk.new }
 {
-    let manifest = load_manifest(alloc, disk, listing, number)?;
+    let manifest = load_manifest(alloc, disk, &listing, number)?;
     if !is_same(&manifest.config, config) {
         return Err(RecoverRefused::OtherConfig {
             kept: manifest.config,
         });
     }
-    let segments = load_segments(alloc, disk, listing, manifest.segments.items())?;
-    let files = load_files(alloc, disk, listing, manifest.next, manifest.files.items())?;
+    let segments = load_segments(alloc, disk, &listing, manifest.segments.items())?;
+    let files = load_files(alloc, disk, &listing, manifest.next, manifest.files.items())?;
     if !are_rising(manifest.files.items(), &files) {
         let name = Name {
             kind: Kind::Manifest,
@@ -123,5 +129,6 @@ fn load_gated<D: Disk>(
         manifest: Some(manifest),
         segments,
         files,
+        names: listing.names,
     })
 }

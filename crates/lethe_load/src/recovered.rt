@@ -1,6 +1,6 @@
 //! What was read of a disk.
 
-use lethe_base::List;
+use lethe_base::{List, Name};
 use lethe_disk::Disk;
 use lethe_file::FileView;
 use lethe_manifest::Manifest;
@@ -15,4 +15,6 @@ pub struct Recovered<D: Disk> {
     pub segments: List<List<Record>>,
     /// The files that the manifest cites, in its order, with their pages opened.
     pub files: Vec<FileView<D>>,
+    /// The names of all objects of the disk, in their order.
+    pub names: Vec<Name>,
 }

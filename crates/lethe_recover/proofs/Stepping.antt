@@ -239,6 +239,7 @@ module _ (s : Stored) (coherent : IsCoherent s) (m : Manifest) (same : s.manifes
   is_step = record {
     coherent = next_coherent;
     config = refl;
+    older = is.older ∙ ap (λ (x : Manifest). x.no) (sym same);
     manifest = manifest_is;
     later = omega (arith, next_is, low, high);
     fresh = all_from (λ (object : Object). s.manifest.next ≤ object.name.no) objects is_fresh;

@@ -35,6 +35,7 @@ pub record IsStepOf (m : Manifest) (count : ℕ) (erases : List Pending) (flushe
   pub objects : made.step.objects.items ≡ flushes.older.objects.items ++ flushes.newer.objects.items ++ empty_segment flushes.newer.next ∷ []
   pub level : made.step.level ≡ 0
   pub merged : made.step.merged.items ≡ []
+  pub older : made.step.older ≡ m.no
   pub manifest : made.step.manifest ≡ successor m count erases (flushes.newer.cited.items ++ flushes.older.cited.items ++ m.files) flushes.newer.next
   pub gone : made.step.gone.items ≡ map segment_name m.segments
 

@@ -117,12 +117,13 @@ fn open_synced<D: Disk>(
         manifest,
         segments,
         files,
+        names,
     } = read;
     match manifest {
         None => start(alloc, disk, before, config),
         Some(manifest) => {
             let journal = Journal::of(alloc, segments);
-            resume(alloc, disk, before, &manifest, journal, files)
+            resume(alloc, disk, before, &names, &manifest, journal, files)
         }
     }
 }

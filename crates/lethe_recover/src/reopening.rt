@@ -96,6 +96,7 @@ fn step_of(
         objects,
         level: 0,
         merged: Vec::new(alloc),
+        older: manifest.no,
         manifest: next,
         gone,
     };

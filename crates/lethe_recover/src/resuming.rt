@@ -1,5 +1,6 @@
 //! Opening a store that has a gate.
 ghost use Rattle.std.specs.Prelude.{◌≡◌, ◌≤◌, ◌<◌, ◌+◌, ℕ, map, length, IsErrOf, IfErr, IfOk};
+ghost use Rattle.std.specs.FinMap.{keys};
 ghost use Rattle.lethe_base.specs.Limits.{max_place};
 ghost use Rattle.lethe_base.specs.History.{History};
 ghost use Rattle.lethe_disk.specs.Disk.{HasCause};
@@ -23,23 +24,25 @@ use crate::prepared::{Prepared, prepare};
 use crate::reopening::{Reopening, reopening_of};
 use crate::{OpenWhy, Opened, tidy};
 use lethe_advance::{Step, advance};
-use lethe_base::MAX_PLACE;
+use lethe_base::{MAX_PLACE, Name};
 use lethe_disk::{Disk, DiskRefused};
 use lethe_file::FileView;
 use lethe_manifest::Manifest;
 use std::alloc::Global;
 
 /// Reopens a store, where the numbers suffice: what it takes is made in memory before the disk is touched. `before` is the count of faults that a fault
-/// is told with.
+/// is told with, `names` are all that the disk has.
 pub fn resume<D: Disk>(
     alloc: Global,
     disk: &mut D,
     before: u64,
+    names: &[Name],
     manifest: &Manifest,
     journal: Journal,
     files: Vec<FileView<D>>,
 ) -> Result<Opened<D>, OpenWhy>
     requires before { before ≤ D.faults disk.old }
+    requires listed { D.tells → names.now ≡ keys (D.seen disk.old).directory }
     requires spelled { HasSpelling manifest.now }
     requires older { Ascends 0 journal.older }
     requires newer { Ascends 0 journal.newer }
@@ -61,7 +64,7 @@ pub fn resume<D: Disk>(
     if made.drafts.exhaust(manifest.next) {
         return Err(OpenWhy::Exhausted { last: MAX_PLACE });
     }
-    match reopen(alloc, disk, manifest, made) {
+    match reopen(alloc, disk, names, manifest, made) {
         Ok(opened) => Ok(opened),
         Err(why) => Err(failure(disk, before, why)),
     }
@@ -71,9 +74,11 @@ pub fn resume<D: Disk>(
 fn reopen<D: Disk>(
     alloc: Global,
     disk: &mut D,
+    names: &[Name],
     manifest: &Manifest,
     made: Prepared<D>,
 ) -> Result<Opened<D>, DiskRefused>
+    requires listed { D.tells → names.now ≡ keys (D.seen disk.old).directory }
     requires spelled { HasSpelling manifest.now }
     requires ready { IsReady manifest.now made }
     requires numbers { manifest.now.next + numbers_of made.drafts + 1 < max_place }
@@ -92,7 +97,7 @@ fn reopen<D: Disk>(
         erases,
         drafts,
     } = made;
-    tidy(alloc, disk, &cited)?;
+    tidy(alloc, disk, names, &cited)?;
     let made = reopening_of(alloc, manifest, count, erases, drafts)?;
     let Reopening { headers, step } = made;
     let reopened = advance(alloc, disk, &version, headers, &step)?;

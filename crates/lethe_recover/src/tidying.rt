@@ -1,6 +1,7 @@
 //! Removing what the greatest gate doesn't commit.
 ghost use Rattle.std.specs.Prelude.{◌≡◌, ◌↔◌, [], not, filter, IfOk, IsTrue, OnOk};
 ghost use Rattle.std.specs.BTreeSet.{contains};
+ghost use Rattle.std.specs.FinMap.{keys};
 ghost use Rattle.lethe_base.specs.Names.{name_cmp};
 ghost use Rattle.lethe_disk.specs.Disk.{HasCause};
 ghost use Rattle.lethe_disk.specs.Goes.{Goes};
@@ -15,13 +16,20 @@ use lethe_disk::{Disk, DiskRefused};
 use std::alloc::Global;
 use std::collections::BTreeSet;
 
-/// Removes every object whose name isn't in the set, and syncs. In the set are the greatest gate, its manifest and what this cites.
+/// Removes every object whose name isn't in the set, and syncs. In the set are the greatest gate, its manifest and what this cites; `names` are all that
+/// the disk has.
 ///
 /// # Errors
 ///
 /// `NoMemory` before any change. `Failed` where the disk failed: then each object that counts for nothing may be there or not.
-pub fn tidy<D: Disk>(alloc: Global, disk: &mut D, cited: &BTreeSet<Name>) -> Result<(), DiskRefused>
-    requires { D.tells → (s : Stored) × IsSettled (D.seen disk.old) s × ((name : names.Name) → IsTrue (contains name_cmp cited.now name) ↔ IsCited s name) }
+pub fn tidy<D: Disk>(
+    alloc: Global,
+    disk: &mut D,
+    names: &[Name],
+    cited: &BTreeSet<Name>,
+) -> Result<(), DiskRefused>
+    requires listed { D.tells → names.now ≡ keys (D.seen disk.old).directory }
+    requires settled { D.tells → (s : Stored) × IsSettled (D.seen disk.old) s × ((name : names.Name) → IsTrue (contains name_cmp cited.now name) ↔ IsCited s name) }
 
     // A crash at any moment of the call leaves what is stored as it was.
     ensures any_moment { D.tells → (s : Stored) → IsSettled (D.seen disk.old) s → Goes (λ c. Encodes c s) (D.seen disk.old) (D.seen disk.new) }
@@ -31,8 +39,7 @@ pub fn tidy<D: Disk>(alloc: Global, disk: &mut D, cited: &BTreeSet<Name>) -> Res
         → OnOk result (IsSettled (D.seen disk.new) s × HasOnly s [] (D.seen disk.new).directory) }
     ensures cause { HasCause (D.faults disk.old) (D.faults disk.new) result }
 {
-    let names = disk.names(alloc)?;
-    let rest = uncited(alloc, &names, cited)?;
+    let rest = uncited(alloc, names, cited)?;
     clear(disk, &rest)
 }
 

@@ -337,6 +337,7 @@ module _ (s : Stored) (state : State) (levels : List (List Parts)) (is : Remembe
     flush_is_step = record {
       coherent = flushed_coherent s files number is.coherent later new (subst HasSpelling manifest_is spelled);
       config = refl;
+      older = stepped.older ∙ ap (λ (m : Manifest). m.no) is.manifest;
       manifest = manifest_is;
       later = later;
       fresh = all_from (λ (object : Object). s.manifest.next ≤ object.name.no) step.objects.items (λ object there. object_fresh s.manifest.next number files new (named_of object) (of_files object there));

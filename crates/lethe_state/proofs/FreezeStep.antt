@@ -83,7 +83,7 @@ freeze_from state step is none fits objects level manifest =
 -- On a disk that tells
 
 module _ (s : Stored) (state : State) (levels : List (List Parts)) (is : Remembers s state levels) (current : IsCurrent s state) (none : s.frozen ≡ None) (step : Step)
-    (objects : step.objects.items ≡ empty_segment state.next ∷ []) (merged : step.merged.items ≡ []) (manifest : step.manifest ≡ freezing_manifest state)
+    (objects : step.objects.items ≡ empty_segment state.next ∷ []) (merged : step.merged.items ≡ []) (older : step.older ≡ state.manifest.no) (manifest : step.manifest ≡ freezing_manifest state)
     (gone : step.gone.items ≡ []) (spelled : HasSpelling step.manifest) (fits : state.manifest.next ≤ state.next)
     (loose : List (Name × List ℕ)) (drawn : AreDrawn state.next (names_in loose)) (uncited : AreUncited s loose) where
   abbrev n : ℕ
@@ -131,6 +131,7 @@ module _ (s : Stored) (state : State) (levels : List (List Parts)) (is : Remembe
   freeze_is_step = record {
     coherent = froze_coherent s is.coherent n (n + 1) le (omega arith) (subst HasSpelling manifest_is spelled);
     config = refl;
+    older = older ∙ ap (λ (m : Manifest). m.no) is.manifest;
     manifest = manifest_is;
     later = omega (arith, le);
     fresh = one_all (λ (made : Object). s.manifest.next ≤ made.name.no) (empty_segment n) step.objects.items objects le;

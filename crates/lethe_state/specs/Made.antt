@@ -40,5 +40,6 @@ pub record IsFlushStep (state : State) (made : MadeFiles) (headers : List Header
   pub objects : step.objects.items ≡ made.objects.items
   pub level : step.level ≡ 0
   pub merged : step.merged.items ≡ []
+  pub older : step.older ≡ state.manifest.no
   pub manifest : step.manifest ≡ flushing_manifest state made.cited.items made.next
   pub gone : step.gone.items ≡ segment_name (slice_index state.manifest.segments 0) ∷ []

@@ -153,6 +153,7 @@ impl State {
             objects,
             level: 0,
             merged: Vec::new(alloc),
+            older: self.manifest.no,
             manifest,
             gone,
         };

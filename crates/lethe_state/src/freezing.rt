@@ -54,6 +54,7 @@ impl State {
         ensures objects { IfOk result (λ step. step.objects.items ≡ empty_segment self.now.next ∷ []) }
         ensures level { IfOk result (λ step. step.level ≡ 0) }
         ensures merged { IfOk result (λ step. step.merged.items ≡ []) }
+        ensures older { IfOk result (λ step. step.older ≡ self.now.manifest.no) }
         ensures manifest { IfOk result (λ step. step.manifest ≡ freezing_manifest self.now) }
         ensures gone { IfOk result (λ step. step.gone.items ≡ []) }
     {
@@ -63,6 +64,7 @@ impl State {
             objects,
             level: 0,
             merged: Vec::new(alloc),
+            older: self.manifest.no,
             manifest: self.freezing_manifest(alloc)?,
             gone: Vec::new(alloc),
         })

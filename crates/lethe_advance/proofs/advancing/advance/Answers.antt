@@ -1,10 +1,10 @@
-use Rattle.std.proofs.Common.{Err, map, sym, ap, ◌∙◌, subst, Some}
+use Rattle.std.proofs.Common.{Err, map, sym, ap, ◌∙◌, subst}
 use Rattle.lethe_disk.specs.Runs.{Leads}
 use Rattle.lethe_commit.specs.Clear.{ArePresent, IsCleared, remove_all}
 use Rattle.lethe_commit.specs.Place.{name_of}
 use Rattle.lethe_advance.specs.Shown.{AreLevelsWith, parts_by_level}
 use Rattle.lethe_advance.proofs.Leveled.{files_next}
-use Rattle.lethe_advance.proofs.Running.{absent_before, place_moments, free_placed, pages_placed, opened_placed, exchange_moments, present_again, removal_moments, back_again, present_placed, clear_moments, settled_next, kept_next}
+use Rattle.lethe_advance.proofs.Running.{absent_before, exchanges_from, switched_from, place_moments, free_placed, older_placed, pages_placed, opened_placed, exchange_moments, present_again, removal_moments, back_again, present_placed, clear_moments, settled_next, kept_next}
 use Rattle.lethe_advance.proofs.advancing.advance.Goals as goal
 
 pub place_all-requires-after_bounds : goal.place_all-requires-after_bounds
@@ -69,7 +69,26 @@ exchange-requires-clause-free g c κs within = λ told.
     let placing = c.place_all.ensures.any_moment told in
     let synced = c.in_ok-place_all.ensures.synced told in
     let done = c.in_ok-place_all.ensures.done told in
-    (Some s.manifest.no, free_placed s t loose left headers step s0 may objects same s1 placing synced done)
+    free_placed s t loose left headers step s0 may objects same s1 placing synced done
+
+pub exchange-requires-clause-older : goal.exchange-requires-clause-older
+exchange-requires-clause-older g c κs within = λ told.
+    let asked = c.requires.step told in
+    let s = asked.0 in
+    let t = asked.1 in
+    let loose = asked.2 in
+    let left = asked.3 in
+    let may = asked.4 in
+    let s0 = g.D.Disk.seen c.args.disk.now in
+    let headers = c.args.headers.items in
+    let step = c.args.step.now in
+    let objects = c.deref.result.now in
+    let same = c.deref.ensures.value in
+    let s1 = g.D.Disk.seen c.place_all.new.disk in
+    let placing = c.place_all.ensures.any_moment told in
+    let synced = c.in_ok-place_all.ensures.synced told in
+    let done = c.in_ok-place_all.ensures.done told in
+    older_placed s t loose left headers step s0 may objects same s1 placing synced done
 
 pub clear-requires-after_bounds : goal.clear-requires-after_bounds
 clear-requires-after_bounds g c κs within = λ told.
@@ -89,10 +108,9 @@ clear-requires-after_bounds g c κs within = λ told.
     let synced = c.in_ok-place_all.ensures.synced told in
     let done = c.in_ok-place_all.ensures.done told in
     let s2 = g.D.Disk.seen c.exchange.new.disk in
-    let free = free_placed s t loose left headers step s0 may objects same s1 placing synced done in
-    let exchanging = c.exchange.ensures.any_moment told (Some s.manifest.no) free in
+    let exchanging = exchanges_from s t loose left headers step s0 may s1 s2 (c.exchange.ensures.any_moment told) in
     let new = c.in-Ok.ensures.new told in
-    let switched_is = c.in-Ok.ensures.done told (Some s.manifest.no) free in
+    let switched_is = switched_from s t loose left headers step s0 may s1.directory s2.directory (c.in-Ok.ensures.done told) in
     let gone = c.deref-in-Ok.result.now in
     let gone_is = c.deref-in-Ok.ensures.value in
     present_placed s t loose left headers step s0 may objects same s1 placing synced done s2 exchanging new switched_is gone gone_is
@@ -109,10 +127,9 @@ returns-in_err-clear-in-Ok-clause-any_moment g c = λ told s t loose left may.
     let synced = c.in_ok-place_all.ensures.synced told in
     let done = c.in_ok-place_all.ensures.done told in
     let s2 = g.D.Disk.seen c.exchange.new.disk in
-    let free = free_placed s t loose left headers step s0 may objects same s1 placing synced done in
-    let exchanging = c.exchange.ensures.any_moment told (Some s.manifest.no) free in
+    let exchanging = exchanges_from s t loose left headers step s0 may s1 s2 (c.exchange.ensures.any_moment told) in
     let new = c.in-Ok.ensures.new told in
-    let switched_is = c.in-Ok.ensures.done told (Some s.manifest.no) free in
+    let switched_is = switched_from s t loose left headers step s0 may s1.directory s2.directory (c.in-Ok.ensures.done told) in
     let gone = c.deref-in-Ok.result.now in
     let gone_is = c.deref-in-Ok.ensures.value in
     let s3 = g.D.Disk.seen c.clear.new.disk in
@@ -137,8 +154,7 @@ take_back-requires-after_bounds g c κs within = λ told.
     let synced = c.in_ok-place_all.ensures.synced told in
     let done = c.in_ok-place_all.ensures.done told in
     let s2 = g.D.Disk.seen c.exchange.new.disk in
-    let free = free_placed s t loose left headers step s0 may objects same s1 placing synced done in
-    let exchanging = c.exchange.ensures.any_moment told (Some s.manifest.no) free in
+    let exchanging = exchanges_from s t loose left headers step s0 may s1 s2 (c.exchange.ensures.any_moment told) in
     let back = c.exchange.ensures.no_memory told (c.in-Err-NoMemory.is ∙ ap (λ e. Err e) c.in-Err-NoMemory.field-0-is) in
     subst (λ l. ArePresent (map name_of l) s2.directory) (same ∙ sym c.deref-in-Err-NoMemory.ensures.value) (present_again s t loose left headers step s0 may objects same s1 placing synced done s2 exchanging back)
 
@@ -154,8 +170,7 @@ returns-in_err-take_back-in-Err-NoMemory-clause-any_moment g c = λ told s t loo
     let synced = c.in_ok-place_all.ensures.synced told in
     let done = c.in_ok-place_all.ensures.done told in
     let s2 = g.D.Disk.seen c.exchange.new.disk in
-    let free = free_placed s t loose left headers step s0 may objects same s1 placing synced done in
-    let exchanging = c.exchange.ensures.any_moment told (Some s.manifest.no) free in
+    let exchanging = exchanges_from s t loose left headers step s0 may s1 s2 (c.exchange.ensures.any_moment told) in
     let back = c.exchange.ensures.no_memory told (c.in-Err-NoMemory.is ∙ ap (λ e. Err e) c.in-Err-NoMemory.field-0-is) in
     let s3 = g.D.Disk.seen c.take_back.new.disk in
     let as_placed = c.deref-in-Err-NoMemory.ensures.value ∙ sym same in
@@ -174,10 +189,9 @@ returns-in_ok-clear-in-Ok-clause-any_moment g c = λ told s t loose left may.
     let synced = c.in_ok-place_all.ensures.synced told in
     let done = c.in_ok-place_all.ensures.done told in
     let s2 = g.D.Disk.seen c.exchange.new.disk in
-    let free = free_placed s t loose left headers step s0 may objects same s1 placing synced done in
-    let exchanging = c.exchange.ensures.any_moment told (Some s.manifest.no) free in
+    let exchanging = exchanges_from s t loose left headers step s0 may s1 s2 (c.exchange.ensures.any_moment told) in
     let new = c.in-Ok.ensures.new told in
-    let switched_is = c.in-Ok.ensures.done told (Some s.manifest.no) free in
+    let switched_is = switched_from s t loose left headers step s0 may s1.directory s2.directory (c.in-Ok.ensures.done told) in
     let gone = c.deref-in-Ok.result.now in
     let gone_is = c.deref-in-Ok.ensures.value in
     let s3 = g.D.Disk.seen c.clear.new.disk in
@@ -196,10 +210,9 @@ returns-in_ok-clear-in-Ok-clause-done g c = λ told s t loose left may.
     let synced = c.in_ok-place_all.ensures.synced told in
     let done = c.in_ok-place_all.ensures.done told in
     let s2 = g.D.Disk.seen c.exchange.new.disk in
-    let free = free_placed s t loose left headers step s0 may objects same s1 placing synced done in
-    let exchanging = c.exchange.ensures.any_moment told (Some s.manifest.no) free in
+    let exchanging = exchanges_from s t loose left headers step s0 may s1 s2 (c.exchange.ensures.any_moment told) in
     let new = c.in-Ok.ensures.new told in
-    let switched_is = c.in-Ok.ensures.done told (Some s.manifest.no) free in
+    let switched_is = switched_from s t loose left headers step s0 may s1.directory s2.directory (c.in-Ok.ensures.done told) in
     let gone = c.deref-in-Ok.result.now in
     let gone_is = c.deref-in-Ok.ensures.value in
     let s3 = g.D.Disk.seen c.clear.new.disk in
@@ -219,10 +232,9 @@ returns-in_ok-clear-in-Ok-clause-kept g c = λ told s t loose left may.
     let synced = c.in_ok-place_all.ensures.synced told in
     let done = c.in_ok-place_all.ensures.done told in
     let s2 = g.D.Disk.seen c.exchange.new.disk in
-    let free = free_placed s t loose left headers step s0 may objects same s1 placing synced done in
-    let exchanging = c.exchange.ensures.any_moment told (Some s.manifest.no) free in
+    let exchanging = exchanges_from s t loose left headers step s0 may s1 s2 (c.exchange.ensures.any_moment told) in
     let new = c.in-Ok.ensures.new told in
-    let switched_is = c.in-Ok.ensures.done told (Some s.manifest.no) free in
+    let switched_is = switched_from s t loose left headers step s0 may s1.directory s2.directory (c.in-Ok.ensures.done told) in
     let gone = c.deref-in-Ok.result.now in
     let gone_is = c.deref-in-Ok.ensures.value in
     let s3 = g.D.Disk.seen c.clear.new.disk in
@@ -257,8 +269,7 @@ returns-in-Err-Failed-clause-any_moment g c = λ told s t loose left may.
     let synced = c.in_ok-place_all.ensures.synced told in
     let done = c.in_ok-place_all.ensures.done told in
     let s2 = g.D.Disk.seen c.exchange.new.disk in
-    let free = free_placed s t loose left headers step s0 may objects same s1 placing synced done in
-    let exchanging = c.exchange.ensures.any_moment told (Some s.manifest.no) free in
+    let exchanging = exchanges_from s t loose left headers step s0 may s1 s2 (c.exchange.ensures.any_moment told) in
     exchange_moments s t loose left headers step s0 may objects same s1 placing synced done s2 exchanging
 
 pub returns-in_ok-take_back-in-Err-NoMemory-clause-any_moment : goal.returns-in_ok-take_back-in-Err-NoMemory-clause-any_moment
@@ -273,8 +284,7 @@ returns-in_ok-take_back-in-Err-NoMemory-clause-any_moment g c = λ told s t loos
     let synced = c.in_ok-place_all.ensures.synced told in
     let done = c.in_ok-place_all.ensures.done told in
     let s2 = g.D.Disk.seen c.exchange.new.disk in
-    let free = free_placed s t loose left headers step s0 may objects same s1 placing synced done in
-    let exchanging = c.exchange.ensures.any_moment told (Some s.manifest.no) free in
+    let exchanging = exchanges_from s t loose left headers step s0 may s1 s2 (c.exchange.ensures.any_moment told) in
     let back = c.exchange.ensures.no_memory told (c.in-Err-NoMemory.is ∙ ap (λ e. Err e) c.in-Err-NoMemory.field-0-is) in
     let s3 = g.D.Disk.seen c.take_back.new.disk in
     let as_placed = c.deref-in-Err-NoMemory.ensures.value ∙ sym same in
@@ -299,8 +309,7 @@ returns-in_ok-take_back-in-Err-NoMemory-clause-no_memory g c = λ told refused.
     let synced = c.in_ok-place_all.ensures.synced told in
     let done = c.in_ok-place_all.ensures.done told in
     let s2 = g.D.Disk.seen c.exchange.new.disk in
-    let free = free_placed s t loose left headers step s0 may objects same s1 placing synced done in
-    let exchanging = c.exchange.ensures.any_moment told (Some s.manifest.no) free in
+    let exchanging = exchanges_from s t loose left headers step s0 may s1 s2 (c.exchange.ensures.any_moment told) in
     let back = c.exchange.ensures.no_memory told (c.in-Err-NoMemory.is ∙ ap (λ e. Err e) c.in-Err-NoMemory.field-0-is) in
     let s3 = g.D.Disk.seen c.take_back.new.disk in
     let as_placed = c.deref-in-Err-NoMemory.ensures.value ∙ sym same in

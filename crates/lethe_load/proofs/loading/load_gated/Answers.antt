@@ -19,8 +19,8 @@ returns-in_err-segments-clause-refused g c =
     let first = (g.D.Disk.seen c.load_manifest.new.disk).directory in
     let now = g.D.Disk.faults c.load_segments.new.disk in
     let m = c.in_ok-manifest.manifest in
-    err_moved c.from_residual-in_err-segments.result c.in_err-segments.field-0.0 (MayRefuse g.D.Disk.tells c.args.config.now d c.args.listing.now.faults now) c.from_residual-in_err-segments.ensures.1
-    (refuses_so g.D.Disk.tells (IsDamagedSegment first c.items.result.now) c.args.config.now d c.args.listing.now.faults now c.in_err-segments.field-0.0
+    err_moved c.from_residual-in_err-segments.result c.in_err-segments.field-0.0 (MayRefuse g.D.Disk.tells c.args.config.now d c.args.listing.faults now) c.from_residual-in_err-segments.ensures.1
+    (refuses_so g.D.Disk.tells (IsDamagedSegment first c.items.result.now) c.args.config.now d c.args.listing.faults now c.in_err-segments.field-0.0
     (λ told name bad. inr (
       m,
       gated_of d c.args.number m (c.requires.greatest told) (c.in_ok-manifest.ensures.found told),
@@ -38,8 +38,8 @@ returns-in_err-files-clause-refused g c =
     let second = (g.D.Disk.seen c.load_segments.new.disk).directory in
     let now = g.D.Disk.faults c.load_files.new.disk in
     let m = c.in_ok-manifest.manifest in
-    err_moved c.from_residual-in_err-files.result c.in_err-files.field-0.0 (MayRefuse g.D.Disk.tells c.args.config.now d c.args.listing.now.faults now) c.from_residual-in_err-files.ensures.1
-    (refuses_so g.D.Disk.tells (IsDamagedFile second m.next c.items-2.result.now) c.args.config.now d c.args.listing.now.faults now c.in_err-files.field-0.0
+    err_moved c.from_residual-in_err-files.result c.in_err-files.field-0.0 (MayRefuse g.D.Disk.tells c.args.config.now d c.args.listing.faults now) c.from_residual-in_err-files.ensures.1
+    (refuses_so g.D.Disk.tells (IsDamagedFile second m.next c.items-2.result.now) c.args.config.now d c.args.listing.faults now c.in_err-files.field-0.0
     (λ told name bad.
     let one = (c.load_manifest.ensures.quiet told).directory in
     let two = (c.load_segments.ensures.quiet told).directory in

@@ -22,8 +22,8 @@ load_gated-requires-clause-greatest g c κs within = λ told.
     let d = (g.D.Disk.seen c.names.new.self).directory in
     greatest_of c.deref.result.now d c.in-Some.number (c.deref.ensures.value ∙ c.in-Ok.ensures.done told ∙ ap keys (sym (c.names.ensures.directory told))) c.in-Some.ensures
 
-pub returns-clause-quiet : goal.returns-clause-quiet
-returns-clause-quiet g c = λ told. quiet_then (g.D.Disk.seen c.args.disk.now) (g.D.Disk.seen c.names.new.self) (g.D.Disk.seen c.load_gated.new.disk)
+pub returns-in-Some-clause-quiet : goal.returns-in-Some-clause-quiet
+returns-in-Some-clause-quiet g c = λ told. quiet_then (g.D.Disk.seen c.args.disk.now) (g.D.Disk.seen c.names.new.self) (g.D.Disk.seen c.load_gated.new.disk)
     (quiet_call c.names.result (g.D.Disk.seen c.args.disk.now) (g.D.Disk.seen c.names.new.self) (c.names.ensures.call told) (c.names.ensures.directory told)) (c.load_gated.ensures.quiet told)
 
 pub returns-in-None-clause-spelled : goal.returns-in-None-clause-spelled

@@ -76,6 +76,9 @@ returns-in-None-clause-numbers g c = λ told.
     ok_weaker c.start.result (λ opened. opened.manifest.next ≡ 3) (λ opened. (next : ℕ) → IsNextNumber s0.directory next → opened.manifest.next + s0.moment ≤ next + s2.moment) c.start.ensures.next
     (λ opened first next is. let here = next_of_none s0.directory next none is in omega (arith, here, first, quiet, later))
 
+pub resume-requires-clause-listed : goal.resume-requires-clause-listed
+resume-requires-clause-listed g c κs within = λ told. c.deref.ensures.value ∙ c.in-Ok.ensures.listed told
+
 pub resume-requires-clause-spelled : goal.resume-requires-clause-spelled
 resume-requires-clause-spelled g c κs within = (spelled_some c.args.config.now (shown c.in-Ok.read) c.in-Some.manifest c.in-Some.is c.in-Ok.ensures.spelled).spelled
 

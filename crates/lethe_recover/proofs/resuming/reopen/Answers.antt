@@ -7,8 +7,8 @@ use Rattle.lethe_recover.proofs.Resumed.{next_stored, old_kept, either_kept, reo
 use Rattle.lethe_recover.proofs.Readied.{reopens_of}
 use Rattle.lethe_recover.proofs.resuming.reopen.Goals as goal
 
-pub tidy-requires-after_bounds : goal.tidy-requires-after_bounds
-tidy-requires-after_bounds g c κs within = λ told. let asked = c.requires.settled told in (asked.0, asked.1, (asked.2).cites)
+pub tidy-requires-clause-settled : goal.tidy-requires-clause-settled
+tidy-requires-clause-settled g c κs within = λ told. let asked = c.requires.settled told in (asked.0, asked.1, (asked.2).cites)
 
 pub returns-in_err-tidy-clause-any_moment : goal.returns-in_err-tidy-clause-any_moment
 returns-in_err-tidy-clause-any_moment g c = λ told s settled ready h stands.
