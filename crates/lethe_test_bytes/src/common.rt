@@ -40,3 +40,15 @@ pub(crate) fn changed(
     *copy.get_mut(place).ok_or("a place")? = byte;
     Ok(copy)
 }
+
+/// So many of the first bytes.
+pub(crate) fn cut(alloc: Global, bytes: &[u8], len: usize) -> Result<Vec<u8>, Fail> {
+    Ok(bytes.get(..len).ok_or("a cut")?.to_vec(alloc)?)
+}
+
+/// The bytes with others behind them.
+pub(crate) fn extended(alloc: Global, bytes: &[u8], behind: &[u8]) -> Result<Vec<u8>, Fail> {
+    let mut long = bytes.to_vec(alloc)?;
+    long.extend_from_slice(behind)?;
+    Ok(long)
+}

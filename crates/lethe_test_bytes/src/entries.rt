@@ -1,6 +1,6 @@
 //! Tests of the spelling of numbers and entries.
 
-use crate::common::changed;
+use crate::common::{changed, cut};
 use lethe_base::{
     Body, BodyKind, Entry, EntryRefused, entry_len, one_spelling, read_body, read_entry,
     read_front, read_key, read_place, take_u8, take_u16, take_u32, take_u64, write_entry,
@@ -30,25 +30,33 @@ fn rewritten(alloc: Global, bytes: &[u8]) -> Result<Vec<u8>, Fail> {
     Ok(out)
 }
 
+/// An entry that is read in two parts: its kind, where its body begins, and the whole.
+fn in_parts(alloc: Global, bytes: &[u8]) -> Result<(BodyKind, usize, Entry), Fail> {
+    let (front, at) = read_front(alloc, bytes, 0).ok().ok_or("a front")?;
+    let kind = front.kind;
+    let (body, _) = read_body(alloc, kind, bytes, at).ok().ok_or("a body")?;
+    Ok((kind, at, front.with(body)))
+}
+
+/// The length of the key at a place, and where it ends.
+fn key_len(alloc: Global, bytes: &[u8], at: usize) -> Option<(usize, usize)> {
+    let (key, end) = read_key(alloc, bytes, at).ok()?;
+    Some((key.bytes().len(), end))
+}
+
 #[test]
 fn entries_are_spelled_as_the_format_says(rt: HostRuntime) -> Result<(), Fail> {
     let alloc = rt.alloc();
     for bytes in [PUT.as_slice(), TOMB.as_slice()] {
         assert_eq!(rt; rewritten(alloc, bytes)?.as_slice(), bytes);
     }
-    let (front, at) = read_front(alloc, &PUT, 0).ok().ok_or("a front")?;
-    assert_eq!(rt;
-        (front.kind, front.seq, front.since, at),
-        (BodyKind::Put, 1, None, 12)
-    );
-    assert_eq!(rt; front.key.bytes(), b"a".as_slice());
-    let (body, _) = read_body(alloc, front.kind, &PUT, at).ok().ok_or("a body")?;
-    assert!(rt; matches!(front.with(body).body, Body::Put { dkey: 5, .. }));
+    let (kind, at, entry) = in_parts(alloc, &PUT)?;
+    assert_eq!(rt; (kind, at), (BodyKind::Put, 12));
+    assert_eq!(rt; (entry.seq, entry.since), (1, None));
+    assert_eq!(rt; entry.key.bytes(), b"a".as_slice());
+    assert!(rt; matches!(entry.body, Body::Put { dkey: 5, .. }));
     assert_eq!(rt; read_place(&TOMB, 1).ok(), Some((2, 9)));
-    let key = read_key(alloc, &TOMB, 18)
-        .ok()
-        .map(|(key, end)| (key.bytes().len(), end));
-    assert_eq!(rt; key, Some((1, 20)));
+    assert_eq!(rt; key_len(alloc, &TOMB, 18), Some((1, 20)));
     Ok(())
 }
 
@@ -82,9 +90,12 @@ fn the_first_fault_from_the_left_is_told(rt: HostRuntime) -> Result<(), Fail> {
     one_spelling();
     let alloc = rt.alloc();
     for (len, at) in CUT {
-        let cut = PUT.get(..len).ok_or("a cut")?;
         let why = EntryRefused::Short { at };
-        assert_eq!(rt; read(alloc, cut).err(), Some(why), "{len} bytes");
+        assert_eq!(rt;
+            read(alloc, &cut(alloc, &PUT, len)?).err(),
+            Some(why),
+            "{len} bytes"
+        );
     }
     for (place, byte, at) in NO_PUT {
         let bytes = changed(alloc, &PUT, place, byte)?;
@@ -123,19 +134,21 @@ const NUMBERS: [Numbers; 6] = [
     (10, None, None, None, None),
 ];
 
+/// Whether the numbers that begin at the place are these.
+fn are_at(bytes: &[u8], numbers: Numbers) -> bool {
+    let (at, one, two, four, eight) = numbers;
+    take_u8(bytes, at) == one
+        && take_u16(bytes, at) == two
+        && take_u32(bytes, at) == four
+        && take_u64(bytes, at) == eight
+}
+
 #[test]
 fn numbers_have_their_high_byte_first(rt: HostRuntime) {
-    let bytes = b"\x01\x02\x03\x04\x05\x06\x07\x08\x09".as_slice();
-    for (at, one, two, four, eight) in NUMBERS {
-        assert_eq!(rt;
-            (take_u8(bytes, at), take_u16(bytes, at)),
-            (one, two),
-            "at {at}"
-        );
-        assert_eq!(rt;
-            (take_u32(bytes, at), take_u64(bytes, at)),
-            (four, eight),
-            "at {at}"
+    for numbers in NUMBERS {
+        assert!(rt;
+            are_at(b"\x01\x02\x03\x04\x05\x06\x07\x08\x09", numbers),
+            "{numbers:?}"
         );
     }
 }

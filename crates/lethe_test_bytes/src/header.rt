@@ -2,7 +2,7 @@
 ghost use Rattle.std.specs.Prelude.{IfOk};
 ghost use Rattle.lethe_header.specs.Headers.{HasSpelling};
 
-use crate::common::changed;
+use crate::common::{changed, cut, extended};
 use lethe_header::{Header, HeaderRefused, one_header, read_header, write_header};
 use std::alloc::Global;
 use std::test::Fail;
@@ -132,12 +132,13 @@ const CUTS: [(usize, u64); 20] = [
 #[test]
 fn a_cut_header_is_short_at_its_field(rt: HostRuntime) -> Result<(), Fail> {
     for (len, at) in CUTS {
-        let cut = FILE.get(..len).ok_or("a cut")?;
         let why = HeaderRefused::Short { at };
-        assert_eq!(rt; read(rt.alloc(), cut).err(), Some(why));
+        assert_eq!(rt;
+            read(rt.alloc(), &cut(rt.alloc(), &FILE, len)?).err(),
+            Some(why)
+        );
     }
-    let mut long = FILE.to_vec(rt.alloc())?;
-    long.push(0)?;
+    let long = extended(rt.alloc(), &FILE, &[0])?;
     let why = HeaderRefused::Trailing { at: 174 };
     assert_eq!(rt; read(rt.alloc(), &long).err(), Some(why));
     Ok(())
@@ -154,13 +155,12 @@ const TILES: [(u8, u8, u8, Option<HeaderRefused>); 4] = [
 
 /// File 7 with a tile of so many lines, and a tile of one line from this key on.
 fn two_tiles(alloc: Global, count: u8, lo: u8, dkey: u8) -> Result<Vec<u8>, Fail> {
-    let mut bytes = FILE.get(..17).ok_or("a head")?.to_vec(alloc)?;
-    *bytes.get_mut(12).ok_or("a count")? = 2;
+    let mut bytes = changed(alloc, &cut(alloc, &FILE, 17)?, 12, 2)?;
     bytes.push(count)?;
     for _ in 0..count {
         bytes.extend_from_slice(&LINE)?;
     }
-    *bytes.get_mut(55).ok_or("a delete key")? = dkey;
+    let mut bytes = changed(alloc, &bytes, 55, dkey)?;
     bytes.extend_from_slice(&[1, lo, 1, b'e', 1])?;
     bytes.extend_from_slice(&LINE)?;
     Ok(bytes)

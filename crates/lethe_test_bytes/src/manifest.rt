@@ -2,7 +2,7 @@
 ghost use Rattle.std.specs.Prelude.{IfOk};
 ghost use Rattle.lethe_manifest.specs.Manifests.{HasSpelling};
 
-use crate::common::{changed, small};
+use crate::common::{changed, cut, extended, small};
 use lethe_base::{List, Pending, Pick, Range};
 use lethe_manifest::{
     Cited, LastCert, Manifest, ManifestRefused, one_manifest, read_manifest, write_manifest,
@@ -27,10 +27,11 @@ fn read(alloc: Global, bytes: &[u8]) -> Result<Manifest, ManifestRefused>
     read_manifest(alloc, bytes)
 }
 
-#[test]
-fn a_new_store_has_71_bytes(rt: HostRuntime) -> Result<(), Fail> {
-    let alloc = rt.alloc();
-    let manifest = Manifest {
+/// The manifest that `NEW` spells.
+fn new_store(alloc: Global) -> Result<Manifest, Fail>
+    ensures { IfOk result HasSpelling }
+{
+    Ok(Manifest {
         no: 2,
         config: small(Pick::So)?,
         clock: 0,
@@ -40,12 +41,21 @@ fn a_new_store_has_71_bytes(rt: HostRuntime) -> Result<(), Fail> {
         erases: List::of(Vec::new(alloc)),
         segments: List::of(vec![in alloc; 1; 1]?),
         files: List::of(Vec::new(alloc)),
-    };
-    let bytes = write_manifest(alloc, &manifest).ok().ok_or("a spelling")?;
-    assert_eq!(rt; bytes.as_slice(), NEW.as_slice());
+    })
+}
+
+fn new_store_written(alloc: Global) -> Result<Vec<u8>, Fail> {
+    let manifest = new_store(alloc)?;
+    Ok(write_manifest(alloc, &manifest)?)
+}
+
+#[test]
+fn a_new_store_has_71_bytes(rt: HostRuntime) -> Result<(), Fail> {
+    let alloc = rt.alloc();
+    assert_eq!(rt; new_store_written(alloc)?.as_slice(), NEW.as_slice());
     let read = read(alloc, &NEW).ok().ok_or("a manifest")?;
     assert_eq!(rt; (read.no, read.clock, read.count, read.next), (2, 0, 0, 3));
-    assert_eq!(rt; *read.config.fields(), *manifest.config.fields());
+    assert_eq!(rt; *read.config.fields(), *small(Pick::So)?.fields());
     assert_eq!(rt; read.segments.items(), [1].as_slice());
     one_manifest();
     Ok(())
@@ -246,12 +256,13 @@ const CUTS: [(usize, u64); 38] = [
 #[test]
 fn a_cut_manifest_is_short_at_its_field(rt: HostRuntime) -> Result<(), Fail> {
     for (len, at) in CUTS {
-        let cut = FULL.get(..len).ok_or("a cut")?;
         let why = ManifestRefused::Short { at };
-        assert_eq!(rt; read(rt.alloc(), cut).err(), Some(why));
+        assert_eq!(rt;
+            read(rt.alloc(), &cut(rt.alloc(), &FULL, len)?).err(),
+            Some(why)
+        );
     }
-    let mut long = FULL.to_vec(rt.alloc())?;
-    long.push(0)?;
+    let long = extended(rt.alloc(), &FULL, &[0])?;
     let why = ManifestRefused::Trailing { at: 265 };
     assert_eq!(rt; read(rt.alloc(), &long).err(), Some(why));
     Ok(())

@@ -2,7 +2,7 @@
 ghost use Rattle.std.specs.Prelude.{IfOk};
 ghost use Rattle.lethe_page.specs.Pages.{HasSpelling};
 
-use crate::common::changed;
+use crate::common::{changed, cut, extended};
 use lethe_base::{Body, Entry};
 use lethe_page::{Class, PageRefused, one_page, read_page, write_page};
 use std::alloc::Global;
@@ -137,13 +137,12 @@ const LONG: [(u8, &[u8], PageRefused); 4] = [
 fn a_cut_page_is_short_at_its_field(rt: HostRuntime) -> Result<(), Fail> {
     let alloc = rt.alloc();
     for (len, at) in CUTS {
-        let cut = PUT.get(..len).ok_or("a cut")?;
         let why = PageRefused::Short { at };
-        assert_eq!(rt; read(alloc, cut).err(), Some(why));
+        assert_eq!(rt; read(alloc, &cut(alloc, &PUT, len)?).err(), Some(why));
     }
     for (count, behind, why) in LONG {
-        let mut long = changed(alloc, &PUT, 7, count)?;
-        long.extend_from_slice(behind)?;
+        let changed = changed(alloc, &PUT, 7, count)?;
+        let long = extended(alloc, &changed, behind)?;
         assert_eq!(rt; read(alloc, &long).err(), Some(why));
     }
     Ok(())

@@ -1,5 +1,6 @@
 //! Tests of scripts, and of the first bad line of other bytes.
 
+use crate::common::extended;
 use lethe_script::{Act, Script, ScriptRefused, read_script};
 use std::alloc::Global;
 use std::str;
@@ -185,14 +186,22 @@ const LIMITS: [(&[u8], u8, usize, &[u8], u64, &[u8]); 18] = [
     (b"#", b'#', 65_536, b"\n1 get a\n2 get a", 3, b"caller"),
 ];
 
+fn filled(
+    alloc: Global,
+    head: &[u8],
+    filler: u8,
+    count: usize,
+    tail: &[u8],
+) -> Result<Vec<u8>, Fail> {
+    let fill = vec![in alloc; filler; count]?;
+    extended(alloc, &extended(alloc, head, &fill)?, tail)
+}
+
 #[test]
 fn limits_are_met_to_the_byte(rt: HostRuntime) -> Result<(), Fail> {
     let alloc = rt.alloc();
     for (head, filler, count, tail, line, word) in LIMITS {
-        let mut bytes = Vec::from_slice(alloc, head)?;
-        let fill = vec![in alloc; filler; count]?;
-        bytes.extend_from_slice(&fill)?;
-        bytes.extend_from_slice(tail)?;
+        let bytes = filled(alloc, head, filler, count, tail)?;
         let found = if line == 0 {
             orders_of(alloc, &bytes)? == 1
         } else {

@@ -1,6 +1,6 @@
 //! Tests of the segments of the journal.
 
-use crate::common::key_of;
+use crate::common::{cut, key_of};
 use lethe_base::{Body, Entry, Value};
 use lethe_segment::{
     Record, SegmentRefused, ascending_places, new_segment, one_record, one_segment, replay,
@@ -66,20 +66,27 @@ fn places(alloc: Global, bytes: &[u8]) -> Result<Vec<u64>, SegmentRefused> {
     Ok(places)
 }
 
+/// A segment, how much of it is there, and the places of the records that are replayed.
+const REPLAYED: [(&[u8], usize, &[u64]); 6] = [
+    (&SEGMENT, 36, &[1]),
+    (&SEGMENT, 35, &[1]),
+    (&SEGMENT, 11, &[]),
+    (BLIND, 32, &[2, 9]),
+    (CLOSED, 32, &[2]),
+    (OTHER, 22, &[]),
+];
+
 #[test]
 fn records_are_replayed_up_to_a_gate_that_is_not_open(rt: HostRuntime) -> Result<(), Fail> {
-    for (bytes, wanted) in [
-        (SEGMENT.as_slice(), [1].as_slice()),
-        (&SEGMENT[..35], [1].as_slice()),
-        (&SEGMENT[..11], [].as_slice()),
-        (BLIND, [2, 9].as_slice()),
-        (CLOSED, [2].as_slice()),
-        (OTHER, [].as_slice()),
-        (new_segment(8).as_slice(), [].as_slice()),
-    ] {
-        let found = places(rt.alloc(), bytes).ok().ok_or("records")?;
+    let alloc = rt.alloc();
+    for (bytes, len, wanted) in REPLAYED {
+        let found = places(alloc, &cut(alloc, bytes, len)?)
+            .ok()
+            .ok_or("records")?;
         assert_eq!(rt; found.as_slice(), wanted);
     }
+    let found = places(alloc, &new_segment(8)).ok().ok_or("records")?;
+    assert!(rt; found.is_empty());
     Ok(())
 }
 

@@ -6,30 +6,43 @@ use lethe_tile::{Filter, Tile, is_ascending, weave};
 use std::alloc::Global;
 use std::test::Fail;
 
-/// The entries of a row, as `a11 b- c12`: a letter and its delete key, or `-` at a tombstone.
+fn put_of(alloc: Global, dkey: &str) -> Result<Body, Fail> {
+    Ok(Body::Put {
+        dkey: dkey.parse()?,
+        value: Value::new(Vec::new(alloc))?,
+    })
+}
+
+/// The entry of a word, as `a=11`, a key and its delete key, or `a-`, a key of a tombstone.
+fn entry_of(alloc: Global, word: &str) -> Result<Option<Entry>, Fail> {
+    let (key, body, since) = if let Some(key) = word.strip_suffix("-") {
+        (key, Body::Tomb, Some(1))
+    } else if let Some((key, dkey)) = word.split_once('=') {
+        (key, put_of(alloc, dkey)?, None)
+    } else {
+        return Ok(None);
+    };
+    Ok(Some(Entry {
+        seq: 1,
+        key: key_of(alloc, key)?,
+        body,
+        since,
+    }))
+}
+
+/// The entries of a row, as `a=11 b- c=12`.
 fn entries_of(alloc: Global, row: &str) -> Result<Vec<Entry>, Fail> {
     let mut entries = Vec::new(alloc);
     for word in row.split(' ') {
-        if let Some(key) = word.strip_suffix("-") {
-            entries.push(Entry {
-                seq: 1,
-                key: key_of(alloc, key)?,
-                body: Body::Tomb,
-                since: Some(1),
-            })?;
-        } else if let Some((key, dkey)) = word.split_once('=') {
-            entries.push(Entry {
-                seq: 1,
-                key: key_of(alloc, key)?,
-                body: Body::Put {
-                    dkey: dkey.parse()?,
-                    value: Value::new(Vec::new(alloc))?,
-                },
-                since: None,
-            })?;
+        if let Some(entry) = entry_of(alloc, word)? {
+            entries.push(entry)?;
         }
     }
     Ok(entries)
+}
+
+fn ascends(alloc: Global, row: &str) -> Result<bool, Fail> {
+    Ok(is_ascending(&entries_of(alloc, row)?))
 }
 
 fn weave_row(alloc: Global, row: &str, config: &Config) -> Result<Vec<Tile>, Fail> {
@@ -93,11 +106,11 @@ const WOVEN: [(&str, &str); 8] = [
 fn entries_are_woven_by_delete_key_and_by_key(rt: HostRuntime) -> Result<(), Fail> {
     let alloc = rt.alloc();
     let config = small(Pick::So)?;
-    assert!(rt; !is_ascending(&entries_of(alloc, "a=1 b=2 b-")?));
-    assert!(rt; !is_ascending(&entries_of(alloc, "b=1 a=2 c=3")?));
+    assert!(rt; !ascends(alloc, "a=1 b=2 b-")?);
+    assert!(rt; !ascends(alloc, "b=1 a=2 c=3")?);
     for (row, woven) in WOVEN {
-        let tiles = weave_row(alloc, row, &config)?;
-        assert_eq!(rt; text_of(alloc, &tiles)?.as_str(), woven, "{row}");
+        let text = text_of(alloc, &weave_row(alloc, row, &config)?)?;
+        assert_eq!(rt; text.as_str(), woven, "{row}");
     }
     Ok(())
 }
