@@ -1,0 +1,154 @@
+//! Tests of the spelling of numbers and entries.
+
+use crate::common::{changed, cut};
+use lethe_base::{
+    Body, BodyKind, Entry, EntryRefused, entry_len, one_spelling, read_body, read_entry,
+    read_front, read_key, read_place, take_u8, take_u16, take_u32, take_u64, write_entry,
+};
+use std::alloc::Global;
+use std::test::Fail;
+
+/// The put of key `a`, delete key 5, value `x` at place 1.
+const PUT: [u8; 23] = *b"\x01\0\0\0\0\0\0\0\x01\0\x01a\0\0\0\0\0\0\0\x05\0\x01x";
+
+/// The tombstone of key `a` at place 2 with time 0.
+const TOMB: [u8; 20] = *b"\x02\0\0\0\0\0\0\0\x02\x01\0\0\0\0\0\0\0\0\x01a";
+
+/// How the entry at the begin of the bytes is read.
+fn read(alloc: Global, bytes: &[u8]) -> Result<(Entry, usize), EntryRefused> {
+    read_entry(alloc, bytes, 0)
+}
+
+/// The bytes of an entry, written again as they were read.
+fn rewritten(alloc: Global, bytes: &[u8]) -> Result<Vec<u8>, Fail> {
+    let (entry, end) = read(alloc, bytes).ok().ok_or("an entry")?;
+    if end != bytes.len() || entry_len(&entry) != end {
+        return Err(Fail::new("a length"));
+    }
+    let mut out = Vec::with_capacity(alloc, end)?;
+    write_entry(&mut out, &entry).ok().ok_or("no memory")?;
+    Ok(out)
+}
+
+/// An entry that is read in two parts: its kind, where its body begins, and the whole.
+fn in_parts(alloc: Global, bytes: &[u8]) -> Result<(BodyKind, usize, Entry), Fail> {
+    let (front, at) = read_front(alloc, bytes, 0).ok().ok_or("a front")?;
+    let kind = front.kind;
+    let (body, _) = read_body(alloc, kind, bytes, at).ok().ok_or("a body")?;
+    Ok((kind, at, front.with(body)))
+}
+
+/// The length of the key at a place, and where it ends.
+fn key_len(alloc: Global, bytes: &[u8], at: usize) -> Option<(usize, usize)> {
+    let (key, end) = read_key(alloc, bytes, at).ok()?;
+    Some((key.bytes().len(), end))
+}
+
+#[test]
+fn entries_are_spelled_as_the_format_says(rt: HostRuntime) -> Result<(), Fail> {
+    let alloc = rt.alloc();
+    for bytes in [PUT.as_slice(), TOMB.as_slice()] {
+        assert_eq!(rt; rewritten(alloc, bytes)?.as_slice(), bytes);
+    }
+    let (kind, at, entry) = in_parts(alloc, &PUT)?;
+    assert_eq!(rt; (kind, at), (BodyKind::Put, 12));
+    assert_eq!(rt; (entry.seq, entry.since), (1, None));
+    assert_eq!(rt; entry.key.bytes(), b"a".as_slice());
+    assert!(rt; matches!(entry.body, Body::Put { dkey: 5, .. }));
+    assert_eq!(rt; read_place(&TOMB, 1).ok(), Some((2, 9)));
+    assert_eq!(rt; key_len(alloc, &TOMB, 18), Some((1, 20)));
+    Ok(())
+}
+
+/// How much of `PUT` is there, and the field that goes past its end.
+const CUT: [(usize, u64); 8] = [
+    (0, 0),
+    (8, 1),
+    (9, 9),
+    (10, 10),
+    (11, 11),
+    (19, 12),
+    (21, 20),
+    (22, 22),
+];
+
+/// A byte that no put has at its place, and the field that it stands in.
+const NO_PUT: [(usize, u8, u64); 6] = [
+    (0, 3, 0),
+    (1, 0x40, 1),
+    (8, 0, 1),
+    (9, 2, 9),
+    (10, 0, 10),
+    (20, 0x10, 20),
+];
+
+/// The same of a tombstone.
+const NO_TOMB: [(usize, u8, u64); 3] = [(0, 0, 0), (9, 0, 9), (10, 0x41, 10)];
+
+#[test]
+fn the_first_fault_from_the_left_is_told(rt: HostRuntime) -> Result<(), Fail> {
+    one_spelling();
+    let alloc = rt.alloc();
+    for (len, at) in CUT {
+        let why = EntryRefused::Short { at };
+        assert_eq!(rt;
+            read(alloc, &cut(alloc, &PUT, len)?).err(),
+            Some(why),
+            "{len} bytes"
+        );
+    }
+    for (place, byte, at) in NO_PUT {
+        let bytes = changed(alloc, &PUT, place, byte)?;
+        let why = EntryRefused::Kind { at };
+        assert_eq!(rt; read(alloc, &bytes).err(), Some(why), "byte {place}");
+    }
+    for (place, byte, at) in NO_TOMB {
+        let bytes = changed(alloc, &TOMB, place, byte)?;
+        let why = EntryRefused::Kind { at };
+        assert_eq!(rt; read(alloc, &bytes).err(), Some(why), "byte {place}");
+    }
+    Ok(())
+}
+
+/// A place, and the numbers of one, two, four and eight bytes that begin there.
+type Numbers = (usize, Option<u8>, Option<u16>, Option<u32>, Option<u64>);
+
+const NUMBERS: [Numbers; 6] = [
+    (
+        0,
+        Some(1),
+        Some(0x0102),
+        Some(0x0102_0304),
+        Some(0x0102_0304_0506_0708),
+    ),
+    (
+        1,
+        Some(2),
+        Some(0x0203),
+        Some(0x0203_0405),
+        Some(0x0203_0405_0607_0809),
+    ),
+    (2, Some(3), Some(0x0304), Some(0x0304_0506), None),
+    (8, Some(9), None, None, None),
+    (9, None, None, None, None),
+    (10, None, None, None, None),
+];
+
+/// Whether the numbers that begin at the place are these.
+fn are_at(bytes: &[u8], numbers: Numbers) -> bool {
+    let (at, one, two, four, eight) = numbers;
+    take_u8(bytes, at) == one
+        && take_u16(bytes, at) == two
+        && take_u32(bytes, at) == four
+        && take_u64(bytes, at) == eight
+}
+
+#[test]
+fn numbers_have_their_high_byte_first(rt: HostRuntime) {
+    for numbers in NUMBERS {
+        assert!(rt;
+            are_at(b"\x01\x02\x03\x04\x05\x06\x07\x08\x09", numbers),
+            "{numbers:?}"
+        );
+    }
+}
