@@ -87,17 +87,17 @@ module _ {E M V : Type 0} where
   abbrev pub HasAll : View V E M → Type 0
   HasAll v = WeighsAs v.mine (placed (v.start + 1) v.seen) × WeighsAs v.marks v.noted
 
-  -- what a seat knows that has seen the whole history and noted the whole diary, where this is the value
-  pub record KnowsTheWhole (since : V → List E → List M → V → Type 0) (fits : List M → Type 0) (v : View V E M) (x : V) : Type 0 where
-    pub leads : LeadsTo since v x
+  -- what a seat knows that has seen the whole history and noted the whole diary
+  pub record KnowsTheWhole (fits : List M → Type 0) (v : View V E M) : Type 0 where
     pub few : count_of v < 2 ^ 62
     pub mine : AllStand v.start v.seen v.mine
     pub own : fits v.marks
     pub others : OthersFit fits v
     pub all : v.parts ≡ 2 ^ 62 → HasAll v
 
-  -- there are a whole history and a whole diary, and a seat that had seen and noted them would know this
+  -- there are a whole history and a whole diary, by which the opening leads to the value, and a seat that had seen and noted them would know this
   pub record Finished (since : V → List E → List M → V → Type 0) (fits : List M → Type 0) (v : View V E M) (x : V) : Type 0 where
     pub last : View V E M
     pub more : HasSeenMore v last
-    pub knows : KnowsTheWhole since fits last x
+    pub leads : LeadsTo since last x
+    pub knows : KnowsTheWhole fits last

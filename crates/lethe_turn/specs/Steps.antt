@@ -2,7 +2,7 @@
 use Rattle.std.specs.Prelude.{◌≡◌, ℕ, ◌+◌, ◌%◌, ◌^◌, ◌==◌, Bool, true, false, List, [], ◌∷◌, ◌++◌, Option, Some, None}
 use Rattle.atomic_table.specs.Table.{Step}
 use Rattle.lethe_turn.specs.Lists.{IsBeginning, IsLonger}
-use Rattle.lethe_turn.specs.Seats.{Seated, count_of, fresh, entered, passed_noting, KnowsTheWhole}
+use Rattle.lethe_turn.specs.Seats.{Seated, count_of, fresh, entered, passed_noting, LeadsTo, KnowsTheWhole}
 use Rattle.lethe_turn.specs.declared.view.View.{View}
 
 module _ {E M V : Type 0} where
@@ -16,7 +16,8 @@ module _ {E M V : Type 0} where
 
   -- the turn came, with the value
   abbrev pub Came : (V → List E → List M → V → Type 0) → (List M → Type 0) → Seated E M V → Seated E M V → Type 0
-  Came since fits m m' = (history : List E) × (diary : List M) × (x : V) × IsBeginning m.0.seen history × IsBeginning m.0.noted diary × KnowsTheWhole since fits (come history diary 1 m.0) x × (m' ≡ (come history diary 1 m.0, (0, Some x) ∷ []))
+  Came since fits m m' = (history : List E) × (diary : List M) × (x : V) × IsBeginning m.0.seen history × IsBeginning m.0.noted diary
+      × LeadsTo since (come history diary 1 m.0) x × KnowsTheWhole fits (come history diary 1 m.0) × (m' ≡ (come history diary 1 m.0, (0, Some x) ∷ []))
 
   abbrev pub LookedIf : Bool → (V → List E → List M → V → Type 0) → (List M → Type 0) → Seated E M V → Seated E M V → Type 0
   LookedIf true since fits m m' = Came since fits m m'
