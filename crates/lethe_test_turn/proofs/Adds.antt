@@ -1,8 +1,8 @@
 -- The sum behind a history and a diary with one more entry or mark.
-use Rattle.std.proofs.Common.{◌≡◌, ℕ, zero, suc, ◌+◌, ◌-◌, ◌/◌, ◌<◌, ◌≤◌, ◌^◌, List, [], ◌∷◌, ◌++◌, length, Option, Some, None, Ok, Err, refl, sym, ap, ◌∙◌, subst, arith, length-append, append_assoc, append-nil, ne_eqb}
+use Rattle.std.proofs.Common.{◌≡◌, ℕ, zero, suc, ◌+◌, ◌-◌, ◌/◌, ◌<◌, ◌^◌, List, [], ◌∷◌, ◌++◌, length, Option, Some, None, Ok, Err, refl, sym, ap, ◌∙◌, subst, arith, length-append, append_assoc, append-nil, ne_eqb}
 use Rattle.std.specs.Prelude.{Result, IfOk, IfErr, if◌then◌else◌}
-use Rattle.lethe_turn.specs.Lists.{IsBeginning, total, placed, AllStand, WeighTogether}
-use Rattle.lethe_turn.specs.Seats.{count_of, passed, left_of, right_of, Joined, HasSeenMore, OthersFit, Finished}
+use Rattle.lethe_turn.specs.Lists.{total, placed, AllStand, WeighTogether}
+use Rattle.lethe_turn.specs.Seats.{passed, left_of, right_of, Joined, HasSeenMore, OthersFit, Finished}
 use Rattle.lethe_turn.proofs.Sums.{total_append}
 use Rattle.lethe_test_turn.specs.declared.sum.Entry.{Entry}
 use Rattle.lethe_test_turn.specs.declared.sum.Mark.{Mark}

@@ -1,5 +1,5 @@
 -- What is asked of a seat's ceilings is so of none, and of those of two seats.
-use Rattle.std.proofs.Common.{◌≡◌, ◌+◌, List, [], ◌++◌, refl, ◌∙◌}
+use Rattle.std.proofs.Common.{◌+◌, List, [], ◌++◌, refl, ◌∙◌}
 use Rattle.lethe_turn.proofs.Sums.{total_append}
 use Rattle.lethe_test_turn.specs.declared.sum.Mark.{Mark}
 use Rattle.lethe_test_turn.specs.Sums.{is_zero, NoneIsZero}

@@ -1,5 +1,5 @@
 -- Histories of additions, and diaries of ceilings.
-use Rattle.std.specs.Prelude.{◌≡◌, ℕ, ◌+◌, ◌==◌, if◌then◌else◌, List, [], ◌∷◌, ◌++◌, length, Option, Some, None}
+use Rattle.std.specs.Prelude.{◌≡◌, ℕ, ◌+◌, ◌==◌, if◌then◌else◌, List, [], ◌∷◌, ◌++◌, length, Option, Some}
 use Rattle.lethe_turn.specs.Lists.{total}
 use Rattle.lethe_test_turn.specs.declared.sum.Entry.{Entry}
 use Rattle.lethe_test_turn.specs.declared.sum.Mark.{Mark}

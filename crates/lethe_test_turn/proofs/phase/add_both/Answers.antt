@@ -1,4 +1,4 @@
-use Rattle.std.proofs.Common.{rules, ◌≡◌, sym, ap, ◌∙◌}
+use Rattle.std.proofs.Common.{rules, ◌≡◌, ap}
 use Rattle.lethe_turn.specs.Seats.{first_view, left_of, right_of}
 use Rattle.lethe_test_turn.specs.Sums.{addition}
 use Rattle.lethe_test_turn.proofs.Adds.{Once, once_of, settles_both}

@@ -1,5 +1,5 @@
 use Rattle.std.proofs.Common.{◌≡◌, [], ◌∷◌, length, sym, ap, ◌∙◌, subst, arith}
-use Rattle.lethe_turn.specs.Seats.{entered, passed, HasSeenMore}
+use Rattle.lethe_turn.specs.Seats.{entered, HasSeenMore}
 use Rattle.lethe_test_turn.specs.Sums.{addition, added_to, Since}
 use Rattle.lethe_test_turn.specs.Sessions.{IsKnown}
 use Rattle.lethe_test_turn.proofs.Adds.{since_added, more_passed, known_reason}
