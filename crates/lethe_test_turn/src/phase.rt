@@ -11,7 +11,7 @@ use std::alloc::Global;
 use std::sync::Wait;
 use std::thread::{Threads, join};
 
-/// What a phase answers: how many additions were accepted.
+/// One addition. Answers how many were accepted: 1, or none.
 fn add_one<R: Wait>(
     rt: &R,
     store: &Store,
