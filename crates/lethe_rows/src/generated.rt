@@ -1,8 +1,8 @@
 //! Scripts that are made from a seed, and what a plain map prints for them.
 ghost use Rattle.std.specs.Prelude.{◌<◌, length};
 
-use crate::levels::SMALL;
 use crate::run::{Left, run_over};
+use crate::small::SMALL;
 use lethe_memdisk::MemDisk;
 use std::alloc::Global;
 use std::collections::BTreeMap;
@@ -13,7 +13,7 @@ use std::test::Fail;
 const LETTERS: [&str; 6] = ["a", "b", "c", "d", "e", "f"];
 
 /// A range that has all keys.
-pub(crate) const ALL: (&str, &str) = ("a", "g");
+pub const ALL: (&str, &str) = ("a", "g");
 
 // Numbers that follow from a seed.
 #[derive(Drop)]
@@ -73,7 +73,7 @@ impl Dice {
 
 /// Lines of a script, and what is printed for them.
 #[derive(Drop)]
-pub(crate) struct Lines {
+pub struct Lines {
     pub script: String,
     pub text: String,
 }
@@ -175,7 +175,7 @@ impl Plain {
 
 /// A script for a small configuration.
 #[derive(Drop)]
-pub(crate) struct Generated {
+pub struct Generated {
     seed: u64,
     words: Vec<&'static str>,
     /// Its lines, ten by ten.
@@ -186,7 +186,7 @@ pub(crate) struct Generated {
 
 impl Generated {
     /// The script of a seed, of so many times ten lines.
-    pub(crate) fn of(alloc: Global, seed: u64, parts: usize) -> Result<Generated, Fail> {
+    pub fn of(alloc: Global, seed: u64, parts: usize) -> Result<Generated, Fail> {
         let mut dice = Dice(seed);
         let mut made = Generated {
             seed,
@@ -220,7 +220,7 @@ impl Generated {
     }
 
     /// The whole script.
-    pub(crate) fn whole(&self, alloc: Global) -> Result<Lines, Fail> {
+    pub fn whole(&self, alloc: Global) -> Result<Lines, Fail> {
         let mut whole = Lines::new(alloc);
         for lines in &self.parts {
             whole.add(&lines.script, &lines.text)?;
@@ -229,14 +229,13 @@ impl Generated {
     }
 
     /// Runs a script with its configuration. Nothing of the source and the sink fails.
-    pub(crate) fn run(&self, rt: &HostRuntime, script: &str, disk: MemDisk) -> Result<Left, Fail> {
-        let bytes = script.as_bytes().to_vec(rt.alloc())?;
-        run_over(rt, &self.words, bytes, &[], &[], disk)
+    pub fn run(&self, alloc: Global, script: &str, disk: MemDisk) -> Result<Left, Fail> {
+        run_over(alloc, &self.words, script.as_bytes(), &[], &[], disk)
     }
 
-    // Runs lines of it, which print what the map gives, and hands the disk back.
-    fn answered(&self, rt: &HostRuntime, lines: &Lines, disk: MemDisk) -> Result<MemDisk, Fail> {
-        let left = self.run(rt, &lines.script, disk)?;
+    /// Runs lines of it, which print what the map gives, and hands the disk back.
+    pub fn answered(&self, alloc: Global, lines: &Lines, disk: MemDisk) -> Result<MemDisk, Fail> {
+        let left = self.run(alloc, &lines.script, disk)?;
         let printed = left.printed;
         if printed.status != 0 || printed.text.as_slice() != lines.text.as_bytes() {
             let seed = self.seed;
@@ -248,23 +247,6 @@ impl Generated {
 }
 
 /// A disk with room for a script and its merges.
-pub(crate) fn roomy_disk(alloc: Global) -> Result<MemDisk, Fail> {
+pub fn roomy_disk(alloc: Global) -> Result<MemDisk, Fail> {
     Ok(MemDisk::new(alloc, 20_000, Vec::new(alloc))?)
-}
-
-#[test]
-fn generated_scripts_print_what_a_map_gives(rt: HostRuntime) -> Result<(), Fail> {
-    let alloc = rt.alloc();
-    for seed in 0..100 {
-        // Long scripts have the keys for deep levels.
-        let parts = if seed % 10 == 0 { 30 } else { 6 };
-        let made = Generated::of(alloc, seed, parts)?;
-        made.answered(&rt, &made.whole(alloc)?, roomy_disk(alloc)?)?;
-        // The same, opened again for each part.
-        let mut disk = roomy_disk(alloc)?;
-        for lines in &made.parts {
-            disk = made.answered(&rt, lines, disk)?;
-        }
-    }
-    Ok(())
 }

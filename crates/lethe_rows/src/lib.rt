@@ -1,33 +1,12 @@
-//! Tests that cross crates: one table for each theme.
+//! What the tests of scripts share: a run over memory, small configurations, and what a crash leaves of a disk.
 #![tactic(auto)]
 
-#[cfg(test)]
-mod appends;
-#[cfg(test)]
-mod copies;
-#[cfg(test)]
-mod faults;
-#[cfg(test)]
-mod files;
-#[cfg(test)]
+mod disks;
 mod generated;
-#[cfg(test)]
-mod generated_crashes;
-#[cfg(test)]
-mod journal;
-#[cfg(test)]
-mod levels;
-#[cfg(test)]
-mod loads;
-#[cfg(test)]
-mod options;
-#[cfg(test)]
-mod refusals;
-#[cfg(test)]
 mod run;
-#[cfg(test)]
-mod scripts;
-#[cfg(test)]
-mod switches;
-#[cfg(test)]
-mod unopened;
+mod small;
+
+pub use disks::{IMAGES, add, crashed, disk_of, image_of, names_of, take_away, take_calls};
+pub use generated::{ALL, Generated, Lines, roomy_disk};
+pub use run::{Left, Printed, answered, answered_for, run_of, run_on, run_over};
+pub use small::{SMALL, answered_small, done_lines, open_small};
