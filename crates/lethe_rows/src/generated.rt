@@ -13,7 +13,10 @@ use std::test::Fail;
 const LETTERS: [&str; 6] = ["a", "b", "c", "d", "e", "f"];
 
 /// A range that has all keys.
-pub const ALL: (&str, &str) = ("a", "g");
+const ALL: (&str, &str) = ("a", "g");
+
+/// A script that reads all of a store, and makes one more put.
+pub const READ_AND_PUT: &str = "1 scan a g\n1 put a 9 more\n1 get a\n";
 
 // Numbers that follow from a seed.
 #[derive(Drop)]
@@ -102,6 +105,11 @@ struct Plain {
     place: usize,
 }
 
+// What a scan prints of a key.
+fn pair_of(alloc: Global, key: &str, due: usize, place: usize) -> Result<String, Fail> {
+    Ok(format!(in alloc; " {key} {due} v{place}")?)
+}
+
 impl Plain {
     fn put(&mut self, lines: &mut Lines, key: String, due: usize) -> Result<(), Fail> {
         let place = self.place.saturating_add(1);
@@ -139,7 +147,7 @@ impl Plain {
         for (key, (due, place)) in self.map.iter() {
             if low <= key.as_str() && key.as_str() < high {
                 count = count.saturating_add(1);
-                pairs.push_str(&format!(in self.alloc; " {key} {due} v{place}")?)?;
+                pairs.push_str(&pair_of(self.alloc, key, *due, *place)?)?;
             }
         }
         Ok(format!(in self.alloc; "1 at {at} scan {count}{pairs}\n")?)
@@ -180,8 +188,8 @@ pub struct Generated {
     words: Vec<&'static str>,
     /// Its lines, ten by ten.
     pub parts: Vec<Lines>,
-    /// What a scan of all keys prints behind no change, behind the first, and so on.
-    pub scans: Vec<String>,
+    // What a scan of all keys prints behind no change, behind the first, and so on.
+    scans: Vec<String>,
 }
 
 impl Generated {
@@ -226,6 +234,16 @@ impl Generated {
             whole.add(&lines.script, &lines.text)?;
         }
         Ok(whole)
+    }
+
+    /// What is printed of `READ_AND_PUT` behind so many of its changes.
+    pub fn behind(&self, alloc: Global, kept: usize) -> Result<Option<String>, Fail> {
+        let Some(scan) = self.scans.get(kept) else {
+            return Ok(None);
+        };
+        let next = kept.saturating_add(1);
+        let text = format!(in alloc; "{scan}1 ok {next}\n1 at {next} val 9 more\n")?;
+        Ok(Some(text))
     }
 
     /// Runs a script with its configuration. Nothing of the source and the sink fails.

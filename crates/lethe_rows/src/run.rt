@@ -47,7 +47,12 @@ pub fn run_of(
     Ok(left.printed)
 }
 
-/// The same over this disk.
+/// Runs a script with the default configuration over an empty disk. It ends with this status and prints this.
+pub fn must_print(alloc: Global, script: &[u8], status: u8, text: &str) -> Result<(), Fail> {
+    run_of(alloc, &["run"], script, &[], &[])?.must_be(status, text)
+}
+
+/// Runs the words over a script and this disk. The reads and writes with these numbers fail.
 pub fn run_over(
     alloc: Global,
     words: &[&str],

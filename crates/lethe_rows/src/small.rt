@@ -59,14 +59,3 @@ pub fn answered_small(
 ) -> Result<MemDisk, Fail> {
     answered_for(alloc, &SMALL, script, disk, status, text)
 }
-
-/// How many lines say that a change is done.
-pub fn done_lines(text: &[u8]) -> usize {
-    let mut done: usize = 0;
-    for line in text.split(|byte| *byte == b'\n') {
-        if line.starts_with(b"1 ok ") {
-            done = done.saturating_add(1);
-        }
-    }
-    done
-}

@@ -2,7 +2,10 @@
 
 use lethe_disk::Disk;
 use lethe_memdisk::MemDisk;
-use lethe_rows::{ALL, Generated, IMAGES, Lines, done_lines, image_of, roomy_disk, take_calls};
+use lethe_rows::{
+    Generated, IMAGES, Lines, READ_AND_PUT, count_lines, done_lines, image_of, roomy_disk,
+    take_calls,
+};
 use std::alloc::Global;
 use std::str;
 use std::test::Fail;
@@ -29,9 +32,7 @@ fn run_all(
         let left = made.run(alloc, &lines.script, disk)?;
         let text = left.printed.text.as_slice();
         owed.done = owed.done.saturating_add(done_lines(text));
-        owed.failed = text
-            .split(|byte| *byte == b'\n')
-            .any(|line| line.starts_with(b"1 fault "));
+        owed.failed = count_lines(text, b"1 fault ") != 0;
         disk = left.disk;
         if disk.faults() != 0 {
             break;
@@ -42,19 +43,15 @@ fn run_all(
 
 // Whether a text is what the map behind so many changes gives for a scan of all keys, and then a put and a get.
 fn is_behind(alloc: Global, made: &Generated, kept: usize, text: &[u8]) -> Result<bool, Fail> {
-    let Some(scan) = made.scans.get(kept) else {
-        return Ok(false);
-    };
-    let next = kept.saturating_add(1);
-    let wanted = format!(in alloc; "{scan}1 ok {next}\n1 at {next} val 9 more\n")?;
-    Ok(text == wanted.as_bytes())
+    match made.behind(alloc, kept)? {
+        Some(wanted) => Ok(text == wanted.as_bytes()),
+        None => Ok(false),
+    }
 }
 
 // Opens a disk that was left for this, reads all of it, and makes one more put.
 fn goes_on(alloc: Global, made: &Generated, owed: Owed, disk: MemDisk) -> Result<(), Fail> {
-    let (low, high) = ALL;
-    let script = format!(in alloc; "1 scan {low} {high}\n1 put a 9 more\n1 get a\n")?;
-    let printed = made.run(alloc, &script, disk)?.printed;
+    let printed = made.run(alloc, READ_AND_PUT, disk)?.printed;
     let Owed { done, failed } = owed;
     let is_done = is_behind(alloc, made, done, &printed.text)?;
     let is_more = failed && is_behind(alloc, made, done.saturating_add(1), &printed.text)?;

@@ -170,14 +170,14 @@ fn records_of(alloc: Global, disk: &mut MemDisk) -> Result<(usize, usize), Fail>
         return Err(Fail::new("a store"));
     };
     let records = read.segments.items().first().ok_or("a segment")?.items();
-    let blind = records
-        .iter()
-        .filter(|record| matches!(record, Record::Blind { .. }))
-        .count();
-    let entries = records
-        .iter()
-        .filter(|record| matches!(record, Record::Entry(_)))
-        .count();
+    let (mut blind, mut entries): (usize, usize) = (0, 0);
+    for record in records {
+        match record {
+            Record::Blind { .. } => blind = blind.saturating_add(1),
+            Record::Entry(_) => entries = entries.saturating_add(1),
+            _ => {}
+        }
+    }
     Ok((blind, entries))
 }
 

@@ -4,7 +4,7 @@ use lethe_base::{Kind, Name};
 use lethe_memdisk::{FlakyDisk, MemDisk};
 use lethe_rows::{
     IMAGES, Left, SMALL, answered_for, answered_small, crashed, disk_of, done_lines, names_of,
-    run_on, run_over, take_away,
+    run_on, run_over, take_away, text_of,
 };
 use std::alloc::Global;
 use std::test::Fail;
@@ -29,8 +29,8 @@ fn ran(alloc: Global, script: &str, disk: MemDisk) -> Result<Left, Fail> {
 
 // Runs the nine puts and this over an empty disk. All of it is answered.
 fn behind_nine(alloc: Global, script: &str, text: &str) -> Result<MemDisk, Fail> {
-    let script = format!(in alloc; "{NINE}{script}")?;
-    let text = format!(in alloc; "{NINE_DONE}{text}")?;
+    let script = text_of(alloc, &[NINE, script])?;
+    let text = text_of(alloc, &[NINE_DONE, text])?;
     answered_small(alloc, &script, disk_of(alloc, &[])?, 0, &text)
 }
 
@@ -130,18 +130,18 @@ fn a_fetch_that_fails_is_told_and_may_be_tried_again(rt: HostRuntime) -> Result<
     printed.must_be(6, "1 readfault\n1 at 9 val 1 v\n1 ok 10\n")
 }
 
-/// What a scan prints behind its count, for each number of the nine puts.
+/// What a scan prints, for each number of the nine puts.
 const FRONTS: [&str; 10] = [
-    "",
-    " a 1 v",
-    " a 1 v b 1 v",
-    " a 1 v b 1 v c 1 v",
-    " a 1 v b 1 v c 1 v d 1 v",
-    " a 1 v b 1 v c 1 v d 1 v e 1 v",
-    " a 1 v b 1 v c 1 v d 1 v e 1 v f 1 v",
-    " a 1 v b 1 v c 1 v d 1 v e 1 v f 1 v g 1 v",
-    " a 1 v b 1 v c 1 v d 1 v e 1 v f 1 v g 1 v h 1 v",
-    " a 1 v b 1 v c 1 v d 1 v e 1 v f 1 v g 1 v h 1 v i 1 v",
+    "1 at 0 scan 0\n",
+    "1 at 1 scan 1 a 1 v\n",
+    "1 at 2 scan 2 a 1 v b 1 v\n",
+    "1 at 3 scan 3 a 1 v b 1 v c 1 v\n",
+    "1 at 4 scan 4 a 1 v b 1 v c 1 v d 1 v\n",
+    "1 at 5 scan 5 a 1 v b 1 v c 1 v d 1 v e 1 v\n",
+    "1 at 6 scan 6 a 1 v b 1 v c 1 v d 1 v e 1 v f 1 v\n",
+    "1 at 7 scan 7 a 1 v b 1 v c 1 v d 1 v e 1 v f 1 v g 1 v\n",
+    "1 at 8 scan 8 a 1 v b 1 v c 1 v d 1 v e 1 v f 1 v g 1 v h 1 v\n",
+    "1 at 9 scan 9 a 1 v b 1 v c 1 v d 1 v e 1 v f 1 v g 1 v h 1 v i 1 v\n",
 ];
 
 // How many of the nine puts the store of a disk has, if it has the first ones alone.
@@ -150,11 +150,12 @@ fn front_of(alloc: Global, disk: MemDisk) -> Result<Option<usize>, Fail> {
     if printed.status != 0 {
         return Err(Fail::new("a store"));
     }
-    for (count, pairs) in FRONTS.into_iter().enumerate() {
-        let text = format!(in alloc; "1 at {count} scan {count}{pairs}\n")?;
+    let mut count: usize = 0;
+    for text in FRONTS {
         if printed.text.as_slice() == text.as_bytes() {
             return Ok(Some(count));
         }
+        count = count.saturating_add(1);
     }
     Ok(None)
 }

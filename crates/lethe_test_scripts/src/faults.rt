@@ -1,6 +1,6 @@
 //! Sources and sinks that fail.
 
-use lethe_rows::run_of;
+use lethe_rows::{bytes_of, filled, repeated, run_of};
 use std::test::Fail;
 
 // A word and a script, the reads and the writes that fail, the status, and what is written.
@@ -82,12 +82,9 @@ fn faults_have_their_status(rt: HostRuntime) -> Result<(), Fail> {
 #[test]
 fn a_full_sink_has_taken_a_front_of_the_text(rt: HostRuntime) -> Result<(), Fail> {
     let alloc = rt.alloc();
-    let mut script = b"1 put a 1 ".to_vec(alloc)?;
-    script.extend_from_slice(&vec![in alloc; b'v'; 4096]?)?;
-    script.push(b'\n')?;
-    for _ in 0..300 {
-        script.extend_from_slice(b"1 get a\n")?;
-    }
+    let value = filled(alloc, b'v', 4096)?;
+    let gets = repeated(alloc, b"1 get a\n", 300)?;
+    let script = bytes_of(alloc, &[b"1 put a 1 ", &value, b"\n", &gets])?;
     let printed = run_of(alloc, &["run"], &script, &[], &[])?;
     assert_eq!(rt; printed.status, 5);
     assert_eq!(rt; printed.text.len(), 1 << 20);

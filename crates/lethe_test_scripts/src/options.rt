@@ -1,6 +1,6 @@
 //! The words of a run: which configuration they ask for.
 
-use lethe_rows::{SMALL, answered, answered_for, answered_small, disk_of};
+use lethe_rows::{SMALL, answered, answered_for, answered_small, disk_of, text_of};
 use std::test::Fail;
 
 /// Words, and the configuration of a store that they make.
@@ -58,7 +58,10 @@ const HELD: &str = "1 at 1 val 5 x\n";
 fn a_store_has_the_configuration_that_was_asked_for(rt: HostRuntime) -> Result<(), Fail> {
     let alloc = rt.alloc();
     for (words, config) in ROWS {
-        let other = format!(in alloc; "other config kept {config} asked {DEFAULT}\n")?;
+        let other = text_of(
+            alloc,
+            &["other config kept ", config, " asked ", DEFAULT, "\n"],
+        )?;
         let disk = answered_for(alloc, words, PUT, disk_of(alloc, &[])?, 0, "1 ok 1\n")?;
         let disk = answered(alloc, GET, disk, 9, &other)?;
         answered_for(alloc, words, GET, disk, 0, HELD)?;

@@ -1,6 +1,6 @@
 //! Words and scripts that are refused.
 
-use lethe_rows::run_of;
+use lethe_rows::{bytes_of, filled, must_print, run_of};
 use std::test::Fail;
 
 /// Bytes that are no script, and what is said of them.
@@ -34,8 +34,7 @@ const BAD_SCRIPTS: [(&[u8], &str); 21] = [
 #[test]
 fn bytes_that_are_no_script_are_refused_at_the_first_bad_line(rt: HostRuntime) -> Result<(), Fail> {
     for (script, text) in BAD_SCRIPTS {
-        let printed = run_of(rt.alloc(), &["run"], script, &[], &[])?;
-        printed.must_be(3, text)?;
+        must_print(rt.alloc(), script, 3, text)?;
     }
     Ok(())
 }
@@ -51,12 +50,10 @@ const LENGTHS: [(usize, usize, u8, &str); 3] = [
 fn keys_and_values_have_limits(rt: HostRuntime) -> Result<(), Fail> {
     let alloc = rt.alloc();
     for (key, value, status, text) in LENGTHS {
-        let mut script = b"1 get a\n1 put ".to_vec(alloc)?;
-        script.extend_from_slice(&vec![in alloc; b'k'; key]?)?;
-        script.extend_from_slice(b" 7 ")?;
-        script.extend_from_slice(&vec![in alloc; b'v'; value]?)?;
-        let printed = run_of(alloc, &["run"], &script, &[], &[])?;
-        printed.must_be(status, text)?;
+        let key = filled(alloc, b'k', key)?;
+        let value = filled(alloc, b'v', value)?;
+        let script = bytes_of(alloc, &[b"1 get a\n1 put ", &key, b" 7 ", &value])?;
+        must_print(alloc, &script, status, text)?;
     }
     Ok(())
 }
@@ -74,10 +71,8 @@ const SIZES: [(&[u8], usize, u8, &str); 5] = [
 fn a_script_has_a_greatest_size(rt: HostRuntime) -> Result<(), Fail> {
     let alloc = rt.alloc();
     for (front, spaces, status, text) in SIZES {
-        let mut script = front.to_vec(alloc)?;
-        script.extend_from_slice(&vec![in alloc; b' '; spaces]?)?;
-        let printed = run_of(alloc, &["run"], &script, &[], &[])?;
-        printed.must_be(status, text)?;
+        let script = bytes_of(alloc, &[front, &filled(alloc, b' ', spaces)?])?;
+        must_print(alloc, &script, status, text)?;
     }
     Ok(())
 }

@@ -1,6 +1,6 @@
 //! Scripts that are answered.
 
-use lethe_rows::run_of;
+use lethe_rows::must_print;
 use std::test::Fail;
 
 /// Scripts, and what is printed of them.
@@ -71,8 +71,7 @@ const ROWS: [(&str, &str); 16] = [
 #[test]
 fn scripts_print_their_replies(rt: HostRuntime) -> Result<(), Fail> {
     for (script, text) in ROWS {
-        let printed = run_of(rt.alloc(), &["run"], script.as_bytes(), &[], &[])?;
-        printed.must_be(0, text)?;
+        must_print(rt.alloc(), script.as_bytes(), 0, text)?;
     }
     Ok(())
 }

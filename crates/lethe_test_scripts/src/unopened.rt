@@ -2,7 +2,7 @@
 
 use lethe_base::Kind;
 use lethe_memdisk::MemDisk;
-use lethe_rows::{add, answered, disk_of, names_of, open_small, run_over};
+use lethe_rows::{add, answered, bytes_of, disk_of, filled, names_of, open_small, run_over};
 use std::alloc::Global;
 use std::test::Fail;
 
@@ -10,25 +10,23 @@ use std::test::Fail;
 const LAST: u64 = 4_611_686_018_427_387_903;
 
 /// Manifest 2 of the default configuration, up to its count.
-const HEAD: [u8; 37] =
-    *b"LM\x01\0\0\0\0\0\0\0\x02\0\0\0\0\0\0\x03\xe8\x04\x03\0\x40\x04\0\x08\x02\0\0\0\0\0\0\0\0\0\0";
+const HEAD: &[u8] =
+    b"LM\x01\0\0\0\0\0\0\0\x02\0\0\0\0\0\0\x03\xe8\x04\x03\0\x40\x04\0\x08\x02\0\0\0\0\0\0\0\0\0\0";
 
 /// What follows its next number. It cites segment 1.
-const TAIL: [u8; 18] = *b"\0\0\0\0\0\x01\0\0\0\0\0\0\0\x01\0\0\0\0";
+const TAIL: &[u8] = b"\0\0\0\0\0\x01\0\0\0\0\0\0\0\x01\0\0\0\0";
 
 /// Segment 1 with no record.
-const EMPTY: [u8; 12] = *b"LS\x01\0\0\0\0\0\0\0\x01\0";
+const EMPTY: &[u8] = b"LS\x01\0\0\0\0\0\0\0\x01\0";
 
 /// Segment 1 with one put.
-const ONE: [u8; 36] =
-    *b"LS\x01\0\0\0\0\0\0\0\x01\x01\x01\0\0\0\0\0\0\0\x01\0\x01a\0\0\0\0\0\0\0\x05\0\x01x\0";
+const ONE: &[u8] =
+    b"LS\x01\0\0\0\0\0\0\0\x01\x01\x01\0\0\0\0\0\0\0\x01\0\x01a\0\0\0\0\0\0\0\x05\0\x01x\0";
 
 // A disk with gate 2 and manifest 2, of this count of changes and next number.
 fn gated(alloc: Global, count: u64, next: u64) -> Result<MemDisk, Fail> {
-    let mut manifest = HEAD.to_vec(alloc)?;
-    manifest.extend_from_slice(&count.to_be_bytes())?;
-    manifest.extend_from_slice(&next.to_be_bytes())?;
-    manifest.extend_from_slice(&TAIL)?;
+    let (count, next) = (count.to_be_bytes(), next.to_be_bytes());
+    let manifest = bytes_of(alloc, &[HEAD, &count, &next, TAIL])?;
     let mut disk = disk_of(alloc, &[])?;
     add(alloc, &mut disk, Kind::Manifest, 2, &manifest)?;
     add(alloc, &mut disk, Kind::Gate, 2, &[])?;
@@ -49,7 +47,7 @@ fn numbers_run_out(rt: HostRuntime) -> Result<(), Fail> {
     let alloc = rt.alloc();
     for (count, next, status, text) in NUMBERS {
         let mut disk = gated(alloc, count, next)?;
-        add(alloc, &mut disk, Kind::Segment, 1, &EMPTY)?;
+        add(alloc, &mut disk, Kind::Segment, 1, EMPTY)?;
         answered(alloc, "1 put a 5 x\n", disk, status, text)?;
     }
     Ok(())
@@ -62,7 +60,7 @@ fn a_store_without_its_segment_stays_as_it_was(rt: HostRuntime) -> Result<(), Fa
     let before = names_of(alloc, &mut disk)?;
     let mut disk = answered(alloc, "1 put a 5 y\n", disk, 8, "damaged segment 1\n")?;
     assert_eq!(rt; names_of(alloc, &mut disk)?, before);
-    add(alloc, &mut disk, Kind::Segment, 1, &ONE)?;
+    add(alloc, &mut disk, Kind::Segment, 1, ONE)?;
     answered(alloc, "1 get a\n", disk, 0, "1 at 1 val 5 x\n")?;
     Ok(())
 }
@@ -103,9 +101,8 @@ fn takes_no_call(alloc: Global, row: &Refused) -> Result<(), Fail> {
 #[test]
 fn a_run_without_a_script_takes_no_device_call(rt: HostRuntime) -> Result<(), Fail> {
     let alloc = rt.alloc();
-    let mut long = b"1 put a 5 x\n1 put ".to_vec(alloc)?;
-    long.extend_from_slice(&vec![in alloc; b'k'; 256]?)?;
-    long.extend_from_slice(b" 7 v\n")?;
+    let key = filled(alloc, b'k', 256)?;
+    let long = bytes_of(alloc, &[b"1 put a 5 x\n1 put ", &key, b" 7 v\n"])?;
     takes_no_call(
         alloc,
         &Refused {
