@@ -102,7 +102,8 @@ fn is_stopped(alloc: Global, calls: u64) -> Result<bool, Fail> {
     if left.printed.status == 0 {
         return Ok(false);
     }
-    reads(alloc, left.disk, OPENING + PUT + calls, HELD, HELD)?;
+    let all = calls.saturating_add(OPENING + PUT);
+    reads(alloc, left.disk, all, HELD, HELD)?;
     Ok(true)
 }
 
