@@ -1,6 +1,7 @@
 //! Words and scripts that are refused.
 
 use lethe_rows::{bytes_of, filled, must_print, run_of};
+use std::alloc::Global;
 use std::test::Fail;
 
 /// Bytes that are no script, and what is said of them.
@@ -67,12 +68,17 @@ const SIZES: [(&[u8], usize, u8, &str); 5] = [
     (b"1 get a\n", 16_777_209, 3, "line 2 bad size\n"),
 ];
 
+// So many spaces behind a front.
+fn spaced(alloc: Global, front: &[u8], spaces: usize) -> Result<Vec<u8>, Fail> {
+    let spaces = filled(alloc, b' ', spaces)?;
+    bytes_of(alloc, &[front, &spaces])
+}
+
 #[test]
 fn a_script_has_a_greatest_size(rt: HostRuntime) -> Result<(), Fail> {
     let alloc = rt.alloc();
     for (front, spaces, status, text) in SIZES {
-        let script = bytes_of(alloc, &[front, &filled(alloc, b' ', spaces)?])?;
-        must_print(alloc, &script, status, text)?;
+        must_print(alloc, &spaced(alloc, front, spaces)?, status, text)?;
     }
     Ok(())
 }

@@ -77,21 +77,18 @@ fn a_store_of_another_configuration_is_not_opened(rt: HostRuntime) -> Result<(),
     Ok(())
 }
 
-// A word and a script, the reads that fail, the status, and what is printed.
-#[derive(Clone, Copy)]
-struct Refused<'a> {
-    word: &'static str,
-    script: &'a [u8],
-    failing_reads: &'static [u64],
-    status: u8,
-    text: &'static str,
-}
-
 // Runs a word over a disk whose first call fails, and that call is still to come behind it.
-fn takes_no_call(alloc: Global, row: &Refused) -> Result<(), Fail> {
+fn takes_no_call(
+    alloc: Global,
+    word: &str,
+    script: &[u8],
+    failing_reads: &[u64],
+    status: u8,
+    text: &str,
+) -> Result<(), Fail> {
     let disk = disk_of(alloc, &[1])?;
-    let left = run_over(alloc, &[row.word], row.script, row.failing_reads, &[], disk)?;
-    left.printed.must_be(row.status, row.text)?;
+    let left = run_over(alloc, &[word], script, failing_reads, &[], disk)?;
+    left.printed.must_be(status, text)?;
     let fault = "open fault before 0 after 1\n";
     let disk = answered(alloc, "1 get a\n", left.disk, 6, fault)?;
     answered(alloc, "1 get a\n", disk, 0, "1 at 0 none\n")?;
@@ -103,34 +100,8 @@ fn a_run_without_a_script_takes_no_device_call(rt: HostRuntime) -> Result<(), Fa
     let alloc = rt.alloc();
     let key = filled(alloc, b'k', 256)?;
     let long = bytes_of(alloc, &[b"1 put a 5 x\n1 put ", &key, b" 7 v\n"])?;
-    takes_no_call(
-        alloc,
-        &Refused {
-            word: "run",
-            script: &long,
-            failing_reads: &[],
-            status: 3,
-            text: "line 2 bad key\n",
-        },
-    )?;
-    takes_no_call(
-        alloc,
-        &Refused {
-            word: "frob",
-            script: b"1 put a 5 x\n",
-            failing_reads: &[],
-            status: 2,
-            text: "bad words\n",
-        },
-    )?;
-    takes_no_call(
-        alloc,
-        &Refused {
-            word: "run",
-            script: b"1 put a 5 x\n",
-            failing_reads: &[1],
-            status: 4,
-            text: "",
-        },
-    )
+    takes_no_call(alloc, "run", &long, &[], 3, "line 2 bad key\n")?;
+    takes_no_call(alloc, "frob", b"1 put a 5 x\n", &[], 2, "bad words\n")?;
+    takes_no_call(alloc, "run", b"1 put a 5 x\n", &[1], 4, "")?;
+    Ok(())
 }
