@@ -1,8 +1,8 @@
 //! Scripts that are made from a seed, and what a plain map prints for them.
 ghost use Rattle.std.specs.Prelude.{◌<◌, length};
 
-use crate::levels::SMALL;
 use crate::run::{Left, run_over};
+use crate::small::SMALL;
 use lethe_memdisk::MemDisk;
 use std::alloc::Global;
 use std::collections::BTreeMap;
@@ -13,7 +13,10 @@ use std::test::Fail;
 const LETTERS: [&str; 6] = ["a", "b", "c", "d", "e", "f"];
 
 /// A range that has all keys.
-pub(crate) const ALL: (&str, &str) = ("a", "g");
+const ALL: (&str, &str) = ("a", "g");
+
+/// A script that reads all of a store, and makes one more put.
+pub const READ_AND_PUT: &str = "1 scan a g\n1 put a 9 more\n1 get a\n";
 
 // Numbers that follow from a seed.
 #[derive(Drop)]
@@ -73,7 +76,7 @@ impl Dice {
 
 /// Lines of a script, and what is printed for them.
 #[derive(Drop)]
-pub(crate) struct Lines {
+pub struct Lines {
     pub script: String,
     pub text: String,
 }
@@ -100,6 +103,11 @@ struct Plain {
     map: BTreeMap<String, (usize, usize)>,
     // How many changes there were.
     place: usize,
+}
+
+// What a scan prints of a key.
+fn pair_of(alloc: Global, key: &str, due: usize, place: usize) -> Result<String, Fail> {
+    Ok(format!(in alloc; " {key} {due} v{place}")?)
 }
 
 impl Plain {
@@ -139,7 +147,7 @@ impl Plain {
         for (key, (due, place)) in self.map.iter() {
             if low <= key.as_str() && key.as_str() < high {
                 count = count.saturating_add(1);
-                pairs.push_str(&format!(in self.alloc; " {key} {due} v{place}")?)?;
+                pairs.push_str(&pair_of(self.alloc, key, *due, *place)?)?;
             }
         }
         Ok(format!(in self.alloc; "1 at {at} scan {count}{pairs}\n")?)
@@ -175,18 +183,18 @@ impl Plain {
 
 /// A script for a small configuration.
 #[derive(Drop)]
-pub(crate) struct Generated {
+pub struct Generated {
     seed: u64,
     words: Vec<&'static str>,
     /// Its lines, ten by ten.
     pub parts: Vec<Lines>,
-    /// What a scan of all keys prints behind no change, behind the first, and so on.
-    pub scans: Vec<String>,
+    // What a scan of all keys prints behind no change, behind the first, and so on.
+    scans: Vec<String>,
 }
 
 impl Generated {
     /// The script of a seed, of so many times ten lines.
-    pub(crate) fn of(alloc: Global, seed: u64, parts: usize) -> Result<Generated, Fail> {
+    pub fn of(alloc: Global, seed: u64, parts: usize) -> Result<Generated, Fail> {
         let mut dice = Dice(seed);
         let mut made = Generated {
             seed,
@@ -220,7 +228,7 @@ impl Generated {
     }
 
     /// The whole script.
-    pub(crate) fn whole(&self, alloc: Global) -> Result<Lines, Fail> {
+    pub fn whole(&self, alloc: Global) -> Result<Lines, Fail> {
         let mut whole = Lines::new(alloc);
         for lines in &self.parts {
             whole.add(&lines.script, &lines.text)?;
@@ -228,15 +236,24 @@ impl Generated {
         Ok(whole)
     }
 
-    /// Runs a script with its configuration. Nothing of the source and the sink fails.
-    pub(crate) fn run(&self, rt: &HostRuntime, script: &str, disk: MemDisk) -> Result<Left, Fail> {
-        let bytes = script.as_bytes().to_vec(rt.alloc())?;
-        run_over(rt, &self.words, bytes, &[], &[], disk)
+    /// What is printed of `READ_AND_PUT` behind so many of its changes.
+    pub fn behind(&self, alloc: Global, kept: usize) -> Result<Option<String>, Fail> {
+        let Some(scan) = self.scans.get(kept) else {
+            return Ok(None);
+        };
+        let next = kept.saturating_add(1);
+        let text = format!(in alloc; "{scan}1 ok {next}\n1 at {next} val 9 more\n")?;
+        Ok(Some(text))
     }
 
-    // Runs lines of it, which print what the map gives, and hands the disk back.
-    fn answered(&self, rt: &HostRuntime, lines: &Lines, disk: MemDisk) -> Result<MemDisk, Fail> {
-        let left = self.run(rt, &lines.script, disk)?;
+    /// Runs a script with its configuration. Nothing of the source and the sink fails.
+    pub fn run(&self, alloc: Global, script: &str, disk: MemDisk) -> Result<Left, Fail> {
+        run_over(alloc, &self.words, script.as_bytes(), &[], &[], disk)
+    }
+
+    /// Runs lines of it, which print what the map gives, and hands the disk back.
+    pub fn answered(&self, alloc: Global, lines: &Lines, disk: MemDisk) -> Result<MemDisk, Fail> {
+        let left = self.run(alloc, &lines.script, disk)?;
         let printed = left.printed;
         if printed.status != 0 || printed.text.as_slice() != lines.text.as_bytes() {
             let seed = self.seed;
@@ -248,23 +265,6 @@ impl Generated {
 }
 
 /// A disk with room for a script and its merges.
-pub(crate) fn roomy_disk(alloc: Global) -> Result<MemDisk, Fail> {
+pub fn roomy_disk(alloc: Global) -> Result<MemDisk, Fail> {
     Ok(MemDisk::new(alloc, 20_000, Vec::new(alloc))?)
-}
-
-#[test]
-fn generated_scripts_print_what_a_map_gives(rt: HostRuntime) -> Result<(), Fail> {
-    let alloc = rt.alloc();
-    for seed in 0..100 {
-        // Long scripts have the keys for deep levels.
-        let parts = if seed % 10 == 0 { 30 } else { 6 };
-        let made = Generated::of(alloc, seed, parts)?;
-        made.answered(&rt, &made.whole(alloc)?, roomy_disk(alloc)?)?;
-        // The same, opened again for each part.
-        let mut disk = roomy_disk(alloc)?;
-        for lines in &made.parts {
-            disk = made.answered(&rt, lines, disk)?;
-        }
-    }
-    Ok(())
 }

@@ -1,29 +1,22 @@
-//! Tests that cross crates: one table for each theme.
+//! What the tests of scripts share: a run over memory, small configurations, and what a crash leaves of a disk.
 #![tactic(auto)]
 
+<<<<<<< HEAD
 #[cfg(test)]
 mod appends;
 #[cfg(test)]
 mod faults;
 #[cfg(test)]
+=======
+mod disks;
+>>>>>>> ab2713100d5a77e2c42eb42a7b44bba591bbdc6d
 mod generated;
-#[cfg(test)]
-mod generated_crashes;
-#[cfg(test)]
-mod journal;
-#[cfg(test)]
-mod levels;
-#[cfg(test)]
-mod loads;
-#[cfg(test)]
-mod options;
-#[cfg(test)]
-mod refusals;
-#[cfg(test)]
 mod run;
-#[cfg(test)]
-mod scripts;
-#[cfg(test)]
-mod switches;
-#[cfg(test)]
-mod unopened;
+mod small;
+mod texts;
+
+pub use disks::{IMAGES, add, crashed, disk_of, image_of, names_of, take_away, take_calls};
+pub use generated::{Generated, Lines, READ_AND_PUT, roomy_disk};
+pub use run::{Left, Printed, answered, answered_for, must_print, run_of, run_on, run_over};
+pub use small::{SMALL, answered_small, open_small};
+pub use texts::{bytes_of, count_lines, done_lines, filled, repeated, text_of};

@@ -5,7 +5,7 @@ use Rattle.lethe_base.specs.declared.name.Name.{Name}
 use Rattle.lethe_disk.specs.Directory.{object}
 use Rattle.lethe_memdisk.specs.Held.{Held, seen_of}
 use Rattle.lethe_commit.proofs.Listed.{listed, found_decides}
-use Rattle.lethe_rows.proofs.levels.take_away.Goals as goal
+use Rattle.lethe_rows.proofs.disks.take_away.Goals as goal
 
 pub remove-requires : goal.remove-requires
 remove-requires c =

@@ -1,6 +1,6 @@
 use Rattle.std.proofs.Common.{◌≤◌, ◌-◌}
 use Rattle.lethe_memdisk.specs.Held.{calls_of}
-use Rattle.lethe_rows.proofs.journal.take_calls.Given as goal
+use Rattle.lethe_rows.proofs.disks.take_calls.Given as goal
 
 abbrev pub invariant-loop-done : goal.invariant-loop-done
 invariant-loop-done l = record {

@@ -1,0 +1,199 @@
+//! Stores whose buffers are small, so that their entries come into files.
+
+use lethe_base::{Kind, Name};
+use lethe_memdisk::{FlakyDisk, MemDisk};
+use lethe_rows::{
+    IMAGES, Left, SMALL, answered_for, answered_small, crashed, disk_of, done_lines, names_of,
+    run_on, run_over, take_away, text_of,
+};
+use std::alloc::Global;
+use std::test::Fail;
+
+/// Puts of the keys from `a` on, each with the delete key 1 and the value `v`.
+const NINE: &str =
+    "1 put a 1 v\n1 put b 1 v\n1 put c 1 v\n1 put d 1 v\n1 put e 1 v\n1 put f 1 v\n1 put g 1 v\n1 put h 1 v\n1 put i 1 v\n";
+
+/// What is printed of them.
+const NINE_DONE: &str = "1 ok 1\n1 ok 2\n1 ok 3\n1 ok 4\n1 ok 5\n1 ok 6\n1 ok 7\n1 ok 8\n1 ok 9\n";
+
+/// Four more.
+const MORE: &str = "1 put j 1 v\n1 put k 1 v\n1 put l 1 v\n1 put m 1 v\n";
+
+/// What is printed of these.
+const MORE_DONE: &str = "1 ok 10\n1 ok 11\n1 ok 12\n1 ok 13\n";
+
+// Runs a script with the small configuration.
+fn ran(alloc: Global, script: &str, disk: MemDisk) -> Result<Left, Fail> {
+    run_over(alloc, &SMALL, script.as_bytes(), &[], &[], disk)
+}
+
+// Runs the nine puts and this over an empty disk. All of it is answered.
+fn behind_nine(alloc: Global, script: &str, text: &str) -> Result<MemDisk, Fail> {
+    let script = text_of(alloc, &[NINE, script])?;
+    let text = text_of(alloc, &[NINE_DONE, text])?;
+    answered_small(alloc, &script, disk_of(alloc, &[])?, 0, &text)
+}
+
+#[test]
+fn a_full_buffer_is_frozen_and_the_next_one_flushes_it(rt: HostRuntime) -> Result<(), Fail> {
+    let text = "1 at 9 stat clock 0 pins 0 pending 0 files 1 tombs 0\n";
+    behind_nine(rt.alloc(), "1 stat\n", text)?;
+    Ok(())
+}
+
+/// Reads and changes: of `a` there is a file, of `e` the frozen buffer, of `i` the active one.
+const READS: &str =
+    "1 get a\n1 get e\n1 get i\n1 get aa\n1 scan c g\n1 del a\n1 del z\n1 get a\n1 scan a d\n1 put e 2 w\n1 get e\n1 stat\n";
+
+/// What is printed of them.
+const ANSWERS: &str =
+    "1 at 9 val 1 v\n1 at 9 val 1 v\n1 at 9 val 1 v\n1 at 9 none\n1 at 9 scan 4 c 1 v d 1 v e 1 v f 1 v\n1 ok 10\n1 ok 11\n1 at 11 none\n1 at 11 scan 2 b 1 v c 1 v\n1 ok 12\n1 at 12 val 2 w\n1 at 12 stat clock 0 pins 0 pending 0 files 1 tombs 0\n";
+
+/// What is printed when the store is opened again. Opening has made files of both segments: the tombstone of `a` lies in one,
+/// since a file below has the key.
+const OPENED: &str =
+    "1 at 12 stat clock 0 pins 0 pending 0 files 3 tombs 1\n1 at 12 none\n1 at 12 scan 8 b 1 v c 1 v d 1 v e 2 w f 1 v g 1 v h 1 v i 1 v\n";
+
+#[test]
+fn reads_see_files_and_both_buffers(rt: HostRuntime) -> Result<(), Fail> {
+    let alloc = rt.alloc();
+    let disk = behind_nine(alloc, READS, ANSWERS)?;
+    let disk = answered_small(alloc, "1 stat\n1 get a\n1 scan a z\n", disk, 0, OPENED)?;
+    let script = "1 put a 3 x\n1 get a\n1 del y\n1 stat\n";
+    let text =
+        "1 ok 13\n1 at 13 val 3 x\n1 ok 14\n1 at 14 stat clock 0 pins 0 pending 0 files 3 tombs 1\n";
+    answered_small(alloc, script, disk, 0, text)?;
+    Ok(())
+}
+
+// The nine puts and four more: their files are 7, of the pages 5 and 6, and 13, of the pages 11 and 12.
+fn two_files(alloc: Global) -> Result<MemDisk, Fail> {
+    behind_nine(alloc, MORE, MORE_DONE)
+}
+
+#[test]
+fn a_store_that_lacks_a_page_is_told_and_stays(rt: HostRuntime) -> Result<(), Fail> {
+    let alloc = rt.alloc();
+    let mut disk = two_files(alloc)?;
+    take_away(alloc, &mut disk, Kind::Page, 12)?;
+    let before = names_of(alloc, &mut disk)?;
+    let disk = answered_small(alloc, "1 get a\n", disk, 8, "damaged page 12\n")?;
+    let mut other = SMALL;
+    other[14] = "3";
+    let told =
+        "other config kept threshold=100 ratio=2 levels=2 page=2 tile=2 file=2 buffer=4 pick=so asked threshold=100 ratio=3 levels=2 page=2 tile=2 file=2 buffer=4 pick=so\n";
+    let mut disk = answered_for(alloc, &other, "1 get a\n", disk, 9, told)?;
+    assert_eq!(rt; names_of(alloc, &mut disk)?, before);
+    Ok(())
+}
+
+/// Objects of a store of two files, and what is told where they were changed.
+const CHANGED: [(Kind, u64, &str); 7] = [
+    (Kind::Page, 5, "damaged page 5\n"),
+    (Kind::Page, 12, "damaged page 12\n"),
+    (Kind::File, 7, "damaged file 7\n"),
+    (Kind::File, 13, "damaged file 13\n"),
+    (Kind::Segment, 9, "damaged segment 9\n"),
+    (Kind::Segment, 15, "damaged segment 15\n"),
+    (Kind::Manifest, 16, "damaged manifest 16\n"),
+];
+
+// Puts other bytes into an object of a store of two files, which isn't opened then.
+fn is_told(alloc: Global, name: Name, bytes: &[u8], text: &str) -> Result<(), Fail> {
+    let mut disk = two_files(alloc)?;
+    if !disk.swap(name, bytes.to_vec(alloc)?) {
+        return Err(Fail::new("an object"));
+    }
+    let disk = answered_small(alloc, "1 put z 1 z\n", disk, 8, text)?;
+    answered_small(alloc, "1 get a\n", disk, 8, text)?;
+    Ok(())
+}
+
+#[test]
+fn an_object_that_was_changed_is_told(rt: HostRuntime) -> Result<(), Fail> {
+    let alloc = rt.alloc();
+    for (kind, no, text) in CHANGED {
+        is_told(alloc, Name { kind, no }, b"", text)?;
+        is_told(alloc, Name { kind, no }, b"LP\x01\x01\0\0\0\x01", text)?;
+    }
+    let text = "1 at 13 scan 2 a 1 v b 1 v\n";
+    answered_small(alloc, "1 scan a c\n", two_files(alloc)?, 0, text)?;
+    Ok(())
+}
+
+#[test]
+fn a_fetch_that_fails_is_told_and_may_be_tried_again(rt: HostRuntime) -> Result<(), Fail> {
+    let alloc = rt.alloc();
+    let disk = FlakyDisk::new(behind_nine(alloc, "", "")?, vec![in alloc; 1]?);
+    let script = b"1 get a\n1 get a\n1 put j 2 w\n";
+    let (printed, _) = run_on(alloc, &SMALL, script, &[], &[], disk)?;
+    printed.must_be(6, "1 readfault\n1 at 9 val 1 v\n1 ok 10\n")
+}
+
+/// What a scan prints, for each number of the nine puts.
+const FRONTS: [&str; 10] = [
+    "1 at 0 scan 0\n",
+    "1 at 1 scan 1 a 1 v\n",
+    "1 at 2 scan 2 a 1 v b 1 v\n",
+    "1 at 3 scan 3 a 1 v b 1 v c 1 v\n",
+    "1 at 4 scan 4 a 1 v b 1 v c 1 v d 1 v\n",
+    "1 at 5 scan 5 a 1 v b 1 v c 1 v d 1 v e 1 v\n",
+    "1 at 6 scan 6 a 1 v b 1 v c 1 v d 1 v e 1 v f 1 v\n",
+    "1 at 7 scan 7 a 1 v b 1 v c 1 v d 1 v e 1 v f 1 v g 1 v\n",
+    "1 at 8 scan 8 a 1 v b 1 v c 1 v d 1 v e 1 v f 1 v g 1 v h 1 v\n",
+    "1 at 9 scan 9 a 1 v b 1 v c 1 v d 1 v e 1 v f 1 v g 1 v h 1 v i 1 v\n",
+];
+
+// How many of the nine puts the store of a disk has, if it has the first ones alone.
+fn front_of(alloc: Global, disk: MemDisk) -> Result<Option<usize>, Fail> {
+    let printed = ran(alloc, "1 scan a z\n", disk)?.printed;
+    if printed.status != 0 {
+        return Err(Fail::new("a store"));
+    }
+    let mut count: usize = 0;
+    for text in FRONTS {
+        if printed.text.as_slice() == text.as_bytes() {
+            return Ok(Some(count));
+        }
+        count = count.saturating_add(1);
+    }
+    Ok(None)
+}
+
+// Fails where the store of a disk has other puts than so many, or one more.
+fn has_kept(alloc: Global, disk: MemDisk, done: usize) -> Result<(), Fail> {
+    let kept = front_of(alloc, disk)?.ok_or("a front")?;
+    if kept == done || kept == done.saturating_add(1) {
+        return Ok(());
+    }
+    Err(Fail::new("other puts"))
+}
+
+// Stops the nine puts behind so many device calls. Whether they weren't done by then.
+fn is_stopped(alloc: Global, calls: u64) -> Result<bool, Fail> {
+    let mut disk = disk_of(alloc, &[])?;
+    disk.fuse(calls);
+    let left = ran(alloc, NINE, disk)?;
+    if left.printed.status == 0 {
+        return Ok(false);
+    }
+    let done = done_lines(&left.printed.text);
+    let mut disk = left.disk;
+    disk.fuse(1_000);
+    for image in IMAGES {
+        has_kept(alloc, crashed(alloc, &mut disk, calls, image)?, done)?;
+    }
+    has_kept(alloc, disk, done)?;
+    Ok(true)
+}
+
+#[test]
+fn a_store_that_is_stopped_loses_nothing_that_was_answered(rt: HostRuntime) -> Result<(), Fail> {
+    for calls in 0..200 {
+        if !is_stopped(rt.alloc(), calls)? {
+            assert!(rt; calls > 60);
+            return Ok(());
+        }
+    }
+    Err(Fail::new("too many calls"))
+}

@@ -1,0 +1,13 @@
+//! Tests of whole scripts: what is printed, what is refused, and what isn't opened.
+#![tactic(auto)]
+
+#[cfg(test)]
+mod faults;
+#[cfg(test)]
+mod options;
+#[cfg(test)]
+mod refusals;
+#[cfg(test)]
+mod scripts;
+#[cfg(test)]
+mod unopened;

@@ -1,0 +1,119 @@
+//! Words and scripts that are refused.
+
+use lethe_rows::{bytes_of, filled, must_print, run_of};
+use std::alloc::Global;
+use std::test::Fail;
+
+/// Bytes that are no script, and what is said of them.
+const BAD_SCRIPTS: [(&[u8], &str); 21] = [
+    (b"1 frob\n", "line 1 bad command\n"),
+    (b"1 tick 5\n", "line 1 bad command\n"),
+    (b"1\n", "line 1 bad command\n"),
+    (b"2 get a\n", "line 1 bad caller\n"),
+    (b"phase\n", "line 1 bad caller\n"),
+    (b"01 get a\n", "line 1 bad caller\n"),
+    (b"1 get a\n1 get a b\n", "line 2 bad count\n"),
+    (b"# none\n\n1 put a\n", "line 3 bad count\n"),
+    (b"1 put a 05 x\n", "line 1 bad number\n"),
+    (
+        b"1 get a\n1 put a 18446744073709551616 x\n",
+        "line 2 bad number\n",
+    ),
+    (b"1 put a -1 x\n", "line 1 bad number\n"),
+    (b"1 put a + x\n", "line 1 bad number\n"),
+    (b"1 get =616\n", "line 1 bad key\n"),
+    (b"1 get =\n", "line 1 bad key\n"),
+    (b"1 put a 1 =FF\n", "line 1 bad value\n"),
+    (b"1 stat a\n", "line 1 bad count\n"),
+    (b"1\tget a\n", "line 1 bad byte\n"),
+    (b"\t# a comment\n", "line 1 bad byte\n"),
+    (b"1 get \xff\n", "line 1 bad byte\n"),
+    (b"1 get a\r", "line 1 bad byte\n"),
+    (b"1 get a\n1 ge\rt a\r\n", "line 2 bad byte\n"),
+];
+
+#[test]
+fn bytes_that_are_no_script_are_refused_at_the_first_bad_line(rt: HostRuntime) -> Result<(), Fail> {
+    for (script, text) in BAD_SCRIPTS {
+        must_print(rt.alloc(), script, 3, text)?;
+    }
+    Ok(())
+}
+
+/// How long the key and the value of a put are, the status, and what is printed.
+const LENGTHS: [(usize, usize, u8, &str); 3] = [
+    (255, 4096, 0, "1 at 0 none\n1 ok 1\n"),
+    (256, 4096, 3, "line 2 bad key\n"),
+    (255, 4097, 3, "line 2 bad value\n"),
+];
+
+#[test]
+fn keys_and_values_have_limits(rt: HostRuntime) -> Result<(), Fail> {
+    let alloc = rt.alloc();
+    for (key, value, status, text) in LENGTHS {
+        let key = filled(alloc, b'k', key)?;
+        let value = filled(alloc, b'v', value)?;
+        let script = bytes_of(alloc, &[b"1 get a\n1 put ", &key, b" 7 ", &value])?;
+        must_print(alloc, &script, status, text)?;
+    }
+    Ok(())
+}
+
+/// What stands in front of so many spaces, the status, and what is printed.
+const SIZES: [(&[u8], usize, u8, &str); 5] = [
+    (b"", 16_777_216, 0, ""),
+    (b"", 16_777_217, 3, "line 1 bad size\n"),
+    (b"1 frob\n", 16_777_216, 3, "line 1 bad command\n"),
+    (b"1 get a\n", 16_777_208, 0, "1 at 0 none\n"),
+    (b"1 get a\n", 16_777_209, 3, "line 2 bad size\n"),
+];
+
+// So many spaces behind a front.
+fn spaced(alloc: Global, front: &[u8], spaces: usize) -> Result<Vec<u8>, Fail> {
+    let spaces = filled(alloc, b' ', spaces)?;
+    bytes_of(alloc, &[front, &spaces])
+}
+
+#[test]
+fn a_script_has_a_greatest_size(rt: HostRuntime) -> Result<(), Fail> {
+    let alloc = rt.alloc();
+    for (front, spaces, status, text) in SIZES {
+        must_print(alloc, &spaced(alloc, front, spaces)?, status, text)?;
+    }
+    Ok(())
+}
+
+/// Words that are no command.
+const BAD_WORDS: [&[&str]; 22] = [
+    &[],
+    &["load"],
+    &["run", "run"],
+    &["Run"],
+    &[""],
+    &["--ratio", "3", "run"],
+    &["run", "--"],
+    &["run", "--ratio"],
+    &["run", "--ratio", "3", "--ratio", "3"],
+    &["run", "--ratio", "3", "--levels"],
+    &["run", "--ratio=3"],
+    &["run", "ratio", "3"],
+    &["run", "--Ratio", "3"],
+    &["run", "--speed", "3"],
+    &["run", "--ratio", ""],
+    &["run", "--ratio", "03"],
+    &["run", "--ratio", "+3"],
+    &["run", "--ratio", "1"],
+    &["run", "--pick", "xd"],
+    &["run", "--threshold", "1099511627777"],
+    &["run", "--page", "1024", "--tile", "64"],
+    &["run", "--buffer", "2049"],
+];
+
+#[test]
+fn other_words_are_refused(rt: HostRuntime) -> Result<(), Fail> {
+    for words in BAD_WORDS {
+        let printed = run_of(rt.alloc(), words, b"1 get a\n", &[1], &[])?;
+        printed.must_be(2, "bad words\n")?;
+    }
+    Ok(())
+}
