@@ -1,15 +1,7 @@
 //! What the tests of scripts share: a run over memory, small configurations, and what a crash leaves of a disk.
 #![tactic(auto)]
 
-<<<<<<< HEAD
-#[cfg(test)]
-mod appends;
-#[cfg(test)]
-mod faults;
-#[cfg(test)]
-=======
 mod disks;
->>>>>>> ab2713100d5a77e2c42eb42a7b44bba591bbdc6d
 mod generated;
 mod run;
 mod small;
