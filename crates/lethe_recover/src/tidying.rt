@@ -6,7 +6,7 @@ ghost use Rattle.lethe_base.specs.Names.{name_cmp};
 ghost use Rattle.lethe_disk.specs.Disk.{HasCause};
 ghost use Rattle.lethe_disk.specs.Goes.{Goes};
 ghost use Rattle.lethe_stored.specs.Stored.{Stored, IsCited};
-ghost use Rattle.lethe_base.specs.declared.name.Name as names;
+ghost use Rattle.lethe_base.specs.declared.name.Name as declared;
 ghost use Rattle.lethe_stored.specs.Encodes.{Encodes};
 ghost use Rattle.lethe_advance.specs.Settled.{IsSettled, HasOnly};
 
@@ -29,7 +29,7 @@ pub fn tidy<D: Disk>(
     cited: &BTreeSet<Name>,
 ) -> Result<(), DiskRefused>
     requires listed { D.tells → names.now ≡ keys (D.seen disk.old).directory }
-    requires settled { D.tells → (s : Stored) × IsSettled (D.seen disk.old) s × ((name : names.Name) → IsTrue (contains name_cmp cited.now name) ↔ IsCited s name) }
+    requires settled { D.tells → (s : Stored) × IsSettled (D.seen disk.old) s × ((name : declared.Name) → IsTrue (contains name_cmp cited.now name) ↔ IsCited s name) }
 
     // A crash at any moment of the call leaves what is stored as it was.
     ensures any_moment { D.tells → (s : Stored) → IsSettled (D.seen disk.old) s → Goes (λ c. Encodes c s) (D.seen disk.old) (D.seen disk.new) }
