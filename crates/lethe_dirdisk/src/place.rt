@@ -5,10 +5,16 @@ use crate::listing::Listing;
 use crate::path::FolderPath;
 use lethe_base::Name;
 use std::alloc::{AllocError, Global};
-use std::fs::{self, File, OpenOptions};
+use std::fs::{self, DirBuilder, File, Metadata, OpenOptions};
 use std::io::{self, ErrorKind};
 use std::os::fd::AsRawFd;
-use std::os::unix::fs::FileExt;
+use std::os::unix::fs::{DirBuilderExt, FileExt, MetadataExt, OpenOptionsExt};
+
+/// Who may do what with a folder that is made: its owner everything, others nothing.
+const FOLDER_MODE: u32 = 0o700;
+
+/// The same of a file that is made.
+const FILE_MODE: u32 = 0o600;
 
 /// The way to a folder and to the files in it.
 #[derive(Drop)]
@@ -35,7 +41,10 @@ impl Place {
 
     /// The folder itself. It is made where it is missing.
     pub fn folder(&self) -> io::Result<File> {
-        match fs::create_dir(&self.rt, self.path.folder()) {
+        match DirBuilder::new()
+            .mode(FOLDER_MODE)
+            .create(&self.rt, self.path.folder())
+        {
             Err(error) if error.kind() != ErrorKind::AlreadyExists => Err(error),
             // With the slash behind it, nothing but a folder is opened.
             _ => File::open(&self.rt, self.path.folder()),
@@ -52,30 +61,52 @@ impl Place {
         Listing::of(&self.rt, alloc, self.path.folder())
     }
 
-    /// Makes a new file, and opens it for writing.
+    /// What stands under a name. A link isn't followed.
+    pub fn look(&mut self, name: Name) -> io::Result<Metadata> {
+        self.path.put_file(name);
+        fs::symlink_metadata(&self.rt, self.path.file())
+    }
+
+    /// Makes a new file, and opens it for writing. Where anything stands under the name, it fails.
     pub fn create(&mut self, name: Name) -> io::Result<File> {
         self.path.put_file(name);
-        beside_streams(File::create_new(&self.rt, self.path.file())?)
+        let file = OpenOptions::new()
+            .write(true)
+            .create_new(true)
+            .mode(FILE_MODE)
+            .open(&self.rt, self.path.file())?;
+        beside_streams(file)
     }
 
     pub fn open_to_write(&mut self, name: Name) -> io::Result<File> {
-        self.path.put_file(name);
-        beside_streams(
-            OpenOptions::new()
-                .write(true)
-                .open(&self.rt, self.path.file())?,
-        )
+        let (file, _) = self.open(name, OpenOptions::new().write(true))?;
+        Ok(file)
     }
 
     pub fn open_to_read(&mut self, name: Name) -> io::Result<File> {
-        self.path.put_file(name);
-        File::open(&self.rt, self.path.file())
+        let (file, _) = self.open(name, OpenOptions::new().read(true))?;
+        Ok(file)
+    }
+
+    // Opens what stands under a name, and tells its length. It is looked at first: the opening of a pipe would wait, that of a
+    // device may do something, and that of a link goes elsewhere. What has come in its place since isn't used.
+    fn open(&mut self, name: Name, options: &OpenOptions) -> io::Result<(File, u64)> {
+        let seen = self.look(name)?;
+        if !seen.is_file() {
+            return Err(ErrorKind::InvalidInput.into());
+        }
+        let file = beside_streams(options.open(&self.rt, self.path.file())?)?;
+        let opened = file.metadata()?;
+        if is_same(&seen, &opened) {
+            Ok((file, opened.len()))
+        } else {
+            Err(ErrorKind::InvalidInput.into())
+        }
     }
 
     /// The bytes of a file, in one read of its length.
     pub fn read(&mut self, alloc: Global, name: Name) -> io::Result<Vec<u8>> {
-        let file = self.open_to_read(name)?;
-        let len = file.metadata()?.len();
+        let (file, len) = self.open(name, OpenOptions::new().read(true))?;
         let mut bytes = vec![in alloc; 0; len as usize]?;
         file.read_exact_at(&mut bytes, 0)?;
         Ok(bytes)
@@ -85,6 +116,11 @@ impl Place {
         self.path.put_file(name);
         fs::remove_file(&self.rt, self.path.file())
     }
+}
+
+// Two looks met the same file or folder.
+fn is_same(one: &Metadata, other: &Metadata) -> bool {
+    one.dev() == other.dev() && one.ino() == other.ino()
 }
 
 // What is meant for a standard stream that was closed must not land in the file.
