@@ -1,9 +1,11 @@
 //! An open folder: its files, and what of them a sync has still to reach. It tells each error, and counts none.
-ghost use Rattle.std.specs.Prelude.{◌≡◌};
+ghost use Rattle.std.specs.Prelude.{◌≡◌, ◌≤◌, ◌<◌, ◌+◌, length, IfOk, IsErr, vec_len};
+ghost use Rattle.lethe_dirdisk.specs.Lengths.{longest};
 
+use crate::length::fits;
 use crate::place::Place;
 use lethe_base::Name;
-use std::alloc::{AllocError, Global};
+use std::alloc::Global;
 use std::fs::File;
 use std::io::{self, ErrorKind};
 use std::os::unix::fs::FileExt;
@@ -21,8 +23,6 @@ struct Current {
 #[derive(Drop)]
 pub struct Folder {
     place: Place,
-    // The folder itself, locked as long as it is open.
-    itself: File,
     current: Option<Current>,
     // The other files that were made or written since the last sync.
     changed: Vec<Name>,
@@ -34,10 +34,9 @@ pub struct Folder {
 
 impl Folder {
     /// A folder that is locked, with the names of its objects. Neither they nor their bytes need be on the disk yet.
-    pub fn new(place: Place, itself: File, names: Vec<Name>) -> Folder {
+    pub fn new(place: Place, names: Vec<Name>) -> Folder {
         Folder {
             place,
-            itself,
             current: None,
             changed: names,
             is_renamed: true,
@@ -45,13 +44,16 @@ impl Folder {
         }
     }
 
-    /// Where it is, for one who reads beside it.
-    pub fn place(&self, alloc: Global) -> Result<Place, AllocError> {
+    /// The same place, for one who reads beside it.
+    pub fn place(&self, alloc: Global) -> io::Result<Place> {
         self.place.copy(alloc)
     }
 
     /// Makes a file.
-    pub fn create(&mut self, name: Name, bytes: &[u8]) -> io::Result<()> {
+    pub fn create(&mut self, name: Name, bytes: &[u8]) -> io::Result<()>
+        ensures long { longest name.kind < length bytes.now → IsErr result }
+    {
+        fits(name, 0, bytes.len())?;
         self.put_aside()?;
         self.is_renamed = true;
         let file = self.place.create(name)?;
@@ -59,7 +61,10 @@ impl Folder {
     }
 
     /// Writes into a file.
-    pub fn write_at(&mut self, name: Name, at: u64, bytes: &[u8]) -> io::Result<()> {
+    pub fn write_at(&mut self, name: Name, at: u64, bytes: &[u8]) -> io::Result<()>
+        ensures long { longest name.kind < at + length bytes.now → IsErr result }
+    {
+        fits(name, at, bytes.len())?;
         match self.current.take() {
             Some(current) if current.name == name => self.write(name, current.file, bytes, at),
             other => {
@@ -122,6 +127,9 @@ impl Folder {
     }
 
     fn sync_changes(&mut self) -> io::Result<()> {
+        if self.is_renamed || !self.changed.is_empty() {
+            self.place.confirm()?;
+        }
         if let Some(current) = &mut self.current
             && current.is_changed
         {
@@ -132,7 +140,7 @@ impl Folder {
             self.place.open_to_read(name)?.sync_data()?;
         }
         if self.is_renamed {
-            self.itself.sync_all()?;
+            self.place.sync_names()?;
             self.is_renamed = false;
         }
         Ok(())
@@ -143,8 +151,10 @@ impl Folder {
         Ok(self.place.list(alloc)?.names)
     }
 
-    /// The bytes of a file.
-    pub fn read(&mut self, alloc: Global, name: Name) -> io::Result<Vec<u8>> {
+    /// The bytes of a file, up to the greatest length of its kind.
+    pub fn read(&mut self, alloc: Global, name: Name) -> io::Result<Vec<u8>>
+        ensures { IfOk result (λ bytes. vec_len bytes ≤ longest name.kind) }
+    {
         self.place.read(alloc, name)
     }
 

@@ -44,21 +44,16 @@ impl DirDisk {
     pub fn open(rt: &HostRuntime, alloc: Global, path: &str) -> Result<DirDisk, DirRefused>
         ensures { IfOk result (λ disk. disk ≡ 0) }
     {
-        let mut place = Place::new(rt, alloc, path)?;
-        let folder = place.folder()?;
-        if folder.try_lock().is_err() {
-            return Err(DirRefused::Folder);
-        }
+        let mut place = Place::open(rt, alloc, path)?;
+        place.lock()?;
         let listing = place.list(alloc)?;
         if listing.has_foreign {
             return Err(DirRefused::Foreign);
         }
         look_at_all(&mut place, &listing.names)?;
-        // A folder without a name may be new, and then its own name has still to be brought to the disk.
-        if listing.names.is_empty() {
-            place.parent()?.sync_all()?;
-        }
-        Ok(DirDisk::of(Folder::new(place, folder, listing.names)))
+        // The folder may be new, also where another process made it, and may have got another name.
+        place.sync_own_name()?;
+        Ok(DirDisk::of(Folder::new(place, listing.names)))
     }
 }
 

@@ -1,14 +1,16 @@
 //! Where a folder is, and what is asked of the system about it.
-ghost use Rattle.std.specs.Prelude.{◌≡◌};
+ghost use Rattle.std.specs.Prelude.{◌≡◌, ◌≤◌, IfOk, vec_len};
+ghost use Rattle.lethe_dirdisk.specs.Lengths.{longest};
 
+use crate::length::{longest_of, read_front};
 use crate::listing::Listing;
 use crate::path::FolderPath;
 use lethe_base::Name;
-use std::alloc::{AllocError, Global};
+use std::alloc::Global;
 use std::fs::{self, DirBuilder, File, Metadata, OpenOptions};
 use std::io::{self, ErrorKind};
 use std::os::fd::AsRawFd;
-use std::os::unix::fs::{DirBuilderExt, FileExt, MetadataExt, OpenOptionsExt};
+use std::os::unix::fs::{DirBuilderExt, MetadataExt, OpenOptionsExt};
 
 /// Who may do what with a folder that is made: its owner everything, others nothing.
 const FOLDER_MODE: u32 = 0o700;
@@ -16,45 +18,79 @@ const FOLDER_MODE: u32 = 0o700;
 /// The same of a file that is made.
 const FILE_MODE: u32 = 0o600;
 
-/// The way to a folder and to the files in it.
+/// A folder that is open, and the way to the files in it.
 #[derive(Drop)]
 pub struct Place {
     rt: HostRuntime,
+    // The folder itself.
+    itself: File,
     path: FolderPath,
+    // The path goes through the open folder, so it leads there whatever becomes of the folder's own path.
+    is_fixed: bool,
 }
 
 impl Place {
-    pub fn new(rt: &HostRuntime, alloc: Global, path: &str) -> Result<Place, AllocError> {
-        Ok(Place {
-            rt: *rt,
-            path: FolderPath::new(alloc, path)?,
-        })
-    }
-
-    /// One more way to the same folder.
-    pub fn copy(&self, alloc: Global) -> Result<Place, AllocError> {
-        Ok(Place {
-            rt: self.rt,
-            path: self.path.copy(alloc)?,
-        })
-    }
-
-    /// The folder itself. It is made where it is missing.
-    pub fn folder(&self) -> io::Result<File> {
+    /// The folder of a path. It is made where it is missing.
+    pub fn open(rt: &HostRuntime, alloc: Global, path: &str) -> io::Result<Place> {
+        let path = FolderPath::new(alloc, path)?;
         match DirBuilder::new()
             .mode(FOLDER_MODE)
-            .create(&self.rt, self.path.folder())
+            .create(rt, path.folder())
         {
             Err(error) if error.kind() != ErrorKind::AlreadyExists => Err(error),
-            // With the slash behind it, nothing but a folder is opened.
-            _ => File::open(&self.rt, self.path.folder()),
+            _ => Place::at(rt, alloc, path),
         }
     }
 
-    /// The folder that it lies in.
-    pub fn parent(&mut self) -> io::Result<File> {
+    /// The same folder, opened once more. What is locked isn't the new one.
+    pub fn copy(&self, alloc: Global) -> io::Result<Place> {
+        Place::at(&self.rt, alloc, self.path.copy(alloc)?)
+    }
+
+    // Where the system shows no open files under a path, the folder's own path stays the way.
+    fn at(rt: &HostRuntime, alloc: Global, path: FolderPath) -> io::Result<Place> {
+        // With the slash behind it, nothing but a folder is opened.
+        let itself = beside_streams(File::open(rt, path.folder())?)?;
+        let through = FolderPath::through(alloc, itself.as_raw_fd())?;
+        let is_fixed = match fs::metadata(rt, through.folder()) {
+            Ok(seen) => is_same(&seen, &itself.metadata()?),
+            Err(_) => false,
+        };
+        Ok(Place {
+            rt: *rt,
+            itself,
+            path: if is_fixed { through } else { path },
+            is_fixed,
+        })
+    }
+
+    /// Locks the folder as long as it is open. Where another one has it locked, it fails.
+    pub fn lock(&self) -> io::Result<()> {
+        Ok(self.itself.try_lock()?)
+    }
+
+    /// Brings the names in the folder to the disk.
+    pub fn sync_names(&self) -> io::Result<()> {
+        self.itself.sync_all()
+    }
+
+    /// Brings the folder's own name to the disk.
+    pub fn sync_own_name(&mut self) -> io::Result<()> {
         self.path.put_parent();
-        File::open(&self.rt, self.path.file())
+        beside_streams(File::open(&self.rt, self.path.file())?)?.sync_all()
+    }
+
+    /// Looks that the way leads to the folder still.
+    pub fn confirm(&self) -> io::Result<()> {
+        if self.is_fixed {
+            return Ok(());
+        }
+        let seen = fs::metadata(&self.rt, self.path.folder())?;
+        if is_same(&seen, &self.itself.metadata()?) {
+            Ok(())
+        } else {
+            Err(ErrorKind::NotFound.into())
+        }
     }
 
     pub fn list(&self, alloc: Global) -> io::Result<Listing> {
@@ -79,18 +115,18 @@ impl Place {
     }
 
     pub fn open_to_write(&mut self, name: Name) -> io::Result<File> {
-        let (file, _) = self.open(name, OpenOptions::new().write(true))?;
+        let (file, _) = self.open_file(name, OpenOptions::new().write(true))?;
         Ok(file)
     }
 
     pub fn open_to_read(&mut self, name: Name) -> io::Result<File> {
-        let (file, _) = self.open(name, OpenOptions::new().read(true))?;
+        let (file, _) = self.open_file(name, OpenOptions::new().read(true))?;
         Ok(file)
     }
 
     // Opens what stands under a name, and tells its length. It is looked at first: the opening of a pipe would wait, that of a
     // device may do something, and that of a link goes elsewhere. What has come in its place since isn't used.
-    fn open(&mut self, name: Name, options: &OpenOptions) -> io::Result<(File, u64)> {
+    fn open_file(&mut self, name: Name, options: &OpenOptions) -> io::Result<(File, u64)> {
         let seen = self.look(name)?;
         if !seen.is_file() {
             return Err(ErrorKind::InvalidInput.into());
@@ -104,12 +140,12 @@ impl Place {
         }
     }
 
-    /// The bytes of a file, in one read of its length.
-    pub fn read(&mut self, alloc: Global, name: Name) -> io::Result<Vec<u8>> {
-        let (file, len) = self.open(name, OpenOptions::new().read(true))?;
-        let mut bytes = vec![in alloc; 0; len as usize]?;
-        file.read_exact_at(&mut bytes, 0)?;
-        Ok(bytes)
+    /// The bytes of a file, up to the greatest length of its kind.
+    pub fn read(&mut self, alloc: Global, name: Name) -> io::Result<Vec<u8>>
+        ensures { IfOk result (λ bytes. vec_len bytes ≤ longest name.kind) }
+    {
+        let (file, len) = self.open_file(name, OpenOptions::new().read(true))?;
+        read_front(alloc, &file, len.min(longest_of(name.kind)) as usize)
     }
 
     pub fn remove(&mut self, name: Name) -> io::Result<()> {
