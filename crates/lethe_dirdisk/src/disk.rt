@@ -1,5 +1,5 @@
 //! The folder as a disk. It counts its errors, and tells nothing of what it holds.
-ghost use Rattle.std.specs.Prelude.{◌≡◌, ◌≤◌, ◌+◌, IsErrOf, Ok, IfOk, length, vec_len};
+ghost use Rattle.std.specs.Prelude.{◌≡◌, ◌<◌, ◌≤◌, ◌+◌, IsErr, IsErrOf, Ok, IfOk, length, vec_len};
 ghost use Rattle.lethe_disk.specs.Disk.{HasCause};
 ghost use Rattle.lethe_base.specs.Counts.{counted};
 ghost use Rattle.lethe_dirdisk.specs.Faults.{faults_after};
@@ -62,6 +62,7 @@ impl DirDisk {
 
     // The same of a call that never answers want of memory.
     fn tell_without_memory(&mut self, done: io::Result<()>) -> Result<(), DiskRefused>
+        ensures value { IfOk result (λ value. done ≡ Ok value) }
         ensures no_memory { IsErrOf result DiskRefused.NoMemory → ⊥ }
         ensures count { self.new ≡ faults_after result self.old }
         ensures cause { HasCause self.old self.new result }
@@ -98,6 +99,7 @@ impl Disk for DirDisk {
     ghost itself = { λ told _. absurd told };
 
     fn create(&mut self, name: Name, bytes: &[u8]) -> Result<(), DiskRefused>
+        ensures long { longest name.kind < length bytes.now → IsErr result }
         ensures count { self.new ≡ faults_after result self.old }
         ensures cause { HasCause self.old self.new result }
     {
@@ -106,6 +108,7 @@ impl Disk for DirDisk {
     }
 
     fn write_at(&mut self, name: Name, at: u64, bytes: &[u8]) -> Result<(), DiskRefused>
+        ensures long { longest name.kind < at + length bytes.now → IsErr result }
         ensures byte { length bytes.now ≡ 1 → IsErrOf result DiskRefused.NoMemory → ⊥ }
         ensures count { self.new ≡ faults_after result self.old }
         ensures cause { HasCause self.old self.new result }

@@ -5,7 +5,7 @@ ghost use Rattle.lethe_dirdisk.specs.Lengths.{longest};
 use crate::length::fits;
 use crate::place::Place;
 use lethe_base::Name;
-use std::alloc::Global;
+use std::alloc::{AllocError, Global};
 use std::fs::File;
 use std::io::{self, ErrorKind};
 use std::os::unix::fs::FileExt;
@@ -23,6 +23,8 @@ struct Current {
 #[derive(Drop)]
 pub struct Folder {
     place: Place,
+    // The names of the objects, ascending, where no file was made or removed since they were listed.
+    names: Option<Vec<Name>>,
     current: Option<Current>,
     // The other files that were made or written since the last sync.
     changed: Vec<Name>,
@@ -34,14 +36,15 @@ pub struct Folder {
 
 impl Folder {
     /// A folder that is locked, with the names of its objects. Neither they nor their bytes need be on the disk yet.
-    pub fn new(place: Place, names: Vec<Name>) -> Folder {
-        Folder {
+    pub fn new(place: Place, names: Vec<Name>) -> Result<Folder, AllocError> {
+        Ok(Folder {
             place,
+            changed: names.clone()?,
+            names: Some(names),
             current: None,
-            changed: names,
             is_renamed: true,
             is_torn: false,
-        }
+        })
     }
 
     /// The same place, for one who reads beside it.
@@ -55,6 +58,7 @@ impl Folder {
     {
         fits(name, 0, bytes.len())?;
         self.put_aside()?;
+        self.names = None;
         self.is_renamed = true;
         let file = self.place.create(name)?;
         self.write(name, file, bytes, 0)
@@ -106,6 +110,7 @@ impl Folder {
 
     /// Removes a file.
     pub fn remove(&mut self, name: Name) -> io::Result<()> {
+        self.names = None;
         self.is_renamed = true;
         self.place.remove(name)?;
         self.forget(name);
@@ -146,9 +151,15 @@ impl Folder {
         Ok(())
     }
 
-    /// The names of the objects, ascending.
-    pub fn names(&self, alloc: Global) -> io::Result<Vec<Name>> {
-        Ok(self.place.list(alloc)?.names)
+    /// The names of the objects, ascending. The folder is held, so it is listed again only behind a change.
+    pub fn names(&mut self, alloc: Global) -> io::Result<Vec<Name>> {
+        let names = match self.names.take() {
+            Some(names) => names,
+            None => self.place.list(alloc)?.names,
+        };
+        let copy: Result<_, _> = names.clone();
+        self.names = Some(names);
+        Ok(copy?)
     }
 
     /// The bytes of a file, up to the greatest length of its kind.

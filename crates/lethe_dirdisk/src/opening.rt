@@ -53,7 +53,7 @@ impl DirDisk {
         look_at_all(&mut place, &listing.names)?;
         // The folder may be new, also where another process made it, and may have got another name.
         place.sync_own_name()?;
-        Ok(DirDisk::of(Folder::new(place, listing.names)))
+        Ok(DirDisk::of(Folder::new(place, listing.names)?))
     }
 }
 
