@@ -93,7 +93,11 @@ impl Place {
         }
     }
 
+    /// The names in the folder. One that was removed isn't listed: the system would tell that it has none.
     pub fn list(&self, alloc: Global) -> io::Result<Listing> {
+        if self.itself.metadata()?.nlink() == 0 {
+            return Err(ErrorKind::NotFound.into());
+        }
         Listing::of(&self.rt, alloc, self.path.folder())
     }
 

@@ -180,6 +180,20 @@ fn a_folder_is_the_same_behind_a_rename(rt: HostRuntime) -> Result<(), Fail> {
 }
 
 #[test]
+fn a_removed_folder_is_a_fault(rt: HostRuntime) -> Result<(), Fail> {
+    const FOLDER: &str = "lethe_folder_removed";
+    let alloc = rt.alloc();
+    clear(&rt, FOLDER);
+    let mut disk = DirDisk::open(&rt, alloc, FOLDER)?;
+    clear(&rt, FOLDER);
+    assert_eq!(rt; disk.create(page(1), b"abc").err(), FAILED);
+    assert_eq!(rt; disk.names(alloc).err(), FAILED);
+    assert_eq!(rt; disk.faults(), 2);
+    assert!(rt; !fs::exists(&rt, FOLDER)?);
+    Ok(())
+}
+
+#[test]
 fn a_sparse_object_is_read_up_to_its_bound(rt: HostRuntime) -> Result<(), Fail> {
     const FOLDER: &str = "lethe_folder_sparse";
     const OBJECT: &str = "lethe_folder_sparse/p-00000000000000000001";
