@@ -1,8 +1,9 @@
 //! The folder as a disk. It counts its errors, and tells nothing of what it holds.
-ghost use Rattle.std.specs.Prelude.{◌≡◌, ◌≤◌, ◌+◌, IsErrOf, IfOk, length};
+ghost use Rattle.std.specs.Prelude.{◌≡◌, ◌<◌, ◌≤◌, ◌+◌, IsErr, IsErrOf, Ok, IfOk, length, vec_len};
 ghost use Rattle.lethe_disk.specs.Disk.{HasCause};
 ghost use Rattle.lethe_base.specs.Counts.{counted};
 ghost use Rattle.lethe_dirdisk.specs.Faults.{faults_after};
+ghost use Rattle.lethe_dirdisk.specs.Lengths.{longest};
 
 use crate::folder::Folder;
 use crate::page::{DirPage, DirPort};
@@ -48,6 +49,7 @@ impl DirDisk {
 
     // What a call answers. An error of the file system is counted.
     fn tell<T: Drop>(&mut self, done: io::Result<T>) -> Result<T, DiskRefused>
+        ensures value { IfOk result (λ value. done ≡ Ok value) }
         ensures count { self.new ≡ faults_after result self.old }
         ensures cause { HasCause self.old self.new result }
     {
@@ -60,6 +62,7 @@ impl DirDisk {
 
     // The same of a call that never answers want of memory.
     fn tell_without_memory(&mut self, done: io::Result<()>) -> Result<(), DiskRefused>
+        ensures value { IfOk result (λ value. done ≡ Ok value) }
         ensures no_memory { IsErrOf result DiskRefused.NoMemory → ⊥ }
         ensures count { self.new ≡ faults_after result self.old }
         ensures cause { HasCause self.old self.new result }
@@ -96,6 +99,7 @@ impl Disk for DirDisk {
     ghost itself = { λ told _. absurd told };
 
     fn create(&mut self, name: Name, bytes: &[u8]) -> Result<(), DiskRefused>
+        ensures long { longest name.kind < length bytes.now → IsErr result }
         ensures count { self.new ≡ faults_after result self.old }
         ensures cause { HasCause self.old self.new result }
     {
@@ -104,6 +108,7 @@ impl Disk for DirDisk {
     }
 
     fn write_at(&mut self, name: Name, at: u64, bytes: &[u8]) -> Result<(), DiskRefused>
+        ensures long { longest name.kind < at + length bytes.now → IsErr result }
         ensures byte { length bytes.now ≡ 1 → IsErrOf result DiskRefused.NoMemory → ⊥ }
         ensures count { self.new ≡ faults_after result self.old }
         ensures cause { HasCause self.old self.new result }
@@ -143,6 +148,7 @@ impl Disk for DirDisk {
     }
 
     fn read(&mut self, alloc: Global, name: Name) -> Result<Vec<u8>, DiskRefused>
+        ensures short { IfOk result (λ bytes. vec_len bytes ≤ longest name.kind) }
         ensures count { self.new ≡ faults_after result self.old }
         ensures cause { HasCause self.old self.new result }
     {
@@ -163,7 +169,11 @@ impl Disk for DirDisk {
         ensures fresh { IfOk result (λ port. (port.fetches.count ≡ 0) × (port.faults ≡ 0)) }
         ensures same { self.new ≡ self.old }
     {
-        Ok(DirPort::new(self.folder.place(alloc)?))
+        match self.folder.place(alloc) {
+            Ok(place) => Ok(DirPort::new(Some(place))),
+            Err(error) if is_no_memory(&error) => Err(NoMemory),
+            Err(_) => Ok(DirPort::new(None)),
+        }
     }
 
     fn fetch(alloc: Global, port: &mut DirPort, page: &DirPage) -> Result<Vec<u8>, DiskRefused>

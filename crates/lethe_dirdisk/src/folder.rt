@@ -1,6 +1,8 @@
 //! An open folder: its files, and what of them a sync has still to reach. It tells each error, and counts none.
-ghost use Rattle.std.specs.Prelude.{◌≡◌};
+ghost use Rattle.std.specs.Prelude.{◌≡◌, ◌≤◌, ◌<◌, ◌+◌, length, IfOk, IsErr, vec_len};
+ghost use Rattle.lethe_dirdisk.specs.Lengths.{longest};
 
+use crate::length::fits;
 use crate::place::Place;
 use lethe_base::Name;
 use std::alloc::{AllocError, Global};
@@ -21,8 +23,8 @@ struct Current {
 #[derive(Drop)]
 pub struct Folder {
     place: Place,
-    // The folder itself, locked as long as it is open.
-    itself: File,
+    // The names of the objects, ascending, where no file was made or removed since they were listed.
+    names: Option<Vec<Name>>,
     current: Option<Current>,
     // The other files that were made or written since the last sync.
     changed: Vec<Name>,
@@ -34,32 +36,39 @@ pub struct Folder {
 
 impl Folder {
     /// A folder that is locked, with the names of its objects. Neither they nor their bytes need be on the disk yet.
-    pub fn new(place: Place, itself: File, names: Vec<Name>) -> Folder {
-        Folder {
+    pub fn new(place: Place, names: Vec<Name>) -> Result<Folder, AllocError> {
+        Ok(Folder {
             place,
-            itself,
+            changed: names.clone()?,
+            names: Some(names),
             current: None,
-            changed: names,
             is_renamed: true,
             is_torn: false,
-        }
+        })
     }
 
-    /// Where it is, for one who reads beside it.
-    pub fn place(&self, alloc: Global) -> Result<Place, AllocError> {
+    /// The same place, for one who reads beside it.
+    pub fn place(&self, alloc: Global) -> io::Result<Place> {
         self.place.copy(alloc)
     }
 
     /// Makes a file.
-    pub fn create(&mut self, name: Name, bytes: &[u8]) -> io::Result<()> {
+    pub fn create(&mut self, name: Name, bytes: &[u8]) -> io::Result<()>
+        ensures long { longest name.kind < length bytes.now → IsErr result }
+    {
+        fits(name, 0, bytes.len())?;
         self.put_aside()?;
+        self.names = None;
         self.is_renamed = true;
         let file = self.place.create(name)?;
         self.write(name, file, bytes, 0)
     }
 
     /// Writes into a file.
-    pub fn write_at(&mut self, name: Name, at: u64, bytes: &[u8]) -> io::Result<()> {
+    pub fn write_at(&mut self, name: Name, at: u64, bytes: &[u8]) -> io::Result<()>
+        ensures long { longest name.kind < at + length bytes.now → IsErr result }
+    {
+        fits(name, at, bytes.len())?;
         match self.current.take() {
             Some(current) if current.name == name => self.write(name, current.file, bytes, at),
             other => {
@@ -101,6 +110,7 @@ impl Folder {
 
     /// Removes a file.
     pub fn remove(&mut self, name: Name) -> io::Result<()> {
+        self.names = None;
         self.is_renamed = true;
         self.place.remove(name)?;
         self.forget(name);
@@ -122,6 +132,9 @@ impl Folder {
     }
 
     fn sync_changes(&mut self) -> io::Result<()> {
+        if self.is_renamed || !self.changed.is_empty() {
+            self.place.confirm()?;
+        }
         if let Some(current) = &mut self.current
             && current.is_changed
         {
@@ -132,19 +145,27 @@ impl Folder {
             self.place.open_to_read(name)?.sync_data()?;
         }
         if self.is_renamed {
-            self.itself.sync_all()?;
+            self.place.sync_names()?;
             self.is_renamed = false;
         }
         Ok(())
     }
 
-    /// The names of the objects, ascending.
-    pub fn names(&self, alloc: Global) -> io::Result<Vec<Name>> {
-        Ok(self.place.list(alloc)?.names)
+    /// The names of the objects, ascending. The folder is held, so it is listed again only behind a change.
+    pub fn names(&mut self, alloc: Global) -> io::Result<Vec<Name>> {
+        let names = match self.names.take() {
+            Some(names) => names,
+            None => self.place.list(alloc)?.names,
+        };
+        let copy: Result<_, _> = names.clone();
+        self.names = Some(names);
+        Ok(copy?)
     }
 
-    /// The bytes of a file.
-    pub fn read(&mut self, alloc: Global, name: Name) -> io::Result<Vec<u8>> {
+    /// The bytes of a file, up to the greatest length of its kind.
+    pub fn read(&mut self, alloc: Global, name: Name) -> io::Result<Vec<u8>>
+        ensures { IfOk result (λ bytes. vec_len bytes ≤ longest name.kind) }
+    {
         self.place.read(alloc, name)
     }
 

@@ -5,6 +5,7 @@ mod disk;
 mod file_name;
 mod folder;
 mod laws;
+mod length;
 mod listing;
 mod opening;
 mod page;

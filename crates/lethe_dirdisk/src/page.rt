@@ -8,6 +8,7 @@ use crate::refusal::is_no_memory;
 use lethe_base::Name;
 use lethe_disk::{DiskRefused, Fetches};
 use std::alloc::Global;
+use std::io::{self, ErrorKind};
 
 /// A page of a folder: its name. Its file is opened at each fetch.
 #[derive(Drop)]
@@ -24,13 +25,14 @@ impl DirPage {
 /// A port of a folder.
 #[derive(Drop)]
 pub struct DirPort {
-    place: Place,
+    // None where the system didn't open the folder for it. Then each fetch fails.
+    place: Option<Place>,
     fetches: Fetches,
     faults: u64,
 }
 
 impl DirPort {
-    pub(crate) fn new(place: Place) -> DirPort
+    pub(crate) fn new(place: Option<Place>) -> DirPort
         ensures fetches { result.fetches.count ≡ 0 }
         ensures faults { result.faults ≡ 0 }
     {
@@ -53,13 +55,23 @@ impl DirPort {
         ensures counted { self.new.fetches.count ≡ self.old.fetches.count + 1 }
     {
         self.fetches = self.fetches.next();
-        match self.place.read(alloc, page.name) {
+        match self.read(alloc, page.name) {
             Ok(bytes) => Ok(bytes),
             Err(error) if is_no_memory(&error) => Err(DiskRefused::NoMemory),
             Err(_) => {
                 self.faults = self.faults.saturating_add(1);
                 Err(DiskRefused::Failed)
             }
+        }
+    }
+
+    fn read(&mut self, alloc: Global, name: Name) -> io::Result<Vec<u8>>
+        ensures faults { self.new.faults ≡ self.old.faults }
+        ensures fetches { self.new.fetches.count ≡ self.old.fetches.count }
+    {
+        match &mut self.place {
+            Some(place) => place.read(alloc, name),
+            None => Err(ErrorKind::NotFound.into()),
         }
     }
 }

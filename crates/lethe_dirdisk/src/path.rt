@@ -25,6 +25,11 @@ impl FolderPath {
         FolderPath::of(alloc, folder)
     }
 
+    /// The path of a folder that is open under a number, as the system shows it. It leads to that folder wherever this lies.
+    pub fn through(alloc: Global, number: i32) -> Result<FolderPath, AllocError> {
+        FolderPath::of(alloc, format!(in alloc; "/proc/self/fd/{number}/")?)
+    }
+
     fn of(alloc: Global, folder: String) -> Result<FolderPath, AllocError>
         ensures { IfOk result (λ path. string_bytes path.folder ≡ string_bytes folder) }
     {
