@@ -2,8 +2,6 @@
 #![tactic(auto)]
 
 #[cfg(test)]
-mod appends;
-#[cfg(test)]
 mod copies;
 #[cfg(test)]
 mod faults;
@@ -18,8 +16,6 @@ mod journal;
 #[cfg(test)]
 mod levels;
 #[cfg(test)]
-mod loads;
-#[cfg(test)]
 mod options;
 #[cfg(test)]
 mod refusals;
@@ -27,7 +23,5 @@ mod refusals;
 mod run;
 #[cfg(test)]
 mod scripts;
-#[cfg(test)]
-mod switches;
 #[cfg(test)]
 mod unopened;

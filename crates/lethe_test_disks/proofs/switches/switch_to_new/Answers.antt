@@ -9,7 +9,7 @@ use Rattle.lethe_commit.specs.Clear.{ArePresent}
 use Rattle.lethe_commit.specs.Gates.{gate_name}
 use Rattle.lethe_commit.specs.Switch.{manifest_name, IsFree}
 use Rattle.lethe_commit.proofs.Placing.{manifest≢gate}
-use Rattle.lethe_rows.proofs.switches.switch_to_new.Goals as goal
+use Rattle.lethe_test_disks.proofs.switches.switch_to_new.Goals as goal
 
 both_made : (old : Directory) (bytes : List ℕ) → ArePresent (gate_name 2 ∷ manifest_name 2 ∷ []) (insert (insert old (manifest_name 2) bytes) (gate_name 2) [])
 both_made old bytes =

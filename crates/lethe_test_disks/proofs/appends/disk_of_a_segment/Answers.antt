@@ -9,8 +9,8 @@ use Rattle.lethe_memdisk.specs.Effects.{Created, Synced}
 use Rattle.lethe_memdisk.specs.Held.{Held, seen_of, fresh, taken}
 use Rattle.lethe_segment.specs.Segments.{head_bytes, segment_bytes}
 use Rattle.lethe_commit.specs.Append.{EndsAt}
-use Rattle.lethe_rows.specs.declared.appends.TheConstants.{SEGMENT}
-use Rattle.lethe_rows.proofs.appends.disk_of_a_segment.Goals as goal
+use Rattle.lethe_test_disks.specs.declared.appends.TheConstants.{SEGMENT}
+use Rattle.lethe_test_disks.proofs.appends.disk_of_a_segment.Goals as goal
 
 abbrev third : Name
 third = record { kind = Segment; no = 3 }

@@ -5,7 +5,7 @@ use Rattle.lethe_disk.specs.Directory.{object}
 use Rattle.lethe_memdisk.specs.Held.{seen_of, fresh}
 use Rattle.lethe_commit.specs.Gates.{gate_name}
 use Rattle.lethe_commit.specs.Switch.{manifest_name, IsFree}
-use Rattle.lethe_rows.proofs.switches.empty_disk.Goals as goal
+use Rattle.lethe_test_disks.proofs.switches.empty_disk.Goals as goal
 
 free_fresh : (failing : List ℕ) → IsFree (seen_of (fresh empty 20 failing)) 2 None
 free_fresh failing = record {

@@ -6,9 +6,10 @@ ghost use Rattle.lethe_commit.specs.Clear.{ArePresent};
 ghost use Rattle.lethe_commit.specs.Gates.{gate_name};
 ghost use Rattle.lethe_commit.specs.Switch.{manifest_name, IsFree};
 
-use lethe_base::{Config, Fields, Kind, List, Name, Pick};
+use crate::common::{SMALL, count_objects, crashed};
+use lethe_base::{Config, Kind, List, Name};
 use lethe_commit::{clear, switch};
-use lethe_disk::{Disk, DiskRefused};
+use lethe_disk::DiskRefused;
 use lethe_manifest::Manifest;
 use lethe_memdisk::MemDisk;
 use std::alloc::Global;
@@ -27,19 +28,9 @@ fn new_store(alloc: Global) -> Result<Manifest, Fail>
     ensures spelled { IfOk result HasSpelling }
     ensures number { IfOk result (λ manifest. manifest.no ≡ 2) }
 {
-    let fields = Fields {
-        threshold: 100,
-        ratio: 2,
-        levels: 2,
-        page: 2,
-        tile: 2,
-        file: 2,
-        buffer: 4,
-        pick: Pick::So,
-    };
     Ok(Manifest {
         no: 2,
-        config: Config::new(fields).ok().ok_or("a configuration")?,
+        config: Config::new(SMALL).ok().ok_or("a configuration")?,
         clock: 0,
         count: 0,
         next: 3,
@@ -64,13 +55,16 @@ fn switch_to_new(alloc: Global, disk: &mut MemDisk) -> Result<bool, Fail>
     }
 }
 
-// How many objects there are.
-fn count(alloc: Global, disk: &mut MemDisk) -> Result<usize, Fail> {
-    let Ok(names) = disk.names(alloc) else {
-        return Err(Fail::new("names"));
-    };
-    Ok(names.len())
-}
+/// How many calls are done before a crash, whether it keeps what was created, and how many objects it leaves.
+const IMAGES: [(u64, bool, usize); 7] = [
+    (1, true, 0),
+    (2, false, 0),
+    (2, true, 1),
+    (3, false, 1),
+    (4, false, 1),
+    (4, true, 2),
+    (5, false, 2),
+];
 
 #[test]
 fn a_switch_that_a_crash_cuts_short_counts_from_its_gate_on(rt: HostRuntime) -> Result<(), Fail> {
@@ -79,52 +73,47 @@ fn a_switch_that_a_crash_cuts_short_counts_from_its_gate_on(rt: HostRuntime) -> 
     if !switch_to_new(alloc, &mut disk)? {
         return Err(Fail::new("a switch"));
     }
-    let images = [
-        (1, true, 0),
-        (2, false, 0),
-        (2, true, 1),
-        (3, false, 1),
-        (4, false, 1),
-        (4, true, 2),
-        (5, false, 2),
-    ];
-    for (calls, keep, objects) in images {
-        let mut left = disk.crash(calls.min(5), 0, keep)?;
-        assert_eq!(rt; count(alloc, &mut left)?, objects);
+    for (calls, keep, objects) in IMAGES {
+        let mut left = crashed(&disk, calls.min(5), 0, keep)?;
+        assert_eq!(rt; count_objects(alloc, &mut left)?, objects);
     }
     Ok(())
 }
 
+const GATE: Name = Name {
+    kind: Kind::Gate,
+    no: 2,
+};
+
+const MANIFEST: Name = Name {
+    kind: Kind::Manifest,
+    no: 2,
+};
+
+/// The number of the call that fails, whether the switch and the clear are done, and how many objects there are then.
+const FAILURES: [(u64, bool, bool, usize); 9] = [
+    (1, false, false, 0),
+    (2, false, false, 0),
+    (3, false, false, 1),
+    (4, false, false, 1),
+    (5, false, false, 2),
+    (6, true, false, 2),
+    (7, true, false, 1),
+    (8, true, false, 0),
+    (10, true, true, 0),
+];
+
 #[test]
 fn a_switch_and_a_clear_fail_where_the_disk_does(rt: HostRuntime) -> Result<(), Fail> {
     let alloc = rt.alloc();
-    let gate = Name {
-        kind: Kind::Gate,
-        no: 2,
-    };
-    let manifest = Name {
-        kind: Kind::Manifest,
-        no: 2,
-    };
-    let rows = [
-        (1, false, false, 0),
-        (2, false, false, 0),
-        (3, false, false, 1),
-        (4, false, false, 1),
-        (5, false, false, 2),
-        (6, true, false, 2),
-        (7, true, false, 1),
-        (8, true, false, 0),
-        (10, true, true, 0),
-    ];
-    for (failing, switched, cleared, objects) in rows {
+    for (failing, switched, cleared, objects) in FAILURES {
         let mut disk = empty_disk(alloc, vec![in alloc; failing]?)?;
         let done = switch_to_new(alloc, &mut disk)?;
         assert_eq!(rt; done, switched);
         if done {
-            assert_eq!(rt; clear(&mut disk, &[gate, manifest]).is_ok(), cleared);
+            assert_eq!(rt; clear(&mut disk, &[GATE, MANIFEST]).is_ok(), cleared);
         }
-        assert_eq!(rt; count(alloc, &mut disk)?, objects);
+        assert_eq!(rt; count_objects(alloc, &mut disk)?, objects);
     }
     Ok(())
 }

@@ -6,6 +6,7 @@ ghost use Rattle.lethe_memdisk.specs.Held.{seen_of, calls_of};
 ghost use Rattle.lethe_segment.specs.Records.{RecordHasSpelling, record_seq};
 ghost use Rattle.lethe_commit.specs.Append.{EndsAt};
 
+use crate::common::crashed;
 use lethe_base::{Body, Entry, Key, Kind, Name, Value};
 use lethe_commit::append;
 use lethe_disk::{Disk, DiskRefused};
@@ -80,6 +81,17 @@ fn count(alloc: Global, disk: &mut MemDisk) -> Result<usize, Fail>
     Ok(records.len())
 }
 
+/// How many calls of the append are done before a crash, what fills a byte that was being written, and how many records are left.
+const IMAGES: [(u64, u8, usize); 7] = [
+    (0, 1, 0),
+    (1, 1, 0),
+    (2, 1, 0),
+    (3, 0, 0),
+    (3, 7, 0),
+    (3, 1, 1),
+    (4, 0, 1),
+];
+
 #[test]
 fn an_append_that_a_crash_cuts_short_counts_from_its_gate_on(rt: HostRuntime) -> Result<(), Fail> {
     let alloc = rt.alloc();
@@ -87,33 +99,26 @@ fn an_append_that_a_crash_cuts_short_counts_from_its_gate_on(rt: HostRuntime) ->
     if !append_one(alloc, &mut disk, &first_put(alloc)?)? {
         return Err(Fail::new("an append"));
     }
-    let images = [
-        (0, 1, 0),
-        (1, 1, 0),
-        (2, 1, 0),
-        (3, 0, 0),
-        (3, 7, 0),
-        (3, 1, 1),
-        (4, 0, 1),
-    ];
-    for (calls, fill, records) in images {
-        let mut left = disk.crash(2 + calls.min(4), fill, true)?;
+    for (calls, fill, records) in IMAGES {
+        let mut left = crashed(&disk, 2 + calls.min(4), fill, true)?;
         assert_eq!(rt; count(alloc, &mut left)?, records);
     }
     Ok(())
 }
 
+/// The number of the call that fails, whether the append is done, and how many records there are then.
+const FAILURES: [(u64, bool, usize); 5] = [
+    (3, false, 0),
+    (4, false, 0),
+    (5, false, 0),
+    (6, false, 1),
+    (8, true, 1),
+];
+
 #[test]
 fn an_append_fails_where_the_disk_does(rt: HostRuntime) -> Result<(), Fail> {
     let alloc = rt.alloc();
-    let rows = [
-        (3, false, 0),
-        (4, false, 0),
-        (5, false, 0),
-        (6, false, 1),
-        (8, true, 1),
-    ];
-    for (failing, done, records) in rows {
+    for (failing, done, records) in FAILURES {
         let mut disk = disk_of_a_segment(alloc, vec![in alloc; failing]?)?;
         let put = first_put(alloc)?;
         assert_eq!(rt; append_one(alloc, &mut disk, &put)?, done);

@@ -7,8 +7,8 @@ use Rattle.lethe_memdisk.specs.Images.{directory_image}
 use Rattle.lethe_segment.specs.declared.record.Record.{Record}
 use Rattle.lethe_segment.specs.Records.{record_bytes, record_seq, RecordHasSpelling}
 use Rattle.lethe_commit.specs.Append.{Addition, EndsAt, IsReady, HasRecords, IsAppended}
-use Rattle.lethe_rows.specs.declared.appends.TheConstants.{SEGMENT}
-use Rattle.lethe_rows.proofs.appends.append_one.Goals as goal
+use Rattle.lethe_test_disks.specs.declared.appends.TheConstants.{SEGMENT}
+use Rattle.lethe_test_disks.proofs.appends.append_one.Goals as goal
 
 abbrev first : Record → Addition
 first r = record { number = 3; records = []; next = r }

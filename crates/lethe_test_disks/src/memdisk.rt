@@ -1,0 +1,315 @@
+//! A disk in memory: what its calls answer, where they fail, and what a crash leaves.
+ghost use Rattle.std.specs.Prelude.{◌≡◌, ◌≤◌, ◌+◌, IfOk};
+ghost use Rattle.lethe_memdisk.specs.Held.{calls_of};
+
+use crate::common::{crashed, has};
+use lethe_base::{Kind, Name};
+use lethe_disk::{Disk, DiskRefused};
+use lethe_memdisk::{FlakyDisk, MemDisk, MemPage};
+use std::alloc::Global;
+use std::test::Fail;
+
+const FAILED: &[u8] = b"failed";
+
+/// A step. Before an object is created, written, removed or read, it is looked up, which takes a device call. A write reads what
+/// it is to change, which takes one more.
+#[derive(Clone, Copy)]
+enum Step {
+    Create(u64, &'static [u8]),
+    Write(u64, u64, &'static [u8]),
+    Remove(u64),
+    Sync,
+    Names,
+    Read(u64),
+}
+
+/// What a step answers, the bytes that are read or the numbers of the names, and how many device calls it took at least.
+#[derive(Drop)]
+struct Answer {
+    calls: u64,
+    bytes: Vec<u8>,
+}
+
+fn file(no: u64) -> Name {
+    Name {
+        kind: Kind::File,
+        no,
+    }
+}
+
+// Each of these answers how many calls it took. A call that may not be asked for is left out.
+
+fn create(alloc: Global, disk: &mut MemDisk, name: Name, bytes: &[u8]) -> Result<u64, DiskRefused>
+    ensures { IfOk result (λ calls. calls_of disk.old + calls ≤ calls_of disk.new) }
+{
+    if has(alloc, disk, name)? {
+        return Ok(1);
+    }
+    disk.create(name, bytes)?;
+    Ok(2)
+}
+
+fn write(
+    alloc: Global,
+    disk: &mut MemDisk,
+    name: Name,
+    at: u64,
+    bytes: &[u8],
+) -> Result<u64, DiskRefused>
+    ensures { IfOk result (λ calls. calls_of disk.old + calls ≤ calls_of disk.new) }
+{
+    if !has(alloc, disk, name)? {
+        return Ok(1);
+    }
+    let old = disk.read(alloc, name)?;
+    if at > old.len() as u64 {
+        return Ok(2);
+    }
+    disk.write_at(name, at, bytes)?;
+    Ok(3)
+}
+
+fn remove(alloc: Global, disk: &mut MemDisk, name: Name) -> Result<u64, DiskRefused>
+    ensures { IfOk result (λ calls. calls_of disk.old + calls ≤ calls_of disk.new) }
+{
+    if !has(alloc, disk, name)? {
+        return Ok(1);
+    }
+    disk.remove(name)?;
+    Ok(2)
+}
+
+fn read(alloc: Global, disk: &mut MemDisk, name: Name) -> Result<Answer, DiskRefused>
+    ensures { IfOk result (λ answer. calls_of disk.old + answer.calls ≤ calls_of disk.new) }
+{
+    if !has(alloc, disk, name)? {
+        return Ok(Answer {
+            calls: 1,
+            bytes: Vec::new(alloc),
+        });
+    }
+    let bytes = disk.read(alloc, name)?;
+    Ok(Answer { calls: 2, bytes })
+}
+
+fn sync(disk: &mut MemDisk) -> Result<u64, DiskRefused>
+    ensures { IfOk result (λ calls. calls_of disk.old + calls ≤ calls_of disk.new) }
+{
+    disk.sync()?;
+    Ok(1)
+}
+
+fn numbers(alloc: Global, disk: &mut MemDisk) -> Result<Answer, DiskRefused>
+    ensures { IfOk result (λ answer. calls_of disk.old + answer.calls ≤ calls_of disk.new) }
+{
+    let names = disk.names(alloc)?;
+    let mut bytes = Vec::new(alloc);
+    for name in names {
+        bytes.push((name.no % 256) as u8)?;
+    }
+    Ok(Answer { calls: 1, bytes })
+}
+
+fn carry_out(alloc: Global, disk: &mut MemDisk, step: Step) -> Result<Answer, DiskRefused>
+    ensures { IfOk result (λ answer. calls_of disk.old + answer.calls ≤ calls_of disk.new) }
+{
+    let calls = match step {
+        Step::Create(no, bytes) => create(alloc, disk, file(no), bytes)?,
+        Step::Write(no, at, bytes) => write(alloc, disk, file(no), at, bytes)?,
+        Step::Remove(no) => remove(alloc, disk, file(no))?,
+        Step::Sync => sync(disk)?,
+        Step::Names => return numbers(alloc, disk),
+        Step::Read(no) => return read(alloc, disk, file(no)),
+    };
+    Ok(Answer {
+        calls,
+        bytes: Vec::new(alloc),
+    })
+}
+
+// What the step answers, or that it failed.
+fn take(alloc: Global, disk: &mut MemDisk, step: Step) -> Result<Vec<u8>, Fail> {
+    match carry_out(alloc, disk, step) {
+        Ok(answer) => Ok(answer.bytes),
+        Err(DiskRefused::Failed) => Ok(FAILED.to_vec(alloc)?),
+        Err(DiskRefused::NoMemory) => Err(Fail::new("no memory")),
+    }
+}
+
+// Takes the steps, of which none is to fail or to read, and tells how many device calls there were.
+fn take_all(alloc: Global, disk: &mut MemDisk, steps: &[Step]) -> Result<u64, Fail>
+    ensures { IfOk result (λ calls. calls_of disk.old + calls ≤ calls_of disk.new) }
+{
+    let mut calls = 0_u64;
+    for step in steps {
+        match carry_out(alloc, disk, *step) {
+            Ok(answer) if answer.bytes.is_empty() => calls = calls.saturating_add(answer.calls),
+            _ => return Err(Fail::new("a step")),
+        }
+    }
+    Ok(calls)
+}
+
+/// Steps, and what each answers. The third one's write is the call 7, and the last one's read has no room.
+const ANSWERS: [(Step, &[u8]); 12] = [
+    (Step::Create(7, b"abc"), b""),
+    (Step::Create(2, b""), b""),
+    (Step::Write(7, 1, b"XYZ"), FAILED),
+    (Step::Write(7, 1, b"XYZ"), b""),
+    (Step::Write(7, 0, b"A"), b""),
+    (Step::Read(7), b"AXYZ"),
+    (Step::Names, &[2, 7]),
+    (Step::Sync, b""),
+    (Step::Remove(2), b""),
+    (Step::Names, &[7]),
+    (Step::Write(7, 4, b"!"), b""),
+    (Step::Read(7), FAILED),
+];
+
+#[test]
+fn each_call_answers_and_fails_where_it_is_told(rt: HostRuntime) -> Result<(), Fail> {
+    let alloc = rt.alloc();
+    let mut disk = MemDisk::new(alloc, 24, vec![in alloc; 7]?)?;
+    for (step, want) in ANSWERS {
+        let got = take(alloc, &mut disk, step)?;
+        assert_eq!(rt; got.as_slice(), want);
+    }
+    assert_eq!(rt; disk.faults(), 2);
+    assert!(rt; !disk.swap(file(2), Vec::new(alloc)));
+    assert!(rt; disk.swap(file(7), b"new".to_vec(alloc)?));
+    assert_eq!(rt; take(alloc, &mut disk, Step::Read(7))?.as_slice(), FAILED);
+    let mut fused = MemDisk::new(alloc, 9, Vec::new(alloc))?;
+    fused.fuse(2);
+    for want in [b"".as_slice(), b"", FAILED, FAILED] {
+        assert_eq!(rt; take(alloc, &mut fused, Step::Names)?.as_slice(), want);
+    }
+    Ok(())
+}
+
+/// Steps of 16 device calls: up to the call of that number is done.
+const STEPS: [Step; 8] = [
+    Step::Create(1, b"abc"),
+    Step::Create(2, b"de"),
+    Step::Sync,
+    Step::Write(1, 2, b"XYZ"),
+    Step::Write(1, 0, b"A"),
+    Step::Remove(2),
+    Step::Create(3, b"new"),
+    Step::Sync,
+];
+
+/// The moment of a crash behind one of these steps, whether it keeps what was created and removed, and the names and the bytes of
+/// the object 1 that it leaves.
+const IMAGES: [(u64, bool, &[u8], &[u8]); 8] = [
+    (0, true, &[], b""),
+    (2, false, &[], b""),
+    (4, true, &[1, 2], b"..."),
+    (5, true, &[1, 2], b"abc"),
+    (11, true, &[1, 2], b".b..."),
+    (15, true, &[1, 3], b".b..."),
+    (15, false, &[1, 2], b".b..."),
+    (16, false, &[1, 3], b"AbXYZ"),
+];
+
+#[test]
+fn a_crash_leaves_what_was_synced(rt: HostRuntime) -> Result<(), Fail> {
+    let alloc = rt.alloc();
+    let mut disk = MemDisk::new(alloc, 20, Vec::new(alloc))?;
+    let calls = take_all(alloc, &mut disk, &STEPS)?;
+    assert_eq!(rt; calls, 16);
+    for (moment, keep, names, bytes) in IMAGES {
+        let mut left = crashed(&disk, moment.min(calls), b'.', keep)?;
+        assert_eq!(rt; take(alloc, &mut left, Step::Names)?.as_slice(), names);
+        assert_eq!(rt; take(alloc, &mut left, Step::Read(1))?.as_slice(), bytes);
+    }
+    Ok(())
+}
+
+fn page(no: u64) -> Name
+    ensures { result.kind ≡ Kind.Page }
+{
+    Name {
+        kind: Kind::Page,
+        no,
+    }
+}
+
+// None where there is no such page. It takes a device call to find that, and one more to open it.
+fn open(alloc: Global, disk: &mut MemDisk, no: u64) -> Result<Option<MemPage>, DiskRefused> {
+    let name = page(no);
+    if !has(alloc, disk, name)? {
+        return Ok(None);
+    }
+    Ok(Some(disk.open_page(alloc, name)?))
+}
+
+fn fetch_twice<D: Disk>(
+    alloc: Global,
+    port: &mut D::Port,
+    page: &D::Page,
+) -> Result<Vec<u8>, DiskRefused>
+    ensures { D.fetches port.new ≡ D.fetches port.old + 2 }
+{
+    let first = D::fetch(alloc, port, page);
+    let second = D::fetch(alloc, port, page)?;
+    if first? == second {
+        Ok(second)
+    } else {
+        Ok(Vec::new(alloc))
+    }
+}
+
+#[test]
+fn a_page_keeps_the_bytes_that_it_had(rt: HostRuntime) -> Result<(), Fail> {
+    let alloc = rt.alloc();
+    // The call that opens the page for the first time fails.
+    let mut disk = MemDisk::new(alloc, 12, vec![in alloc; 5]?)?;
+    let name = page(1);
+    assert_eq!(rt; create(alloc, &mut disk, name, b"abc")?, 2);
+    assert!(rt; open(alloc, &mut disk, 2)?.is_none());
+    let failed = open(alloc, &mut disk, 1).err();
+    assert_eq!(rt; failed, Some(DiskRefused::Failed));
+    let old = open(alloc, &mut disk, 1)?.ok_or("a page")?;
+    assert!(rt; disk.swap(name, b"new".to_vec(alloc)?));
+    let new = open(alloc, &mut disk, 1)?.ok_or("a page")?;
+    assert_eq!(rt; remove(alloc, &mut disk, name)?, 2);
+    assert!(rt; open(alloc, &mut disk, 1)?.is_none());
+    let mut port = disk.port(alloc)?;
+    for (page, want) in [(&old, b"abc".as_slice()), (&new, b"new"), (&old, b"abc")] {
+        let got = fetch_twice::<MemDisk>(alloc, &mut port, page)?;
+        assert_eq!(rt; got.as_slice(), want);
+    }
+    assert_eq!(rt; MemDisk::port_faults(&port), 0);
+    assert_eq!(rt; disk.faults(), 1);
+    Ok(())
+}
+
+/// What the fetches of a port give, and how often it has failed by then.
+const FETCHES: [(&[u8], u64); 4] = [(b"abc", 0), (FAILED, 1), (FAILED, 2), (b"abc", 2)];
+
+#[test]
+fn each_port_fails_at_the_fetches_that_it_is_told(rt: HostRuntime) -> Result<(), Fail> {
+    let alloc = rt.alloc();
+    let mut disk = MemDisk::new(alloc, 5, Vec::new(alloc))?;
+    assert_eq!(rt; create(alloc, &mut disk, page(1), b"abc")?, 2);
+    let page = open(alloc, &mut disk, 1)?.ok_or("a page")?;
+    let mut flaky = FlakyDisk::new(disk, vec![in alloc; 2, 3]?);
+    for _ in 0..2 {
+        let mut port = flaky.port(alloc)?;
+        for (want, faults) in FETCHES {
+            let got = match FlakyDisk::fetch(alloc, &mut port, &page) {
+                Ok(bytes) => bytes,
+                Err(_) => FAILED.to_vec(alloc)?,
+            };
+            assert_eq!(rt; got.as_slice(), want);
+            assert_eq!(rt; FlakyDisk::port_faults(&port), faults);
+        }
+    }
+    assert_eq!(rt; flaky.faults(), 0);
+    let mut inner = flaky.into_inner();
+    assert_eq!(rt;
+        take(alloc, &mut inner, Step::Names)?.as_slice(),
+        [1].as_slice()
+    );
+    Ok(())
+}
