@@ -1,12 +1,12 @@
 //! Appends to a disk in memory, and what a crash leaves of them.
-ghost use Rattle.std.specs.Prelude.{◌≡◌, ◌<◌, ◌+◌, [], Some, IfOk, IsTrue, IsSome};
+ghost use Rattle.std.specs.Prelude.{◌≡◌, ◌≤◌, ◌<◌, ◌+◌, [], Some, IfOk, IsTrue, IsSome};
 ghost use Rattle.lethe_disk.specs.Directory.{object};
 ghost use Rattle.lethe_disk.specs.Runs.{Throughout};
 ghost use Rattle.lethe_memdisk.specs.Held.{seen_of, calls_of};
 ghost use Rattle.lethe_segment.specs.Records.{RecordHasSpelling, record_seq};
 ghost use Rattle.lethe_commit.specs.Append.{EndsAt};
 
-use crate::common::crashed;
+use crate::common::{crashed, has};
 use lethe_base::{Body, Entry, Key, Kind, Name, Value};
 use lethe_commit::append;
 use lethe_disk::{Disk, DiskRefused};
@@ -92,16 +92,34 @@ const IMAGES: [(u64, u8, usize); 7] = [
     (4, 0, 1),
 ];
 
-#[test]
-fn an_append_that_a_crash_cuts_short_counts_from_its_gate_on(rt: HostRuntime) -> Result<(), Fail> {
-    let alloc = rt.alloc();
+// A disk behind such an append.
+fn appended(alloc: Global) -> Result<MemDisk, Fail>
+    ensures { IfOk result (λ disk. calls_of disk ≡ 6) }
+{
     let mut disk = disk_of_a_segment(alloc, Vec::new(alloc))?;
     if !append_one(alloc, &mut disk, &first_put(alloc)?)? {
         return Err(Fail::new("an append"));
     }
+    Ok(disk)
+}
+
+// How many records a crash leaves.
+fn count_left(alloc: Global, disk: &MemDisk, moment: u64, fill: u8) -> Result<usize, Fail>
+    requires { moment ≤ calls_of disk.now }
+{
+    let mut left = crashed(disk, moment, fill, true)?;
+    if !has(alloc, &mut left, SEGMENT)? {
+        return Err(Fail::new("a segment"));
+    }
+    count(alloc, &mut left)
+}
+
+#[test]
+fn an_append_that_a_crash_cuts_short_counts_from_its_gate_on(rt: HostRuntime) -> Result<(), Fail> {
+    let disk = appended(rt.alloc())?;
     for (calls, fill, records) in IMAGES {
-        let mut left = crashed(&disk, 2 + calls.min(4), fill, true)?;
-        assert_eq!(rt; count(alloc, &mut left)?, records);
+        let left = count_left(rt.alloc(), &disk, 2 + calls.min(4), fill)?;
+        assert_eq!(rt; left, records);
     }
     Ok(())
 }
@@ -115,14 +133,17 @@ const FAILURES: [(u64, bool, usize); 5] = [
     (8, true, 1),
 ];
 
+// Whether the append is done, and how many records there are then, where this call fails.
+fn append_failing(alloc: Global, failing: u64) -> Result<(bool, usize), Fail> {
+    let mut disk = disk_of_a_segment(alloc, vec![in alloc; failing]?)?;
+    let done = append_one(alloc, &mut disk, &first_put(alloc)?)?;
+    Ok((done, count(alloc, &mut disk)?))
+}
+
 #[test]
 fn an_append_fails_where_the_disk_does(rt: HostRuntime) -> Result<(), Fail> {
-    let alloc = rt.alloc();
     for (failing, done, records) in FAILURES {
-        let mut disk = disk_of_a_segment(alloc, vec![in alloc; failing]?)?;
-        let put = first_put(alloc)?;
-        assert_eq!(rt; append_one(alloc, &mut disk, &put)?, done);
-        assert_eq!(rt; count(alloc, &mut disk)?, records);
+        assert_eq!(rt; append_failing(rt.alloc(), failing)?, (done, records));
     }
     Ok(())
 }

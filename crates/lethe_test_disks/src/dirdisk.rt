@@ -1,10 +1,12 @@
 //! A folder as a disk: its calls on a real folder, and the names of its files.
 
 use lethe_base::{Kind, Name};
-use lethe_dirdisk::{DirDisk, DirRefused, one_file_name, read_file_name, spell_file_name};
+use lethe_dirdisk::{DirDisk, DirPage, DirRefused, one_file_name, read_file_name, spell_file_name};
 use lethe_disk::{Disk, DiskRefused};
+use std::alloc::Global;
 use std::fs;
 use std::os::unix::fs::symlink;
+use std::process::Abort;
 use std::test::Fail;
 
 fn name(kind: Kind, no: u64) -> Name {
@@ -16,38 +18,121 @@ fn clear(rt: &HostRuntime, path: &str) {
     let _ = fs::remove_dir_all(rt, path);
 }
 
+const SEGMENT: Name = Name {
+    kind: Kind::Segment,
+    no: 2,
+};
+
+const PAGE: Name = Name {
+    kind: Kind::Page,
+    no: 12,
+};
+
+const GATE: Name = Name {
+    kind: Kind::Gate,
+    no: 7,
+};
+
+fn make_objects(disk: &mut DirDisk) -> Result<(), DiskRefused> {
+    disk.create(PAGE, b"a page")?;
+    disk.create(SEGMENT, b"abc")?;
+    disk.create(GATE, b"")?;
+    disk.write_at(SEGMENT, 2, b"XYZ")?;
+    disk.write_at(SEGMENT, 0, b"A")?;
+    disk.sync()
+}
+
+fn check_objects(rt: &impl Abort, alloc: Global, disk: &mut DirDisk) -> Result<(), Fail> {
+    let bytes = disk.read(alloc, SEGMENT)?;
+    assert_eq!(rt; bytes.as_slice(), b"AbXYZ".as_slice());
+    disk.remove(GATE)?;
+    disk.sync()?;
+    let names = disk.names(alloc)?;
+    assert_eq!(rt; names.as_slice(), [SEGMENT, PAGE].as_slice());
+    Ok(())
+}
+
+fn check_page(rt: &impl Abort, alloc: Global, disk: &mut DirDisk) -> Result<(), Fail> {
+    let opened = disk.open_page(alloc, PAGE)?;
+    let mut port = disk.port(alloc)?;
+    let fetched = DirDisk::fetch(alloc, &mut port, &opened)?;
+    assert_eq!(rt; fetched.as_slice(), b"a page".as_slice());
+    assert_eq!(rt; (DirDisk::port_faults(&port), disk.faults()), (0, 0));
+    Ok(())
+}
+
+// The page of the folder, opened again.
+fn page_of(rt: &HostRuntime, folder: &str) -> Result<Vec<u8>, Fail> {
+    let mut disk = DirDisk::open(rt, rt.alloc(), folder)?;
+    let page = disk.read(rt.alloc(), PAGE)?;
+    disk.sync()?;
+    Ok(page)
+}
+
 #[test]
 fn each_call_does_what_it_is_asked(rt: HostRuntime) -> Result<(), Fail> {
     const FOLDER: &str = "lethe_dirdisk_calls";
     let alloc = rt.alloc();
     clear(&rt, FOLDER);
-    let segment = name(Kind::Segment, 2);
-    let page = name(Kind::Page, 12);
     {
         let mut disk = DirDisk::open(&rt, alloc, FOLDER)?;
-        disk.create(page, b"a page")?;
-        disk.create(segment, b"abc")?;
-        disk.create(name(Kind::Gate, 7), b"")?;
-        disk.write_at(segment, 2, b"XYZ")?;
-        disk.write_at(segment, 0, b"A")?;
-        disk.sync()?;
-        assert_eq!(rt; disk.read(alloc, segment)?.as_slice(), b"AbXYZ".as_slice());
-        disk.remove(name(Kind::Gate, 7))?;
-        disk.sync()?;
-        assert_eq!(rt; disk.names(alloc)?.as_slice(), [segment, page].as_slice());
-        let opened = disk.open_page(alloc, page)?;
-        let mut port = disk.port(alloc)?;
-        let fetched = DirDisk::fetch(alloc, &mut port, &opened)?;
-        assert_eq!(rt; fetched.as_slice(), b"a page".as_slice());
-        assert_eq!(rt; DirDisk::port_faults(&port), 0);
-        assert_eq!(rt; disk.faults(), 0);
+        make_objects(&mut disk)?;
+        check_objects(&rt, alloc, &mut disk)?;
+        check_page(&rt, alloc, &mut disk)?;
     }
     let bytes = fs::read(&rt, "lethe_dirdisk_calls/s-00000000000000000002")?;
     assert_eq!(rt; bytes.as_slice(), b"AbXYZ".as_slice());
-    let mut disk = DirDisk::open(&rt, alloc, "lethe_dirdisk_calls/")?;
-    assert_eq!(rt; disk.read(alloc, page)?.as_slice(), b"a page".as_slice());
-    disk.sync()?;
+    let page = page_of(&rt, "lethe_dirdisk_calls/")?;
+    assert_eq!(rt; page.as_slice(), b"a page".as_slice());
     clear(&rt, FOLDER);
+    Ok(())
+}
+
+const FAILED: Option<DiskRefused> = Some(DiskRefused::Failed);
+
+/// A page that isn't there.
+const ABSENT: Name = Name {
+    kind: Kind::Page,
+    no: 2,
+};
+
+// Five calls that fail.
+fn check_failing_calls(rt: &impl Abort, alloc: Global, disk: &mut DirDisk) {
+    for told in [
+        disk.create(PAGE, b"new").err(),
+        disk.write_at(ABSENT, 0, b"x").err(),
+        disk.remove(ABSENT).err(),
+        disk.read(alloc, ABSENT).err(),
+        disk.open_page(alloc, ABSENT).err(),
+    ] {
+        assert_eq!(rt; told, FAILED);
+    }
+}
+
+// A link isn't followed by what makes a new file: what is told, and whether there is a file behind the link then.
+fn created_at_link(
+    rt: &HostRuntime,
+    disk: &mut DirDisk,
+) -> Result<(Option<DiskRefused>, bool), Fail> {
+    symlink(
+        rt,
+        "elsewhere",
+        "lethe_dirdisk_errors/p-00000000000000000002",
+    )?;
+    let told = disk.create(ABSENT, b"new").err();
+    Ok((told, fs::exists(rt, "lethe_dirdisk_errors/elsewhere")?))
+}
+
+fn check_removed_page(
+    rt: &impl Abort,
+    alloc: Global,
+    disk: &mut DirDisk,
+    page: &DirPage,
+) -> Result<(), Fail> {
+    disk.remove(PAGE)?;
+    let mut port = disk.port(alloc)?;
+    let told = DirDisk::fetch(alloc, &mut port, page).err();
+    assert_eq!(rt; (told, DirDisk::port_faults(&port)), (FAILED, 1));
     Ok(())
 }
 
@@ -57,32 +142,14 @@ fn each_error_is_counted(rt: HostRuntime) -> Result<(), Fail> {
     let alloc = rt.alloc();
     clear(&rt, FOLDER);
     let mut disk = DirDisk::open(&rt, alloc, FOLDER)?;
-    let page = name(Kind::Page, 1);
-    let absent = name(Kind::Page, 2);
-    let failed = Some(DiskRefused::Failed);
-    disk.create(page, b"abc")?;
-    let opened = disk.open_page(alloc, page)?;
-    assert_eq!(rt; disk.create(page, b"new").err(), failed);
-    assert_eq!(rt; disk.write_at(absent, 0, b"x").err(), failed);
-    assert_eq!(rt; disk.remove(absent).err(), failed);
-    assert_eq!(rt; disk.read(alloc, absent).err(), failed);
-    assert_eq!(rt; disk.open_page(alloc, absent).err(), failed);
-    // A link isn't followed by what makes a new file.
-    symlink(
-        &rt,
-        "elsewhere",
-        "lethe_dirdisk_errors/p-00000000000000000002",
-    )?;
-    assert_eq!(rt; disk.create(absent, b"new").err(), failed);
-    assert!(rt; !fs::exists(&rt, "lethe_dirdisk_errors/elsewhere")?);
+    disk.create(PAGE, b"abc")?;
+    let opened = disk.open_page(alloc, PAGE)?;
+    check_failing_calls(&rt, alloc, &mut disk);
+    assert_eq!(rt; created_at_link(&rt, &mut disk)?, (FAILED, false));
     assert_eq!(rt; disk.faults(), 6);
-    disk.remove(page)?;
-    let mut port = disk.port(alloc)?;
-    assert_eq!(rt; DirDisk::fetch(alloc, &mut port, &opened).err(), failed);
-    assert_eq!(rt; DirDisk::port_faults(&port), 1);
+    check_removed_page(&rt, alloc, &mut disk, &opened)?;
     clear(&rt, FOLDER);
-    assert_eq!(rt; disk.names(alloc).err(), failed);
-    assert_eq!(rt; disk.faults(), 7);
+    assert_eq!(rt; (disk.names(alloc).err(), disk.faults()), (FAILED, 7));
     Ok(())
 }
 
@@ -103,87 +170,149 @@ fn what_a_sync_cannot_reach_fails_for_ever(rt: HostRuntime) -> Result<(), Fail> 
     Ok(())
 }
 
+/// Paths of files that are no objects.
+const FOREIGN: [&str; 6] = [
+    "lethe_dirdisk_foreign/note",
+    "lethe_dirdisk_foreign/.p-00000000000000000001",
+    "lethe_dirdisk_foreign/p-1",
+    "lethe_dirdisk_foreign/p-000000000000000000001",
+    "lethe_dirdisk_foreign/q-00000000000000000001",
+    "lethe_dirdisk_foreign/p-18446744073709551616",
+];
+
+// Why a folder isn't opened.
+fn refused(rt: &HostRuntime, path: &str) -> Option<DirRefused> {
+    DirDisk::open(rt, rt.alloc(), path).err()
+}
+
+// What is told of a folder with this file, the file's bytes behind that, and what is told once the file is gone.
+fn told_of_foreign(
+    rt: &HostRuntime,
+    folder: &str,
+    foreign: &str,
+) -> Result<(Option<DirRefused>, Vec<u8>, Option<DirRefused>), Fail> {
+    fs::write(rt, foreign, b"kept".as_slice())?;
+    let told = refused(rt, folder);
+    let bytes = fs::read(rt, foreign)?;
+    fs::remove_file(rt, foreign)?;
+    Ok((told, bytes, refused(rt, folder)))
+}
+
+// A folder with one object.
+fn make_folder(rt: &HostRuntime, folder: &str) -> Result<(), Fail> {
+    clear(rt, folder);
+    fs::create_dir(rt, folder)?;
+    fs::write(
+        rt,
+        "lethe_dirdisk_foreign/p-18446744073709551615",
+        b"".as_slice(),
+    )?;
+    Ok(())
+}
+
 #[test]
 fn a_foreign_name_is_refused(rt: HostRuntime) -> Result<(), Fail> {
     const FOLDER: &str = "lethe_dirdisk_foreign";
-    let alloc = rt.alloc();
-    for foreign in [
-        "lethe_dirdisk_foreign/note",
-        "lethe_dirdisk_foreign/.p-00000000000000000001",
-        "lethe_dirdisk_foreign/p-1",
-        "lethe_dirdisk_foreign/p-000000000000000000001",
-        "lethe_dirdisk_foreign/q-00000000000000000001",
-        "lethe_dirdisk_foreign/p-18446744073709551616",
-    ] {
-        clear(&rt, FOLDER);
-        fs::create_dir(&rt, FOLDER)?;
-        fs::write(
-            &rt,
-            "lethe_dirdisk_foreign/p-18446744073709551615",
-            b"".as_slice(),
-        )?;
-        drop(DirDisk::open(&rt, alloc, FOLDER)?);
-        fs::write(&rt, foreign, b"kept".as_slice())?;
-        assert_eq!(rt;
-            DirDisk::open(&rt, alloc, FOLDER).err(),
-            Some(DirRefused::Foreign)
-        );
-        assert_eq!(rt; fs::read(&rt, foreign)?.as_slice(), b"kept".as_slice());
-        fs::remove_file(&rt, foreign)?;
-        drop(DirDisk::open(&rt, alloc, FOLDER)?);
+    for foreign in FOREIGN {
+        make_folder(&rt, FOLDER)?;
+        assert_eq!(rt; refused(&rt, FOLDER), None);
+        let (told, bytes, later) = told_of_foreign(&rt, FOLDER, foreign)?;
+        assert_eq!(rt; (told, later), (Some(DirRefused::Foreign), None));
+        assert_eq!(rt; bytes.as_slice(), b"kept".as_slice());
     }
     clear(&rt, FOLDER);
     Ok(())
 }
+
+// What a second opening is told while the first stands.
+fn refused_while_held(rt: &HostRuntime, folder: &str) -> Result<Option<DirRefused>, Fail> {
+    let mut disk = DirDisk::open(rt, rt.alloc(), folder)?;
+    disk.create(name(Kind::Page, 1), b"abc")?;
+    Ok(refused(rt, folder))
+}
+
+/// Paths of which no folder can be made.
+const NO_FOLDERS: [&str; 3] = [
+    "",
+    "lethe_dirdisk_held/a/b",
+    "lethe_dirdisk_held/p-00000000000000000001",
+];
 
 #[test]
 fn a_folder_is_held_by_one(rt: HostRuntime) -> Result<(), Fail> {
     const FOLDER: &str = "lethe_dirdisk_held";
-    let alloc = rt.alloc();
     clear(&rt, FOLDER);
-    let refused = Some(DirRefused::Folder);
-    {
-        let mut disk = DirDisk::open(&rt, alloc, FOLDER)?;
-        disk.create(name(Kind::Page, 1), b"abc")?;
-        assert_eq!(rt; DirDisk::open(&rt, alloc, FOLDER).err(), refused);
+    let held = refused_while_held(&rt, FOLDER)?;
+    assert_eq!(rt;
+        (held, refused(&rt, FOLDER)),
+        (Some(DirRefused::Folder), None)
+    );
+    for path in NO_FOLDERS {
+        assert_eq!(rt; refused(&rt, path), Some(DirRefused::Folder));
     }
-    drop(DirDisk::open(&rt, alloc, FOLDER)?);
-    assert_eq!(rt; DirDisk::open(&rt, alloc, "").err(), refused);
-    assert_eq!(rt;
-        DirDisk::open(&rt, alloc, "lethe_dirdisk_held/a/b").err(),
-        refused
-    );
-    assert_eq!(rt;
-        DirDisk::open(&rt, alloc, "lethe_dirdisk_held/p-00000000000000000001").err(),
-        refused
-    );
     clear(&rt, FOLDER);
     Ok(())
 }
 
+/// Names, and what they are spelled as.
+const SPELLED: [(Name, &[u8; 22]); 5] = [
+    (
+        Name {
+            kind: Kind::Gate,
+            no: 0,
+        },
+        b"g-00000000000000000000",
+    ),
+    (
+        Name {
+            kind: Kind::Manifest,
+            no: 907,
+        },
+        b"m-00000000000000000907",
+    ),
+    (
+        Name {
+            kind: Kind::Segment,
+            no: 10,
+        },
+        b"s-00000000000000000010",
+    ),
+    (
+        Name {
+            kind: Kind::File,
+            no: u64::MAX,
+        },
+        b"f-18446744073709551615",
+    ),
+    (
+        Name {
+            kind: Kind::Page,
+            no: 12,
+        },
+        b"p-00000000000000000012",
+    ),
+];
+
+/// What is no name.
+const UNREADABLE: [&[u8]; 9] = [
+    b"",
+    b"p",
+    b"P-00000000000000000012",
+    b"p_00000000000000000012",
+    b"p-0000000000000000012",
+    b"p-000000000000000000012",
+    b"p-0000000000000000001x",
+    b"p-18446744073709551616",
+    b"p-99999999999999999999",
+];
+
 #[test]
 fn names_are_spelled(rt: HostRuntime) {
-    for (name, text) in [
-        (name(Kind::Gate, 0), b"g-00000000000000000000"),
-        (name(Kind::Manifest, 907), b"m-00000000000000000907"),
-        (name(Kind::Segment, 10), b"s-00000000000000000010"),
-        (name(Kind::File, u64::MAX), b"f-18446744073709551615"),
-        (name(Kind::Page, 12), b"p-00000000000000000012"),
-    ] {
+    for (name, text) in SPELLED {
         assert_eq!(rt; spell_file_name(name), *text);
         assert_eq!(rt; read_file_name(text), Some(name));
     }
-    for text in [
-        b"".as_slice(),
-        b"p",
-        b"P-00000000000000000012",
-        b"p_00000000000000000012",
-        b"p-0000000000000000012",
-        b"p-000000000000000000012",
-        b"p-0000000000000000001x",
-        b"p-18446744073709551616",
-        b"p-99999999999999999999",
-    ] {
+    for text in UNREADABLE {
         assert_eq!(rt; read_file_name(text), None);
     }
     one_file_name();

@@ -67,6 +67,17 @@ fn records(
     })
 }
 
+// The same of a disk with these parts, where these calls fail.
+fn records_of(
+    alloc: Global,
+    parts: Parts,
+    fields: Fields,
+    failing: Vec<u64>,
+) -> Result<Result<Option<usize>, RecoverRefused>, Fail> {
+    let mut disk = disk_of(alloc, parts, failing)?;
+    records(alloc, &mut disk, fields)
+}
+
 const WHOLE: Parts = Parts {
     gates: &[2],
     manifest: Some(&MANIFEST),
@@ -166,11 +177,11 @@ const READS: [(Parts, Result<Option<usize>, (Kind, u64)>); 13] = [
 fn the_greatest_gate_tells_what_is_loaded(rt: HostRuntime) -> Result<(), Fail> {
     let alloc = rt.alloc();
     for (parts, read) in READS {
-        let mut disk = disk_of(alloc, parts, Vec::new(alloc))?;
         let want = read.map_err(|(kind, no)| RecoverRefused::Damaged {
             name: name(kind, no),
         });
-        assert_eq!(rt; records(alloc, &mut disk, SMALL)?, want);
+        let got = records_of(alloc, parts, SMALL, Vec::new(alloc))?;
+        assert_eq!(rt; got, want);
     }
     Ok(())
 }
@@ -178,17 +189,16 @@ fn the_greatest_gate_tells_what_is_loaded(rt: HostRuntime) -> Result<(), Fail> {
 #[test]
 fn another_configuration_and_faults_are_told(rt: HostRuntime) -> Result<(), Fail> {
     let alloc = rt.alloc();
-    let mut disk = disk_of(alloc, WHOLE, Vec::new(alloc))?;
     let kept = Config::new(SMALL).ok().ok_or("a configuration")?;
-    let other = Err(RecoverRefused::OtherConfig { kept });
-    assert_eq!(rt; records(alloc, &mut disk, Fields::default())?, other);
+    let other = records_of(alloc, WHOLE, Fields::default(), Vec::new(alloc))?;
+    assert_eq!(rt; other, Err(RecoverRefused::OtherConfig { kept }));
     for failing in 7..10 {
-        let mut disk = disk_of(alloc, WHOLE, vec![in alloc; failing]?)?;
-        let fault = Err(RecoverRefused::Fault {
+        let told = records_of(alloc, WHOLE, SMALL, vec![in alloc; failing]?)?;
+        let fault = RecoverRefused::Fault {
             before: 0,
             after: 1,
-        });
-        assert_eq!(rt; records(alloc, &mut disk, SMALL)?, fault);
+        };
+        assert_eq!(rt; told, Err(fault));
     }
     Ok(())
 }
@@ -220,6 +230,18 @@ fn opened(
     })
 }
 
+// What is opened of a disk with these parts, and what is opened again, by these configurations.
+fn opened_twice(
+    alloc: Global,
+    parts: Parts,
+    first: Fields,
+    second: Fields,
+) -> Result<[Result<Counts, OpenWhy>; 2], Fail> {
+    let mut disk = disk_of(alloc, parts, Vec::new(alloc))?;
+    let before = opened(alloc, &mut disk, first)?;
+    Ok([before, opened(alloc, &mut disk, second)?])
+}
+
 /// What a disk has, and what is opened the first time and the second.
 const OPENINGS: [(Parts, Counts, Counts); 3] = [
     (EMPTY, (0, 0, Some(1), 3), (0, 0, Some(3), 5)),
@@ -237,23 +259,21 @@ const OPENINGS: [(Parts, Counts, Counts); 3] = [
 
 #[test]
 fn a_store_is_opened_and_opened_again(rt: HostRuntime) -> Result<(), Fail> {
-    let alloc = rt.alloc();
     for (parts, first, second) in OPENINGS {
-        let mut disk = disk_of(alloc, parts, Vec::new(alloc))?;
-        assert_eq!(rt; opened(alloc, &mut disk, SMALL)?, Ok(first));
-        assert_eq!(rt; opened(alloc, &mut disk, SMALL)?, Ok(second));
+        let told = opened_twice(rt.alloc(), parts, SMALL, SMALL)?;
+        assert_eq!(rt; told, [Ok(first), Ok(second)]);
     }
     Ok(())
 }
 
 #[test]
 fn what_is_not_opened_stays(rt: HostRuntime) -> Result<(), Fail> {
-    let alloc = rt.alloc();
-    let mut disk = disk_of(alloc, WHOLE, Vec::new(alloc))?;
     let kept = Config::new(SMALL).ok().ok_or("a configuration")?;
-    let other = Err(OpenWhy::OtherConfig { kept });
-    assert_eq!(rt; opened(alloc, &mut disk, Fields::default())?, other);
-    assert_eq!(rt; opened(alloc, &mut disk, SMALL)?, Ok((1, 1, Some(5), 7)));
+    let other = opened_twice(rt.alloc(), WHOLE, Fields::default(), SMALL)?;
+    assert_eq!(rt;
+        other,
+        [Err(OpenWhy::OtherConfig { kept }), Ok((1, 1, Some(5), 7))]
+    );
     let missing = Parts {
         segment: None,
         ..WHOLE
@@ -261,8 +281,7 @@ fn what_is_not_opened_stays(rt: HostRuntime) -> Result<(), Fail> {
     let damaged = Err(OpenWhy::Damaged {
         name: name(Kind::Segment, 1),
     });
-    let mut disk = disk_of(alloc, missing, Vec::new(alloc))?;
-    assert_eq!(rt; opened(alloc, &mut disk, SMALL)?, damaged);
-    assert_eq!(rt; opened(alloc, &mut disk, SMALL)?, damaged);
+    let told = opened_twice(rt.alloc(), missing, SMALL, SMALL)?;
+    assert_eq!(rt; told, [damaged, damaged]);
     Ok(())
 }

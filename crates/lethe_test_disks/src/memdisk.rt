@@ -5,8 +5,9 @@ ghost use Rattle.lethe_memdisk.specs.Held.{calls_of};
 use crate::common::{crashed, has};
 use lethe_base::{Kind, Name};
 use lethe_disk::{Disk, DiskRefused};
-use lethe_memdisk::{FlakyDisk, MemDisk, MemPage};
+use lethe_memdisk::{FlakyDisk, FlakyPort, MemDisk, MemPage, MemPort};
 use std::alloc::Global;
+use std::process::Abort;
 use std::test::Fail;
 
 const FAILED: &[u8] = b"failed";
@@ -166,24 +167,52 @@ const ANSWERS: [(Step, &[u8]); 12] = [
     (Step::Read(7), FAILED),
 ];
 
-#[test]
-fn each_call_answers_and_fails_where_it_is_told(rt: HostRuntime) -> Result<(), Fail> {
-    let alloc = rt.alloc();
-    let mut disk = MemDisk::new(alloc, 24, vec![in alloc; 7]?)?;
-    for (step, want) in ANSWERS {
-        let got = take(alloc, &mut disk, step)?;
-        assert_eq!(rt; got.as_slice(), want);
-    }
-    assert_eq!(rt; disk.faults(), 2);
-    assert!(rt; !disk.swap(file(2), Vec::new(alloc)));
-    assert!(rt; disk.swap(file(7), b"new".to_vec(alloc)?));
-    assert_eq!(rt; take(alloc, &mut disk, Step::Read(7))?.as_slice(), FAILED);
-    let mut fused = MemDisk::new(alloc, 9, Vec::new(alloc))?;
-    fused.fuse(2);
-    for want in [b"".as_slice(), b"", FAILED, FAILED] {
-        assert_eq!(rt; take(alloc, &mut fused, Step::Names)?.as_slice(), want);
+/// A disk whose fuse burns behind two calls.
+const FUSED: [(Step, &[u8]); 4] = [
+    (Step::Names, b""),
+    (Step::Names, b""),
+    (Step::Names, FAILED),
+    (Step::Names, FAILED),
+];
+
+fn check_answers(
+    rt: &impl Abort,
+    alloc: Global,
+    disk: &mut MemDisk,
+    answers: &[(Step, &[u8])],
+) -> Result<(), Fail> {
+    for (step, want) in answers {
+        let got = take(alloc, disk, *step)?;
+        assert_eq!(rt; got.as_slice(), *want);
     }
     Ok(())
+}
+
+// Other bytes are put into the object 7 alone, behind the last call that there is room for.
+fn check_swaps(rt: &impl Abort, alloc: Global, disk: &mut MemDisk) -> Result<(), Fail> {
+    let absent = disk.swap(file(2), Vec::new(alloc));
+    let there = disk.swap(file(7), b"new".to_vec(alloc)?);
+    assert_eq!(rt; (absent, there), (false, true));
+    check_answers(rt, alloc, disk, &[(Step::Read(7), FAILED)])
+}
+
+fn check_fuse(rt: &impl Abort, alloc: Global) -> Result<(), Fail> {
+    let mut disk = MemDisk::new(alloc, 9, Vec::new(alloc))?;
+    disk.fuse(2);
+    check_answers(rt, alloc, &mut disk, &FUSED)
+}
+
+fn check_failing_calls(rt: &impl Abort, alloc: Global) -> Result<(), Fail> {
+    let mut disk = MemDisk::new(alloc, 24, vec![in alloc; 7]?)?;
+    check_answers(rt, alloc, &mut disk, &ANSWERS)?;
+    assert_eq!(rt; disk.faults(), 2);
+    check_swaps(rt, alloc, &mut disk)
+}
+
+#[test]
+fn each_call_answers_and_fails_where_it_is_told(rt: HostRuntime) -> Result<(), Fail> {
+    check_failing_calls(&rt, rt.alloc())?;
+    check_fuse(&rt, rt.alloc())
 }
 
 /// Steps of 16 device calls: up to the call of that number is done.
@@ -211,18 +240,41 @@ const IMAGES: [(u64, bool, &[u8], &[u8]); 8] = [
     (16, false, &[1, 3], b"AbXYZ"),
 ];
 
-#[test]
-fn a_crash_leaves_what_was_synced(rt: HostRuntime) -> Result<(), Fail> {
-    let alloc = rt.alloc();
+// The disk behind these steps.
+fn stepped(alloc: Global) -> Result<MemDisk, Fail>
+    ensures { IfOk result (λ disk. 16 ≤ calls_of disk) }
+{
     let mut disk = MemDisk::new(alloc, 20, Vec::new(alloc))?;
-    let calls = take_all(alloc, &mut disk, &STEPS)?;
-    assert_eq!(rt; calls, 16);
+    if take_all(alloc, &mut disk, &STEPS)? != 16 {
+        return Err(Fail::new("16 calls"));
+    }
+    Ok(disk)
+}
+
+// The names and the bytes of the object 1 that a crash leaves.
+fn left(alloc: Global, disk: &MemDisk, moment: u64, keep: bool) -> Result<(Vec<u8>, Vec<u8>), Fail>
+    requires { moment ≤ calls_of disk.now }
+{
+    let mut left = crashed(disk, moment, b'.', keep)?;
+    let names = take(alloc, &mut left, Step::Names)?;
+    let bytes = take(alloc, &mut left, Step::Read(1))?;
+    Ok((names, bytes))
+}
+
+fn check_images(rt: &impl Abort, alloc: Global, disk: &MemDisk) -> Result<(), Fail>
+    requires { 16 ≤ calls_of disk.now }
+{
     for (moment, keep, names, bytes) in IMAGES {
-        let mut left = crashed(&disk, moment.min(calls), b'.', keep)?;
-        assert_eq!(rt; take(alloc, &mut left, Step::Names)?.as_slice(), names);
-        assert_eq!(rt; take(alloc, &mut left, Step::Read(1))?.as_slice(), bytes);
+        let image = left(alloc, disk, moment.min(16), keep)?;
+        assert_eq!(rt; (image.0.as_slice(), image.1.as_slice()), (names, bytes));
     }
     Ok(())
+}
+
+#[test]
+fn a_crash_leaves_what_was_synced(rt: HostRuntime) -> Result<(), Fail> {
+    let disk = stepped(rt.alloc())?;
+    check_images(&rt, rt.alloc(), &disk)
 }
 
 fn page(no: u64) -> Name
@@ -259,27 +311,57 @@ fn fetch_twice<D: Disk>(
     }
 }
 
+// A disk with room for so many calls, and with the page 1. This takes two calls.
+fn disk_of_a_page(alloc: Global, room: u64, failing: Vec<u64>) -> Result<MemDisk, Fail> {
+    let mut disk = MemDisk::new(alloc, room, failing)?;
+    if create(alloc, &mut disk, page(1), b"abc")? != 2 {
+        return Err(Fail::new("a new page"));
+    }
+    Ok(disk)
+}
+
+fn open_first(alloc: Global, disk: &mut MemDisk) -> Result<MemPage, Fail> {
+    Ok(open(alloc, disk, 1)?.ok_or("a page")?)
+}
+
+// The page 1 as it was, and with other bytes, by when it is gone. The call that opens it for the first time, the fifth, fails.
+fn two_pages(
+    rt: &impl Abort,
+    alloc: Global,
+    disk: &mut MemDisk,
+) -> Result<(MemPage, MemPage), Fail> {
+    let refused = (open(alloc, disk, 2)?.is_none(), open(alloc, disk, 1).err());
+    assert_eq!(rt; refused, (true, Some(DiskRefused::Failed)));
+    let old = open_first(alloc, disk)?;
+    let swapped = disk.swap(page(1), b"new".to_vec(alloc)?);
+    let new = open_first(alloc, disk)?;
+    let removed = remove(alloc, disk, page(1))? == 2 && open(alloc, disk, 1)?.is_none();
+    assert_eq!(rt; (swapped, removed), (true, true));
+    Ok((old, new))
+}
+
+fn check_fetches(
+    rt: &impl Abort,
+    alloc: Global,
+    port: &mut MemPort,
+    old: &MemPage,
+    new: &MemPage,
+) -> Result<(), Fail> {
+    for (page, want) in [(old, b"abc".as_slice()), (new, b"new"), (old, b"abc")] {
+        let got = fetch_twice::<MemDisk>(alloc, port, page)?;
+        assert_eq!(rt; got.as_slice(), want);
+    }
+    assert_eq!(rt; MemDisk::port_faults(port), 0);
+    Ok(())
+}
+
 #[test]
 fn a_page_keeps_the_bytes_that_it_had(rt: HostRuntime) -> Result<(), Fail> {
     let alloc = rt.alloc();
-    // The call that opens the page for the first time fails.
-    let mut disk = MemDisk::new(alloc, 12, vec![in alloc; 5]?)?;
-    let name = page(1);
-    assert_eq!(rt; create(alloc, &mut disk, name, b"abc")?, 2);
-    assert!(rt; open(alloc, &mut disk, 2)?.is_none());
-    let failed = open(alloc, &mut disk, 1).err();
-    assert_eq!(rt; failed, Some(DiskRefused::Failed));
-    let old = open(alloc, &mut disk, 1)?.ok_or("a page")?;
-    assert!(rt; disk.swap(name, b"new".to_vec(alloc)?));
-    let new = open(alloc, &mut disk, 1)?.ok_or("a page")?;
-    assert_eq!(rt; remove(alloc, &mut disk, name)?, 2);
-    assert!(rt; open(alloc, &mut disk, 1)?.is_none());
+    let mut disk = disk_of_a_page(alloc, 12, vec![in alloc; 5]?)?;
+    let (old, new) = two_pages(&rt, alloc, &mut disk)?;
     let mut port = disk.port(alloc)?;
-    for (page, want) in [(&old, b"abc".as_slice()), (&new, b"new"), (&old, b"abc")] {
-        let got = fetch_twice::<MemDisk>(alloc, &mut port, page)?;
-        assert_eq!(rt; got.as_slice(), want);
-    }
-    assert_eq!(rt; MemDisk::port_faults(&port), 0);
+    check_fetches(&rt, alloc, &mut port, &old, &new)?;
     assert_eq!(rt; disk.faults(), 1);
     Ok(())
 }
@@ -287,29 +369,49 @@ fn a_page_keeps_the_bytes_that_it_had(rt: HostRuntime) -> Result<(), Fail> {
 /// What the fetches of a port give, and how often it has failed by then.
 const FETCHES: [(&[u8], u64); 4] = [(b"abc", 0), (FAILED, 1), (FAILED, 2), (b"abc", 2)];
 
+fn fetched(alloc: Global, port: &mut FlakyPort, page: &MemPage) -> Result<Vec<u8>, Fail> {
+    match FlakyDisk::fetch(alloc, port, page) {
+        Ok(bytes) => Ok(bytes),
+        Err(_) => Ok(FAILED.to_vec(alloc)?),
+    }
+}
+
+fn check_port(
+    rt: &impl Abort,
+    alloc: Global,
+    port: &mut FlakyPort,
+    page: &MemPage,
+) -> Result<(), Fail> {
+    for (want, faults) in FETCHES {
+        let got = fetched(alloc, port, page)?;
+        assert_eq!(rt;
+            (got.as_slice(), FlakyDisk::port_faults(port)),
+            (want, faults)
+        );
+    }
+    Ok(())
+}
+
+fn check_two_ports(
+    rt: &impl Abort,
+    alloc: Global,
+    disk: &mut FlakyDisk,
+    page: &MemPage,
+) -> Result<(), Fail> {
+    for _ in 0..2 {
+        let mut port = disk.port(alloc)?;
+        check_port(rt, alloc, &mut port, page)?;
+    }
+    assert_eq!(rt; disk.faults(), 0);
+    Ok(())
+}
+
 #[test]
 fn each_port_fails_at_the_fetches_that_it_is_told(rt: HostRuntime) -> Result<(), Fail> {
     let alloc = rt.alloc();
-    let mut disk = MemDisk::new(alloc, 5, Vec::new(alloc))?;
-    assert_eq!(rt; create(alloc, &mut disk, page(1), b"abc")?, 2);
-    let page = open(alloc, &mut disk, 1)?.ok_or("a page")?;
+    let mut disk = disk_of_a_page(alloc, 5, Vec::new(alloc))?;
+    let page = open_first(alloc, &mut disk)?;
     let mut flaky = FlakyDisk::new(disk, vec![in alloc; 2, 3]?);
-    for _ in 0..2 {
-        let mut port = flaky.port(alloc)?;
-        for (want, faults) in FETCHES {
-            let got = match FlakyDisk::fetch(alloc, &mut port, &page) {
-                Ok(bytes) => bytes,
-                Err(_) => FAILED.to_vec(alloc)?,
-            };
-            assert_eq!(rt; got.as_slice(), want);
-            assert_eq!(rt; FlakyDisk::port_faults(&port), faults);
-        }
-    }
-    assert_eq!(rt; flaky.faults(), 0);
-    let mut inner = flaky.into_inner();
-    assert_eq!(rt;
-        take(alloc, &mut inner, Step::Names)?.as_slice(),
-        [1].as_slice()
-    );
-    Ok(())
+    check_two_ports(&rt, alloc, &mut flaky, &page)?;
+    check_answers(&rt, alloc, &mut flaky.into_inner(), &[(Step::Names, &[1])])
 }

@@ -66,16 +66,31 @@ const IMAGES: [(u64, bool, usize); 7] = [
     (5, false, 2),
 ];
 
-#[test]
-fn a_switch_that_a_crash_cuts_short_counts_from_its_gate_on(rt: HostRuntime) -> Result<(), Fail> {
-    let alloc = rt.alloc();
+// A disk behind such a switch.
+fn switched(alloc: Global) -> Result<MemDisk, Fail>
+    ensures { IfOk result (λ disk. 5 ≤ calls_of disk) }
+{
     let mut disk = empty_disk(alloc, Vec::new(alloc))?;
     if !switch_to_new(alloc, &mut disk)? {
         return Err(Fail::new("a switch"));
     }
+    Ok(disk)
+}
+
+// How many objects a crash leaves.
+fn count_left(alloc: Global, disk: &MemDisk, moment: u64, keep: bool) -> Result<usize, Fail>
+    requires { moment ≤ calls_of disk.now }
+{
+    let mut left = crashed(disk, moment, 0, keep)?;
+    count_objects(alloc, &mut left)
+}
+
+#[test]
+fn a_switch_that_a_crash_cuts_short_counts_from_its_gate_on(rt: HostRuntime) -> Result<(), Fail> {
+    let disk = switched(rt.alloc())?;
     for (calls, keep, objects) in IMAGES {
-        let mut left = crashed(&disk, calls.min(5), 0, keep)?;
-        assert_eq!(rt; count_objects(alloc, &mut left)?, objects);
+        let left = count_left(rt.alloc(), &disk, calls.min(5), keep)?;
+        assert_eq!(rt; left, objects);
     }
     Ok(())
 }
@@ -103,17 +118,26 @@ const FAILURES: [(u64, bool, bool, usize); 9] = [
     (10, true, true, 0),
 ];
 
+// Switches, and clears that behind it. Answers whether each is done.
+fn switch_and_clear(alloc: Global, disk: &mut MemDisk) -> Result<(bool, bool), Fail> {
+    if !switch_to_new(alloc, disk)? {
+        return Ok((false, false));
+    }
+    Ok((true, clear(disk, &[GATE, MANIFEST]).is_ok()))
+}
+
+// The same where this call fails, and how many objects there are then.
+fn switch_failing(alloc: Global, failing: u64) -> Result<(bool, bool, usize), Fail> {
+    let mut disk = empty_disk(alloc, vec![in alloc; failing]?)?;
+    let (switched, cleared) = switch_and_clear(alloc, &mut disk)?;
+    Ok((switched, cleared, count_objects(alloc, &mut disk)?))
+}
+
 #[test]
 fn a_switch_and_a_clear_fail_where_the_disk_does(rt: HostRuntime) -> Result<(), Fail> {
-    let alloc = rt.alloc();
     for (failing, switched, cleared, objects) in FAILURES {
-        let mut disk = empty_disk(alloc, vec![in alloc; failing]?)?;
-        let done = switch_to_new(alloc, &mut disk)?;
-        assert_eq!(rt; done, switched);
-        if done {
-            assert_eq!(rt; clear(&mut disk, &[GATE, MANIFEST]).is_ok(), cleared);
-        }
-        assert_eq!(rt; count_objects(alloc, &mut disk)?, objects);
+        let done = switch_failing(rt.alloc(), failing)?;
+        assert_eq!(rt; done, (switched, cleared, objects));
     }
     Ok(())
 }
