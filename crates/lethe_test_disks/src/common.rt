@@ -32,7 +32,8 @@ pub fn has(alloc: Global, disk: &mut MemDisk, name: Name) -> Result<bool, DiskRe
     ensures absent { IfOk result (λ there. IsFalse there → object (seen_of disk.new).directory name ≡ None) }
     ensures calls { OnOk result (calls_of disk.new ≡ calls_of disk.old + 1) }
 {
-    Ok(disk.names(alloc)?.contains(&name))
+    let names = disk.names(alloc)?;
+    Ok(names.contains(&name))
 }
 
 /// Adds an object of a new name.

@@ -61,6 +61,11 @@ fn check_page(rt: &impl Abort, alloc: Global, disk: &mut DirDisk) -> Result<(), 
     Ok(())
 }
 
+// Whether a file has these bytes.
+fn has_bytes(rt: &HostRuntime, path: &str, bytes: &[u8]) -> Result<bool, Fail> {
+    Ok(fs::read(rt, path)?.as_slice() == bytes)
+}
+
 // The page of the folder, opened again.
 fn page_of(rt: &HostRuntime, folder: &str) -> Result<Vec<u8>, Fail> {
     let mut disk = DirDisk::open(rt, rt.alloc(), folder)?;
@@ -80,8 +85,7 @@ fn each_call_does_what_it_is_asked(rt: HostRuntime) -> Result<(), Fail> {
         check_objects(&rt, alloc, &mut disk)?;
         check_page(&rt, alloc, &mut disk)?;
     }
-    let bytes = fs::read(&rt, "lethe_dirdisk_calls/s-00000000000000000002")?;
-    assert_eq!(rt; bytes.as_slice(), b"AbXYZ".as_slice());
+    assert!(rt; has_bytes(&rt, "lethe_dirdisk_calls/s-00000000000000000002", b"AbXYZ")?);
     let page = page_of(&rt, "lethe_dirdisk_calls/")?;
     assert_eq!(rt; page.as_slice(), b"a page".as_slice());
     clear(&rt, FOLDER);
@@ -136,36 +140,42 @@ fn check_removed_page(
     Ok(())
 }
 
+fn check_errors(abort: &impl Abort, rt: &HostRuntime, disk: &mut DirDisk) -> Result<(), Fail> {
+    disk.create(PAGE, b"abc")?;
+    let page = disk.open_page(rt.alloc(), PAGE)?;
+    check_failing_calls(abort, rt.alloc(), disk);
+    let told = created_at_link(rt, disk)?;
+    assert_eq!(abort; (told, disk.faults()), ((FAILED, false), 6));
+    check_removed_page(abort, rt.alloc(), disk, &page)
+}
+
 #[test]
 fn each_error_is_counted(rt: HostRuntime) -> Result<(), Fail> {
     const FOLDER: &str = "lethe_dirdisk_errors";
-    let alloc = rt.alloc();
     clear(&rt, FOLDER);
-    let mut disk = DirDisk::open(&rt, alloc, FOLDER)?;
-    disk.create(PAGE, b"abc")?;
-    let opened = disk.open_page(alloc, PAGE)?;
-    check_failing_calls(&rt, alloc, &mut disk);
-    assert_eq!(rt; created_at_link(&rt, &mut disk)?, (FAILED, false));
-    assert_eq!(rt; disk.faults(), 6);
-    check_removed_page(&rt, alloc, &mut disk, &opened)?;
+    let mut disk = DirDisk::open(&rt, rt.alloc(), FOLDER)?;
+    check_errors(&rt, &rt, &mut disk)?;
     clear(&rt, FOLDER);
-    assert_eq!(rt; (disk.names(alloc).err(), disk.faults()), (FAILED, 7));
+    let told = disk.names(rt.alloc()).err();
+    assert_eq!(rt; (told, disk.faults()), (FAILED, 7));
     Ok(())
+}
+
+// What two syncs tell once the file of an object that was made before is gone.
+fn synced_without(rt: &HostRuntime, disk: &mut DirDisk) -> Result<[Option<DiskRefused>; 2], Fail> {
+    disk.create(name(Kind::Page, 1), b"abc")?;
+    disk.create(name(Kind::Page, 2), b"")?;
+    fs::remove_file(rt, "lethe_dirdisk_torn/p-00000000000000000001")?;
+    Ok([disk.sync().err(), disk.sync().err()])
 }
 
 #[test]
 fn what_a_sync_cannot_reach_fails_for_ever(rt: HostRuntime) -> Result<(), Fail> {
     const FOLDER: &str = "lethe_dirdisk_torn";
-    let alloc = rt.alloc();
     clear(&rt, FOLDER);
-    let mut disk = DirDisk::open(&rt, alloc, FOLDER)?;
-    disk.create(name(Kind::Page, 1), b"abc")?;
-    disk.create(name(Kind::Page, 2), b"")?;
-    fs::remove_file(&rt, "lethe_dirdisk_torn/p-00000000000000000001")?;
-    for _ in 0..2 {
-        assert_eq!(rt; disk.sync().err(), Some(DiskRefused::Failed));
-    }
-    assert_eq!(rt; disk.faults(), 2);
+    let mut disk = DirDisk::open(&rt, rt.alloc(), FOLDER)?;
+    let told = synced_without(&rt, &mut disk)?;
+    assert_eq!(rt; (told, disk.faults()), ([FAILED, FAILED], 2));
     clear(&rt, FOLDER);
     Ok(())
 }
@@ -185,17 +195,17 @@ fn refused(rt: &HostRuntime, path: &str) -> Option<DirRefused> {
     DirDisk::open(rt, rt.alloc(), path).err()
 }
 
-// What is told of a folder with this file, the file's bytes behind that, and what is told once the file is gone.
+// What is told of a folder with this file, whether the file has its bytes behind that, and what is told once it is gone.
 fn told_of_foreign(
     rt: &HostRuntime,
     folder: &str,
     foreign: &str,
-) -> Result<(Option<DirRefused>, Vec<u8>, Option<DirRefused>), Fail> {
+) -> Result<(Option<DirRefused>, bool, Option<DirRefused>), Fail> {
     fs::write(rt, foreign, b"kept".as_slice())?;
     let told = refused(rt, folder);
-    let bytes = fs::read(rt, foreign)?;
+    let is_kept = has_bytes(rt, foreign, b"kept")?;
     fs::remove_file(rt, foreign)?;
-    Ok((told, bytes, refused(rt, folder)))
+    Ok((told, is_kept, refused(rt, folder)))
 }
 
 // A folder with one object.
@@ -216,9 +226,8 @@ fn a_foreign_name_is_refused(rt: HostRuntime) -> Result<(), Fail> {
     for foreign in FOREIGN {
         make_folder(&rt, FOLDER)?;
         assert_eq!(rt; refused(&rt, FOLDER), None);
-        let (told, bytes, later) = told_of_foreign(&rt, FOLDER, foreign)?;
-        assert_eq!(rt; (told, later), (Some(DirRefused::Foreign), None));
-        assert_eq!(rt; bytes.as_slice(), b"kept".as_slice());
+        let told = told_of_foreign(&rt, FOLDER, foreign)?;
+        assert_eq!(rt; told, (Some(DirRefused::Foreign), true, None), "{foreign}");
     }
     clear(&rt, FOLDER);
     Ok(())

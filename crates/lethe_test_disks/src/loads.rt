@@ -6,6 +6,7 @@ use lethe_load::{RecoverRefused, load};
 use lethe_memdisk::MemDisk;
 use lethe_recover::{OpenWhy, open};
 use std::alloc::Global;
+use std::process::Abort;
 use std::test::Fail;
 
 /// The manifest of a new store, but that it cites segment 0 as the frozen one.
@@ -32,7 +33,7 @@ fn add_new(alloc: Global, disk: &mut MemDisk, name: Name, bytes: &[u8]) -> Resul
 }
 
 // What of a store a disk is to have: its gates, manifest 2 and segment 1.
-#[derive(Clone, Copy, Debug)]
+#[derive(Clone, Copy)]
 struct Parts {
     gates: &'static [u64],
     manifest: Option<&'static [u8]>,
@@ -85,7 +86,9 @@ const WHOLE: Parts = Parts {
 };
 
 /// What a disk has, and how many records are read of it, if there is a gate, or which object is damaged.
-const READS: [(Parts, Result<Option<usize>, (Kind, u64)>); 13] = [
+type Read = (Parts, Result<Option<usize>, (Kind, u64)>);
+
+const READS: [Read; 13] = [
     (WHOLE, Ok(Some(1))),
     (
         Parts {
@@ -173,17 +176,20 @@ const READS: [(Parts, Result<Option<usize>, (Kind, u64)>); 13] = [
     ),
 ];
 
-#[test]
-fn the_greatest_gate_tells_what_is_loaded(rt: HostRuntime) -> Result<(), Fail> {
-    let alloc = rt.alloc();
-    for (parts, read) in READS {
+fn check_reads(rt: &impl Abort, alloc: Global, reads: &[Read]) -> Result<(), Fail> {
+    for (parts, read) in reads {
         let want = read.map_err(|(kind, no)| RecoverRefused::Damaged {
             name: name(kind, no),
         });
-        let got = records_of(alloc, parts, SMALL, Vec::new(alloc))?;
+        let got = records_of(alloc, *parts, SMALL, Vec::new(alloc))?;
         assert_eq!(rt; got, want);
     }
     Ok(())
+}
+
+#[test]
+fn the_greatest_gate_tells_what_is_loaded(rt: HostRuntime) -> Result<(), Fail> {
+    check_reads(&rt, rt.alloc(), &READS)
 }
 
 #[test]
@@ -212,12 +218,10 @@ const EMPTY: Parts = Parts {
 /// How many changes there are, how many files, the segment and the next number.
 type Counts = (u64, usize, Option<u64>, u64);
 
-// What is opened, or why nothing is.
-fn opened(
-    alloc: Global,
-    disk: &mut MemDisk,
-    fields: Fields,
-) -> Result<Result<Counts, OpenWhy>, Fail> {
+/// What is opened, or why nothing is.
+type Opening = Result<Counts, OpenWhy>;
+
+fn opened(alloc: Global, disk: &mut MemDisk, fields: Fields) -> Result<Opening, Fail> {
     let config = Config::new(fields).ok().ok_or("a configuration")?;
     Ok(match open(alloc, disk, &config) {
         Ok(store) => {
@@ -236,10 +240,10 @@ fn opened_twice(
     parts: Parts,
     first: Fields,
     second: Fields,
-) -> Result<[Result<Counts, OpenWhy>; 2], Fail> {
+) -> Result<(Opening, Opening), Fail> {
     let mut disk = disk_of(alloc, parts, Vec::new(alloc))?;
     let before = opened(alloc, &mut disk, first)?;
-    Ok([before, opened(alloc, &mut disk, second)?])
+    Ok((before, opened(alloc, &mut disk, second)?))
 }
 
 /// What a disk has, and what is opened the first time and the second.
@@ -261,27 +265,30 @@ const OPENINGS: [(Parts, Counts, Counts); 3] = [
 fn a_store_is_opened_and_opened_again(rt: HostRuntime) -> Result<(), Fail> {
     for (parts, first, second) in OPENINGS {
         let told = opened_twice(rt.alloc(), parts, SMALL, SMALL)?;
-        assert_eq!(rt; told, [Ok(first), Ok(second)]);
+        assert_eq!(rt; told, (Ok(first), Ok(second)));
     }
     Ok(())
 }
 
+fn without_segment() -> OpenWhy {
+    OpenWhy::Damaged {
+        name: name(Kind::Segment, 1),
+    }
+}
+
+const NO_SEGMENT: Parts = Parts {
+    segment: None,
+    ..WHOLE
+};
+
 #[test]
 fn what_is_not_opened_stays(rt: HostRuntime) -> Result<(), Fail> {
     let kept = Config::new(SMALL).ok().ok_or("a configuration")?;
-    let other = opened_twice(rt.alloc(), WHOLE, Fields::default(), SMALL)?;
-    assert_eq!(rt;
-        other,
-        [Err(OpenWhy::OtherConfig { kept }), Ok((1, 1, Some(5), 7))]
-    );
-    let missing = Parts {
-        segment: None,
-        ..WHOLE
-    };
-    let damaged = Err(OpenWhy::Damaged {
-        name: name(Kind::Segment, 1),
-    });
-    let told = opened_twice(rt.alloc(), missing, SMALL, SMALL)?;
-    assert_eq!(rt; told, [damaged, damaged]);
+    let (other, own) = opened_twice(rt.alloc(), WHOLE, Fields::default(), SMALL)?;
+    assert_eq!(rt; other, Err(OpenWhy::OtherConfig { kept }));
+    assert_eq!(rt; own, Ok((1, 1, Some(5), 7)));
+    let (first, again) = opened_twice(rt.alloc(), NO_SEGMENT, SMALL, SMALL)?;
+    assert_eq!(rt; first, Err(without_segment()));
+    assert_eq!(rt; again, Err(without_segment()));
     Ok(())
 }

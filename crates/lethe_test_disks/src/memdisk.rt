@@ -196,23 +196,24 @@ fn check_swaps(rt: &impl Abort, alloc: Global, disk: &mut MemDisk) -> Result<(),
     check_answers(rt, alloc, disk, &[(Step::Read(7), FAILED)])
 }
 
-fn check_fuse(rt: &impl Abort, alloc: Global) -> Result<(), Fail> {
-    let mut disk = MemDisk::new(alloc, 9, Vec::new(alloc))?;
-    disk.fuse(2);
-    check_answers(rt, alloc, &mut disk, &FUSED)
+fn check_failing_calls(rt: &impl Abort, alloc: Global, disk: &mut MemDisk) -> Result<(), Fail> {
+    check_answers(rt, alloc, disk, &ANSWERS)?;
+    assert_eq!(rt; disk.faults(), 2);
+    check_swaps(rt, alloc, disk)
 }
 
-fn check_failing_calls(rt: &impl Abort, alloc: Global) -> Result<(), Fail> {
-    let mut disk = MemDisk::new(alloc, 24, vec![in alloc; 7]?)?;
-    check_answers(rt, alloc, &mut disk, &ANSWERS)?;
-    assert_eq!(rt; disk.faults(), 2);
-    check_swaps(rt, alloc, &mut disk)
+fn fused(alloc: Global) -> Result<MemDisk, Fail> {
+    let mut disk = MemDisk::new(alloc, 9, Vec::new(alloc))?;
+    disk.fuse(2);
+    Ok(disk)
 }
 
 #[test]
 fn each_call_answers_and_fails_where_it_is_told(rt: HostRuntime) -> Result<(), Fail> {
-    check_failing_calls(&rt, rt.alloc())?;
-    check_fuse(&rt, rt.alloc())
+    let alloc = rt.alloc();
+    let mut disk = MemDisk::new(alloc, 24, vec![in alloc; 7]?)?;
+    check_failing_calls(&rt, alloc, &mut disk)?;
+    check_answers(&rt, alloc, &mut fused(alloc)?, &FUSED)
 }
 
 /// Steps of 16 device calls: up to the call of that number is done.
@@ -324,20 +325,26 @@ fn open_first(alloc: Global, disk: &mut MemDisk) -> Result<MemPage, Fail> {
     Ok(open(alloc, disk, 1)?.ok_or("a page")?)
 }
 
-// The page 1 as it was, and with other bytes, by when it is gone. The call that opens it for the first time, the fifth, fails.
-fn two_pages(
-    rt: &impl Abort,
+// Whether there is no page 2, and why the page 1 isn't opened for the first time.
+fn refused_openings(
     alloc: Global,
     disk: &mut MemDisk,
-) -> Result<(MemPage, MemPage), Fail> {
-    let refused = (open(alloc, disk, 2)?.is_none(), open(alloc, disk, 1).err());
-    assert_eq!(rt; refused, (true, Some(DiskRefused::Failed)));
+) -> Result<(bool, Option<DiskRefused>), Fail> {
+    let is_absent = open(alloc, disk, 2)?.is_none();
+    Ok((is_absent, open(alloc, disk, 1).err()))
+}
+
+// The page 1 as it is, and with other bytes.
+fn two_pages(alloc: Global, disk: &mut MemDisk) -> Result<(MemPage, MemPage), Fail> {
     let old = open_first(alloc, disk)?;
-    let swapped = disk.swap(page(1), b"new".to_vec(alloc)?);
-    let new = open_first(alloc, disk)?;
-    let removed = remove(alloc, disk, page(1))? == 2 && open(alloc, disk, 1)?.is_none();
-    assert_eq!(rt; (swapped, removed), (true, true));
-    Ok((old, new))
+    if !disk.swap(page(1), b"new".to_vec(alloc)?) {
+        return Err(Fail::new("a page"));
+    }
+    Ok((old, open_first(alloc, disk)?))
+}
+
+fn is_removed(alloc: Global, disk: &mut MemDisk) -> Result<bool, Fail> {
+    Ok(remove(alloc, disk, page(1))? == 2 && open(alloc, disk, 1)?.is_none())
 }
 
 fn check_fetches(
@@ -355,13 +362,21 @@ fn check_fetches(
     Ok(())
 }
 
+fn check_pages(rt: &impl Abort, alloc: Global, disk: &mut MemDisk) -> Result<(), Fail> {
+    let (old, new) = two_pages(alloc, disk)?;
+    assert!(rt; is_removed(alloc, disk)?);
+    let mut port = disk.port(alloc)?;
+    check_fetches(rt, alloc, &mut port, &old, &new)
+}
+
 #[test]
 fn a_page_keeps_the_bytes_that_it_had(rt: HostRuntime) -> Result<(), Fail> {
     let alloc = rt.alloc();
+    // The call that opens the page for the first time, the fifth, fails.
     let mut disk = disk_of_a_page(alloc, 12, vec![in alloc; 5]?)?;
-    let (old, new) = two_pages(&rt, alloc, &mut disk)?;
-    let mut port = disk.port(alloc)?;
-    check_fetches(&rt, alloc, &mut port, &old, &new)?;
+    let refused = refused_openings(alloc, &mut disk)?;
+    assert_eq!(rt; refused, (true, Some(DiskRefused::Failed)));
+    check_pages(&rt, alloc, &mut disk)?;
     assert_eq!(rt; disk.faults(), 1);
     Ok(())
 }

@@ -119,7 +119,9 @@ const FAILURES: [(u64, bool, bool, usize); 9] = [
 ];
 
 // Switches, and clears that behind it. Answers whether each is done.
-fn switch_and_clear(alloc: Global, disk: &mut MemDisk) -> Result<(bool, bool), Fail> {
+fn switch_and_clear(alloc: Global, disk: &mut MemDisk) -> Result<(bool, bool), Fail>
+    requires { IsFree (seen_of disk.old) 2 None }
+{
     if !switch_to_new(alloc, disk)? {
         return Ok((false, false));
     }

@@ -145,120 +145,145 @@ fn two_files<D: Disk>(alloc: Global, disk: D) -> Result<Engine<D>, Fail>
     Ok(engine)
 }
 
+/// The events of a run, its replies, and how many files there are behind it.
+type Run = (&'static [Ask], &'static [Told], u64);
+
+fn answer_all<D: Disk>(alloc: Global, engine: &mut Engine<D>, runs: &[Run]) -> Result<(), Fail>
+    requires { IsSound D.tells (view_of engine.old.core) }
+    ensures { IsSound D.tells (view_of engine.new.core) }
+{
+    for run in runs {
+        let (asks, told, files) = *run;
+        if !answers_so(alloc, engine, asks, told)? || engine.stat().files != files {
+            return Err(Fail::new("another reply"));
+        }
+    }
+    Ok(())
+}
+
+/// Carries the runs out over a store of two files.
+fn run_over_two_files<D: Disk>(alloc: Global, disk: D, runs: &[Run]) -> Result<(), Fail> {
+    let mut engine = two_files(alloc, disk)?;
+    answer_all(alloc, &mut engine, runs)
+}
+
+const MERGE: [Ask; 15] = [
+    Ask::Begin,
+    Ask::Begin,
+    Ask::WriteOut(0),
+    Ask::WriteOut(0),
+    Ask::WriteOut(0),
+    Ask::WriteOut(0),
+    Ask::WriteOut(0),
+    Ask::Install(0),
+    Ask::Begin,
+    Ask::Delete("a"),
+    Ask::Get("a"),
+    Ask::Get("h"),
+    Ask::Scan("a", "z"),
+    Ask::Freeze,
+    Ask::Freeze,
+];
+
+const MERGE_TOLD: [Told; 15] = [
+    Told::Job(0),
+    Told::Refused(Refused::NothingDue),
+    Told::Flag(true),
+    Told::Flag(true),
+    Told::Flag(true),
+    Told::Flag(true),
+    Told::Flag(false),
+    Told::Unit,
+    Told::Refused(Refused::NothingDue),
+    Told::Place(9),
+    Told::Found(None),
+    Told::Found(Some(7)),
+    Told::Pairs(7),
+    Told::Flag(true),
+    Told::Flag(false),
+];
+
 #[test]
 fn a_job_merges_two_files(rt: HostRuntime) -> Result<(), Fail> {
     let alloc = rt.alloc();
-    let mut engine = two_files(alloc, MemDisk::new(alloc, 1000, Vec::new(alloc))?)?;
-    let asks = [
-        Ask::Begin,
-        Ask::Begin,
-        Ask::WriteOut(0),
-        Ask::WriteOut(0),
-        Ask::WriteOut(0),
-        Ask::WriteOut(0),
-        Ask::WriteOut(0),
-        Ask::Install(0),
-        Ask::Begin,
-        Ask::Delete("a"),
-        Ask::Get("a"),
-        Ask::Get("h"),
-        Ask::Scan("a", "z"),
-        Ask::Freeze,
-        Ask::Freeze,
-    ];
-    let told = [
-        Told::Job(0),
-        Told::Refused(Refused::NothingDue),
-        Told::Flag(true),
-        Told::Flag(true),
-        Told::Flag(true),
-        Told::Flag(true),
-        Told::Flag(false),
-        Told::Unit,
-        Told::Refused(Refused::NothingDue),
-        Told::Place(9),
-        Told::Found(None),
-        Told::Found(Some(7)),
-        Told::Pairs(7),
-        Told::Flag(true),
-        Told::Flag(false),
-    ];
-    assert!(rt; answers_so(alloc, &mut engine, &asks, &told)?);
-    assert_eq!(rt; engine.stat().files, 1);
-    Ok(())
+    let disk = MemDisk::new(alloc, 1000, Vec::new(alloc))?;
+    run_over_two_files(alloc, disk, &[(&MERGE, &MERGE_TOLD, 1)])
 }
+
+const ENDS: [Ask; 11] = [
+    Ask::WriteOut(0),
+    Ask::Install(0),
+    Ask::Cancel(0),
+    Ask::Begin,
+    Ask::WriteOut(1),
+    Ask::WriteOut(0),
+    Ask::Cancel(0),
+    Ask::Cancel(0),
+    Ask::Begin,
+    Ask::Install(0),
+    Ask::WriteOut(1),
+];
+
+/// The last reply is that of the job that hadn't ended.
+const ENDS_TOLD: [Told; 12] = [
+    Told::NoSuch,
+    Told::NoSuch,
+    Told::NoSuch,
+    Told::Job(0),
+    Told::NoSuch,
+    Told::Flag(true),
+    Told::Unit,
+    Told::NoSuch,
+    Told::Job(1),
+    Told::NoSuch,
+    Told::Flag(true),
+    Told::Unit,
+];
+
+const WHOLE: [Ask; 2] = [Ask::Begin, Ask::Install(0)];
+
+const WHOLE_TOLD: [Told; 2] = [Told::Job(0), Told::Unit];
 
 #[test]
 fn a_job_is_there_until_it_ends(rt: HostRuntime) -> Result<(), Fail> {
     let alloc = rt.alloc();
-    let mut engine = two_files(alloc, MemDisk::new(alloc, 1000, Vec::new(alloc))?)?;
-    let asks = [
-        Ask::WriteOut(0),
-        Ask::Install(0),
-        Ask::Cancel(0),
-        Ask::Begin,
-        Ask::WriteOut(1),
-        Ask::WriteOut(0),
-        Ask::Cancel(0),
-        Ask::Cancel(0),
-        Ask::Begin,
-        Ask::Install(0),
-        Ask::WriteOut(1),
-    ];
-    // The last reply is that of the job that hadn't ended.
-    let told = [
-        Told::NoSuch,
-        Told::NoSuch,
-        Told::NoSuch,
-        Told::Job(0),
-        Told::NoSuch,
-        Told::Flag(true),
-        Told::Unit,
-        Told::NoSuch,
-        Told::Job(1),
-        Told::NoSuch,
-        Told::Flag(true),
-        Told::Unit,
-    ];
-    assert!(rt; answers_so(alloc, &mut engine, &asks, &told)?);
-    assert_eq!(rt; engine.stat().files, 2);
-    let whole = [Ask::Begin, Ask::Install(0)];
-    assert!(rt; answers_so(alloc, &mut engine, &whole, &[Told::Job(0), Told::Unit])?);
-    assert_eq!(rt; engine.stat().files, 1);
-    Ok(())
+    let disk = MemDisk::new(alloc, 1000, Vec::new(alloc))?;
+    run_over_two_files(
+        alloc,
+        disk,
+        &[(&ENDS, &ENDS_TOLD, 2), (&WHOLE, &WHOLE_TOLD, 1)],
+    )
 }
+
+const REFUSED: [Ask; 7] = [
+    Ask::Begin,
+    Ask::WriteOut(0),
+    Ask::WriteOut(0),
+    Ask::Install(0),
+    Ask::Begin,
+    Ask::Cancel(0),
+    Ask::Begin,
+];
+
+const REFUSED_TOLD: [Told; 8] = [
+    Told::Job(0),
+    Told::Refused(Refused::ReadFault {
+        before: 0,
+        after: 1,
+    }),
+    Told::NoSuch,
+    Told::NoSuch,
+    Told::Refused(Refused::NothingDue),
+    Told::Unit,
+    Told::Job(1),
+    Told::Unit,
+];
 
 #[test]
 fn a_job_that_was_refused_can_only_be_given_up(rt: HostRuntime) -> Result<(), Fail> {
     let alloc = rt.alloc();
+    let disk = MemDisk::new(alloc, 1000, Vec::new(alloc))?;
     // The first fetch of each port fails.
-    let disk = FlakyDisk::new(
-        MemDisk::new(alloc, 1000, Vec::new(alloc))?,
-        vec![in alloc; 1]?,
-    );
-    let mut engine = two_files(alloc, disk)?;
-    let asks = [
-        Ask::Begin,
-        Ask::WriteOut(0),
-        Ask::WriteOut(0),
-        Ask::Install(0),
-        Ask::Begin,
-        Ask::Cancel(0),
-        Ask::Begin,
-    ];
-    let told = [
-        Told::Job(0),
-        Told::Refused(Refused::ReadFault {
-            before: 0,
-            after: 1,
-        }),
-        Told::NoSuch,
-        Told::NoSuch,
-        Told::Refused(Refused::NothingDue),
-        Told::Unit,
-        Told::Job(1),
-        Told::Unit,
-    ];
-    assert!(rt; answers_so(alloc, &mut engine, &asks, &told)?);
-    Ok(())
+    let flaky = FlakyDisk::new(disk, vec![in alloc; 1]?);
+    run_over_two_files(alloc, flaky, &[(&REFUSED, &REFUSED_TOLD, 2)])
 }

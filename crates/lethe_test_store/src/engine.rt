@@ -1,11 +1,12 @@
 //! The calls of a store, and what is read and told of it.
+ghost use Rattle.std.specs.Prelude.{IfOk};
 ghost use Rattle.lethe_core.specs.Running.{IsSound};
 ghost use Rattle.lethe_core.specs.View.{view_of};
 
 use crate::common::{key_of, opened};
 use lethe_base::Value;
 use lethe_disk::Disk;
-use lethe_engine::Engine;
+use lethe_engine::{Engine, Stat};
 use lethe_memdisk::MemDisk;
 use std::alloc::Global;
 use std::test::Fail;
@@ -124,27 +125,54 @@ fn is_read<D: Disk>(alloc: Global, engine: &mut Engine<D>) -> Result<bool, Fail>
     Ok(gone.is_none() && there == Some(15) && dkeys.as_slice() == [15, 12].as_slice())
 }
 
+/// A store behind the steps.
+fn stepped<D: Disk>(alloc: Global, disk: D) -> Result<Engine<D>, Fail>
+    ensures { IfOk result (λ engine. IsSound D.tells (view_of engine.core)) }
+{
+    let mut engine = opened(alloc, disk)?;
+    answer_all(alloc, &mut engine, &STEPS)?;
+    Ok(engine)
+}
+
+/// The disk that the steps leave, where reads find what they left.
+fn read_disk<D: Disk>(alloc: Global, disk: D) -> Result<D, Fail> {
+    let mut engine = stepped(alloc, disk)?;
+    if !is_read(alloc, &mut engine)? {
+        return Err(Fail::new("other reads"));
+    }
+    Ok(engine.into_disk())
+}
+
+/// How many changes a store has once it is opened again, where reads find what the steps left.
+fn read_again<D: Disk>(alloc: Global, disk: D) -> Result<u64, Fail> {
+    let mut engine = opened(alloc, disk)?;
+    if !is_read(alloc, &mut engine)? {
+        return Err(Fail::new("other reads"));
+    }
+    Ok(engine.count())
+}
+
 #[test]
 fn calls_are_answered_also_once_it_is_opened_again(rt: HostRuntime) -> Result<(), Fail> {
     let alloc = rt.alloc();
-    let mut engine = opened(alloc, MemDisk::new(alloc, 1000, Vec::new(alloc))?)?;
-    answer_all(alloc, &mut engine, &STEPS)?;
-    assert!(rt; is_read(alloc, &mut engine)?);
-    let mut again = opened(alloc, engine.into_disk())?;
-    assert_eq!(rt; again.count(), 6);
-    assert!(rt; is_read(alloc, &mut again)?);
+    let disk = read_disk(alloc, MemDisk::new(alloc, 1000, Vec::new(alloc))?)?;
+    assert_eq!(rt; read_again(alloc, disk)?, 6);
     Ok(())
+}
+
+/// What a store tells of itself behind the steps, and once it is opened again.
+fn told_twice<D: Disk>(alloc: Global, disk: D) -> Result<(Stat, Stat), Fail> {
+    let engine = stepped(alloc, disk)?;
+    let before = engine.stat();
+    let again = opened(alloc, engine.into_disk())?;
+    Ok((before, again.stat()))
 }
 
 #[test]
 fn a_store_tells_of_its_files(rt: HostRuntime) -> Result<(), Fail> {
     let alloc = rt.alloc();
-    let mut engine = opened(alloc, MemDisk::new(alloc, 1000, Vec::new(alloc))?)?;
-    answer_all(alloc, &mut engine, &STEPS)?;
-    let before = engine.stat();
+    let (before, after) = told_twice(alloc, MemDisk::new(alloc, 1000, Vec::new(alloc))?)?;
     assert_eq!(rt; (before.files, before.tombs), (1, 0));
-    let again = opened(alloc, engine.into_disk())?;
-    let after = again.stat();
     assert_eq!(rt; (after.files, after.tombs), (3, 1));
     assert_eq!(rt; (after.clock, after.pins, after.pending), (0, 0, 0));
     Ok(())

@@ -1,7 +1,7 @@
 //! The time of each level, and which merge is picked.
 
 use crate::common::{SMALL, config_of, key_of};
-use lethe_base::{Config, Fields, FileFacts, List, Pick, Shape};
+use lethe_base::{Fields, FileFacts, List, Pick, Shape};
 use lethe_fade::{Claim, Plan, cum, pick};
 use std::alloc::Global;
 use std::test::Fail;
@@ -79,27 +79,27 @@ fn picked(
     Ok(chosen(&shape, order, &claims)?.map(|plan| plan.file))
 }
 
-/// The time of each level, from level 0 on.
-fn times_of(alloc: Global, config: &Config) -> Result<Vec<u64>, Fail> {
+/// The time of each level of a configuration, from level 0 on.
+fn times_of(alloc: Global, fields: Fields) -> Result<Vec<u64>, Fail> {
+    let config = config_of(fields)?;
     let mut times = Vec::new(alloc);
     for level in 0..config.fields().levels {
-        times.push(cum(config, level))?;
+        times.push(cum(&config, level))?;
     }
     Ok(times)
 }
 
 #[test]
 fn the_time_of_a_level_is_its_part_of_the_threshold(rt: HostRuntime) -> Result<(), Fail> {
-    let alloc = rt.alloc();
-    let default = config_of(Fields::default())?;
-    assert_eq!(rt;
-        times_of(alloc, &default)?.as_slice(),
-        [47, 238, 1000].as_slice()
-    );
-    let small = config_of(SMALL)?;
-    assert_eq!(rt; times_of(alloc, &small)?.as_slice(), [33, 100].as_slice());
+    let default = times_of(rt.alloc(), Fields::default())?;
+    assert_eq!(rt; default.as_slice(), [47, 238, 1000].as_slice());
+    let small = times_of(rt.alloc(), SMALL)?;
+    assert_eq!(rt; small.as_slice(), [33, 100].as_slice());
     Ok(())
 }
+
+/// A single file of level 0.
+const ONE: [Row; 1] = [(0, 7, "a", "c", Some(3), 1, 90)];
 
 /// Two files of level 0, and one of level 1.
 const TWO: [Row; 3] = [
@@ -108,34 +108,26 @@ const TWO: [Row; 3] = [
     (1, 3, "f", "g", None, 0, 16),
 ];
 
-/// The claims that stand, and what is picked then: the merge takes all files of level 0, and has the keys from `a` to `p`.
-const CLAIMED_TWO: [(u64, u64, &str, &str, Option<u64>); 7] = [
-    (0, 1, "p", "q", None),
-    (0, 1, "pp", "q", Some(5)),
-    (0, 0, "c", "e", None),
-    (1, 2, "Z", "a", None),
-    (1, 2, "Z", "_", Some(5)),
-    (2, 2, "a", "p", Some(5)),
-    (2, 3, "a", "p", Some(5)),
+/// The order, the files, the claims that stand, and what is picked then: the merge takes all files of level 0, those of `TWO` have
+/// the keys from `a` to `p`, and the least number is told.
+const PICKS: [(Pick, &[Row], &[ClaimRow], Option<u64>); 9] = [
+    (Pick::So, &ONE, &[], None),
+    (Pick::So, &TWO, &[(0, 1, "p", "q")], None),
+    (Pick::So, &TWO, &[(0, 1, "pp", "q")], Some(5)),
+    (Pick::So, &TWO, &[(0, 0, "c", "e")], None),
+    (Pick::So, &TWO, &[(1, 2, "Z", "a")], None),
+    (Pick::So, &TWO, &[(1, 2, "Z", "_")], Some(5)),
+    (Pick::So, &TWO, &[(2, 2, "a", "p")], Some(5)),
+    (Pick::So, &TWO, &[(2, 3, "a", "p")], Some(5)),
+    (Pick::Sd, &TWO, &[], Some(5)),
 ];
 
 #[test]
 fn level_0_is_merged_from_as_many_files_as_the_ratio(rt: HostRuntime) -> Result<(), Fail> {
-    let alloc = rt.alloc();
-    let one: [Row; 1] = [(0, 7, "a", "c", Some(3), 1, 90)];
-    assert_eq!(rt; picked(alloc, Pick::So, &one, &[])?, None, "a single file");
-    for (first, last, lo, hi, file) in CLAIMED_TWO {
-        assert_eq!(rt;
-            picked(alloc, Pick::So, &TWO, &[(first, last, lo, hi)])?,
-            file,
-            "{first} {last} {lo} {hi}"
-        );
+    for (order, files, claims, file) in PICKS {
+        let got = picked(rt.alloc(), order, files, claims)?;
+        assert_eq!(rt; got, file, "{order:?} {claims:?}");
     }
-    assert_eq!(rt;
-        picked(alloc, Pick::Sd, &TWO, &[])?,
-        Some(5),
-        "the least number"
-    );
     Ok(())
 }
 
@@ -150,18 +142,14 @@ const SATURATIONS: [(u64, u64, u64, Option<u64>); 5] = [
 
 #[test]
 fn a_deeper_level_is_saturated_by_its_entries(rt: HostRuntime) -> Result<(), Fail> {
-    let alloc = rt.alloc();
     for (first, second, deepest, file) in SATURATIONS {
         let files: [Row; 3] = [
             (1, 9, "a", "c", None, 0, first),
             (1, 4, "d", "f", None, 0, second),
             (2, 1, "f", "h", None, 0, deepest),
         ];
-        assert_eq!(rt;
-            picked(alloc, Pick::So, &files, &[])?,
-            file,
-            "{first} {second} {deepest}"
-        );
+        let got = picked(rt.alloc(), Pick::So, &files, &[])?;
+        assert_eq!(rt; got, file, "{first} {second} {deepest}");
     }
     Ok(())
 }
@@ -180,28 +168,26 @@ const ORDERS: [(Candidate, Candidate, u64, u64); 7] = [
     ((4, None, 5, 9), (3, None, 5, 9), 3, 3),
 ];
 
+fn files_of(first: Candidate, second: Candidate) -> [Row; 4] {
+    [
+        (1, first.0, "a", "c", first.1, first.2, 9),
+        (1, second.0, "d", "f", second.1, second.2, 9),
+        (2, 1, "c", "cc", None, 0, first.3),
+        (2, 2, "e", "g", None, 0, second.3),
+    ]
+}
+
 #[test]
 fn files_are_merged_in_the_order_of_the_configuration(rt: HostRuntime) -> Result<(), Fail> {
-    let alloc = rt.alloc();
-    for (
-        (no, oldest, tombs, below),
-        (other_no, other_oldest, other_tombs, other_below),
-        so,
-        sd,
-    ) in ORDERS {
-        let files: [Row; 4] = [
-            (1, no, "a", "c", oldest, tombs, 9),
-            (1, other_no, "d", "f", other_oldest, other_tombs, 9),
-            (2, 1, "c", "cc", None, 0, below),
-            (2, 2, "e", "g", None, 0, other_below),
-        ];
-        for (order, file) in [(Pick::So, so), (Pick::Sd, sd)] {
-            assert_eq!(rt;
-                picked(alloc, order, &files, &[])?,
-                Some(file),
-                "{order:?} {no} {other_no}"
-            );
-        }
+    for (first, second, so, sd) in ORDERS {
+        let files = files_of(first, second);
+        let by_so = picked(rt.alloc(), Pick::So, &files, &[])?;
+        let by_sd = picked(rt.alloc(), Pick::Sd, &files, &[])?;
+        assert_eq!(rt;
+            (by_so, by_sd),
+            (Some(so), Some(sd)),
+            "{first:?} {second:?}"
+        );
     }
     Ok(())
 }
@@ -228,13 +214,9 @@ const CLAIMED: [(&[ClaimRow], Option<u64>); 6] = [
 
 #[test]
 fn a_claim_in_the_way_leaves_the_next_candidate(rt: HostRuntime) -> Result<(), Fail> {
-    let alloc = rt.alloc();
     for (claims, file) in CLAIMED {
-        assert_eq!(rt;
-            picked(alloc, Pick::So, &CANDIDATES, claims)?,
-            file,
-            "{claims:?}"
-        );
+        let got = picked(rt.alloc(), Pick::So, &CANDIDATES, claims)?;
+        assert_eq!(rt; got, file, "{claims:?}");
     }
     Ok(())
 }

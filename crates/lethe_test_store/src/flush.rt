@@ -3,13 +3,16 @@
 use crate::common::{SMALL, config_of};
 use lethe_base::{Kind, List, Pending, Range};
 use lethe_build::Draft;
+use lethe_commit::Object;
 use lethe_flush::{MadeFiles, flush_drafts, flush_files, is_clear, newest_of, pending_of};
 use lethe_header::read_header;
+use lethe_manifest::Cited;
 use lethe_mem::VecBuffer;
 use lethe_memdisk::MemDisk;
 use lethe_segment::{Record, replay};
 use lethe_version::Version;
 use std::alloc::Global;
+use std::process::Abort;
 use std::test::Fail;
 
 /// Segment 1 with the puts of `a`, `b`, `c` and `d` at the places 1 to 4, with the delete keys 11, 15, 12 and 30.
@@ -55,25 +58,40 @@ fn range_of(lo: u64, hi: u64) -> Result<Range, Fail> {
     Ok(Range::new(lo, hi).ok_or("no range")?)
 }
 
-#[test]
-fn four_puts_are_one_file_with_two_pages(rt: HostRuntime) -> Result<(), Fail> {
-    let flushed = flush_row(rt.alloc(), &PUTS, range_of(100, 200)?, false)?;
-    assert_eq!(rt; (flushed.headers.len(), flushed.next), (1, 4));
-    let [file] = flushed.cited.as_slice() else {
+fn check_cited(rt: &impl Abort, cited: &[Cited]) -> Result<(), Fail> {
+    let [file] = cited else {
         return Err(Fail::new("one file"));
     };
     assert_eq!(rt; (file.level, file.no, file.swept), (0, 3, 9));
     assert_eq!(rt; file.digest, DIGEST);
-    let [header, first, second] = flushed.objects.as_slice() else {
+    Ok(())
+}
+
+// The object's kind and number, where it has these bytes.
+fn holding(object: &Object, bytes: &[u8]) -> Option<(Kind, u64)> {
+    if object.bytes.items() == bytes {
+        Some((object.name.kind, object.name.no))
+    } else {
+        None
+    }
+}
+
+fn check_objects(rt: &impl Abort, objects: &[Object]) -> Result<(), Fail> {
+    let [header, first, second] = objects else {
         return Err(Fail::new("three objects"));
     };
-    assert!(rt; header.name.kind == Kind::File && header.name.no == 3);
-    assert!(rt; first.name.kind == Kind::Page && first.name.no == 1);
-    assert!(rt; second.name.kind == Kind::Page && second.name.no == 2);
-    assert_eq!(rt; header.bytes.items(), FILE.as_slice());
-    assert_eq!(rt; first.bytes.items(), PAGE_AC.as_slice());
-    assert_eq!(rt; second.bytes.items(), PAGE_BD.as_slice());
+    assert_eq!(rt; holding(header, &FILE), Some((Kind::File, 3)));
+    assert_eq!(rt; holding(first, &PAGE_AC), Some((Kind::Page, 1)));
+    assert_eq!(rt; holding(second, &PAGE_BD), Some((Kind::Page, 2)));
     Ok(())
+}
+
+#[test]
+fn four_puts_are_one_file_with_two_pages(rt: HostRuntime) -> Result<(), Fail> {
+    let flushed = flush_row(rt.alloc(), &PUTS, range_of(100, 200)?, false)?;
+    assert_eq!(rt; (flushed.headers.len(), flushed.next), (1, 4));
+    check_cited(&rt, &flushed.cited)?;
+    check_objects(&rt, &flushed.objects)
 }
 
 /// Segment 1 with no record.
@@ -89,34 +107,52 @@ const LEFTOVERS: [(&[u8], (u64, u64), bool, usize); 6] = [
     (&NONE, (0, 1), false, 0),
 ];
 
+// How many objects there are, whether none is cited, and the next number.
+fn left_of(
+    alloc: Global,
+    segment: &[u8],
+    erased: Range,
+    alone: bool,
+) -> Result<(usize, bool, u64), Fail> {
+    let flushed = flush_row(alloc, segment, erased, alone)?;
+    Ok((
+        flushed.objects.len(),
+        flushed.cited.is_empty(),
+        flushed.next,
+    ))
+}
+
 #[test]
 fn what_nothing_is_left_of_makes_no_file(rt: HostRuntime) -> Result<(), Fail> {
     for (segment, (lo, hi), alone, objects) in LEFTOVERS {
-        let flushed = flush_row(rt.alloc(), segment, range_of(lo, hi)?, alone)?;
-        assert_eq!(rt; flushed.objects.len(), objects);
-        assert_eq!(rt; flushed.cited.is_empty(), objects == 0);
-        assert_eq!(rt; flushed.next, objects as u64 + 1);
+        let left = left_of(rt.alloc(), segment, range_of(lo, hi)?, alone)?;
+        assert_eq!(rt; left, (objects, objects == 0, objects as u64 + 1));
     }
     Ok(())
 }
 
-#[test]
-fn erases_are_pending_by_place_and_the_manifests_first(rt: HostRuntime) -> Result<(), Fail> {
-    let alloc = rt.alloc();
-    let erase_of = |seq: u64, time: u64| -> Result<Pending, Fail> {
-        Ok(Pending {
-            seq,
-            time,
-            range: range_of(0, 1)?,
-        })
-    };
+fn erase_of(seq: u64, time: u64) -> Result<Pending, Fail> {
+    Ok(Pending {
+        seq,
+        time,
+        range: range_of(0, 1)?,
+    })
+}
+
+// What is pending of a manifest with the erases at 3 and 5 and of records with those at 5 and 8.
+fn pending(alloc: Global) -> Result<Vec<Pending>, Fail> {
     let erases = [erase_of(3, 1)?, erase_of(5, 2)?];
     let records = [
         Record::Erase(erase_of(5, 7)?),
         Record::Blind { seq: 6 },
         Record::Erase(erase_of(8, 9)?),
     ];
-    let pending = pending_of(alloc, &erases, &records)?;
+    Ok(pending_of(alloc, &erases, &records)?)
+}
+
+#[test]
+fn erases_are_pending_by_place_and_the_manifests_first(rt: HostRuntime) -> Result<(), Fail> {
+    let pending = pending(rt.alloc())?;
     assert_eq!(rt; pending.len(), 3);
     for (erase, (seq, time)) in pending.iter().zip([(3, 1), (5, 2), (8, 9)]) {
         assert_eq!(rt; (erase.seq, erase.time), (seq, time));
@@ -124,22 +160,33 @@ fn erases_are_pending_by_place_and_the_manifests_first(rt: HostRuntime) -> Resul
     Ok(())
 }
 
+fn tombstone_buffer(alloc: Global) -> Result<VecBuffer, Fail> {
+    let records = replay(alloc, &TOMB).map_err(|_| "no records")?;
+    Ok(newest_of(alloc, List::of(records))?)
+}
+
+// The draft of the file, without its pages.
+fn draft(alloc: Global) -> Result<Draft, Fail> {
+    let header = read_header(alloc, &FILE).map_err(|_| "no header")?;
+    Ok(Draft {
+        tiles: header.tiles,
+        pages: List::of(Vec::new(alloc)),
+    })
+}
+
+// Whether no file has a key of the buffer's range, where there is nothing but these drafts.
+fn is_clear_of(alloc: Global, buffer: &VecBuffer, drafts: &[Draft]) -> Result<bool, Fail> {
+    let version: Version<MemDisk> = Version::of(alloc, Vec::new(alloc))?;
+    Ok(is_clear(buffer, &version, drafts))
+}
+
 #[test]
 fn a_buffer_is_clear_of_files_beside_its_keys(rt: HostRuntime) -> Result<(), Fail> {
     let alloc = rt.alloc();
-    let version: Version<MemDisk> = Version::of(alloc, Vec::new(alloc))?;
-    let header = read_header(alloc, &FILE).map_err(|_| "no header")?;
-    let file = vec![in alloc;
-        Draft {
-            tiles: header.tiles,
-            pages: List::of(Vec::new(alloc))
-        },
-    ]?;
-    let records = replay(alloc, &TOMB).map_err(|_| "no records")?;
-    let buffer = newest_of(alloc, List::of(records))?;
-    assert!(rt; is_clear(&buffer, &version, &[]));
-    assert!(rt; !is_clear(&buffer, &version, &file));
+    let buffer = tombstone_buffer(alloc)?;
+    assert!(rt; is_clear_of(alloc, &buffer, &[])?);
+    assert!(rt; !is_clear_of(alloc, &buffer, &[draft(alloc)?])?);
     let empty = VecBuffer::new(alloc);
-    assert!(rt; !is_clear(&empty, &version, &[]));
+    assert!(rt; !is_clear_of(alloc, &empty, &[])?);
     Ok(())
 }

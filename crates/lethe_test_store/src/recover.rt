@@ -3,9 +3,12 @@
 use crate::common::{SMALL, config_of};
 use lethe_base::{Fields, Kind, MAX_PLACE, Name};
 use lethe_disk::Disk;
+use lethe_manifest::Manifest;
 use lethe_memdisk::MemDisk;
 use lethe_recover::{OpenWhy, Opened, open};
+use lethe_version::Version;
 use std::alloc::Global;
+use std::process::Abort;
 use std::test::Fail;
 
 /// Manifest 2, which cites the segments 0 and 1, the latter active. The next number is 3.
@@ -72,23 +75,43 @@ fn has_names(alloc: Global, disk: &mut MemDisk, wanted: &[(Kind, u64)]) -> Resul
     )
 }
 
+/// A store that was opened: its disk, as it is behind that, and what is told of it.
+#[derive(Drop)]
+struct Store {
+    disk: MemDisk,
+    opened: Opened<MemDisk>,
+}
+
+fn store_on(alloc: Global, mut disk: MemDisk) -> Result<Store, Fail> {
+    let opened = opened(alloc, &mut disk, 100)?.map_err(|_| "not opened")?;
+    Ok(Store { disk, opened })
+}
+
+/// What is on the disk of a new store.
+const NEW_NAMES: [(Kind, u64); 3] = [(Kind::Gate, 2), (Kind::Manifest, 2), (Kind::Segment, 1)];
+
 #[test]
 fn an_empty_disk_gets_a_new_store(rt: HostRuntime) -> Result<(), Fail> {
     let alloc = rt.alloc();
-    let mut disk = MemDisk::new(alloc, 100, Vec::new(alloc))?;
-    let opened = opened(alloc, &mut disk, 100)?.map_err(|_| "not opened")?;
-    assert_eq!(rt; (opened.manifest.no, opened.manifest.next), (2, 3));
-    let wanted = [(Kind::Gate, 2), (Kind::Manifest, 2), (Kind::Segment, 1)];
-    assert!(rt; has_names(alloc, &mut disk, &wanted)?);
+    let mut store = store_on(alloc, MemDisk::new(alloc, 100, Vec::new(alloc))?)?;
+    let manifest = &store.opened.manifest;
+    assert_eq!(rt; (manifest.no, manifest.next), (2, 3));
+    assert!(rt; has_names(alloc, &mut store.disk, &NEW_NAMES)?);
     Ok(())
 }
 
-#[test]
-fn two_segments_become_two_files_and_an_empty_segment(rt: HostRuntime) -> Result<(), Fail> {
-    let alloc = rt.alloc();
-    let mut disk = two_segments(alloc, &MANIFEST, Vec::new(alloc))?;
-    let opened = opened(alloc, &mut disk, 100)?.map_err(|_| "not opened")?;
-    let manifest = &opened.manifest;
+/// What is on the disk of a store of two segments once it is opened.
+const FLUSHED_NAMES: [(Kind, u64); 7] = [
+    (Kind::Gate, 8),
+    (Kind::Manifest, 8),
+    (Kind::Segment, 7),
+    (Kind::File, 4),
+    (Kind::File, 6),
+    (Kind::Page, 3),
+    (Kind::Page, 5),
+];
+
+fn check_flushed(rt: &impl Abort, manifest: &Manifest) -> Result<(), Fail> {
     assert_eq!(rt; (manifest.no, manifest.next, manifest.count), (8, 9, 4));
     assert_eq!(rt; manifest.segments.items(), [7].as_slice());
     let [newer, older] = manifest.files.items() else {
@@ -96,25 +119,37 @@ fn two_segments_become_two_files_and_an_empty_segment(rt: HostRuntime) -> Result
     };
     assert_eq!(rt; (newer.level, newer.no, newer.swept), (0, 6, 4));
     assert_eq!(rt; (older.level, older.no, older.swept), (0, 4, 4));
-    let version = &opened.version;
-    assert_eq!(rt; version.levels(), 3);
-    assert_eq!(rt; version.files(0).len(), 2);
-    let wanted = [
-        (Kind::Gate, 8),
-        (Kind::Manifest, 8),
-        (Kind::Segment, 7),
-        (Kind::File, 4),
-        (Kind::File, 6),
-        (Kind::Page, 3),
-        (Kind::Page, 5),
-    ];
-    assert!(rt; has_names(alloc, &mut disk, &wanted)?);
     Ok(())
 }
 
-/// Why a store isn't opened.
-fn refused(alloc: Global, disk: &mut MemDisk, threshold: u64) -> Result<OpenWhy, Fail> {
-    match opened(alloc, disk, threshold)? {
+fn check_version(rt: &impl Abort, version: &Version<MemDisk>) {
+    assert_eq!(rt; version.levels(), 3);
+    assert_eq!(rt; version.files(0).len(), 2);
+}
+
+#[test]
+fn two_segments_become_two_files_and_an_empty_segment(rt: HostRuntime) -> Result<(), Fail> {
+    let alloc = rt.alloc();
+    let mut store = store_on(alloc, two_segments(alloc, &MANIFEST, Vec::new(alloc))?)?;
+    check_flushed(&rt, &store.opened.manifest)?;
+    check_version(&rt, &store.opened.version);
+    assert!(rt; has_names(alloc, &mut store.disk, &FLUSHED_NAMES)?);
+    Ok(())
+}
+
+/// Why a store of two segments isn't opened, with this manifest and this threshold, where this call fails, if one does.
+fn refused(
+    alloc: Global,
+    manifest: &[u8],
+    threshold: u64,
+    failing: Option<u64>,
+) -> Result<OpenWhy, Fail> {
+    let mut faults = Vec::new(alloc);
+    if let Some(call) = failing {
+        faults.push(call)?;
+    }
+    let mut disk = two_segments(alloc, manifest, faults)?;
+    match opened(alloc, &mut disk, threshold)? {
         Ok(_) => Err(Fail::new("opened")),
         Err(why) => Ok(why),
     }
@@ -145,20 +180,12 @@ const REFUSALS: [(&[u8], Option<u64>, OpenWhy); 3] = [
 
 #[test]
 fn what_cannot_be_opened_is_told(rt: HostRuntime) -> Result<(), Fail> {
-    let alloc = rt.alloc();
     for (bytes, failing, why) in REFUSALS {
-        let mut faults = Vec::new(alloc);
-        if let Some(call) = failing {
-            faults.push(call)?;
-        }
-        let mut disk = two_segments(alloc, bytes, faults)?;
-        assert_eq!(rt; refused(alloc, &mut disk, 100)?, why);
+        let told = refused(rt.alloc(), bytes, 100, failing)?;
+        assert_eq!(rt; told, why);
     }
-    let mut disk = two_segments(alloc, &MANIFEST, Vec::new(alloc))?;
     let kept = config_of(SMALL)?;
-    assert_eq!(rt;
-        refused(alloc, &mut disk, 7)?,
-        OpenWhy::OtherConfig { kept }
-    );
+    let told = refused(rt.alloc(), &MANIFEST, 7, None)?;
+    assert_eq!(rt; told, OpenWhy::OtherConfig { kept });
     Ok(())
 }
