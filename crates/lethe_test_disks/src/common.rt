@@ -1,0 +1,63 @@
+//! What the tests of disks share.
+ghost use Rattle.std.specs.Prelude.{◌≡◌, ◌≤◌, ◌+◌, None, IfOk, OnOk, IsTrue, IsFalse, IsSome};
+ghost use Rattle.std.specs.FinMap.{insert};
+ghost use Rattle.lethe_disk.specs.Directory.{object};
+ghost use Rattle.lethe_memdisk.specs.Held.{seen_of, calls_of};
+
+use lethe_base::{Fields, Name, Pick};
+use lethe_disk::{Disk, DiskRefused};
+use lethe_memdisk::MemDisk;
+use std::alloc::Global;
+use std::test::Fail;
+
+/// A small configuration.
+pub const SMALL: Fields = Fields {
+    threshold: 100,
+    ratio: 2,
+    levels: 2,
+    page: 2,
+    tile: 2,
+    file: 2,
+    buffer: 4,
+    pick: Pick::So,
+};
+
+/// Manifest 2 of a new store, which cites segment 1.
+pub const MANIFEST: [u8; 71] =
+    *b"LM\x01\0\0\0\0\0\0\0\x02\0\0\0\0\0\0\0\x64\x02\x02\0\x02\x02\0\x02\0\x04\0\0\0\0\0\0\0\0\0\0\0\0\0\0\0\0\0\0\0\0\0\0\0\0\x03\0\0\0\0\0\x01\0\0\0\0\0\0\0\x01\0\0\0\0";
+
+/// Whether there is an object of that name. This takes one device call.
+pub fn has(alloc: Global, disk: &mut MemDisk, name: Name) -> Result<bool, DiskRefused>
+    ensures there { IfOk result (λ there. IsTrue there → IsSome (object (seen_of disk.new).directory name)) }
+    ensures absent { IfOk result (λ there. IsFalse there → object (seen_of disk.new).directory name ≡ None) }
+    ensures calls { OnOk result (calls_of disk.new ≡ calls_of disk.old + 1) }
+{
+    let names = disk.names(alloc)?;
+    Ok(names.contains(&name))
+}
+
+/// Adds an object of a new name.
+pub fn add(disk: &mut MemDisk, name: Name, bytes: &[u8]) -> Result<(), Fail>
+    requires { object (seen_of disk.old).directory name ≡ None }
+    ensures { OnOk result ((seen_of disk.new).directory ≡ insert (seen_of disk.old).directory name bytes.now) }
+{
+    match disk.create(name, bytes) {
+        Ok(()) => Ok(()),
+        Err(_) => Err(Fail::new("an object")),
+    }
+}
+
+/// How many objects there are.
+pub fn count_objects(alloc: Global, disk: &mut MemDisk) -> Result<usize, Fail> {
+    match disk.names(alloc) {
+        Ok(names) => Ok(names.len()),
+        Err(_) => Err(Fail::new("names")),
+    }
+}
+
+/// What a crash at a moment leaves of the disk, as `MemDisk::crash` has it.
+pub fn crashed(disk: &MemDisk, moment: u64, fill: u8, keep: bool) -> Result<MemDisk, Fail>
+    requires { moment ≤ calls_of disk.now }
+{
+    Ok(disk.crash(moment, fill, keep)?)
+}

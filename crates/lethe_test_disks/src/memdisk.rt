@@ -1,0 +1,432 @@
+//! A disk in memory: what its calls answer, where they fail, and what a crash leaves.
+ghost use Rattle.std.specs.Prelude.{◌≡◌, ◌≤◌, ◌+◌, IfOk};
+ghost use Rattle.lethe_memdisk.specs.Held.{calls_of};
+
+use crate::common::{crashed, has};
+use lethe_base::{Kind, Name};
+use lethe_disk::{Disk, DiskRefused};
+use lethe_memdisk::{FlakyDisk, FlakyPort, MemDisk, MemPage, MemPort};
+use std::alloc::Global;
+use std::process::Abort;
+use std::test::Fail;
+
+const FAILED: &[u8] = b"failed";
+
+/// A step. Before an object is created, written, removed or read, it is looked up, which takes a device call. A write reads what
+/// it is to change, which takes one more.
+#[derive(Clone, Copy)]
+enum Step {
+    Create(u64, &'static [u8]),
+    Write(u64, u64, &'static [u8]),
+    Remove(u64),
+    Sync,
+    Names,
+    Read(u64),
+}
+
+/// What a step answers, the bytes that are read or the numbers of the names, and how many device calls it took at least.
+#[derive(Drop)]
+struct Answer {
+    calls: u64,
+    bytes: Vec<u8>,
+}
+
+fn file(no: u64) -> Name {
+    Name {
+        kind: Kind::File,
+        no,
+    }
+}
+
+// Each of these answers how many calls it took. A call that may not be asked for is left out.
+
+fn create(alloc: Global, disk: &mut MemDisk, name: Name, bytes: &[u8]) -> Result<u64, DiskRefused>
+    ensures { IfOk result (λ calls. calls_of disk.old + calls ≤ calls_of disk.new) }
+{
+    if has(alloc, disk, name)? {
+        return Ok(1);
+    }
+    disk.create(name, bytes)?;
+    Ok(2)
+}
+
+fn write(
+    alloc: Global,
+    disk: &mut MemDisk,
+    name: Name,
+    at: u64,
+    bytes: &[u8],
+) -> Result<u64, DiskRefused>
+    ensures { IfOk result (λ calls. calls_of disk.old + calls ≤ calls_of disk.new) }
+{
+    if !has(alloc, disk, name)? {
+        return Ok(1);
+    }
+    let old = disk.read(alloc, name)?;
+    if at > old.len() as u64 {
+        return Ok(2);
+    }
+    disk.write_at(name, at, bytes)?;
+    Ok(3)
+}
+
+fn remove(alloc: Global, disk: &mut MemDisk, name: Name) -> Result<u64, DiskRefused>
+    ensures { IfOk result (λ calls. calls_of disk.old + calls ≤ calls_of disk.new) }
+{
+    if !has(alloc, disk, name)? {
+        return Ok(1);
+    }
+    disk.remove(name)?;
+    Ok(2)
+}
+
+fn read(alloc: Global, disk: &mut MemDisk, name: Name) -> Result<Answer, DiskRefused>
+    ensures { IfOk result (λ answer. calls_of disk.old + answer.calls ≤ calls_of disk.new) }
+{
+    if !has(alloc, disk, name)? {
+        return Ok(Answer {
+            calls: 1,
+            bytes: Vec::new(alloc),
+        });
+    }
+    let bytes = disk.read(alloc, name)?;
+    Ok(Answer { calls: 2, bytes })
+}
+
+fn sync(disk: &mut MemDisk) -> Result<u64, DiskRefused>
+    ensures { IfOk result (λ calls. calls_of disk.old + calls ≤ calls_of disk.new) }
+{
+    disk.sync()?;
+    Ok(1)
+}
+
+fn numbers(alloc: Global, disk: &mut MemDisk) -> Result<Answer, DiskRefused>
+    ensures { IfOk result (λ answer. calls_of disk.old + answer.calls ≤ calls_of disk.new) }
+{
+    let names = disk.names(alloc)?;
+    let mut bytes = Vec::new(alloc);
+    for name in names {
+        bytes.push((name.no % 256) as u8)?;
+    }
+    Ok(Answer { calls: 1, bytes })
+}
+
+fn carry_out(alloc: Global, disk: &mut MemDisk, step: Step) -> Result<Answer, DiskRefused>
+    ensures { IfOk result (λ answer. calls_of disk.old + answer.calls ≤ calls_of disk.new) }
+{
+    let calls = match step {
+        Step::Create(no, bytes) => create(alloc, disk, file(no), bytes)?,
+        Step::Write(no, at, bytes) => write(alloc, disk, file(no), at, bytes)?,
+        Step::Remove(no) => remove(alloc, disk, file(no))?,
+        Step::Sync => sync(disk)?,
+        Step::Names => return numbers(alloc, disk),
+        Step::Read(no) => return read(alloc, disk, file(no)),
+    };
+    Ok(Answer {
+        calls,
+        bytes: Vec::new(alloc),
+    })
+}
+
+// What the step answers, or that it failed.
+fn take(alloc: Global, disk: &mut MemDisk, step: Step) -> Result<Vec<u8>, Fail> {
+    match carry_out(alloc, disk, step) {
+        Ok(answer) => Ok(answer.bytes),
+        Err(DiskRefused::Failed) => Ok(FAILED.to_vec(alloc)?),
+        Err(DiskRefused::NoMemory) => Err(Fail::new("no memory")),
+    }
+}
+
+// Takes the steps, of which none is to fail or to read, and tells how many device calls there were.
+fn take_all(alloc: Global, disk: &mut MemDisk, steps: &[Step]) -> Result<u64, Fail>
+    ensures { IfOk result (λ calls. calls_of disk.old + calls ≤ calls_of disk.new) }
+{
+    let mut calls = 0_u64;
+    for step in steps {
+        match carry_out(alloc, disk, *step) {
+            Ok(answer) if answer.bytes.is_empty() => calls = calls.saturating_add(answer.calls),
+            _ => return Err(Fail::new("a step")),
+        }
+    }
+    Ok(calls)
+}
+
+/// Steps, and what each answers. The third one's write is the call 7, and the last one's read has no room.
+const ANSWERS: [(Step, &[u8]); 12] = [
+    (Step::Create(7, b"abc"), b""),
+    (Step::Create(2, b""), b""),
+    (Step::Write(7, 1, b"XYZ"), FAILED),
+    (Step::Write(7, 1, b"XYZ"), b""),
+    (Step::Write(7, 0, b"A"), b""),
+    (Step::Read(7), b"AXYZ"),
+    (Step::Names, &[2, 7]),
+    (Step::Sync, b""),
+    (Step::Remove(2), b""),
+    (Step::Names, &[7]),
+    (Step::Write(7, 4, b"!"), b""),
+    (Step::Read(7), FAILED),
+];
+
+/// A disk whose fuse burns behind two calls.
+const FUSED: [(Step, &[u8]); 4] = [
+    (Step::Names, b""),
+    (Step::Names, b""),
+    (Step::Names, FAILED),
+    (Step::Names, FAILED),
+];
+
+fn check_answers(
+    rt: &impl Abort,
+    alloc: Global,
+    disk: &mut MemDisk,
+    answers: &[(Step, &[u8])],
+) -> Result<(), Fail> {
+    for (step, want) in answers {
+        let got = take(alloc, disk, *step)?;
+        assert_eq!(rt; got.as_slice(), *want);
+    }
+    Ok(())
+}
+
+// Other bytes are put into the object 7 alone, behind the last call that there is room for.
+fn check_swaps(rt: &impl Abort, alloc: Global, disk: &mut MemDisk) -> Result<(), Fail> {
+    let absent = disk.swap(file(2), Vec::new(alloc));
+    let there = disk.swap(file(7), b"new".to_vec(alloc)?);
+    assert_eq!(rt; (absent, there), (false, true));
+    check_answers(rt, alloc, disk, &[(Step::Read(7), FAILED)])
+}
+
+fn check_failing_calls(rt: &impl Abort, alloc: Global, disk: &mut MemDisk) -> Result<(), Fail> {
+    check_answers(rt, alloc, disk, &ANSWERS)?;
+    assert_eq!(rt; disk.faults(), 2);
+    check_swaps(rt, alloc, disk)
+}
+
+fn fused(alloc: Global) -> Result<MemDisk, Fail> {
+    let mut disk = MemDisk::new(alloc, 9, Vec::new(alloc))?;
+    disk.fuse(2);
+    Ok(disk)
+}
+
+#[test]
+fn each_call_answers_and_fails_where_it_is_told(rt: HostRuntime) -> Result<(), Fail> {
+    let alloc = rt.alloc();
+    let mut disk = MemDisk::new(alloc, 24, vec![in alloc; 7]?)?;
+    check_failing_calls(&rt, alloc, &mut disk)?;
+    check_answers(&rt, alloc, &mut fused(alloc)?, &FUSED)
+}
+
+/// Steps of 16 device calls: up to the call of that number is done.
+const STEPS: [Step; 8] = [
+    Step::Create(1, b"abc"),
+    Step::Create(2, b"de"),
+    Step::Sync,
+    Step::Write(1, 2, b"XYZ"),
+    Step::Write(1, 0, b"A"),
+    Step::Remove(2),
+    Step::Create(3, b"new"),
+    Step::Sync,
+];
+
+/// The moment of a crash behind one of these steps, whether it keeps what was created and removed, and the names and the bytes of
+/// the object 1 that it leaves.
+const IMAGES: [(u64, bool, &[u8], &[u8]); 8] = [
+    (0, true, &[], b""),
+    (2, false, &[], b""),
+    (4, true, &[1, 2], b"..."),
+    (5, true, &[1, 2], b"abc"),
+    (11, true, &[1, 2], b".b..."),
+    (15, true, &[1, 3], b".b..."),
+    (15, false, &[1, 2], b".b..."),
+    (16, false, &[1, 3], b"AbXYZ"),
+];
+
+// The disk behind these steps.
+fn stepped(alloc: Global) -> Result<MemDisk, Fail>
+    ensures { IfOk result (λ disk. 16 ≤ calls_of disk) }
+{
+    let mut disk = MemDisk::new(alloc, 20, Vec::new(alloc))?;
+    if take_all(alloc, &mut disk, &STEPS)? != 16 {
+        return Err(Fail::new("16 calls"));
+    }
+    Ok(disk)
+}
+
+// The names and the bytes of the object 1 that a crash leaves.
+fn left(alloc: Global, disk: &MemDisk, moment: u64, keep: bool) -> Result<(Vec<u8>, Vec<u8>), Fail>
+    requires { moment ≤ calls_of disk.now }
+{
+    let mut left = crashed(disk, moment, b'.', keep)?;
+    let names = take(alloc, &mut left, Step::Names)?;
+    let bytes = take(alloc, &mut left, Step::Read(1))?;
+    Ok((names, bytes))
+}
+
+fn check_images(rt: &impl Abort, alloc: Global, disk: &MemDisk) -> Result<(), Fail>
+    requires { 16 ≤ calls_of disk.now }
+{
+    for (moment, keep, names, bytes) in IMAGES {
+        let image = left(alloc, disk, moment.min(16), keep)?;
+        assert_eq!(rt; (image.0.as_slice(), image.1.as_slice()), (names, bytes));
+    }
+    Ok(())
+}
+
+#[test]
+fn a_crash_leaves_what_was_synced(rt: HostRuntime) -> Result<(), Fail> {
+    let disk = stepped(rt.alloc())?;
+    check_images(&rt, rt.alloc(), &disk)
+}
+
+fn page(no: u64) -> Name
+    ensures { result.kind ≡ Kind.Page }
+{
+    Name {
+        kind: Kind::Page,
+        no,
+    }
+}
+
+// None where there is no such page. It takes a device call to find that, and one more to open it.
+fn open(alloc: Global, disk: &mut MemDisk, no: u64) -> Result<Option<MemPage>, DiskRefused> {
+    let name = page(no);
+    if !has(alloc, disk, name)? {
+        return Ok(None);
+    }
+    Ok(Some(disk.open_page(alloc, name)?))
+}
+
+fn fetch_twice<D: Disk>(
+    alloc: Global,
+    port: &mut D::Port,
+    page: &D::Page,
+) -> Result<Vec<u8>, DiskRefused>
+    ensures { D.fetches port.new ≡ D.fetches port.old + 2 }
+{
+    let first = D::fetch(alloc, port, page);
+    let second = D::fetch(alloc, port, page)?;
+    if first? == second {
+        Ok(second)
+    } else {
+        Ok(Vec::new(alloc))
+    }
+}
+
+// A disk with room for so many calls, and with the page 1. This takes two calls.
+fn disk_of_a_page(alloc: Global, room: u64, failing: Vec<u64>) -> Result<MemDisk, Fail> {
+    let mut disk = MemDisk::new(alloc, room, failing)?;
+    if create(alloc, &mut disk, page(1), b"abc")? != 2 {
+        return Err(Fail::new("a new page"));
+    }
+    Ok(disk)
+}
+
+fn open_first(alloc: Global, disk: &mut MemDisk) -> Result<MemPage, Fail> {
+    Ok(open(alloc, disk, 1)?.ok_or("a page")?)
+}
+
+// Whether there is no page 2, and why the page 1 isn't opened for the first time.
+fn refused_openings(
+    alloc: Global,
+    disk: &mut MemDisk,
+) -> Result<(bool, Option<DiskRefused>), Fail> {
+    let is_absent = open(alloc, disk, 2)?.is_none();
+    Ok((is_absent, open(alloc, disk, 1).err()))
+}
+
+// The page 1 as it is, and with other bytes.
+fn two_pages(alloc: Global, disk: &mut MemDisk) -> Result<(MemPage, MemPage), Fail> {
+    let old = open_first(alloc, disk)?;
+    if !disk.swap(page(1), b"new".to_vec(alloc)?) {
+        return Err(Fail::new("a page"));
+    }
+    Ok((old, open_first(alloc, disk)?))
+}
+
+fn is_removed(alloc: Global, disk: &mut MemDisk) -> Result<bool, Fail> {
+    Ok(remove(alloc, disk, page(1))? == 2 && open(alloc, disk, 1)?.is_none())
+}
+
+fn check_fetches(
+    rt: &impl Abort,
+    alloc: Global,
+    port: &mut MemPort,
+    old: &MemPage,
+    new: &MemPage,
+) -> Result<(), Fail> {
+    for (page, want) in [(old, b"abc".as_slice()), (new, b"new"), (old, b"abc")] {
+        let got = fetch_twice::<MemDisk>(alloc, port, page)?;
+        assert_eq!(rt; got.as_slice(), want);
+    }
+    assert_eq!(rt; MemDisk::port_faults(port), 0);
+    Ok(())
+}
+
+fn check_pages(rt: &impl Abort, alloc: Global, disk: &mut MemDisk) -> Result<(), Fail> {
+    let (old, new) = two_pages(alloc, disk)?;
+    assert!(rt; is_removed(alloc, disk)?);
+    let mut port = disk.port(alloc)?;
+    check_fetches(rt, alloc, &mut port, &old, &new)
+}
+
+#[test]
+fn a_page_keeps_the_bytes_that_it_had(rt: HostRuntime) -> Result<(), Fail> {
+    let alloc = rt.alloc();
+    // The call that opens the page for the first time, the fifth, fails.
+    let mut disk = disk_of_a_page(alloc, 12, vec![in alloc; 5]?)?;
+    let refused = refused_openings(alloc, &mut disk)?;
+    assert_eq!(rt; refused, (true, Some(DiskRefused::Failed)));
+    check_pages(&rt, alloc, &mut disk)?;
+    assert_eq!(rt; disk.faults(), 1);
+    Ok(())
+}
+
+/// What the fetches of a port give, and how often it has failed by then.
+const FETCHES: [(&[u8], u64); 4] = [(b"abc", 0), (FAILED, 1), (FAILED, 2), (b"abc", 2)];
+
+fn fetched(alloc: Global, port: &mut FlakyPort, page: &MemPage) -> Result<Vec<u8>, Fail> {
+    match FlakyDisk::fetch(alloc, port, page) {
+        Ok(bytes) => Ok(bytes),
+        Err(_) => Ok(FAILED.to_vec(alloc)?),
+    }
+}
+
+fn check_port(
+    rt: &impl Abort,
+    alloc: Global,
+    port: &mut FlakyPort,
+    page: &MemPage,
+) -> Result<(), Fail> {
+    for (want, faults) in FETCHES {
+        let got = fetched(alloc, port, page)?;
+        assert_eq!(rt;
+            (got.as_slice(), FlakyDisk::port_faults(port)),
+            (want, faults)
+        );
+    }
+    Ok(())
+}
+
+fn check_two_ports(
+    rt: &impl Abort,
+    alloc: Global,
+    disk: &mut FlakyDisk,
+    page: &MemPage,
+) -> Result<(), Fail> {
+    for _ in 0..2 {
+        let mut port = disk.port(alloc)?;
+        check_port(rt, alloc, &mut port, page)?;
+    }
+    assert_eq!(rt; disk.faults(), 0);
+    Ok(())
+}
+
+#[test]
+fn each_port_fails_at_the_fetches_that_it_is_told(rt: HostRuntime) -> Result<(), Fail> {
+    let alloc = rt.alloc();
+    let mut disk = disk_of_a_page(alloc, 5, Vec::new(alloc))?;
+    let page = open_first(alloc, &mut disk)?;
+    let mut flaky = FlakyDisk::new(disk, vec![in alloc; 2, 3]?);
+    check_two_ports(&rt, alloc, &mut flaky, &page)?;
+    check_answers(&rt, alloc, &mut flaky.into_inner(), &[(Step::Names, &[1])])
+}

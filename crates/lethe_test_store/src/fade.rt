@@ -1,0 +1,222 @@
+//! The time of each level, and which merge is picked.
+
+use crate::common::{SMALL, config_of, key_of};
+use lethe_base::{Fields, FileFacts, List, Pick, Shape};
+use lethe_fade::{Claim, Plan, cum, pick};
+use std::alloc::Global;
+use std::test::Fail;
+
+/// A file's level, number, keys, oldest time, tombstones and entries.
+type Row = (u64, u64, &'static str, &'static str, Option<u64>, u64, u64);
+
+/// The first and the last level of a claim, and its keys.
+type ClaimRow = (u64, u64, &'static str, &'static str);
+
+fn level_of(alloc: Global, level: u64, rows: &[Row]) -> Result<List<FileFacts>, Fail> {
+    let mut files = Vec::new(alloc);
+    for (at, no, lo, hi, oldest, tombs, entries) in rows {
+        if *at == level {
+            files.push(FileFacts {
+                no: *no,
+                level,
+                lo: key_of(alloc, lo)?,
+                hi: key_of(alloc, hi)?,
+                oldest: *oldest,
+                tombs: *tombs,
+                entries: *entries,
+                max_seq: 0,
+                swept: 0,
+            })?;
+        }
+    }
+    Ok(List::of(files))
+}
+
+fn shape_of(alloc: Global, rows: &[Row]) -> Result<Shape, Fail> {
+    let mut levels = Vec::new(alloc);
+    for level in 0..3 {
+        levels.push(level_of(alloc, level, rows)?)?;
+    }
+    Ok(Shape {
+        levels: List::of(levels),
+        erases: List::of(Vec::new(alloc)),
+    })
+}
+
+fn claims_of(alloc: Global, rows: &[ClaimRow]) -> Result<Vec<Claim>, Fail> {
+    let mut claims = Vec::new(alloc);
+    for (first, last, lo, hi) in rows {
+        claims.push(Claim {
+            first: *first,
+            last: *last,
+            lo: key_of(alloc, lo)?,
+            hi: key_of(alloc, hi)?,
+        })?;
+    }
+    Ok(claims)
+}
+
+fn chosen(shape: &Shape, order: Pick, claims: &[Claim]) -> Result<Option<Plan>, Fail> {
+    let config = config_of(Fields {
+        pick: order,
+        ..SMALL
+    })?;
+    if shape.levels.items().len() as u64 != config.fields().levels + 1 {
+        return Err(Fail::from("a list for each level"));
+    }
+    Ok(pick(shape, &config, 0, claims))
+}
+
+/// The file that is picked from levels 0 to 2, where the claims stand.
+fn picked(
+    alloc: Global,
+    order: Pick,
+    rows: &[Row],
+    claimed: &[ClaimRow],
+) -> Result<Option<u64>, Fail> {
+    let shape = shape_of(alloc, rows)?;
+    let claims = claims_of(alloc, claimed)?;
+    Ok(chosen(&shape, order, &claims)?.map(|plan| plan.file))
+}
+
+/// The time of each level of a configuration, from level 0 on.
+fn times_of(alloc: Global, fields: Fields) -> Result<Vec<u64>, Fail> {
+    let config = config_of(fields)?;
+    let mut times = Vec::new(alloc);
+    for level in 0..config.fields().levels {
+        times.push(cum(&config, level))?;
+    }
+    Ok(times)
+}
+
+#[test]
+fn the_time_of_a_level_is_its_part_of_the_threshold(rt: HostRuntime) -> Result<(), Fail> {
+    let default = times_of(rt.alloc(), Fields::default())?;
+    assert_eq!(rt; default.as_slice(), [47, 238, 1000].as_slice());
+    let small = times_of(rt.alloc(), SMALL)?;
+    assert_eq!(rt; small.as_slice(), [33, 100].as_slice());
+    Ok(())
+}
+
+/// A single file of level 0.
+const ONE: [Row; 1] = [(0, 7, "a", "c", Some(3), 1, 90)];
+
+/// Two files of level 0, and one of level 1.
+const TWO: [Row; 3] = [
+    (0, 7, "a", "c", Some(3), 1, 4),
+    (0, 5, "m", "p", None, 0, 4),
+    (1, 3, "f", "g", None, 0, 16),
+];
+
+/// The order, the files, the claims that stand, and what is picked then: the merge takes all files of level 0, those of `TWO` have
+/// the keys from `a` to `p`, and the least number is told.
+const PICKS: [(Pick, &[Row], &[ClaimRow], Option<u64>); 9] = [
+    (Pick::So, &ONE, &[], None),
+    (Pick::So, &TWO, &[(0, 1, "p", "q")], None),
+    (Pick::So, &TWO, &[(0, 1, "pp", "q")], Some(5)),
+    (Pick::So, &TWO, &[(0, 0, "c", "e")], None),
+    (Pick::So, &TWO, &[(1, 2, "Z", "a")], None),
+    (Pick::So, &TWO, &[(1, 2, "Z", "_")], Some(5)),
+    (Pick::So, &TWO, &[(2, 2, "a", "p")], Some(5)),
+    (Pick::So, &TWO, &[(2, 3, "a", "p")], Some(5)),
+    (Pick::Sd, &TWO, &[], Some(5)),
+];
+
+#[test]
+fn level_0_is_merged_from_as_many_files_as_the_ratio(rt: HostRuntime) -> Result<(), Fail> {
+    for (order, files, claims, file) in PICKS {
+        let got = picked(rt.alloc(), order, files, claims)?;
+        assert_eq!(rt; got, file, "{order:?} {claims:?}");
+    }
+    Ok(())
+}
+
+/// The entries of the two files of level 1, those of the last level, and what is picked.
+const SATURATIONS: [(u64, u64, u64, Option<u64>); 5] = [
+    (8, 8, 0, None),
+    (8, 9, 0, Some(4)),
+    (u64::MAX, u64::MAX, 0, Some(4)),
+    (0, 0, u64::MAX, None),
+    (17, 0, u64::MAX, Some(9)),
+];
+
+#[test]
+fn a_deeper_level_is_saturated_by_its_entries(rt: HostRuntime) -> Result<(), Fail> {
+    for (first, second, deepest, file) in SATURATIONS {
+        let files: [Row; 3] = [
+            (1, 9, "a", "c", None, 0, first),
+            (1, 4, "d", "f", None, 0, second),
+            (2, 1, "f", "h", None, 0, deepest),
+        ];
+        let got = picked(rt.alloc(), Pick::So, &files, &[])?;
+        assert_eq!(rt; got, file, "{first} {second} {deepest}");
+    }
+    Ok(())
+}
+
+/// A file of level 1: its number, its oldest time, its tombstones, and the entries that lie below it.
+type Candidate = (u64, Option<u64>, u64, u64);
+
+/// Two files of level 1, and what `so` and `sd` pick of them.
+const ORDERS: [(Candidate, Candidate, u64, u64); 7] = [
+    ((3, None, 5, 10), (4, None, 1, 9), 4, 3),
+    ((3, None, 1, 10), (4, None, 5, 9), 4, 4),
+    ((3, None, 1, 9), (4, None, 5, 10), 3, 4),
+    ((3, Some(2), 1, 9), (4, Some(9), 5, 9), 4, 4),
+    ((4, Some(7), 5, 9), (3, Some(6), 5, 9), 3, 3),
+    ((4, Some(7), 5, 9), (3, None, 5, 9), 3, 4),
+    ((4, None, 5, 9), (3, None, 5, 9), 3, 3),
+];
+
+fn files_of(first: Candidate, second: Candidate) -> [Row; 4] {
+    [
+        (1, first.0, "a", "c", first.1, first.2, 9),
+        (1, second.0, "d", "f", second.1, second.2, 9),
+        (2, 1, "c", "cc", None, 0, first.3),
+        (2, 2, "e", "g", None, 0, second.3),
+    ]
+}
+
+#[test]
+fn files_are_merged_in_the_order_of_the_configuration(rt: HostRuntime) -> Result<(), Fail> {
+    for (first, second, so, sd) in ORDERS {
+        let files = files_of(first, second);
+        let by_so = picked(rt.alloc(), Pick::So, &files, &[])?;
+        let by_sd = picked(rt.alloc(), Pick::Sd, &files, &[])?;
+        assert_eq!(rt;
+            (by_so, by_sd),
+            (Some(so), Some(sd)),
+            "{first:?} {second:?}"
+        );
+    }
+    Ok(())
+}
+
+/// Level 0 comes first, then file 3, whose merge has the keys from `a` to `e`, then file 4 with those from `m` to `z`.
+const CANDIDATES: [Row; 6] = [
+    (0, 8, "a", "b", None, 0, 4),
+    (0, 6, "b", "d", None, 0, 4),
+    (1, 4, "m", "p", None, 0, 9),
+    (1, 3, "b", "d", None, 9, 9),
+    (2, 1, "a", "e", None, 0, 5),
+    (2, 2, "p", "z", None, 0, 6),
+];
+
+/// The claims that stand, and what is picked then. The last claims lie beyond the keys of file 4 itself.
+const CLAIMED: [(&[ClaimRow], Option<u64>); 6] = [
+    (&[(5, 6, "a", "z")], Some(6)),
+    (&[(0, 0, "a", "z")], Some(3)),
+    (&[(1, 1, "c", "c")], Some(4)),
+    (&[(2, 3, "c", "z")], Some(6)),
+    (&[(0, 1, "a", "z")], None),
+    (&[(0, 0, "d", "x"), (2, 2, "e", "f")], Some(4)),
+];
+
+#[test]
+fn a_claim_in_the_way_leaves_the_next_candidate(rt: HostRuntime) -> Result<(), Fail> {
+    for (claims, file) in CLAIMED {
+        let got = picked(rt.alloc(), Pick::So, &CANDIDATES, claims)?;
+        assert_eq!(rt; got, file, "{claims:?}");
+    }
+    Ok(())
+}
