@@ -12,5 +12,5 @@ loop-tile-preserved c =
     c.in_ok-add_pages.ensures ∙ (λ k. c.loop-tile.invariant k + length (c.items.ensures k)) ∙ sym (length-append (lines_of (take i tiles)) c.tile-item.result.pages) ∙ ap length (sym more)
 
 pub new-requires-clause-paged : goal.new-requires-clause-paged
-new-requires-clause-paged c =
+new-requires-clause-paged c κs =
     c.loop-tile.invariant ∙ ap (λ tiles. length (lines_of tiles)) (take_all c.loop-tile.tile-index c.items-tile-items.result.now (omega (arith, c.loop-tile-test.false)) ∙ c.items-tile-items.ensures)
