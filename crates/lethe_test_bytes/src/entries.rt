@@ -2,7 +2,7 @@
 
 use crate::common::{changed, cut};
 use lethe_base::{
-    Body, BodyKind, Entry, EntryRefused, entry_len, one_spelling, read_body, read_entry,
+    Body, BodyKind, Entry, EntryRefused, Front, entry_len, one_spelling, read_body, read_entry,
     read_front, read_key, read_place, take_u8, take_u16, take_u32, take_u64, write_entry,
 };
 use std::alloc::Global;
@@ -30,11 +30,20 @@ fn rewritten(alloc: Global, bytes: &[u8]) -> Result<Vec<u8>, Fail> {
     Ok(out)
 }
 
+fn front_of(alloc: Global, bytes: &[u8]) -> Result<(Front, usize), Fail> {
+    Ok(read_front(alloc, bytes, 0).ok().ok_or("a front")?)
+}
+
+fn body_of(alloc: Global, kind: BodyKind, bytes: &[u8], at: usize) -> Result<Body, Fail> {
+    let (body, _) = read_body(alloc, kind, bytes, at).ok().ok_or("a body")?;
+    Ok(body)
+}
+
 /// An entry that is read in two parts: its kind, where its body begins, and the whole.
 fn in_parts(alloc: Global, bytes: &[u8]) -> Result<(BodyKind, usize, Entry), Fail> {
-    let (front, at) = read_front(alloc, bytes, 0).ok().ok_or("a front")?;
+    let (front, at) = front_of(alloc, bytes)?;
     let kind = front.kind;
-    let (body, _) = read_body(alloc, kind, bytes, at).ok().ok_or("a body")?;
+    let body = body_of(alloc, kind, bytes, at)?;
     Ok((kind, at, front.with(body)))
 }
 
@@ -72,18 +81,18 @@ const CUT: [(usize, u64); 8] = [
     (22, 22),
 ];
 
-/// A byte that no put has at its place, and the field that it stands in.
-const NO_PUT: [(usize, u8, u64); 6] = [
-    (0, 3, 0),
-    (1, 0x40, 1),
-    (8, 0, 1),
-    (9, 2, 9),
-    (10, 0, 10),
-    (20, 0x10, 20),
+/// An entry, a byte that none has at this place, and the field that it stands in.
+const CHANGES: [(&[u8], usize, u8, u64); 9] = [
+    (&PUT, 0, 3, 0),
+    (&PUT, 1, 0x40, 1),
+    (&PUT, 8, 0, 1),
+    (&PUT, 9, 2, 9),
+    (&PUT, 10, 0, 10),
+    (&PUT, 20, 0x10, 20),
+    (&TOMB, 0, 0, 0),
+    (&TOMB, 9, 0, 9),
+    (&TOMB, 10, 0x41, 10),
 ];
-
-/// The same of a tombstone.
-const NO_TOMB: [(usize, u8, u64); 3] = [(0, 0, 0), (9, 0, 9), (10, 0x41, 10)];
 
 #[test]
 fn the_first_fault_from_the_left_is_told(rt: HostRuntime) -> Result<(), Fail> {
@@ -97,13 +106,8 @@ fn the_first_fault_from_the_left_is_told(rt: HostRuntime) -> Result<(), Fail> {
             "{len} bytes"
         );
     }
-    for (place, byte, at) in NO_PUT {
-        let bytes = changed(alloc, &PUT, place, byte)?;
-        let why = EntryRefused::Kind { at };
-        assert_eq!(rt; read(alloc, &bytes).err(), Some(why), "byte {place}");
-    }
-    for (place, byte, at) in NO_TOMB {
-        let bytes = changed(alloc, &TOMB, place, byte)?;
+    for (entry, place, byte, at) in CHANGES {
+        let bytes = changed(alloc, entry, place, byte)?;
         let why = EntryRefused::Kind { at };
         assert_eq!(rt; read(alloc, &bytes).err(), Some(why), "byte {place}");
     }

@@ -13,10 +13,9 @@ use std::test::Fail;
 const SEGMENT: [u8; 36] =
     *b"LS\x01\0\0\0\0\0\0\0\x03\x01\x01\0\0\0\0\0\0\0\x01\0\x01a\0\0\0\0\0\0\0\x05\0\x01x\0";
 
-#[test]
-fn records_are_spelled_as_the_format_says(rt: HostRuntime) -> Result<(), Fail> {
-    let alloc = rt.alloc();
-    let put = Record::Entry(Entry {
+/// The spelling of the put that `SEGMENT` has.
+fn put(alloc: Global) -> Result<Vec<u8>, Fail> {
+    let record = Record::Entry(Entry {
         seq: 1,
         key: key_of(alloc, "a")?,
         body: Body::Put {
@@ -25,20 +24,33 @@ fn records_are_spelled_as_the_format_says(rt: HostRuntime) -> Result<(), Fail> {
         },
         since: None,
     });
-    let bytes = write_record(alloc, &put).ok().ok_or("a put")?;
-    assert_eq!(rt; bytes.as_slice(), &SEGMENT[12..35]);
-    let tomb = Record::Entry(Entry {
+    Ok(write_record(alloc, &record)?)
+}
+
+/// The spelling of the tombstone of key `a` at place 2 with time 0.
+fn tomb(alloc: Global) -> Result<Vec<u8>, Fail> {
+    let record = Record::Entry(Entry {
         seq: 2,
         key: key_of(alloc, "a")?,
         body: Body::Tomb,
         since: Some(0),
     });
-    let bytes = write_record(alloc, &tomb).ok().ok_or("a tombstone")?;
+    Ok(write_record(alloc, &record)?)
+}
+
+/// The spelling of the blind delete of place 7.
+fn blind(alloc: Global) -> Result<Vec<u8>, Fail> {
+    Ok(write_record(alloc, &Record::Blind { seq: 7 })?)
+}
+
+#[test]
+fn records_are_spelled_as_the_format_says(rt: HostRuntime) -> Result<(), Fail> {
+    let alloc = rt.alloc();
+    assert_eq!(rt; put(alloc)?.as_slice(), &SEGMENT[12..35]);
     let spelling = b"\x02\0\0\0\0\0\0\0\x02\x01\0\0\0\0\0\0\0\0\x01a";
-    assert_eq!(rt; bytes.as_slice(), spelling.as_slice());
-    let blind = Record::Blind { seq: 7 };
-    let bytes = write_record(alloc, &blind).ok().ok_or("a blind delete")?;
-    assert_eq!(rt; bytes.as_slice(), b"\x03\0\0\0\0\0\0\0\x07".as_slice());
+    assert_eq!(rt; tomb(alloc)?.as_slice(), spelling.as_slice());
+    let spelling = b"\x03\0\0\0\0\0\0\0\x07";
+    assert_eq!(rt; blind(alloc)?.as_slice(), spelling.as_slice());
     let empty = b"LS\x01\0\0\0\0\0\0\0\x03\0";
     assert_eq!(rt; new_segment(3).as_slice(), empty.as_slice());
     assert_eq!(rt; segment_number(&SEGMENT), Some(3));

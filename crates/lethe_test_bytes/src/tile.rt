@@ -148,32 +148,62 @@ fn words_with(alloc: Global, count: usize, places: &[usize]) -> Result<Vec<u64>,
     Ok(words)
 }
 
+/// Whether the filter of so many copies of the key has so many words, and just these bits set.
+fn has_places(
+    alloc: Global,
+    text: &str,
+    copies: usize,
+    count: usize,
+    places: &[usize],
+) -> Result<bool, Fail> {
+    let filter = filter_of_copies(alloc, text, copies)?;
+    let words = words_with(alloc, count, places)?;
+    Ok(filter.words() == words.as_slice())
+}
+
+fn holds_all(filter: &Filter, keys: &[Key]) -> bool {
+    keys.iter().all(|key| filter.may_hold(key))
+}
+
+/// Keys of which a filter has two words.
+const TEXTS: [&str; 7] = ["a", "b", "key", "another", "ab", "ba", "z"];
+
+fn keys_of(alloc: Global, texts: &[&str]) -> Result<Vec<Key>, Fail> {
+    let mut keys = Vec::new(alloc);
+    for text in texts {
+        keys.push(key_of(alloc, text)?)?;
+    }
+    Ok(keys)
+}
+
+/// The filter that is made of the words of another.
+fn again(alloc: Global, filter: &Filter) -> Result<Filter, Fail> {
+    let words = filter.words().to_vec(alloc)?;
+    Ok(Filter::of_words(words).ok_or("no filter")?)
+}
+
+/// A filter in which no bit is set.
+fn filter_of_zeros(alloc: Global) -> Result<Filter, Fail> {
+    Ok(Filter::of_words(vec![in alloc; 0, 0]?).ok_or("no filter")?)
+}
+
 #[test]
 fn a_filter_has_the_bits_of_its_keys(rt: HostRuntime) -> Result<(), Fail> {
     let alloc = rt.alloc();
     let key = key_of(alloc, "a")?;
-    let keys = vec![in alloc; key_of(alloc, "a")?]?;
-    let filter = filter_of(alloc, &keys)?;
+    let filter = filter_of_copies(alloc, "a", 1)?;
     assert_eq!(rt; filter.words(), [0x0008_0040_0200_3001].as_slice());
     assert!(rt; filter.may_hold(&key));
     for (text, copies, count, places) in PLACES {
-        let filter = filter_of_copies(alloc, text, copies)?;
-        let words = words_with(alloc, count, &places)?;
-        assert_eq!(rt; filter.words(), words.as_slice(), "{copies} of {text}");
+        let found = has_places(alloc, text, copies, count, &places)?;
+        assert!(rt; found, "{copies} of {text}");
     }
-    let mut more = Vec::new(alloc);
-    for text in ["a", "b", "key", "another", "ab", "ba", "z"] {
-        more.push(key_of(alloc, text)?)?;
-    }
-    let filter = filter_of(alloc, &more)?;
+    let keys = keys_of(alloc, &TEXTS)?;
+    let filter = filter_of(alloc, &keys)?;
     assert_eq!(rt; filter.words().len(), 2);
-    let words = filter.words().to_vec(alloc)?;
-    let again = Filter::of_words(words).ok_or("no filter")?;
-    for key in &more {
-        assert!(rt; filter.may_hold(key) && again.may_hold(key));
-    }
-    let none = Filter::of_words(vec![in alloc; 0, 0]?).ok_or("no filter")?;
-    assert!(rt; !none.may_hold(&key));
+    assert!(rt; holds_all(&filter, &keys));
+    assert!(rt; holds_all(&again(alloc, &filter)?, &keys));
+    assert!(rt; !filter_of_zeros(alloc)?.may_hold(&key));
     assert!(rt; Filter::of_words(Vec::new(alloc)).is_none());
     Ok(())
 }

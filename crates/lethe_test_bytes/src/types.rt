@@ -1,37 +1,48 @@
 //! Tests of the types that all of Lethe shares, and of the limits of a configuration.
 
-use crate::common::SMALL;
+use crate::common::{SMALL, key_of};
 use lethe_base::{
     Body, Config, ConfigRefused, Entry, Field, Fields, Key, KeyRefused, Pick, Range, Value,
     ValueRefused,
 };
+use std::alloc::Global;
 use std::test::Fail;
 
-#[test]
-fn types_of_the_base_keep_what_they_are_made_of(rt: HostRuntime) -> Result<(), Fail> {
-    let alloc = rt.alloc();
-    let key = Key::new(b"a".to_vec(alloc)?)?;
-    let other = Key::new(b"ab".to_vec(alloc)?)?;
-    assert_eq!(rt; key.copy()?.bytes(), b"a".as_slice());
-    assert!(rt; key < other && key != other);
-    assert!(rt; matches!(Key::new(Vec::new(alloc)), Err(KeyRefused::Empty)));
-    assert!(rt; matches!(Key::new(vec![in alloc; 7; 256]?), Err(KeyRefused::Long)));
-    assert!(rt;
-        matches!(
-            Value::new(vec![in alloc; 7; 4097]?),
-            Err(ValueRefused::Long)
-        )
-    );
+/// Why so many bytes are no key, if they are none.
+fn key_refusal(alloc: Global, len: usize) -> Result<Option<KeyRefused>, Fail> {
+    Ok(Key::new(vec![in alloc; 7; len]?).err())
+}
+
+/// Why so many bytes are no value, if they are none.
+fn value_refusal(alloc: Global, len: usize) -> Result<Option<ValueRefused>, Fail> {
+    Ok(Value::new(vec![in alloc; 7; len]?).err())
+}
+
+/// A copy of the put of key `a` and delete key 5 at place 1, with time 3.
+fn copy_of_put(alloc: Global) -> Result<Entry, Fail> {
     let entry = Entry {
         seq: 1,
-        key,
+        key: key_of(alloc, "a")?,
         body: Body::Put {
             dkey: 5,
             value: Value::new(Vec::new(alloc))?,
         },
         since: Some(3),
     };
-    let copy = entry.copy()?;
+    Ok(entry.copy()?)
+}
+
+#[test]
+fn types_of_the_base_keep_what_they_are_made_of(rt: HostRuntime) -> Result<(), Fail> {
+    let alloc = rt.alloc();
+    let key = key_of(alloc, "a")?;
+    let other = key_of(alloc, "ab")?;
+    assert_eq!(rt; key.copy()?.bytes(), b"a".as_slice());
+    assert!(rt; key < other && key != other);
+    assert!(rt; matches!(key_refusal(alloc, 0)?, Some(KeyRefused::Empty)));
+    assert!(rt; matches!(key_refusal(alloc, 256)?, Some(KeyRefused::Long)));
+    assert!(rt; matches!(value_refusal(alloc, 4097)?, Some(ValueRefused::Long)));
+    let copy = copy_of_put(alloc)?;
     assert!(rt; matches!(copy.body, Body::Put { dkey: 5, .. }));
     assert_eq!(rt; copy.since, Some(3));
     assert!(rt; Range::new(2, 2).is_none());
@@ -169,10 +180,15 @@ const REFUSED: [(Fields, Field, u64); 17] = [
     ),
 ];
 
+/// Why the fields are no configuration, if they are none.
+fn refusal(fields: Fields) -> Option<ConfigRefused> {
+    Config::new(fields).err()
+}
+
 #[test]
 fn the_first_field_that_breaks_its_limit_is_named(rt: HostRuntime) {
     for (fields, field, value) in REFUSED {
         let why = ConfigRefused { field, value };
-        assert_eq!(rt; Config::new(fields).err(), Some(why));
+        assert_eq!(rt; refusal(fields), Some(why));
     }
 }
