@@ -4,8 +4,6 @@
 mod phase;
 mod session;
 mod sum;
-#[cfg(test)]
-mod tests;
 
 pub use phase::{add_both, run};
 pub use session::{Store, add, limit};

@@ -1,7 +1,8 @@
+//! A sum behind a turn, by two threads and by eight.
 ghost use Rattle.std.specs.Prelude.{◌≡◌, ◌<◌, None};
 ghost use Rattle.lethe_test_turn.specs.Sessions.{IsReady};
 
-use crate::{Refused, Store, Sum, add, add_both, limit, run};
+use lethe_test_turn::{Refused, Store, Sum, add, add_both, limit, run};
 use lethe_turn::Seat;
 use std::sync::Wait;
 use std::test::Fail;

@@ -1,0 +1,5 @@
+//! Tests of threads: a value behind a turn.
+#![tactic(auto)]
+
+#[cfg(test)]
+mod sum;
