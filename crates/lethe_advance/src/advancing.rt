@@ -1,7 +1,7 @@
 //! Going from what is stored to what is stored next.
 ghost use Rattle.std.specs.Prelude.{◌≡◌, ◌⊎◌, ℕ, ◌+◌, ◌<◌, ◌≤◌, List, length, map, All, Contains, IfOk, OnOk, IsErrOf};
 ghost use Rattle.lethe_base.specs.declared.name.Name.{Name};
-ghost use Rattle.lethe_disk.specs.Directory.{object};
+ghost use Rattle.lethe_disk.specs.Directory.{Directory, object};
 ghost use Rattle.lethe_disk.specs.Disk.{HasCause, IsSynced};
 ghost use Rattle.lethe_disk.specs.Goes.{Goes};
 ghost use Rattle.lethe_disk.specs.Runs.{Leads};
@@ -49,6 +49,11 @@ pub fn advance<D: Disk>(
     // A crash at any moment of the call leaves what was stored, or what is stored next.
     ensures any_moment { D.tells → (s t : Stored) (loose left : List (Name × List ℕ)) → MayAdvance (D.seen disk.old) s loose t left headers.items step.now
         → Goes (λ c. Encodes c s ⊎ Encodes c t) (D.seen disk.old) (D.seen disk.new) }
+
+    // Up to as many device calls as there are objects, it leaves what was stored.
+    ensures early { D.tells → (s t : Stored) (loose left : List (Name × List ℕ)) → MayAdvance (D.seen disk.old) s loose t left headers.items step.now
+        → (moment : ℕ) (c : Directory) → (D.seen disk.old).moment ≤ moment → moment ≤ (D.seen disk.new).moment
+        → moment ≤ (D.seen disk.old).moment + length step.now.objects.items → (D.seen disk.new).left moment c → Encodes c s }
 
     // Acknowledged: each crash leaves what is stored next, and nothing else but the objects that are left loose.
     ensures done { D.tells → (s t : Stored) (loose left : List (Name × List ℕ)) → MayAdvance (D.seen disk.old) s loose t left headers.items step.now

@@ -52,9 +52,9 @@ encoded_undamaged config d s name coherent e rising (inr bad) =
     part_undamaged d s name coherent e rising (subst (λ m. IsDamagedPart d m name) (one_gated d bad.0 s.manifest bad.1 (encodes_gated d s coherent e)) bad.3)
 
 -- what is kept for a history isn't damaged
-pub kept_undamaged : (h : History) (d : Directory) → IsKept d h → (config : Fields) (name : Name) → IsDamaged config d name → ⊥
-kept_undamaged h d (inl none) config name = none_undamaged config d name none.0
-kept_undamaged h d (inr k) config name = encoded_undamaged config d k.s name k.coherent k.encodes (kept_rise h k.s k.coherent k.stands)
+pub kept_undamaged : (kept : Fields) (h : History) (d : Directory) → IsKept kept d h → (config : Fields) (name : Name) → IsDamaged config d name → ⊥
+kept_undamaged kept h d (inl none) config name = none_undamaged config d name none.0
+kept_undamaged kept h d (inr k) config name = encoded_undamaged config d k.s name k.coherent k.encodes (kept_rise h k.s k.coherent k.stands)
 
 -- Damage is one
 

@@ -8,5 +8,5 @@ ghost use Rattle.lethe_load.specs.Damaged.{IsDamaged};
 
 /// Of a directory that is kept for a history, nothing is damaged.
 pub fn kept_has_no_damage()
-    ensures { (h : History) (d : Directory) → IsKept d h → (config : Fields) (name : Name) → IsDamaged config d name → ⊥ }
+    ensures { (kept : Fields) (h : History) (d : Directory) → IsKept kept d h → (config : Fields) (name : Name) → IsDamaged config d name → ⊥ }
 {}

@@ -13,8 +13,8 @@ use Rattle.lethe_commit.specs.Switch.{HasGreatest}
 use Rattle.lethe_version.specs.Versions.{levels_of}
 use Rattle.lethe_stored.specs.Stored.{Stored, IsCoherent, pending_of, records_in, segment_name}
 use Rattle.lethe_stored.specs.Encodes.{Encodes}
-use Rattle.lethe_stored.specs.Kept.{IsFor}
-use Rattle.lethe_stored.specs.Left.{IsHistoryOr}
+use Rattle.lethe_stored.specs.Kept.{IsFor, IsKept}
+use Rattle.lethe_stored.specs.Left.{IsHistoryOr, IsKeptOr}
 use Rattle.lethe_stored.specs.Levels.{AreRising, HasFiles}
 use Rattle.lethe_advance.specs.Settled.{IsSettled, HasOnly}
 use Rattle.lethe_advance.specs.Shown.{parts_by_level}
@@ -54,16 +54,17 @@ pub record IsOpened {D Page Port : Type 0} {kind : Ghosts D Page Port} (config :
   -- and the first record can be appended behind the segment's head
   pub ends : EndsAt disk (segment_name s.active.no) s.active.no [] 11
 
--- And it stands for the history that the disk was left for, or for that with the change carried out.
-pub record IsResumed {D Page Port : Type 0} {kind : Ghosts D Page Port} (config : Fields) (h : History) (change : Option Change) (disk : Seen) (opened : Opened D Page Port kind) : Type 0 where
+-- And it stands for the history that the directory was kept for: the one that the disk was left for, or that with the change carried out.
+pub record IsResumed {D Page Port : Type 0} {kind : Ghosts D Page Port} (config : Fields) (h : History) (change : Option Change) (start : Directory) (disk : Seen) (opened : Opened D Page Port kind) : Type 0 where
   pub history : History
   pub either : IsHistoryOr h change history
+  pub was : IsKept config start history
   pub is : IsOpened config disk opened
   pub stands : IsFor history is.s
 
--- the next number of what the directory encodes, or of a new store
-abbrev pub IsNextNumber : Directory → ℕ → Type 0
-IsNextNumber d next = (HasGreatest None d × (next ≡ 3)) ⊎ ((s : Stored) × IsCoherent s × Encodes d s × (next ≡ s.manifest.next))
+-- what a crash leaves while a store is opened: what the disk was left for, or where there was no gate a new store of the asked configuration
+abbrev pub IsKeptInOpening : Fields → Fields → History → Option Change → Directory → Directory → Type 0
+IsKeptInOpening kept config h change start d = IsKeptOr kept h change d ⊎ (HasGreatest None start × IsKept config d [])
 
 -- The next number is so great that those of the files of the journal's records, the segment's and the manifest's can't be drawn.
 pub record IsExhausted (d : Directory) : Type 0 where

@@ -1,17 +1,19 @@
 //! Opening a store.
 ghost use Rattle.std.specs.Prelude.{◌≡◌, ◌≤◌, ◌<◌, ◌+◌, ◌⊎◌, [], ℕ, None, Option, IsErrOf, IfErr, IfOk, MatchResult};
 ghost use Rattle.lethe_base.specs.History.{History, Change};
+ghost use Rattle.lethe_base.specs.declared.config.Fields.{Fields};
 ghost use Rattle.lethe_disk.specs.Disk.{IsSynced, HasCause};
 ghost use Rattle.lethe_disk.specs.Goes.{Goes};
 ghost use Rattle.lethe_disk.specs.Quiet.{IsQuiet};
 ghost use Rattle.lethe_commit.specs.Switch.{HasGreatest};
 ghost use Rattle.lethe_stored.specs.Kept.{IsKept};
-ghost use Rattle.lethe_stored.specs.Left.{IsLeft, IsKeptOr};
+ghost use Rattle.lethe_stored.specs.Left.{IsLeft};
+ghost use Rattle.lethe_stored.specs.Numbers.{IsNextNumber, AreDrawn};
 ghost use Rattle.lethe_load.specs.Refused.{HasReason};
 ghost use Rattle.lethe_load.specs.declared.refused.RecoverRefused.{RecoverRefused};
 ghost use Rattle.lethe_recover.specs.New.{new_stored};
 ghost use Rattle.lethe_recover.specs.Resuming.{IsThere};
-ghost use Rattle.lethe_recover.specs.Opening.{IsOpened, IsSpellable, IsResumed, IsNextNumber, MayNotOpen, IsCut, since_start};
+ghost use Rattle.lethe_recover.specs.Opening.{IsOpened, IsSpellable, IsResumed, IsKeptInOpening, MayNotOpen, IsCut, since_start};
 ghost use Rattle.lethe_recover.specs.declared.opening.OpenWhy.TheVariants.{Exhausted};
 
 use crate::failing::{failure, since_start};
@@ -51,13 +53,14 @@ pub fn open<D: Disk>(alloc: Global, disk: &mut D, config: &Config) -> Result<Ope
     // What is told can be written, whatever the disk is.
     ensures spelled { IfOk result (λ opened. IsSpellable config.now opened) }
 
-    // Where the disk was left for a history, the store stands for it, or for it with the change carried out.
-    ensures resumed { D.tells → (h : History) (change : Option Change) → IsLeft (D.seen disk.old) h change
-        → IfOk result (λ opened. IsResumed config.now h change (D.seen disk.new) opened) }
+    // Where the disk was left for a history, in whatever configuration, the store stands for it, or for it with the change carried out: for the one that the
+    // directory is kept for.
+    ensures resumed { D.tells → (kept : Fields) (h : History) (change : Option Change) → IsLeft kept (D.seen disk.old) h change
+        → IfOk result (λ opened. IsResumed config.now h change (D.seen disk.old).directory (D.seen disk.new) opened) }
 
-    // A crash at any moment of the call, whatever it answers, leaves a disk that is kept for one of the two.
-    ensures any_moment { D.tells → (h : History) (change : Option Change) → IsLeft (D.seen disk.old) h change
-        → Goes (IsKeptOr h change) (D.seen disk.old) (D.seen disk.new) }
+    // A crash at any moment of the call, whatever it answers, leaves a disk that is kept for one of the two, or a new store where there was no gate.
+    ensures any_moment { D.tells → (kept : Fields) (h : History) (change : Option Change) → IsLeft kept (D.seen disk.old) h change
+        → Goes (IsKeptInOpening kept config.now h change (D.seen disk.old).directory) (D.seen disk.old) (D.seen disk.new) }
 
     // A refusal has its reason.
     ensures refused { IfErr result (MayNotOpen D.tells config.now (D.seen disk.old).directory (D.faults disk.old) (D.faults disk.new)) }
@@ -75,6 +78,8 @@ pub fn open<D: Disk>(alloc: Global, disk: &mut D, config: &Config) -> Result<Ope
     // Numbers are drawn no faster than device calls are made.
     ensures numbers { D.tells → IfOk result (λ opened. (next : ℕ) → IsNextNumber (D.seen disk.old).directory next
         → opened.manifest.next + (D.seen disk.old).moment ≤ next + (D.seen disk.new).moment) }
+    ensures drawn { D.tells → (first : ℕ) → AreDrawn first (D.seen disk.old).moment (D.seen disk.old).moment (D.seen disk.old)
+        → AreDrawn first (D.seen disk.old).moment (D.seen disk.old).moment (D.seen disk.new) }
     ensures faults { D.faults disk.old ≤ D.faults disk.new }
 {
     let before = disk.faults();
@@ -95,10 +100,10 @@ fn open_synced<D: Disk>(
     requires synced { D.tells → IsSynced (D.seen disk.old) }
     ensures opened { D.tells → IfOk result (λ opened. IsOpened config.now (D.seen disk.new) opened) }
     ensures spelled { IfOk result (λ opened. IsSpellable config.now opened) }
-    ensures resumed { D.tells → (h : History) → IsKept (D.seen disk.old).directory h
-        → IfOk result (λ opened. IsResumed config.now h None (D.seen disk.new) opened) }
-    ensures any_moment { D.tells → (h : History) → IsKept (D.seen disk.old).directory h
-        → Goes (λ c. IsKept c h) (D.seen disk.old) (D.seen disk.new) }
+    ensures resumed { D.tells → (kept : Fields) (h : History) → IsKept kept (D.seen disk.old).directory h
+        → IfOk result (λ opened. IsResumed config.now h None (D.seen disk.old).directory (D.seen disk.new) opened) }
+    ensures any_moment { D.tells → (kept : Fields) (h : History) → IsKept kept (D.seen disk.old).directory h
+        → Goes (IsKeptInOpening kept config.now h None (D.seen disk.old).directory) (D.seen disk.old) (D.seen disk.new) }
     ensures refused { IfErr result (MayNotOpen D.tells config.now (D.seen disk.old).directory before (D.faults disk.new)) }
     ensures exact { D.tells → (why : RecoverRefused) → HasReason config.now (D.seen disk.old).directory why
         → MatchResult result (λ opened. ⊥) (λ told. (told ≡ since_start before why) ⊎ IsCut ⊥ before (D.faults disk.new) told) }
@@ -107,6 +112,8 @@ fn open_synced<D: Disk>(
     ensures exhausted { D.tells → (last : ℕ) → IsErrOf result (Exhausted last) → IsQuiet (D.seen disk.old) (D.seen disk.new) }
     ensures numbers { D.tells → IfOk result (λ opened. (next : ℕ) → IsNextNumber (D.seen disk.old).directory next
         → opened.manifest.next + (D.seen disk.old).moment ≤ next + (D.seen disk.new).moment) }
+    ensures drawn { D.tells → (first : ℕ) → AreDrawn first (D.seen disk.old).moment (D.seen disk.old).moment (D.seen disk.old)
+        → AreDrawn first (D.seen disk.old).moment (D.seen disk.old).moment (D.seen disk.new) }
     ensures faults { D.faults disk.old ≤ D.faults disk.new }
 {
     let read = match load(alloc, disk, config) {
@@ -140,7 +147,8 @@ fn start<D: Disk>(
     ensures there { D.tells → IfOk result (λ opened. IsThere (D.seen disk.new) (new_stored config.now) opened) }
     ensures spelled { IfOk result (λ opened. IsSpellable config.now opened) }
     ensures next { IfOk result (λ opened. opened.manifest.next ≡ 3) }
-    ensures any_moment { D.tells → Goes (λ c. IsKept c []) (D.seen disk.old) (D.seen disk.new) }
+    ensures any_moment { D.tells → Goes (λ c. IsKept config.now c []) (D.seen disk.old) (D.seen disk.new) }
+    ensures drawn { D.tells → AreDrawn 3 (D.seen disk.old).moment (D.seen disk.old).moment (D.seen disk.new) }
     ensures refused { IfErr result (IsCut ⊥ before (D.faults disk.new)) }
     ensures faults { D.faults disk.old ≤ D.faults disk.new }
 {
@@ -160,7 +168,8 @@ fn begin_with_version<D: Disk>(
     ensures there { D.tells → IfOk result (λ opened. IsThere (D.seen disk.new) (new_stored config.now) opened) }
     ensures spelled { IfOk result (λ opened. IsSpellable config.now opened) }
     ensures next { IfOk result (λ opened. opened.manifest.next ≡ 3) }
-    ensures any_moment { D.tells → Goes (λ c. IsKept c []) (D.seen disk.old) (D.seen disk.new) }
+    ensures any_moment { D.tells → Goes (λ c. IsKept config.now c []) (D.seen disk.old) (D.seen disk.new) }
+    ensures drawn { D.tells → AreDrawn 3 (D.seen disk.old).moment (D.seen disk.old).moment (D.seen disk.new) }
     ensures cause { HasCause (D.faults disk.old) (D.faults disk.new) result }
 {
     let manifest = begin(alloc, disk, config)?;

@@ -117,9 +117,10 @@ encoded d own next segment records bytes spelling below gate manifest is there s
   parts = record { active = record { bytes = spelling; there = there; holds = subst (Holds segment records) (sym spells) (holds_spelling segment records) }; frozen = tt; files = All-nil (HasObject d) };
 }
 
-pub new_store : (d : Directory) → IsNewStore d → IsKept d []
+pub new_store : (d : Directory) → IsNewStore d → IsKept small d []
 new_store d is = inr (record {
   s = empty_stored small 2 3 1;
+  config_is = refl;
   coherent = empty_is_stored small 2 3 1 small_limits (omega arith) (omega arith) (omega arith);
   encodes = encoded d 2 3 1 [] new_manifest new_segment (omega arith) is.gate is.manifest new_manifest_spelled is.segment new_segment_spelled;
   stands = empty_stands small 2 3 1 small_limits (omega arith) (omega arith);
@@ -137,12 +138,13 @@ no_time = ap (λ o. option_and_then (λ (entry : Entry). entry.since) o) (finmap
 the_record_is : of.Entry (put_entry [] (layout_of empty) (97 ∷ []) 5 (120 ∷ [])) ≡ the_record
 the_record_is = ap (λ since. of.Entry (record { seq = 1; key = 97 ∷ []; body = body.Put 5 (120 ∷ []); since = since })) no_time
 
-pub one_put : (caller : ℕ) (d : Directory) → IsOnePut d → IsKept d (the_put caller)
+pub one_put : (caller : ℕ) (d : Directory) → IsOnePut d → IsKept small d (the_put caller)
 one_put caller d is =
     let coherent = empty_is_stored small 4 5 3 small_limits (omega arith) (omega arith) (omega arith) in
     let stands = empty_stands small 4 5 3 small_limits (omega arith) (omega arith) in
     inr (record {
       s = appended empty the_record;
+      config_is = refl;
       coherent = subst (λ r. IsCoherent (appended empty r)) the_record_is (put_stored [] empty coherent stands (omega arith) caller (97 ∷ []) 5 (120 ∷ []) (record { some = omega arith; short = omega arith }) (omega arith) (omega arith));
       encodes = encoded d 4 5 3 (the_record ∷ []) put_manifest put_segment (omega arith) is.gate is.manifest put_manifest_spelled is.segment put_segment_spelled;
       stands = subst (λ r. IsFor (the_put caller) (appended empty r)) the_record_is (put_for [] empty coherent stands (omega arith) caller (97 ∷ []) 5 (120 ∷ []));

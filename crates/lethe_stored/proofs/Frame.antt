@@ -3,6 +3,7 @@ use Rattle.std.proofs.Common.{◌≡◌, ◌≢◌, ◌≤◌, inl, inr, ℕ, su
 use Rattle.std.specs.Prelude.{All, Contains, IfSome, is_some}
 use Rattle.std.proofs.lemmas.List.Elements.{All-contains}
 use Rattle.lethe_base.specs.History.{History}
+use Rattle.lethe_base.specs.declared.config.Fields.{Fields}
 use Rattle.lethe_base.specs.declared.name.Kind.TheVariants as kinds
 use Rattle.lethe_base.specs.declared.name.Name.{Name}
 use Rattle.lethe_disk.specs.Directory.{Directory, object, IsNoneOf, SameBeside}
@@ -60,9 +61,9 @@ framed s d c e a = record {
   parts = parts_framed d c s (λ name is. a.same name (inr (inr is))) e.parts;
 }
 
-pub kept_framed : (h : History) (d c : Directory) → IsKept d h → IsBeside d c → IsKept c h
-kept_framed h d c (inl none) b = inl (b.none none.0, none.1)
-kept_framed h d c (inr k) b = inr (record { s = k.s; coherent = k.coherent; encodes = framed k.s d c k.encodes (b.agrees k.s k.encodes); stands = k.stands })
+pub kept_framed : (config : Fields) (h : History) (d c : Directory) → IsKept config d h → IsBeside d c → IsKept config c h
+kept_framed config h d c (inl none) b = inl (b.none none.0, none.1)
+kept_framed config h d c (inr k) b = inr (record { s = k.s; config_is = k.config_is; coherent = k.coherent; encodes = framed k.s d c k.encodes (b.agrees k.s k.encodes); stands = k.stands })
 
 -- Beside what is cited
 

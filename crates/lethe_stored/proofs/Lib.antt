@@ -3,6 +3,7 @@ pub mod Parts
 pub mod Unique
 pub mod Frame
 pub mod Steps
+pub mod Numbers
 pub mod Meanings
 pub mod Numbered
 pub mod Leveled

@@ -8,6 +8,7 @@ use Rattle.lethe_base.specs.Layout as layout
 use Rattle.lethe_base.specs.Layout.{Layout, Written, place_of, buffer_of, frozen_records}
 use Rattle.lethe_base.specs.Held.{Holds, Shows, InBuffer}
 use Rattle.lethe_base.specs.SameMap.{IsNewest, IsMap}
+use Rattle.lethe_base.specs.declared.config.Fields.{Fields}
 use Rattle.lethe_base.specs.declared.entry.Entry.{Entry}
 use Rattle.lethe_base.proofs.HeldLaws.{buffer_recorded, shown_held}
 use Rattle.lethe_base.proofs.LayoutLaws.{none_in}
@@ -100,15 +101,16 @@ module _ (h : History) (s : Stored) (coherent : IsCoherent s) (stands : IsFor h 
     absent = λ key none. stands.covers.same_map.absent key (λ entry shown. none entry (shown_held l entry shown));
   }
 
-pub kept_means : (h : History) (d : Directory) → IsKept d h → Means d (record { map = (after h).map; clock = (after h).clock; count = length h })
-kept_means h d (inl none) = inl (none.0, ap (λ (g : History). record { map = (after g).map; clock = (after g).clock; count = length g }) none.1)
-kept_means h d (inr k) = inr (k.s, k.coherent, k.encodes, record { map = held_map h k.s k.coherent k.stands; clock = sym k.stands.clock; count = sym k.stands.count })
+pub kept_means : (config : Fields) (h : History) (d : Directory) → IsKept config d h → Means d (record { map = (after h).map; clock = (after h).clock; count = length h })
+kept_means config h d (inl none) = inl (none.0, ap (λ (g : History). record { map = (after g).map; clock = (after g).clock; count = length g }) none.1)
+kept_means config h d (inr k) = inr (k.s, k.coherent, k.encodes, record { map = held_map h k.s k.coherent k.stands; clock = sym k.stands.clock; count = sym k.stands.count })
 
 -- of what it holds nothing is overdue
-pub kept_timely : (h : History) (d : Directory) (s : Stored) → IsKept d h → IsCoherent s → Encodes d s → (entry : Entry) (swept : ℕ) → Holds (layout_of s) entry swept → IsPut entry.body
-    → IsOverdue s.manifest.config.threshold h (after h).clock entry.seq → ⊥
-kept_timely h d s (inl none) coherent e entry swept held put overdue = none_or_some d s.manifest.no none.0 e.greatest
-kept_timely h d s (inr k) coherent e entry swept held put overdue =
+pub kept_timely : (config : Fields) (h : History) (d : Directory) (s : Stored) → IsKept config d h → IsCoherent s → Encodes d s → (entry : Entry) (swept : ℕ) → Holds (layout_of s) entry swept → IsPut entry.body
+    → IsOverdue config.threshold h (after h).clock entry.seq → ⊥
+kept_timely config h d s (inl none) coherent e entry swept held put overdue = none_or_some d s.manifest.no none.0 e.greatest
+kept_timely config h d s (inr k) coherent e entry swept held put overdue =
     let same = one_stored d k.s s k.coherent coherent k.encodes e in
+    let config_is : config.threshold ≡ s.manifest.config.threshold = sym (ap (λ (x : Fields). x.threshold) k.config_is) ∙ ap (λ (x : Stored). x.manifest.config.threshold) same in
     let stands : IsFor h s = subst (IsFor h) same k.stands in
-    none_overdue s.manifest.config.threshold h (layout_of s) stands.covers entry swept held put (subst (λ t. IsOverdue s.manifest.config.threshold h t entry.seq) (sym stands.clock) overdue)
+    none_overdue s.manifest.config.threshold h (layout_of s) stands.covers entry swept held put (subst (λ t. IsOverdue s.manifest.config.threshold h t entry.seq) (sym stands.clock) (subst (λ n. IsOverdue n h (after h).clock entry.seq) config_is overdue))

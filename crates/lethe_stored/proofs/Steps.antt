@@ -3,6 +3,7 @@ use Rattle.std.proofs.Common.{◌≡◌, ◌≢◌, ◌<◌, ◌≤◌, ◌⊎�
 use Rattle.std.specs.Prelude.{AllPairs, Contains, is_some, option_to_list}
 use Rattle.std.proofs.lemmas.Bool.{cases_eq}
 use Rattle.lethe_base.specs.History.{History}
+use Rattle.lethe_base.specs.declared.config.Fields.{Fields}
 use Rattle.lethe_base.specs.declared.name.Kind.TheVariants as kinds
 use Rattle.lethe_base.specs.declared.name.Name.{Name}
 use Rattle.lethe_disk.specs.Directory.{Directory, object, IsNoneOf, SameBut, IsCreated}
@@ -71,10 +72,10 @@ append_encodes s next at d c coherent e left = elim left.either [
 ]
 
 pub append_keeps : (h g : History) (s : Stored) (next : Record) (at : ℕ) (d c : Directory) → IsCoherent s → Encodes d s → IsFor h s → IsCoherent (appended s next) → IsFor g (appended s next)
-    → IsAppended (segment_name s.active.no) at (addition s next) d c → IsKept c h ⊎ IsKept c g
+    → IsAppended (segment_name s.active.no) at (addition s next) d c → IsKept s.manifest.config c h ⊎ IsKept s.manifest.config c g
 append_keeps h g s next at d c coherent e stands longer_coherent longer_stands left = elim (append_encodes s next at d c coherent e left) [
-  | inl old ↦ inl (inr (record { s = s; coherent = coherent; encodes = old; stands = stands }))
-  | inr new ↦ inr (inr (record { s = appended s next; coherent = longer_coherent; encodes = new; stands = longer_stands }))
+  | inl old ↦ inl (inr (record { s = s; config_is = refl; coherent = coherent; encodes = old; stands = stands }))
+  | inr new ↦ inr (inr (record { s = appended s next; config_is = refl; coherent = longer_coherent; encodes = new; stands = longer_stands }))
 ]
 
 -- Switching
@@ -122,11 +123,11 @@ switch_encodes s t d c e parts lt (inr new) = inr (record {
   parts = parts_framed d c t (λ name is. new.others name (part_old t t.manifest.no s.manifest.no name is)) parts;
 })
 
-pub switch_keeps : (h : History) (s t : Stored) (d c : Directory) → IsCoherent s → Encodes d s → IsFor h s → IsCoherent t → HasParts d t → IsFor h t → s.manifest.no < t.manifest.no
-    → IsSwitched t.manifest.no (manifest_bytes t.manifest) (Some s.manifest.no) d c → IsKept c h
-switch_keeps h s t d c s_is e s_for t_is parts t_for lt left = elim (switch_encodes s t d c e parts lt left) [
-  | inl old ↦ inr (record { s = s; coherent = s_is; encodes = old; stands = s_for })
-  | inr new ↦ inr (record { s = t; coherent = t_is; encodes = new; stands = t_for })
+pub switch_keeps : (h : History) (s t : Stored) (d c : Directory) → IsCoherent s → Encodes d s → IsFor h s → IsCoherent t → HasParts d t → IsFor h t → t.manifest.config ≡ s.manifest.config → s.manifest.no < t.manifest.no
+    → IsSwitched t.manifest.no (manifest_bytes t.manifest) (Some s.manifest.no) d c → IsKept s.manifest.config c h
+switch_keeps h s t d c s_is e s_for t_is parts t_for same lt left = elim (switch_encodes s t d c e parts lt left) [
+  | inl old ↦ inr (record { s = s; config_is = refl; coherent = s_is; encodes = old; stands = s_for })
+  | inr new ↦ inr (record { s = t; config_is = same; coherent = t_is; encodes = new; stands = t_for })
 ]
 
 -- the first switch, where there is no gate
@@ -147,23 +148,23 @@ first_switch_encodes t d c none parts (inr new) = inr (record {
   parts = parts_framed d c t (λ name is. new.others name (part_new t t.manifest.no name is)) parts;
 })
 
-pub first_switch_keeps : (t : Stored) (d c : Directory) → HasGreatest None d → IsCoherent t → HasParts d t → IsFor [] t → IsSwitched t.manifest.no (manifest_bytes t.manifest) None d c → IsKept c []
+pub first_switch_keeps : (t : Stored) (d c : Directory) → HasGreatest None d → IsCoherent t → HasParts d t → IsFor [] t → IsSwitched t.manifest.no (manifest_bytes t.manifest) None d c → IsKept t.manifest.config c []
 first_switch_keeps t d c none t_is parts t_for left = elim (first_switch_encodes t d c none parts left) [
   | inl still ↦ inl (still, refl)
-  | inr new ↦ inr (record { s = t; coherent = t_is; encodes = new; stands = t_for })
+  | inr new ↦ inr (record { s = t; config_is = refl; coherent = t_is; encodes = new; stands = t_for })
 ]
 
 -- Clearing and creating
 
-pub clear_keeps : (h : History) (d c : Directory) (names : List Name) → IsKept d h → ((s : Stored) → IsCoherent s → Encodes d s → AreSpare s names) → IsCleared names d c → IsKept c h
-clear_keeps h d c names (inl none) spare left = inl (
+pub clear_keeps : (config : Fields) (h : History) (d c : Directory) (names : List Name) → IsKept config d h → ((s : Stored) → IsCoherent s → Encodes d s → AreSpare s names) → IsCleared names d c → IsKept config c h
+clear_keeps config h d c names (inl none) spare left = inl (
   (λ k. elim (left.either (gate_name k)) [
     | inl gone ↦ gone
     | inr same ↦ same ∙ none.0 k
   ]),
   none.1,
 )
-clear_keeps h d c names (inr k) spare left = inr (record { s = k.s; coherent = k.coherent; encodes = besides k.s d c names k.encodes (spare k.s k.coherent k.encodes) left.others; stands = k.stands })
+clear_keeps config h d c names (inr k) spare left = inr (record { s = k.s; config_is = k.config_is; coherent = k.coherent; encodes = besides k.s d c names k.encodes (spare k.s k.coherent k.encodes) left.others; stands = k.stands })
 
 pub one_name : (name other : Name) → Contains (name ∷ []) other → name ≡ other
 one_name name other there = by there.0 there.1 there.2
@@ -172,10 +173,11 @@ one_name name other there = by there.0 there.1 there.2
     by zero lt is = is
     by (suc k) lt is = absurd (omega arith)
 
-pub create_keeps : (h : History) (d c : Directory) (name : Name) → IsKept d h → name.kind ≢ kinds.Gate → ((s : Stored) → IsCoherent s → Encodes d s → s.manifest.next ≤ name.no) → IsCreated name d c → IsKept c h
-create_keeps h d c name (inl none) other fresh left = inl ((λ k. left.others (gate_name k) (λ is. other (sym (ap (λ (n : Name). n.kind) is))) ∙ none.0 k), none.1)
-create_keeps h d c name (inr k) other fresh left = inr (record {
+pub create_keeps : (config : Fields) (h : History) (d c : Directory) (name : Name) → IsKept config d h → name.kind ≢ kinds.Gate → ((s : Stored) → IsCoherent s → Encodes d s → s.manifest.next ≤ name.no) → IsCreated name d c → IsKept config c h
+create_keeps config h d c name (inl none) other fresh left = inl ((λ k. left.others (gate_name k) (λ is. other (sym (ap (λ (n : Name). n.kind) is))) ∙ none.0 k), none.1)
+create_keeps config h d c name (inr k) other fresh left = inr (record {
   s = k.s;
+  config_is = k.config_is;
   coherent = k.coherent;
   encodes = besides k.s d c (name ∷ []) k.encodes (λ x there. subst (IsSpare k.s) (one_name name x there) (fresh_spare k.s name k.coherent (fresh k.s k.coherent k.encodes) other)) (λ x none. left.others x none.0);
   stands = k.stands;

@@ -1,4 +1,4 @@
--- Which history a directory is kept for.
+-- Which history a directory is kept for, in which configuration.
 use Rattle.std.specs.Prelude.{◌≡◌, ◌⊎◌, ℕ, Bool, false, nat_le, [], length, count_by, None}
 use Rattle.lethe_base.specs.History.{History, IsLegal, AreDone, after}
 use Rattle.lethe_base.specs.Shapes.{IsValidShape, shape_of}
@@ -7,6 +7,7 @@ use Rattle.lethe_base.specs.declared.call.Call.{Call}
 use Rattle.lethe_base.specs.declared.call.Call.TheVariants.{Put, Delete, Erase, Tick, Work}
 use Rattle.lethe_base.specs.declared.call.Did.{Did}
 use Rattle.lethe_base.specs.declared.call.Did.TheVariants.{Done, Failed}
+use Rattle.lethe_base.specs.declared.config.Fields.{Fields}
 use Rattle.lethe_disk.specs.Directory.{Directory}
 use Rattle.lethe_commit.specs.Switch.{HasGreatest}
 use Rattle.lethe_stored.specs.Stored.{Stored, IsCoherent, layout_of, count_of, certificate_number}
@@ -35,13 +36,14 @@ pub record IsFor (h : History) (s : Stored) : Type 0 where
   pub count : count_of s ≡ length h
   pub certificate : certificate_number s.manifest.certificate ≡ certificates s.manifest.config.threshold h
 
--- the directory encodes what stands for the history
-pub record IsEncoded (d : Directory) (h : History) : Type 0 where
+-- the directory encodes what has the configuration and stands for the history
+pub record IsEncoded (config : Fields) (d : Directory) (h : History) : Type 0 where
   pub s : Stored
+  pub config_is : s.manifest.config ≡ config
   pub coherent : IsCoherent s
   pub encodes : Encodes d s
   pub stands : IsFor h s
 
 -- it does, or there is no gate and no history
-abbrev pub IsKept : Directory → History → Type 0
-IsKept d h = (HasGreatest None d × (h ≡ [])) ⊎ IsEncoded d h
+abbrev pub IsKept : Fields → Directory → History → Type 0
+IsKept config d h = (HasGreatest None d × (h ≡ [])) ⊎ IsEncoded config d h

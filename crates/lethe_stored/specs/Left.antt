@@ -5,6 +5,7 @@ use Rattle.lethe_base.specs.declared.call.Call.{Call}
 use Rattle.lethe_base.specs.declared.call.Call.TheVariants.{Put, Delete, Erase, Tick, Work}
 use Rattle.lethe_base.specs.declared.call.Did.{Did}
 use Rattle.lethe_base.specs.declared.call.Did.TheVariants.{Done, Failed}
+use Rattle.lethe_base.specs.declared.config.Fields.{Fields}
 use Rattle.lethe_disk.specs.Directory.{Directory}
 use Rattle.lethe_disk.specs.Disk.{Seen, Image}
 use Rattle.lethe_stored.specs.Kept.{IsKept}
@@ -42,10 +43,10 @@ IsHistoryOr h None g = g ≡ h
 IsHistoryOr h (Some change) g = (g ≡ h) ⊎ (g ≡ h ++ as_done change ∷ [])
 
 -- kept for the history, or for it with the change carried out
-abbrev pub IsKeptOr : History → Option Change → Directory → Type 0
-IsKeptOr h change d = (g : History) × IsHistoryOr h change g × IsKept d g
+abbrev pub IsKeptOr : Fields → History → Option Change → Directory → Type 0
+IsKeptOr config h change d = (g : History) × IsHistoryOr h change g × IsKept config d g
 
 -- the directory and each image are
-pub record IsLeft (disk : Seen) (h : History) (change : Option Change) : Type 0 where
-  pub now : IsKeptOr h change disk.directory
-  pub images : (c : Directory) → Image disk c → IsKeptOr h change c
+pub record IsLeft (config : Fields) (disk : Seen) (h : History) (change : Option Change) : Type 0 where
+  pub now : IsKeptOr config h change disk.directory
+  pub images : (c : Directory) → Image disk c → IsKeptOr config h change c

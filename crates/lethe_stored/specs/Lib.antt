@@ -6,6 +6,7 @@ pub mod Encodes
 pub mod Steps
 pub mod Kept
 pub mod Left
+pub mod Numbers
 pub mod Meaning
 pub mod Clean
 pub mod Examples

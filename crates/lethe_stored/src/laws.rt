@@ -8,6 +8,7 @@ ghost use Rattle.lethe_base.specs.Limits.{IsKey, IsValue, max_place};
 ghost use Rattle.lethe_base.specs.Matching.{IsPut};
 ghost use Rattle.lethe_base.specs.Shapes as shapes;
 ghost use Rattle.lethe_base.specs.declared.call.Call.TheVariants.{Put, Delete};
+ghost use Rattle.lethe_base.specs.declared.config.Fields.{Fields};
 ghost use Rattle.lethe_base.specs.declared.entry.Entry.{Entry};
 ghost use Rattle.lethe_base.specs.declared.name.Kind.TheVariants as kinds;
 ghost use Rattle.lethe_base.specs.declared.name.Name.{Name};
@@ -27,13 +28,13 @@ ghost use Rattle.lethe_stored.specs.Steps.{addition};
 ghost use Rattle.lethe_stored.specs.Kept.{IsFor, IsKept};
 ghost use Rattle.lethe_stored.specs.Levels.{AreRising};
 ghost use Rattle.lethe_stored.specs.Meaning.{Means};
-ghost use Rattle.lethe_stored.specs.Examples.{IsNewStore, IsOnePut, the_put};
+ghost use Rattle.lethe_stored.specs.Examples.{small, IsNewStore, IsOnePut, the_put};
 
 /// What a directory encodes, and so what it is kept for, rests on its greatest gate, the manifest of that gate, and the segments and files that
 /// this manifest cites: whatever else a directory has, it is kept for the same.
 pub fn what_is_cited_counts()
     ensures encodes { (s : Stored) (d c : Directory) → Encodes d s → Agrees s d c → Encodes c s }
-    ensures kept { (h : History) (d c : Directory) → IsKept d h → IsBeside d c → IsKept c h }
+    ensures kept { (config : Fields) (h : History) (d c : Directory) → IsKept config d h → IsBeside d c → IsKept config c h }
 {}
 
 /// A directory encodes one thing.
@@ -43,43 +44,43 @@ pub fn one_stored()
 
 /// A directory that is kept for a history means the map, the clock and the count that this leaves.
 pub fn kept_means_its_history()
-    ensures { (h : History) (d : Directory) → IsKept d h
+    ensures { (config : Fields) (h : History) (d : Directory) → IsKept config d h
         → Means d (record { map = (after h).map; clock = (after h).clock; count = length h }) }
 {}
 
 /// Of what it holds, nothing was erased a threshold ago.
 pub fn kept_holds_nothing_overdue()
-    ensures { (h : History) (d : Directory) (s : Stored) → IsKept d h → IsCoherent s → Encodes d s
+    ensures { (config : Fields) (h : History) (d : Directory) (s : Stored) → IsKept config d h → IsCoherent s → Encodes d s
         → (entry : Entry) (swept : ℕ) → Holds (layout_of s) entry swept → IsPut entry.body
-        → IsOverdue s.manifest.config.threshold h (after h).clock entry.seq → ⊥ }
+        → IsOverdue config.threshold h (after h).clock entry.seq → ⊥ }
 {}
 
 /// What a crash leaves of an append is kept for the history before, or for the one that the new record stands for.
 pub fn append_keeps()
     ensures { (h g : History) (s : Stored) (next : Record) (at : ℕ) (d c : Directory) → IsCoherent s → Encodes d s → IsFor h s
         → IsCoherent (appended s next) → IsFor g (appended s next)
-        → IsAppended (segment_name s.active.no) at (addition s next) d c → IsKept c h ⊎ IsKept c g }
+        → IsAppended (segment_name s.active.no) at (addition s next) d c → IsKept s.manifest.config c h ⊎ IsKept s.manifest.config c g }
 {}
 
 /// What a crash leaves of a switch is kept for the history that the old manifest and the new one stand for.
 pub fn switch_keeps()
     ensures later { (h : History) (s t : Stored) (d c : Directory) → IsCoherent s → Encodes d s → IsFor h s
-        → IsCoherent t → HasParts d t → IsFor h t → s.manifest.no < t.manifest.no
-        → IsSwitched t.manifest.no (manifest_bytes t.manifest) (Some s.manifest.no) d c → IsKept c h }
+        → IsCoherent t → HasParts d t → IsFor h t → t.manifest.config ≡ s.manifest.config → s.manifest.no < t.manifest.no
+        → IsSwitched t.manifest.no (manifest_bytes t.manifest) (Some s.manifest.no) d c → IsKept s.manifest.config c h }
     ensures first { (t : Stored) (d c : Directory) → HasGreatest None d → IsCoherent t → HasParts d t → IsFor [] t
-        → IsSwitched t.manifest.no (manifest_bytes t.manifest) None d c → IsKept c [] }
+        → IsSwitched t.manifest.no (manifest_bytes t.manifest) None d c → IsKept t.manifest.config c [] }
 {}
 
 /// What a crash leaves of a clear is kept for the same, where none of the names is cited.
 pub fn clear_keeps()
-    ensures { (h : History) (d c : Directory) (names : List Name) → IsKept d h
-        → ((s : Stored) → IsCoherent s → Encodes d s → AreSpare s names) → IsCleared names d c → IsKept c h }
+    ensures { (config : Fields) (h : History) (d c : Directory) (names : List Name) → IsKept config d h
+        → ((s : Stored) → IsCoherent s → Encodes d s → AreSpare s names) → IsCleared names d c → IsKept config c h }
 {}
 
 /// What a crash leaves of a create is kept for the same, where the name is no gate's and its number hasn't been drawn.
 pub fn create_keeps()
-    ensures { (h : History) (d c : Directory) (name : Name) → IsKept d h → name.kind ≢ kinds.Gate
-        → ((s : Stored) → IsCoherent s → Encodes d s → s.manifest.next ≤ name.no) → IsCreated name d c → IsKept c h }
+    ensures { (config : Fields) (h : History) (d c : Directory) (name : Name) → IsKept config d h → name.kind ≢ kinds.Gate
+        → ((s : Stored) → IsCoherent s → Encodes d s → s.manifest.next ≤ name.no) → IsCreated name d c → IsKept config c h }
 {}
 
 /// With the record of a put, what is stored stands for the history with that put.
@@ -122,10 +123,10 @@ pub fn kept_files_rise()
 
 /// The 71 bytes of a new store's manifest, its gate and its empty segment are kept for the empty history.
 pub fn new_store_is_kept()
-    ensures { (d : Directory) → IsNewStore d → IsKept d [] }
+    ensures { (d : Directory) → IsNewStore d → IsKept small d [] }
 {}
 
 /// With the 36 bytes of a segment that has one put, a store is kept for the history of that put.
 pub fn one_put_is_kept()
-    ensures { (caller : ℕ) (d : Directory) → IsOnePut d → IsKept d (the_put caller) }
+    ensures { (caller : ℕ) (d : Directory) → IsOnePut d → IsKept small d (the_put caller) }
 {}

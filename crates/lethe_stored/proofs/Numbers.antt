@@ -1,0 +1,44 @@
+-- The next numbers of what crashes leave.
+use Rattle.std.proofs.Common.{◌≡◌, ◌≤◌, ◌+◌, ◌⊎◌, inl, inr, ℕ, None, ap, ◌∙◌, arith}
+use Rattle.std.proofs.lemmas.Bool.{cases_lt}
+use Rattle.lethe_disk.specs.Directory.{Directory}
+use Rattle.lethe_disk.specs.Disk.{Seen}
+use Rattle.lethe_disk.specs.Goes.{Goes}
+use Rattle.lethe_commit.specs.Switch.{HasGreatest}
+use Rattle.lethe_stored.specs.Stored.{Stored, IsCoherent}
+use Rattle.lethe_stored.specs.Encodes.{Encodes}
+use Rattle.lethe_stored.specs.Numbers.{IsNextNumber, AreDrawn}
+use Rattle.lethe_stored.proofs.Unique.{none_or_some, one_stored}
+
+-- what a directory encodes has its next number
+pub next_of : (d : Directory) (s : Stored) (next : ℕ) → IsCoherent s → Encodes d s → IsNextNumber d next → next ≡ s.manifest.next
+next_of d s next coherent e (inl none) = absurd (none_or_some d s.manifest.no none.0 e.greatest)
+next_of d s next coherent e (inr there) = there.3 ∙ ap (λ (x : Stored). x.manifest.next) (one_stored d there.0 s there.1 coherent there.2 e)
+
+pub next_of_none : (d : Directory) (next : ℕ) → HasGreatest None d → IsNextNumber d next → next ≡ 3
+next_of_none d next none (inl new) = new.1
+next_of_none d next none (inr there) = absurd (none_or_some d there.0.manifest.no none there.2.greatest)
+
+-- a run that leaves what is stored draws no number
+pub drawn_encoded : (s : Stored) (first : ℕ) (old new : Seen) → IsCoherent s → s.manifest.next ≤ first → Goes (λ c. Encodes c s) old new → AreDrawn first old.moment old.moment new
+drawn_encoded s first old new coherent below goes moment c low high left next is =
+    let same = next_of c s next coherent (goes.each moment c low high left) is in
+    omega (arith, same, below, low)
+
+-- A step draws the numbers of so many objects and of a manifest. Up to as many calls as there are objects it leaves what was stored.
+pub drawn_stepped : (s t : Stored) (first count : ℕ) (old new : Seen) → IsCoherent s → IsCoherent t → s.manifest.next ≤ first → t.manifest.next ≤ first + count + 1 → Goes (λ c. Encodes c s ⊎ Encodes c t) old new
+    → ((moment : ℕ) (c : Directory) → old.moment ≤ moment → moment ≤ new.moment → moment ≤ old.moment + count → new.left moment c → Encodes c s) → AreDrawn first old.moment old.moment new
+drawn_stepped s t first count old new coherent behind below above goes early moment c low high left next is = elim (cases_lt (old.moment + count) moment) [
+  | inr soon ↦ let same = next_of c s next coherent (early moment c low high soon left) is in omega (arith, same, below, low)
+  | inl late ↦ elim (goes.each moment c low high left) [
+    | inl was ↦ let same = next_of c s next coherent was is in omega (arith, same, below, low)
+    | inr now ↦ let same = next_of c t next behind now is in omega (arith, same, above, late)
+  ]
+]
+
+-- one run behind another
+pub drawn_then : (P : Directory → Type 0) (first began since then : ℕ) (mid new : Seen) → AreDrawn first began since mid → Goes P mid new → then + began ≤ first + mid.moment → AreDrawn then mid.moment mid.moment new → AreDrawn first began since new
+drawn_then P first began since then mid new before goes fits behind moment c low high left next is = elim (cases_lt mid.moment moment) [
+  | inr early ↦ before moment c low early ((goes.past moment c early).0 left) next is
+  | inl late ↦ let more = behind moment c (omega arith) high left next is in omega (arith, more, fits)
+]
