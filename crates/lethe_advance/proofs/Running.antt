@@ -61,6 +61,25 @@ module _ (s t : Stored) (loose left : List (Name × List ℕ)) (headers : List H
       pub place_moments : Goes Either s0 s1
       place_moments = goes_leads Either (SameBeside (map name_of objects)) s0 s1 placing (λ d c here others. inl (beside_spare d c (subst (λ x. Encodes x s) (sym (may.settled.synced d here)) may.settled.encodes) others))
 
+      -- up to the end of the writing, it leaves what was stored
+      pub early_placed : (moment : ℕ) (c : Directory) → s0.moment ≤ moment → moment ≤ s1.moment → s1.left moment c → Encodes c s
+      early_placed moment c low high left =
+          let d = placing.each moment c low high left in
+          beside_spare d.0 c (subst (λ x. Encodes x s) (sym (may.settled.synced d.0 d.1)) may.settled.encodes) d.2
+
+      module _ (calls : s1.moment ≡ s0.moment + length objects + 1) (R : Directory → Directory → Type 0) (s2 : Seen) (exchanging : Leads R s1 s2) where
+        is_early : (moment : ℕ) → moment ≤ s0.moment + length step.objects.items → moment ≤ s1.moment
+        is_early moment few = let as_many = ap length same in omega (arith, calls, few, as_many)
+
+        pub early_exchanged : (moment : ℕ) (c : Directory) → s0.moment ≤ moment → moment ≤ s0.moment + length step.objects.items → s2.left moment c → Encodes c s
+        early_exchanged moment c low few left = early_placed moment c low (is_early moment few) ((exchanging.past moment c (is_early moment few)).0 left)
+
+        pub early_behind : (Q : Directory → Directory → Type 0) (s3 : Seen) → Leads Q s2 s3 → (moment : ℕ) (c : Directory) → s0.moment ≤ moment → moment ≤ s0.moment + length step.objects.items → s3.left moment c → Encodes c s
+        early_behind Q s3 behind moment c low few left =
+            let soon = is_early moment few in
+            let later = exchanging.later in
+            early_exchanged moment c low few ((behind.past moment c (omega (arith, soon, later))).0 left)
+
       module _ (synced : IsSynced s1) (done : s1.directory ≡ insert_all objects s0.directory) where
         placed : s1.directory ≡ insert_all step.objects.items s0.directory
         placed = done ∙ ap (λ l. insert_all l s0.directory) same

@@ -1,10 +1,10 @@
 -- A step is carried out on the disk.
-use Rattle.std.proofs.Common.{◌≡◌, ◌<◌, ◌≤◌, ◌⊎◌, inl, inr, ℕ, ◌+◌, List, [], ◌∷◌, map, length, Some, sym, ap, ◌∙◌, subst, arith}
+use Rattle.std.proofs.Common.{◌≡◌, ◌<◌, ◌≤◌, ◌⊎◌, inl, inr, ℕ, ◌+◌, List, [], ◌∷◌, map, length, Some, refl, sym, ap, ◌∙◌, subst, arith}
 use Rattle.std.specs.Prelude.{Contains, option_to_list}
 use Rattle.std.proofs.lemmas.List.Elements.{All-contains, Contains-append_left, Contains-append_right, Contains-append_cases, Contains-push}
 use Rattle.lethe_base.specs.History.{History}
 use Rattle.lethe_base.specs.declared.name.Name.{Name}
-use Rattle.lethe_disk.specs.Directory.{object, IsNoneOf}
+use Rattle.lethe_disk.specs.Directory.{Directory, object, IsNoneOf}
 use Rattle.lethe_disk.specs.Disk.{Seen, Image}
 use Rattle.lethe_disk.specs.Goes.{Goes}
 use Rattle.lethe_disk.proofs.Going.{goes_weaker}
@@ -17,9 +17,11 @@ use Rattle.lethe_commit.proofs.Creations.{object_beside_all, object_contained}
 use Rattle.lethe_stored.specs.Encodes.{Encodes}
 use Rattle.lethe_stored.specs.Kept.{IsFor, IsKept}
 use Rattle.lethe_stored.specs.Levels.{HasFiles}
+use Rattle.lethe_stored.specs.Numbers.{GoesFrom}
 use Rattle.lethe_stored.specs.Stored.{Stored, Segment, IsCoherent, number_of, segments_of, segment_numbers, segment_name, part_names}
 use Rattle.lethe_stored.proofs.Frame.{none_of, same_no}
 use Rattle.lethe_stored.proofs.Lists.{from_map, in_map}
+use Rattle.lethe_stored.proofs.Numbers.{pace_stepped}
 use Rattle.lethe_stored.proofs.Parts.{active_part, part_below}
 use Rattle.lethe_advance.specs.Settled.{IsSettled, HasOnly}
 use Rattle.lethe_advance.specs.Steps.{IsStep, IsSegmentFrom, MayAdvance}
@@ -31,12 +33,18 @@ use Rattle.lethe_core.specs.Running.{IsRunning}
 use Rattle.lethe_core.specs.View.{View, loose_in}
 
 -- a crash leaves what was stored or what is stored next, and both stand for the history
-pub step_moments : (h : History) (s t : Stored) (old new : Seen) → IsCoherent s → IsCoherent t → IsFor h s → IsFor h t → Goes (λ c. Encodes c s ⊎ Encodes c t) old new → Goes (λ c. IsKept c h) old new
-step_moments h s t old new coherent next stands after goes = goes_weaker (λ c. Encodes c s ⊎ Encodes c t) (λ c. IsKept c h) old new
-    (λ c either. elim either [
-      | inl was ↦ inr (record { s = s; coherent = coherent; encodes = was; stands = stands })
-      | inr is ↦ inr (record { s = t; coherent = next; encodes = is; stands = after })
-    ]) goes
+pub step_moments : (h : History) (s t : Stored) (first count : ℕ) (old new : Seen) → IsCoherent s → IsCoherent t → t.manifest.config ≡ s.manifest.config → IsFor h s → IsFor h t → s.manifest.next ≤ first → t.manifest.next ≤ first + count + 1
+    → Goes (λ c. Encodes c s ⊎ Encodes c t) old new
+    → ((moment : ℕ) (c : Directory) → old.moment ≤ moment → moment ≤ new.moment → moment ≤ old.moment + count → new.left moment c → Encodes c s)
+    → GoesFrom first (λ c. IsKept s.manifest.config c h) old new
+step_moments h s t first count old new coherent next same stands after below above goes early = record {
+  goes = goes_weaker (λ c. Encodes c s ⊎ Encodes c t) (λ c. IsKept s.manifest.config c h) old new
+      (λ c either. elim either [
+        | inl was ↦ inr (record { s = s; config_is = refl; coherent = coherent; encodes = was; stands = stands })
+        | inr is ↦ inr (record { s = t; config_is = same; coherent = next; encodes = is; stands = after })
+      ]) goes;
+  pace = pace_stepped s t first count old new coherent next below above goes early;
+}
 
 -- a step goes on from what is stored
 pub may_advance : (view : View) (s t : Stored) (left : List (Name × List ℕ)) (headers : List Header) (step : Step) → IsRunning view s → IsStep s (loose_in view.flight) t left headers step
@@ -45,7 +53,8 @@ may_advance view s t left headers step running is = record { settled = running.s
 
 -- What is known of a step once it is carried out. The new view may have another state.
 pub record IsCarried (Tells : Type 0) (old new : View) (headers : List Header) (step : Step) : Type 0 where
-  pub moments : Tells → (s t : Stored) (left : List (Name × List ℕ)) → IsRunning old s → IsStep s (loose_in old.flight) t left headers step → (h : History) → IsFor h s → IsFor h t → Goes (λ c. IsKept c h) old.disk new.disk
+  pub moments : Tells → (s t : Stored) (left : List (Name × List ℕ)) → IsRunning old s → IsStep s (loose_in old.flight) t left headers step → (h : History) → IsFor h s → IsFor h t
+      → s.manifest.next ≤ old.state.next → t.manifest.next ≤ old.state.next + length step.objects.items + 1 → GoesFrom old.state.next (λ c. IsKept s.manifest.config c h) old.disk new.disk
   pub done : Tells → (s t : Stored) (left : List (Name × List ℕ)) → IsRunning old s → IsStep s (loose_in old.flight) t left headers step → IsSettled new.disk t × HasOnly t left new.disk.directory
   pub kept : Tells → (s t : Stored) (left : List (Name × List ℕ)) → IsRunning old s → IsStep s (loose_in old.flight) t left headers step
       → (name : Name) → Contains (part_names t) name → object new.disk.directory name ≡ object (insert_all step.objects.items old.disk.directory) name

@@ -13,11 +13,11 @@ use Rattle.lethe_base.specs.declared.name.Name.{Name}
 use Rattle.lethe_base.specs.declared.refused.Refused.{Refused}
 use Rattle.lethe_base.specs.declared.refused.Refused.TheVariants.{Fault, Exhausted, NoMemory}
 use Rattle.lethe_disk.specs.Disk.{Image}
-use Rattle.lethe_disk.specs.Goes.{Goes}
-use Rattle.lethe_disk.proofs.Going.{goes_then}
 use Rattle.lethe_stored.specs.Files.{Parts}
 use Rattle.lethe_stored.specs.Kept.{IsKept}
+use Rattle.lethe_stored.specs.Numbers.{GoesFrom}
 use Rattle.lethe_stored.specs.Stored.{Stored}
+use Rattle.lethe_stored.proofs.Numbers.{goes_from_then}
 use Rattle.lethe_advance.specs.Settled.{AreDrawn, names_in}
 use Rattle.lethe_state.specs.Records.{halted}
 use Rattle.lethe_state.specs.Remembered.{Remembers}
@@ -111,16 +111,16 @@ module _ (Tells : Type 0) (old new : View) (before : ℕ) where
   hindered_next why is = absurd is
 
   module _ (config : Fields) (h : History) (stands : StandsNow config h old) (runs : old.state.stopped ≡ None) where
-    halted_stands : old.state.count < max_place → Goes (λ c. IsKept c h) old.disk new.disk → Image new.disk new.disk.directory → (caller : ℕ) (call : Call) (b a : ℕ)
+    halted_stands : old.state.count < max_place → GoesFrom old.state.next (λ c. IsKept config c h) old.disk new.disk → Image new.disk new.disk.directory → (caller : ℕ) (call : Call) (b a : ℕ)
         → StandsNow config (refused_to h caller call (Fault 0 b a)) (beside old new (halted old.state))
     halted_stands fits goes here caller call b a =
         let change : Change = record { caller = caller; call = call; did = Failed b a } in
         let s = stands.stored in
         stopped_stands config h change b a (beside old new (halted old.state)) s stands.legal (stands_done config h old stands runs) (subst (λ n. n < max_place) stands.count fits)
         refl (ap (λ n. n + 1) stands.count) (ap (λ n. Some (n + 1)) stands.count) (halted_remembered s old.state old.levels stands.remembers) stands.config_is
-        (stands_for config h old stands runs) (left_at_end h (retried change) old.disk new.disk here (moments_or h (retried change) old.disk new.disk goes)) stands.counted
+        (stands_for config h old stands runs) (left_at_end config h (retried change) old.disk new.disk here (moments_or config h (retried change) old.state.next old.disk new.disk goes).goes) stands.counted
 
-    pub hindered_stands : Tells → old.state.count < max_place → Goes (λ c. IsKept c h) old.disk new.disk → Image new.disk new.disk.directory → (caller : ℕ) (call : Call) (why : Refused)
+    pub hindered_stands : Tells → old.state.count < max_place → GoesFrom old.state.next (λ c. IsKept config c h) old.disk new.disk → Image new.disk new.disk.directory → (caller : ℕ) (call : Call) (why : Refused)
         → IsHindered Tells old new before why → StandsNow config (refused_to h caller call why) new
     hindered_stands told fits goes here caller call (Fault place b a) is = subst (StandsNow config (refused_to h caller call (Fault place b a))) (is_beside old new (halted old.state) is.4 is.5) (halted_stands fits goes here caller call b a)
     hindered_stands told fits goes here caller call NoMemory is = stands_back old new (is.2 told) config h is.0 is.1 stands
@@ -130,7 +130,7 @@ module _ (Tells : Type 0) (old new : View) (before : ℕ) where
 
 -- `itself` of the disk gives the image that a read gives
 pub hindered_keeps : {T : Type 0} (Tells : Type 0) (old new : View) (before : ℕ) → MayStep Tells old before → (why : Refused) → IsHindered Tells old new before why
-    → (Tells → (config : Fields) (h : History) → StandsNow config h old → Goes (λ c. IsKept c h) old.disk new.disk) → (Tells → Image new.disk new.disk.directory)
+    → (Tells → (config : Fields) (h : History) → StandsNow config h old → GoesFrom old.state.next (λ c. IsKept config c h) old.disk new.disk) → (Tells → Image new.disk new.disk.directory)
     → (Tells → old.disk.moment ≤ new.disk.moment) → old.faults ≤ new.faults → Keeps {T = T} Tells old new (Err why)
 hindered_keeps Tells old new before may why is goes itself later faults = record {
   sound = hindered_sound Tells old new before may.fits may.sound why is;
@@ -146,7 +146,7 @@ pub keeps_itself : {T : Type 0} (Tells : Type 0) (view : View) → IsSound Tells
 keeps_itself Tells view sound runs result same = record {
   sound = sound;
   stands = λ told config h stands caller call. subst (λ g. StandsNow config g view) (sym (same h caller call)) stands;
-  any_moment = λ told config h stands. stands_moments config h view stands runs;
+  any_moment = λ told config h stands. stands_moments config h view stands runs sound.writable;
   numbers = λ told. omega arith;
   faults = omega arith;
 }
@@ -160,7 +160,8 @@ keeps_then Tells a b c first same one second two =
     record {
       sound = two.sound;
       stands = λ told config h stands caller call. two.stands told config h (mid told config h stands) caller call;
-      any_moment = λ told config h stands. goes_then (λ d. IsKept d h) a.disk b.disk c.disk (one.any_moment told config h stands) (two.any_moment told config h (mid told config h stands));
+      any_moment = λ told config h stands.
+          goes_from_then (λ d. IsKept config d h) a.state.next b.state.next a.disk b.disk c.disk (one.any_moment told config h stands) (one.numbers told) (two.any_moment told config h (mid told config h stands));
       numbers = λ told. let early = one.numbers told in let late = two.numbers told in omega (arith, early, late);
       faults = let early = one.faults in let late = two.faults in omega (arith, early, late);
     }

@@ -6,7 +6,6 @@ use Rattle.lethe_base.specs.declared.config.Fields.{Fields}
 use Rattle.lethe_base.specs.declared.entry.Entry.{Entry}
 use Rattle.lethe_base.specs.declared.name.Name.{Name}
 use Rattle.lethe_disk.specs.Disk.{Seen}
-use Rattle.lethe_disk.specs.Goes.{Goes}
 use Rattle.lethe_header.specs.declared.header.Header.{Header}
 use Rattle.lethe_manifest.specs.declared.manifest.Manifest.{Manifest}
 use Rattle.lethe_commit.specs.Append.{EndsAt}
@@ -15,6 +14,7 @@ use Rattle.lethe_follows.proofs.MergeRising.{merged_rises}
 use Rattle.lethe_follows.proofs.Merging.{merged_for}
 use Rattle.lethe_stored.specs.Files.{Parts}
 use Rattle.lethe_stored.specs.Kept.{IsFor, IsKept}
+use Rattle.lethe_stored.specs.Numbers.{GoesFrom}
 use Rattle.lethe_stored.specs.Levels.{HasFiles}
 use Rattle.lethe_stored.specs.Stored.{IsCited, IsCoherent, Stored, pending_of, segment_name}
 use Rattle.lethe_advance.specs.Settled.{HasOnly, IsSettled}
@@ -103,14 +103,20 @@ module _ (old : View) (disk : Seen) (faults : ℕ) (levels : List (List Parts)) 
 
   module _ (Tells : Type 0) (before : ℕ) (can : MayStep Tells old before) (from : IsStepFrom (segments_for old.state.frozen) old.state step)
       (merges : Tells → (s : Stored) → Holds old s → (task : PlainTask) × (t : Stored) × MayMerge old s task t headers step × ((config : Fields) (h : History) → StandsNow config h old → IsCounted task)) where
-    pub merge_moments : (Tells → (s t : Stored) (left : List (Name × List ℕ)) → IsRunning old s → IsStep s (loose_in old.flight) t left headers step → (h : History) → IsFor h s → IsFor h t → Goes (λ c. IsKept c h) old.disk disk)
-        → Tells → (config : Fields) (h : History) → StandsNow config h old → Goes (λ c. IsKept c h) old.disk disk
+    pub merge_moments : (Tells → (s t : Stored) (left : List (Name × List ℕ)) → IsRunning old s → IsStep s (loose_in old.flight) t left headers step → (h : History) → IsFor h s → IsFor h t
+        → s.manifest.next ≤ old.state.next → t.manifest.next ≤ old.state.next + length step.objects.items + 1 → GoesFrom old.state.next (λ c. IsKept s.manifest.config c h) old.disk disk)
+        → Tells → (config : Fields) (h : History) → StandsNow config h old → GoesFrom old.state.next (λ c. IsKept config c h) old.disk disk
     merge_moments moments told config h stands =
         let s = stands.stored in
         let holds = stands_holds config h old stands can.runs in
         let for = stands_for config h old stands can.runs in
         let next = merges told s holds in
-        moments told s next.1 [] holds.running next.2.step_is h for (installed_for h s next.0 next.1 holds.remembers.coherent for (next.3 config h stands) next.2.installed)
+        let number = from.numbers in
+        let above = from.next in
+        let made = ap (λ (m : Manifest). m.next) next.2.step_is.manifest in
+        subst (λ (fields : Fields). GoesFrom old.state.next (λ c. IsKept fields c h) old.disk disk) stands.config_is
+        (moments told s next.1 [] holds.running next.2.step_is h for (installed_for h s next.0 next.1 holds.remembers.coherent for (next.3 config h stands) next.2.installed)
+        (next_drawn old s can.sound.writable stands.remembers) (omega (arith, number, above, made)))
 
     module _ (behind : Tells → (s : Stored) (task : PlainTask) (t : Stored) → Holds old s → MayMerge old s task t headers step → Holds new t) where
       merge_stands : Tells → (config : Fields) (h : History) → StandsNow config h old → StandsNow config h new
@@ -121,7 +127,7 @@ module _ (old : View) (disk : Seen) (faults : ℕ) (levels : List (List Parts)) 
           next_stands_now config h old new stands can.runs next.1 refl next.2.step_is.config
           (installed_for h s next.0 next.1 holds.remembers.coherent (stands_for config h old stands can.runs) (next.3 config h stands) next.2.installed) (behind told s next.0 next.1 holds next.2) tt
 
-      pub merge_keeps : length levels ≡ length old.levels → (Tells → (config : Fields) (h : History) → StandsNow config h old → Goes (λ c. IsKept c h) old.disk disk)
+      pub merge_keeps : length levels ≡ length old.levels → (Tells → (config : Fields) (h : History) → StandsNow config h old → GoesFrom old.state.next (λ c. IsKept config c h) old.disk disk)
           → (Tells → old.disk.moment + length step.objects.items + 5 ≤ disk.moment) → old.faults ≤ faults → Keeps {T = Unit {0}} Tells old new (Ok tt)
       merge_keeps count moments calls rise = record {
         sound = record {

@@ -1,16 +1,16 @@
 -- What a step of a store comes to whose job in flight stays.
-use Rattle.std.proofs.Common.{◌≡◌, ◌<◌, ℕ, ◌+◌, List, [], Option, Some, None, Ok, refl, sym, ap, ◌∙◌, subst, arith}
+use Rattle.std.proofs.Common.{◌≡◌, ◌<◌, ◌≤◌, ℕ, ◌+◌, List, [], length, Option, Some, None, Ok, refl, sym, ap, ◌∙◌, subst, arith}
 use Rattle.std.specs.Prelude.{IfSome}
 use Rattle.std.proofs.lemmas.List.Elements.{All-nil}
 use Rattle.lethe_base.specs.History.{History}
 use Rattle.lethe_base.specs.declared.config.Fields.{Fields}
 use Rattle.lethe_base.specs.declared.name.Kind.TheVariants.{Page}
 use Rattle.lethe_base.specs.declared.name.Name.{Name}
-use Rattle.lethe_disk.specs.Goes.{Goes}
 use Rattle.lethe_header.specs.declared.header.Header.{Header}
 use Rattle.lethe_manifest.specs.declared.manifest.Manifest.{Manifest}
 use Rattle.lethe_stored.specs.Files.{Parts}
 use Rattle.lethe_stored.specs.Kept.{IsFor, IsKept}
+use Rattle.lethe_stored.specs.Numbers.{GoesFrom}
 use Rattle.lethe_stored.specs.Stored.{Stored, froze}
 use Rattle.lethe_stored.proofs.Freezing.{froze_for}
 use Rattle.lethe_advance.specs.Settled.{AreDrawn, AreUncited, names_in}
@@ -26,7 +26,7 @@ use Rattle.lethe_core.specs.StandsNow.{IsCounted, StandsNow}
 use Rattle.lethe_core.specs.View.{Flying, View, loose_in}
 use Rattle.lethe_core.proofs.Carried.{IsCarried}
 use Rattle.lethe_core.proofs.Hindered.{flies_on}
-use Rattle.lethe_core.proofs.Standing.{next_stands_now, stands_for, stands_holds}
+use Rattle.lethe_core.proofs.Standing.{next_drawn, next_stands_now, stands_for, stands_holds}
 
 pub frozen_for : (h : History) (s t : Stored) (state : State) (levels : List (List Parts)) → Remembers s state levels → s.frozen ≡ None → IsFor h s → IsFrozen s t → IsFor h t
 frozen_for h s t state levels remembers none stands is = subst (IsFor h) (sym is.is) (froze_for s remembers.coherent is.segment (is.segment + 1) none h stands)
@@ -75,14 +75,20 @@ module _ (P : Stored → Stored → Type 0) (Tells : Type 0) (old : View) (heade
 
   module _ (new : View) (stays : (h : History) (s t : Stored) → Holds old s → IsFor h s → P s t → IsFor h t) where
     -- a crash at any moment leaves what stands for the history
-    pub next_moments : (Tells → (s t : Stored) (left : List (Name × List ℕ)) → IsRunning old s → IsStep s (loose_in old.flight) t left headers step → (h : History) → IsFor h s → IsFor h t → Goes (λ c. IsKept c h) old.disk new.disk)
-        → Tells → (config : Fields) (h : History) → StandsNow config h old → Goes (λ c. IsKept c h) old.disk new.disk
-    next_moments moments told config h stands =
+    pub next_moments : (segments : ℕ) → IsStepFrom segments old.state step
+        → (Tells → (s t : Stored) (left : List (Name × List ℕ)) → IsRunning old s → IsStep s (loose_in old.flight) t left headers step → (h : History) → IsFor h s → IsFor h t
+        → s.manifest.next ≤ old.state.next → t.manifest.next ≤ old.state.next + length step.objects.items + 1 → GoesFrom old.state.next (λ c. IsKept s.manifest.config c h) old.disk new.disk)
+        → Tells → (config : Fields) (h : History) → StandsNow config h old → GoesFrom old.state.next (λ c. IsKept config c h) old.disk new.disk
+    next_moments segments from moments told config h stands =
         let s = stands.stored in
         let holds = stands_holds config h old stands may.runs in
         let for = stands_for config h old stands may.runs in
         let t = next_is s holds in
-        moments told s t.0 (loose_in old.flight) holds.running t.2 h for (stays h s t.0 holds for t.1)
+        let number = from.numbers in
+        let next = from.next in
+        let made = ap (λ (m : Manifest). m.next) t.2.manifest in
+        subst (λ (fields : Fields). GoesFrom old.state.next (λ c. IsKept fields c h) old.disk new.disk) stands.config_is
+        (moments told s t.0 (loose_in old.flight) holds.running t.2 h for (stays h s t.0 holds for t.1) (next_drawn old s may.sound.writable stands.remembers) (omega (arith, number, next, made)))
 
     module _ (carried : IsCarried Tells old new headers step)
         (behind : Tells → (s t : Stored) → Holds old s → P s t → IsStep s (loose_in old.flight) t (loose_in old.flight) headers step → Holds new t) where
@@ -116,7 +122,7 @@ module _ (P : Stored → Stored → Type 0) (Tells : Type 0) (old : View) (heade
                   (done.0, done.2.remembers, λ runs. done.2.running);
             };
             stands = λ told config h stands caller call. next_stands told count config h stands;
-            any_moment = next_moments carried.moments;
+            any_moment = next_moments segments from carried.moments;
             numbers = λ told. let made = carried.calls told in omega (arith, made, number, above, next);
             faults = carried.faults;
           }

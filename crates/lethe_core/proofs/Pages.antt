@@ -1,5 +1,5 @@
 -- A page of the job in flight is written beside what is stored.
-use Rattle.std.proofs.Common.{◌≡◌, ◌≤◌, ◌+◌, ℕ, List, Option, Some, None, Result, Ok, Err, refl, sym, ap, ◌∙◌, subst, arith, inr}
+use Rattle.std.proofs.Common.{◌≡◌, ◌≤◌, ◌+◌, ℕ, List, Option, Some, None, Result, Ok, Err, refl, sym, ap, ◌∙◌, subst, arith}
 use Rattle.std.specs.Prelude.{IfSome, OnErr, option_map}
 use Rattle.std.specs.FinMap.{insert}
 use Rattle.lethe_base.specs.History.{History}
@@ -12,14 +12,14 @@ use Rattle.lethe_disk.specs.Directory.{object}
 use Rattle.lethe_disk.specs.Disk.{Image, Seen}
 use Rattle.lethe_disk.specs.Goes.{Goes}
 use Rattle.lethe_disk.specs.declared.disk.Disk.{Ghosts}
-use Rattle.lethe_disk.proofs.Going.{goes_weaker}
 use Rattle.lethe_disk.proofs.Objects.{object_beside_insert}
 use Rattle.lethe_file.specs.Agreement.{page_name}
 use Rattle.lethe_manifest.specs.declared.manifest.Manifest.{Manifest}
 use Rattle.lethe_commit.specs.Append.{EndsAt}
 use Rattle.lethe_stored.specs.Encodes.{Encodes}
 use Rattle.lethe_stored.specs.Files.{Parts}
-use Rattle.lethe_stored.specs.Kept.{IsFor, IsKept}
+use Rattle.lethe_stored.specs.Kept.{IsKept}
+use Rattle.lethe_stored.specs.Numbers.{GoesFrom}
 use Rattle.lethe_stored.specs.Stored.{IsCoherent, Stored, segment_name}
 use Rattle.lethe_advance.specs.Settled.{AreDrawn, AreUncited, HasOnly, IsSettled, names_in}
 use Rattle.lethe_loose.specs.Loose.{MayRemove, MayWrite}
@@ -34,7 +34,7 @@ use Rattle.lethe_core.specs.View.{Flying, View, flying_of, loose_in, view_of}
 use Rattle.lethe_core.specs.declared.flight.Flight.{Flight}
 use Rattle.lethe_core.specs.declared.holding.Core.{Core}
 use Rattle.lethe_core.proofs.Hindered.{hindered_keeps}
-use Rattle.lethe_core.proofs.Standing.{next_stands_now, stands_for, stands_holds}
+use Rattle.lethe_core.proofs.Standing.{encoded_moments, next_stands_now, stands_for, stands_holds}
 
 -- the job that was taken out is the one in flight
 pub flying_is : {D Page Port : Type 0} {kind : Ghosts D Page Port} (core : Core D Page Port kind) (took : Option (Flight D Page Port kind)) (flight : Flight D Page Port kind)
@@ -52,10 +52,6 @@ ends_stay old new s at settled same here ends = record {
   spelled = λ c image. ap (λ d. object d (segment_name s.active.no)) (settled.synced c image) ∙ same ∙ ends.spelled old.directory here;
   place = ends.place;
 }
-
--- a crash leaves what is stored, which stands for the history
-stored_moments : (h : History) (s : Stored) (old new : Seen) → IsCoherent s → IsFor h s → Goes (λ c. Encodes c s) old new → Goes (λ c. IsKept c h) old new
-stored_moments h s old new coherent stands goes = goes_weaker (λ c. Encodes c s) (λ c. IsKept c h) old new (λ c is. inr (record { s = s; coherent = coherent; encodes = is; stands = stands })) goes
 
 -- a number more is drawn
 abbrev drawn : State → State
@@ -95,10 +91,9 @@ module _ (Tells : Type 0) (old : View) (sound : IsSound Tells old) where
 
   -- where a crash leaves what is stored, it leaves what is kept
   pub kept_moments : (disk : Seen) → old.state.stopped ≡ None → ((s : Stored) → Holds old s → Goes (λ c. Encodes c s) old.disk disk)
-      → (config : Fields) (h : History) → StandsNow config h old → Goes (λ c. IsKept c h) old.disk disk
+      → (config : Fields) (h : History) → StandsNow config h old → GoesFrom old.state.next (λ c. IsKept config c h) old.disk disk
   kept_moments disk runs goes config h stands =
-      let holds = stands_holds config h old stands runs in
-      stored_moments h stands.stored old.disk disk holds.remembers.coherent (stands_for config h old stands runs) (goes stands.stored holds)
+      encoded_moments config h old stands runs sound.writable disk (goes stands.stored (stands_holds config h old stands runs))
 
   -- and so where the step was hindered
   pub refused_keeps : (new : View) (before : ℕ) → MayStep Tells old before → (Tells → (s : Stored) → Holds old s → Goes (λ c. Encodes c s) old.disk new.disk) → (Tells → Image new.disk new.disk.directory)

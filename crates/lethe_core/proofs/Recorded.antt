@@ -24,15 +24,18 @@ use Rattle.lethe_commit.specs.Append.{EndsAt, IsReady, IsAppended, IsUntouched, 
 use Rattle.lethe_stored.specs.Encodes.{Encodes, HasObject}
 use Rattle.lethe_stored.specs.Kept.{IsFor}
 use Rattle.lethe_stored.specs.Left.{IsLeft, IsKeptOr, is_work}
+use Rattle.lethe_stored.specs.Numbers.{GoesFrom, KeepsPace}
 use Rattle.lethe_stored.specs.Steps.{addition}
 use Rattle.lethe_stored.specs.Stored.{Stored, Segment, IsCited, IsCoherent, number_of, segment_name, part_names, appended, erase_of}
+use Rattle.lethe_stored.proofs.Numbers.{goes_from_encoded, next_of}
 use Rattle.lethe_stored.proofs.Parts.{active_part}
-use Rattle.lethe_stored.proofs.Steps.{append_keeps, active_changed, stored_appended}
+use Rattle.lethe_stored.proofs.Steps.{append_encodes, append_keeps, active_changed, stored_appended}
 use Rattle.lethe_advance.specs.Settled.{names_in}
 use Rattle.lethe_manifest.specs.declared.manifest.Manifest.{Manifest}
 use Rattle.lethe_state.proofs.Recording.{entered_remembered}
 use Rattle.lethe_state.specs.Records.{IsNext, halted}
 use Rattle.lethe_state.specs.Remembered.{Remembers}
+use Rattle.lethe_state.specs.Writable.{IsWritable}
 use Rattle.lethe_state.specs.declared.state.State.{State}
 use Rattle.lethe_job.proofs.Staying.{task_appended}
 use Rattle.lethe_core.specs.Changes.{done_by, with_record}
@@ -40,7 +43,7 @@ use Rattle.lethe_core.specs.Running.{Holds, IsRunning, IsTasked}
 use Rattle.lethe_core.specs.StandsNow.{StandsNow}
 use Rattle.lethe_core.specs.View.{Flying, View, loose_in}
 use Rattle.lethe_core.proofs.Hindered.{halted_remembered}
-use Rattle.lethe_core.proofs.Standing.{left_at_end, stands_done, stands_for, stopped_stands}
+use Rattle.lethe_core.proofs.Standing.{left_at_end, next_drawn, stands_done, stands_for, stopped_stands}
 
 -- the last of the manifest's segments is the active one
 last_number : (o : Option Segment) (number : ℕ) → slice_index (map number_of (option_to_list o) ++ number ∷ []) (length (map number_of (option_to_list o) ++ number ∷ []) - 1) ≡ number
@@ -93,27 +96,45 @@ module _ (view : View) (s : Stored) (holds : Holds view s) (next : Record) (spel
   encoded : (d : Directory) → Image view.disk d → Encodes d s
   encoded d here = subst (λ x. Encodes x s) (sym (running.settled.synced d here)) running.settled.encodes
 
+  -- with the record or without it the next number is the same
+  pub record_pace : IsWritable view.state → (disk' : Seen) → Leads (IsAppended (segment_name number) view.state.end (addition s next)) view.disk disk' → KeepsPace view.state.next view.disk.moment view.disk.moment disk'
+  record_pace writable disk' run moment c low high left most is =
+      let below = next_drawn view s writable holds.remembers in
+      let came = run.each moment c low high left in
+      elim (append_encodes s next view.state.end came.0 c coherent (encoded came.0 came.1) (subst (λ n. IsAppended n view.state.end (addition s next) came.0 c) name_is came.2)) [
+        | inl old ↦ let same = next_of c s most coherent old is in omega (arith, same, below, low)
+        | inr new ↦ let same = next_of c (appended s next) most coherent_next new is in omega (arith, same, below, low)
+      ]
+
   module _ (h : History) (caller : ℕ) (call : Call) (for : IsFor h s) (with : IsFor (with_done h caller call) (appended s next)) where
-    left_for : (d c : Directory) → Image view.disk d → IsAppended (segment_name number) view.state.end (addition s next) d c → IsKeptOr h (Some (done_by caller call)) c
+    left_for : (d c : Directory) → Image view.disk d → IsAppended (segment_name number) view.state.end (addition s next) d c → IsKeptOr s.manifest.config h (Some (done_by caller call)) c
     left_for d c here left = elim (append_keeps h (with_done h caller call) s next view.state.end d c coherent (encoded d here) for coherent_next with (subst (λ n. IsAppended n view.state.end (addition s next) d c) name_is left)) [
       | inl old ↦ (h, inl refl, old)
       | inr new ↦ (with_done h caller call, inr refl, new)
     ]
 
-    pub moments : (disk' : Seen) → Leads (IsAppended (segment_name number) view.state.end (addition s next)) view.disk disk' → Goes (IsKeptOr h (Some (done_by caller call))) view.disk disk'
-    moments disk' run = goes_leads (IsKeptOr h (Some (done_by caller call))) (IsAppended (segment_name number) view.state.end (addition s next)) view.disk disk' run left_for
+    left_moments : (disk' : Seen) → Leads (IsAppended (segment_name number) view.state.end (addition s next)) view.disk disk' → Goes (IsKeptOr s.manifest.config h (Some (done_by caller call))) view.disk disk'
+    left_moments disk' run = goes_leads (IsKeptOr s.manifest.config h (Some (done_by caller call))) (IsAppended (segment_name number) view.state.end (addition s next)) view.disk disk' run left_for
+
+    pub moments : (config : Fields) → s.manifest.config ≡ config → IsWritable view.state → (disk' : Seen) → Leads (IsAppended (segment_name number) view.state.end (addition s next)) view.disk disk'
+        → GoesFrom view.state.next (IsKeptOr config h (Some (done_by caller call))) view.disk disk'
+    moments config same writable disk' run =
+        subst (λ (fields : Fields). GoesFrom view.state.next (IsKeptOr fields h (Some (done_by caller call))) view.disk disk') same (record { goes = left_moments disk' run; pace = record_pace writable disk' run })
 
   -- nothing was touched
-  pub untouched_moments : (h : History) → IsFor h s → (R : Directory → Directory → Type 0) (disk' : Seen) → Leads R view.disk disk' → IsUntouched view.disk disk' → Goes (IsKeptOr h None) view.disk disk'
-  untouched_moments h for R disk' run still = record {
-    later = run.later;
-    past = run.past;
-    each = λ m c low high here.
-        let moment = still.moment in
-        let now_is : m ≡ disk'.moment = omega (arith, low, high, moment) in
-        let old = (still.images c).0 (subst (λ n. disk'.left n c) now_is here) in
-        (h, refl, inr (record { s = s; coherent = coherent; encodes = encoded c old; stands = for }));
-  }
+  pub untouched_moments : (config : Fields) → s.manifest.config ≡ config → IsWritable view.state → (h : History) → IsFor h s → (R : Directory → Directory → Type 0) (disk' : Seen) → Leads R view.disk disk' → IsUntouched view.disk disk'
+      → GoesFrom view.state.next (IsKeptOr config h None) view.disk disk'
+  untouched_moments config same writable h for R disk' run still =
+      goes_from_encoded (IsKeptOr config h None) s view.state.next view.disk disk' coherent (next_drawn view s writable holds.remembers)
+      (record {
+        later = run.later;
+        past = run.past;
+        each = λ m c low high here.
+            let moment = still.moment in
+            let now_is : m ≡ disk'.moment = omega (arith, low, high, moment) in
+            encoded c ((still.images c).0 (subst (λ n. disk'.left n c) now_is here));
+      })
+      (λ c is. (h, refl, inr (record { s = s; config_is = same; coherent = coherent; encodes = is; stands = for })))
 
   -- the record stands there
   module _ (disk' : Seen) (faults' : ℕ) (state' : State) (done : disk'.directory ≡ insert view.disk.directory (segment_name number) (segment_bytes s.active.no (longer (addition s next)))) where
@@ -161,12 +182,12 @@ module _ (view : View) (s : Stored) (holds : Holds view s) (next : Record) (spel
 
 -- the disk failed in the change
 pub failed_stands : (config : Fields) (h : History) (view : View) (stands : StandsNow config h view) → view.state.stopped ≡ None → view.state.count < max_place → (disk' : Seen) (faults' : ℕ)
-    → (caller : ℕ) (call : Call) → is_work call ≡ false → (b a : ℕ) → Image disk' disk'.directory → Goes (IsKeptOr h (Some (done_by caller call))) view.disk disk'
+    → (caller : ℕ) (call : Call) → is_work call ≡ false → (b a : ℕ) → Image disk' disk'.directory → Goes (IsKeptOr config h (Some (done_by caller call))) view.disk disk'
     → StandsNow config (with_failed h caller call b a) (moved view disk' faults' (halted view.state))
 failed_stands config h view stands runs fits disk' faults' caller call change_is b a here goes =
     let change : Change = record { caller = caller; call = call; did = Failed b a } in
-    let left = left_at_end h (Some (done_by caller call)) view.disk disk' here goes in
-    let retry : IsLeft disk' h (Some change) = record { now = left.now; images = left.images } in
+    let left = left_at_end config h (Some (done_by caller call)) view.disk disk' here goes in
+    let retry : IsLeft config disk' h (Some change) = record { now = left.now; images = left.images } in
     stopped_stands config h change b a (moved view disk' faults' (halted view.state)) stands.stored stands.legal (stands_done config h view stands runs) (subst (λ n. n < max_place) stands.count fits)
     refl (ap (λ n. n + 1) stands.count) (ap (λ n. Some (n + 1)) stands.count) (halted_remembered stands.stored view.state view.levels stands.remembers) stands.config_is
-    (stands_for config h view stands runs) (subst (IsLeft disk' h) (ap (λ t. cond t None (Some change)) (sym change_is)) retry) stands.counted
+    (stands_for config h view stands runs) (subst (IsLeft config disk' h) (ap (λ t. cond t None (Some change)) (sym change_is)) retry) stands.counted

@@ -88,7 +88,7 @@ grounded_stands config h view at stopped stands = record {
   remembers = stands.remembers;
   config_is = stands.config_is;
   stands = stands.stands;
-  held = subst (IsOpenOrStopped (record view { flight = None }) h stands.stored) (sym stopped) (subst (IsOpenOrStopped view h stands.stored) stopped stands.held);
+  held = subst (IsOpenOrStopped config (record view { flight = None }) h stands.stored) (sym stopped) (subst (IsOpenOrStopped config view h stands.stored) stopped stands.held);
   counted = tt;
 }
 

@@ -1,5 +1,5 @@
 -- What stands where the disk is in the store's hands.
-use Rattle.std.proofs.Common.{◌≡◌, ◌<◌, inl, inr, ℕ, ◌+◌, [], ◌∷◌, ◌++◌, length, Option, Some, None, refl, sym, ◌∙◌, subst, arith}
+use Rattle.std.proofs.Common.{◌≡◌, ◌<◌, ◌≤◌, inl, inr, ℕ, ◌+◌, [], ◌∷◌, ◌++◌, length, Option, Some, None, refl, sym, ◌∙◌, subst, arith}
 use Rattle.std.specs.Prelude.{IfSome}
 use Rattle.std.proofs.lemmas.List.{length_push}
 use Rattle.lethe_base.specs.History.{History, Change, AreDone, IsLegal}
@@ -9,15 +9,19 @@ use Rattle.lethe_base.specs.declared.config.Fields.{Fields}
 use Rattle.lethe_disk.specs.Directory.{Directory}
 use Rattle.lethe_disk.specs.Disk.{Seen, Image, IsIdle}
 use Rattle.lethe_disk.specs.Goes.{Goes}
-use Rattle.lethe_disk.proofs.Going.{goes_quiet, goes_weaker}
+use Rattle.lethe_disk.proofs.Going.{goes_quiet}
 use Rattle.lethe_disk.proofs.Quieting.{quiet_itself}
 use Rattle.lethe_commit.specs.Switch.{IsTakenBack}
+use Rattle.lethe_manifest.specs.declared.manifest.Manifest.{Manifest}
 use Rattle.lethe_stored.specs.Encodes.{Encodes}
 use Rattle.lethe_stored.specs.Kept.{IsFor, IsKept}
 use Rattle.lethe_stored.specs.Left.{IsLeft, IsKeptOr, IsHistoryOr}
+use Rattle.lethe_stored.specs.Numbers.{GoesFrom}
 use Rattle.lethe_stored.specs.Stored.{Stored}
+use Rattle.lethe_stored.proofs.Numbers.{goes_from_encoded, goes_from_weaker}
 use Rattle.lethe_advance.proofs.Standing.{only_back, settled_back}
 use Rattle.lethe_state.specs.Remembered.{Remembers}
+use Rattle.lethe_state.specs.Writable.{IsWritable}
 use Rattle.lethe_state.specs.declared.state.State.{State}
 use Rattle.lethe_core.specs.Running.{Holds, IsRunning, IsSound}
 use Rattle.lethe_core.specs.StandsNow.{IsCounted, IsOpenOrStopped, StandsNow, retried}
@@ -31,39 +35,35 @@ pub itself_or : (h : History) (change : Option Change) → IsHistoryOr h change 
 itself_or h None = refl
 itself_or h (Some change) = inl refl
 
-pub kept_or : (h : History) (change : Option Change) (d : Directory) → IsKept d h → IsKeptOr h change d
-kept_or h change d kept = (h, itself_or h change, kept)
+pub kept_or : (config : Fields) (h : History) (change : Option Change) (d : Directory) → IsKept config d h → IsKeptOr config h change d
+kept_or config h change d kept = (h, itself_or h change, kept)
 
-pub moments_or : (h : History) (change : Option Change) (old new : Seen) → Goes (λ c. IsKept c h) old new → Goes (IsKeptOr h change) old new
-moments_or h change old new goes = goes_weaker (λ c. IsKept c h) (IsKeptOr h change) old new (kept_or h change) goes
+pub moments_or : (config : Fields) (h : History) (change : Option Change) (first : ℕ) (old new : Seen) → GoesFrom first (λ c. IsKept config c h) old new → GoesFrom first (IsKeptOr config h change) old new
+moments_or config h change first old new goes = goes_from_weaker (λ c. IsKept config c h) (IsKeptOr config h change) first old new (kept_or config h change) goes
 
 -- what is kept at each moment of a run is kept at its end
-pub left_at_end : (h : History) (change : Option Change) (old new : Seen) → Image new new.directory → Goes (IsKeptOr h change) old new → IsLeft new h change
-left_at_end h change old new here goes =
-    let each : (c : Directory) → Image new c → IsKeptOr h change c = λ c at. goes.each new.moment c goes.later (omega arith) at in
+pub left_at_end : (config : Fields) (h : History) (change : Option Change) (old new : Seen) → Image new new.directory → Goes (IsKeptOr config h change) old new → IsLeft config new h change
+left_at_end config h change old new here goes =
+    let each : (c : Directory) → Image new c → IsKeptOr config h change c = λ c at. goes.each new.moment c goes.later (omega arith) at in
     record { now = each new.directory here; images = each }
 
 -- where nothing is done, what a crash leaves stays
-pub left_moments : (h : History) (change : Option Change) (disk : Seen) → IsLeft disk h change → Goes (IsKeptOr h change) disk disk
-left_moments h change disk left = goes_quiet (IsKeptOr h change) disk disk (quiet_itself disk) left.images
+pub left_moments : (config : Fields) (h : History) (change : Option Change) (disk : Seen) → IsLeft config disk h change → Goes (IsKeptOr config h change) disk disk
+left_moments config h change disk left = goes_quiet (IsKeptOr config h change) disk disk (quiet_itself disk) left.images
 
 -- A store that takes changes
 
-module _ (h : History) (view : View) (s : Stored) (running : IsRunning view s) (stands : IsFor h s) where
-  kept_image : (c : Directory) → Image view.disk c → IsKept c h
-  kept_image c here = inr (record {
-    s = s;
-    coherent = running.settled.coherent;
-    encodes = subst (λ d. Encodes d s) (sym (running.settled.synced c here)) running.settled.encodes;
-    stands = stands;
-  })
+pub running_encoded : (view : View) (s : Stored) → IsRunning view s → Goes (λ c. Encodes c s) view.disk view.disk
+running_encoded view s running = goes_quiet (λ c. Encodes c s) view.disk view.disk (quiet_itself view.disk)
+    (λ c here. subst (λ d. Encodes d s) (sym (running.settled.synced c here)) running.settled.encodes)
 
-  pub running_moments : Goes (λ c. IsKept c h) view.disk view.disk
-  running_moments = goes_quiet (λ c. IsKept c h) view.disk view.disk (quiet_itself view.disk) kept_image
+-- the next number of what it remembers was drawn
+pub next_drawn : (view : View) (s : Stored) → IsWritable view.state → Remembers s view.state view.levels → s.manifest.next ≤ view.state.next
+next_drawn view s writable remembers = subst (λ (m : Manifest). m.next ≤ view.state.next) remembers.manifest writable.drawn
 
 module _ (config : Fields) (h : History) (view : View) (stands : StandsNow config h view) (runs : view.state.stopped ≡ None) where
   held_open : AreDone h × IsRunning view stands.stored
-  held_open = subst (IsOpenOrStopped view h stands.stored) runs stands.held
+  held_open = subst (IsOpenOrStopped config view h stands.stored) runs stands.held
 
   pub stands_done : AreDone h
   stands_done = held_open.0
@@ -74,8 +74,16 @@ module _ (config : Fields) (h : History) (view : View) (stands : StandsNow confi
   pub stands_for : IsFor h stands.stored
   stands_for = subst (λ g. IsFor g stands.stored) (all_done h stands_done) stands.stands
 
-  pub stands_moments : Goes (λ c. IsKept c h) view.disk view.disk
-  stands_moments = running_moments h view stands.stored held_open.1 stands_for
+  -- where a crash leaves what is stored, it leaves what is kept
+  pub kept_by : (c : Directory) → Encodes c stands.stored → IsKept config c h
+  kept_by c is = inr (record { s = stands.stored; config_is = stands.config_is; coherent = stands.remembers.coherent; encodes = is; stands = stands_for })
+
+  pub encoded_moments : IsWritable view.state → (disk : Seen) → Goes (λ c. Encodes c stands.stored) view.disk disk → GoesFrom view.state.next (λ c. IsKept config c h) view.disk disk
+  encoded_moments writable disk goes =
+      goes_from_encoded (λ c. IsKept config c h) stands.stored view.state.next view.disk disk stands.remembers.coherent (next_drawn view stands.stored writable stands.remembers) goes kept_by
+
+  pub stands_moments : IsWritable view.state → GoesFrom view.state.next (λ c. IsKept config c h) view.disk view.disk
+  stands_moments writable = encoded_moments writable view.disk (running_encoded view stands.stored held_open.1)
 
 -- what a store that takes changes stands for
 pub open_stands : (config : Fields) (h : History) (view : View) (s : Stored) → IsLegal h → AreDone h → view.state.count ≡ length h → s.manifest.config ≡ config → IsFor h s → Holds view s
@@ -87,7 +95,7 @@ open_stands config h view s legal done count config_is stands holds counted = re
   remembers = holds.remembers;
   config_is = config_is;
   stands = subst (λ g. IsFor g s) (sym (all_done h done)) stands;
-  held = subst (IsOpenOrStopped view h s) (sym holds.running.current.runs) (done, holds.running);
+  held = subst (IsOpenOrStopped config view h s) (sym holds.running.current.runs) (done, holds.running);
   counted = counted;
 }
 
@@ -99,7 +107,7 @@ next_stands_now config h old new stands runs t count same for holds counted =
 
 -- and one in which the disk failed in one more change
 pub stopped_stands : (config : Fields) (h : History) (change : Change) (before behind : ℕ) (view : View) (s : Stored) → IsLegal h → AreDone h → length h < max_place → change.did ≡ Failed before behind
-    → view.state.count ≡ length h + 1 → view.state.stopped ≡ Some (length h + 1) → Remembers s view.state view.levels → s.manifest.config ≡ config → IsFor h s → IsLeft view.disk h (retried change)
+    → view.state.count ≡ length h + 1 → view.state.stopped ≡ Some (length h + 1) → Remembers s view.state view.levels → s.manifest.config ≡ config → IsFor h s → IsLeft config view.disk h (retried change)
     → IfSome view.flight (λ flying. IsCounted flying.task) → StandsNow config (h ++ change ∷ []) view
 stopped_stands config h change before behind view s legal done few failed count stopped remembers config_is stands left counted = record {
   legal = legal_failed h change before behind legal done few failed;
@@ -108,7 +116,7 @@ stopped_stands config h change before behind view s legal done few failed count 
   remembers = remembers;
   config_is = config_is;
   stands = subst (λ g. IsFor g s) (sym (last_failed h change before behind done failed)) stands;
-  held = subst (IsOpenOrStopped view (h ++ change ∷ []) s) (sym stopped) (record {
+  held = subst (IsOpenOrStopped config view (h ++ change ∷ []) s) (sym stopped) (record {
     before = h;
     change = change;
     history = refl;
@@ -155,12 +163,12 @@ module _ (old new : View) (back : IsTakenBack old.disk new.disk) where
   pub running_back : (s : Stored) → new.state ≡ old.state → IsBeside old new → IsRunning old s → IsRunning new s
   running_back s same rest running = subst (λ view. IsRunning view s) (is_beside old new old.state same rest) (back_beside s running)
 
-  left_back : (h : History) (change : Option Change) → IsLeft old.disk h change → IsLeft new.disk h change
-  left_back h change left = record { now = subst (IsKeptOr h change) (sym back.directory) left.now; images = λ c here. left.images c (back.images c here) }
+  left_back : (config : Fields) (h : History) (change : Option Change) → IsLeft config old.disk h change → IsLeft config new.disk h change
+  left_back config h change left = record { now = subst (IsKeptOr config h change) (sym back.directory) left.now; images = λ c here. left.images c (back.images c here) }
 
-  held_back : (h : History) (s : Stored) (stopped : Option ℕ) → IsOpenOrStopped old h s stopped → IsOpenOrStopped (beside old new old.state) h s stopped
-  held_back h s None held = (held.0, back_beside s held.1)
-  held_back h s (Some at) held = record {
+  held_back : (config : Fields) (h : History) (s : Stored) (stopped : Option ℕ) → IsOpenOrStopped config old h s stopped → IsOpenOrStopped config (beside old new old.state) h s stopped
+  held_back config h s None held = (held.0, back_beside s held.1)
+  held_back config h s (Some at) held = record {
     before = held.before;
     change = held.change;
     history = held.history;
@@ -170,7 +178,7 @@ module _ (old new : View) (back : IsTakenBack old.disk new.disk) where
     faults_before = held.faults_before;
     faults = held.faults;
     failed = held.failed;
-    left = left_back held.before (retried held.change) held.left;
+    left = left_back config held.before (retried held.change) held.left;
   }
 
   pub stands_back : (config : Fields) (h : History) → new.state ≡ old.state → IsBeside old new → StandsNow config h old → StandsNow config h new
@@ -181,7 +189,7 @@ module _ (old new : View) (back : IsTakenBack old.disk new.disk) where
     remembers = stands.remembers;
     config_is = stands.config_is;
     stands = stands.stands;
-    held = held_back h stands.stored old.state.stopped stands.held;
+    held = held_back config h stands.stored old.state.stopped stands.held;
     counted = stands.counted;
   })
 

@@ -5,8 +5,8 @@ use Rattle.lethe_base.specs.Limits.{max_place}
 use Rattle.lethe_base.specs.declared.call.Call.{Call}
 use Rattle.lethe_base.specs.declared.config.Fields.{Fields}
 use Rattle.lethe_base.specs.declared.refused.Refused.{Refused}
-use Rattle.lethe_disk.specs.Goes.{Goes}
 use Rattle.lethe_stored.specs.Kept.{IsKept}
+use Rattle.lethe_stored.specs.Numbers.{GoesFrom}
 use Rattle.lethe_core.specs.Running.{IsSound}
 use Rattle.lethe_core.specs.StandsNow.{StandsNow}
 use Rattle.lethe_core.specs.Steps.{stepped_to}
@@ -24,6 +24,6 @@ pub record MayStep (Tells : Type 0) (view : View) (before : ℕ) : Type 0 where
 pub record Keeps {T : Type 0} (Tells : Type 0) (old new : View) (result : Result T Refused) : Type 0 where
   pub sound : IsSound Tells new
   pub stands : Tells → (config : Fields) (h : History) → StandsNow config h old → (caller : ℕ) (call : Call) → StandsNow config (stepped_to h caller call result) new
-  pub any_moment : Tells → (config : Fields) (h : History) → StandsNow config h old → Goes (λ c. IsKept c h) old.disk new.disk
+  pub any_moment : Tells → (config : Fields) (h : History) → StandsNow config h old → GoesFrom old.state.next (λ c. IsKept config c h) old.disk new.disk
   pub numbers : Tells → new.state.next + old.disk.moment ≤ old.state.next + new.disk.moment
   pub faults : old.faults ≤ new.faults

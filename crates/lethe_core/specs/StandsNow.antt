@@ -19,7 +19,7 @@ retried change = if is_work change.call then None else Some change
 
 -- A store that was stopped by the last change of its history: the disk is left for the history before it, and for the change unless that is
 -- work.
-pub record IsStopped (h : History) (disk : Seen) (at : ℕ) : Type 0 where
+pub record IsStopped (config : Fields) (h : History) (disk : Seen) (at : ℕ) : Type 0 where
   pub before : History
   pub change : Change
   pub history : h ≡ before ++ change ∷ []
@@ -29,11 +29,11 @@ pub record IsStopped (h : History) (disk : Seen) (at : ℕ) : Type 0 where
   pub faults_before : ℕ
   pub faults : ℕ
   pub failed : change.did ≡ Failed faults_before faults
-  pub left : IsLeft disk before (retried change)
+  pub left : IsLeft config disk before (retried change)
 
-abbrev pub IsOpenOrStopped : View → History → Stored → Option ℕ → Type 0
-IsOpenOrStopped view h s None = AreDone h × IsRunning view s
-IsOpenOrStopped view h s (Some at) = IsStopped h view.disk at
+abbrev pub IsOpenOrStopped : Fields → View → History → Stored → Option ℕ → Type 0
+IsOpenOrStopped config view h s None = AreDone h × IsRunning view s
+IsOpenOrStopped config view h s (Some at) = IsStopped config h view.disk at
 
 -- the places of all entries that the task merges were counted when it was begun
 abbrev pub IsCounted : PlainTask → Type 0
@@ -48,5 +48,5 @@ pub record StandsNow (config : Fields) (h : History) (view : View) : Type 0 wher
   pub remembers : Remembers stored view.state view.levels
   pub config_is : stored.manifest.config ≡ config
   pub stands : IsFor (without_failed h) stored
-  pub held : IsOpenOrStopped view h stored view.state.stopped
+  pub held : IsOpenOrStopped config view h stored view.state.stopped
   pub counted : IfSome view.flight (λ flying. IsCounted flying.task)

@@ -6,9 +6,9 @@ ghost use Rattle.lethe_base.specs.declared.config.Fields.{Fields};
 ghost use Rattle.lethe_segment.specs.declared.record.Record.{Record};
 ghost use Rattle.lethe_segment.specs.Records.{RecordHasSpelling, record_seq};
 ghost use Rattle.lethe_cover.specs.Steps.{with_done};
-ghost use Rattle.lethe_disk.specs.Goes.{Goes};
 ghost use Rattle.lethe_stored.specs.Kept.{IsFor};
 ghost use Rattle.lethe_stored.specs.Left.{IsKeptOr, is_work};
+ghost use Rattle.lethe_stored.specs.Numbers.{GoesFrom};
 ghost use Rattle.lethe_stored.specs.Stored.{Stored, appended, erase_of};
 ghost use Rattle.lethe_core.specs.Changes.{answered_to, with_record, written_by};
 ghost use Rattle.lethe_core.specs.Keeps.{MayStep};
@@ -40,7 +40,7 @@ impl<D: Disk> Core<D> {
             → StandsNow config (answered_to h caller call result) (view_of self.new) }
         ensures any_moment { D.tells → (config : Fields) (h : History) (caller : ℕ) (call : Call)
             → (stands : StandsNow config h (view_of self.old)) → IsFor (with_done h caller call) (appended stands.stored next)
-            → Goes (IsKeptOr h (written_by caller call result)) (D.seen self.old.disk) (D.seen self.new.disk) }
+            → GoesFrom self.old.state.next (IsKeptOr config h (written_by caller call result)) (D.seen self.old.disk) (D.seen self.new.disk) }
         ensures written { D.tells → (s : Stored) → Holds (view_of self.old) s
             → OnOk result (Holds (view_of self.new) (appended s next) × ((D.seen self.new.disk).directory ≡ with_record (D.seen self.old.disk).directory s next)) }
         ensures version { self.new.version ≡ self.old.version }

@@ -3,12 +3,12 @@ ghost use Rattle.std.specs.Prelude.{◌≡◌, ◌≤◌, ◌<◌, ◌+◌, ◌�
 ghost use Rattle.lethe_base.specs.declared.name.Name.{Name};
 ghost use Rattle.lethe_base.specs.History.{History};
 ghost use Rattle.lethe_disk.specs.Directory.{object};
-ghost use Rattle.lethe_disk.specs.Goes.{Goes};
 ghost use Rattle.lethe_header.specs.Headers as header;
 ghost use Rattle.lethe_manifest.specs.Manifests.{HasSpelling};
 ghost use Rattle.lethe_commit.specs.Place.{insert_all};
 ghost use Rattle.lethe_stored.specs.Kept.{IsFor, IsKept};
 ghost use Rattle.lethe_stored.specs.Levels.{HasFiles};
+ghost use Rattle.lethe_stored.specs.Numbers.{GoesFrom};
 ghost use Rattle.lethe_stored.specs.Stored.{Stored, part_names};
 ghost use Rattle.lethe_advance.specs.Settled.{HasOnly, IsSettled};
 ghost use Rattle.lethe_advance.specs.Shown.{parts_by_level};
@@ -119,7 +119,8 @@ impl<D: Disk> Core<D> {
         requires level { step.now.level ≤ self.old.state.manifest.config.levels }
         requires step { D.tells → (s t : Stored) × (left : List (Name × List ℕ)) × IsRunning (view_of self.old) s × IsStep s (loose_in (view_of self.old).flight) t left headers.items step.now }
         ensures moments { D.tells → (s t : Stored) (left : List (Name × List ℕ)) → IsRunning (view_of self.old) s → IsStep s (loose_in (view_of self.old).flight) t left headers.items step.now
-            → (h : History) → IsFor h s → IsFor h t → Goes (λ c. IsKept c h) (D.seen self.old.disk) (D.seen self.new.disk) }
+            → (h : History) → IsFor h s → IsFor h t → s.manifest.next ≤ self.old.state.next → t.manifest.next ≤ self.old.state.next + length step.now.objects.items + 1
+            → GoesFrom self.old.state.next (λ c. IsKept s.manifest.config c h) (D.seen self.old.disk) (D.seen self.new.disk) }
         ensures done { D.tells → (s t : Stored) (left : List (Name × List ℕ)) → IsRunning (view_of self.old) s → IsStep s (loose_in (view_of self.old).flight) t left headers.items step.now
             → OnOk result (IsSettled (D.seen self.new.disk) t × HasOnly t left (D.seen self.new.disk).directory) }
         ensures kept { D.tells → (s t : Stored) (left : List (Name × List ℕ)) → IsRunning (view_of self.old) s → IsStep s (loose_in (view_of self.old).flight) t left headers.items step.now

@@ -8,7 +8,7 @@ ghost use Rattle.lethe_disk.specs.Quiet.{IsQuiet};
 ghost use Rattle.lethe_commit.specs.Switch.{HasGreatest};
 ghost use Rattle.lethe_stored.specs.Kept.{IsKept};
 ghost use Rattle.lethe_stored.specs.Left.{IsLeft};
-ghost use Rattle.lethe_stored.specs.Numbers.{IsNextNumber, AreDrawn};
+ghost use Rattle.lethe_stored.specs.Numbers.{IsNextNumber, KeepsPace};
 ghost use Rattle.lethe_load.specs.Refused.{HasReason};
 ghost use Rattle.lethe_load.specs.declared.refused.RecoverRefused.{RecoverRefused};
 ghost use Rattle.lethe_recover.specs.New.{new_stored};
@@ -78,8 +78,8 @@ pub fn open<D: Disk>(alloc: Global, disk: &mut D, config: &Config) -> Result<Ope
     // Numbers are drawn no faster than device calls are made.
     ensures numbers { D.tells → IfOk result (λ opened. (next : ℕ) → IsNextNumber (D.seen disk.old).directory next
         → opened.manifest.next + (D.seen disk.old).moment ≤ next + (D.seen disk.new).moment) }
-    ensures drawn { D.tells → (first : ℕ) → AreDrawn first (D.seen disk.old).moment (D.seen disk.old).moment (D.seen disk.old)
-        → AreDrawn first (D.seen disk.old).moment (D.seen disk.old).moment (D.seen disk.new) }
+    ensures pace { D.tells → (first : ℕ) → KeepsPace first (D.seen disk.old).moment (D.seen disk.old).moment (D.seen disk.old)
+        → KeepsPace first (D.seen disk.old).moment (D.seen disk.old).moment (D.seen disk.new) }
     ensures faults { D.faults disk.old ≤ D.faults disk.new }
 {
     let before = disk.faults();
@@ -112,8 +112,8 @@ fn open_synced<D: Disk>(
     ensures exhausted { D.tells → (last : ℕ) → IsErrOf result (Exhausted last) → IsQuiet (D.seen disk.old) (D.seen disk.new) }
     ensures numbers { D.tells → IfOk result (λ opened. (next : ℕ) → IsNextNumber (D.seen disk.old).directory next
         → opened.manifest.next + (D.seen disk.old).moment ≤ next + (D.seen disk.new).moment) }
-    ensures drawn { D.tells → (first : ℕ) → AreDrawn first (D.seen disk.old).moment (D.seen disk.old).moment (D.seen disk.old)
-        → AreDrawn first (D.seen disk.old).moment (D.seen disk.old).moment (D.seen disk.new) }
+    ensures pace { D.tells → (first : ℕ) → KeepsPace first (D.seen disk.old).moment (D.seen disk.old).moment (D.seen disk.old)
+        → KeepsPace first (D.seen disk.old).moment (D.seen disk.old).moment (D.seen disk.new) }
     ensures faults { D.faults disk.old ≤ D.faults disk.new }
 {
     let read = match load(alloc, disk, config) {
@@ -148,7 +148,7 @@ fn start<D: Disk>(
     ensures spelled { IfOk result (λ opened. IsSpellable config.now opened) }
     ensures next { IfOk result (λ opened. opened.manifest.next ≡ 3) }
     ensures any_moment { D.tells → Goes (λ c. IsKept config.now c []) (D.seen disk.old) (D.seen disk.new) }
-    ensures drawn { D.tells → AreDrawn 3 (D.seen disk.old).moment (D.seen disk.old).moment (D.seen disk.new) }
+    ensures pace { D.tells → KeepsPace 3 (D.seen disk.old).moment (D.seen disk.old).moment (D.seen disk.new) }
     ensures refused { IfErr result (IsCut ⊥ before (D.faults disk.new)) }
     ensures faults { D.faults disk.old ≤ D.faults disk.new }
 {
@@ -169,7 +169,7 @@ fn begin_with_version<D: Disk>(
     ensures spelled { IfOk result (λ opened. IsSpellable config.now opened) }
     ensures next { IfOk result (λ opened. opened.manifest.next ≡ 3) }
     ensures any_moment { D.tells → Goes (λ c. IsKept config.now c []) (D.seen disk.old) (D.seen disk.new) }
-    ensures drawn { D.tells → AreDrawn 3 (D.seen disk.old).moment (D.seen disk.old).moment (D.seen disk.new) }
+    ensures pace { D.tells → KeepsPace 3 (D.seen disk.old).moment (D.seen disk.old).moment (D.seen disk.new) }
     ensures cause { HasCause (D.faults disk.old) (D.faults disk.new) result }
 {
     let manifest = begin(alloc, disk, config)?;

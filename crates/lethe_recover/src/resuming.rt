@@ -9,7 +9,7 @@ ghost use Rattle.lethe_segment.specs.Segments.{Ascends};
 ghost use Rattle.lethe_manifest.specs.Manifests.{HasSpelling};
 ghost use Rattle.lethe_stored.specs.Stored.{Stored};
 ghost use Rattle.lethe_stored.specs.Kept.{IsFor, IsKept};
-ghost use Rattle.lethe_stored.specs.Numbers.{AreDrawn};
+ghost use Rattle.lethe_stored.specs.Numbers.{KeepsPace};
 ghost use Rattle.lethe_advance.specs.Settled.{IsSettled};
 ghost use Rattle.lethe_advance.specs.Shown.{parts_in};
 ghost use Rattle.lethe_recover.specs.Flushing.{IsShort, numbers_of};
@@ -54,8 +54,8 @@ pub fn resume<D: Disk>(
     ensures spelled { IfOk result (λ opened. IsSpellable manifest.now.config opened) }
     ensures any_moment { D.tells → (s : Stored) → IsSettled (D.seen disk.old) s → IsLoadedAs s manifest.now journal (map parts_in files.items)
         → (h : History) → IsFor h s → Goes (λ c. IsKept s.manifest.config c h) (D.seen disk.old) (D.seen disk.new) }
-    ensures drawn { D.tells → (s : Stored) → IsSettled (D.seen disk.old) s → IsLoadedAs s manifest.now journal (map parts_in files.items)
-        → AreDrawn manifest.now.next (D.seen disk.old).moment (D.seen disk.old).moment (D.seen disk.new) }
+    ensures pace { D.tells → (s : Stored) → IsSettled (D.seen disk.old) s → IsLoadedAs s manifest.now journal (map parts_in files.items)
+        → KeepsPace manifest.now.next (D.seen disk.old).moment (D.seen disk.old).moment (D.seen disk.new) }
     ensures refused { IfErr result (IsCut (IsShort manifest.now journal.older journal.newer (erases_of manifest.now journal)) before (D.faults disk.new)) }
     ensures exhausted { (last : ℕ) → IsErrOf result (Exhausted last) → disk.new ≡ disk.old }
     ensures numbers { D.tells → IfOk result (λ opened. opened.manifest.next + (D.seen disk.old).moment ≤ manifest.now.next + (D.seen disk.new).moment) }
@@ -90,8 +90,8 @@ fn reopen<D: Disk>(
     ensures spelled { IfOk result (λ opened. IsSpellable manifest.now.config opened) }
     ensures any_moment { D.tells → (s : Stored) → IsSettled (D.seen disk.old) s → IsReadyFor s manifest.now made
         → (h : History) → IsFor h s → Goes (λ c. IsKept s.manifest.config c h) (D.seen disk.old) (D.seen disk.new) }
-    ensures drawn { D.tells → (s : Stored) → IsSettled (D.seen disk.old) s → IsReadyFor s manifest.now made
-        → AreDrawn manifest.now.next (D.seen disk.old).moment (D.seen disk.old).moment (D.seen disk.new) }
+    ensures pace { D.tells → (s : Stored) → IsSettled (D.seen disk.old) s → IsReadyFor s manifest.now made
+        → KeepsPace manifest.now.next (D.seen disk.old).moment (D.seen disk.old).moment (D.seen disk.new) }
     ensures numbers { D.tells → IfOk result (λ opened. opened.manifest.next + (D.seen disk.old).moment ≤ manifest.now.next + (D.seen disk.new).moment) }
     ensures cause { HasCause (D.faults disk.old) (D.faults disk.new) result }
 {

@@ -4,7 +4,7 @@ use Rattle.lethe_commit.specs.Clear.{ArePresent, IsCleared, remove_all}
 use Rattle.lethe_commit.specs.Place.{name_of}
 use Rattle.lethe_advance.specs.Shown.{AreLevelsWith, parts_by_level}
 use Rattle.lethe_advance.proofs.Leveled.{files_next}
-use Rattle.lethe_advance.proofs.Running.{absent_before, exchanges_from, switched_from, place_moments, free_placed, older_placed, pages_placed, opened_placed, exchange_moments, present_again, removal_moments, back_again, present_placed, clear_moments, settled_next, kept_next}
+use Rattle.lethe_advance.proofs.Running.{absent_before, early_placed, early_exchanged, early_behind, exchanges_from, switched_from, place_moments, free_placed, older_placed, pages_placed, opened_placed, exchange_moments, present_again, removal_moments, back_again, present_placed, clear_moments, settled_next, kept_next}
 use Rattle.lethe_advance.proofs.advancing.advance.Goals as goal
 
 pub place_all-requires-after_bounds : goal.place_all-requires-after_bounds
@@ -316,3 +316,67 @@ returns-in_ok-take_back-in-Err-NoMemory-clause-no_memory g c = λ told refused.
     let removed = c.in_ok-take_back-in-Err-NoMemory.ensures.done told ∙ ap (λ l. remove_all (map name_of l) s2.directory) as_placed in
     let here = (g.met.D.Disk g.world.𝓛 g.world.𝓜 g.world.𝓡 ((λ s x. x), (λ x. x), (λ x. x), λ x. x)).itself told c.args.disk.now in
     back_again s t loose left headers step s0 may objects same s1 placing synced done s2 exchanging back s3 here removed (c.in_ok-take_back-in-Err-NoMemory.ensures.synced told)
+
+pub returns-in_err-place_all-clause-early : goal.returns-in_err-place_all-clause-early
+returns-in_err-place_all-clause-early g c = λ told s t loose left may moment d low high few there.
+    let s0 = g.D.Disk.seen c.args.disk.now in
+    let headers = c.args.headers.items in
+    let step = c.args.step.now in
+    let s1 = g.D.Disk.seen c.place_all.new.disk in
+    let placing = c.place_all.ensures.any_moment told in
+    early_placed s t loose left headers step s0 may c.deref.result.now c.deref.ensures.value s1 placing moment d low high there
+
+pub returns-in-Err-Failed-clause-early : goal.returns-in-Err-Failed-clause-early
+returns-in-Err-Failed-clause-early g c = λ told s t loose left may moment d low high few there.
+    let s0 = g.D.Disk.seen c.args.disk.now in
+    let headers = c.args.headers.items in
+    let step = c.args.step.now in
+    let s1 = g.D.Disk.seen c.place_all.new.disk in
+    let placing = c.place_all.ensures.any_moment told in
+    let s2 = g.D.Disk.seen c.exchange.new.disk in
+    let calls = c.in_ok-place_all.ensures.calls told in
+    early_exchanged s t loose left headers step s0 may c.deref.result.now c.deref.ensures.value s1 placing calls _ s2 (c.exchange.ensures.any_moment told) moment d low few there
+
+pub returns-in_err-clear-in-Ok-clause-early : goal.returns-in_err-clear-in-Ok-clause-early
+returns-in_err-clear-in-Ok-clause-early g c = λ told s t loose left may moment d low high few there.
+    let s0 = g.D.Disk.seen c.args.disk.now in
+    let headers = c.args.headers.items in
+    let step = c.args.step.now in
+    let s1 = g.D.Disk.seen c.place_all.new.disk in
+    let placing = c.place_all.ensures.any_moment told in
+    let s2 = g.D.Disk.seen c.exchange.new.disk in
+    let calls = c.in_ok-place_all.ensures.calls told in
+    early_behind s t loose left headers step s0 may c.deref.result.now c.deref.ensures.value s1 placing calls _ s2 (c.exchange.ensures.any_moment told) _ (g.D.Disk.seen c.clear.new.disk) (c.clear.ensures.any_moment told) moment d low few there
+
+pub returns-in_ok-clear-in-Ok-clause-early : goal.returns-in_ok-clear-in-Ok-clause-early
+returns-in_ok-clear-in-Ok-clause-early g c = λ told s t loose left may moment d low high few there.
+    let s0 = g.D.Disk.seen c.args.disk.now in
+    let headers = c.args.headers.items in
+    let step = c.args.step.now in
+    let s1 = g.D.Disk.seen c.place_all.new.disk in
+    let placing = c.place_all.ensures.any_moment told in
+    let s2 = g.D.Disk.seen c.exchange.new.disk in
+    let calls = c.in_ok-place_all.ensures.calls told in
+    early_behind s t loose left headers step s0 may c.deref.result.now c.deref.ensures.value s1 placing calls _ s2 (c.exchange.ensures.any_moment told) _ (g.D.Disk.seen c.clear.new.disk) (c.clear.ensures.any_moment told) moment d low few there
+
+pub returns-in_err-take_back-in-Err-NoMemory-clause-early : goal.returns-in_err-take_back-in-Err-NoMemory-clause-early
+returns-in_err-take_back-in-Err-NoMemory-clause-early g c = λ told s t loose left may moment d low high few there.
+    let s0 = g.D.Disk.seen c.args.disk.now in
+    let headers = c.args.headers.items in
+    let step = c.args.step.now in
+    let s1 = g.D.Disk.seen c.place_all.new.disk in
+    let placing = c.place_all.ensures.any_moment told in
+    let s2 = g.D.Disk.seen c.exchange.new.disk in
+    let calls = c.in_ok-place_all.ensures.calls told in
+    early_behind s t loose left headers step s0 may c.deref.result.now c.deref.ensures.value s1 placing calls _ s2 (c.exchange.ensures.any_moment told) _ (g.D.Disk.seen c.take_back.new.disk) (c.take_back.ensures.any_moment told) moment d low few there
+
+pub returns-in_ok-take_back-in-Err-NoMemory-clause-early : goal.returns-in_ok-take_back-in-Err-NoMemory-clause-early
+returns-in_ok-take_back-in-Err-NoMemory-clause-early g c = λ told s t loose left may moment d low high few there.
+    let s0 = g.D.Disk.seen c.args.disk.now in
+    let headers = c.args.headers.items in
+    let step = c.args.step.now in
+    let s1 = g.D.Disk.seen c.place_all.new.disk in
+    let placing = c.place_all.ensures.any_moment told in
+    let s2 = g.D.Disk.seen c.exchange.new.disk in
+    let calls = c.in_ok-place_all.ensures.calls told in
+    early_behind s t loose left headers step s0 may c.deref.result.now c.deref.ensures.value s1 placing calls _ s2 (c.exchange.ensures.any_moment told) _ (g.D.Disk.seen c.take_back.new.disk) (c.take_back.ensures.any_moment told) moment d low few there

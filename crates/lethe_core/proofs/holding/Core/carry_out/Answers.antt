@@ -1,3 +1,4 @@
+use Rattle.std.proofs.Common.{length}
 use Rattle.lethe_core.specs.View.{loose_in, view_of}
 use Rattle.lethe_core.proofs.Carried.{may_advance, step_moments}
 use Rattle.lethe_core.proofs.holding.Core.carry_out.Goals as goal
@@ -20,22 +21,25 @@ returns-in-Ok-clause-files g c = λ told s t left running is has.
     c.in-Ok.ensures.files told s t (loose_in (view_of c.args.self.now).flight) left (may_advance (view_of c.args.self.now) s t left c.args.headers.items c.args.step.now running is) has
 
 pub returns-in-Ok-clause-moments : goal.returns-in-Ok-clause-moments
-returns-in-Ok-clause-moments g c = λ told s t left running is h stands next.
+returns-in-Ok-clause-moments g c = λ told s t left running is h stands next below above.
     let old = view_of c.args.self.now in
-    step_moments h s t old.disk (g.D.Disk.seen c.advance.new.disk) running.settled.coherent is.coherent stands next
-    (c.advance.ensures.any_moment told s t (loose_in old.flight) left (may_advance old s t left c.args.headers.items c.args.step.now running is))
+    let may = may_advance old s t left c.args.headers.items c.args.step.now running is in
+    step_moments h s t old.state.next (length c.args.step.now.objects.items) old.disk (g.D.Disk.seen c.advance.new.disk) running.settled.coherent is.coherent is.config stands next below above
+    (c.advance.ensures.any_moment told s t (loose_in old.flight) left may) (c.advance.ensures.early told s t (loose_in old.flight) left may)
 
 pub returns-in-Err-Failed-clause-moments : goal.returns-in-Err-Failed-clause-moments
-returns-in-Err-Failed-clause-moments g c = λ told s t left running is h stands next.
+returns-in-Err-Failed-clause-moments g c = λ told s t left running is h stands next below above.
     let old = view_of c.args.self.now in
-    step_moments h s t old.disk (g.D.Disk.seen c.advance.new.disk) running.settled.coherent is.coherent stands next
-    (c.advance.ensures.any_moment told s t (loose_in old.flight) left (may_advance old s t left c.args.headers.items c.args.step.now running is))
+    let may = may_advance old s t left c.args.headers.items c.args.step.now running is in
+    step_moments h s t old.state.next (length c.args.step.now.objects.items) old.disk (g.D.Disk.seen c.advance.new.disk) running.settled.coherent is.coherent is.config stands next below above
+    (c.advance.ensures.any_moment told s t (loose_in old.flight) left may) (c.advance.ensures.early told s t (loose_in old.flight) left may)
 
 pub returns-in-Err-NoMemory-clause-moments : goal.returns-in-Err-NoMemory-clause-moments
-returns-in-Err-NoMemory-clause-moments g c = λ told s t left running is h stands next.
+returns-in-Err-NoMemory-clause-moments g c = λ told s t left running is h stands next below above.
     let old = view_of c.args.self.now in
-    step_moments h s t old.disk (g.D.Disk.seen c.advance.new.disk) running.settled.coherent is.coherent stands next
-    (c.advance.ensures.any_moment told s t (loose_in old.flight) left (may_advance old s t left c.args.headers.items c.args.step.now running is))
+    let may = may_advance old s t left c.args.headers.items c.args.step.now running is in
+    step_moments h s t old.state.next (length c.args.step.now.objects.items) old.disk (g.D.Disk.seen c.advance.new.disk) running.settled.coherent is.coherent is.config stands next below above
+    (c.advance.ensures.any_moment told s t (loose_in old.flight) left may) (c.advance.ensures.early told s t (loose_in old.flight) left may)
 
 pub returns-in-Err-Failed-clause-later : goal.returns-in-Err-Failed-clause-later
 returns-in-Err-Failed-clause-later g c = λ told.

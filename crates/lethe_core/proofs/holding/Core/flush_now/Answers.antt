@@ -37,7 +37,7 @@ returns-in_err-carry_out-clause-keeps g c =
     let laws = g.met.D.Disk g.world.𝓛 g.world.𝓜 g.world.𝓡 ((λ s x. x), (λ x. x), (λ x. x), λ x. x) in
     let refusal : c.from_residual-in_err-carry_out.result ≡ Err why = search rules in
     let goes = next_moments IsFlushed g.D.Disk.tells old headers step c.args.before c.requires.may (flushed_next old c.requires.may.sound.flies headers step c.in_ok-headers.ensures.flushes)
-    new (λ h s t holds for is. flush_for h s t holds.remembers.coherent for is) c.carry_out.ensures.moments in
+    new (λ h s t holds for is. flush_for h s t holds.remembers.coherent for is) 1 c.in_ok-headers.ensures.step c.carry_out.ensures.moments in
     subst (Keeps {T = Unit {0}} g.D.Disk.tells old new) (sym refusal)
     (hindered_keeps g.D.Disk.tells old new c.args.before c.requires.may why c.in_err-carry_out.ensures.refused goes (λ told. laws.itself told c.carry_out.new.self.disk) c.carry_out.ensures.later c.carry_out.ensures.faults)
 

@@ -1,12 +1,15 @@
-use Rattle.std.proofs.Common.{◌≡◌, ◌<◌, ◌+◌, Err, None, length, refl, sym, ap, ◌∙◌, subst, arith}
+use Rattle.std.proofs.Common.{◌≡◌, ◌<◌, ◌+◌, Err, None, Some, length, refl, sym, ap, ◌∙◌, subst, arith}
 use Rattle.lethe_base.specs.Limits.{max_place}
 use Rattle.lethe_commit.specs.Append.{EndsAt, IsAppended, longer}
 use Rattle.lethe_commit.proofs.Placing.{refused_at_once}
 use Rattle.lethe_manifest.specs.declared.manifest.Manifest.{Manifest}
+use Rattle.lethe_stored.specs.Left.{IsKeptOr}
+use Rattle.lethe_stored.specs.Numbers.{GoesFrom}
 use Rattle.lethe_stored.specs.Steps.{addition}
 use Rattle.lethe_cover.specs.Steps.{with_done, with_failed}
 use Rattle.lethe_stored.specs.Stored.{appended, segment_name}
 use Rattle.lethe_state.specs.declared.state.State.{State}
+use Rattle.lethe_core.specs.Changes.{done_by}
 use Rattle.lethe_core.specs.Running.{Holds, IsSound}
 use Rattle.lethe_core.specs.StandsNow.{StandsNow}
 use Rattle.lethe_core.specs.View.{view_of}
@@ -38,7 +41,7 @@ returns-in_default-clause-stands g c = λ told config h caller call change stand
 pub returns-in_default-clause-any_moment : goal.returns-in_default-clause-any_moment
 returns-in_default-clause-any_moment g c = λ told config h caller call stands with.
     let old = view_of c.args.self.now in
-    moments_or h None old.disk old.disk (stands_moments config h old stands c.requires.may.runs)
+    moments_or config h None old.state.next old.disk old.disk (stands_moments config h old stands c.requires.may.runs c.requires.may.sound.writable)
 
 -- It was appended
 
@@ -98,8 +101,10 @@ returns-in-Ok-append-clause-any_moment g c = λ told config h caller call stands
     let place = c.requires.place ∙ ap (λ n. n + 1) (sym same.count) in
     let number = c.active_number-no.result in
     let is_ready = ready mid stands.stored mid_holds c.args.next c.requires.spelled place c.requires.entry number c.active_number-no.ensures c.deref.result.now (c.deref.ensures.value ∙ c.in-Ok.ensures.body) in
-    moments mid stands.stored mid_holds c.args.next c.requires.spelled place c.requires.entry number c.active_number-no.ensures h caller call (stands_for config h old stands c.requires.may.runs) with (g.D.Disk.seen c.append.new.disk)
-    (c.append.ensures.any_moment told (addition stands.stored c.args.next) is_ready)
+    let first : mid.state.next ≡ old.state.next = same.next in
+    subst (λ n. GoesFrom n (IsKeptOr config h (Some (done_by caller call))) old.disk (g.D.Disk.seen c.append.new.disk)) first
+    (moments mid stands.stored mid_holds c.args.next c.requires.spelled place c.requires.entry number c.active_number-no.ensures h caller call (stands_for config h old stands c.requires.may.runs) with config stands.config_is
+    c.prepare.ensures.writable (g.D.Disk.seen c.append.new.disk) (c.append.ensures.any_moment told (addition stands.stored c.args.next) is_ready))
 
 -- The disk failed
 
@@ -121,8 +126,10 @@ returns-in-Err-Failed-clause-any_moment g c = λ told config h caller call stand
     let place = c.requires.place ∙ ap (λ n. n + 1) (sym same.count) in
     let number = c.active_number-no.result in
     let is_ready = ready mid stands.stored mid_holds c.args.next c.requires.spelled place c.requires.entry number c.active_number-no.ensures c.deref.result.now (c.deref.ensures.value ∙ c.in-Ok.ensures.body) in
-    moments mid stands.stored mid_holds c.args.next c.requires.spelled place c.requires.entry number c.active_number-no.ensures h caller call (stands_for config h old stands c.requires.may.runs) with (g.D.Disk.seen c.append.new.disk)
-    (c.append.ensures.any_moment told (addition stands.stored c.args.next) is_ready)
+    let first : mid.state.next ≡ old.state.next = same.next in
+    subst (λ n. GoesFrom n (IsKeptOr config h (Some (done_by caller call))) old.disk (g.D.Disk.seen c.append.new.disk)) first
+    (moments mid stands.stored mid_holds c.args.next c.requires.spelled place c.requires.entry number c.active_number-no.ensures h caller call (stands_for config h old stands c.requires.may.runs) with config stands.config_is
+    c.prepare.ensures.writable (g.D.Disk.seen c.append.new.disk) (c.append.ensures.any_moment told (addition stands.stored c.args.next) is_ready))
 
 pub returns-in-Err-Failed-clause-stands : goal.returns-in-Err-Failed-clause-stands
 returns-in-Err-Failed-clause-stands g c = λ told config h caller call change stands with.
@@ -135,7 +142,7 @@ returns-in-Err-Failed-clause-stands g c = λ told config h caller call change st
     let laws = g.met.D.Disk g.world.𝓛 g.world.𝓜 g.world.𝓡 ((λ s x. x), (λ x. x), (λ x. x), λ x. x) in
     subst (λ (state : State). StandsNow config (with_failed h caller call c.args.before c.faults.result) (moved mid disk faults state)) (sym c.stop-place.ensures.is)
     (failed_stands config h mid (like_stands old c.prepare.new.self same config h stands c.requires.may.runs) (same.stopped ∙ c.requires.may.runs) fits disk faults caller call change c.args.before c.faults.result
-    (laws.itself told c.append.new.disk) (returns-in-Err-Failed-clause-any_moment g c told config h caller call stands with))
+    (laws.itself told c.append.new.disk) (returns-in-Err-Failed-clause-any_moment g c told config h caller call stands with).goes)
 
 pub returns-in-Err-Failed-clause-numbers : goal.returns-in-Err-Failed-clause-numbers
 returns-in-Err-Failed-clause-numbers g c = λ told.
@@ -174,5 +181,8 @@ returns-clause-any_moment g c = λ told config h caller call stands with.
     let place = c.requires.place ∙ ap (λ n. n + 1) (sym same.count) in
     let number = c.active_number-no.result in
     let is_ready = ready mid stands.stored mid_holds c.args.next c.requires.spelled place c.requires.entry number c.active_number-no.ensures c.deref.result.now (c.deref.ensures.value ∙ c.in-Ok.ensures.body) in
-    untouched_moments mid stands.stored mid_holds c.args.next c.requires.spelled place c.requires.entry number c.active_number-no.ensures h (stands_for config h old stands c.requires.may.runs) (IsAppended (segment_name number) mid.state.end (addition stands.stored c.args.next)) (g.D.Disk.seen c.append.new.disk)
-    (c.append.ensures.any_moment told (addition stands.stored c.args.next) is_ready) (c.in-Err-NoMemory.ensures.no_memory told (ap Err c.in-Err-NoMemory.field-0-is))
+    let first : mid.state.next ≡ old.state.next = same.next in
+    subst (λ n. GoesFrom n (IsKeptOr config h None) old.disk (g.D.Disk.seen c.append.new.disk)) first
+    (untouched_moments mid stands.stored mid_holds c.args.next c.requires.spelled place c.requires.entry number c.active_number-no.ensures config stands.config_is c.prepare.ensures.writable h (stands_for config h old stands c.requires.may.runs)
+    (IsAppended (segment_name number) mid.state.end (addition stands.stored c.args.next)) (g.D.Disk.seen c.append.new.disk)
+    (c.append.ensures.any_moment told (addition stands.stored c.args.next) is_ready) (c.in-Err-NoMemory.ensures.no_memory told (ap Err c.in-Err-NoMemory.field-0-is)))
