@@ -42,20 +42,20 @@ done_last (first ∷ before) change done = done_last before change (tail_done fi
 done_or_failed : (change : Change) (before behind : ℕ) → change.did ≡ Done → change.did ≡ Failed before behind → ⊥
 done_or_failed change before behind done failed = let both : Done ≡ Failed before behind = sym done ∙ failed in cc
 
-done_stopped : (h : History) (view : View) (at : ℕ) → AreDone h → IsStopped h view.disk at → ⊥
-done_stopped h view at done stopped =
+done_stopped : (config : Fields) (h : History) (view : View) (at : ℕ) → AreDone h → IsStopped config h view.disk at → ⊥
+done_stopped config h view at done stopped =
     done_or_failed stopped.change stopped.faults_before stopped.faults (done_last stopped.before stopped.change (subst AreDone stopped.history done)) stopped.failed
 
-stopped_by : (old new : View) (h : History) (s t : Stored) (before behind : Option ℕ) → IsOpenOrStopped old h s before → IsOpenOrStopped new h t behind → behind ≡ before
-stopped_by old new h s t None None was is = refl
-stopped_by old new h s t (Some one) (Some other) was is = ap Some (is.place ∙ sym was.place)
-stopped_by old new h s t None (Some at) was is = absurd (done_stopped h new at was.0 is)
-stopped_by old new h s t (Some at) None was is = absurd (done_stopped h old at is.0 was)
+stopped_by : (config : Fields) (old new : View) (h : History) (s t : Stored) (before behind : Option ℕ) → IsOpenOrStopped config old h s before → IsOpenOrStopped config new h t behind → behind ≡ before
+stopped_by config old new h s t None None was is = refl
+stopped_by config old new h s t (Some one) (Some other) was is = ap Some (is.place ∙ sym was.place)
+stopped_by config old new h s t None (Some at) was is = absurd (done_stopped config h new at was.0 is)
+stopped_by config old new h s t (Some at) None was is = absurd (done_stopped config h old at is.0 was)
 
 -- two stores that stand for one history
 module _ (config : Fields) (h : History) (old new : View) (was : StandsNow config h old) (is : StandsNow config h new) where
   pub stopped_same : new.state.stopped ≡ old.state.stopped
-  stopped_same = stopped_by old new h was.stored is.stored old.state.stopped new.state.stopped was.held is.held
+  stopped_same = stopped_by config old new h was.stored is.stored old.state.stopped new.state.stopped was.held is.held
 
   pub count_same : new.state.count ≡ old.state.count
   count_same = is.count ∙ sym was.count

@@ -6,10 +6,11 @@ use Rattle.lethe_base.specs.declared.call.Call.{Call}
 use Rattle.lethe_base.specs.declared.call.Call.TheVariants.{Work}
 use Rattle.lethe_base.specs.declared.config.Fields.{Fields}
 use Rattle.lethe_base.specs.declared.refused.Refused.{Refused}
-use Rattle.lethe_disk.specs.Goes.{Goes}
-use Rattle.lethe_disk.proofs.Going.{goes_then}
 use Rattle.lethe_stored.specs.Left.{IsKeptOr}
+use Rattle.lethe_stored.specs.Numbers.{GoesFrom}
+use Rattle.lethe_stored.proofs.Numbers.{goes_from_then}
 use Rattle.lethe_state.specs.Records.{MayRefuse}
+use Rattle.lethe_state.specs.Writable.{IsWritable}
 use Rattle.lethe_core.specs.Changes.{answered_to, written_by}
 use Rattle.lethe_core.specs.Keeps.{Keeps}
 use Rattle.lethe_core.specs.Reasons.{HasReason}
@@ -23,17 +24,18 @@ use Rattle.lethe_engine.proofs.Reasons.{changes_told, reasons_told, unbegun}
 
 module _ (Tells : Type 0) (told : Tells) (config : Fields) (h : History) (caller : ℕ) (call : Call) (old : View) (runs : old.state.stopped ≡ None) where
   -- a change that wasn't begun
-  pub unbegun_moments : (result : Result ℕ Refused) → StandsNow config h old → Goes (IsKeptOr h (written_by caller call result)) old.disk old.disk
-  unbegun_moments result stands = moments_or h (written_by caller call result) old.disk old.disk (stands_moments config h old stands runs)
+  pub unbegun_moments : (result : Result ℕ Refused) → StandsNow config h old → IsWritable old.state → GoesFrom old.state.next (IsKeptOr config h (written_by caller call result)) old.disk old.disk
+  unbegun_moments result stands writable = moments_or config h (written_by caller call result) old.state.next old.disk old.disk (stands_moments config h old stands runs writable)
 
   -- room couldn't be made
-  pub unroomed_moments : {T : Type 0} (mid : View) (room : Result T Refused) (result : Result ℕ Refused) → Keeps Tells old mid room → StandsNow config h old → Goes (IsKeptOr h (written_by caller call result)) old.disk mid.disk
-  unroomed_moments mid room result keeps stands = moments_or h (written_by caller call result) old.disk mid.disk (keeps.any_moment told config h stands)
+  pub unroomed_moments : {T : Type 0} (mid : View) (room : Result T Refused) (result : Result ℕ Refused) → Keeps Tells old mid room → StandsNow config h old → GoesFrom old.state.next (IsKeptOr config h (written_by caller call result)) old.disk mid.disk
+  unroomed_moments mid room result keeps stands = moments_or config h (written_by caller call result) old.state.next old.disk mid.disk (keeps.any_moment told config h stands)
 
   -- room was made
   pub changed_moments : {T : Type 0} (mid new : View) (room : Result T Refused) (result : Result ℕ Refused) → Keeps Tells old mid room → StandsNow config h old
-      → Goes (IsKeptOr h (written_by caller call result)) mid.disk new.disk → Goes (IsKeptOr h (written_by caller call result)) old.disk new.disk
-  changed_moments mid new room result keeps stands then = goes_then (IsKeptOr h (written_by caller call result)) old.disk mid.disk new.disk (unroomed_moments mid room result keeps stands) then
+      → GoesFrom mid.state.next (IsKeptOr config h (written_by caller call result)) mid.disk new.disk → GoesFrom old.state.next (IsKeptOr config h (written_by caller call result)) old.disk new.disk
+  changed_moments mid new room result keeps stands then =
+      goes_from_then (IsKeptOr config h (written_by caller call result)) old.state.next mid.state.next old.disk mid.disk new.disk (unroomed_moments mid room result keeps stands) (keeps.numbers told) then
 
   module _ (opened : Opened) (before : StandsFor config opened h old) (works : call ≡ Work → ⊥) where
     pub unroomed_for : {T : Type 0} (PortsFail : Type 0) (first last : ℕ) (mid : View) (result : Result ℕ Refused) (why : Refused) → result ≡ Err why → Keeps {T = T} Tells old mid (Err why)
@@ -43,7 +45,7 @@ module _ (Tells : Type 0) (told : Tells) (config : Fields) (h : History) (caller
         (unroomed_moments {T = T} mid (Err why) (Err why) keeps before.now) (keeps.stands told config h before.now caller call))
 
     pub changed_for : {T : Type 0} (mid new : View) (done : T) (result : Result ℕ Refused) → Keeps {T = T} Tells old mid (Ok done) → mid.faults ≤ new.faults → new.state.next + mid.disk.moment ≤ mid.state.next + new.disk.moment
-        → IfErr result (HasReason ⊥ mid.state old.faults new.faults) → Goes (IsKeptOr h (written_by caller call result)) mid.disk new.disk → StandsNow config (answered_to h caller call result) new
+        → IfErr result (HasReason ⊥ mid.state old.faults new.faults) → GoesFrom mid.state.next (IsKeptOr config h (written_by caller call result)) mid.disk new.disk → StandsNow config (answered_to h caller call result) new
         → StandsFor config opened (answered_to h caller call result) new
     changed_for {T} mid new done result keeps later numbers why moments stands =
         let room : Result T Refused = Ok done in

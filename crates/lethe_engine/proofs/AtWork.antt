@@ -112,8 +112,8 @@ module _ (config : Fields) (view : View) (place : ℕ) (stopped : view.state.sto
   abbrev free : View
   free = record view { flight = None }
 
-  left_stopped : (h : History) (s : Stored) → IsOpenOrStopped view h s view.state.stopped → IsOpenOrStopped free h s view.state.stopped
-  left_stopped h s held = subst (IsOpenOrStopped free h s) (sym stopped) (subst (IsOpenOrStopped view h s) stopped held)
+  left_stopped : (h : History) (s : Stored) → IsOpenOrStopped config view h s view.state.stopped → IsOpenOrStopped config free h s view.state.stopped
+  left_stopped h s held = subst (IsOpenOrStopped config free h s) (sym stopped) (subst (IsOpenOrStopped config view h s) stopped held)
 
   forgets_now : (h : History) → StandsNow config h view → StandsNow config h free
   forgets_now h stands = record {
@@ -134,6 +134,7 @@ module _ (config : Fields) (view : View) (place : ℕ) (stopped : view.state.sto
     later = stands.later;
     images = stands.images;
     numbers = stands.numbers;
+    pace = stands.pace;
     since = stands.since;
     counts = stands.counts;
   }

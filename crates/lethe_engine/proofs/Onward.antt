@@ -16,9 +16,11 @@ use Rattle.lethe_base.specs.declared.refused.Refused.TheVariants.{Fault, Stopped
 use Rattle.lethe_cover.specs.Steps.{with_done, with_failed}
 use Rattle.lethe_disk.specs.Directory.{Directory}
 use Rattle.lethe_disk.specs.Disk.{Seen, IsIdle}
-use Rattle.lethe_disk.specs.Goes.{Goes}
 use Rattle.lethe_stored.specs.Kept.{IsKept}
 use Rattle.lethe_stored.specs.Left.{IsKeptOr}
+use Rattle.lethe_stored.specs.Numbers.{GoesFrom}
+use Rattle.lethe_stored.proofs.Numbers.{pace_then}
+use Rattle.lethe_state.specs.Writable.{IsWritable}
 use Rattle.lethe_core.specs.Changes.{answered_to, done_by, refused_to, written_by}
 use Rattle.lethe_core.specs.Keeps.{Keeps}
 use Rattle.lethe_core.specs.Reasons.{HasReason}
@@ -37,14 +39,15 @@ counts_later from f0 f1 Done le is = tt
 counts_later from f0 f1 (Failed before after) le is = (is.0, is.1, let upto = is.2 in omega (arith, upto, le))
 
 -- a store that was just opened
-pub opened_for : (config : Fields) (h : History) (start : Seen) (next : ℕ) (view : View) → StandsNow config h view → view.state.stopped ≡ None → view.state.next + start.moment ≤ next + view.disk.moment
-    → StandsFor config (opened_as h start view.disk next view.faults) h view
-opened_for config h start next view now runs numbers = record {
+pub opened_for : (config : Fields) (h : History) (start : Seen) (next : ℕ) (view : View) → StandsNow config h view → view.state.stopped ≡ None → IsWritable view.state
+    → view.state.next + start.moment ≤ next + view.disk.moment → StandsFor config (opened_as h start view.disk next view.faults) h view
+opened_for config h start next view now runs writable numbers = record {
   now = now;
   begins = ([], sym (append-nil h));
   later = omega arith;
-  images = λ m c low high left. (h, prefix_itself h h (stands_done config h view now runs) ([], sym (append-nil h)), (stands_moments config h view now runs).each m c low high left);
+  images = λ m c low high left. (h, prefix_itself h h (stands_done config h view now runs) ([], sym (append-nil h)), (stands_moments config h view now runs writable).goes.each m c low high left);
   numbers = numbers;
+  pace = λ m c low high left most is. let below = (stands_moments config h view now runs writable).pace m c low high left most is in omega (arith, below, numbers, low, high);
   since = omega arith;
   counts = All-nil (λ (change : Change). HasCounts view.faults view.faults change.did);
 }
@@ -58,6 +61,7 @@ idle_for config opened h old new idle next faults now before = record {
   later = let low = before.later in let same = idle.moment in omega (arith, low, same);
   images = λ m c low high left. let same = idle.moment in before.images m c low (omega (arith, high, same)) ((idle.left m c).0 left);
   numbers = let drawn = before.numbers in let same = idle.moment in omega (arith, drawn, same, next);
+  pace = λ m c low high left. let same = idle.moment in before.pace m c low (omega (arith, high, same)) ((idle.left m c).0 left);
   since = let since = before.since in omega (arith, since, faults);
   counts = subst (λ n. All (λ (change : Change). HasCounts opened.faults n change.did) before.begins.0) (sym faults) before.counts;
 }
@@ -71,17 +75,18 @@ module _ (config : Fields) (opened : Opened) (h : History) (old new : View) (bef
   done = stands_done config h old before.now runs
 
   -- It stands for the history with what was added, where each crash on the way left what is kept for a prefix of that.
-  added_to : (P : Directory → Type 0) (g added : History) → g ≡ h ++ added → ((k : History) → IsPrefixFrom Was h k → IsPrefixFrom Was g k) → ((d : Directory) → P d → IsKeptFor Was g d)
-      → All (λ (change : Change). HasCounts opened.faults new.faults change.did) added → Goes P old.disk new.disk → StandsNow config g new → StandsFor config opened g new
+  added_to : (P : Directory → Type 0) (g added : History) → g ≡ h ++ added → ((k : History) → IsPrefixFrom Was h k → IsPrefixFrom Was g k) → ((d : Directory) → P d → IsKeptFor config Was g d)
+      → All (λ (change : Change). HasCounts opened.faults new.faults change.did) added → GoesFrom old.state.next P old.disk new.disk → StandsNow config g new → StandsFor config opened g new
   added_to P g added is longer kept counted run now = record {
     now = now;
     begins = (before.begins.0 ++ added, is ∙ ap (λ l. l ++ added) before.begins.1 ∙ append_assoc Was before.begins.0 added);
-    later = let low = before.later in let on = run.later in omega (arith, low, on);
+    later = let low = before.later in let on = run.goes.later in omega (arith, low, on);
     images = λ m c low high left. elim (cases_lt old.disk.moment m) [
-      | inr early ↦ let was = before.images m c low early ((run.past m c early).0 left) in (was.0, longer was.0 was.1, was.2)
-      | inl late ↦ kept c (run.each m c (omega arith) high left)
+      | inr early ↦ let was = before.images m c low early ((run.goes.past m c early).0 left) in (was.0, longer was.0 was.1, was.2)
+      | inl late ↦ kept c (run.goes.each m c (omega arith) high left)
     ];
     numbers = let drawn = before.numbers in omega (arith, drawn, numbers);
+    pace = pace_then P opened.next opened.began opened.moment old.state.next old.disk new.disk before.pace run.goes before.numbers run.pace;
     since = let since = before.since in omega (arith, since, later);
     counts = All-append (λ (change : Change). HasCounts opened.faults new.faults change.did) before.begins.0 added
         (All-weaker (λ (change : Change). HasCounts opened.faults old.faults change.did) (λ (change : Change). HasCounts opened.faults new.faults change.did)
@@ -94,28 +99,28 @@ module _ (config : Fields) (opened : Opened) (h : History) (old new : View) (bef
   one_counted : (change : Change) → HasCounts opened.faults new.faults change.did → All (λ (c : Change). HasCounts opened.faults new.faults c.did) (change ∷ [])
   one_counted change is = All-cons (λ (c : Change). HasCounts opened.faults new.faults c.did) change [] is none_counted
 
-  now_kept : (more : History) (d : Directory) → IsKept d h → IsKeptFor Was (h ++ more) d
+  now_kept : (more : History) (d : Directory) → IsKept config d h → IsKeptFor config Was (h ++ more) d
   now_kept more d kept = (h, prefix_longer Was h more before.now.legal done h (prefix_itself Was h done before.begins), kept)
 
   -- the same history
-  pub still_for : Goes (λ c. IsKept c h) old.disk new.disk → StandsNow config h new → StandsFor config opened h new
-  still_for = added_to (λ c. IsKept c h) h [] (sym (append-nil h)) (λ k of. of) (λ d kept. (h, prefix_itself Was h done before.begins, kept)) none_counted
+  pub still_for : GoesFrom old.state.next (λ c. IsKept config c h) old.disk new.disk → StandsNow config h new → StandsFor config opened h new
+  still_for = added_to (λ c. IsKept config c h) h [] (sym (append-nil h)) (λ k of. of) (λ d kept. (h, prefix_itself Was h done before.begins, kept)) none_counted
 
-  none_for : Goes (IsKeptOr h None) old.disk new.disk → StandsNow config h new → StandsFor config opened h new
-  none_for = added_to (IsKeptOr h None) h [] (sym (append-nil h)) (λ k of. of) (λ d kept. (h, prefix_itself Was h done before.begins, subst (IsKept d) kept.1 kept.2)) none_counted
+  none_for : GoesFrom old.state.next (IsKeptOr config h None) old.disk new.disk → StandsNow config h new → StandsFor config opened h new
+  none_for = added_to (IsKeptOr config h None) h [] (sym (append-nil h)) (λ k of. of) (λ d kept. (h, prefix_itself Was h done before.begins, subst (IsKept config d) kept.1 kept.2)) none_counted
 
   failed_counts : (b a : ℕ) → b ≡ old.faults → a ≡ new.faults → Rose old.faults new.faults → HasCounts opened.faults new.faults (Failed b a)
   failed_counts b a b_is a_is rose = (let since = before.since in omega (arith, since, b_is), subst (λ n. Rose n a) (sym b_is) (subst (Rose old.faults) (sym a_is) rose), omega (arith, a_is))
 
   module _ (caller : ℕ) where
     -- with work in which the disk failed
-    failed_work : (b a : ℕ) → b ≡ old.faults → a ≡ new.faults → Rose old.faults new.faults → Goes (λ c. IsKept c h) old.disk new.disk → StandsNow config (with_failed h caller Work b a) new
+    failed_work : (b a : ℕ) → b ≡ old.faults → a ≡ new.faults → Rose old.faults new.faults → GoesFrom old.state.next (λ c. IsKept config c h) old.disk new.disk → StandsNow config (with_failed h caller Work b a) new
         → StandsFor config opened (with_failed h caller Work b a) new
     failed_work b a b_is a_is rose =
         let change : Change = record { caller = caller; call = Work; did = Failed b a } in
-        added_to (λ c. IsKept c h) (with_failed h caller Work b a) (change ∷ []) refl (prefix_longer Was h (change ∷ []) before.now.legal done) (now_kept (change ∷ [])) (one_counted change (failed_counts b a b_is a_is rose))
+        added_to (λ c. IsKept config c h) (with_failed h caller Work b a) (change ∷ []) refl (prefix_longer Was h (change ∷ []) before.now.legal done) (now_kept (change ∷ [])) (one_counted change (failed_counts b a b_is a_is rose))
 
-    refused_work : (why : Refused) → IsTold old.faults new.faults why → Goes (λ c. IsKept c h) old.disk new.disk → StandsNow config (refused_to h caller Work why) new → StandsFor config opened (refused_to h caller Work why) new
+    refused_work : (why : Refused) → IsTold old.faults new.faults why → GoesFrom old.state.next (λ c. IsKept config c h) old.disk new.disk → StandsNow config (refused_to h caller Work why) new → StandsFor config opened (refused_to h caller Work why) new
     refused_work (Fault place b a) told = failed_work b a told.0 told.1 told.2
     refused_work (Stopped at) told = still_for
     refused_work (Backwards clock) told = still_for
@@ -127,31 +132,31 @@ module _ (config : Fields) (opened : Opened) (h : History) (old new : View) (bef
     refused_work NoMemory told = still_for
     refused_work (Damaged name) told = still_for
 
-    worked_for : {T : Type 0} (result : Result T Refused) → IfErr result (IsTold old.faults new.faults) → Goes (λ c. IsKept c h) old.disk new.disk → StandsNow config (stepped_to h caller Work result) new
+    worked_for : {T : Type 0} (result : Result T Refused) → IfErr result (IsTold old.faults new.faults) → GoesFrom old.state.next (λ c. IsKept config c h) old.disk new.disk → StandsNow config (stepped_to h caller Work result) new
         → StandsFor config opened (stepped_to h caller Work result) new
     worked_for (Ok x) told = still_for
     worked_for (Err e) told = refused_work e told
 
     module _ (call : Call) (works : call ≡ Work → ⊥) where
-      written_for : (change : Change) → IsPrefixFrom Was (h ++ change ∷ []) (with_done h caller call) → HasCounts opened.faults new.faults change.did → Goes (IsKeptOr h (Some (done_by caller call))) old.disk new.disk
+      written_for : (change : Change) → IsPrefixFrom Was (h ++ change ∷ []) (with_done h caller call) → HasCounts opened.faults new.faults change.did → GoesFrom old.state.next (IsKeptOr config h (Some (done_by caller call))) old.disk new.disk
           → StandsNow config (h ++ change ∷ []) new → StandsFor config opened (h ++ change ∷ []) new
-      written_for change of counted = added_to (IsKeptOr h (Some (done_by caller call))) (h ++ change ∷ []) (change ∷ []) refl (prefix_longer Was h (change ∷ []) before.now.legal done)
+      written_for change of counted = added_to (IsKeptOr config h (Some (done_by caller call))) (h ++ change ∷ []) (change ∷ []) refl (prefix_longer Was h (change ∷ []) before.now.legal done)
           (λ d kept. elim kept.1 [
-            | inl e ↦ now_kept (change ∷ []) d (subst (IsKept d) e kept.2)
-            | inr e ↦ (with_done h caller call, of, subst (IsKept d) e kept.2)
+            | inl e ↦ now_kept (change ∷ []) d (subst (IsKept config d) e kept.2)
+            | inr e ↦ (with_done h caller call, of, subst (IsKept config d) e kept.2)
           ]) (one_counted change counted)
 
-      done_for : Goes (IsKeptOr h (Some (done_by caller call))) old.disk new.disk → StandsNow config (with_done h caller call) new → StandsFor config opened (with_done h caller call) new
+      done_for : GoesFrom old.state.next (IsKeptOr config h (Some (done_by caller call))) old.disk new.disk → StandsNow config (with_done h caller call) new → StandsFor config opened (with_done h caller call) new
       done_for = written_for (done_by caller call) (prefix_done Was h (done_by caller call) done refl before.begins) tt
 
-      failed_for : (b a : ℕ) → b ≡ old.faults → a ≡ new.faults → Rose old.faults new.faults → Goes (IsKeptOr h (Some (done_by caller call))) old.disk new.disk → StandsNow config (with_failed h caller call b a) new
+      failed_for : (b a : ℕ) → b ≡ old.faults → a ≡ new.faults → Rose old.faults new.faults → GoesFrom old.state.next (IsKeptOr config h (Some (done_by caller call))) old.disk new.disk → StandsNow config (with_failed h caller call b a) new
           → StandsFor config opened (with_failed h caller call b a) new
       failed_for b a b_is a_is rose =
           let change : Change = record { caller = caller; call = call; did = Failed b a } in
           written_for change (prefix_failed Was h change before.now.legal done works before.begins) (failed_counts b a b_is a_is rose)
 
       -- a change
-      pub answered_for : (result : Result ℕ Refused) → IfErr result (IsTold old.faults new.faults) → Goes (IsKeptOr h (written_by caller call result)) old.disk new.disk → StandsNow config (answered_to h caller call result) new
+      pub answered_for : (result : Result ℕ Refused) → IfErr result (IsTold old.faults new.faults) → GoesFrom old.state.next (IsKeptOr config h (written_by caller call result)) old.disk new.disk → StandsNow config (answered_to h caller call result) new
           → StandsFor config opened (answered_to h caller call result) new
       answered_for (Ok place) told = done_for
       answered_for (Err (Fault place b a)) told = failed_for b a told.0 told.1 told.2

@@ -10,18 +10,20 @@ use Rattle.lethe_commit.specs.Append.{EndsAt}
 use Rattle.lethe_load.specs.Refused.{HasReason}
 use Rattle.lethe_load.specs.declared.refused.RecoverRefused.{RecoverRefused}
 use Rattle.lethe_load.specs.declared.refused.RecoverRefused.TheVariants as load
-use Rattle.lethe_recover.specs.Opening.{IsNextNumber, MayNotOpen}
+use Rattle.lethe_recover.specs.Opening.{MayNotOpen}
 use Rattle.lethe_recover.specs.declared.opening.OpenWhy.{OpenWhy}
 use Rattle.lethe_recover.specs.declared.opening.OpenWhy.TheVariants.{Damaged, OtherConfig, Fault, Exhausted, NoMemory}
 use Rattle.lethe_stored.specs.Files.{Parts}
-use Rattle.lethe_stored.specs.Kept.{IsFor}
+use Rattle.lethe_stored.specs.Kept.{IsFor, IsKept}
 use Rattle.lethe_stored.specs.Left.{IsHistoryOr}
 use Rattle.lethe_stored.specs.Levels.{AreRising}
+use Rattle.lethe_stored.specs.Numbers.{IsNextNumber}
 use Rattle.lethe_stored.specs.Stored.{Stored, IsCited, segment_name}
 use Rattle.lethe_advance.specs.Settled.{IsSettled, HasOnly}
 use Rattle.lethe_manifest.specs.declared.manifest.Manifest.{Manifest}
 use Rattle.lethe_state.specs.Remembered.{IsCurrent, IsFresh, Remembers}
 use Rattle.lethe_state.specs.Room.{frozen_len}
+use Rattle.lethe_state.specs.Writable.{IsWritable}
 use Rattle.lethe_state.specs.declared.state.State.{State}
 use Rattle.lethe_engine.specs.Opening.{IsResumed, IsUntold}
 use Rattle.lethe_core.specs.Running.{IsRunning, IsSmall}
@@ -45,16 +47,17 @@ opened_running disk faults s state levels settled only rising none ends end_is c
   tasked = tt;
 }
 
-pub resumed : (config : Fields) (h g : History) (change : Option Change) (start finish : Seen) (faults : ℕ) (s : Stored) (state : State) (levels : List (List Parts)) → IsHistoryOr h change g
+pub resumed : (config : Fields) (h g : History) (change : Option Change) (start finish : Seen) (faults : ℕ) (s : Stored) (state : State) (levels : List (List Parts)) → IsHistoryOr h change g → IsKept config start.directory g → IsWritable state
     → IsRunning (fresh_view finish faults state levels) s → Remembers s state levels → s.manifest.config ≡ config → IsFor g s
     → ((next : ℕ) → IsNextNumber start.directory next → state.next + start.moment ≤ next + finish.moment) → IsResumed config h change start (fresh_view finish faults state levels)
-resumed config h g change start finish faults s state levels either running remembers config_is stands numbers =
+resumed config h g change start finish faults s state levels either was writable running remembers config_is stands numbers =
     let view : View = fresh_view finish faults state levels in
     record {
       history = g;
       either = either;
+      was = was;
       stands = λ next is. opened_for config g start next view
-          (open_stands config g view s stands.legal stands.done (running.current.count ∙ stands.count) config_is stands (record { remembers = remembers; running = running }) tt) running.current.runs (numbers next is);
+          (open_stands config g view s stands.legal stands.done (running.current.count ∙ stands.count) config_is stands (record { remembers = remembers; running = running }) tt) running.current.runs writable (numbers next is);
     }
 
 -- damage, another configuration and numbers that ran out leave the disk as it was

@@ -8,6 +8,7 @@ use Rattle.lethe_base.specs.declared.config.Fields.{Fields}
 use Rattle.lethe_disk.specs.Directory.{Directory}
 use Rattle.lethe_stored.specs.Kept.{IsKept}
 use Rattle.lethe_stored.specs.Left.{IsOutcome}
+use Rattle.lethe_stored.specs.Numbers.{KeepsPace}
 use Rattle.lethe_core.specs.StandsNow.{StandsNow}
 use Rattle.lethe_core.specs.View.{View}
 
@@ -19,8 +20,8 @@ pub record IsPrefixFrom (opened h g : History) : Type 0 where
   pub front : (rest : History) × (outcome ≡ g ++ rest)
 
 -- the directory is kept for such a prefix
-abbrev pub IsKeptFor : History → History → Directory → Type 0
-IsKeptFor opened h d = (g : History) × IsPrefixFrom opened h g × IsKept d g
+abbrev pub IsKeptFor : Fields → History → History → Directory → Type 0
+IsKeptFor config opened h d = (g : History) × IsPrefixFrom opened h g × IsKept config d g
 
 -- what a store was when it was opened
 pub record Opened : Type 0 where
@@ -39,13 +40,14 @@ HasCounts from upto Done = Unit {0}
 HasCounts from upto (Failed before after) = (from ≤ before) × Rose before after × (after ≤ upto)
 
 -- It stands for the history now, which goes on from the opened one. Each crash since opening answered leaves what is kept for a prefix that is
--- not shorter than that. Numbers were drawn no faster than device calls were made since opening began.
+-- not shorter than that. Numbers were drawn no faster than device calls were made since opening began, and what each crash leaves keeps pace too.
 pub record StandsFor (config : Fields) (opened : Opened) (h : History) (view : View) : Type 0 where
   pub now : StandsNow config h view
   pub begins : (added : History) × (h ≡ opened.history ++ added)
   pub later : opened.moment ≤ view.disk.moment
-  pub images : (moment : ℕ) (c : Directory) → opened.moment ≤ moment → moment ≤ view.disk.moment → view.disk.left moment c → IsKeptFor opened.history h c
+  pub images : (moment : ℕ) (c : Directory) → opened.moment ≤ moment → moment ≤ view.disk.moment → view.disk.left moment c → IsKeptFor config opened.history h c
   pub numbers : view.state.next + opened.began ≤ opened.next + view.disk.moment
+  pub pace : KeepsPace opened.next opened.began opened.moment view.disk
   pub since : opened.faults ≤ view.faults
   -- the counts with which changes failed since
   pub counts : All (λ change. HasCounts opened.faults view.faults change.did) begins.0

@@ -6,8 +6,8 @@ ghost use Rattle.lethe_base.specs.declared.call.Call.TheVariants as call;
 ghost use Rattle.lethe_base.specs.declared.config.Fields.{Fields};
 ghost use Rattle.lethe_base.specs.declared.refused.Refused.TheVariants.{Stopped, Exhausted};
 ghost use Rattle.lethe_segment.specs.declared.record.Record.{Record};
-ghost use Rattle.lethe_disk.specs.Goes.{Goes};
 ghost use Rattle.lethe_stored.specs.Left.{IsKeptOr};
+ghost use Rattle.lethe_stored.specs.Numbers.{GoesFrom};
 ghost use Rattle.lethe_stored.specs.Stored.{Stored, appended};
 ghost use Rattle.lethe_state.specs.Records.{headers_in};
 ghost use Rattle.lethe_state.specs.Room.{HasRoom};
@@ -66,9 +66,9 @@ impl<D: Disk> Engine<D> {
             → OnOk result (((D.seen self.new.core.disk).directory ≡ with_record (D.seen self.old.core.disk).directory s (put_over s key dkey value))
             × ((D.seen self.new.core.disk).moment ≡ (D.seen self.old.core.disk).moment + 4) × (port.new ≡ port.old)) }
 
-        // A crash at any moment of the call leaves what is kept for the history, or for it with the change where this was written.
+        // A crash at any moment of the call leaves what is kept for the history, or for it with the change where this was written, and numbers keep pace with its calls.
         ensures any_moment { D.tells → (config : Fields) (h : History) → StandsNow config h (view_of self.old.core)
-            → self.old.core.state.stopped ≡ None → (caller : ℕ) → Goes (IsKeptOr h (written_by caller (call.Put key dkey value) result)) (D.seen self.old.core.disk) (D.seen self.new.core.disk) }
+            → self.old.core.state.stopped ≡ None → (caller : ℕ) → GoesFrom self.old.core.state.next (IsKeptOr config h (written_by caller (call.Put key dkey value) result)) (D.seen self.old.core.disk) (D.seen self.new.core.disk) }
 
         // A job in flight stays so.
         ensures flight { self.new.core.flight ≡ self.old.core.flight }
@@ -117,9 +117,9 @@ impl<D: Disk> Engine<D> {
             → OnOk result ((next : Record) × IsDeleteOver s (headers_in (view_of self.old.core).levels) key next
             × ((D.seen self.new.core.disk).directory ≡ with_record (D.seen self.old.core.disk).directory s next) × ((D.seen self.new.core.disk).moment ≡ (D.seen self.old.core.disk).moment + 4) × (port.new ≡ port.old)) }
 
-        // A crash at any moment of the call leaves what is kept for the history, or for it with the change where this was written.
+        // A crash at any moment of the call leaves what is kept for the history, or for it with the change where this was written, and numbers keep pace with its calls.
         ensures any_moment { D.tells → (config : Fields) (h : History) → StandsNow config h (view_of self.old.core)
-            → self.old.core.state.stopped ≡ None → (caller : ℕ) → Goes (IsKeptOr h (written_by caller (call.Delete key) result)) (D.seen self.old.core.disk) (D.seen self.new.core.disk) }
+            → self.old.core.state.stopped ≡ None → (caller : ℕ) → GoesFrom self.old.core.state.next (IsKeptOr config h (written_by caller (call.Delete key) result)) (D.seen self.old.core.disk) (D.seen self.new.core.disk) }
 
         // A job in flight stays so.
         ensures flight { self.new.core.flight ≡ self.old.core.flight }

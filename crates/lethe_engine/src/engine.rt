@@ -5,10 +5,11 @@ ghost use Rattle.lethe_base.specs.declared.config.Fields.{Fields};
 ghost use Rattle.lethe_disk.specs.Disk.{IsIdle};
 ghost use Rattle.lethe_disk.specs.Goes.{Goes};
 ghost use Rattle.lethe_disk.specs.Quiet.{IsQuiet};
-ghost use Rattle.lethe_stored.specs.Left.{IsLeft, IsKeptOr};
+ghost use Rattle.lethe_stored.specs.Left.{IsLeft};
+ghost use Rattle.lethe_stored.specs.Numbers.{IsNextNumber, KeepsPace};
 ghost use Rattle.lethe_load.specs.Refused.{HasReason};
 ghost use Rattle.lethe_load.specs.declared.refused.RecoverRefused.{RecoverRefused};
-ghost use Rattle.lethe_recover.specs.Opening.{IsNextNumber, MayNotOpen, IsCut, since_start};
+ghost use Rattle.lethe_recover.specs.Opening.{IsKeptInOpening, MayNotOpen, IsCut, since_start};
 ghost use Rattle.lethe_engine.specs.Opening.{IsResumed, IsUntold};
 ghost use Rattle.lethe_core.specs.Running.{IsSound};
 ghost use Rattle.lethe_core.specs.View.{view_of};
@@ -45,13 +46,15 @@ impl<D: Disk> Engine<D> {
         ensures sound { IfOk result (λ engine. IsSound D.tells (view_of engine.core)) }
         ensures runs { IfOk result (λ engine. (engine.core.state.stopped ≡ None) × (engine.core.flight ≡ None)) }
 
-        // Where the disk was left for a history, the store stands for it, or for it with the change carried out.
-        ensures resumed { D.tells → (h : History) (change : Option Change) → IsLeft (D.seen disk) h change
+        // Where the disk was left for a history, in whatever configuration, the store stands for it, or for it with the change carried out: for the one that the
+        // directory is kept for.
+        ensures resumed { D.tells → (kept : Fields) (h : History) (change : Option Change) → IsLeft kept (D.seen disk) h change
             → IfOk result (λ engine. IsResumed config.now h change (D.seen disk) (view_of engine.core)) }
 
-        // A crash at any moment of the call, whatever it answers, leaves a disk that is kept for one of the two.
-        ensures any_moment { D.tells → (h : History) (change : Option Change) → IsLeft (D.seen disk) h change
-            → MatchResult result (λ engine. Goes (IsKeptOr h change) (D.seen disk) (D.seen engine.core.disk)) (λ refused. Goes (IsKeptOr h change) (D.seen disk) (D.seen refused.disk)) }
+        // A crash at any moment of the call, whatever it answers, leaves a disk that is kept for one of the two, or a new store where there was no gate.
+        ensures any_moment { D.tells → (kept : Fields) (h : History) (change : Option Change) → IsLeft kept (D.seen disk) h change
+            → MatchResult result (λ engine. Goes (IsKeptInOpening kept config.now h change (D.seen disk).directory) (D.seen disk) (D.seen engine.core.disk))
+            (λ refused. Goes (IsKeptInOpening kept config.now h change (D.seen disk).directory) (D.seen disk) (D.seen refused.disk)) }
 
         // A refusal has its reason. Where the directory has damage or another configuration, that is told, unless the disk fails or memory
         // runs out; then, and where numbers ran out, nothing was touched.
@@ -59,13 +62,17 @@ impl<D: Disk> Engine<D> {
         ensures exact { D.tells → (why : RecoverRefused) → HasReason config.now (D.seen disk).directory why
             → MatchResult result (λ engine. ⊥) (λ refused. (refused.why ≡ since_start (D.faults disk) why) ⊎ IsCut ⊥ (D.faults disk) (D.faults refused.disk) refused.why) }
         ensures untouched { D.tells → IfErr result (λ refused. IsUntold refused.why ⊎ IsQuiet (D.seen disk) (D.seen refused.disk)) }
+        ensures quiet { D.tells → (why : RecoverRefused) → HasReason config.now (D.seen disk).directory why → IfErr result (λ refused. IsQuiet (D.seen disk) (D.seen refused.disk)) }
 
         // Numbers run out behind the first device call.
         ensures drawn { D.tells → IfErr result (λ refused. (last : ℕ) → refused.why ≡ OpenWhy.Exhausted last → (D.seen disk).moment < (D.seen refused.disk).moment) }
 
-        // Numbers are drawn no faster than device calls are made.
+        // Numbers are drawn no faster than device calls are made, and what each crash leaves keeps pace.
         ensures numbers { D.tells → IfOk result (λ engine. (next : ℕ) → IsNextNumber (D.seen disk).directory next
             → engine.core.state.next + (D.seen disk).moment ≤ next + (D.seen engine.core.disk).moment) }
+        ensures pace { D.tells → (first : ℕ) → KeepsPace first (D.seen disk).moment (D.seen disk).moment (D.seen disk)
+            → MatchResult result (λ engine. KeepsPace first (D.seen disk).moment (D.seen disk).moment (D.seen engine.core.disk))
+            (λ refused. KeepsPace first (D.seen disk).moment (D.seen disk).moment (D.seen refused.disk)) }
         ensures faults { MatchResult result (λ engine. D.faults disk ≤ D.faults engine.core.disk) (λ refused. D.faults disk ≤ D.faults refused.disk) }
     {
         match open(alloc, &mut disk, config) {

@@ -8,10 +8,10 @@ ghost use Rattle.lethe_base.specs.declared.config.Fields.{Fields};
 ghost use Rattle.lethe_base.specs.declared.refused.Refused.TheVariants as refused;
 ghost use Rattle.lethe_build.specs.Drafts.{numbers_for};
 ghost use Rattle.lethe_disk.specs.Disk.{IsIdle};
-ghost use Rattle.lethe_disk.specs.Goes.{Goes};
 ghost use Rattle.lethe_file.specs.Agreement.{page_name};
 ghost use Rattle.lethe_flush.specs.Made.{pages_in};
 ghost use Rattle.lethe_stored.specs.Kept.{IsKept};
+ghost use Rattle.lethe_stored.specs.Numbers.{GoesFrom};
 ghost use Rattle.lethe_stored.specs.Stored.{Stored};
 ghost use Rattle.lethe_job.specs.Tasks.{IsBegunIn, plain_task};
 ghost use Rattle.lethe_core.specs.Jobs.{AreOutputsOf, IsAtWork, IsInFlight, IsWhole, with_page};
@@ -109,9 +109,9 @@ impl<D: Disk> Engine<D> {
         ensures drawn { OnErr result (self.new.core.state.next ≡ self.old.core.state.next) }
         ensures stopped { (at : ℕ) → self.old.core.state.stopped ≡ Some at → IsErrOf result (refused.Stopped at) × (self.new ≡ self.old) }
 
-        // A crash at any moment of the call leaves what is kept for the history.
+        // A crash at any moment of the call leaves what is kept for the history, and numbers keep pace with its calls.
         ensures any_moment { D.tells → (config : Fields) (h : History) → StandsNow config h (view_of self.old.core)
-            → self.old.core.state.stopped ≡ None → Goes (λ c. IsKept c h) (D.seen self.old.core.disk) (D.seen self.new.core.disk) }
+            → self.old.core.state.stopped ≡ None → GoesFrom self.old.core.state.next (λ c. IsKept config c h) (D.seen self.old.core.disk) (D.seen self.new.core.disk) }
 
         // Numbers are drawn no faster than device calls are made.
         ensures numbers { D.tells → self.new.core.state.next + (D.seen self.old.core.disk).moment ≤ self.old.core.state.next + (D.seen self.new.core.disk).moment }
@@ -147,7 +147,7 @@ impl<D: Disk> Engine<D> {
         ensures drawn { OnErr result (self.new.core.state.next ≡ self.old.core.state.next) }
         ensures stopped { (at : ℕ) → self.old.core.state.stopped ≡ Some at → IsErrOf result (refused.Stopped at) × (self.new ≡ self.old) }
         ensures any_moment { D.tells → (config : Fields) (h : History) → StandsNow config h (view_of self.old.core)
-            → self.old.core.state.stopped ≡ None → Goes (λ c. IsKept c h) (D.seen self.old.core.disk) (D.seen self.new.core.disk) }
+            → self.old.core.state.stopped ≡ None → GoesFrom self.old.core.state.next (λ c. IsKept config c h) (D.seen self.old.core.disk) (D.seen self.new.core.disk) }
         ensures numbers { D.tells → self.new.core.state.next + (D.seen self.old.core.disk).moment ≤ self.old.core.state.next + (D.seen self.new.core.disk).moment }
         ensures faults { D.faults self.old.core.disk ≤ D.faults self.new.core.disk }
     {
@@ -186,9 +186,9 @@ impl<D: Disk> Engine<D> {
         ensures drawn { OnErr result (self.new.core.state.next ≡ self.old.core.state.next) }
         ensures stopped { (at : ℕ) → self.old.core.state.stopped ≡ Some at → IfErr result (λ back. back.1 ≡ refused.Stopped at) × OnOk result ⊥ × (self.new ≡ self.old) }
 
-        // A crash at any moment of the call leaves what is kept for the history.
+        // A crash at any moment of the call leaves what is kept for the history, and numbers keep pace with its calls.
         ensures any_moment { D.tells → (config : Fields) (h : History) → StandsNow config h (view_of self.old.core)
-            → self.old.core.state.stopped ≡ None → Goes (λ c. IsKept c h) (D.seen self.old.core.disk) (D.seen self.new.core.disk) }
+            → self.old.core.state.stopped ≡ None → GoesFrom self.old.core.state.next (λ c. IsKept config c h) (D.seen self.old.core.disk) (D.seen self.new.core.disk) }
 
         // Numbers are drawn no faster than device calls are made.
         ensures numbers { D.tells → self.new.core.state.next + (D.seen self.old.core.disk).moment ≤ self.old.core.state.next + (D.seen self.new.core.disk).moment }
@@ -222,7 +222,7 @@ impl<D: Disk> Engine<D> {
         ensures drawn { OnErr result (self.new.core.state.next ≡ self.old.core.state.next) }
         ensures stopped { (at : ℕ) → self.old.core.state.stopped ≡ Some at → IsErrOf result (refused.Stopped at) × (self.new ≡ self.old) }
         ensures any_moment { D.tells → (config : Fields) (h : History) → StandsNow config h (view_of self.old.core)
-            → self.old.core.state.stopped ≡ None → Goes (λ c. IsKept c h) (D.seen self.old.core.disk) (D.seen self.new.core.disk) }
+            → self.old.core.state.stopped ≡ None → GoesFrom self.old.core.state.next (λ c. IsKept config c h) (D.seen self.old.core.disk) (D.seen self.new.core.disk) }
         ensures numbers { D.tells → self.new.core.state.next + (D.seen self.old.core.disk).moment ≤ self.old.core.state.next + (D.seen self.new.core.disk).moment }
         ensures faults { D.faults self.old.core.disk ≤ D.faults self.new.core.disk }
     {
@@ -258,9 +258,9 @@ impl<D: Disk> Engine<D> {
         ensures exhausted { (last : ℕ) → IsErrOf result (refused.Exhausted last) → ⊥ }
         ensures stopped { (at : ℕ) → self.old.core.state.stopped ≡ Some at → IsErrOf result (refused.Stopped at) × (self.new.core.state ≡ self.old.core.state) }
 
-        // A crash at any moment of the call leaves what is kept for the history.
+        // A crash at any moment of the call leaves what is kept for the history, and numbers keep pace with its calls.
         ensures any_moment { D.tells → (config : Fields) (h : History) → StandsNow config h (view_of self.old.core)
-            → self.old.core.state.stopped ≡ None → Goes (λ c. IsKept c h) (D.seen self.old.core.disk) (D.seen self.new.core.disk) }
+            → self.old.core.state.stopped ≡ None → GoesFrom self.old.core.state.next (λ c. IsKept config c h) (D.seen self.old.core.disk) (D.seen self.new.core.disk) }
 
         // Numbers are drawn no faster than device calls are made.
         ensures numbers { D.tells → self.new.core.state.next + (D.seen self.old.core.disk).moment ≤ self.old.core.state.next + (D.seen self.new.core.disk).moment }

@@ -4,8 +4,8 @@ ghost use Rattle.lethe_base.specs.History.{History};
 ghost use Rattle.lethe_base.specs.declared.call.Call.TheVariants.{Work};
 ghost use Rattle.lethe_base.specs.declared.config.Fields.{Fields};
 ghost use Rattle.lethe_base.specs.declared.refused.Refused.TheVariants.{Stopped};
-ghost use Rattle.lethe_disk.specs.Goes.{Goes};
 ghost use Rattle.lethe_stored.specs.Kept.{IsKept};
+ghost use Rattle.lethe_stored.specs.Numbers.{GoesFrom};
 ghost use Rattle.lethe_stored.specs.Stored.{Stored};
 ghost use Rattle.lethe_state.specs.Room.{IsFlushed, IsFrozen, IsShortToFlush, IsShortToFreeze};
 ghost use Rattle.lethe_core.specs.Running.{Holds, IsSound};
@@ -47,9 +47,9 @@ impl<D: Disk> Engine<D> {
         ensures why { IfErr result (HasReasonOfWork (IsShortToFreeze self.old.core.state) (view_of self.old.core) (view_of self.new.core)) }
         ensures stopped { (at : ℕ) → self.old.core.state.stopped ≡ Some at → IsErrOf result (Stopped at) × (self.new ≡ self.old) }
 
-        // A crash at any moment of the call leaves what is kept for the history.
+        // A crash at any moment of the call leaves what is kept for the history, and numbers keep pace with its calls.
         ensures any_moment { D.tells → (config : Fields) (h : History) → StandsNow config h (view_of self.old.core)
-            → self.old.core.state.stopped ≡ None → Goes (λ c. IsKept c h) (D.seen self.old.core.disk) (D.seen self.new.core.disk) }
+            → self.old.core.state.stopped ≡ None → GoesFrom self.old.core.state.next (λ c. IsKept config c h) (D.seen self.old.core.disk) (D.seen self.new.core.disk) }
 
         // A job in flight stays so.
         ensures flight { self.new.core.flight ≡ self.old.core.flight }
@@ -97,9 +97,9 @@ impl<D: Disk> Engine<D> {
         ensures why { IfErr result (HasReasonOfWork (IsShortToFlush self.old.core.state) (view_of self.old.core) (view_of self.new.core)) }
         ensures stopped { (at : ℕ) → self.old.core.state.stopped ≡ Some at → IsErrOf result (Stopped at) × (self.new ≡ self.old) }
 
-        // A crash at any moment of the call leaves what is kept for the history.
+        // A crash at any moment of the call leaves what is kept for the history, and numbers keep pace with its calls.
         ensures any_moment { D.tells → (config : Fields) (h : History) → StandsNow config h (view_of self.old.core)
-            → self.old.core.state.stopped ≡ None → Goes (λ c. IsKept c h) (D.seen self.old.core.disk) (D.seen self.new.core.disk) }
+            → self.old.core.state.stopped ≡ None → GoesFrom self.old.core.state.next (λ c. IsKept config c h) (D.seen self.old.core.disk) (D.seen self.new.core.disk) }
 
         // A job in flight stays so.
         ensures flight { self.new.core.flight ≡ self.old.core.flight }

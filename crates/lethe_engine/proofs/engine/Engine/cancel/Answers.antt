@@ -8,7 +8,7 @@ pub returns-in-Some-clause-stands : goal.returns-in-Some-clause-stands
 returns-in-Some-clause-stands g c = λ told config opened h stands caller. forgets_for config (view_of c.args.self.now.core) c.in-Some.at c.in-Some.is opened h stands
 
 pub returns-then-self-ge-MAX_PLACE-clause-any_moment : goal.returns-then-self-ge-MAX_PLACE-clause-any_moment
-returns-then-self-ge-MAX_PLACE-clause-any_moment g c = λ told config h stands runs. stands_moments config h (view_of c.args.self.now.core) stands runs
+returns-then-self-ge-MAX_PLACE-clause-any_moment g c = λ told config h stands runs. stands_moments config h (view_of c.args.self.now.core) stands runs c.requires.sound.writable
 
 pub returns-clause-any_moment : goal.returns-clause-any_moment
 returns-clause-any_moment g c = λ told config h stands runs. c.cancel_now.ensures.keeps.any_moment told config h stands

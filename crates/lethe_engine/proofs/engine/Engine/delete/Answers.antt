@@ -22,7 +22,7 @@ returns-in_err-may_change-clause-stands g c = λ told config opened h stands cal
 
 pub returns-in_err-may_change-clause-any_moment : goal.returns-in_err-may_change-clause-any_moment
 returns-in_err-may_change-clause-any_moment g c = λ told config h stands runs caller.
-    unbegun_moments g.D.Disk.tells told config h caller (call.Delete c.args.key) (view_of c.args.self.now.core) runs c.from_residual.result stands
+    unbegun_moments g.D.Disk.tells told config h caller (call.Delete c.args.key) (view_of c.args.self.now.core) runs c.from_residual.result stands c.requires.writable
 
 pub returns-in_err-make_room-clause-stands : goal.returns-in_err-make_room-clause-stands
 returns-in_err-make_room-clause-stands g c = λ told config opened h stands caller.

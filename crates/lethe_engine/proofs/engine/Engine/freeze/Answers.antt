@@ -6,10 +6,10 @@ use Rattle.lethe_engine.proofs.Steps.{step_for, unbegun_work}
 use Rattle.lethe_engine.proofs.engine.Engine.freeze.Goals as goal
 
 pub returns-then-is_some-clause-any_moment : goal.returns-then-is_some-clause-any_moment
-returns-then-is_some-clause-any_moment g c = λ told config h stands runs. stands_moments config h (view_of c.args.self.now.core) stands runs
+returns-then-is_some-clause-any_moment g c = λ told config h stands runs. stands_moments config h (view_of c.args.self.now.core) stands runs c.requires.writable
 
 pub returns-in_err-may_change-clause-any_moment : goal.returns-in_err-may_change-clause-any_moment
-returns-in_err-may_change-clause-any_moment g c = λ told config h stands runs. stands_moments config h (view_of c.args.self.now.core) stands runs
+returns-in_err-may_change-clause-any_moment g c = λ told config h stands runs. stands_moments config h (view_of c.args.self.now.core) stands runs c.requires.writable
 
 pub returns-in_err-may_change-clause-stands : goal.returns-in_err-may_change-clause-stands
 returns-in_err-may_change-clause-stands g c = λ told config opened h stands caller.

@@ -32,14 +32,14 @@ returns-in-Ok-opened-clause-numbers g c = λ told next is.
     omega (arith, next_is, c.in-Ok.ensures.numbers told next is)
 
 pub returns-in-Ok-opened-clause-resumed : goal.returns-in-Ok-opened-clause-resumed
-returns-in-Ok-opened-clause-resumed g c = λ tells h change left.
+returns-in-Ok-opened-clause-resumed g c = λ tells kept h change left.
     let seen = g.D.Disk.seen c.open.new.disk in
     let state = c.in-Ok-opened.state in
     let levels = parts_by_level c.in-Ok.field-0.version in
-    let again = c.in-Ok.ensures.resumed tells h change left in
+    let again = c.in-Ok.ensures.resumed tells kept h change left in
     let is = again.is in
     let remembers = c.in-Ok-opened.ensures.remembers is.s levels is.settled.coherent is.told.files (sym is.told.manifest) is.told.frozen is.told.active is.told.erases in
-    resumed c.args.config.now h again.history change (g.D.Disk.seen c.args.disk) seen (g.D.Disk.faults c.open.new.disk) is.s state levels again.either (opened_running seen (g.D.Disk.faults c.open.new.disk) is.s state levels is.settled is.only is.rising is.told.active is.ends c.in-Ok-opened.ensures.end remembers.1) remembers.0 is.config_is again.stands
+    resumed c.args.config.now h again.history change (g.D.Disk.seen c.args.disk) seen (g.D.Disk.faults c.open.new.disk) is.s state levels again.either again.was c.in-Ok-opened.ensures.writable (opened_running seen (g.D.Disk.faults c.open.new.disk) is.s state levels is.settled is.only is.rising is.told.active is.ends c.in-Ok-opened.ensures.end remembers.1) remembers.0 is.config_is again.stands
     (λ next from. returns-in-Ok-opened-clause-numbers g c tells next from)
 
 pub returns-in-Err-clause-untouched : goal.returns-in-Err-clause-untouched
