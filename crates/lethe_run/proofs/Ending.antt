@@ -9,30 +9,27 @@ use Rattle.lethe_base.specs.History.{History, Change}
 use Rattle.lethe_base.specs.declared.config.Fields.{Fields}
 use Rattle.lethe_core.specs.StandsNow.{IsOpenOrStopped}
 use Rattle.lethe_core.specs.View.{View}
-use Rattle.lethe_disk.specs.Disk.{Seen}
+use Rattle.lethe_disk.specs.Disk.{Image, Seen}
 use Rattle.lethe_engine.specs.Opening.{IsResumed}
-use Rattle.lethe_engine.specs.StandsFor.{IsKeptFor}
 use Rattle.lethe_disk.specs.Goes.{Goes}
 use Rattle.lethe_build.specs.Drafts.{numbers_for}
-use Rattle.lethe_stored.specs.Left.{IsLeft, IsKeptOr}
-use Rattle.lethe_load.specs.Refused.{HasReason}
-use Rattle.lethe_load.specs.declared.refused.RecoverRefused.{RecoverRefused}
-use Rattle.lethe_recover.specs.Opening.{MayNotOpen, IsExhausted, IsNextNumber}
+use Rattle.lethe_stored.specs.Left.{IsLeft}
+use Rattle.lethe_stored.specs.Numbers.{IsNextNumber, KeepsPace}
+use Rattle.lethe_recover.specs.Opening.{MayNotOpen, IsExhausted, IsKeptInOpening}
 use Rattle.lethe_recover.specs.declared.opening.OpenWhy.{OpenWhy}
 use Rattle.lethe_recover.specs.declared.opening.OpenWhy.TheVariants as open_why
-use Rattle.lethe_disk.proofs.Going.{goes_then, goes_weaker}
 use Rattle.lethe_script.specs.declared.order.Order.{Order}
 use Rattle.lethe_script.specs.declared.refused.BadLine.{BadLine}
 use Rattle.lethe_script.specs.Grammar.{script_of}
 use Rattle.lethe_run.specs.declared.reply.Line.{Line}
 use Rattle.lethe_run.specs.declared.status.Status.{Status}
 use Rattle.lethe_run.specs.declared.status.Status.TheVariants.{Answered, BadWords, BadScript, ReadFault, WriteFault, Refused, NoMemory, Damaged, OtherConfig}
-use Rattle.lethe_run.specs.Carried.{IsKeptMeanwhile, IsCarriedOut}
+use Rattle.lethe_run.specs.Carried.{IsCarriedOut}
 use Rattle.lethe_run.specs.Ends as ends
-use Rattle.lethe_run.specs.Ends.{Run, Asks, IsCommand, IsNoCommand, OnLeft, OnScript, Carries, IsBegun, course_of, IsNoScript, IsNotOpened}
+use Rattle.lethe_run.specs.Ends.{Run, Asks, IsCommand, IsNoCommand, IsUnused, OnLeft, OnScript, Carries, IsBegun, IsSoundFor, course_of, IsNoScript, IsNotOpened}
 use Rattle.lethe_run.specs.Printed.{bad_words, bad_line, open_line}
 use Rattle.lethe_run.specs.Scripts.{Serves, All, ScriptEnds}
-use Rattle.lethe_run.specs.Serving.{IsOn, IsCarried}
+use Rattle.lethe_run.specs.Serving.{IsOn, IsCarried, Point}
 use Rattle.lethe_run.specs.Status.{EndsWith, Says, IsToldOf, status_for}
 use Rattle.lethe_run.specs.Transcript.{Start, text_of}
 
@@ -69,8 +66,8 @@ some_now (Some x) f = f x
 
 -- the script that was read is the source's
 pub on_script : (source : Option Bytes) (bytes : Bytes) (phases : List (List Order)) (P : List (List Order) → Type 0) → IfSome source (λ all. script_of all ≡ script_of bytes) → script_of bytes ≡ Ok phases → P phases
-    → IfSome source (λ all. (read : List (List Order)) × (script_of all ≡ Ok read) × P read)
-on_script source bytes phases P same e p = some_then source same (λ all is. (phases, is ∙ e, p))
+    → (read : List (List Order)) × IfSome source (λ all. script_of all ≡ Ok read) × P read
+on_script source bytes phases P same e p = (phases, some_then source same (λ all is. is ∙ e), p)
 
 pub no_script : (source : Option Bytes) (bytes : Bytes) (bad : BadLine) → IfSome source (λ all. script_of all ≡ script_of bytes) → script_of bytes ≡ Err bad → IfSome source (λ all. script_of all ≡ Err bad)
 no_script source bytes bad same e = some_then source same (λ all is. is ∙ e)
@@ -80,7 +77,7 @@ no_script source bytes bad same e = some_then source same (λ all is. is ∙ e)
 pub is_command : (run : Run) (config : Fields) → Asks run config → IsCommand run
 is_command run config asks = subst IsSome (sym asks) refl
 
-pub said_bad_words : (run : Run) (end : Status) → IsNoCommand run → run.Unused → Says BadWords bad_words run.taken_before run.taken run.SinkRose end → EndsWith run end
+pub said_bad_words : (run : Run) (end : Status) → IsNoCommand run → IsUnused run → Says BadWords bad_words run.taken_before run.taken run.SinkRose end → EndsWith run end
 said_bad_words run end other unused (inl says) = subst (EndsWith run) (sym says.0) (other, says.1, unused)
 said_bad_words run end other unused (inr says) = subst (EndsWith run) (sym says.0) (says.1, bad_words, inl (other, refl, unused), says.2)
 
@@ -97,7 +94,10 @@ no_memory_why run config why not = record {
   reason = tt;
   untouched = λ told. inl tt;
   drawn = λ told last is. absurd (clash last is);
+  exact = λ told shown reason. inr tt;
+  quiet = not.quiet;
   any_moment = not.any_moment;
+  pace = not.pace;
 }
   where
     clash : (last : ℕ) → open_why.NoMemory ≡ open_why.Exhausted last → ⊥
@@ -124,45 +124,65 @@ said_not_opened run end why config asks not (inr silent) = subst (EndsWith run) 
 
 module _ (run : Run) (config : Fields) (asks : Asks run config) (phases : List (List Order)) (script : (P : List (List Order) → Type 0) → P phases → OnScript run P) (mid : View) (up : run.faults_before ≤ mid.faults)
     (runs : mid.state.stopped ≡ None)
-    (resumed : run.Tells → (h : History) (change : Option Change) → IsLeft run.start h change → IsResumed config h change run.start mid)
-    (moments : run.Tells → (h : History) (change : Option Change) → IsLeft run.start h change → Goes (IsKeptOr h change) run.start mid.disk)
-    (sound : run.Tells → (why : RecoverRefused) → HasReason config run.start.directory why → ⊥) where
+    (resumed : run.Tells → (kept : Fields) (h : History) (change : Option Change) → IsLeft kept run.start h change → IsResumed config h change run.start mid)
+    (moments : run.Tells → (kept : Fields) (h : History) (change : Option Change) → IsLeft kept run.start h change → Goes (IsKeptInOpening kept config h change run.start.directory) run.start mid.disk)
+    (sound : IsSoundFor run config) (itself : run.Tells → Image run.start run.start.directory)
+    (opened_pace : run.Tells → (first : ℕ) → KeepsPace first run.start.moment run.start.moment run.start → KeepsPace first run.start.moment run.start.moment mid.disk) where
   abbrev begin_at : ℕ → Start
-  begin_at next = record { faults = run.faults_before; next = next; moment = run.start.moment }
+  begin_at next = record { config = config; faults = run.faults_before; next = next; moment = run.start.moment }
 
-  on : run.Tells → (h : History) (change : Option Change) → (r : IsResumed config h change run.start mid) → run.start.moment ≤ mid.disk.moment → (next : ℕ) → IsNextNumber run.start.directory next
-      → IsOn config (begin_at next) r.history r.history mid
-  on told h change r later next is =
+  point : (h : History) (change : Option Change) → IsResumed config h change run.start mid → Point
+  point h change r = record { history = r.history; moment = mid.disk.moment }
+
+  on : (h : History) (change : Option Change) (r : IsResumed config h change run.start mid) → run.start.moment ≤ mid.disk.moment → (next : ℕ) → IsNextNumber run.start.directory next → IsOn (begin_at next) (point h change r) r.history mid
+  on h change r later next is =
       let stands = r.stands next is in
       record {
-        done = (subst (IsOpenOrStopped mid r.history stands.now.stored) runs stands.now.held).0;
-        moment = mid.disk.moment;
+        done = (subst (IsOpenOrStopped config mid r.history stands.now.stored) runs stands.now.held).0;
         counted = mid.faults;
         stands = stands;
         faults_since = up;
         moment_since = later;
       }
 
-  carried_out : (left : History) (change : Option Change) (r : IsResumed config left change run.start mid) (next : ℕ) (front : List (List Order)) (lines : List (List Line)) → Goes (IsKeptOr left change) run.start mid.disk
-      → IsCarried config (course_of run next) r.history front lines mid.disk run.finish
-      → IsCarriedOut config (course_of run next) run.start run.finish left change front lines
-  carried_out left change r next front lines opening c = record {
+  carried_out : run.Tells → (kept : Fields) (left : History) (change : Option Change) (r : IsResumed config left change run.start mid) (next : ℕ) → IsNextNumber run.start.directory next → (front : List (List Order)) (lines : List (List Line))
+      → Goes (IsKeptInOpening kept config left change run.start.directory) run.start mid.disk → IsCarried (course_of run config next) (begin_at next) (point left change r) front lines mid.disk run.finish
+      → IsCarriedOut config (course_of run config next) run.start run.finish kept left change front lines
+  carried_out told kept left change r next is front lines opening c = record {
     opened = r.history;
     either = r.either;
+    was = r.was;
     history = c.history;
     served = c.served;
-    any_moment = goes_then (IsKeptMeanwhile left change r.history c.history) run.start mid.disk run.finish
-        (goes_weaker (IsKeptOr left change) (IsKeptMeanwhile left change r.history c.history) run.start mid.disk (λ d kept. (kept.0, inl kept.1, kept.2)) opening)
-        (goes_weaker (IsKeptFor r.history c.history) (IsKeptMeanwhile left change r.history c.history) mid.disk run.finish (λ d kept. (kept.0, inr kept.1, kept.2)) c.any_moment);
+    moment = mid.disk.moment;
+    any_moment = record {
+      from = opening.later;
+      upto = c.calls.later;
+      past = λ m d le.
+          let low = opening.later in
+          let here = c.calls.past m d (omega (arith, le, low)) in
+          let before = opening.past m d le in
+          (λ left. before.0 (here.0 left), λ left. here.1 (before.1 left));
+      first = λ m d low high left. opening.each m d low high ((c.calls.past m d high).0 left);
+      then = c.each;
+    };
+    lasting = c.lasting;
     leaves = c.leaves;
     config_is = c.config_is;
+    pace = λ first before m d low high left most at. elim (cases_lt mid.disk.moment m) [
+      | inr early ↦ opened_pace told first before m d low early ((c.calls.past m d early).0 left) most at
+      | inl late ↦
+          let more = c.pace m d (omega (arith, late)) high left most at in
+          let fits = before run.start.moment run.start.directory (omega arith) (omega arith) (itself told) next is in
+          omega (arith, more, fits)
+    ];
   }
 
   carries : (front : List (List Order)) (lines : List (List Line)) → Serves run.Tells run.PortsFail mid run.finish run.faults front lines → Carries run config front lines
-  carries front lines served = λ told left change is next drawn.
-      let r = resumed told left change is in
-      let opening = moments told left change is in
-      carried_out left change r next front lines opening (served told config (begin_at next) r.history (on told left change r opening.later next drawn))
+  carries front lines served = λ told kept left change is next drawn.
+      let r = resumed told kept left change is in
+      let opening = moments told kept left change is in
+      carried_out told kept left change r next drawn front lines opening (served told (begin_at next) (point left change r) (on left change r opening.later next drawn))
 
   all : (refused : Bool) → All run.Tells run.PortsFail mid run.finish run.faults run.taken_before run.taken phases refused → ends.Answered run config refused
   all refused a = record { lines = a.lines; script = script (λ p. Carries run config p a.lines) (carries phases a.lines a.served); written = a.written; is = a.is; sound = sound }
@@ -180,21 +200,23 @@ module _ (run : Run) (config : Fields) (asks : Asks run config) (phases : List (
         lines = e.1.lines;
         script = script (λ p. (count : ℕ) × Carries run config (take count p) e.1.lines) (e.1.count, carries (take e.1.count phases) e.1.lines e.1.served);
         is = refl;
+        sound = sound;
       },
     ))),
     e.1.written,
   )
-  script_ended NoMemory e = (config, asks, inr (record { lines = e.lines; script = script (λ p. Inner p) inner; written = e.written }))
+  script_ended NoMemory e = (config, asks, inr (record { lines = e.lines; script = script (λ p. Inner p) inner; written = e.written; sound = sound }))
     where
       Inner : List (List Order) → Type 0
-      Inner p = OnLeft run (λ left change. (next : ℕ) → IsNextNumber run.start.directory next → (front : List (List Order)) × IsBegun p front × IsCarriedOut config (course_of run next) run.start run.finish left change front e.lines)
+      Inner p = OnLeft run (λ kept left change. (next : ℕ) → IsNextNumber run.start.directory next → (front : List (List Order)) × IsBegun p front
+          × IsCarriedOut config (course_of run config next) run.start run.finish kept left change front e.lines)
 
       inner : Inner phases
-      inner = λ told left change is next drawn.
-          let r = resumed told left change is in
-          let opening = moments told left change is in
-          let c = e.served told config (begin_at next) r.history (on told left change r opening.later next drawn) in
-          (c.0, c.1, carried_out left change r next c.0 e.lines opening c.2)
+      inner = λ told kept left change is next drawn.
+          let r = resumed told kept left change is in
+          let opening = moments told kept left change is in
+          let c = e.served told (begin_at next) (point left change r) (on left change r opening.later next drawn) in
+          (c.0, c.1, carried_out told kept left change r next drawn c.0 e.lines opening c.2)
   script_ended BadWords e = absurd e
   script_ended BadScript e = absurd e
   script_ended ReadFault e = absurd e

@@ -1,6 +1,7 @@
 pub mod ScanLaws
 pub mod Histories
 pub mod Images
+pub mod Lasting
 pub mod Outcomes
 pub mod Shorts
 pub mod Steps

@@ -1,44 +1,63 @@
 -- What only looks at the store is answered.
-use Rattle.std.proofs.Common.{◌≡◌, inl, ℕ, [], length, refl, sym, ap, ◌∙◌, arith, append-nil}
+use Rattle.std.proofs.Common.{◌≡◌, inl, ℕ, [], length, refl, sym, ap, ◌∙◌, subst, arith, append-nil}
 use Rattle.std.specs.Prelude.{IsSome}
 use Rattle.std.proofs.lemmas.List.{take_all}
 use Rattle.lethe_base.specs.History.{History, after}
 use Rattle.lethe_base.specs.Read.{Read, Answer, answer}
-use Rattle.lethe_base.specs.declared.config.Fields.{Fields}
+use Rattle.lethe_base.specs.Shapes.{shape_of}
 use Rattle.lethe_base.specs.declared.name.Name.{Name}
 use Rattle.lethe_base.specs.declared.refused.Refused.{Refused}
 use Rattle.lethe_base.specs.declared.refused.Refused.TheVariants as refused
 use Rattle.lethe_core.specs.View.{View}
 use Rattle.lethe_engine.specs.Reads.{IsReadRefusal}
+use Rattle.lethe_engine.specs.Stats.{IsStatOf}
 use Rattle.lethe_engine.specs.declared.telling.Stat.{Stat}
+use Rattle.lethe_state.specs.Remembered.{Remembers}
+use Rattle.lethe_stored.specs.Kept.{IsFor}
+use Rattle.lethe_stored.specs.Left.{without_failed}
+use Rattle.lethe_stored.specs.Stored.{Stored, layout_of}
 use Rattle.lethe_script.specs.declared.order.Act.{Act}
 use Rattle.lethe_run.specs.declared.reply.Reply.{Reply}
 use Rattle.lethe_run.specs.declared.reply.Reply.TheVariants as reply
 use Rattle.lethe_run.specs.Replies.{unread_of}
-use Rattle.lethe_run.specs.Serving.{IsOn, IsAnswered}
+use Rattle.lethe_run.specs.Serving.{IsOn, IsAnswered, Point}
 use Rattle.lethe_run.specs.Transcript.{Course, Start, course, Answers, Follows, read_of, IsAnswerAt, IsStatAt}
-use Rattle.lethe_run.proofs.Images.{goes_still}
+use Rattle.lethe_run.proofs.Images.{still}
 use Rattle.lethe_run.proofs.Outcomes.{Outcome, told_of}
 
-module _ {config : Fields} (Ports : Type 0) (begin : Start) (opened h : History) (caller : ℕ) (act : Act) (view : View) (on : IsOn config begin opened h view) where
+module _ (Ports : Type 0) (begin : Start) (from : Point) (h : History) (caller : ℕ) (act : Act) (view : View) (on : IsOn begin from h view) where
   abbrev Here : Course
   Here = course Ports begin view.faults view.disk.moment
 
   pub read_answer : (read : Read) (point : ℕ) (given : Answer) → point ≡ view.state.count → answer (after h) read ≡ given → IsAnswerAt h point read given
   read_answer read point given at is = let all = at ∙ on.stands.now.count in record { within = omega (arith, all); is = sym is ∙ ap (λ l. answer (after l) read) (sym (take_all point h (omega (arith, all)))) }
 
-  pub stat_answer : (point : ℕ) (stat : Stat) → point ≡ view.state.count → stat.clock ≡ (after h).clock → IsStatAt h point stat
-  stat_answer point stat at is = let all = at ∙ on.stands.now.count in record { within = omega (arith, all); is = is ∙ ap (λ l. (after l).clock) (sym (take_all point h (omega (arith, all)))) }
+  pub stat_answer : (point : ℕ) (stat : Stat) → point ≡ view.state.count → stat.clock ≡ (after h).clock → stat.pins ≡ 0
+      → ((s : Stored) → Remembers s view.state view.levels → IsStatOf (shape_of (layout_of s)) stat) → IsStatAt (told_of h Here) point stat
+  stat_answer point stat at clock pins shape =
+      let all = at ∙ on.stands.now.count in
+      let whole = sym (take_all point h (omega (arith, all))) in
+      let now = on.stands.now in
+      record {
+        within = omega (arith, all);
+        clock = clock ∙ ap (λ l. (after l).clock) whole;
+        pins = pins;
+        stored = now.stored;
+        config_is = now.config_is;
+        coherent = now.remembers.coherent;
+        stands = subst (λ l. IsFor (without_failed l) now.stored) whole now.stands;
+        shape = shape now.stored now.remembers;
+      }
 
-  pub reads : (r : Reply) → Answers (told_of h Here) caller act r → Follows Here (length h) r (length h) → (g : History) × IsAnswered config Ports begin opened h g caller act r view view
-  reads r what follows = (h, record { grows = ([], sym (append-nil h)); answers = what; follows = follows; goes = goes_still begin opened h view on; stands = on })
+  pub reads : (r : Reply) → Answers (told_of h Here) caller act r → Follows Here (length h) r (length h) → (g : History) × IsAnswered Ports begin h g caller act r view view
+  reads r what follows = (h, record { grows = ([], sym (append-nil h)); answers = what; follows = follows; goes = still begin h view })
 
   -- a read that is refused
   pub unread : IsSome (read_of act) → (why : Refused) → IsReadRefusal why → ((before behind : ℕ) → why ≡ refused.ReadFault before behind → Ports) → ((name : Name) → why ≡ refused.Damaged name → ⊥)
-      → Outcome config Ports begin opened h caller act (unread_of why) view view
+      → Outcome Ports begin h caller act (unread_of why) view view
   unread is (refused.ReadFault before behind) reason fails sound = reads reply.ReadFault (inl is, fails before behind refl) refl
   unread is (refused.Damaged name) reason fails sound = absurd (sound name refl)
-  unread is refused.NoMemory reason fails sound = (goes_still begin opened h view on, on)
+  unread is refused.NoMemory reason fails sound = still begin h view
   unread is (refused.Fault place before behind) reason fails sound = absurd reason
   unread is (refused.Stopped at) reason fails sound = absurd reason
   unread is (refused.Exhausted last) reason fails sound = absurd reason

@@ -2,12 +2,11 @@
 use Rattle.std.proofs.Common.{◌≡◌, ℕ, Result, Ok, Err, subst}
 use Rattle.std.specs.Prelude.{IfOk, IfErr, MatchResult}
 use Rattle.lethe_base.specs.History.{History}
-use Rattle.lethe_base.specs.declared.config.Fields.{Fields}
 use Rattle.lethe_base.specs.declared.memory.NoMemory.{NoMemory}
 use Rattle.lethe_core.specs.View.{View}
 use Rattle.lethe_script.specs.declared.order.Act.{Act}
 use Rattle.lethe_run.specs.declared.reply.Reply.{Reply}
-use Rattle.lethe_run.specs.Serving.{IsOn, GoesOn, IsAnswered}
+use Rattle.lethe_run.specs.Serving.{Advances, IsAnswered}
 use Rattle.lethe_run.specs.Transcript.{Course, Start, Told}
 
 -- what is known of a result
@@ -21,7 +20,7 @@ abbrev pub told_of : History → Course → Told
 told_of h c = record { history = h; course = c }
 
 -- what comes of an act
-abbrev pub Outcome : Fields → Type 0 → Start → History → History → ℕ → Act → Result Reply NoMemory → View → View → Type 0
-Outcome config Ports begin opened h caller act result old new = MatchResult result
-    (λ reply. (g : History) × IsAnswered config Ports begin opened h g caller act reply old new)
-    (λ why. GoesOn opened h h old.disk new.disk × IsOn config begin opened h new)
+abbrev pub Outcome : Type 0 → Start → History → ℕ → Act → Result Reply NoMemory → View → View → Type 0
+Outcome Ports begin h caller act result old new = MatchResult result
+    (λ reply. (g : History) × IsAnswered Ports begin h g caller act reply old new)
+    (λ why. Advances begin h h old new)

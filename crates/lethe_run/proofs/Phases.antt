@@ -1,24 +1,26 @@
 -- One phase after another.
 use Rattle.std.proofs.Common.{◌≡◌, ◌≤◌, Bool, true, false, ◌||◌, List, [], ◌∷◌, ◌++◌, Option, Some, None, refl, sym, ap, ◌∙◌, subst, append_assoc, append-nil}
+use Rattle.std.specs.Prelude.{All, length}
 use Rattle.std.specs.List.{list_any}
 use Rattle.std.specs.Io.KnownBytes.{Appends}
+use Rattle.std.proofs.lemmas.List.Elements.{All-append, All-cons, All-nil, All-weaker}
 use Rattle.std.proofs.lemmas.List.Folds.{list_any-append}
 use Rattle.std.proofs.lemmas.Grind.{flat_map-append}
 use Rattle.lethe_base.specs.History.{History}
-use Rattle.lethe_base.specs.declared.config.Fields.{Fields}
 use Rattle.lethe_base.specs.Keys.{Bytes}
 use Rattle.lethe_core.specs.View.{View}
 use Rattle.lethe_disk.specs.Disk.{Image}
-use Rattle.lethe_engine.specs.StandsFor.{IsKeptFor}
-use Rattle.lethe_disk.proofs.Going.{goes_then, goes_weaker}
+use Rattle.lethe_stored.specs.Left.{without_failed}
 use Rattle.lethe_script.specs.declared.order.Order.{Order}
 use Rattle.lethe_wire.specs.Causes.{AppendsFront}
 use Rattle.lethe_run.specs.declared.reply.Line.{Line}
 use Rattle.lethe_run.specs.Printed.{lines_text}
-use Rattle.lethe_run.specs.Serving.{IsOn, GoesOn, IsPhase, IsCarried}
+use Rattle.lethe_run.specs.Carried.{IsLasting}
+use Rattle.lethe_run.specs.Serving.{Advances, IsOn, IsPhase, IsCarried, Point}
 use Rattle.lethe_run.specs.Transcript.{Course, Start, course, IsServed, AreServed, text_of, is_refusal, has_refusal}
-use Rattle.lethe_run.proofs.Images.{goes_still, leaves, has_config}
-use Rattle.lethe_run.proofs.Serving.{served_later}
+use Rattle.lethe_run.proofs.Images.{still, leaves, has_config}
+use Rattle.lethe_run.proofs.Lasting.{Stays, begins_now, bound_now, done_within, here, seen_now, stays_lasting, stays_later}
+use Rattle.lethe_run.proofs.Serving.{advances_then, served_later}
 
 -- what was written
 
@@ -59,14 +61,15 @@ pub refusal_more : (lines : List (List Line)) (more : List Line) → has_refusal
 refusal_more lines more = list_any-append (list_any is_refusal) lines (more ∷ []) ∙ ap (λ b. has_refusal lines || b) (or_false (list_any is_refusal more))
 
 -- the phases so far
-pub record SoFar (config : Fields) (Ports : Type 0) (begin : Start) (opened : History) (phases : List (List Order)) (lines : List (List Line)) (start now : View) : Type 0 where
+pub record SoFar (Ports : Type 0) (begin : Start) (from : Point) (phases : List (List Order)) (lines : List (List Line)) (start now : View) : Type 0 where
   pub history : History
-  pub served : AreServed (course Ports begin now.faults now.disk.moment) opened phases lines history
-  pub goes : GoesOn opened opened history start.disk now.disk
-  pub stands : IsOn config begin opened history now
+  pub served : AreServed (course Ports begin now.faults now.disk.moment) from.history phases lines history
+  pub goes : Advances begin from.history history start now
+  pub on : IsOn begin from history now
+  pub lasting : All (Stays begin from.history history now) lines
 
-pub so_far_start : {config : Fields} (Ports : Type 0) (begin : Start) (opened : History) (view : View) → IsOn config begin opened opened view → SoFar config Ports begin opened [] [] view view
-so_far_start Ports begin opened view on = record { history = opened; served = refl; goes = goes_still begin opened opened view on; stands = on }
+pub so_far_start : (Ports : Type 0) (begin : Start) (from : Point) (view : View) → IsOn begin from from.history view → SoFar Ports begin from [] [] view view
+so_far_start Ports begin from view on = record { history = from.history; served = refl; goes = still begin from.history view; on = on; lasting = All-nil (Stays begin from.history from.history view) }
 
 phases_more : (c : Course) (start middle h : History) (phases : List (List Order)) (lines : List (List Line)) (orders : List Order) (more : List Line)
     → AreServed c start phases lines middle → IsServed c middle orders more h → AreServed c start (phases ++ orders ∷ []) (lines ++ more ∷ []) h
@@ -75,27 +78,41 @@ phases_more c start middle h [] (l ∷ lines) orders more served last = absurd s
 phases_more c start middle h (p ∷ phases) [] orders more served last = absurd served
 phases_more c start middle h (p ∷ phases) (l ∷ lines) orders more served last = (served.0, served.1, phases_more c served.0 middle h phases lines orders more served.2 last)
 
-pub so_far_more : {config : Fields} (Ports : Type 0) (begin : Start) (opened h : History) (phases : List (List Order)) (lines : List (List Line)) (part : List Order) (more : List Line) (start now then : View) → now.faults ≤ then.faults
-    → (so_far : SoFar config Ports begin opened phases lines start now) → IsPhase config Ports begin opened so_far.history h part more now then
-    → SoFar config Ports begin opened (phases ++ part ∷ []) (lines ++ more ∷ []) start then
-so_far_more Ports begin opened h phases lines part more start now then le so_far phase = record {
-  history = h;
-  served = phases_more (course Ports begin then.faults then.disk.moment) opened so_far.history h phases lines part more
-      (served_later Ports begin now.faults then.faults now.disk.moment then.disk.moment le phase.goes.any_moment.later opened so_far.history phases lines so_far.served) phase.served;
-  goes = record {
-    kept = λ k cut. phase.goes.kept k (so_far.goes.kept k cut);
-    any_moment = goes_then (IsKeptFor opened h) start.disk now.disk then.disk
-        (goes_weaker (IsKeptFor opened so_far.history) (IsKeptFor opened h) start.disk now.disk (λ d kept. (kept.0, phase.goes.kept kept.0 kept.1, kept.2)) so_far.goes.any_moment) phase.goes.any_moment;
-  };
-  stands = phase.stands;
+-- from the end of a phase on each crash has what its lines answer with `ok`
+stays_now : (Ports : Type 0) (begin : Start) (from : Point) (start h : History) (orders : List Order) (lines : List Line) (view : View) → IsOn begin from h view
+    → IsServed (course Ports begin view.faults view.disk.moment) start orders lines h → Stays begin from.history h view lines
+stays_now Ports begin from start h orders lines view on served = record {
+  point = here begin from h view on;
+  begins = begins_now begin from h view on;
+  on = seen_now begin from h view on;
+  places = done_within (record { history = h; course = course Ports begin view.faults view.disk.moment }) (length (without_failed h)) (bound_now begin from h view on) orders lines served.answered;
 }
 
-pub carried : {config : Fields} (Ports : Type 0) (begin : Start) (opened : History) (phases : List (List Order)) (lines : List (List Line)) (start now : View) → Image now.disk now.disk.directory → SoFar config Ports begin opened phases lines start now
-    → IsCarried config (course Ports begin now.faults now.disk.moment) opened phases lines start.disk now.disk
-carried Ports begin opened phases lines start now itself so_far = record {
+pub so_far_more : (Ports : Type 0) (begin : Start) (from : Point) (h : History) (phases : List (List Order)) (lines : List (List Line)) (part : List Order) (more : List Line) (start now then : View) → now.faults ≤ then.faults
+    → (so_far : SoFar Ports begin from phases lines start now) → IsPhase Ports begin so_far.history h part more now then
+    → SoFar Ports begin from (phases ++ part ∷ []) (lines ++ more ∷ []) start then
+so_far_more Ports begin from h phases lines part more start now then le so_far phase =
+    let on = phase.goes.stands from so_far.on in
+    record {
+      history = h;
+      served = phases_more (course Ports begin then.faults then.disk.moment) from.history so_far.history h phases lines part more
+          (served_later Ports begin now.faults then.faults now.disk.moment then.disk.moment le phase.goes.calls.later from.history so_far.history phases lines so_far.served) phase.served;
+      goes = advances_then begin from.history so_far.history h start now then so_far.goes phase.goes;
+      on = on;
+      lasting = All-append (Stays begin from.history h then) lines (more ∷ [])
+          (All-weaker (Stays begin from.history so_far.history now) (Stays begin from.history h then) (λ ls is. stays_later begin from.history so_far.history h now then ls phase.goes.stands is) lines so_far.lasting)
+          (All-cons (Stays begin from.history h then) more [] (stays_now Ports begin from so_far.history h part more then on phase.served) (All-nil (Stays begin from.history h then)));
+    }
+
+pub carried : (Ports : Type 0) (begin : Start) (from : Point) (phases : List (List Order)) (lines : List (List Line)) (start now : View) → Image now.disk now.disk.directory → SoFar Ports begin from phases lines start now
+    → IsCarried (course Ports begin now.faults now.disk.moment) begin from phases lines start.disk now.disk
+carried Ports begin from phases lines start now itself so_far = record {
   history = so_far.history;
   served = so_far.served;
-  any_moment = so_far.goes.any_moment;
-  leaves = leaves begin opened so_far.history now so_far.stands itself;
-  config_is = has_config begin opened so_far.history now so_far.stands;
+  calls = so_far.goes.calls;
+  each = so_far.on.stands.images;
+  lasting = All-weaker (Stays begin from.history so_far.history now) (IsLasting begin.config from.history so_far.history now.disk) (λ ls is. stays_lasting begin from.history so_far.history now ls is) lines so_far.lasting;
+  leaves = leaves begin from so_far.history now so_far.on itself;
+  config_is = has_config begin from so_far.history now so_far.on;
+  pace = so_far.on.stands.pace;
 }

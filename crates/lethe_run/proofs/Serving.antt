@@ -4,24 +4,23 @@ use Rattle.std.specs.Prelude.{filter, filter_map, IsPermutation}
 use Rattle.std.proofs.lemmas.List.Sorted.{IsPermutation-refl}
 use Rattle.std.proofs.lemmas.List.{length-append, take-append-le}
 use Rattle.lethe_base.specs.declared.call.Call.{Call}
-use Rattle.lethe_base.specs.declared.config.Fields.{Fields}
 use Rattle.lethe_base.specs.History.{History, IsLegal, after}
 use Rattle.lethe_base.specs.Read.{Read, Answer, answer}
 use Rattle.lethe_base.specs.Read as answers
 use Rattle.lethe_base.proofs.Histories.{change_at-append}
 use Rattle.lethe_engine.specs.Reads.{listed}
-use Rattle.lethe_engine.specs.StandsFor.{IsKeptFor}
 use Rattle.lethe_engine.specs.declared.telling.Stat.{Stat}
 use Rattle.lethe_core.specs.View.{View}
-use Rattle.lethe_disk.proofs.Going.{goes_then, goes_weaker}
+use Rattle.lethe_stored.specs.Kept.{IsFor}
+use Rattle.lethe_stored.specs.Left.{without_failed}
 use Rattle.lethe_script.specs.declared.order.Order.{Order}
 use Rattle.lethe_script.specs.declared.order.Act.{Act}
 use Rattle.lethe_run.specs.declared.reply.Line.{Line}
 use Rattle.lethe_run.specs.declared.reply.Line.TheVariants as line
 use Rattle.lethe_run.specs.declared.reply.Reply.{Reply}
 use Rattle.lethe_run.specs.declared.reply.Reply.TheVariants.{Done, Got, Scanned, Counted, Fault, Stopped, Exhausted, ReadFault, Damaged}
-use Rattle.lethe_run.specs.Serving.{IsOn, GoesOn, IsAnswered, IsPhase}
-use Rattle.lethe_run.proofs.Images.{goes_still}
+use Rattle.lethe_run.specs.Serving.{Advances, IsOn, IsAnswered, IsPhase, Point}
+use Rattle.lethe_run.proofs.Images.{calls_then, still}
 use Rattle.lethe_run.proofs.Outcomes.{told_of}
 use Rattle.lethe_run.specs.Transcript.{Course, Start, Told, IsShort, course, call_of, read_of, IsDoneAt, IsAnswerAt, IsStatAt, IsFailedAt, IsFaultOf, Answers, Answered, place_of, places_behind, is_of, Sees, Follows, InTurn, IsServed, AreServed}
 
@@ -42,11 +41,20 @@ read_before : (h more : History) (point : ℕ) (given : Answer) (asked : Option 
 read_before h more point given None a = absurd a
 read_before h more point given (Some read) a = answer_before h more point read given a
 
-stat_before : (h more : History) (point : ℕ) (stat : Stat) → IsStatAt h point stat → IsStatAt (h ++ more) point stat
-stat_before h more point stat a = record {
-  within = omega (arith, a.within, length-append h more);
-  is = a.is ∙ ap (λ l. (after l).clock) (sym (take-append-le point h more a.within));
-}
+-- whatever else is known of the run
+stat_before : (h more : History) (one other : Course) (point : ℕ) (stat : Stat) → one.config ≡ other.config → IsStatAt (told_of h one) point stat → IsStatAt (told_of (h ++ more) other) point stat
+stat_before h more one other point stat same a =
+    let front = sym (take-append-le point h more a.within) in
+    record {
+      within = omega (arith, a.within, length-append h more);
+      clock = a.clock ∙ ap (λ l. (after l).clock) front;
+      pins = a.pins;
+      stored = a.stored;
+      config_is = a.config_is ∙ same;
+      coherent = a.coherent;
+      stands = subst (λ l. IsFor (without_failed l) a.stored) front a.stands;
+      shape = a.shape;
+    }
 
 -- numbers that ran out have run out when more device calls and changes were made
 short_later : (Ports : Type 0) (begin : Start) (f0 f1 m0 m1 n m : ℕ) → m0 ≤ m1 → n ≤ m → IsShort n (course Ports begin f0 m0) → IsShort m (course Ports begin f1 m1)
@@ -77,7 +85,7 @@ module _ (h more : History) (legal : IsLegal (h ++ more)) (Ports : Type 0) (begi
   answers_before caller act (Done place) a = done_before h more caller place (call_of act) a
   answers_before caller act (Got point held) a = read_before h more point (answers.Found held) (read_of act) a
   answers_before caller act (Scanned point pairs) a = read_before h more point (listed pairs) (read_of act) a
-  answers_before caller act (Counted point stat) a = (a.0, stat_before h more point stat a.1)
+  answers_before caller act (Counted point stat) a = (a.0, stat_before h more First Last point stat refl a.1)
   answers_before caller act (Fault place b a) f = fault_before caller place b a (call_of act) f
   answers_before caller act (Stopped at) a = (a.0, record { before = a.1.before; after = a.1.after; fails = failed_before at a.1.before a.1.after a.1.fails })
   answers_before caller act (Exhausted last) a = (
@@ -128,49 +136,47 @@ module _ (Ports : Type 0) (begin : Start) (f0 f1 m0 m1 : ℕ) (on : m0 ≤ m1) w
   in_turn_later n m [] t = t
   in_turn_later n m (line.Answer caller reply ∷ lines) t = (t.0, follows_later n t.0 reply t.1, in_turn_later t.0 m lines t.2)
 
+-- one after another
+pub advances_then : (begin : Start) (f g h : History) (old mid new : View) → Advances begin f g old mid → Advances begin g h mid new → Advances begin f h old new
+advances_then begin f g h old mid new first second = record { calls = calls_then old.disk mid.disk new.disk first.calls second.calls; stands = λ from on. second.stands from (first.stands from on) }
+
 -- the lines so far
-pub record IsBuilt (config : Fields) (Ports : Type 0) (begin : Start) (opened start : History) (orders : List Order) (lines : List Line) (h : History) (old now : View) : Type 0 where
+pub record IsBuilt (Ports : Type 0) (begin : Start) (start : History) (orders : List Order) (lines : List Line) (h : History) (old now : View) : Type 0 where
   pub begins : (added : History) × (h ≡ start ++ added)
   pub answered : Answered (told_of h (course Ports begin now.faults now.disk.moment)) orders lines
   pub alone : InTurn (course Ports begin now.faults now.disk.moment) (length start) lines (length h)
-  pub goes : GoesOn opened start h old.disk now.disk
-  pub stands : IsOn config begin opened h now
+  pub goes : Advances begin start h old now
 
-module _ {config : Fields} (Ports : Type 0) (begin : Start) (opened start h : History) (orders : List Order) (lines : List Line) (old now then : View) (le : now.faults ≤ then.faults)
-    (built : IsBuilt config Ports begin opened start orders lines h old now) where
+module _ (Ports : Type 0) (begin : Start) (from : Point) (start h : History) (orders : List Order) (lines : List Line) (old now then : View) (le : now.faults ≤ then.faults)
+    (on : IsOn begin from start old) (built : IsBuilt Ports begin start orders lines h old now) where
   abbrev Then : Course
   Then = course Ports begin then.faults then.disk.moment
 
-  pub built_more : (g : History) (order : Order) (reply : Reply) → IsAnswered config Ports begin opened h g order.caller order.act reply now then
-      → IsBuilt config Ports begin opened start (orders ++ order ∷ []) (lines ++ line.Answer order.caller reply ∷ []) g old then
+  pub built_more : (g : History) (order : Order) (reply : Reply) → IsAnswered Ports begin h g order.caller order.act reply now then
+      → IsBuilt Ports begin start (orders ++ order ∷ []) (lines ++ line.Answer order.caller reply ∷ []) g old then
   built_more g order reply is =
       let more = is.grows.0 in
       let whole = is.grows.1 in
-      let legal = is.stands.stands.now.legal in
-      let on = is.goes.any_moment.later in
+      let legal = (is.goes.stands from (built.goes.stands from on)).stands.now.legal in
+      let on = is.goes.calls.later in
       record {
         begins = (built.begins.0 ++ more, whole ∙ ap (λ l. l ++ more) built.begins.1 ∙ append_assoc start built.begins.0 more);
         answered = answered_more (told_of g Then) orders lines order reply
             (subst (λ x. Answered (told_of x Then) orders lines) (sym whole) (answered_before h more (subst IsLegal whole legal) Ports begin now.faults then.faults now.disk.moment then.disk.moment le on orders lines built.answered)) is.answers;
         alone = in_turn_more Then (length start) lines (length h) (length g) order.caller reply (in_turn_later Ports begin now.faults then.faults now.disk.moment then.disk.moment on (length start) (length h) lines built.alone) is.follows;
-        goes = record {
-          kept = λ k cut. is.goes.kept k (built.goes.kept k cut);
-          any_moment = goes_then (IsKeptFor opened g) old.disk now.disk then.disk
-              (goes_weaker (IsKeptFor opened h) (IsKeptFor opened g) old.disk now.disk (λ d kept. (kept.0, is.goes.kept kept.0 kept.1, kept.2)) built.goes.any_moment) is.goes.any_moment;
-        };
-        stands = is.stands;
+        goes = advances_then begin start h g old now then built.goes is.goes;
       }
 
   -- the same when nothing was answered
-  pub built_still : GoesOn opened h h now.disk then.disk → IsOn config begin opened h then → IsBuilt config Ports begin opened start orders lines h old then
-  built_still goes stands =
-      let on = goes.any_moment.later in
+  pub built_still : Advances begin h h now then → IsBuilt Ports begin start orders lines h old then
+  built_still goes =
+      let legal = (built.goes.stands from on).stands.now.legal in
+      let on = goes.calls.later in
       record {
         begins = built.begins;
-        answered = subst (λ x. Answered (told_of x Then) orders lines) (append-nil h) (answered_before h [] (subst IsLegal (sym (append-nil h)) stands.stands.now.legal) Ports begin now.faults then.faults now.disk.moment then.disk.moment le on orders lines built.answered);
+        answered = subst (λ x. Answered (told_of x Then) orders lines) (append-nil h) (answered_before h [] (subst IsLegal (sym (append-nil h)) legal) Ports begin now.faults then.faults now.disk.moment then.disk.moment le on orders lines built.answered);
         alone = in_turn_later Ports begin now.faults then.faults now.disk.moment then.disk.moment on (length start) (length h) lines built.alone;
-        goes = record { kept = built.goes.kept; any_moment = goes_then (IsKeptFor opened h) old.disk now.disk then.disk built.goes.any_moment goes.any_moment };
-        stands = stands;
+        goes = advances_then begin start h h old now then built.goes goes;
       }
 
 -- ---- what follows from lines in turn
@@ -243,23 +249,22 @@ module _ (c : Course) where
       place_next n t.0 m caller reply lines t.1 (in_turn_up t.0 m lines t.2) (places_in_turn t.0 m lines t.2)
 
 -- the lines of a whole phase
-pub phase_of : {config : Fields} (Ports : Type 0) (begin : Start) (opened start h : History) (orders : List Order) (lines : List Line) (old now : View) → IsBuilt config Ports begin opened start orders lines h old now
-    → IsPhase config Ports begin opened start h orders lines old now
-phase_of Ports begin opened start h orders lines old now built = record {
+pub phase_of : (Ports : Type 0) (begin : Start) (from : Point) (start h : History) (orders : List Order) (lines : List Line) (old now : View) → IsOn begin from start old → IsBuilt Ports begin start orders lines h old now
+    → IsPhase Ports begin start h orders lines old now
+phase_of Ports begin from start h orders lines old now on built = record {
   served = record {
     begins = built.begins;
-    legal = built.stands.stands.now.legal;
+    legal = (built.goes.stands from on).stands.now.legal;
     answered = built.answered;
     once = subst (λ l. IsPermutation (places_behind (length start) (length h - length start)) l) (sym (places_in_turn (course Ports begin now.faults now.disk.moment) (length start) (length h) lines built.alone)) (IsPermutation-refl (places_behind (length start) (length h - length start)));
     seen = λ caller. sees_in_turn (course Ports begin now.faults now.disk.moment) (is_of caller) (length start) (length start) (length h) lines (omega arith) built.alone;
     alone = built.alone;
   };
   goes = built.goes;
-  stands = built.stands;
 }
 
-pub built_start : {config : Fields} (Ports : Type 0) (begin : Start) (opened start : History) (view : View) → IsOn config begin opened start view → IsBuilt config Ports begin opened start [] [] start view view
-built_start Ports begin opened start view on = record { begins = ([], sym (append-nil start)); answered = tt; alone = refl; goes = goes_still begin opened start view on; stands = on }
+pub built_start : (Ports : Type 0) (begin : Start) (start : History) (view : View) → IsBuilt Ports begin start [] [] start view view
+built_start Ports begin start view = record { begins = ([], sym (append-nil start)); answered = tt; alone = refl; goes = still begin start view }
 
 -- the same when the counts have risen
 

@@ -7,7 +7,6 @@ use Rattle.lethe_base.specs.History.{History, Change, change_at, AreDone}
 use Rattle.lethe_base.specs.Limits.{max_place}
 use Rattle.lethe_build.specs.Built.{most_numbers}
 use Rattle.lethe_base.specs.declared.call.Call.{Call}
-use Rattle.lethe_base.specs.declared.config.Fields.{Fields}
 use Rattle.lethe_base.specs.declared.call.Did.TheVariants.{Done, Failed}
 use Rattle.lethe_base.specs.declared.refused.Refused.{Refused}
 use Rattle.lethe_base.specs.declared.refused.Refused.TheVariants as refused
@@ -21,17 +20,16 @@ use Rattle.lethe_core.specs.Reasons.{HasReason, IsShortOfRoom, IsUnreadable}
 use Rattle.lethe_core.specs.StandsNow.{IsOpenOrStopped, StandsNow}
 use Rattle.lethe_core.specs.View.{View}
 use Rattle.lethe_engine.specs.Refusals.{HasReasonOfChange}
-use Rattle.lethe_engine.specs.StandsFor.{IsKeptFor, StandsFor}
-use Rattle.lethe_engine.proofs.Prefixes.{prefix_longer}
+use Rattle.lethe_engine.specs.StandsFor.{Opened, StandsFor}
 use Rattle.lethe_disk.specs.Goes.{Goes}
 use Rattle.lethe_stored.specs.Left.{IsKeptOr}
 use Rattle.lethe_script.specs.declared.order.Act.{Act}
 use Rattle.lethe_run.specs.declared.reply.Reply.{Reply}
 use Rattle.lethe_run.specs.declared.reply.Reply.TheVariants as reply
 use Rattle.lethe_run.specs.Replies.{refusal_of, reply_of}
-use Rattle.lethe_run.specs.Serving.{IsOn, GoesOn, IsAnswered, opened_in}
+use Rattle.lethe_run.specs.Serving.{Advances, IsOn, IsAnswered, Point, opened_in}
 use Rattle.lethe_run.specs.Transcript.{Course, Start, course, IsFailedAt, IsFaultOf, WasStopped, Answers, Follows, call_of}
-use Rattle.lethe_run.proofs.Images.{stopped_by}
+use Rattle.lethe_run.proofs.Images.{calls_of, stopped_by}
 use Rattle.lethe_run.proofs.Shorts.{short_of}
 use Rattle.lethe_run.proofs.Outcomes.{Outcome, told_of}
 
@@ -49,38 +47,38 @@ longer h change = omega (arith, length-append h (change ∷ []))
 asked : (act : Act) (call : Call) → call_of act ≡ Some call → IsSome (call_of act)
 asked act call is = subst IsSome (sym is) refl
 
-module _ {config : Fields} (Tells Ports : Type 0) (told : Tells) (begin : Start) (opened h : History) (caller : ℕ) (act : Act) (call : Call) (is : call_of act ≡ Some call) (old new : View)
-    (on : IsOn config begin opened h old) (later : old.faults ≤ new.faults) (small : frozen_len old.state.frozen ≤ 16384)
-    (merges : StandsNow config h new → new.state.stopped ≡ None → IsShortToMerge Tells new → max_place ≤ new.state.next + most_numbers (length h)) where
+module _ (Tells Ports : Type 0) (told : Tells) (begin : Start) (from : Point) (h : History) (caller : ℕ) (act : Act) (call : Call) (is : call_of act ≡ Some call) (old new : View)
+    (on : IsOn begin from h old) (later : old.faults ≤ new.faults) (small : frozen_len old.state.frozen ≤ 16384)
+    (merges : StandsNow begin.config h new → new.state.stopped ≡ None → IsShortToMerge Tells new → max_place ≤ new.state.next + most_numbers (length h)) where
   abbrev Now : Course
   Now = course Ports begin new.faults new.disk.moment
 
   abbrev Still : Type 0
-  Still = GoesOn opened h h old.disk new.disk × IsOn config begin opened h new
+  Still = Advances begin h h old new
 
-  -- the store stands for g since the same opening
+  -- the store stands for g since the same opening, whatever that was
   abbrev Stands : History → Type 0
-  Stands g = StandsFor config (opened_in begin opened on.moment on.counted) g new
+  Stands g = (opened : Opened) → StandsFor begin.config opened h old → StandsFor begin.config opened g new
 
-  on_for : (g : History) → Stands g → IsOn config begin opened g new
-  on_for g stands = record { done = on.done; moment = on.moment; counted = on.counted; stands = stands; faults_since = on.faults_since; moment_since = on.moment_since }
-
-  kept_for : (P : Directory → Type 0) (g : History) → Stands g → Goes P old.disk new.disk → Goes (IsKeptFor opened g) old.disk new.disk
-  kept_for P g stands run = record { later = run.later; past = run.past; each = λ m c low high left. let since = on.stands.later in stands.images m c (omega (arith, since, low)) high left }
+  advances : (P : Directory → Type 0) (g : History) → Stands g → Goes P old.disk new.disk → Advances begin h g old new
+  advances P g stands run = record {
+    calls = calls_of P old.disk new.disk run;
+    stands = λ point on. record {
+      done = on.done;
+      counted = on.counted;
+      stands = stands (opened_in begin point on.counted) on.stands;
+      faults_since = on.faults_since;
+      moment_since = on.moment_since;
+    };
+  }
 
   -- it wasn't begun
-  not_made : (r : Reply) → Still → Answers (told_of h Now) caller act r → Follows Now (length h) r (length h) → (g : History) × IsAnswered config Ports begin opened h g caller act r old new
-  not_made r still what follows = (h, record { grows = ([], sym (append-nil h)); answers = what; follows = follows; goes = still.0; stands = still.1 })
+  not_made : (r : Reply) → Still → Answers (told_of h Now) caller act r → Follows Now (length h) r (length h) → (g : History) × IsAnswered Ports begin h g caller act r old new
+  not_made r still what follows = (h, record { grows = ([], sym (append-nil h)); answers = what; follows = follows; goes = still })
 
   module _ (done : AreDone h) where
-    grown : (change : Change) → Stands (h ++ change ∷ []) → Goes (IsKeptOr h (Some (done_by caller call))) old.disk new.disk → GoesOn opened h (h ++ change ∷ []) old.disk new.disk
-    grown change stands run = record {
-      kept = prefix_longer opened h (change ∷ []) on.stands.now.legal done;
-      any_moment = kept_for (IsKeptOr h (Some (done_by caller call))) (h ++ change ∷ []) stands run;
-    }
-
-    made : (place : ℕ) → place ≡ old.state.count + 1 → Stands (with_done h caller call) → Goes (IsKeptOr h (Some (done_by caller call))) old.disk new.disk
-        → (g : History) × IsAnswered config Ports begin opened h g caller act (reply.Done place) old new
+    made : (place : ℕ) → place ≡ old.state.count + 1 → Stands (with_done h caller call) → Goes (IsKeptOr begin.config h (Some (done_by caller call))) old.disk new.disk
+        → (g : History) × IsAnswered Ports begin h g caller act (reply.Done place) old new
     made place place_is stands run =
         let change = done_by caller call in
         let g : History = with_done h caller call in
@@ -90,13 +88,12 @@ module _ {config : Fields} (Tells Ports : Type 0) (told : Tells) (begin : Start)
             grows = (change ∷ [], refl);
             answers = subst (λ asks. IsSomeAnd asks (λ c. change_at g place ≡ Some (record { caller = caller; call = c; did = Done }))) (sym is) (ap (change_at g) at ∙ change_at-push h change);
             follows = (at, longer h change);
-            goes = grown change stands run;
-            stands = on_for g stands;
+            goes = advances (IsKeptOr begin.config h (Some (done_by caller call))) g stands run;
           },
         )
 
-    failed : (place b a : ℕ) → place ≡ old.state.count + 1 → b ≡ old.faults → a ≡ new.faults → Rose old.faults new.faults → Stands (with_failed h caller call b a) → Goes (IsKeptOr h (Some (done_by caller call))) old.disk new.disk
-        → (g : History) × IsAnswered config Ports begin opened h g caller act (reply.Fault place b a) old new
+    failed : (place b a : ℕ) → place ≡ old.state.count + 1 → b ≡ old.faults → a ≡ new.faults → Rose old.faults new.faults → Stands (with_failed h caller call b a) → Goes (IsKeptOr begin.config h (Some (done_by caller call))) old.disk new.disk
+        → (g : History) × IsAnswered Ports begin h g caller act (reply.Fault place b a) old new
     failed place b a place_is b_is a_is rose stands run =
         let change : Change = record { caller = caller; call = call; did = Failed b a } in
         let g : History = with_failed h caller call b a in
@@ -106,7 +103,7 @@ module _ {config : Fields} (Tells Ports : Type 0) (told : Tells) (begin : Start)
           is = ap (change_at g) at ∙ change_at-push h change;
           failed = refl;
           rose = subst (λ n. Rose n a) (sym b_is) (subst (Rose old.faults) (sym a_is) rose);
-          from = let from = on.faults_since in let since = on.stands.since in omega (arith, from, since, b_is);
+          from = let low = on.faults_since in let since = on.stands.since in omega (arith, low, since, b_is);
           upto = omega (arith, a_is);
         } in (
           g,
@@ -114,22 +111,21 @@ module _ {config : Fields} (Tells Ports : Type 0) (told : Tells) (begin : Start)
             grows = (change ∷ [], refl);
             answers = subst (λ asks. IsSomeAnd asks (IsFaultOf (told_of g Now) caller place b a)) (sym is) (record { fails = fails; who = refl; what = refl });
             follows = (at, longer h change);
-            goes = grown change stands run;
-            stands = on_for g stands;
+            goes = advances (IsKeptOr begin.config h (Some (done_by caller call))) g stands run;
           },
         )
 
     -- what was done for it stands for the same history
-    unmade : Stands h → Goes (IsKeptOr h None) old.disk new.disk → Still
-    unmade stands run = (record { kept = λ k of. of; any_moment = kept_for (IsKeptOr h None) h stands run }, on_for h stands)
+    unmade : Stands h → Goes (IsKeptOr begin.config h None) old.disk new.disk → Still
+    unmade stands run = advances (IsKeptOr begin.config h None) h stands run
 
-    exhausted : (last : ℕ) → Stands h → Goes (IsKeptOr h None) old.disk new.disk → last ≡ max_place → (old.state.count ≡ max_place) ⊎ IsShortOfRoom Tells old.state new
-        → (g : History) × IsAnswered config Ports begin opened h g caller act (reply.Exhausted last) old new
+    exhausted : (last : ℕ) → Stands h → Goes (IsKeptOr begin.config h None) old.disk new.disk → last ≡ max_place → (old.state.count ≡ max_place) ⊎ IsShortOfRoom Tells old.state new
+        → (g : History) × IsAnswered Ports begin h g caller act (reply.Exhausted last) old new
     exhausted last stands run last_is (inl full) =
         let all : length h ≡ max_place = sym on.stands.now.count ∙ full in
         not_made (reply.Exhausted last) (unmade stands run) (asked act call is, (last_is, inl all)) (inl (all ∙ sym last_is), refl)
     exhausted last stands run last_is (inr few) =
-        let short = short_of Tells Ports begin opened h old new on small merges run.later done stands few in
+        let short = short_of Tells Ports begin from h old new on small merges run.later done (stands (opened_in begin from on.counted) on.stands) few in
         not_made (reply.Exhausted last) (unmade stands run) (asked act call is, (last_is, inr short)) (inr short, refl)
 
   none_some : (at : ℕ) → old.state.stopped ≡ None → old.state.stopped ≡ Some at → ⊥
@@ -137,8 +133,8 @@ module _ {config : Fields} (Tells Ports : Type 0) (told : Tells) (begin : Start)
 
   module _ (done : AreDone h) (runs : old.state.stopped ≡ None) where
     -- it was refused, and not for reading a file
-    hindered : (why : Refused) → HasReason (IsShortOfRoom Tells old.state new) old.state old.faults new.faults why → Stands (refused_to h caller call why) → Goes (IsKeptOr h (tried_by caller call why)) old.disk new.disk
-        → Outcome config Ports begin opened h caller act (refusal_of why) old new
+    hindered : (why : Refused) → HasReason (IsShortOfRoom Tells old.state new) old.state old.faults new.faults why → Stands (refused_to h caller call why) → Goes (IsKeptOr begin.config h (tried_by caller call why)) old.disk new.disk
+        → Outcome Ports begin h caller act (refusal_of why) old new
     hindered (refused.Fault place b a) reason stands run = failed done place b a reason.1 reason.2 reason.3 reason.4 stands run
     hindered (refused.Stopped at) reason stands run = absurd (none_some at runs reason)
     hindered (refused.Exhausted last) reason stands run = exhausted done last stands run reason.1 reason.2
@@ -151,8 +147,8 @@ module _ {config : Fields} (Tells Ports : Type 0) (told : Tells) (begin : Start)
     hindered (refused.Damaged name) reason stands run = absurd reason
 
     -- it was refused for that
-    unreadable : (before now : ℕ) (why : Refused) → IsUnreadable Tells Ports before now why → Stands (refused_to h caller call why) → Goes (IsKeptOr h (tried_by caller call why)) old.disk new.disk
-        → Outcome config Ports begin opened h caller act (refusal_of why) old new
+    unreadable : (before now : ℕ) (why : Refused) → IsUnreadable Tells Ports before now why → Stands (refused_to h caller call why) → Goes (IsKeptOr begin.config h (tried_by caller call why)) old.disk new.disk
+        → Outcome Ports begin h caller act (refusal_of why) old new
     unreadable before now (refused.ReadFault b a) reason stands run = not_made reply.ReadFault (unmade done stands run) (inr (asked act call is), reason.0) refl
     unreadable before now (refused.Damaged name) reason stands run = absurd (reason told)
     unreadable before now (refused.Fault place b a) reason stands run = absurd reason
@@ -165,21 +161,21 @@ module _ {config : Fields} (Tells Ports : Type 0) (told : Tells) (begin : Start)
     unreadable before now (refused.Cancelled begun other) reason stands run = absurd reason
 
     open_made : (before now : ℕ) (result : Result ℕ Refused) → Stands (answered_to h caller call result) → ((place : ℕ) → result ≡ Ok place → place ≡ old.state.count + 1)
-        → ((why : Refused) → result ≡ Err why → HasReasonOfChange Tells Ports old new before now why) → Goes (IsKeptOr h (written_by caller call result)) old.disk new.disk
-        → Outcome config Ports begin opened h caller act (reply_of result) old new
+        → ((why : Refused) → result ≡ Err why → HasReasonOfChange Tells Ports old new before now why) → Goes (IsKeptOr begin.config h (written_by caller call result)) old.disk new.disk
+        → Outcome Ports begin h caller act (reply_of result) old new
     open_made before now (Ok place) stands place_is why run = made done place (place_is place refl) stands run
     open_made before now (Err e) stands place_is why run = elim (why e refl) [ inl reason ↦ hindered e reason stands run | inr reason ↦ unreadable before now e reason.1 stands run ]
 
   -- a change over a store that takes changes, or over one that was stopped
   pub changes : (before now : ℕ) (result : Result ℕ Refused) → Stands (answered_to h caller call result) → ((place : ℕ) → result ≡ Ok place → place ≡ old.state.count + 1)
-      → ((why : Refused) → result ≡ Err why → HasReasonOfChange Tells Ports old new before now why) → (old.state.stopped ≡ None → Goes (IsKeptOr h (written_by caller call result)) old.disk new.disk)
-      → ((at : ℕ) → old.state.stopped ≡ Some at → (result ≡ Err (refused.Stopped at)) × Still) → Outcome config Ports begin opened h caller act (reply_of result) old new
+      → ((why : Refused) → result ≡ Err why → HasReasonOfChange Tells Ports old new before now why) → (old.state.stopped ≡ None → Goes (IsKeptOr begin.config h (written_by caller call result)) old.disk new.disk)
+      → ((at : ℕ) → old.state.stopped ≡ Some at → (result ≡ Err (refused.Stopped at)) × Still) → Outcome Ports begin h caller act (reply_of result) old new
   changes before now result stands place_is why run stop = by old.state.stopped refl
     where
-      by : (stopped : Option ℕ) → old.state.stopped ≡ stopped → Outcome config Ports begin opened h caller act (reply_of result) old new
-      by None runs = let held = subst (IsOpenOrStopped old h on.stands.now.stored) runs on.stands.now.held in open_made held.0 runs before now result stands place_is why (run runs)
+      by : (stopped : Option ℕ) → old.state.stopped ≡ stopped → Outcome Ports begin h caller act (reply_of result) old new
+      by None runs = let held = subst (IsOpenOrStopped begin.config old h on.stands.now.stored) runs on.stands.now.held in open_made held.0 runs before now result stands place_is why (run runs)
       by (Some at) stopped =
           let answer = stop at stopped in
-          let held = subst (IsOpenOrStopped old h on.stands.now.stored) stopped on.stands.now.held in
-          subst (λ r. Outcome config Ports begin opened h caller act (reply_of r) old new) (sym answer.0)
-          (not_made (reply.Stopped at) answer.1 (asked act call is, stopped_later Ports begin h old.faults old.disk.moment new.faults new.disk.moment at later (stopped_by begin opened h old on Ports at stopped)) (held.place, refl))
+          let held = subst (IsOpenOrStopped begin.config old h on.stands.now.stored) stopped on.stands.now.held in
+          subst (λ r. Outcome Ports begin h caller act (reply_of r) old new) (sym answer.0)
+          (not_made (reply.Stopped at) answer.1 (asked act call is, stopped_later Ports begin h old.faults old.disk.moment new.faults new.disk.moment at later (stopped_by begin from h old on Ports at stopped)) (held.place, refl))

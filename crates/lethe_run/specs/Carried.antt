@@ -1,18 +1,19 @@
 -- What a script that was carried out leaves on the disk.
-use Rattle.std.specs.Prelude.{◌≡◌, ◌⊎◌, not, List, filter, slice_get, Option, None}
-use Rattle.lethe_base.specs.History.{History, Change}
+use Rattle.std.specs.Prelude.{◌≡◌, ◌≤◌, ◌↔◌, ℕ, not, List, filter, filter_map, slice_get, All, Option, Some, None}
+use Rattle.lethe_base.specs.History.{History, Change, change_at}
 use Rattle.lethe_base.specs.declared.config.Fields.{Fields}
 use Rattle.lethe_disk.specs.Directory.{Directory}
 use Rattle.lethe_disk.specs.Disk.{Seen}
-use Rattle.lethe_disk.specs.Goes.{Goes}
 use Rattle.lethe_stored.specs.Kept.{IsKept}
 use Rattle.lethe_stored.specs.Left.{IsLeft, IsHistoryOr, is_done, without_failed}
+use Rattle.lethe_stored.specs.Numbers.{KeepsPace}
 use Rattle.lethe_manifest.specs.declared.manifest.Manifest.{Manifest}
 use Rattle.lethe_load.specs.Damaged.{IsGated}
-use Rattle.lethe_engine.specs.StandsFor.{IsPrefixFrom}
+use Rattle.lethe_recover.specs.Opening.{IsKeptInOpening}
+use Rattle.lethe_engine.specs.StandsFor.{IsKeptFor, IsPrefixFrom}
 use Rattle.lethe_script.specs.declared.order.Order.{Order}
 use Rattle.lethe_run.specs.declared.reply.Line.{Line}
-use Rattle.lethe_run.specs.Transcript.{Course, AreServed}
+use Rattle.lethe_run.specs.Transcript.{Course, AreServed, ok_place}
 
 -- the change that failed, if one did
 abbrev pub failed_in : History → Option Change
@@ -24,18 +25,38 @@ pub record HasConfig (config : Fields) (d : Directory) : Type 0 where
   pub gated : IsGated d manifest
   pub is : manifest.config ≡ config
 
--- kept for what the disk was left for, or for a prefix of what a crash may make of h that is not shorter than the opened history
-abbrev pub IsKeptMeanwhile : History → Option Change → History → History → Directory → Type 0
-IsKeptMeanwhile left change opened h d = (g : History) × (IsHistoryOr left change g ⊎ IsPrefixFrom opened h g) × IsKept d g
+-- Of all that a crash may leave, P holds up to the moment and Q from it on. What a crash before the start may leave is neither more nor less.
+pub record GoesThen (P Q : Directory → Type 0) (moment : ℕ) (start finish : Seen) : Type 0 where
+  pub from : start.moment ≤ moment
+  pub upto : moment ≤ finish.moment
+  pub past : (m : ℕ) (c : Directory) → m ≤ start.moment → (finish.left m c ↔ start.left m c)
+  pub first : (m : ℕ) (c : Directory) → start.moment ≤ m → m ≤ moment → finish.left m c → P c
+  pub then : (m : ℕ) (c : Directory) → moment ≤ m → m ≤ finish.moment → finish.left m c → Q c
 
--- On a disk that was left for a history and a change, the lines answer the phases. The history that was opened is the first, or that with
--- the change carried out; a crash at any moment leaves a disk that is kept for a history between that and the last; and at the end the
--- disk is left for the last one, and unless a change failed it is of the configuration.
-pub record IsCarriedOut (config : Fields) (course : Course) (start finish : Seen) (left : History) (change : Option Change) (phases : List (List Order)) (lines : List (List Line)) : Type 0 where
+-- the changes that the lines answer with `ok` stand in g at their places, as in h
+abbrev pub HasDone : History → List Line → History → Type 0
+HasDone h lines g = All (λ place. change_at g place ≡ change_at h place) (filter_map ok_place lines)
+
+-- From a moment on, which isn't behind the end, each crash leaves what is kept for a history with all changes that these lines answer with `ok`.
+pub record IsLasting (config : Fields) (opened h : History) (finish : Seen) (lines : List Line) : Type 0 where
+  pub since : ℕ
+  pub upto : since ≤ finish.moment
+  pub each : (m : ℕ) (c : Directory) → since ≤ m → m ≤ finish.moment → finish.left m c → (g : History) × IsPrefixFrom opened h g × HasDone h lines g × IsKept config c g
+
+-- On a disk that was left for a history and a change in one configuration, the lines answer the phases over a store of another, which may be the same. The history
+-- that was opened is the first, or that with the change carried out, whichever the directory is kept for. Up to the moment at which the store was opened a crash
+-- leaves what the disk was left for, or a new store where there was no gate, and from it on what is kept for a prefix of what a crash may make of the last history that
+-- is not shorter than the opened one. At the end the disk is left for the last history, and unless a change failed it is of the configuration.
+pub record IsCarriedOut (config : Fields) (course : Course) (start finish : Seen) (kept : Fields) (left : History) (change : Option Change) (phases : List (List Order)) (lines : List (List Line)) : Type 0 where
   pub opened : History
   pub either : IsHistoryOr left change opened
+  pub was : IsKept config start.directory opened
   pub history : History
   pub served : AreServed course opened phases lines history
-  pub any_moment : Goes (IsKeptMeanwhile left change opened history) start finish
-  pub leaves : IsLeft finish (without_failed history) (failed_in history)
+  pub moment : ℕ
+  pub any_moment : GoesThen (IsKeptInOpening kept config left change start.directory) (IsKeptFor config opened history) moment start finish
+  -- what was printed is never lost by a later crash
+  pub lasting : All (IsLasting config opened history finish) lines
+  pub leaves : IsLeft config finish (without_failed history) (failed_in history)
   pub config_is : failed_in history ≡ None → HasConfig config finish.directory
+  pub pace : (first : ℕ) → KeepsPace first start.moment start.moment start → KeepsPace first start.moment start.moment finish

@@ -13,10 +13,11 @@ use Rattle.lethe_disk.specs.Disk.{Seen}
 use Rattle.lethe_engine.specs.Opening.{IsUntold}
 use Rattle.lethe_build.specs.Drafts.{numbers_for}
 use Rattle.lethe_disk.specs.Goes.{Goes}
-use Rattle.lethe_stored.specs.Left.{IsLeft, IsKeptOr}
+use Rattle.lethe_stored.specs.Left.{IsLeft}
+use Rattle.lethe_stored.specs.Numbers.{IsNextNumber, KeepsPace}
 use Rattle.lethe_load.specs.Refused.{HasReason, HasOtherConfig}
 use Rattle.lethe_load.specs.declared.refused.RecoverRefused.{RecoverRefused}
-use Rattle.lethe_recover.specs.Opening.{MayNotOpen, IsExhausted, IsNextNumber}
+use Rattle.lethe_recover.specs.Opening.{MayNotOpen, IsCut, IsExhausted, IsKeptInOpening, since_start}
 use Rattle.lethe_disk.specs.Quiet.{IsQuiet}
 use Rattle.lethe_recover.specs.declared.opening.OpenWhy.{OpenWhy}
 use Rattle.lethe_recover.specs.declared.opening.OpenWhy.TheVariants as open_why
@@ -47,6 +48,10 @@ pub record Run : Type 1 where
   -- the disk is handed back as it came
   pub Unused : Type 0
 
+-- the disk wasn't used: it is handed back as it came, and what each crash leaves is as it was
+abbrev pub IsUnused : Run → Type 0
+IsUnused run = run.Unused × IsQuiet run.start run.finish
+
 -- the words ask for this configuration
 abbrev pub Asks : Run → Fields → Type 0
 Asks run config = config_of run.words ≡ Some config
@@ -58,21 +63,25 @@ IsCommand run = IsSome (config_of run.words)
 abbrev pub IsNoCommand : Run → Type 0
 IsNoCommand run = config_of run.words ≡ None
 
--- for each history and change that the disk was left for, where it tells what it holds
-abbrev pub OnLeft : Run → (History → Option Change → Type 0) → Type 0
-OnLeft run P = run.Tells → (left : History) (change : Option Change) → IsLeft run.start left change → P left change
+-- for each configuration, history and change that the disk was left for, where it tells what it holds
+abbrev pub OnLeft : Run → (Fields → History → Option Change → Type 0) → Type 0
+OnLeft run P = run.Tells → (kept : Fields) (left : History) (change : Option Change) → IsLeft kept run.start left change → P kept left change
 
--- the source's bytes are a script, of which this holds
+-- there are phases of which this holds, and the source's bytes are the script of them, where it tells its bytes
 abbrev pub OnScript : Run → (List (List Order) → Type 0) → Type 0
-OnScript run P = IfSome run.source (λ bytes. (phases : List (List Order)) × (script_of bytes ≡ Ok phases) × P phases)
+OnScript run P = (phases : List (List Order)) × IfSome run.source (λ bytes. script_of bytes ≡ Ok phases) × P phases
 
--- what is known of the run's disk, on which this number was the next
-abbrev pub course_of : Run → ℕ → Course
-course_of run next = course run.PortsFail (record { faults = run.faults_before; next = next; moment = run.start.moment }) run.faults run.finish.moment
+-- what is known of a store of the configuration on the run's disk, on which this number was the next
+abbrev pub course_of : Run → Fields → ℕ → Course
+course_of run config next = course run.PortsFail (record { config = config; faults = run.faults_before; next = next; moment = run.start.moment }) run.faults run.finish.moment
 
 -- the lines answer these phases over a store of the configuration, and the disk is left so
 abbrev pub Carries : Run → Fields → List (List Order) → List (List Line) → Type 0
-Carries run config phases lines = OnLeft run (λ left change. (next : ℕ) → IsNextNumber run.start.directory next → IsCarriedOut config (course_of run next) run.start run.finish left change phases lines)
+Carries run config phases lines = OnLeft run (λ kept left change. (next : ℕ) → IsNextNumber run.start.directory next → IsCarriedOut config (course_of run config next) run.start run.finish kept left change phases lines)
+
+-- the directory shows no damage and no other configuration
+abbrev pub IsSoundFor : Run → Fields → Type 0
+IsSoundFor run config = run.Tells → (why : RecoverRefused) → HasReason config run.start.directory why → ⊥
 
 -- every line of the script was answered, and whether one tells of a change that failed or wasn't made, or of a read that wasn't answered
 pub record Answered (run : Run) (config : Fields) (refused : Bool) : Type 0 where
@@ -80,14 +89,14 @@ pub record Answered (run : Run) (config : Fields) (refused : Bool) : Type 0 wher
   pub script : OnScript run (λ phases. Carries run config phases lines)
   pub written : Appends run.taken_before run.taken (text_of lines)
   pub is : has_refusal lines ≡ refused
-  -- the directory shows nothing against it
-  pub sound : run.Tells → (why : RecoverRefused) → HasReason config run.start.directory why → ⊥
+  pub sound : IsSoundFor run config
 
 -- the script was carried out up to a phase, in which the sink failed
 pub record StoppedBehind (run : Run) (config : Fields) (text : Bytes) : Type 0 where
   pub lines : List (List Line)
   pub script : OnScript run (λ phases. (count : ℕ) × Carries run config (take count phases) lines)
   pub is : text ≡ text_of lines
+  pub sound : IsSoundFor run config
 
 -- whole phases, and of the next one the first orders
 pub record IsFront (phases front : List (List Order)) : Type 0 where
@@ -104,17 +113,19 @@ IsBegun phases front = (front ≡ []) ⊎ IsFront phases front
 -- the script was carried out up to an order for which there was no memory, or none of it was
 pub record StoppedInside (run : Run) (config : Fields) : Type 0 where
   pub lines : List (List Line)
-  pub script : OnScript run (λ phases. OnLeft run (λ left change. (next : ℕ) → IsNextNumber run.start.directory next → (front : List (List Order)) × IsBegun phases front
-      × IsCarriedOut config (course_of run next) run.start run.finish left change front lines))
+  pub script : OnScript run (λ phases. OnLeft run (λ kept left change. (next : ℕ) → IsNextNumber run.start.directory next → (front : List (List Order)) × IsBegun phases front
+      × IsCarriedOut config (course_of run config next) run.start run.finish kept left change front lines))
   pub written : AppendsFront run.taken_before run.taken (text_of lines)
+  pub sound : IsSoundFor run config
 
 -- the bytes are no script, and this is their first bad line
 abbrev pub IsNoScript : Run → BadLine → Type 0
-IsNoScript run bad = IfSome run.source (λ bytes. script_of bytes ≡ Err bad) × run.Unused
+IsNoScript run bad = IfSome run.source (λ bytes. script_of bytes ≡ Err bad) × IsUnused run
 
 -- The store wasn't opened, and this is why. The directory shows damage and another configuration, and then nothing was touched; numbers
 -- run out where the manifest's next number, those of the files of the journal's records, and two more reach past the last one, and the device
--- was called by then; and whatever came, each crash leaves what the disk was left for.
+-- was called by then; and whatever came, each crash leaves what the disk was left for, or a new store where there was no gate. Where the directory shows damage or
+-- another configuration, that is why, but for a fault and want of memory.
 pub record IsNotOpened (run : Run) (config : Fields) (why : OpenWhy) : Type 0 where
   pub script : OnScript run (λ phases. Unit {0})
   pub reason : MayNotOpen run.Tells config run.start.directory run.faults_before run.faults why
@@ -122,7 +133,10 @@ pub record IsNotOpened (run : Run) (config : Fields) (why : OpenWhy) : Type 0 wh
   pub drawn : run.Tells → (last : ℕ) → why ≡ open_why.Exhausted last
       → (full : IsExhausted run.start.directory)
       × (last < full.s.manifest.next + (sum_by numbers_for full.short.older_drafts + sum_by numbers_for full.short.newer_drafts) + 2) × (run.start.moment < run.finish.moment)
-  pub any_moment : OnLeft run (λ left change. Goes (IsKeptOr left change) run.start run.finish)
+  pub exact : run.Tells → (shown : RecoverRefused) → HasReason config run.start.directory shown → (why ≡ since_start run.faults_before shown) ⊎ IsCut ⊥ run.faults_before run.faults why
+  pub quiet : run.Tells → (shown : RecoverRefused) → HasReason config run.start.directory shown → IsQuiet run.start run.finish
+  pub any_moment : OnLeft run (λ kept left change. Goes (IsKeptInOpening kept config left change run.start.directory) run.start run.finish)
+  pub pace : run.Tells → (first : ℕ) → KeepsPace first run.start.moment run.start.moment run.start → KeepsPace first run.start.moment run.start.moment run.finish
 
 -- it wasn't, and this was written
 abbrev pub Refuses : Run → Fields → OpenWhy → Type 0
@@ -131,18 +145,22 @@ Refuses run config why = IsNotOpened run config why × Appends run.taken_before 
 -- what was to be written where the sink failed
 abbrev pub IsAsked : Run → Bytes → Type 0
 IsAsked run text =
-    (IsNoCommand run × (text ≡ bad_words) × run.Unused)
+    (IsNoCommand run × (text ≡ bad_words) × IsUnused run)
     ⊎ (IsCommand run × (bad : BadLine) × IsNoScript run bad × (text ≡ bad_line bad))
     ⊎ ((config : Fields) × Asks run config × (why : OpenWhy) × IsNotOpened run config why × (text ≡ open_line config why))
     ⊎ ((config : Fields) × Asks run config × StoppedBehind run config text)
 
 -- there was no memory before the first order
 abbrev pub IsUnbegun : Run → Fields → Type 0
-IsUnbegun run config = Keeps run.taken_before run.taken × (run.Unused ⊎ IsNotOpened run config open_why.NoMemory)
+IsUnbegun run config = Keeps run.taken_before run.taken × (IsUnused run ⊎ IsNotOpened run config open_why.NoMemory)
 
--- opening met a fault or numbers that ran out
+-- opening met a fault
 abbrev pub IsOpenFault : Run → Fields → Type 0
-IsOpenFault run config = ((before : ℕ) × (after : ℕ) × Refuses run config (open_why.Fault before after)) ⊎ ((last : ℕ) × Refuses run config (open_why.Exhausted last))
+IsOpenFault run config = (before : ℕ) × (after : ℕ) × Refuses run config (open_why.Fault before after)
+
+-- opening found that numbers ran out
+abbrev pub IsOpenExhausted : Run → Fields → Type 0
+IsOpenExhausted run config = (last : ℕ) × Refuses run config (open_why.Exhausted last)
 
 -- the statuses of a script's end
 abbrev pub script_ends : List ℕ
@@ -152,13 +170,13 @@ pub record Ends (run : Run) (status : ℕ) : Type 0 where
   -- each line was answered, each change is done, and each read was answered
   pub answered : status ≡ 0 → (config : Fields) × Asks run config × Answered run config false
   -- `bad words`
-  pub bad_words : status ≡ 2 → IsNoCommand run × Appends run.taken_before run.taken bad_words × run.Unused
+  pub bad_words : status ≡ 2 → IsNoCommand run × Appends run.taken_before run.taken bad_words × IsUnused run
   -- `line N bad WHY`
   pub bad_script : status ≡ 3 → IsCommand run × (bad : BadLine) × IsNoScript run bad × Appends run.taken_before run.taken (bad_line bad)
-  pub read_fault : status ≡ 4 → IsCommand run × run.SourceRose × Keeps run.taken_before run.taken × run.Unused
+  pub read_fault : status ≡ 4 → IsCommand run × run.SourceRose × Keeps run.taken_before run.taken × IsUnused run
   pub write_fault : status ≡ 5 → run.SinkRose × (text : Bytes) × IsAsked run text × AppendsFront run.taken_before run.taken text
   -- each line was answered, and a change failed or wasn't made or a read wasn't answered, or opening met a fault or numbers that ran out
-  pub refused : status ≡ 6 → (config : Fields) × Asks run config × (Answered run config true ⊎ IsOpenFault run config)
+  pub refused : status ≡ 6 → (config : Fields) × Asks run config × (Answered run config true ⊎ IsOpenFault run config ⊎ IsOpenExhausted run config)
   pub no_memory : status ≡ 7 → (config : Fields) × Asks run config × (IsUnbegun run config ⊎ StoppedInside run config)
   -- `damaged KIND NO`
   pub damaged : status ≡ 8 → (config : Fields) × Asks run config × (name : Name) × Refuses run config (open_why.Damaged name)
@@ -168,16 +186,19 @@ pub record Ends (run : Run) (status : ℕ) : Type 0 where
   pub other_words : IsNoCommand run → Contains (2 ∷ 5 ∷ []) status
   pub no_script : IsCommand run → IfSome run.source (λ bytes. IsErr (script_of bytes) → Contains (3 ∷ 4 ∷ 5 ∷ 7 ∷ []) status)
   pub a_script : IsCommand run → IfSome run.source (λ bytes. IsOk (script_of bytes) → Contains script_ends status)
-  -- what the directory shows isn't carried out over
+  -- Where the directory shows damage or another configuration, nothing is touched, whatever the status; nothing is carried out over it, and 6 comes only with a
+  -- fault when it is opened.
   pub shown : (config : Fields) → Asks run config → run.Tells → (why : RecoverRefused) → HasReason config run.start.directory why
-      → IfSome run.source (λ bytes. IsOk (script_of bytes) → (status ≡ 0 → ⊥) × (status ≡ 6 → IsOpenFault run config))
-  -- Without a fault, and where ports can't fail, a script is answered and each change is done, or there is no memory for it, on a disk that was left
-  -- for a history and is of this configuration, where neither numbers nor places run out.
+      → IsQuiet run.start run.finish × (status ≡ 0 → ⊥) × (status ≡ 6 → IsOpenFault run config)
+  -- whatever the status, numbers keep pace with the run's device calls, from a number on that none of what a crash leaves at the start has passed
+  pub pace : OnLeft run (λ kept left change. (first : ℕ) → KeepsPace first run.start.moment run.start.moment run.start → KeepsPace first run.start.moment run.start.moment run.finish)
+  -- Without a fault, and where ports can't fail, the bytes are no script, or there is no memory, or they are one, each line is answered and each change is done, on a disk
+  -- that was left for a history and is of this configuration, where neither numbers nor places run out.
   pub complete : (config : Fields) → Asks run config → (run.SourceRose → ⊥) → (run.SinkRose → ⊥) → (Rose run.faults_before run.faults → ⊥) → (run.PortsFail → ⊥)
-      → IfSome run.source (λ bytes. (phases : List (List Order)) → script_of bytes ≡ Ok phases → OnLeft run (λ left change.
-      ((kept : Fields) → HasOtherConfig config run.start.directory kept → ⊥) → (IsExhausted run.start.directory → ⊥)
+      → Contains (3 ∷ 7 ∷ []) status ⊎ OnScript run (λ phases. OnLeft run (λ kept left change.
+      ((other : Fields) → HasOtherConfig config run.start.directory other → ⊥) → (IsExhausted run.start.directory → ⊥)
       → ((next : ℕ) → IsNextNumber run.start.directory next
       → next + (run.finish.moment - run.start.moment) + most_of_a_change + most_numbers (length left + 1 + sum_by (λ orders. length orders) phases) < max_place)
-      → length left + 1 + sum_by (λ orders. length orders) phases ≤ max_place → Contains (0 ∷ 7 ∷ []) status))
+      → length left + 1 + sum_by (λ orders. length orders) phases ≤ max_place → status ≡ 0))
   -- there is no other status
   pub known : Contains (0 ∷ 2 ∷ 3 ∷ 4 ∷ 5 ∷ 6 ∷ 7 ∷ 8 ∷ 9 ∷ []) status

@@ -3,8 +3,6 @@ use Rattle.std.specs.Prelude.{◌≡◌, ℕ, Bool, true, false, List, take, Opt
 use Rattle.std.specs.Io.KnownBytes.{Appends}
 use Rattle.lethe_wire.specs.Causes.{AppendsFront}
 use Rattle.lethe_base.specs.Keys.{Bytes}
-use Rattle.lethe_base.specs.History.{History}
-use Rattle.lethe_base.specs.declared.config.Fields.{Fields}
 use Rattle.lethe_disk.specs.Disk.{Seen}
 use Rattle.lethe_core.specs.View.{View}
 use Rattle.lethe_script.specs.declared.order.Order.{Order}
@@ -12,14 +10,13 @@ use Rattle.lethe_run.specs.declared.reply.Line.{Line}
 use Rattle.lethe_run.specs.declared.status.Status.{Status}
 use Rattle.lethe_run.specs.declared.status.Status.TheVariants.{Answered, BadWords, BadScript, ReadFault, WriteFault, Refused, NoMemory, Damaged, OtherConfig}
 use Rattle.lethe_run.specs.Ends.{IsBegun}
-use Rattle.lethe_run.specs.Serving.{IsOn, IsCarried}
+use Rattle.lethe_run.specs.Serving.{IsOn, IsCarried, Point}
 use Rattle.lethe_run.specs.Transcript.{Start, course, text_of, has_refusal}
 
--- the lines answer these phases, over each history for which the store stands, and from each start of the run on
+-- the lines answer these phases, over each history for which the store stands, from each start of the run on
 abbrev pub Serves : Type 0 → Type 0 → View → Seen → ℕ → List (List Order) → List (List Line) → Type 0
 Serves Tells PortsFail start finish now phases lines =
-    Tells → (config : Fields) (begin : Start) (opened : History) → IsOn config begin opened opened start
-    → IsCarried config (course PortsFail begin now finish.moment) opened phases lines start.disk finish
+    Tells → (begin : Start) (from : Point) → IsOn begin from from.history start → IsCarried (course PortsFail begin now finish.moment) begin from phases lines start.disk finish
 
 -- all phases were answered
 pub record All (Tells PortsFail : Type 0) (start : View) (finish : Seen) (now : ℕ) (old new : Option Bytes) (phases : List (List Order)) (refused : Bool) : Type 0 where
@@ -38,8 +35,8 @@ pub record Behind (Tells PortsFail : Type 0) (start : View) (finish : Seen) (now
 -- none were, or some, and of the next one the first orders
 pub record Inside (Tells PortsFail : Type 0) (start : View) (finish : Seen) (now : ℕ) (old new : Option Bytes) (phases : List (List Order)) : Type 0 where
   pub lines : List (List Line)
-  pub served : Tells → (config : Fields) (begin : Start) (opened : History) → IsOn config begin opened opened start
-      → (front : List (List Order)) × IsBegun phases front × IsCarried config (course PortsFail begin now finish.moment) opened front lines start.disk finish
+  pub served : Tells → (begin : Start) (from : Point) → IsOn begin from from.history start
+      → (front : List (List Order)) × IsBegun phases front × IsCarried (course PortsFail begin now finish.moment) begin from front lines start.disk finish
   pub written : AppendsFront old new (text_of lines)
 
 abbrev pub ScriptEnds : Type 0 → Type 0 → View → Seen → ℕ → Option Bytes → Option Bytes → Type 0 → List (List Order) → Status → Type 0

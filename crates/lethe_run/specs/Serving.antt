@@ -1,56 +1,66 @@
 -- What carrying out orders over a store comes to.
-use Rattle.std.specs.Prelude.{◌≡◌, ◌≤◌, ℕ, List, ◌++◌, length, None}
+use Rattle.std.specs.Prelude.{◌≡◌, ◌≤◌, ◌↔◌, ℕ, List, ◌++◌, length, All, None}
 use Rattle.lethe_base.specs.History.{History, AreDone}
-use Rattle.lethe_base.specs.declared.config.Fields.{Fields}
+use Rattle.lethe_disk.specs.Directory.{Directory}
 use Rattle.lethe_disk.specs.Disk.{Seen}
-use Rattle.lethe_engine.specs.StandsFor.{IsKeptFor, IsPrefixFrom, Opened, StandsFor}
-use Rattle.lethe_disk.specs.Goes.{Goes}
+use Rattle.lethe_engine.specs.StandsFor.{IsKeptFor, Opened, StandsFor}
 use Rattle.lethe_stored.specs.Left.{IsLeft, without_failed}
+use Rattle.lethe_stored.specs.Numbers.{KeepsPace}
 use Rattle.lethe_core.specs.View.{View}
 use Rattle.lethe_script.specs.declared.order.Act.{Act}
 use Rattle.lethe_script.specs.declared.order.Order.{Order}
 use Rattle.lethe_run.specs.declared.reply.Line.{Line}
 use Rattle.lethe_run.specs.declared.reply.Reply.{Reply}
-use Rattle.lethe_run.specs.Carried.{HasConfig, failed_in}
+use Rattle.lethe_run.specs.Carried.{HasConfig, IsLasting, failed_in}
 use Rattle.lethe_run.specs.Transcript.{Course, Start, course, Answers, Follows, IsServed, AreServed}
 
--- what a store was whose opening began with the run, and answered at this moment and with this count of faults
-abbrev pub opened_in : Start → History → ℕ → ℕ → Opened
-opened_in begin h moment faults = record { history = h; began = begin.moment; moment = moment; next = begin.next; faults = faults }
-
--- A store of the configuration, opened in a run that found its disk so, stands for a history.
-pub record IsOn (config : Fields) (begin : Start) (opened h : History) (view : View) : Type 0 where
-  pub done : AreDone opened
-  -- the moment of its disk when opening answered, and the count of faults
+-- a history for which a store stood, and a moment of its disk from which on each crash has it
+pub record Point : Type 0 where
+  pub history : History
   pub moment : ℕ
-  pub counted : ℕ
-  pub stands : StandsFor config (opened_in begin opened moment counted) h view
-  pub faults_since : begin.faults ≤ counted
-  pub moment_since : begin.moment ≤ moment
 
--- What may be a crash's of h may be one of g; and at each moment of a run of device calls a crash leaves what may be one of g.
-pub record GoesOn (opened h g : History) (old new : Seen) : Type 0 where
-  pub kept : (k : History) → IsPrefixFrom opened h k → IsPrefixFrom opened g k
-  pub any_moment : Goes (IsKeptFor opened g) old new
+-- what a store was whose opening began with the run, and answered at this point and with this count of faults
+abbrev pub opened_in : Start → Point → ℕ → Opened
+opened_in begin from faults = record { history = from.history; began = begin.moment; moment = from.moment; next = begin.next; faults = faults }
+
+-- A store of a run's configuration stands for a history, and since a point each crash has what there was then.
+pub record IsOn (begin : Start) (from : Point) (h : History) (view : View) : Type 0 where
+  pub done : AreDone from.history
+  -- a count of faults of its disk since opening
+  pub counted : ℕ
+  pub stands : StandsFor begin.config (opened_in begin from counted) h view
+  pub faults_since : begin.faults ≤ counted
+  pub moment_since : begin.moment ≤ from.moment
+
+-- Device calls were made: what a crash before them may leave is neither more nor less.
+pub record Continues (old new : Seen) : Type 0 where
+  pub later : old.moment ≤ new.moment
+  pub past : (m : ℕ) (c : Directory) → m ≤ old.moment → (new.left m c ↔ old.left m c)
+
+-- The history went on from h to g, and the store stands for it, whatever point it is seen from.
+pub record Advances (begin : Start) (h g : History) (old new : View) : Type 0 where
+  pub calls : Continues old.disk new.disk
+  pub stands : (from : Point) → IsOn begin from h old → IsOn begin from g new
 
 -- the act was answered so, and the history went on from h to g
-pub record IsAnswered (config : Fields) (PortsFail : Type 0) (begin : Start) (opened h g : History) (caller : ℕ) (act : Act) (reply : Reply) (old new : View) : Type 0 where
+pub record IsAnswered (PortsFail : Type 0) (begin : Start) (h g : History) (caller : ℕ) (act : Act) (reply : Reply) (old new : View) : Type 0 where
   pub grows : (added : History) × (g ≡ h ++ added)
   pub answers : Answers (record { history = g; course = course PortsFail begin new.faults new.disk.moment }) caller act reply
   pub follows : Follows (course PortsFail begin new.faults new.disk.moment) (length h) reply (length g)
-  pub goes : GoesOn opened h g old.disk new.disk
-  pub stands : IsOn config begin opened g new
+  pub goes : Advances begin h g old new
 
 -- the orders were answered by the lines, and the history went on from h to g
-pub record IsPhase (config : Fields) (PortsFail : Type 0) (begin : Start) (opened h g : History) (orders : List Order) (lines : List Line) (old new : View) : Type 0 where
+pub record IsPhase (PortsFail : Type 0) (begin : Start) (h g : History) (orders : List Order) (lines : List Line) (old new : View) : Type 0 where
   pub served : IsServed (course PortsFail begin new.faults new.disk.moment) h orders lines g
-  pub goes : GoesOn opened h g old.disk new.disk
-  pub stands : IsOn config begin opened g new
+  pub goes : Advances begin h g old new
 
 -- the phases were answered by the lines, from the opened history on
-pub record IsCarried (config : Fields) (course : Course) (opened : History) (phases : List (List Order)) (lines : List (List Line)) (start finish : Seen) : Type 0 where
+pub record IsCarried (course : Course) (begin : Start) (from : Point) (phases : List (List Order)) (lines : List (List Line)) (start finish : Seen) : Type 0 where
   pub history : History
-  pub served : AreServed course opened phases lines history
-  pub any_moment : Goes (IsKeptFor opened history) start finish
-  pub leaves : IsLeft finish (without_failed history) (failed_in history)
-  pub config_is : failed_in history ≡ None → HasConfig config finish.directory
+  pub served : AreServed course from.history phases lines history
+  pub calls : Continues start finish
+  pub each : (m : ℕ) (c : Directory) → from.moment ≤ m → m ≤ finish.moment → finish.left m c → IsKeptFor begin.config from.history history c
+  pub lasting : All (IsLasting begin.config from.history history finish) lines
+  pub leaves : IsLeft begin.config finish (without_failed history) (failed_in history)
+  pub config_is : failed_in history ≡ None → HasConfig begin.config finish.directory
+  pub pace : KeepsPace begin.next begin.moment from.moment finish

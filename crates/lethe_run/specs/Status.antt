@@ -12,7 +12,7 @@ use Rattle.lethe_run.specs.declared.status.Status.{Status}
 use Rattle.lethe_run.specs.declared.status.Status.TheVariants.{Answered, BadWords, BadScript, ReadFault, WriteFault, Refused, NoMemory, Damaged, OtherConfig}
 use Rattle.lethe_run.specs.Printed.{bad_words, bad_line}
 use Rattle.lethe_run.specs.Ends as ends
-use Rattle.lethe_run.specs.Ends.{Run, Asks, IsCommand, IsNoCommand, IsNoScript, IsAsked, IsUnbegun, IsOpenFault, Refuses, StoppedInside}
+use Rattle.lethe_run.specs.Ends.{Run, Asks, IsCommand, IsNoCommand, IsNoScript, IsAsked, IsUnbegun, IsUnused, IsOpenExhausted, IsOpenFault, Refuses, StoppedInside}
 
 abbrev pub code_of : Status → ℕ
 code_of Answered = 0
@@ -28,11 +28,11 @@ code_of OtherConfig = 9
 -- what each end says
 abbrev pub EndsWith : Run → Status → Type 0
 EndsWith run Answered = (config : Fields) × Asks run config × ends.Answered run config false
-EndsWith run BadWords = IsNoCommand run × Appends run.taken_before run.taken bad_words × run.Unused
+EndsWith run BadWords = IsNoCommand run × Appends run.taken_before run.taken bad_words × IsUnused run
 EndsWith run BadScript = IsCommand run × (bad : BadLine) × IsNoScript run bad × Appends run.taken_before run.taken (bad_line bad)
-EndsWith run ReadFault = IsCommand run × run.SourceRose × Keeps run.taken_before run.taken × run.Unused
+EndsWith run ReadFault = IsCommand run × run.SourceRose × Keeps run.taken_before run.taken × IsUnused run
 EndsWith run WriteFault = run.SinkRose × (text : Bytes) × IsAsked run text × AppendsFront run.taken_before run.taken text
-EndsWith run Refused = (config : Fields) × Asks run config × (ends.Answered run config true ⊎ IsOpenFault run config)
+EndsWith run Refused = (config : Fields) × Asks run config × (ends.Answered run config true ⊎ IsOpenFault run config ⊎ IsOpenExhausted run config)
 EndsWith run NoMemory = (config : Fields) × Asks run config × (IsUnbegun run config ⊎ StoppedInside run config)
 EndsWith run Damaged = (config : Fields) × Asks run config × (name : Name) × Refuses run config (open_why.Damaged name)
 EndsWith run OtherConfig = (config : Fields) × Asks run config × (kept : Fields) × Refuses run config (open_why.OtherConfig kept)

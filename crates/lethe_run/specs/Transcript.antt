@@ -8,7 +8,9 @@ use Rattle.lethe_base.specs.Keys.{Bytes}
 use Rattle.lethe_base.specs.Counts.{Rose}
 use Rattle.lethe_base.specs.Configuration.{greatest_of}
 use Rattle.lethe_base.specs.Limits.{max_place}
+use Rattle.lethe_base.specs.Shapes.{shape_of}
 use Rattle.lethe_base.specs.declared.config.Field.TheVariants.{Buffer}
+use Rattle.lethe_base.specs.declared.config.Fields.{Fields}
 use Rattle.lethe_build.specs.Built.{most_numbers}
 use Rattle.lethe_base.specs.History.{History, Change, change_at, after, IsLegal}
 use Rattle.lethe_base.specs.Read.{Read, Answer, answer}
@@ -20,12 +22,17 @@ use Rattle.lethe_run.specs.declared.reply.Line.{Line}
 use Rattle.lethe_run.specs.declared.reply.Line.TheVariants as line
 use Rattle.lethe_run.specs.declared.reply.Reply.{Reply}
 use Rattle.lethe_run.specs.declared.reply.Reply.TheVariants.{Done, Got, Scanned, Counted, Fault, Stopped, Exhausted, ReadFault, Damaged}
+use Rattle.lethe_stored.specs.Kept.{IsFor}
+use Rattle.lethe_stored.specs.Left.{without_failed}
+use Rattle.lethe_stored.specs.Stored.{Stored, IsCoherent, layout_of}
+use Rattle.lethe_engine.specs.Stats.{IsStatOf}
 use Rattle.lethe_engine.specs.declared.telling.Stat as stats
 use Rattle.lethe_engine.specs.Reads.{listed}
 use Rattle.lethe_run.specs.Printed.{lines_text}
 
--- What is known of a run's disk.
+-- What is known of a run's store and disk.
 pub record Course : Type 1 where
+  pub config : Fields
   -- its counts of faults, at the start and now
   pub before : ℕ
   pub now : ℕ
@@ -35,15 +42,16 @@ pub record Course : Type 1 where
   -- its ports can fail
   pub PortsFail : Type 0
 
--- how a run found its disk: the count of faults, the number of the next object, and the moment
+-- A run: the configuration that it asks for, and how it found its disk, the count of faults, the number of the next object, and the moment.
 pub record Start : Type 0 where
+  pub config : Fields
   pub faults : ℕ
   pub next : ℕ
   pub moment : ℕ
 
 -- from there up to a count of faults and a moment
 abbrev pub course : Type 0 → Start → ℕ → ℕ → Course
-course PortsFail start faults moment = record { before = start.faults; now = faults; next = start.next; calls = moment - start.moment; PortsFail = PortsFail }
+course PortsFail start faults moment = record { config = start.config; before = start.faults; now = faults; next = start.next; calls = moment - start.moment; PortsFail = PortsFail }
 
 -- what the meaning of a line depends on
 pub record Told : Type 1 where
@@ -76,10 +84,17 @@ pub record IsAnswerAt (h : History) (point : ℕ) (read : Read) (given : Answer)
   pub within : point ≤ length h
   pub is : given ≡ answer (after (take point h)) read
 
--- the clock is told as it was behind so many places
-pub record IsStatAt (h : History) (point : ℕ) (stat : stats.Stat) : Type 0 where
-  pub within : point ≤ length h
-  pub is : stat.clock ≡ (after (take point h)).clock
+-- The store is told as a whole as it was behind so many places: the clock, and of something stored that stands for that history the erases, the files and their
+-- tombstones. No call makes a pin.
+pub record IsStatAt (told : Told) (point : ℕ) (stat : stats.Stat) : Type 0 where
+  pub within : point ≤ length told.history
+  pub clock : stat.clock ≡ (after (take point told.history)).clock
+  pub pins : stat.pins ≡ 0
+  pub stored : Stored
+  pub config_is : stored.manifest.config ≡ told.course.config
+  pub coherent : IsCoherent stored
+  pub stands : IsFor (without_failed (take point told.history)) stored
+  pub shape : IsStatOf (shape_of (layout_of stored)) stat
 
 -- The disk failed in the change at a place, and these are its counts of faults before and after.
 pub record IsFailedAt (told : Told) (place before after : ℕ) : Type 0 where
@@ -121,7 +136,7 @@ abbrev pub Answers : Told → ℕ → Act → Reply → Type 0
 Answers told caller act (Done place) = IsSomeAnd (call_of act) (IsDoneAt told.history caller place)
 Answers told caller act (Got point held) = IsSomeAnd (read_of act) (λ read. IsAnswerAt told.history point read (answers.Found held))
 Answers told caller act (Scanned point pairs) = IsSomeAnd (read_of act) (λ read. IsAnswerAt told.history point read (listed pairs))
-Answers told caller act (Counted point stat) = (act ≡ Stat) × IsStatAt told.history point stat
+Answers told caller act (Counted point stat) = (act ≡ Stat) × IsStatAt told point stat
 Answers told caller act (Fault place before after) = IsSomeAnd (call_of act) (IsFaultOf told caller place before after)
 Answers told caller act (Stopped at) = IsSome (call_of act) × WasStopped told at
 Answers told caller act (Exhausted last) = IsSome (call_of act) × IsUsedUp told last
@@ -150,6 +165,18 @@ place_of (line.Answer caller (Stopped at)) = None
 place_of (line.Answer caller (Exhausted last)) = None
 place_of (line.Answer caller ReadFault) = None
 place_of (line.Answer caller (Damaged page)) = None
+
+-- the place of the change that a line answers with `ok`
+abbrev pub ok_place : Line → Option ℕ
+ok_place (line.Answer caller (Done place)) = Some place
+ok_place (line.Answer caller (Got point held)) = None
+ok_place (line.Answer caller (Scanned point pairs)) = None
+ok_place (line.Answer caller (Counted point stat)) = None
+ok_place (line.Answer caller (Fault place before after)) = None
+ok_place (line.Answer caller (Stopped at)) = None
+ok_place (line.Answer caller (Exhausted last)) = None
+ok_place (line.Answer caller ReadFault) = None
+ok_place (line.Answer caller (Damaged page)) = None
 
 -- so many places, the first of them behind n
 abbrev pub places_behind : ℕ → ℕ → List ℕ

@@ -1,12 +1,11 @@
 //! Answering one order.
 ghost use Rattle.std.specs.Prelude.{◌≡◌, ◌≤◌, ℕ, IfErr, MatchResult};
 ghost use Rattle.lethe_base.specs.History.{History};
-ghost use Rattle.lethe_base.specs.declared.config.Fields.{Fields};
 ghost use Rattle.lethe_engine.specs.Reads.{IsReadRefusal};
 ghost use Rattle.lethe_core.specs.Running.{IsSound};
 ghost use Rattle.lethe_core.specs.View.{view_of};
 ghost use Rattle.lethe_run.specs.Replies.{IsOfChange, reply_of, unread_of};
-ghost use Rattle.lethe_run.specs.Serving.{IsOn, IsAnswered, GoesOn};
+ghost use Rattle.lethe_run.specs.Serving.{IsOn, IsAnswered, Advances, Point};
 ghost use Rattle.lethe_run.specs.Transcript.{Start};
 
 use crate::reply::Reply;
@@ -25,11 +24,11 @@ pub(crate) fn answer<D: Disk>(
 ) -> Result<Reply, NoMemory>
     requires { IsSound D.tells (view_of engine.old.core) }
     ensures sound { IsSound D.tells (view_of engine.new.core) }
-    ensures served { D.tells → (config : Fields) (begin : Start) (opened h : History) (caller : ℕ)
-        → IsOn config begin opened h (view_of engine.old.core)
+    ensures served { D.tells → (begin : Start) (from : Point) (h : History) (caller : ℕ)
+        → IsOn begin from h (view_of engine.old.core)
         → MatchResult result
-        (λ reply. (g : History) × IsAnswered config D.ports_fail begin opened h g caller act reply (view_of engine.old.core) (view_of engine.new.core))
-        (λ why. GoesOn opened h h (D.seen engine.old.core.disk) (D.seen engine.new.core.disk) × IsOn config begin opened h (view_of engine.new.core)) }
+        (λ reply. (g : History) × IsAnswered D.ports_fail begin h g caller act reply (view_of engine.old.core) (view_of engine.new.core))
+        (λ why. Advances begin h h (view_of engine.old.core) (view_of engine.new.core)) }
     ensures faults { D.faults engine.old.core.disk ≤ D.faults engine.new.core.disk }
 {
     match act {

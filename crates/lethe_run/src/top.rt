@@ -3,14 +3,16 @@ ghost use Rattle.std.specs.Prelude.{◌≡◌, ◌≤◌, ◌<◌, ◌⊎◌, �
 ghost use Rattle.std.specs.String.{string_bytes};
 ghost use Rattle.lethe_base.specs.Counts.{Rose};
 ghost use Rattle.lethe_base.specs.History.{History, Change};
+ghost use Rattle.lethe_base.specs.declared.config.Fields.{Fields};
 ghost use Rattle.lethe_engine.specs.Opening.{IsResumed, IsUntold};
 ghost use Rattle.lethe_core.specs.Running.{IsSound};
 ghost use Rattle.lethe_core.specs.View.{view_of};
 ghost use Rattle.lethe_disk.specs.Goes.{Goes};
-ghost use Rattle.lethe_stored.specs.Left.{IsLeft, IsKeptOr};
+ghost use Rattle.lethe_stored.specs.Left.{IsLeft};
+ghost use Rattle.lethe_stored.specs.Numbers.{KeepsPace};
 ghost use Rattle.lethe_load.specs.Refused.{HasReason};
 ghost use Rattle.lethe_load.specs.declared.refused.RecoverRefused.{RecoverRefused};
-ghost use Rattle.lethe_recover.specs.Opening.{MayNotOpen};
+ghost use Rattle.lethe_recover.specs.Opening.{MayNotOpen, IsCut, IsKeptInOpening, since_start};
 ghost use Rattle.lethe_disk.specs.Quiet.{IsQuiet};
 ghost use Rattle.lethe_script.specs.Grammar.{script_of};
 ghost use Rattle.lethe_run.specs.Ends.{Ends};
@@ -127,12 +129,18 @@ fn read_all<S: Source>(alloc: Global, source: &mut S) -> Result<Vec<u8>, ReadRef
 fn open_store<D: Disk>(alloc: Global, disk: D, config: &Config) -> Result<Engine<D>, OpenRefused<D>>
     ensures sound { IfOk result (λ engine. IsSound D.tells (view_of engine.core)) }
     ensures runs { IfOk result (λ engine. engine.core.state.stopped ≡ None) }
-    ensures resumed { D.tells → (h : History) (change : Option Change) → IsLeft (D.seen disk) h change
+    ensures resumed { D.tells → (kept : Fields) (h : History) (change : Option Change) → IsLeft kept (D.seen disk) h change
         → IfOk result (λ engine. IsResumed config.now h change (D.seen disk) (view_of engine.core)) }
-    ensures any_moment { D.tells → (h : History) (change : Option Change) → IsLeft (D.seen disk) h change
-        → MatchResult result (λ engine. Goes (IsKeptOr h change) (D.seen disk) (D.seen engine.core.disk)) (λ refused. Goes (IsKeptOr h change) (D.seen disk) (D.seen refused.disk)) }
+    ensures any_moment { D.tells → (kept : Fields) (h : History) (change : Option Change) → IsLeft kept (D.seen disk) h change
+        → MatchResult result (λ engine. Goes (IsKeptInOpening kept config.now h change (D.seen disk).directory) (D.seen disk) (D.seen engine.core.disk))
+        (λ refused. Goes (IsKeptInOpening kept config.now h change (D.seen disk).directory) (D.seen disk) (D.seen refused.disk)) }
     ensures refused { IfErr result (λ refused. MayNotOpen D.tells config.now (D.seen disk).directory (D.faults disk) (D.faults refused.disk) refused.why) }
-    ensures exact { D.tells → (why : RecoverRefused) → HasReason config.now (D.seen disk).directory why → IfOk result (λ engine. ⊥) }
+    ensures exact { D.tells → (why : RecoverRefused) → HasReason config.now (D.seen disk).directory why
+        → MatchResult result (λ engine. ⊥) (λ refused. (refused.why ≡ since_start (D.faults disk) why) ⊎ IsCut ⊥ (D.faults disk) (D.faults refused.disk) refused.why) }
+    ensures quiet { D.tells → (why : RecoverRefused) → HasReason config.now (D.seen disk).directory why → IfErr result (λ refused. IsQuiet (D.seen disk) (D.seen refused.disk)) }
+    ensures pace { D.tells → (first : ℕ) → KeepsPace first (D.seen disk).moment (D.seen disk).moment (D.seen disk)
+        → MatchResult result (λ engine. KeepsPace first (D.seen disk).moment (D.seen disk).moment (D.seen engine.core.disk))
+        (λ refused. KeepsPace first (D.seen disk).moment (D.seen disk).moment (D.seen refused.disk)) }
     ensures untouched { D.tells → IfErr result (λ refused. IsUntold refused.why ⊎ IsQuiet (D.seen disk) (D.seen refused.disk)) }
     ensures drawn { D.tells → IfErr result (λ refused. (last : ℕ) → refused.why ≡ OpenWhy.Exhausted last → (D.seen disk).moment < (D.seen refused.disk).moment) }
     ensures faults { IfOk result (λ engine. D.faults disk ≤ D.faults engine.core.disk) }

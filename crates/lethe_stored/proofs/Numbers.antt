@@ -1,9 +1,10 @@
 -- The next numbers of what crashes leave.
-use Rattle.std.proofs.Common.{◌≡◌, ◌≤◌, ◌+◌, ◌⊎◌, inl, inr, ℕ, None, ap, ◌∙◌, arith}
+use Rattle.std.proofs.Common.{◌≡◌, ◌≤◌, ◌+◌, ◌⊎◌, inl, inr, ℕ, None, ap, ◌∙◌, subst, arith}
 use Rattle.std.proofs.lemmas.Bool.{cases_lt}
 use Rattle.lethe_disk.specs.Directory.{Directory}
 use Rattle.lethe_disk.specs.Disk.{Seen}
 use Rattle.lethe_disk.specs.Goes.{Goes}
+use Rattle.lethe_disk.specs.Quiet.{IsQuiet}
 use Rattle.lethe_disk.proofs.Going.{goes_then, goes_weaker}
 use Rattle.lethe_commit.specs.Switch.{HasGreatest}
 use Rattle.lethe_stored.specs.Stored.{Stored, IsCoherent}
@@ -19,6 +20,13 @@ next_of d s next coherent e (inr there) = there.3 ∙ ap (λ (x : Stored). x.man
 pub next_of_none : (d : Directory) (next : ℕ) → HasGreatest None d → IsNextNumber d next → next ≡ 3
 next_of_none d next none (inl new) = new.1
 next_of_none d next none (inr there) = absurd (none_or_some d there.0.manifest.no none there.2.greatest)
+
+-- what changes nothing draws no number
+pub pace_quiet : (first : ℕ) (old new : Seen) → IsQuiet old new → KeepsPace first old.moment old.moment old → KeepsPace first old.moment old.moment new
+pace_quiet first old new quiet before moment c low high left next is =
+    let came = quiet.any_moment.each moment c low high left in
+    let most = before old.moment came.0 (omega arith) (omega arith) came.1 next (subst (λ d. IsNextNumber d next) came.2 is) in
+    omega (arith, most, low)
 
 -- a run that leaves what is stored draws no number
 pub pace_encoded : (s : Stored) (first : ℕ) (old new : Seen) → IsCoherent s → s.manifest.next ≤ first → Goes (λ c. Encodes c s) old new → KeepsPace first old.moment old.moment new

@@ -10,8 +10,8 @@ use Rattle.lethe_engine.specs.Refusals.{HasReasonOfChange}
 use Rattle.lethe_script.specs.declared.order.Act.TheVariants as acts
 use Rattle.lethe_run.specs.declared.reply.Reply.TheVariants as reply
 use Rattle.lethe_run.specs.Replies.{reply_of, unread_of}
-use Rattle.lethe_run.specs.Serving.{IsOn, GoesOn, IsAnswered, opened_in}
-use Rattle.lethe_run.proofs.Images.{goes_still}
+use Rattle.lethe_run.specs.Serving.{Advances, IsAnswered}
+use Rattle.lethe_run.proofs.Images.{still}
 use Rattle.lethe_run.proofs.Looks.{reads, read_answer, stat_answer, unread}
 use Rattle.lethe_run.proofs.Outcomes.{Outcome, ok_of, err_of}
 use Rattle.lethe_run.proofs.Shorts.{few_frozen}
@@ -19,7 +19,7 @@ use Rattle.lethe_run.proofs.Steps.{changes}
 use Rattle.lethe_run.proofs.answer.answer.Goals as goal
 
 pub returns-in-Put-clause-served : goal.returns-in-Put-clause-served
-returns-in-Put-clause-served g c = λ told config begin opened h caller on.
+returns-in-Put-clause-served g c = λ told begin from h caller on.
     let old = view_of c.args.engine.now.core in
     let new = view_of c.put.new.self.core in
     let Tells = g.D.Disk.tells in
@@ -27,17 +27,16 @@ returns-in-Put-clause-served g c = λ told config begin opened h caller on.
     let before = g.D.Disk.port_faults c.args.port.now in
     let now = g.D.Disk.port_faults c.put.new.port in
     let act = acts.Put c.in-Put.key c.in-Put.dkey c.in-Put.value in
-    let still : c.put.new.self ≡ c.args.engine.now → GoesOn opened h h old.disk new.disk × IsOn config begin opened h new =
-    λ same. subst (λ e. GoesOn opened h h old.disk (view_of e.core).disk × IsOn config begin opened h (view_of e.core)) (sym same) (goes_still begin opened h old on, on) in
-    subst (λ r. Outcome config Ports begin opened h caller c.args.act r old new) (sym c.changed.ensures)
-    (subst (λ a. Outcome config Ports begin opened h caller a (reply_of c.put.result) old new) (sym c.in-Put.is)
-    (changes Tells Ports told begin opened h caller act (calls.Put c.in-Put.key c.in-Put.dkey c.in-Put.value) refl old new on c.put.ensures.faults (few_frozen Tells old c.requires) (merges_are_short Tells config h new told)
-    before now c.put.result (c.put.ensures.stands told config (opened_in begin opened on.moment on.counted) h on.stands caller)
+    let same_store : c.put.new.self ≡ c.args.engine.now → Advances begin h h old new = λ same. subst (λ e. Advances begin h h old (view_of e.core)) (sym same) (still begin h old) in
+    subst (λ r. Outcome Ports begin h caller c.args.act r old new) (sym c.changed.ensures)
+    (subst (λ a. Outcome Ports begin h caller a (reply_of c.put.result) old new) (sym c.in-Put.is)
+    (changes Tells Ports told begin from h caller act (calls.Put c.in-Put.key c.in-Put.dkey c.in-Put.value) refl old new on c.put.ensures.faults (few_frozen Tells old c.requires) (merges_are_short Tells begin.config h new told)
+    before now c.put.result (λ opened stands. c.put.ensures.stands told begin.config opened h stands caller)
     (ok_of (λ place. place ≡ old.state.count + 1) c.put.result c.put.ensures.place) (err_of (HasReasonOfChange Tells Ports old new before now) c.put.result c.put.ensures.why)
-    (λ runs. c.put.ensures.any_moment told config h on.stands.now runs caller) (λ at stop. (let answer = c.put.ensures.stopped at stop in (answer.0, still answer.1)))))
+    (λ runs. (c.put.ensures.any_moment told begin.config h on.stands.now runs caller).goes) (λ at stop. (let answer = c.put.ensures.stopped at stop in (answer.0, same_store answer.1)))))
 
 pub returns-in-Delete-clause-served : goal.returns-in-Delete-clause-served
-returns-in-Delete-clause-served g c = λ told config begin opened h caller on.
+returns-in-Delete-clause-served g c = λ told begin from h caller on.
     let old = view_of c.args.engine.now.core in
     let new = view_of c.delete.new.self.core in
     let Tells = g.D.Disk.tells in
@@ -45,38 +44,37 @@ returns-in-Delete-clause-served g c = λ told config begin opened h caller on.
     let before = g.D.Disk.port_faults c.args.port.now in
     let now = g.D.Disk.port_faults c.delete.new.port in
     let act = acts.Delete c.in-Delete.key in
-    let still : c.delete.new.self ≡ c.args.engine.now → GoesOn opened h h old.disk new.disk × IsOn config begin opened h new =
-    λ same. subst (λ e. GoesOn opened h h old.disk (view_of e.core).disk × IsOn config begin opened h (view_of e.core)) (sym same) (goes_still begin opened h old on, on) in
-    subst (λ r. Outcome config Ports begin opened h caller c.args.act r old new) (sym c.changed-in-Delete.ensures)
-    (subst (λ a. Outcome config Ports begin opened h caller a (reply_of c.delete.result) old new) (sym c.in-Delete.is)
-    (changes Tells Ports told begin opened h caller act (calls.Delete c.in-Delete.key) refl old new on c.delete.ensures.faults (few_frozen Tells old c.requires) (merges_are_short Tells config h new told)
-    before now c.delete.result (c.delete.ensures.stands told config (opened_in begin opened on.moment on.counted) h on.stands caller)
+    let same_store : c.delete.new.self ≡ c.args.engine.now → Advances begin h h old new = λ same. subst (λ e. Advances begin h h old (view_of e.core)) (sym same) (still begin h old) in
+    subst (λ r. Outcome Ports begin h caller c.args.act r old new) (sym c.changed-in-Delete.ensures)
+    (subst (λ a. Outcome Ports begin h caller a (reply_of c.delete.result) old new) (sym c.in-Delete.is)
+    (changes Tells Ports told begin from h caller act (calls.Delete c.in-Delete.key) refl old new on c.delete.ensures.faults (few_frozen Tells old c.requires) (merges_are_short Tells begin.config h new told)
+    before now c.delete.result (λ opened stands. c.delete.ensures.stands told begin.config opened h stands caller)
     (ok_of (λ place. place ≡ old.state.count + 1) c.delete.result c.delete.ensures.place) (err_of (HasReasonOfChange Tells Ports old new before now) c.delete.result c.delete.ensures.why)
-    (λ runs. c.delete.ensures.any_moment told config h on.stands.now runs caller) (λ at stop. (let answer = c.delete.ensures.stopped at stop in (answer.0, still answer.1)))))
+    (λ runs. (c.delete.ensures.any_moment told begin.config h on.stands.now runs caller).goes) (λ at stop. (let answer = c.delete.ensures.stopped at stop in (answer.0, same_store answer.1)))))
 
 pub returns-in-Ok-clause-served : goal.returns-in-Ok-clause-served
-returns-in-Ok-clause-served g c = λ told config begin opened h caller on.
+returns-in-Ok-clause-served g c = λ told begin from h caller on.
     let view = view_of c.args.engine.now.core in
     let Ports = g.D.Disk.ports_fail in
     let key = c.in-Get.key in
     let r = reply.Got c.count.result c.in-Ok.held in
-    let given = ok_of (λ held. answer (after h) (answers.Get key) ≡ answers.Found held) c.get.result (c.get.ensures.answer told config h on.stands.now) c.in-Ok.held c.in-Ok.is in
-    subst (λ a. (k : History) × IsAnswered config Ports begin opened h k caller a r view view) (sym c.in-Get.is)
-    (reads Ports begin opened h caller (acts.Get key) view on r
-    (read_answer Ports begin opened h caller (acts.Get key) view on (answers.Get key) c.count.result (answers.Found c.in-Ok.held) c.count.ensures given) (c.count.ensures ∙ on.stands.now.count, refl))
+    let given = ok_of (λ held. answer (after h) (answers.Get key) ≡ answers.Found held) c.get.result (c.get.ensures.answer told begin.config h on.stands.now) c.in-Ok.held c.in-Ok.is in
+    subst (λ a. (k : History) × IsAnswered Ports begin h k caller a r view view) (sym c.in-Get.is)
+    (reads Ports begin from h caller (acts.Get key) view on r
+    (read_answer Ports begin from h caller (acts.Get key) view on (answers.Get key) c.count.result (answers.Found c.in-Ok.held) c.count.ensures given) (c.count.ensures ∙ on.stands.now.count, refl))
 
 pub returns-in-Get-clause-served : goal.returns-in-Get-clause-served
-returns-in-Get-clause-served g c = λ told config begin opened h caller on.
+returns-in-Get-clause-served g c = λ told begin from h caller on.
     let view = view_of c.args.engine.now.core in
     let Ports = g.D.Disk.ports_fail in
     let why = c.in-Err.why in
-    subst (λ r. Outcome config Ports begin opened h caller c.args.act r view view) (sym c.unread.ensures)
-    (subst (λ a. Outcome config Ports begin opened h caller a (unread_of why) view view) (sym c.in-Get.is)
-    (unread Ports begin opened h caller (acts.Get c.in-Get.key) view on refl why (err_of IsReadRefusal c.get.result c.get.ensures.why why c.in-Err.is)
+    subst (λ r. Outcome Ports begin h caller c.args.act r view view) (sym c.unread.ensures)
+    (subst (λ a. Outcome Ports begin h caller a (unread_of why) view view) (sym c.in-Get.is)
+    (unread Ports begin from h caller (acts.Get c.in-Get.key) view on refl why (err_of IsReadRefusal c.get.result c.get.ensures.why why c.in-Err.is)
     (λ before behind is. c.get.ensures.can_fail before behind (c.in-Err.is ∙ ap Err is)) (λ name is. c.get.ensures.undamaged told c.requires name (c.in-Err.is ∙ ap Err is))))
 
 pub returns-in-Ok-scan-clause-served : goal.returns-in-Ok-scan-clause-served
-returns-in-Ok-scan-clause-served g c = λ told config begin opened h caller on.
+returns-in-Ok-scan-clause-served g c = λ told begin from h caller on.
     let view = view_of c.args.engine.now.core in
     let Ports = g.D.Disk.ports_fail in
     let lo = c.in-Scan.lo in
@@ -84,27 +82,27 @@ returns-in-Ok-scan-clause-served g c = λ told config begin opened h caller on.
     let point = c.count-in-Ok-scan.result in
     let pairs = c.of.result in
     let given : answer (after h) (answers.Scan lo hi) ≡ listed pairs =
-    ok_of (λ found. answer (after h) (answers.Scan lo hi) ≡ listed found.items) c.scan.result (c.scan.ensures.answer told config h on.stands.now) c.in-Ok-scan.pairs c.in-Ok-scan.is ∙ ap listed (sym c.of.ensures) in
-    subst (λ a. (k : History) × IsAnswered config Ports begin opened h k caller a (reply.Scanned point pairs) view view) (sym c.in-Scan.is)
-    (reads Ports begin opened h caller (acts.Scan lo hi) view on (reply.Scanned point pairs)
-    (read_answer Ports begin opened h caller (acts.Scan lo hi) view on (answers.Scan lo hi) point (listed pairs) c.count-in-Ok-scan.ensures given) (c.count-in-Ok-scan.ensures ∙ on.stands.now.count, refl))
+    ok_of (λ found. answer (after h) (answers.Scan lo hi) ≡ listed found.items) c.scan.result (c.scan.ensures.answer told begin.config h on.stands.now) c.in-Ok-scan.pairs c.in-Ok-scan.is ∙ ap listed (sym c.of.ensures) in
+    subst (λ a. (k : History) × IsAnswered Ports begin h k caller a (reply.Scanned point pairs) view view) (sym c.in-Scan.is)
+    (reads Ports begin from h caller (acts.Scan lo hi) view on (reply.Scanned point pairs)
+    (read_answer Ports begin from h caller (acts.Scan lo hi) view on (answers.Scan lo hi) point (listed pairs) c.count-in-Ok-scan.ensures given) (c.count-in-Ok-scan.ensures ∙ on.stands.now.count, refl))
 
 pub returns-in-Scan-clause-served : goal.returns-in-Scan-clause-served
-returns-in-Scan-clause-served g c = λ told config begin opened h caller on.
+returns-in-Scan-clause-served g c = λ told begin from h caller on.
     let view = view_of c.args.engine.now.core in
     let Ports = g.D.Disk.ports_fail in
     let why = c.in-Err-scan.why in
-    subst (λ r. Outcome config Ports begin opened h caller c.args.act r view view) (sym c.unread-in-Err-scan.ensures)
-    (subst (λ a. Outcome config Ports begin opened h caller a (unread_of why) view view) (sym c.in-Scan.is)
-    (unread Ports begin opened h caller (acts.Scan c.in-Scan.lo c.in-Scan.hi) view on refl why (err_of IsReadRefusal c.scan.result c.scan.ensures.why why c.in-Err-scan.is)
+    subst (λ r. Outcome Ports begin h caller c.args.act r view view) (sym c.unread-in-Err-scan.ensures)
+    (subst (λ a. Outcome Ports begin h caller a (unread_of why) view view) (sym c.in-Scan.is)
+    (unread Ports begin from h caller (acts.Scan c.in-Scan.lo c.in-Scan.hi) view on refl why (err_of IsReadRefusal c.scan.result c.scan.ensures.why why c.in-Err-scan.is)
     (λ before behind is. c.scan.ensures.can_fail before behind (c.in-Err-scan.is ∙ ap Err is)) (λ name is. c.scan.ensures.undamaged told c.requires name (c.in-Err-scan.is ∙ ap Err is))))
 
 pub returns-clause-served : goal.returns-clause-served
-returns-clause-served g c = λ told config begin opened h caller on.
+returns-clause-served g c = λ told begin from h caller on.
     let view = view_of c.args.engine.now.core in
     let Ports = g.D.Disk.ports_fail in
     let point = c.count-in-Stat.result in
     let stat = c.stat.result in
-    subst (λ a. (k : History) × IsAnswered config Ports begin opened h k caller a (reply.Counted point stat) view view) (sym c.in-Stat.is)
-    (reads Ports begin opened h caller acts.Stat view on (reply.Counted point stat)
-    (refl, stat_answer Ports begin opened h caller acts.Stat view on point stat c.count-in-Stat.ensures (c.stat.ensures.stat config h on.stands.now)) (c.count-in-Stat.ensures ∙ on.stands.now.count, refl))
+    subst (λ a. (k : History) × IsAnswered Ports begin h k caller a (reply.Counted point stat) view view) (sym c.in-Stat.is)
+    (reads Ports begin from h caller acts.Stat view on (reply.Counted point stat)
+    (refl, stat_answer Ports begin from h caller acts.Stat view on point stat c.count-in-Stat.ensures (c.stat.ensures.stat begin.config h on.stands.now) c.stat.ensures.pins c.stat.ensures.shape) (c.count-in-Stat.ensures ∙ on.stands.now.count, refl))

@@ -22,7 +22,7 @@ loop-orders-init g c =
         [],
         appends_none (g.K.Sink.taken c.args.sink.now),
         refl,
-        λ told config begin opened on. so_far_start g.D.Disk.ports_fail begin opened (view_of c.args.engine.core) on,
+        λ told begin from on. so_far_start g.D.Disk.ports_fail begin from (view_of c.args.engine.core) on,
       );
     }
 

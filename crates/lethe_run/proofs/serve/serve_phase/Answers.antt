@@ -12,7 +12,7 @@ use Rattle.lethe_run.proofs.Serving.{IsBuilt, built_start, built_more, built_sti
 use Rattle.lethe_run.proofs.serve.serve_phase.Goals as goal
 
 pub returns-in_default-clause-served : goal.returns-in_default-clause-served
-returns-in_default-clause-served g c = λ told config begin opened start on.
+returns-in_default-clause-served g c = λ told begin from start on.
     let view = view_of c.args.engine.now.core in
     let Ports = g.D.Disk.ports_fail in (
       start,
@@ -20,8 +20,8 @@ returns-in_default-clause-served g c = λ told config begin opened start on.
       c.args.orders.items,
       refl,
       (λ is. absurd (false≢true is)),
-      subst (λ l. IsPhase config Ports begin opened start start [] l view view) (sym c.new.ensures.items)
-          (phase_of Ports begin opened start start [] [] view view (built_start Ports begin opened start view on)),
+      subst (λ l. IsPhase Ports begin start start [] l view view) (sym c.new.ensures.items)
+          (phase_of Ports begin from start start [] [] view view on (built_start Ports begin start view)),
     )
 
 pub loop-order-init : goal.loop-order-init
@@ -29,10 +29,10 @@ loop-order-init g c =
     let view = view_of c.args.engine.now.core in
     record {
       sound = c.requires;
-      served = λ told config begin opened start on.
+      served = λ told begin from start on.
           let Ports = g.D.Disk.ports_fail in (
             start,
-            subst (λ l. IsBuilt config Ports begin opened start [] l start view view) (sym c.in-Ok.ensures.items) (built_start Ports begin opened start view on),
+            subst (λ l. IsBuilt Ports begin start [] l start view view) (sym c.in-Ok.ensures.items) (built_start Ports begin start view),
           );
       faults = omega arith;
       room = search rules;
@@ -49,13 +49,13 @@ loop-order-preserved g c =
     let pushed : c.push.new.self.items ≡ c.loop-order.lines.items ++ Answer order.caller reply ∷ [] = search rules in
     record {
       sound = c.answer.ensures.sound;
-      served = λ told config begin opened start on.
+      served = λ told begin from start on.
           let Ports = g.D.Disk.ports_fail in
-          let so_far = c.loop-order.invariant.served told config begin opened start on in
-          let answered = c.in-Ok-answer.ensures.served told config begin opened so_far.0 order.caller so_far.1.stands in (
+          let so_far = c.loop-order.invariant.served told begin from start on in
+          let answered = c.in-Ok-answer.ensures.served told begin from so_far.0 order.caller (so_far.1.goes.stands from on) in (
             answered.0,
-            subst (λ l. IsBuilt config Ports begin opened start (c.loop-order.yielded ++ order ∷ []) l answered.0 old new) (sym pushed)
-                (built_more Ports begin opened start so_far.0 c.loop-order.yielded c.loop-order.lines.items old mid new c.answer.ensures.faults so_far.1 answered.0 order reply answered.1),
+            subst (λ l. IsBuilt Ports begin start (c.loop-order.yielded ++ order ∷ []) l answered.0 old new) (sym pushed)
+                (built_more Ports begin from start so_far.0 c.loop-order.yielded c.loop-order.lines.items old mid new c.answer.ensures.faults on so_far.1 answered.0 order reply answered.1),
           );
       faults = let a = c.loop-order.invariant.faults in let b = c.answer.ensures.faults in omega (arith, a, b);
       room = let room = c.loop-order.invariant.room in let more = c.push.ensures.capacity in omega (arith, room, more);
@@ -65,14 +65,14 @@ loop-order-preserved g c =
     }
 
 pub returns-in-Err-clause-served : goal.returns-in-Err-clause-served
-returns-in-Err-clause-served g c = λ told config begin opened start on.
+returns-in-Err-clause-served g c = λ told begin from start on.
     let old = view_of c.args.engine.now.core in
     let mid = view_of c.loop-order.engine.core in
     let new = view_of c.answer.new.engine.core in
     let order = c.in-Some.order in
     let Ports = g.D.Disk.ports_fail in
-    let so_far = c.loop-order.invariant.served told config begin opened start on in
-    let still = c.in-Err.ensures.served told config begin opened so_far.0 order.caller so_far.1.stands in
+    let so_far = c.loop-order.invariant.served told begin from start on in
+    let still = c.in-Err.ensures.served told begin from so_far.0 order.caller (so_far.1.goes.stands from on) in
     let whole : c.args.orders.items ≡ c.loop-order.yielded ++ order ∷ c.next.new.self.rest.items =
     sym c.into_iter-order-iterator.ensures.into_iter_gives.0 ∙ taken_front c.into_iter-order-iterator.result c.loop-order.yielded c.loop-order.order-iterator c.loop-order.yielded_by ∙ ap (λ r. c.loop-order.yielded ++ r) c.in-Some.ensures.steps.0 in (
       so_far.0,
@@ -80,15 +80,15 @@ returns-in-Err-clause-served g c = λ told config begin opened start on.
       order ∷ c.next.new.self.rest.items,
       whole,
       (λ is. absurd (false≢true is)),
-      phase_of Ports begin opened start so_far.0 c.loop-order.yielded c.loop-order.lines.items old new
-          (built_still Ports begin opened start so_far.0 c.loop-order.yielded c.loop-order.lines.items old mid new c.answer.ensures.faults so_far.1 still.0 still.1),
+      phase_of Ports begin from start so_far.0 c.loop-order.yielded c.loop-order.lines.items old new on
+          (built_still Ports begin from start so_far.0 c.loop-order.yielded c.loop-order.lines.items old mid new c.answer.ensures.faults on so_far.1 still),
     )
 
 pub returns-clause-served : goal.returns-clause-served
-returns-clause-served g c = λ told config begin opened start on.
+returns-clause-served g c = λ told begin from start on.
     let old = view_of c.args.engine.now.core in
     let mid = view_of c.loop-order.engine.core in
-    let so_far = c.loop-order.invariant.served told config begin opened start on in
+    let so_far = c.loop-order.invariant.served told begin from start on in
     let gives = c.into_iter-order-iterator.ensures.into_iter_gives in
     let ended = YieldsList-end (YieldsList-from_vec c.args.orders.items gives.0 (gives.1 ∙ search rules)) c.loop-order.yielded c.loop-order.order-iterator c.loop-order.yielded_by c.next.result c.next.new.self c.in-None.is c.next.ensures.steps in
     let whole : c.args.orders.items ≡ c.loop-order.yielded ++ [] = sym ended.0 ∙ map-id c.loop-order.yielded ∙ sym (append-nil c.loop-order.yielded) in (
@@ -97,5 +97,5 @@ returns-clause-served g c = λ told config begin opened start on.
       [],
       whole,
       (λ is. refl),
-      phase_of g.D.Disk.ports_fail begin opened start so_far.0 c.loop-order.yielded c.loop-order.lines.items old mid so_far.1,
+      phase_of g.D.Disk.ports_fail begin from start so_far.0 c.loop-order.yielded c.loop-order.lines.items old mid on so_far.1,
     )

@@ -1,10 +1,9 @@
 use Rattle.std.proofs.Common.{◌≡◌, ◌≤◌, length}
 use Rattle.std.specs.Prelude.{vec_len, vec_capacity}
 use Rattle.lethe_base.specs.History.{History}
-use Rattle.lethe_base.specs.declared.config.Fields.{Fields}
 use Rattle.lethe_core.specs.Running.{IsSound}
 use Rattle.lethe_core.specs.View.{view_of}
-use Rattle.lethe_run.specs.Serving.{IsOn}
+use Rattle.lethe_run.specs.Serving.{IsOn, Point}
 use Rattle.lethe_run.specs.Transcript.{Start}
 use Rattle.lethe_run.proofs.Serving.{IsBuilt}
 use Rattle.lethe_run.proofs.serve.serve_phase.Given as goal
@@ -16,8 +15,7 @@ invariant-loop-order g l =
     let now = view_of l.engine.core in
     record {
       sound : IsSound g.D.Disk.tells now;
-      served : g.D.Disk.tells → (config : Fields) (begin : Start) (opened start : History) → IsOn config begin opened start old
-          → (h : History) × IsBuilt config g.D.Disk.ports_fail begin opened start l.yielded l.lines.items h old now;
+      served : g.D.Disk.tells → (begin : Start) (from : Point) (start : History) → IsOn begin from start old → (h : History) × IsBuilt g.D.Disk.ports_fail begin start l.yielded l.lines.items h old now;
       faults : old.faults ≤ now.faults;
       room : length l.fn.orders.items ≤ vec_capacity l.lines;
       len : vec_len l.lines ≡ length l.yielded;
