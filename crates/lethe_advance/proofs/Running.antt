@@ -1,5 +1,5 @@
 -- The images of a disk through a step.
-use Rattle.std.proofs.Common.{◌≡◌, ◌⊎◌, ℕ, inl, inr, List, length, map, take, Some, refl, sym, ap, ◌∙◌, subst, arith}
+use Rattle.std.proofs.Common.{◌≡◌, ◌≤◌, ◌+◌, ◌⊎◌, ℕ, inl, inr, List, length, map, take, Some, refl, sym, ap, ◌∙◌, subst, arith}
 use Rattle.std.specs.Prelude.{All, Contains, IsSome, is_some}
 use Rattle.std.proofs.lemmas.List.{take_all}
 use Rattle.lethe_base.specs.declared.name.Name.{Name}
