@@ -31,7 +31,7 @@ use Rattle.lethe_core.specs.Merges.{IsInstalled, MayMerge}
 use Rattle.lethe_core.specs.Running.{Holds, IsRunning, IsSmall}
 use Rattle.lethe_core.specs.StandsNow.{IsCounted, StandsNow}
 use Rattle.lethe_core.specs.View.{View, loose_in}
-use Rattle.lethe_core.proofs.Standing.{next_stands_now, stands_for, stands_holds}
+use Rattle.lethe_core.proofs.Standing.{next_drawn, next_stands_now, stands_for, stands_holds}
 
 -- Its outcome stands for the same history
 

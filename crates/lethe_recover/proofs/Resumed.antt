@@ -16,7 +16,7 @@ use Rattle.lethe_disk.specs.Disk.{Seen, IsSynced}
 use Rattle.lethe_disk.specs.Goes.{Goes}
 use Rattle.lethe_disk.specs.Quiet.{IsQuiet}
 use Rattle.lethe_disk.specs.declared.disk.Disk.{Ghosts}
-use Rattle.lethe_disk.proofs.Going.{goes_quiet}
+use Rattle.lethe_disk.proofs.Going.{goes_quiet, goes_weaker}
 use Rattle.lethe_disk.proofs.Quieting.{quiet_itself}
 use Rattle.lethe_segment.specs.Segments.{Ascends, head_bytes, segment_bytes}
 use Rattle.lethe_segment.specs.declared.record.Record.{Record}
@@ -35,8 +35,10 @@ use Rattle.lethe_stored.specs.Encodes.{Encodes}
 use Rattle.lethe_stored.specs.Kept.{IsFor, IsKept}
 use Rattle.lethe_stored.specs.Left.{IsHistoryOr}
 use Rattle.lethe_stored.specs.Levels.{AreRising, HasFiles}
+use Rattle.lethe_stored.specs.Numbers.{KeepsPace, IsNextNumber}
 use Rattle.lethe_stored.proofs.Firsts.{empty_stands}
 use Rattle.lethe_stored.proofs.Lists.{from_map}
+use Rattle.lethe_stored.proofs.Numbers.{next_of, next_of_none, pace_encoded, pace_stepped, pace_then}
 use Rattle.lethe_stored.proofs.Parts.{active_part}
 use Rattle.lethe_stored.proofs.Unique.{none_or_some, one_stored}
 use Rattle.lethe_follows.specs.Filed.{reopened}
@@ -52,7 +54,7 @@ use Rattle.lethe_load.specs.declared.refused.RecoverRefused.TheVariants as recov
 use Rattle.lethe_recover.specs.Flushing.{IsShort}
 use Rattle.lethe_recover.specs.Journals.{IsJournalOf, erases_of}
 use Rattle.lethe_recover.specs.New.{new_stored}
-use Rattle.lethe_recover.specs.Opening.{IsTold, IsOpened, IsResumed, IsNextNumber, IsExhausted, MayNotOpen, IsCut, since_start}
+use Rattle.lethe_recover.specs.Opening.{IsTold, IsOpened, IsResumed, IsKeptInOpening, IsExhausted, MayNotOpen, IsCut, since_start}
 use Rattle.lethe_recover.specs.Reopening.{Reopens}
 use Rattle.lethe_recover.specs.Resuming.{IsThere, IsReopened, IsLoadedAs}
 use Rattle.lethe_recover.specs.declared.journal.Journal.{Journal}
@@ -111,26 +113,38 @@ module _ (config : Fields) (coherent : IsCoherent (new_stored config)) where
   pub new_stands : IsFor [] (new_stored config)
   new_stands = empty_stands config 2 3 1 coherent.spelled.config (omega arith) (omega arith)
 
-  pub new_kept : (c : Directory) → HasGreatest None c ⊎ Encodes c (new_stored config) → IsKept c []
+  pub new_kept : (c : Directory) → HasGreatest None c ⊎ Encodes c (new_stored config) → IsKept config c []
   new_kept c (inl none) = inl (none, refl)
-  new_kept c (inr made) = inr (record { s = new_stored config; coherent = coherent; encodes = made; stands = new_stands })
+  new_kept c (inr made) = inr (record { s = new_stored config; config_is = refl; coherent = coherent; encodes = made; stands = new_stands })
 
-pub kept_of_none : (d : Directory) (h : History) → HasGreatest None d → IsKept d h → h ≡ []
-kept_of_none d h none (inl k) = k.1
-kept_of_none d h none (inr k) = absurd (none_or_some d k.s.manifest.no none k.encodes.greatest)
+  -- its next number is that of no gate
+  pub new_pace : (old new : Seen) → Goes (λ c. HasGreatest None c ⊎ Encodes c (new_stored config)) old new → KeepsPace 3 old.moment old.moment new
+  new_pace old new goes moment c low high left next is = elim (goes.each moment c low high left) [
+    | inl none ↦ let first = next_of_none c next none is in omega (arith, first, low)
+    | inr made ↦ let first : next ≡ 3 = next_of c (new_stored config) next coherent made is in omega (arith, first, low)
+  ]
+
+pub kept_of_none : (config : Fields) (d : Directory) (h : History) → HasGreatest None d → IsKept config d h → h ≡ []
+kept_of_none config d h none (inl k) = k.1
+kept_of_none config d h none (inr k) = absurd (none_or_some d k.s.manifest.no none k.encodes.greatest)
 
 -- One that is reopened
 
-pub kept_for : (d : Directory) (h : History) (s : Stored) → IsCoherent s → Encodes d s → IsKept d h → IsFor h s
-kept_for d h s coherent e (inl k) = absurd (none_or_some d s.manifest.no k.0 e.greatest)
-kept_for d h s coherent e (inr k) = subst (IsFor h) (one_stored d k.s s k.coherent coherent k.encodes e) k.stands
+module _ (config : Fields) (d : Directory) (h : History) (s : Stored) (coherent : IsCoherent s) (encodes : Encodes d s) where
+  pub kept_for : IsKept config d h → IsFor h s
+  kept_for (inl k) = absurd (none_or_some d s.manifest.no k.0 encodes.greatest)
+  kept_for (inr k) = subst (IsFor h) (one_stored d k.s s k.coherent coherent k.encodes encodes) k.stands
 
-pub old_kept : (h : History) (s : Stored) → IsCoherent s → IsFor h s → (c : Directory) → Encodes c s → IsKept c h
-old_kept h s coherent stands c e = inr (record { s = s; coherent = coherent; encodes = e; stands = stands })
+  pub kept_config : IsKept config d h → s.manifest.config ≡ config
+  kept_config (inl k) = absurd (none_or_some d s.manifest.no k.0 encodes.greatest)
+  kept_config (inr k) = ap (λ (x : Stored). x.manifest.config) (sym (one_stored d k.s s k.coherent coherent k.encodes encodes)) ∙ k.config_is
 
-pub either_kept : (h : History) (s t : Stored) → IsCoherent s → IsFor h s → IsCoherent t → IsFor h t → (c : Directory) → Encodes c s ⊎ Encodes c t → IsKept c h
-either_kept h s t coherent stands next then c (inl e) = old_kept h s coherent stands c e
-either_kept h s t coherent stands next then c (inr e) = old_kept h t next then c e
+pub old_kept : (h : History) (s : Stored) → IsCoherent s → IsFor h s → (c : Directory) → Encodes c s → IsKept s.manifest.config c h
+old_kept h s coherent stands c e = inr (record { s = s; config_is = refl; coherent = coherent; encodes = e; stands = stands })
+
+pub either_kept : (h : History) (s t : Stored) → t.manifest.config ≡ s.manifest.config → IsCoherent s → IsFor h s → IsCoherent t → IsFor h t → (c : Directory) → Encodes c s ⊎ Encodes c t → IsKept s.manifest.config c h
+either_kept h s t config_is coherent stands next then c (inl e) = old_kept h s coherent stands c e
+either_kept h s t config_is coherent stands next then c (inr e) = inr (record { s = t; config_is = config_is; coherent = next; encodes = e; stands = then })
 
 module _ {D Page Port : Type 0} {kind : Ghosts D Page Port} (config : Fields) (disk : Seen) where
   pub ends_of : (s : Stored) (opened : Opened D Page Port kind) → IsThere disk s opened → EndsAt disk (segment_name s.active.no) s.active.no [] 11
@@ -146,18 +160,24 @@ module _ {D Page Port : Type 0} {kind : Ghosts D Page Port} (config : Fields) (d
   abbrev pub new_opened : (opened : Opened D Page Port kind) → IsThere disk (new_stored config) opened → IsOpened config disk opened
   new_opened opened there = opened_of (new_stored config) opened refl there
 
-  pub new_resumed : (h : History) (opened : Opened D Page Port kind) → h ≡ [] → IsThere disk (new_stored config) opened → IsResumed config h None disk opened
-  new_resumed h opened none there = record { history = h; either = refl; is = new_opened opened there; stands = subst (λ g. IsFor g (new_stored config)) (sym none) (new_stands config there.settled.coherent) }
+  pub new_resumed : (h : History) (start : Directory) (opened : Opened D Page Port kind) → HasGreatest None start → h ≡ [] → IsThere disk (new_stored config) opened → IsResumed config h None start disk opened
+  new_resumed h start opened none empty there = record { history = h; either = refl; was = inl (none, empty); is = new_opened opened there; stands = subst (λ g. IsFor g (new_stored config)) (sym empty) (new_stands config there.settled.coherent) }
 
   abbrev pub opened_from : (s : Stored) (opened : Opened D Page Port kind) → s.manifest.config ≡ config → IsReopened s disk opened → IsOpened config disk opened
   opened_from s opened config_is again = opened_of again.t opened (again.config_is ∙ config_is) again.there
 
-  pub resumed_from : (h : History) (s : Stored) (opened : Opened D Page Port kind) → s.manifest.config ≡ config → IsFor h s → IsReopened s disk opened → IsResumed config h None disk opened
-  resumed_from h s opened config_is stands again = record { history = h; either = refl; is = opened_from s opened config_is again; stands = again.stands h stands }
+  pub resumed_from : (h : History) (start : Directory) (s : Stored) (opened : Opened D Page Port kind) → IsCoherent s → Encodes start s → s.manifest.config ≡ config → IsFor h s → IsReopened s disk opened → IsResumed config h None start disk opened
+  resumed_from h start s opened coherent e config_is stands again = record {
+    history = h;
+    either = refl;
+    was = inr (record { s = s; config_is = config_is; coherent = coherent; encodes = e; stands = stands });
+    is = opened_from s opened config_is again;
+    stands = again.stands h stands;
+  }
 
   -- a disk that was left
-  pub from_left : (h g : History) (change : Option Change) → IsHistoryOr h change g → (opened : Opened D Page Port kind) → IsResumed config g None disk opened → IsResumed config h change disk opened
-  from_left h g change either opened is = record { history = is.history; either = subst (IsHistoryOr h change) (sym is.either) either; is = is.is; stands = is.stands }
+  pub from_left : (h g : History) (change : Option Change) → IsHistoryOr h change g → (start : Directory) (opened : Opened D Page Port kind) → IsResumed config g None start disk opened → IsResumed config h change start disk opened
+  from_left h g change either start opened is = record { history = is.history; either = subst (IsHistoryOr h change) (sym is.either) either; was = is.was; is = is.is; stands = is.stands }
 
 -- What was read
 
@@ -200,12 +220,41 @@ module _ (config : Fields) (d : Directory) (read : Read) (there : IsRead config 
 pub settled_again : (old new : Seen) → IsQuiet old new → IsSynced old → (s : Stored) → IsCoherent s → Encodes old.directory s → IsSettled new s
 settled_again old new quiet synced s coherent e = record { synced = quiet_synced old new quiet synced; coherent = coherent; encodes = subst (λ x. Encodes x s) (sym quiet.directory) e }
 
-pub kept_goes : (h : History) (old new : Seen) → IsQuiet old new → IsSynced old → IsKept old.directory h → Goes (λ c. IsKept c h) old new
-kept_goes h old new quiet synced kept = goes_quiet (λ c. IsKept c h) old new quiet (λ d here. subst (λ x. IsKept x h) (sym (synced d here)) kept)
+-- what is kept as it was
+pub still_kept : (kept config : Fields) (h : History) (start c : Directory) → IsKept kept c h → IsKeptInOpening kept config h None start c
+still_kept kept config h start c k = inl (h, refl, k)
+
+-- what is left of an opening behind a sync
+pub from_kept : (kept config : Fields) (h g : History) (change : Option Change) → IsHistoryOr h change g → (synced start : Directory) → synced ≡ start → (c : Directory) → IsKeptInOpening kept config g None synced c → IsKeptInOpening kept config h change start c
+from_kept kept config h g change either synced start same c (inl k) = inl (k.0, subst (IsHistoryOr h change) (sym k.1) either, k.2)
+from_kept kept config h g change either synced start same c (inr new) = inr (subst (HasGreatest None) same new.0, new.1)
+
+pub kept_goes : (kept config : Fields) (h : History) (old new : Seen) → IsQuiet old new → IsSynced old → IsKept kept old.directory h → Goes (IsKeptInOpening kept config h None old.directory) old new
+kept_goes kept config h old new quiet synced k =
+    goes_quiet (IsKeptInOpening kept config h None old.directory) old new quiet (λ d here. still_kept kept config h old.directory d (subst (λ x. IsKept kept x h) (sym (synced d here)) k))
 
 -- where nothing was done yet
-pub settled_goes : (h : History) (disk : Seen) (s : Stored) → IsSettled disk s → IsFor h s → Goes (λ c. IsKept c h) disk disk
-settled_goes h disk s settled stands = goes_quiet (λ c. IsKept c h) disk disk (quiet_itself disk) (λ d here. old_kept h s settled.coherent stands d (subst (λ x. Encodes x s) (sym (settled.synced d here)) settled.encodes))
+settled_encodes : (disk : Seen) (s : Stored) → IsSettled disk s → Goes (λ c. Encodes c s) disk disk
+settled_encodes disk s settled = goes_quiet (λ c. Encodes c s) disk disk (quiet_itself disk) (λ d here. subst (λ x. Encodes x s) (sym (settled.synced d here)) settled.encodes)
+
+pub settled_goes : (h : History) (disk : Seen) (s : Stored) → IsSettled disk s → IsFor h s → Goes (λ c. IsKept s.manifest.config c h) disk disk
+settled_goes h disk s settled stands = goes_weaker (λ c. Encodes c s) (λ c. IsKept s.manifest.config c h) disk disk (old_kept h s settled.coherent stands) (settled_encodes disk s settled)
+
+-- Numbers keep pace
+
+-- calls that change nothing draw no number
+pub quiet_pace : (first since : ℕ) (old new : Seen) → old.moment ≤ since → IsQuiet old new → KeepsPace first old.moment old.moment old → KeepsPace first since since new
+quiet_pace first since old new later quiet before moment c low high left next is =
+    let d = quiet.any_moment.each moment c (omega (arith, later, low)) high left in
+    let bound = before old.moment d.0 (omega arith) (omega arith) d.1 next (subst (λ x. IsNextNumber x next) d.2 is) in
+    omega (arith, bound, low)
+
+-- what leaves what is stored draws none
+pub encoded_pace : (s : Stored) (m : Manifest) (old new : Seen) → IsCoherent s → s.manifest ≡ m → Goes (λ c. Encodes c s) old new → KeepsPace m.next old.moment old.moment new
+encoded_pace s m old new coherent same goes = let next = ap (λ (m : Manifest). m.next) same in pace_encoded s m.next old new coherent (omega (arith, next)) goes
+
+pub settled_pace : (disk : Seen) (s : Stored) (m : Manifest) → IsSettled disk s → s.manifest ≡ m → KeepsPace m.next disk.moment disk.moment disk
+settled_pace disk s m settled same = encoded_pace s m disk disk settled.coherent same (settled_encodes disk s settled)
 
 -- What was read has a spelling
 
@@ -221,15 +270,6 @@ spelled_some config read m is (inr there) = subst (λ x. IsSpelledAs config x re
 
 pub cited_long : (config : Fields) (read : Read) (m : Manifest) → IsSpelledAs config m read → length m.files ≡ length read.files
 cited_long config read m spelled = files_long m.files read.files spelled.files
-
--- the next number is that of what was read
-pub next_of : (d : Directory) (s : Stored) (next : ℕ) → IsCoherent s → Encodes d s → IsNextNumber d next → next ≡ s.manifest.next
-next_of d s next coherent e (inl none) = absurd (none_or_some d s.manifest.no none.0 e.greatest)
-next_of d s next coherent e (inr found) = found.3 ∙ ap (λ (x : Stored). x.manifest.next) (one_stored d found.0 s found.1 coherent found.2 e)
-
-pub next_of_none : (d : Directory) (next : ℕ) → HasGreatest None d → IsNextNumber d next → next ≡ 3
-next_of_none d next none (inl is) = is.1
-next_of_none d next none (inr found) = absurd (none_or_some d (found.0).manifest.no none (found.2).greatest)
 
 -- What the step comes to
 
@@ -267,6 +307,19 @@ module _ {D Page Port : Type 0} {kind : Ghosts D Page Port} (s : Stored) (made :
         config_is = refl;
         stands = is.stands;
       }
+
+-- the step draws the numbers of its objects and of the manifest, behind a tidying that draws none
+pub reopened_pace : (s : Stored) (m : Manifest) (made : Reopening) (is : Reopens s made) (old mid new : Seen) → IsCoherent s → s.manifest ≡ m → made.step.manifest.next ≡ m.next + length made.step.objects.items + 1
+    → Goes (λ c. Encodes c s) old mid → Goes (λ c. Encodes c s ⊎ Encodes c (next_stored s made is)) mid new
+    → ((moment : ℕ) (c : Directory) → mid.moment ≤ moment → moment ≤ new.moment → moment ≤ mid.moment + length made.step.objects.items → new.left moment c → Encodes c s) → KeepsPace m.next old.moment old.moment new
+reopened_pace s m made is old mid new coherent same drawn tidied stepped early =
+    let t = next_stored s made is in
+    let count = length made.step.objects.items in
+    let was = ap (λ (m : Manifest). m.next) same in
+    let next = ap (λ (m : Manifest). m.next) is.step.manifest in
+    let later = tidied.later in
+    pace_then (λ c. Encodes c s ⊎ Encodes c t) m.next old.moment old.moment m.next mid new (encoded_pace s m old mid coherent same tidied) stepped (omega (arith, later))
+    (pace_stepped s t m.next count mid new coherent is.step.coherent (omega (arith, was)) (omega (arith, next, drawn)) stepped early)
 
 -- the headers are those of what is stored
 pub heads_of : {F : Type 0} (p : F → Parts) (head : F → Header) → ((file : F) → head file ≡ (p file).header) → (files : List F) (stored : List StoredFile) → map p files ≡ map parts_of stored → map head files ≡ map (λ file. file.header) stored

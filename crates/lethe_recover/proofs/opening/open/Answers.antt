@@ -1,34 +1,45 @@
-use Rattle.std.proofs.Common.{◌≡◌, ◌≤◌, ◌+◌, ◌⊎◌, ℕ, None, sym, subst, arith}
-use Rattle.std.specs.Prelude.{IfErr, MatchResult}
+use Rattle.std.proofs.Common.{◌≡◌, ◌≤◌, ◌+◌, ◌⊎◌, inl, inr, ℕ, None, sym, subst, arith}
+use Rattle.std.specs.Prelude.{IfErr, IfOk, MatchResult}
 use Rattle.lethe_disk.proofs.Going.{goes_quiet, goes_then, goes_weaker}
 use Rattle.lethe_disk.proofs.Quieting.{quiet_call, quiet_then}
 use Rattle.lethe_stored.specs.Kept.{IsKept}
 use Rattle.lethe_stored.specs.Left.{IsKeptOr}
+use Rattle.lethe_stored.specs.Numbers.{IsNextNumber}
 use Rattle.lethe_load.specs.Refused.{HasReason}
-use Rattle.lethe_recover.specs.Opening.{IsNextNumber, IsResumed, MayNotOpen, IsCut, since_start}
+use Rattle.lethe_recover.specs.Opening.{IsResumed, IsKeptInOpening, MayNotOpen, IsCut, since_start}
 use Rattle.lethe_recover.proofs.Results.{ok_weaker, err_weaker}
-use Rattle.lethe_recover.proofs.Resumed.{same_may, from_left}
+use Rattle.lethe_recover.proofs.Resumed.{same_may, from_left, from_kept, quiet_pace}
 use Rattle.lethe_recover.proofs.opening.open.Goals as goal
 
 pub returns-in-Ok-clause-resumed : goal.returns-in-Ok-clause-resumed
-returns-in-Ok-clause-resumed g c = λ told h change left.
+returns-in-Ok-clause-resumed g c = λ told kept h change left.
     let s1 = g.D.Disk.seen c.sync.new.self in
     let s2 = g.D.Disk.seen c.open_synced.new.disk in
     let config = c.args.config.now in
     let now = left.now in
-    let kept : IsKept s1.directory now.0 = subst (λ x. IsKept x now.0) (sym (c.sync.ensures.directory told)) now.2 in
-    ok_weaker c.open_synced.result (λ opened. IsResumed config now.0 None s2 opened) (λ opened. IsResumed config h change s2 opened) (c.open_synced.ensures.resumed told now.0 kept) (from_left config s2 h now.0 change now.1)
+    let same = c.sync.ensures.directory told in
+    let k : IsKept kept s1.directory now.0 = subst (λ x. IsKept kept x now.0) (sym same) now.2 in
+    subst (λ d. IfOk c.open_synced.result (λ opened. IsResumed config h change d s2 opened)) same
+    (ok_weaker c.open_synced.result (λ opened. IsResumed config now.0 None s1.directory s2 opened) (λ opened. IsResumed config h change s1.directory s2 opened) (c.open_synced.ensures.resumed told kept now.0 k) (from_left config s2 h now.0 change now.1 s1.directory))
 
 pub returns-in-Ok-clause-any_moment : goal.returns-in-Ok-clause-any_moment
-returns-in-Ok-clause-any_moment g c = λ told h change left.
+returns-in-Ok-clause-any_moment g c = λ told kept h change left.
     let s0 = g.D.Disk.seen c.args.disk.now in
     let s1 = g.D.Disk.seen c.sync.new.self in
     let s2 = g.D.Disk.seen c.open_synced.new.disk in
+    let config = c.args.config.now in
     let now = left.now in
-    let kept : IsKept s1.directory now.0 = subst (λ x. IsKept x now.0) (sym (c.sync.ensures.directory told)) now.2 in
-    goes_then (IsKeptOr h change) s0 s1 s2
-    (goes_quiet (IsKeptOr h change) s0 s1 (quiet_call c.sync.result s0 s1 (c.sync.ensures.call told) (c.sync.ensures.directory told)) left.images)
-    (goes_weaker (λ x. IsKept x now.0) (IsKeptOr h change) s1 s2 (λ x k. (now.0, now.1, k)) (c.open_synced.ensures.any_moment told now.0 kept))
+    let same = c.sync.ensures.directory told in
+    let k : IsKept kept s1.directory now.0 = subst (λ x. IsKept kept x now.0) (sym same) now.2 in
+    let P = IsKeptInOpening kept config h change s0.directory in
+    goes_then P s0 s1 s2
+    (goes_quiet P s0 s1 (quiet_call c.sync.result s0 s1 (c.sync.ensures.call told) same) (λ x here. inl (left.images x here)))
+    (goes_weaker (IsKeptInOpening kept config now.0 None s1.directory) P s1 s2 (from_kept kept config h now.0 change now.1 s1.directory s0.directory same) (c.open_synced.ensures.any_moment told kept now.0 k))
+
+pub returns-in-Err-clause-any_moment : goal.returns-in-Err-clause-any_moment
+returns-in-Err-clause-any_moment g c = λ told kept h change left.
+    let s0 = g.D.Disk.seen c.args.disk.now in
+    goes_quiet (IsKeptInOpening kept c.args.config.now h change s0.directory) s0 (g.D.Disk.seen c.sync.new.self) (quiet_call c.sync.result s0 (g.D.Disk.seen c.sync.new.self) (c.sync.ensures.call told) (c.sync.ensures.directory told)) (λ x here. inl (left.images x here))
 
 pub returns-in-Ok-clause-refused : goal.returns-in-Ok-clause-refused
 returns-in-Ok-clause-refused g c =
@@ -80,3 +91,9 @@ returns-in-Ok-clause-numbers g c = λ told.
     let later = (c.sync.ensures.call told).later in
     ok_weaker c.open_synced.result (λ opened. (next : ℕ) → IsNextNumber s1.directory next → opened.manifest.next + s1.moment ≤ next + s2.moment) (λ opened. (next : ℕ) → IsNextNumber s0.directory next → opened.manifest.next + s0.moment ≤ next + s2.moment)
     (c.open_synced.ensures.numbers told) (λ opened bound next is. let here = bound next (subst (λ d. IsNextNumber d next) (sym (c.sync.ensures.directory told)) is) in omega (arith, here, later))
+
+pub returns-in-Err-clause-pace : goal.returns-in-Err-clause-pace
+returns-in-Err-clause-pace g c = λ told first before.
+    let s0 = g.D.Disk.seen c.args.disk.now in
+    let s1 = g.D.Disk.seen c.sync.new.self in
+    quiet_pace first s0.moment s0 s1 (omega arith) (quiet_call c.sync.result s0 s1 (c.sync.ensures.call told) (c.sync.ensures.directory told)) before

@@ -1,23 +1,25 @@
-use Rattle.std.proofs.Common.{◌≡◌, ◌≤◌, ◌+◌, ◌⊎◌, ℕ, None, sym, ap, subst, ◌∙◌, arith}
+use Rattle.std.proofs.Common.{◌≡◌, ◌≤◌, ◌+◌, ◌⊎◌, inl, inr, ℕ, [], None, refl, sym, ap, subst, ◌∙◌, arith}
 use Rattle.std.proofs.lemmas.List.{length-map}
 use Rattle.lethe_disk.specs.Goes.{Goes}
-use Rattle.lethe_disk.proofs.Going.{goes_then}
+use Rattle.lethe_disk.proofs.Going.{goes_then, goes_weaker}
 use Rattle.lethe_manifest.specs.declared.manifest.Manifest.{Manifest}
 use Rattle.lethe_stored.specs.Kept.{IsKept}
+use Rattle.lethe_stored.specs.Numbers.{IsNextNumber}
+use Rattle.lethe_stored.proofs.Numbers.{next_of, next_of_none, pace_then}
 use Rattle.lethe_advance.specs.Shown.{parts_in}
 use Rattle.lethe_load.specs.Loaded.{shown}
 use Rattle.lethe_recover.specs.Flushing.{IsShort}
 use Rattle.lethe_recover.specs.Journals.{erases_of}
 use Rattle.lethe_recover.specs.New.{new_stored}
-use Rattle.lethe_recover.specs.Opening.{IsNextNumber, IsOpened, IsResumed, IsSpellable, MayNotOpen, IsCut, since_start}
+use Rattle.lethe_recover.specs.Opening.{IsOpened, IsResumed, IsKeptInOpening, IsSpellable, MayNotOpen, IsCut, since_start}
 use Rattle.lethe_recover.specs.Resuming.{IsThere, IsReopened}
 use Rattle.lethe_recover.proofs.Results.{ok_weaker, err_weaker}
-use Rattle.lethe_recover.proofs.Resumed.{since_may, since_exact, cut_may, new_opened, new_resumed, kept_of_none, kept_for, opened_from, resumed_from, read_some, read_none, manifest_of, loaded_as, exhausted_of, settled_again, kept_goes, spelled_some, cited_long, next_of, next_of_none}
+use Rattle.lethe_recover.proofs.Resumed.{since_may, since_exact, cut_may, new_opened, new_resumed, kept_of_none, kept_for, kept_config, opened_from, resumed_from, read_some, read_none, manifest_of, loaded_as, exhausted_of, settled_again, still_kept, kept_goes, quiet_pace, spelled_some, cited_long}
 use Rattle.lethe_recover.proofs.opening.open_synced.Goals as goal
 
 pub returns-in-Err-clause-any_moment : goal.returns-in-Err-clause-any_moment
-returns-in-Err-clause-any_moment g c = λ told h kept.
-    kept_goes h (g.D.Disk.seen c.args.disk.now) (g.D.Disk.seen c.load.new.disk) (c.load.ensures.quiet told) (c.requires.synced told) kept
+returns-in-Err-clause-any_moment g c = λ told kept h k.
+    kept_goes kept c.args.config.now h (g.D.Disk.seen c.args.disk.now) (g.D.Disk.seen c.load.new.disk) (c.load.ensures.quiet told) (c.requires.synced told) k
 
 pub returns-in-Err-clause-refused : goal.returns-in-Err-clause-refused
 returns-in-Err-clause-refused g c =
@@ -42,22 +44,23 @@ returns-in-None-clause-opened g c = λ told.
     ok_weaker c.start.result (λ opened. IsThere s2 (new_stored config) opened) (λ opened. IsOpened config s2 opened) (c.start.ensures.there told) (new_opened config s2)
 
 pub returns-in-None-clause-resumed : goal.returns-in-None-clause-resumed
-returns-in-None-clause-resumed g c = λ told h kept.
+returns-in-None-clause-resumed g c = λ told kept h k.
     let d = (g.D.Disk.seen c.args.disk.now).directory in
     let config = c.args.config.now in
     let s2 = g.D.Disk.seen c.start.new.disk in
     let none = read_none config d (shown c.in-Ok.read) c.in-None.is (c.in-Ok.ensures.found told) in
-    ok_weaker c.start.result (λ opened. IsThere s2 (new_stored config) opened) (λ opened. IsResumed config h None s2 opened) (c.start.ensures.there told) (λ opened there. new_resumed config s2 h opened (kept_of_none d h none kept) there)
+    ok_weaker c.start.result (λ opened. IsThere s2 (new_stored config) opened) (λ opened. IsResumed config h None d s2 opened) (c.start.ensures.there told) (λ opened there. new_resumed config s2 h d opened none (kept_of_none kept d h none k) there)
 
 pub returns-in-None-clause-any_moment : goal.returns-in-None-clause-any_moment
-returns-in-None-clause-any_moment g c = λ told h kept.
+returns-in-None-clause-any_moment g c = λ told kept h k.
     let s0 = g.D.Disk.seen c.args.disk.now in
     let s1 = g.D.Disk.seen c.load.new.disk in
     let s2 = g.D.Disk.seen c.start.new.disk in
-    let none = read_none c.args.config.now s0.directory (shown c.in-Ok.read) c.in-None.is (c.in-Ok.ensures.found told) in
-    let empty = kept_of_none s0.directory h none kept in
-    goes_then (λ x. IsKept x h) s0 s1 s2 (kept_goes h s0 s1 (c.load.ensures.quiet told) (c.requires.synced told) kept)
-    (subst (λ k. Goes (λ x. IsKept x k) s1 s2) (sym empty) (c.start.ensures.any_moment told))
+    let config = c.args.config.now in
+    let none = read_none config s0.directory (shown c.in-Ok.read) c.in-None.is (c.in-Ok.ensures.found told) in
+    let P = IsKeptInOpening kept config h None s0.directory in
+    goes_then P s0 s1 s2 (kept_goes kept config h s0 s1 (c.load.ensures.quiet told) (c.requires.synced told) k)
+    (goes_weaker (λ x. IsKept config x []) P s1 s2 (λ x new. inr (none, new)) (c.start.ensures.any_moment told))
 
 pub returns-in-None-clause-exact : goal.returns-in-None-clause-exact
 returns-in-None-clause-exact g c = λ told why reason. absurd (c.in-Ok.ensures.exact told why reason)
@@ -120,7 +123,7 @@ returns-in-Some-clause-opened g c = λ told.
     ok_weaker c.resume.result (λ opened. IsReopened there.s s2 opened) (λ opened. IsOpened config s2 opened) (c.resume.ensures.there told there.s settled loaded) (λ opened again. opened_from config s2 there.s opened there.config_is again)
 
 pub returns-in-Some-clause-resumed : goal.returns-in-Some-clause-resumed
-returns-in-Some-clause-resumed g c = λ told h kept.
+returns-in-Some-clause-resumed g c = λ told kept h k.
     let s0 = g.D.Disk.seen c.args.disk.now in
     let s1 = g.D.Disk.seen c.load.new.disk in
     let s2 = g.D.Disk.seen c.resume.new.disk in
@@ -131,11 +134,11 @@ returns-in-Some-clause-resumed g c = λ told h kept.
     let there = read_some config d read m c.in-Some.is (c.in-Ok.ensures.found told) in
     let settled = settled_again s0 s1 (c.load.ensures.quiet told) (c.requires.synced told) there.s there.coherent there.encodes in
     let loaded = loaded_as config d read there m c.in-Some.is c.of-journal.result c.of-journal.ensures.is in
-    let stands = kept_for d h there.s there.coherent there.encodes kept in
-    ok_weaker c.resume.result (λ opened. IsReopened there.s s2 opened) (λ opened. IsResumed config h None s2 opened) (c.resume.ensures.there told there.s settled loaded) (λ opened again. resumed_from config s2 h there.s opened there.config_is stands again)
+    let stands = kept_for kept d h there.s there.coherent there.encodes k in
+    ok_weaker c.resume.result (λ opened. IsReopened there.s s2 opened) (λ opened. IsResumed config h None d s2 opened) (c.resume.ensures.there told there.s settled loaded) (λ opened again. resumed_from config s2 h d there.s opened there.coherent there.encodes there.config_is stands again)
 
 pub returns-in-Some-clause-any_moment : goal.returns-in-Some-clause-any_moment
-returns-in-Some-clause-any_moment g c = λ told h kept.
+returns-in-Some-clause-any_moment g c = λ told kept h k.
     let s0 = g.D.Disk.seen c.args.disk.now in
     let s1 = g.D.Disk.seen c.load.new.disk in
     let s2 = g.D.Disk.seen c.resume.new.disk in
@@ -146,8 +149,11 @@ returns-in-Some-clause-any_moment g c = λ told h kept.
     let there = read_some config d read m c.in-Some.is (c.in-Ok.ensures.found told) in
     let settled = settled_again s0 s1 (c.load.ensures.quiet told) (c.requires.synced told) there.s there.coherent there.encodes in
     let loaded = loaded_as config d read there m c.in-Some.is c.of-journal.result c.of-journal.ensures.is in
-    let stands = kept_for d h there.s there.coherent there.encodes kept in
-    goes_then (λ x. IsKept x h) s0 s1 s2 (kept_goes h s0 s1 (c.load.ensures.quiet told) (c.requires.synced told) kept) (c.resume.ensures.any_moment told there.s settled loaded h stands)
+    let stands = kept_for kept d h there.s there.coherent there.encodes k in
+    let P = IsKeptInOpening kept config h None d in
+    goes_then P s0 s1 s2 (kept_goes kept config h s0 s1 (c.load.ensures.quiet told) (c.requires.synced told) k)
+    (goes_weaker (λ x. IsKept there.s.manifest.config x h) P s1 s2
+    (λ x now. still_kept kept config h d x (subst (λ fields. IsKept fields x h) (kept_config kept d h there.s there.coherent there.encodes k) now)) (c.resume.ensures.any_moment told there.s settled loaded h stands))
 
 pub returns-in-Some-clause-spelled : goal.returns-in-Some-clause-spelled
 returns-in-Some-clause-spelled g c =
@@ -190,3 +196,21 @@ returns-in-Some-clause-numbers g c = λ told.
     let quiet = (c.load.ensures.quiet told).any_moment.later in
     ok_weaker c.resume.result (λ opened. opened.manifest.next + s1.moment ≤ m.next + s2.moment) (λ opened. (next : ℕ) → IsNextNumber d next → opened.manifest.next + s0.moment ≤ next + s2.moment) (c.resume.ensures.numbers told)
     (λ opened bound next is. let here = next_of d there.s next there.coherent there.encodes is in omega (arith, here, own, bound, quiet))
+
+pub returns-in-Err-clause-pace : goal.returns-in-Err-clause-pace
+returns-in-Err-clause-pace g c = λ told first before.
+    let s0 = g.D.Disk.seen c.args.disk.now in
+    quiet_pace first s0.moment s0 (g.D.Disk.seen c.load.new.disk) (omega arith) (c.load.ensures.quiet told) before
+
+pub returns-in-None-clause-pace : goal.returns-in-None-clause-pace
+returns-in-None-clause-pace g c = λ told first before.
+    let s0 = g.D.Disk.seen c.args.disk.now in
+    let s1 = g.D.Disk.seen c.load.new.disk in
+    let s2 = g.D.Disk.seen c.start.new.disk in
+    let config = c.args.config.now in
+    let quiet = c.load.ensures.quiet told in
+    let none = read_none config s0.directory (shown c.in-Ok.read) c.in-None.is (c.in-Ok.ensures.found told) in
+    let here = (g.met.D.Disk g.world.𝓛 g.world.𝓜 g.world.𝓡 ((λ s x. x), (λ x. x), (λ x. x), λ x. x)).itself told c.args.disk.now in
+    let bound = before s0.moment s0.directory (omega arith) (omega arith) here 3 (inl (none, refl)) in
+    let later = quiet.any_moment.later in
+    pace_then (λ x. IsKept config x []) first s0.moment s0.moment 3 s1 s2 (quiet_pace first s0.moment s0 s1 (omega arith) quiet before) (c.start.ensures.any_moment told) (omega (arith, bound, later)) (c.start.ensures.pace told)

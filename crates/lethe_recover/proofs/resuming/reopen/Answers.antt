@@ -3,7 +3,7 @@ use Rattle.lethe_disk.proofs.Going.{goes_then, goes_weaker}
 use Rattle.lethe_stored.specs.Encodes.{Encodes}
 use Rattle.lethe_stored.specs.Kept.{IsKept}
 use Rattle.lethe_advance.specs.Steps.{MayAdvance}
-use Rattle.lethe_recover.proofs.Resumed.{next_stored, old_kept, either_kept, reopened_of}
+use Rattle.lethe_recover.proofs.Resumed.{next_stored, old_kept, either_kept, encoded_pace, reopened_pace, reopened_of}
 use Rattle.lethe_recover.proofs.Readied.{reopens_of}
 use Rattle.lethe_recover.proofs.resuming.reopen.Goals as goal
 
@@ -12,11 +12,11 @@ tidy-requires-clause-settled g c κs within = λ told. let asked = c.requires.se
 
 pub returns-in_err-tidy-clause-any_moment : goal.returns-in_err-tidy-clause-any_moment
 returns-in_err-tidy-clause-any_moment g c = λ told s settled ready h stands.
-    goes_weaker (λ x. Encodes x s) (λ x. IsKept x h) (g.D.Disk.seen c.args.disk.now) (g.D.Disk.seen c.tidy.new.disk) (old_kept h s settled.coherent stands) (c.tidy.ensures.any_moment told s settled)
+    goes_weaker (λ x. Encodes x s) (λ x. IsKept s.manifest.config x h) (g.D.Disk.seen c.args.disk.now) (g.D.Disk.seen c.tidy.new.disk) (old_kept h s settled.coherent stands) (c.tidy.ensures.any_moment told s settled)
 
 pub returns-in_err-made-clause-any_moment : goal.returns-in_err-made-clause-any_moment
 returns-in_err-made-clause-any_moment g c = λ told s settled ready h stands.
-    goes_weaker (λ x. Encodes x s) (λ x. IsKept x h) (g.D.Disk.seen c.args.disk.now) (g.D.Disk.seen c.tidy.new.disk) (old_kept h s settled.coherent stands) (c.tidy.ensures.any_moment told s settled)
+    goes_weaker (λ x. Encodes x s) (λ x. IsKept s.manifest.config x h) (g.D.Disk.seen c.args.disk.now) (g.D.Disk.seen c.tidy.new.disk) (old_kept h s settled.coherent stands) (c.tidy.ensures.any_moment told s settled)
 
 pub advance-requires-clause-level : goal.advance-requires-clause-level
 advance-requires-clause-level g c κs within = omega (arith, c.in_ok-made.ensures.level, c.requires.ready.levels)
@@ -40,9 +40,9 @@ returns-in_err-reopened-clause-any_moment g c = λ told s settled ready h stands
     let is = reopens_of s c.args.manifest.now c.args.made settled.coherent ready c.in_ok-made.made c.in_ok-made.ensures.reopens in
     let t = next_stored s c.in_ok-made.made is in
     let may : MayAdvance (g.D.Disk.seen c.tidy.new.disk) s [] t [] c.in_ok-made.made.headers.items c.in_ok-made.made.step = record { settled = tidied.0; only = tidied.1; step_is = is.step } in
-    goes_then (λ x. IsKept x h) s0 s1 s2
-    (goes_weaker (λ x. Encodes x s) (λ x. IsKept x h) s0 s1 (old_kept h s settled.coherent stands) (c.tidy.ensures.any_moment told s settled))
-    (goes_weaker (λ x. Encodes x s ⊎ Encodes x t) (λ x. IsKept x h) s1 s2 (either_kept h s t settled.coherent stands is.step.coherent (is.stands h stands)) (c.advance.ensures.any_moment told s t [] [] may))
+    goes_then (λ x. IsKept s.manifest.config x h) s0 s1 s2
+    (goes_weaker (λ x. Encodes x s) (λ x. IsKept s.manifest.config x h) s0 s1 (old_kept h s settled.coherent stands) (c.tidy.ensures.any_moment told s settled))
+    (goes_weaker (λ x. Encodes x s ⊎ Encodes x t) (λ x. IsKept s.manifest.config x h) s1 s2 (either_kept h s t is.step.config settled.coherent stands is.step.coherent (is.stands h stands)) (c.advance.ensures.any_moment told s t [] [] may))
 
 pub returns-clause-any_moment : goal.returns-clause-any_moment
 returns-clause-any_moment g c = λ told s settled ready h stands.
@@ -53,9 +53,9 @@ returns-clause-any_moment g c = λ told s settled ready h stands.
     let is = reopens_of s c.args.manifest.now c.args.made settled.coherent ready c.in_ok-made.made c.in_ok-made.ensures.reopens in
     let t = next_stored s c.in_ok-made.made is in
     let may : MayAdvance (g.D.Disk.seen c.tidy.new.disk) s [] t [] c.in_ok-made.made.headers.items c.in_ok-made.made.step = record { settled = tidied.0; only = tidied.1; step_is = is.step } in
-    goes_then (λ x. IsKept x h) s0 s1 s2
-    (goes_weaker (λ x. Encodes x s) (λ x. IsKept x h) s0 s1 (old_kept h s settled.coherent stands) (c.tidy.ensures.any_moment told s settled))
-    (goes_weaker (λ x. Encodes x s ⊎ Encodes x t) (λ x. IsKept x h) s1 s2 (either_kept h s t settled.coherent stands is.step.coherent (is.stands h stands)) (c.advance.ensures.any_moment told s t [] [] may))
+    goes_then (λ x. IsKept s.manifest.config x h) s0 s1 s2
+    (goes_weaker (λ x. Encodes x s) (λ x. IsKept s.manifest.config x h) s0 s1 (old_kept h s settled.coherent stands) (c.tidy.ensures.any_moment told s settled))
+    (goes_weaker (λ x. Encodes x s ⊎ Encodes x t) (λ x. IsKept s.manifest.config x h) s1 s2 (either_kept h s t is.step.config settled.coherent stands is.step.coherent (is.stands h stands)) (c.advance.ensures.any_moment told s t [] [] may))
 
 pub returns-clause-there : goal.returns-clause-there
 returns-clause-there g c = λ told s settled ready.
@@ -84,3 +84,37 @@ returns-clause-numbers g c = λ told.
     let calls = c.in_ok-reopened.ensures.calls told in
     let next = c.in_ok-made.ensures.next in
     omega (arith, later, calls, next)
+
+pub returns-in_err-tidy-clause-pace : goal.returns-in_err-tidy-clause-pace
+returns-in_err-tidy-clause-pace g c = λ told s settled ready.
+    encoded_pace s c.args.manifest.now (g.D.Disk.seen c.args.disk.now) (g.D.Disk.seen c.tidy.new.disk) settled.coherent ready.manifest (c.tidy.ensures.any_moment told s settled)
+
+pub returns-in_err-made-clause-pace : goal.returns-in_err-made-clause-pace
+returns-in_err-made-clause-pace g c = λ told s settled ready.
+    encoded_pace s c.args.manifest.now (g.D.Disk.seen c.args.disk.now) (g.D.Disk.seen c.tidy.new.disk) settled.coherent ready.manifest (c.tidy.ensures.any_moment told s settled)
+
+pub returns-in_err-reopened-clause-pace : goal.returns-in_err-reopened-clause-pace
+returns-in_err-reopened-clause-pace g c = λ told s settled ready.
+    let s0 = g.D.Disk.seen c.args.disk.now in
+    let s1 = g.D.Disk.seen c.tidy.new.disk in
+    let s2 = g.D.Disk.seen c.advance.new.disk in
+    let m = c.args.manifest.now in
+    let made = c.in_ok-made.made in
+    let tidied = c.in_ok-tidy.ensures.done told s settled in
+    let is = reopens_of s m c.args.made settled.coherent ready made c.in_ok-made.ensures.reopens in
+    let t = next_stored s made is in
+    let may : MayAdvance s1 s [] t [] made.headers.items made.step = record { settled = tidied.0; only = tidied.1; step_is = is.step } in
+    reopened_pace s m made is s0 s1 s2 settled.coherent ready.manifest c.in_ok-made.ensures.next (c.tidy.ensures.any_moment told s settled) (c.advance.ensures.any_moment told s t [] [] may) (c.advance.ensures.early told s t [] [] may)
+
+pub returns-clause-pace : goal.returns-clause-pace
+returns-clause-pace g c = λ told s settled ready.
+    let s0 = g.D.Disk.seen c.args.disk.now in
+    let s1 = g.D.Disk.seen c.tidy.new.disk in
+    let s2 = g.D.Disk.seen c.advance.new.disk in
+    let m = c.args.manifest.now in
+    let made = c.in_ok-made.made in
+    let tidied = c.in_ok-tidy.ensures.done told s settled in
+    let is = reopens_of s m c.args.made settled.coherent ready made c.in_ok-made.ensures.reopens in
+    let t = next_stored s made is in
+    let may : MayAdvance s1 s [] t [] made.headers.items made.step = record { settled = tidied.0; only = tidied.1; step_is = is.step } in
+    reopened_pace s m made is s0 s1 s2 settled.coherent ready.manifest c.in_ok-made.ensures.next (c.tidy.ensures.any_moment told s settled) (c.advance.ensures.any_moment told s t [] [] may) (c.advance.ensures.early told s t [] [] may)
