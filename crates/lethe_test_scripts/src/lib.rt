@@ -2,9 +2,13 @@
 #![tactic(auto)]
 
 #[cfg(test)]
+mod counting;
+#[cfg(test)]
 mod faults;
 #[cfg(test)]
 mod options;
+#[cfg(test)]
+mod phases;
 #[cfg(test)]
 mod refusals;
 #[cfg(test)]
