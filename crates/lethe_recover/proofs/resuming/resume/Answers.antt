@@ -12,3 +12,9 @@ returns-in_default-clause-pace g c = λ told s settled loaded. settled_pace (g.D
 
 pub returns-then-exhaust-clause-pace : goal.returns-then-exhaust-clause-pace
 returns-then-exhaust-clause-pace g c = λ told s settled loaded. settled_pace (g.D.Disk.seen c.args.disk.now) s c.args.manifest.now settled loaded.manifest
+
+pub returns-in-Ok-reopen-clause-pace : goal.returns-in-Ok-reopen-clause-pace
+returns-in-Ok-reopen-clause-pace g c = λ told s settled loaded. c.reopen.ensures.pace told s settled (c.in-Ok.ensures.for_stored s settled.coherent loaded)
+
+pub returns-in-Err-clause-pace : goal.returns-in-Err-clause-pace
+returns-in-Err-clause-pace g c = λ told s settled loaded. c.reopen.ensures.pace told s settled (c.in-Ok.ensures.for_stored s settled.coherent loaded)
