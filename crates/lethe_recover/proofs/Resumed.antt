@@ -139,12 +139,12 @@ module _ (config : Fields) (d : Directory) (h : History) (s : Stored) (coherent 
   kept_config (inl k) = absurd (none_or_some d s.manifest.no k.0 encodes.greatest)
   kept_config (inr k) = ap (λ (x : Stored). x.manifest.config) (sym (one_stored d k.s s k.coherent coherent k.encodes encodes)) ∙ k.config_is
 
-pub old_kept : (h : History) (s : Stored) → IsCoherent s → IsFor h s → (c : Directory) → Encodes c s → IsKept s.manifest.config c h
-old_kept h s coherent stands c e = inr (record { s = s; config_is = refl; coherent = coherent; encodes = e; stands = stands })
+pub old_kept : (s : Stored) → IsCoherent s → (c : Directory) → Encodes c s → (h : History) → IsFor h s → IsKept s.manifest.config c h
+old_kept s coherent c e h stands = inr (record { s = s; config_is = refl; coherent = coherent; encodes = e; stands = stands })
 
-pub either_kept : (h : History) (s t : Stored) → t.manifest.config ≡ s.manifest.config → IsCoherent s → IsFor h s → IsCoherent t → IsFor h t → (c : Directory) → Encodes c s ⊎ Encodes c t → IsKept s.manifest.config c h
-either_kept h s t config_is coherent stands next then c (inl e) = old_kept h s coherent stands c e
-either_kept h s t config_is coherent stands next then c (inr e) = inr (record { s = t; config_is = config_is; coherent = next; encodes = e; stands = then })
+pub either_kept : (s t : Stored) → t.manifest.config ≡ s.manifest.config → IsCoherent s → IsCoherent t → ((h : History) → IsFor h s → IsFor h t) → (c : Directory) → Encodes c s ⊎ Encodes c t → (h : History) → IsFor h s → IsKept s.manifest.config c h
+either_kept s t config_is coherent next then c (inl e) h stands = old_kept s coherent c e h stands
+either_kept s t config_is coherent next then c (inr e) h stands = inr (record { s = t; config_is = config_is; coherent = next; encodes = e; stands = then h stands })
 
 module _ {D Page Port : Type 0} {kind : Ghosts D Page Port} (config : Fields) (disk : Seen) where
   pub ends_of : (s : Stored) (opened : Opened D Page Port kind) → IsThere disk s opened → EndsAt disk (segment_name s.active.no) s.active.no [] 11
@@ -220,6 +220,10 @@ module _ (config : Fields) (d : Directory) (read : Read) (there : IsRead config 
 pub settled_again : (old new : Seen) → IsQuiet old new → IsSynced old → (s : Stored) → IsCoherent s → Encodes old.directory s → IsSettled new s
 settled_again old new quiet synced s coherent e = record { synced = quiet_synced old new quiet synced; coherent = coherent; encodes = subst (λ x. Encodes x s) (sym quiet.directory) e }
 
+-- what it leaves of what a directory was kept for, in any configuration
+abbrev pub AsKept : Fields → Directory → Directory → Type 0
+AsKept config start c = (kept : Fields) (h : History) → IsKept kept start h → IsKeptInOpening kept config h None start c
+
 -- what is kept as it was
 pub still_kept : (kept config : Fields) (h : History) (start c : Directory) → IsKept kept c h → IsKeptInOpening kept config h None start c
 still_kept kept config h start c k = inl (h, refl, k)
@@ -229,16 +233,16 @@ pub from_kept : (kept config : Fields) (h g : History) (change : Option Change) 
 from_kept kept config h g change either synced start same c (inl k) = inl (k.0, subst (IsHistoryOr h change) (sym k.1) either, k.2)
 from_kept kept config h g change either synced start same c (inr new) = inr (subst (HasGreatest None) same new.0, new.1)
 
-pub kept_goes : (kept config : Fields) (h : History) (old new : Seen) → IsQuiet old new → IsSynced old → IsKept kept old.directory h → Goes (IsKeptInOpening kept config h None old.directory) old new
-kept_goes kept config h old new quiet synced k =
-    goes_quiet (IsKeptInOpening kept config h None old.directory) old new quiet (λ d here. still_kept kept config h old.directory d (subst (λ x. IsKept kept x h) (sym (synced d here)) k))
+pub kept_goes : (config : Fields) (old new : Seen) → IsQuiet old new → IsSynced old → Goes (AsKept config old.directory) old new
+kept_goes config old new quiet synced =
+    goes_quiet (AsKept config old.directory) old new quiet (λ d here kept h k. still_kept kept config h old.directory d (subst (λ x. IsKept kept x h) (sym (synced d here)) k))
 
 -- where nothing was done yet
 settled_encodes : (disk : Seen) (s : Stored) → IsSettled disk s → Goes (λ c. Encodes c s) disk disk
 settled_encodes disk s settled = goes_quiet (λ c. Encodes c s) disk disk (quiet_itself disk) (λ d here. subst (λ x. Encodes x s) (sym (settled.synced d here)) settled.encodes)
 
-pub settled_goes : (h : History) (disk : Seen) (s : Stored) → IsSettled disk s → IsFor h s → Goes (λ c. IsKept s.manifest.config c h) disk disk
-settled_goes h disk s settled stands = goes_weaker (λ c. Encodes c s) (λ c. IsKept s.manifest.config c h) disk disk (old_kept h s settled.coherent stands) (settled_encodes disk s settled)
+pub settled_goes : (disk : Seen) (s : Stored) → IsSettled disk s → Goes (λ c. (h : History) → IsFor h s → IsKept s.manifest.config c h) disk disk
+settled_goes disk s settled = goes_weaker (λ c. Encodes c s) (λ c. (h : History) → IsFor h s → IsKept s.manifest.config c h) disk disk (old_kept s settled.coherent) (settled_encodes disk s settled)
 
 -- Numbers keep pace
 

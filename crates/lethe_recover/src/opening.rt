@@ -102,8 +102,8 @@ fn open_synced<D: Disk>(
     ensures spelled { IfOk result (λ opened. IsSpellable config.now opened) }
     ensures resumed { D.tells → (kept : Fields) (h : History) → IsKept kept (D.seen disk.old).directory h
         → IfOk result (λ opened. IsResumed config.now h None (D.seen disk.old).directory (D.seen disk.new) opened) }
-    ensures any_moment { D.tells → (kept : Fields) (h : History) → IsKept kept (D.seen disk.old).directory h
-        → Goes (IsKeptInOpening kept config.now h None (D.seen disk.old).directory) (D.seen disk.old) (D.seen disk.new) }
+    ensures any_moment { D.tells → Goes (λ c. (kept : Fields) (h : History) → IsKept kept (D.seen disk.old).directory h
+        → IsKeptInOpening kept config.now h None (D.seen disk.old).directory c) (D.seen disk.old) (D.seen disk.new) }
     ensures refused { IfErr result (MayNotOpen D.tells config.now (D.seen disk.old).directory before (D.faults disk.new)) }
     ensures exact { D.tells → (why : RecoverRefused) → HasReason config.now (D.seen disk.old).directory why
         → MatchResult result (λ opened. ⊥) (λ told. (told ≡ since_start before why) ⊎ IsCut ⊥ before (D.faults disk.new) told) }

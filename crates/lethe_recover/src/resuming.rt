@@ -53,7 +53,7 @@ pub fn resume<D: Disk>(
         → IfOk result (λ opened. IsReopened s (D.seen disk.new) opened) }
     ensures spelled { IfOk result (λ opened. IsSpellable manifest.now.config opened) }
     ensures any_moment { D.tells → (s : Stored) → IsSettled (D.seen disk.old) s → IsLoadedAs s manifest.now journal (map parts_in files.items)
-        → (h : History) → IsFor h s → Goes (λ c. IsKept s.manifest.config c h) (D.seen disk.old) (D.seen disk.new) }
+        → Goes (λ c. (h : History) → IsFor h s → IsKept s.manifest.config c h) (D.seen disk.old) (D.seen disk.new) }
     ensures pace { D.tells → (s : Stored) → IsSettled (D.seen disk.old) s → IsLoadedAs s manifest.now journal (map parts_in files.items)
         → KeepsPace manifest.now.next (D.seen disk.old).moment (D.seen disk.old).moment (D.seen disk.new) }
     ensures refused { IfErr result (IsCut (IsShort manifest.now journal.older journal.newer (erases_of manifest.now journal)) before (D.faults disk.new)) }
@@ -89,7 +89,7 @@ fn reopen<D: Disk>(
     ensures there { D.tells → (s : Stored) → IsSettled (D.seen disk.old) s → IsReadyFor s manifest.now made → IfOk result (λ opened. IsReopened s (D.seen disk.new) opened) }
     ensures spelled { IfOk result (λ opened. IsSpellable manifest.now.config opened) }
     ensures any_moment { D.tells → (s : Stored) → IsSettled (D.seen disk.old) s → IsReadyFor s manifest.now made
-        → (h : History) → IsFor h s → Goes (λ c. IsKept s.manifest.config c h) (D.seen disk.old) (D.seen disk.new) }
+        → Goes (λ c. (h : History) → IsFor h s → IsKept s.manifest.config c h) (D.seen disk.old) (D.seen disk.new) }
     ensures pace { D.tells → (s : Stored) → IsSettled (D.seen disk.old) s → IsReadyFor s manifest.now made
         → KeepsPace manifest.now.next (D.seen disk.old).moment (D.seen disk.old).moment (D.seen disk.new) }
     ensures numbers { D.tells → IfOk result (λ opened. opened.manifest.next + (D.seen disk.old).moment ≤ manifest.now.next + (D.seen disk.new).moment) }

@@ -1,14 +1,14 @@
-use Rattle.std.proofs.Common.{◌≡◌, ◌≤◌, ◌+◌, ◌⊎◌, inl, inr, ℕ, None, sym, subst, arith}
+use Rattle.std.proofs.Common.{◌≡◌, ◌≤◌, ◌+◌, ◌⊎◌, inl, ℕ, None, sym, subst, arith}
 use Rattle.std.specs.Prelude.{IfErr, IfOk, MatchResult}
 use Rattle.lethe_disk.proofs.Going.{goes_quiet, goes_then, goes_weaker}
 use Rattle.lethe_disk.proofs.Quieting.{quiet_call, quiet_then}
 use Rattle.lethe_stored.specs.Kept.{IsKept}
-use Rattle.lethe_stored.specs.Left.{IsKeptOr}
 use Rattle.lethe_stored.specs.Numbers.{IsNextNumber}
+use Rattle.lethe_stored.proofs.Numbers.{pace_then}
 use Rattle.lethe_load.specs.Refused.{HasReason}
 use Rattle.lethe_recover.specs.Opening.{IsResumed, IsKeptInOpening, MayNotOpen, IsCut, since_start}
 use Rattle.lethe_recover.proofs.Results.{ok_weaker, err_weaker}
-use Rattle.lethe_recover.proofs.Resumed.{same_may, from_left, from_kept, quiet_pace}
+use Rattle.lethe_recover.proofs.Resumed.{same_may, AsKept, from_left, from_kept, quiet_pace}
 use Rattle.lethe_recover.proofs.opening.open.Goals as goal
 
 pub returns-in-Ok-clause-resumed : goal.returns-in-Ok-clause-resumed
@@ -34,7 +34,7 @@ returns-in-Ok-clause-any_moment g c = λ told kept h change left.
     let P = IsKeptInOpening kept config h change s0.directory in
     goes_then P s0 s1 s2
     (goes_quiet P s0 s1 (quiet_call c.sync.result s0 s1 (c.sync.ensures.call told) same) (λ x here. inl (left.images x here)))
-    (goes_weaker (IsKeptInOpening kept config now.0 None s1.directory) P s1 s2 (from_kept kept config h now.0 change now.1 s1.directory s0.directory same) (c.open_synced.ensures.any_moment told kept now.0 k))
+    (goes_weaker (AsKept config s1.directory) P s1 s2 (λ x as_kept. from_kept kept config h now.0 change now.1 s1.directory s0.directory same x (as_kept kept now.0 k)) (c.open_synced.ensures.any_moment told))
 
 pub returns-in-Err-clause-any_moment : goal.returns-in-Err-clause-any_moment
 returns-in-Err-clause-any_moment g c = λ told kept h change left.
@@ -97,3 +97,13 @@ returns-in-Err-clause-pace g c = λ told first before.
     let s0 = g.D.Disk.seen c.args.disk.now in
     let s1 = g.D.Disk.seen c.sync.new.self in
     quiet_pace first s0.moment s0 s1 (omega arith) (quiet_call c.sync.result s0 s1 (c.sync.ensures.call told) (c.sync.ensures.directory told)) before
+
+pub returns-in-Ok-clause-pace : goal.returns-in-Ok-clause-pace
+returns-in-Ok-clause-pace g c = λ told first before.
+    let s0 = g.D.Disk.seen c.args.disk.now in
+    let s1 = g.D.Disk.seen c.sync.new.self in
+    let s2 = g.D.Disk.seen c.open_synced.new.disk in
+    let quiet = quiet_call c.sync.result s0 s1 (c.sync.ensures.call told) (c.sync.ensures.directory told) in
+    let later = quiet.any_moment.later in
+    pace_then (AsKept c.args.config.now s1.directory) first s0.moment s0.moment first s1 s2 (quiet_pace first s0.moment s0 s1 (omega arith) quiet before) (c.open_synced.ensures.any_moment told) (omega (arith, later))
+    (c.open_synced.ensures.pace told first (quiet_pace first s1.moment s0 s1 later quiet before))

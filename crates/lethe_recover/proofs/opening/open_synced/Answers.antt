@@ -1,9 +1,9 @@
 use Rattle.std.proofs.Common.{◌≡◌, ◌≤◌, ◌+◌, ◌⊎◌, inl, inr, ℕ, [], None, refl, sym, ap, subst, ◌∙◌, arith}
 use Rattle.std.proofs.lemmas.List.{length-map}
-use Rattle.lethe_disk.specs.Goes.{Goes}
+use Rattle.lethe_base.specs.History.{History}
 use Rattle.lethe_disk.proofs.Going.{goes_then, goes_weaker}
 use Rattle.lethe_manifest.specs.declared.manifest.Manifest.{Manifest}
-use Rattle.lethe_stored.specs.Kept.{IsKept}
+use Rattle.lethe_stored.specs.Kept.{IsFor, IsKept}
 use Rattle.lethe_stored.specs.Numbers.{IsNextNumber}
 use Rattle.lethe_stored.proofs.Numbers.{next_of, next_of_none, pace_then}
 use Rattle.lethe_advance.specs.Shown.{parts_in}
@@ -11,15 +11,14 @@ use Rattle.lethe_load.specs.Loaded.{shown}
 use Rattle.lethe_recover.specs.Flushing.{IsShort}
 use Rattle.lethe_recover.specs.Journals.{erases_of}
 use Rattle.lethe_recover.specs.New.{new_stored}
-use Rattle.lethe_recover.specs.Opening.{IsOpened, IsResumed, IsKeptInOpening, IsSpellable, MayNotOpen, IsCut, since_start}
+use Rattle.lethe_recover.specs.Opening.{IsOpened, IsResumed, IsSpellable, MayNotOpen, IsCut, since_start}
 use Rattle.lethe_recover.specs.Resuming.{IsThere, IsReopened}
 use Rattle.lethe_recover.proofs.Results.{ok_weaker, err_weaker}
-use Rattle.lethe_recover.proofs.Resumed.{since_may, since_exact, cut_may, new_opened, new_resumed, kept_of_none, kept_for, kept_config, opened_from, resumed_from, read_some, read_none, manifest_of, loaded_as, exhausted_of, settled_again, still_kept, kept_goes, quiet_pace, spelled_some, cited_long}
+use Rattle.lethe_recover.proofs.Resumed.{since_may, since_exact, cut_may, new_opened, new_resumed, kept_of_none, kept_for, kept_config, opened_from, resumed_from, read_some, read_none, manifest_of, loaded_as, exhausted_of, settled_again, AsKept, still_kept, kept_goes, quiet_pace, spelled_some, cited_long}
 use Rattle.lethe_recover.proofs.opening.open_synced.Goals as goal
 
 pub returns-in-Err-clause-any_moment : goal.returns-in-Err-clause-any_moment
-returns-in-Err-clause-any_moment g c = λ told kept h k.
-    kept_goes kept c.args.config.now h (g.D.Disk.seen c.args.disk.now) (g.D.Disk.seen c.load.new.disk) (c.load.ensures.quiet told) (c.requires.synced told) k
+returns-in-Err-clause-any_moment g c = λ told. kept_goes c.args.config.now (g.D.Disk.seen c.args.disk.now) (g.D.Disk.seen c.load.new.disk) (c.load.ensures.quiet told) (c.requires.synced told)
 
 pub returns-in-Err-clause-refused : goal.returns-in-Err-clause-refused
 returns-in-Err-clause-refused g c =
@@ -52,15 +51,15 @@ returns-in-None-clause-resumed g c = λ told kept h k.
     ok_weaker c.start.result (λ opened. IsThere s2 (new_stored config) opened) (λ opened. IsResumed config h None d s2 opened) (c.start.ensures.there told) (λ opened there. new_resumed config s2 h d opened none (kept_of_none kept d h none k) there)
 
 pub returns-in-None-clause-any_moment : goal.returns-in-None-clause-any_moment
-returns-in-None-clause-any_moment g c = λ told kept h k.
+returns-in-None-clause-any_moment g c = λ told.
     let s0 = g.D.Disk.seen c.args.disk.now in
     let s1 = g.D.Disk.seen c.load.new.disk in
     let s2 = g.D.Disk.seen c.start.new.disk in
     let config = c.args.config.now in
     let none = read_none config s0.directory (shown c.in-Ok.read) c.in-None.is (c.in-Ok.ensures.found told) in
-    let P = IsKeptInOpening kept config h None s0.directory in
-    goes_then P s0 s1 s2 (kept_goes kept config h s0 s1 (c.load.ensures.quiet told) (c.requires.synced told) k)
-    (goes_weaker (λ x. IsKept config x []) P s1 s2 (λ x new. inr (none, new)) (c.start.ensures.any_moment told))
+    let P = AsKept config s0.directory in
+    goes_then P s0 s1 s2 (kept_goes config s0 s1 (c.load.ensures.quiet told) (c.requires.synced told))
+    (goes_weaker (λ x. IsKept config x []) P s1 s2 (λ x new kept h k. inr (none, new)) (c.start.ensures.any_moment told))
 
 pub returns-in-None-clause-exact : goal.returns-in-None-clause-exact
 returns-in-None-clause-exact g c = λ told why reason. absurd (c.in-Ok.ensures.exact told why reason)
@@ -138,7 +137,7 @@ returns-in-Some-clause-resumed g c = λ told kept h k.
     ok_weaker c.resume.result (λ opened. IsReopened there.s s2 opened) (λ opened. IsResumed config h None d s2 opened) (c.resume.ensures.there told there.s settled loaded) (λ opened again. resumed_from config s2 h d there.s opened there.coherent there.encodes there.config_is stands again)
 
 pub returns-in-Some-clause-any_moment : goal.returns-in-Some-clause-any_moment
-returns-in-Some-clause-any_moment g c = λ told kept h k.
+returns-in-Some-clause-any_moment g c = λ told.
     let s0 = g.D.Disk.seen c.args.disk.now in
     let s1 = g.D.Disk.seen c.load.new.disk in
     let s2 = g.D.Disk.seen c.resume.new.disk in
@@ -149,11 +148,12 @@ returns-in-Some-clause-any_moment g c = λ told kept h k.
     let there = read_some config d read m c.in-Some.is (c.in-Ok.ensures.found told) in
     let settled = settled_again s0 s1 (c.load.ensures.quiet told) (c.requires.synced told) there.s there.coherent there.encodes in
     let loaded = loaded_as config d read there m c.in-Some.is c.of-journal.result c.of-journal.ensures.is in
-    let stands = kept_for kept d h there.s there.coherent there.encodes k in
-    let P = IsKeptInOpening kept config h None d in
-    goes_then P s0 s1 s2 (kept_goes kept config h s0 s1 (c.load.ensures.quiet told) (c.requires.synced told) k)
-    (goes_weaker (λ x. IsKept there.s.manifest.config x h) P s1 s2
-    (λ x now. still_kept kept config h d x (subst (λ fields. IsKept fields x h) (kept_config kept d h there.s there.coherent there.encodes k) now)) (c.resume.ensures.any_moment told there.s settled loaded h stands))
+    let P = AsKept config d in
+    goes_then P s0 s1 s2 (kept_goes config s0 s1 (c.load.ensures.quiet told) (c.requires.synced told))
+    (goes_weaker (λ x. (h : History) → IsFor h there.s → IsKept there.s.manifest.config x h) P s1 s2
+    (λ x now kept h k. still_kept kept config h d x
+    (subst (λ fields. IsKept fields x h) (kept_config kept d h there.s there.coherent there.encodes k) (now h (kept_for kept d h there.s there.coherent there.encodes k))))
+    (c.resume.ensures.any_moment told there.s settled loaded))
 
 pub returns-in-Some-clause-spelled : goal.returns-in-Some-clause-spelled
 returns-in-Some-clause-spelled g c =
@@ -214,3 +214,23 @@ returns-in-None-clause-pace g c = λ told first before.
     let bound = before s0.moment s0.directory (omega arith) (omega arith) here 3 (inl (none, refl)) in
     let later = quiet.any_moment.later in
     pace_then (λ x. IsKept config x []) first s0.moment s0.moment 3 s1 s2 (quiet_pace first s0.moment s0 s1 (omega arith) quiet before) (c.start.ensures.any_moment told) (omega (arith, bound, later)) (c.start.ensures.pace told)
+
+pub returns-in-Some-clause-pace : goal.returns-in-Some-clause-pace
+returns-in-Some-clause-pace g c = λ told first before.
+    let s0 = g.D.Disk.seen c.args.disk.now in
+    let s1 = g.D.Disk.seen c.load.new.disk in
+    let s2 = g.D.Disk.seen c.resume.new.disk in
+    let d = s0.directory in
+    let m = c.in-Some.manifest in
+    let config = c.args.config.now in
+    let read = shown c.in-Ok.read in
+    let quiet = c.load.ensures.quiet told in
+    let there = read_some config d read m c.in-Some.is (c.in-Ok.ensures.found told) in
+    let settled = settled_again s0 s1 quiet (c.requires.synced told) there.s there.coherent there.encodes in
+    let loaded = loaded_as config d read there m c.in-Some.is c.of-journal.result c.of-journal.ensures.is in
+    let here = (g.met.D.Disk g.world.𝓛 g.world.𝓜 g.world.𝓡 ((λ s x. x), (λ x. x), (λ x. x), λ x. x)).itself told c.args.disk.now in
+    let own = ap (λ (x : Manifest). x.next) loaded.manifest in
+    let bound = before s0.moment d (omega arith) (omega arith) here there.s.manifest.next (inr (there.s, there.coherent, there.encodes, refl)) in
+    let later = quiet.any_moment.later in
+    pace_then (λ x. (h : History) → IsFor h there.s → IsKept there.s.manifest.config x h) first s0.moment s0.moment m.next s1 s2 (quiet_pace first s0.moment s0 s1 (omega arith) quiet before)
+    (c.resume.ensures.any_moment told there.s settled loaded) (omega (arith, own, bound, later)) (c.resume.ensures.pace told there.s settled loaded)

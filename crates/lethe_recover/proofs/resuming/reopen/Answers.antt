@@ -1,7 +1,8 @@
 use Rattle.std.proofs.Common.{◌⊎◌, [], ◌∙◌, arith}
+use Rattle.lethe_base.specs.History.{History}
 use Rattle.lethe_disk.proofs.Going.{goes_then, goes_weaker}
 use Rattle.lethe_stored.specs.Encodes.{Encodes}
-use Rattle.lethe_stored.specs.Kept.{IsKept}
+use Rattle.lethe_stored.specs.Kept.{IsFor, IsKept}
 use Rattle.lethe_advance.specs.Steps.{MayAdvance}
 use Rattle.lethe_recover.proofs.Resumed.{next_stored, old_kept, either_kept, encoded_pace, reopened_pace, reopened_of}
 use Rattle.lethe_recover.proofs.Readied.{reopens_of}
@@ -11,12 +12,12 @@ pub tidy-requires-clause-settled : goal.tidy-requires-clause-settled
 tidy-requires-clause-settled g c κs within = λ told. let asked = c.requires.settled told in (asked.0, asked.1, (asked.2).cites)
 
 pub returns-in_err-tidy-clause-any_moment : goal.returns-in_err-tidy-clause-any_moment
-returns-in_err-tidy-clause-any_moment g c = λ told s settled ready h stands.
-    goes_weaker (λ x. Encodes x s) (λ x. IsKept s.manifest.config x h) (g.D.Disk.seen c.args.disk.now) (g.D.Disk.seen c.tidy.new.disk) (old_kept h s settled.coherent stands) (c.tidy.ensures.any_moment told s settled)
+returns-in_err-tidy-clause-any_moment g c = λ told s settled ready.
+    goes_weaker (λ x. Encodes x s) (λ x. (h : History) → IsFor h s → IsKept s.manifest.config x h) (g.D.Disk.seen c.args.disk.now) (g.D.Disk.seen c.tidy.new.disk) (old_kept s settled.coherent) (c.tidy.ensures.any_moment told s settled)
 
 pub returns-in_err-made-clause-any_moment : goal.returns-in_err-made-clause-any_moment
-returns-in_err-made-clause-any_moment g c = λ told s settled ready h stands.
-    goes_weaker (λ x. Encodes x s) (λ x. IsKept s.manifest.config x h) (g.D.Disk.seen c.args.disk.now) (g.D.Disk.seen c.tidy.new.disk) (old_kept h s settled.coherent stands) (c.tidy.ensures.any_moment told s settled)
+returns-in_err-made-clause-any_moment g c = λ told s settled ready.
+    goes_weaker (λ x. Encodes x s) (λ x. (h : History) → IsFor h s → IsKept s.manifest.config x h) (g.D.Disk.seen c.args.disk.now) (g.D.Disk.seen c.tidy.new.disk) (old_kept s settled.coherent) (c.tidy.ensures.any_moment told s settled)
 
 pub advance-requires-clause-level : goal.advance-requires-clause-level
 advance-requires-clause-level g c κs within = omega (arith, c.in_ok-made.ensures.level, c.requires.ready.levels)
@@ -32,7 +33,7 @@ advance-requires-clause-step g c κs within = λ told.
     (s, next_stored s c.in_ok-made.made is, [], [], record { settled = tidied.0; only = tidied.1; step_is = is.step })
 
 pub returns-in_err-reopened-clause-any_moment : goal.returns-in_err-reopened-clause-any_moment
-returns-in_err-reopened-clause-any_moment g c = λ told s settled ready h stands.
+returns-in_err-reopened-clause-any_moment g c = λ told s settled ready.
     let s0 = g.D.Disk.seen c.args.disk.now in
     let s1 = g.D.Disk.seen c.tidy.new.disk in
     let s2 = g.D.Disk.seen c.advance.new.disk in
@@ -40,12 +41,12 @@ returns-in_err-reopened-clause-any_moment g c = λ told s settled ready h stands
     let is = reopens_of s c.args.manifest.now c.args.made settled.coherent ready c.in_ok-made.made c.in_ok-made.ensures.reopens in
     let t = next_stored s c.in_ok-made.made is in
     let may : MayAdvance (g.D.Disk.seen c.tidy.new.disk) s [] t [] c.in_ok-made.made.headers.items c.in_ok-made.made.step = record { settled = tidied.0; only = tidied.1; step_is = is.step } in
-    goes_then (λ x. IsKept s.manifest.config x h) s0 s1 s2
-    (goes_weaker (λ x. Encodes x s) (λ x. IsKept s.manifest.config x h) s0 s1 (old_kept h s settled.coherent stands) (c.tidy.ensures.any_moment told s settled))
-    (goes_weaker (λ x. Encodes x s ⊎ Encodes x t) (λ x. IsKept s.manifest.config x h) s1 s2 (either_kept h s t is.step.config settled.coherent stands is.step.coherent (is.stands h stands)) (c.advance.ensures.any_moment told s t [] [] may))
+    goes_then (λ x. (h : History) → IsFor h s → IsKept s.manifest.config x h) s0 s1 s2
+    (goes_weaker (λ x. Encodes x s) (λ x. (h : History) → IsFor h s → IsKept s.manifest.config x h) s0 s1 (old_kept s settled.coherent) (c.tidy.ensures.any_moment told s settled))
+    (goes_weaker (λ x. Encodes x s ⊎ Encodes x t) (λ x. (h : History) → IsFor h s → IsKept s.manifest.config x h) s1 s2 (either_kept s t is.step.config settled.coherent is.step.coherent is.stands) (c.advance.ensures.any_moment told s t [] [] may))
 
 pub returns-clause-any_moment : goal.returns-clause-any_moment
-returns-clause-any_moment g c = λ told s settled ready h stands.
+returns-clause-any_moment g c = λ told s settled ready.
     let s0 = g.D.Disk.seen c.args.disk.now in
     let s1 = g.D.Disk.seen c.tidy.new.disk in
     let s2 = g.D.Disk.seen c.advance.new.disk in
@@ -53,9 +54,9 @@ returns-clause-any_moment g c = λ told s settled ready h stands.
     let is = reopens_of s c.args.manifest.now c.args.made settled.coherent ready c.in_ok-made.made c.in_ok-made.ensures.reopens in
     let t = next_stored s c.in_ok-made.made is in
     let may : MayAdvance (g.D.Disk.seen c.tidy.new.disk) s [] t [] c.in_ok-made.made.headers.items c.in_ok-made.made.step = record { settled = tidied.0; only = tidied.1; step_is = is.step } in
-    goes_then (λ x. IsKept s.manifest.config x h) s0 s1 s2
-    (goes_weaker (λ x. Encodes x s) (λ x. IsKept s.manifest.config x h) s0 s1 (old_kept h s settled.coherent stands) (c.tidy.ensures.any_moment told s settled))
-    (goes_weaker (λ x. Encodes x s ⊎ Encodes x t) (λ x. IsKept s.manifest.config x h) s1 s2 (either_kept h s t is.step.config settled.coherent stands is.step.coherent (is.stands h stands)) (c.advance.ensures.any_moment told s t [] [] may))
+    goes_then (λ x. (h : History) → IsFor h s → IsKept s.manifest.config x h) s0 s1 s2
+    (goes_weaker (λ x. Encodes x s) (λ x. (h : History) → IsFor h s → IsKept s.manifest.config x h) s0 s1 (old_kept s settled.coherent) (c.tidy.ensures.any_moment told s settled))
+    (goes_weaker (λ x. Encodes x s ⊎ Encodes x t) (λ x. (h : History) → IsFor h s → IsKept s.manifest.config x h) s1 s2 (either_kept s t is.step.config settled.coherent is.step.coherent is.stands) (c.advance.ensures.any_moment told s t [] [] may))
 
 pub returns-clause-there : goal.returns-clause-there
 returns-clause-there g c = λ told s settled ready.

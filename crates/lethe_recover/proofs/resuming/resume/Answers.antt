@@ -2,10 +2,10 @@ use Rattle.lethe_recover.proofs.Resumed.{settled_goes, settled_pace}
 use Rattle.lethe_recover.proofs.resuming.resume.Goals as goal
 
 pub returns-in_default-clause-any_moment : goal.returns-in_default-clause-any_moment
-returns-in_default-clause-any_moment g c = λ told s settled loaded h stands. settled_goes h (g.D.Disk.seen c.args.disk.now) s settled stands
+returns-in_default-clause-any_moment g c = λ told s settled loaded. settled_goes (g.D.Disk.seen c.args.disk.now) s settled
 
 pub returns-then-exhaust-clause-any_moment : goal.returns-then-exhaust-clause-any_moment
-returns-then-exhaust-clause-any_moment g c = λ told s settled loaded h stands. settled_goes h (g.D.Disk.seen c.args.disk.now) s settled stands
+returns-then-exhaust-clause-any_moment g c = λ told s settled loaded. settled_goes (g.D.Disk.seen c.args.disk.now) s settled
 
 pub returns-in_default-clause-pace : goal.returns-in_default-clause-pace
 returns-in_default-clause-pace g c = λ told s settled loaded. settled_pace (g.D.Disk.seen c.args.disk.now) s c.args.manifest.now settled loaded.manifest
