@@ -220,7 +220,7 @@ module _ (config : Fields) (d : Directory) (read : Read) (there : IsRead config 
 pub settled_again : (old new : Seen) → IsQuiet old new → IsSynced old → (s : Stored) → IsCoherent s → Encodes old.directory s → IsSettled new s
 settled_again old new quiet synced s coherent e = record { synced = quiet_synced old new quiet synced; coherent = coherent; encodes = subst (λ x. Encodes x s) (sym quiet.directory) e }
 
--- what it leaves of what a directory was kept for, in any configuration
+-- what opening leaves, for each configuration and history that the directory was kept for at the start
 abbrev pub AsKept : Fields → Directory → Directory → Type 0
 AsKept config start c = (kept : Fields) (h : History) → IsKept kept start h → IsKeptInOpening kept config h None start c
 
