@@ -72,9 +72,13 @@ on_script source bytes phases P same e p = (phases, some_then source same (λ al
 pub no_script : (source : Option Bytes) (bytes : Bytes) (bad : BadLine) → IfSome source (λ all. script_of all ≡ script_of bytes) → script_of bytes ≡ Err bad → IfSome source (λ all. script_of all ≡ Err bad)
 no_script source bytes bad same e = some_then source same (λ all is. is ∙ e)
 
+pub keeps_still : (taken : Option Bytes) → Keeps taken taken
+keeps_still None = tt
+keeps_still (Some bytes) = refl
+
 -- Words that are no command, and bytes that are no script
 
-pub is_command : (run : Run) (config : Fields) → Asks run config → IsCommand run
+is_command : (run : Run) (config : Fields) → Asks run config → IsCommand run
 is_command run config asks = subst IsSome (sym asks) refl
 
 pub said_bad_words : (run : Run) (end : Status) → IsNoCommand run → IsUnused run → Says BadWords bad_words run.taken_before run.taken run.SinkRose end → EndsWith run end
@@ -131,7 +135,7 @@ module _ (run : Run) (config : Fields) (asks : Asks run config) (phases : List (
   abbrev begin_at : ℕ → Start
   begin_at next = record { config = config; faults = run.faults_before; next = next; moment = run.start.moment }
 
-  point : (h : History) (change : Option Change) → IsResumed config h change run.start mid → Point
+  abbrev point : (h : History) (change : Option Change) → IsResumed config h change run.start mid → Point
   point h change r = record { history = r.history; moment = mid.disk.moment }
 
   on : (h : History) (change : Option Change) (r : IsResumed config h change run.start mid) → run.start.moment ≤ mid.disk.moment → (next : ℕ) → IsNextNumber run.start.directory next → IsOn (begin_at next) (point h change r) r.history mid

@@ -229,7 +229,7 @@ module _ (run : Run) where
 
   memory_paces : (config : Fields) → IsUnbegun run config ⊎ StoppedInside run config → Paces
   memory_paces config (inl unbegun) = elim unbegun.1 [ inl unused ↦ unused_paces unused | inr not ↦ opening_paces config open_why.NoMemory not ]
-  memory_paces config (inr inside) told kept left change l =
+  memory_paces config (inr inside) = λ told kept left change l.
       let next = has_next kept l.now.0 run.start.directory l.now.2 in
       (inside.script.2 told kept left change l next.0 next.1).2.pace
 

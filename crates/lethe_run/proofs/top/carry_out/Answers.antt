@@ -1,13 +1,28 @@
-use Rattle.std.proofs.Common.{refl, sym, ap, ◌∙◌, subst}
+use Rattle.std.proofs.Common.{Err, inl, refl, sym, ap, ◌∙◌, subst}
+use Rattle.std.specs.Prelude.{IsSome}
 use Rattle.lethe_script.specs.Grammar.{script_of}
 use Rattle.lethe_script.specs.Reading.{FailsScript}
 use Rattle.lethe_disk.proofs.Quieting.{quiet_itself}
 use Rattle.lethe_core.specs.View.{view_of}
-use Rattle.lethe_run.proofs.Ending.{said_bad_words, said_bad_script, said_not_opened, script_ended, on_script, no_script, drawn_by}
+use Rattle.lethe_run.proofs.Ending.{keeps_still, said_bad_words, said_bad_script, said_not_opened, script_ended, on_script, no_script, drawn_by}
 use Rattle.lethe_run.proofs.top.carry_out.Goals as goal
 
 pub returns-in_default : goal.returns-in_default
 returns-in_default g c = said_bad_words _ c.say.result (sym c.in_default.ensures) (refl, quiet_itself (g.D.Disk.seen c.args.disk)) c.say.ensures
+
+pub returns-in-Err-Failed : goal.returns-in-Err-Failed
+returns-in-Err-Failed g c = (
+  subst IsSome c.in-Some.ensures refl,
+  c.read_all.ensures.failed (c.in-Err-Failed.is ∙ ap (λ e. Err e) c.in-Err-Failed.field-0-is),
+  keeps_still (g.K.Sink.taken c.args.sink.now),
+  (refl, quiet_itself (g.D.Disk.seen c.args.disk)),
+)
+
+pub returns-in-Err-NoMemory : goal.returns-in-Err-NoMemory
+returns-in-Err-NoMemory g c = (c.in-Some.config, sym c.in-Some.ensures, inl (keeps_still (g.K.Sink.taken c.args.sink.now), inl (refl, quiet_itself (g.D.Disk.seen c.args.disk))))
+
+pub returns-in-Err-NoMemory-read_script : goal.returns-in-Err-NoMemory-read_script
+returns-in-Err-NoMemory-read_script g c = (c.in-Some.config, sym c.in-Some.ensures, inl (keeps_still (g.K.Sink.taken c.args.sink.now), inl (refl, quiet_itself (g.D.Disk.seen c.args.disk))))
 
 pub returns-in-Err-Bad : goal.returns-in-Err-Bad
 returns-in-Err-Bad g c =
