@@ -1,7 +1,6 @@
 -- What a later crash can't lose: the changes of a phase that were answered with `ok`.
-use Rattle.std.proofs.Common.{◌≡◌, ◌≤◌, ◌<◌, ◌⊎◌, inl, inr, ℕ, zero, suc, List, [], ◌∷◌, ◌++◌, length, Option, Some, None, IsSomeAnd, slice_get, refl, sym, ap, ◌∙◌, subst, append_assoc, append-nil, arith}
+use Rattle.std.proofs.Common.{◌≡◌, ◌≤◌, inl, inr, ℕ, zero, suc, List, [], ◌∷◌, ◌++◌, length, Option, Some, None, IsSomeAnd, refl, sym, ap, ◌∙◌, subst, append_assoc, append-nil, arith}
 use Rattle.std.specs.Prelude.{All, filter_map}
-use Rattle.std.proofs.lemmas.List.{length-append, length_push}
 use Rattle.std.proofs.lemmas.List.Elements.{All-cons, All-nil, All-weaker}
 use Rattle.lethe_base.specs.History.{History, Change, change_at, AreDone}
 use Rattle.lethe_base.specs.declared.call.Call.{Call}
@@ -10,11 +9,11 @@ use Rattle.lethe_base.proofs.Histories.{change_at_cases}
 use Rattle.lethe_disk.specs.Directory.{Directory}
 use Rattle.lethe_disk.specs.Disk.{Image}
 use Rattle.lethe_stored.specs.Kept.{IsKept}
-use Rattle.lethe_stored.specs.Left.{IsHistoryOr, IsKeptOr, as_done, without_failed}
-use Rattle.lethe_core.specs.StandsNow.{IsOpenOrStopped, IsStopped, retried}
+use Rattle.lethe_stored.specs.Left.{as_done, without_failed}
+use Rattle.lethe_core.specs.StandsNow.{IsOpenOrStopped}
 use Rattle.lethe_core.specs.View.{View}
 use Rattle.lethe_core.proofs.Histories.{all_done, last_failed}
-use Rattle.lethe_engine.specs.StandsFor.{HasCounts, IsKeptFor, IsPrefixFrom}
+use Rattle.lethe_engine.specs.StandsFor.{HasCounts, IsKeptFor}
 use Rattle.lethe_engine.proofs.Prefixes.{prefix_failed, prefix_itself, prefix_longer}
 use Rattle.lethe_script.specs.declared.order.Order.{Order}
 use Rattle.lethe_run.specs.declared.reply.Line.{Line}

@@ -1,5 +1,5 @@
 -- What a script that was carried out leaves on the disk.
-use Rattle.std.specs.Prelude.{◌≡◌, ◌≤◌, ◌↔◌, ℕ, not, List, filter, filter_map, slice_get, All, Option, Some, None}
+use Rattle.std.specs.Prelude.{◌≡◌, ◌≤◌, ◌↔◌, ℕ, not, List, filter, filter_map, slice_get, All, Option, None}
 use Rattle.lethe_base.specs.History.{History, Change, change_at}
 use Rattle.lethe_base.specs.declared.config.Fields.{Fields}
 use Rattle.lethe_disk.specs.Directory.{Directory}
