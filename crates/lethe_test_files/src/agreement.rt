@@ -2,7 +2,7 @@
 ghost use Rattle.std.specs.Prelude.{◌<◌, length};
 ghost use Rattle.lethe_header.specs.Headers.{HasSpelling, IsLine, IsTile};
 
-use crate::common::{FILE, PAGE_AC, PAGE_BD};
+use crate::common::{FILE, PAGE_AC, PAGE_BD, changed};
 use crate::opening::header_of;
 use lethe_agreement::{TakenKeys, is_sound};
 use lethe_header::{Header, PageLine, TileLine};
@@ -54,35 +54,31 @@ fn first_other(alloc: Global, file: &[u8], rows: &[Row]) -> Result<Option<usize>
 
 #[test]
 fn the_keys_of_sound_pages_are_taken(rt: HostRuntime) -> Result<(), Fail> {
-    let rows: [Row; 3] = [
-        (0, &PAGE_AC, true),
-        (1, &PAGE_BD, true),
-        (0, &PAGE_AC, false),
-    ];
-    assert_eq!(rt; first_other(rt.alloc(), &FILE, &rows)?, None);
+    let rows: [Row; 3] = [(0, PAGE_AC, true), (1, PAGE_BD, true), (0, PAGE_AC, false)];
+    assert_eq!(rt; first_other(rt.alloc(), FILE, &rows)?, None);
     Ok(())
 }
 
 #[test]
 fn other_bytes_are_unsound(rt: HostRuntime) -> Result<(), Fail> {
-    let mut changed = PAGE_AC;
-    changed[53] = b'y';
+    let alloc = rt.alloc();
+    let changed = changed(alloc, PAGE_AC, 53, b'y')?;
     let rows: [Row; 5] = [
         (0, &changed, false),
         (0, &PAGE_AC[..53], false),
-        (0, &PAGE_BD, false),
+        (0, PAGE_BD, false),
         (0, b"", false),
-        (0, &PAGE_AC, true),
+        (0, PAGE_AC, true),
     ];
-    assert_eq!(rt; first_other(rt.alloc(), &FILE, &rows)?, None);
+    assert_eq!(rt; first_other(alloc, FILE, &rows)?, None);
     Ok(())
 }
 
 #[test]
 fn a_key_outside_of_the_tile_is_unsound(rt: HostRuntime) -> Result<(), Fail> {
-    let mut file = FILE;
-    file[GREATEST_KEY] = b'c';
-    let rows: [Row; 2] = [(0, &PAGE_AC, true), (1, &PAGE_BD, false)];
-    assert_eq!(rt; first_other(rt.alloc(), &file, &rows)?, None);
+    let alloc = rt.alloc();
+    let file = changed(alloc, FILE, GREATEST_KEY, b'c')?;
+    let rows: [Row; 2] = [(0, PAGE_AC, true), (1, PAGE_BD, false)];
+    assert_eq!(rt; first_other(alloc, &file, &rows)?, None);
     Ok(())
 }

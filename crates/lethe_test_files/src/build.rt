@@ -5,11 +5,9 @@ ghost use Rattle.lethe_base.specs.Spelling.{HasSpelling};
 ghost use Rattle.lethe_build.specs.Drafts.{IsDraft};
 ghost use Rattle.lethe_header.specs.Headers.{HasSpelling as IsHeader};
 
-use crate::common::{FILE, PAGE_AC, PAGE_BD, key_of};
+use crate::common::{FILE, PAGE_AC, PAGE_BD, key_of, value_of};
 use crate::opening::header_of;
-use lethe_base::{
-    Body, Config, Entry, Fields, List, MAX_PLACE, Pick, Value, read_entry, write_entry,
-};
+use lethe_base::{Body, Config, Entry, Fields, List, MAX_PLACE, Pick, read_entry, write_entry};
 use lethe_build::{Built, Draft, drafts_of, numbers_for};
 use lethe_header::{Header, PageLine, write_header};
 use lethe_page::read_page;
@@ -49,7 +47,7 @@ fn entry_of(alloc: Global, word: &str, seq: u64) -> Result<Entry, Fail>
 {
     let (key, body, since) = match word.split_once('=') {
         Some((key, dkey)) => {
-            let value = Value::new(b"x".to_vec(alloc)?)?;
+            let value = value_of(alloc, b"x")?;
             let dkey = dkey.parse()?;
             (key, Body::Put { dkey, value }, None)
         }
@@ -222,9 +220,9 @@ fn one_file_is_built_of_four_entries(rt: HostRuntime) -> Result<(), Fail> {
     let [first, second] = file.pages.items() else {
         return Err(Fail::new("two pages"));
     };
-    assert_eq!(rt; first.items(), PAGE_AC.as_slice());
-    assert_eq!(rt; second.items(), PAGE_BD.as_slice());
-    assert_eq!(rt; file.header_bytes.items(), FILE.as_slice());
+    assert_eq!(rt; first.items(), PAGE_AC);
+    assert_eq!(rt; second.items(), PAGE_BD);
+    assert_eq!(rt; file.header_bytes.items(), FILE);
     assert_eq!(rt; file.digest, DIGEST);
     Ok(())
 }

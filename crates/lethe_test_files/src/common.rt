@@ -1,24 +1,35 @@
 //! What several modules share: two pages and their file, keys and erases.
 
-use lethe_base::{Entry, Key, Pending, Range};
+use lethe_base::{Entry, Key, Pending, Range, Value};
 use lethe_mem::{Buffer, VecBuffer};
 use std::alloc::Global;
 use std::test::Fail;
 
 /// The puts of `a` with delete key 11 and of `c` with delete key 12.
-pub const PAGE_AC: [u8; 54] =
-    *b"LP\x01\x01\0\0\0\x02\x01\0\0\0\0\0\0\0\x01\0\x01a\0\0\0\0\0\0\0\x0b\0\x01x\x01\0\0\0\0\0\0\0\x03\0\x01c\0\0\0\0\0\0\0\x0c\0\x01x";
+pub const PAGE_AC: &[u8] =
+    b"LP\x01\x01\0\0\0\x02\x01\0\0\0\0\0\0\0\x01\0\x01a\0\0\0\0\0\0\0\x0b\0\x01x\x01\0\0\0\0\0\0\0\x03\0\x01c\0\0\0\0\0\0\0\x0c\0\x01x";
 
 /// The puts of `b` with delete key 15 and of `d` with delete key 30.
-pub const PAGE_BD: [u8; 54] =
-    *b"LP\x01\x01\0\0\0\x02\x01\0\0\0\0\0\0\0\x02\0\x01b\0\0\0\0\0\0\0\x0f\0\x01x\x01\0\0\0\0\0\0\0\x04\0\x01d\0\0\0\0\0\0\0\x1e\0\x01x";
+pub const PAGE_BD: &[u8] =
+    b"LP\x01\x01\0\0\0\x02\x01\0\0\0\0\0\0\0\x02\0\x01b\0\0\0\0\0\0\0\x0f\0\x01x\x01\0\0\0\0\0\0\0\x04\0\x01d\0\0\0\0\0\0\0\x1e\0\x01x";
 
 /// File 3, whose one tile, of the keys from `a` to `d`, has these as its pages 1 and 2.
-pub const FILE: [u8; 182] =
-    *b"LF\x01\0\0\0\0\0\0\0\x03\0\x01\x01a\x01d\x02\0\0\0\0\0\0\0\x01\x01\0\0\0\x02\0\0\0\0\0\0\0\x03\0\0\0\0\0\0\0\0\x0b\0\0\0\0\0\0\0\x0c\0\0\0\x01\x80\x0c\0@\x02\00\x01\xdc\x88\xef\x05\xe6\xb4-\x95N\x1e<\xce\xe8]\x12E\xb2h\x93<\xf1gAO\x99\x0e|V\x92]\x9cl\0\0\0\0\0\0\0\x02\x01\0\0\0\x02\0\0\0\0\0\0\0\x04\0\0\0\0\0\0\0\0\x0f\0\0\0\0\0\0\0\x1e\0\0\0\x01\x80\x1c\0\xe0\x06\00\x01[S\x8f(\xcd\xd3H\x17W\xba\x95\x98\xd2\xc1\xf9\xd4\xdf\x81\xa1\xdb\x7f\xe6\x1fQW\xb3\xc7r\x8b\xf6\xdb\xd4";
+pub const FILE: &[u8] =
+    b"LF\x01\0\0\0\0\0\0\0\x03\0\x01\x01a\x01d\x02\0\0\0\0\0\0\0\x01\x01\0\0\0\x02\0\0\0\0\0\0\0\x03\0\0\0\0\0\0\0\0\x0b\0\0\0\0\0\0\0\x0c\0\0\0\x01\x80\x0c\0@\x02\00\x01\xdc\x88\xef\x05\xe6\xb4-\x95N\x1e<\xce\xe8]\x12E\xb2h\x93<\xf1gAO\x99\x0e|V\x92]\x9cl\0\0\0\0\0\0\0\x02\x01\0\0\0\x02\0\0\0\0\0\0\0\x04\0\0\0\0\0\0\0\0\x0f\0\0\0\0\0\0\0\x1e\0\0\0\x01\x80\x1c\0\xe0\x06\00\x01[S\x8f(\xcd\xd3H\x17W\xba\x95\x98\xd2\xc1\xf9\xd4\xdf\x81\xa1\xdb\x7f\xe6\x1fQW\xb3\xc7r\x8b\xf6\xdb\xd4";
 
 pub fn key_of(alloc: Global, text: &str) -> Result<Key, Fail> {
     Ok(Key::new(text.as_bytes().to_vec(alloc)?)?)
+}
+
+pub fn value_of(alloc: Global, bytes: &[u8]) -> Result<Value, Fail> {
+    Ok(Value::new(bytes.to_vec(alloc)?)?)
+}
+
+/// The bytes with another byte at a place.
+pub fn changed(alloc: Global, bytes: &[u8], place: usize, byte: u8) -> Result<Vec<u8>, Fail> {
+    let mut copy = bytes.to_vec(alloc)?;
+    *copy.get_mut(place).ok_or("a place")? = byte;
+    Ok(copy)
 }
 
 /// An erase at a place and a time, of the delete keys from `lo` up to `hi`.

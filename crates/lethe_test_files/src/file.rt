@@ -1,6 +1,6 @@
 //! A page of a file and the tile of a key.
 
-use crate::common::{FILE, PAGE_AC, PAGE_BD};
+use crate::common::{FILE, PAGE_AC, PAGE_BD, changed};
 use crate::opening::{damaged, found_in, open_file};
 use lethe_base::Entry;
 use lethe_disk::ReadRefused;
@@ -13,7 +13,7 @@ fn fetched(
     pages: &[&[u8]],
     place: usize,
 ) -> Result<Result<Vec<Entry>, ReadRefused>, Fail> {
-    let (file, mut port) = open_file(alloc, &FILE, pages, &[])?;
+    let (file, mut port) = open_file(alloc, FILE, pages, &[])?;
     if file.page(place).is_none() {
         return Err(Fail::new("a page"));
     }
@@ -39,30 +39,31 @@ fn told(
 fn a_page_is_read_where_it_is_the_one_of_its_line(rt: HostRuntime) -> Result<(), Fail> {
     let alloc = rt.alloc();
     for (place, seq) in [(0, 1), (1, 2)] {
-        let told = told(alloc, &[&PAGE_AC, &PAGE_BD], place)?;
+        let told = told(alloc, &[PAGE_AC, PAGE_BD], place)?;
         assert_eq!(rt; told, Ok((seq, 2)), "at {place}");
     }
-    let mut torn = PAGE_AC;
-    torn[53] = b'y';
-    for bytes in [&PAGE_BD, &torn] {
-        let told = told(alloc, &[bytes, &PAGE_BD], 0)?;
+    let torn = changed(alloc, PAGE_AC, 53, b'y')?;
+    for bytes in [PAGE_BD, &torn] {
+        let told = told(alloc, &[bytes, PAGE_BD], 0)?;
         assert_eq!(rt; told, Err(damaged(1)));
     }
     Ok(())
 }
 
-/// Where the words of the two filters begin in the file.
-const FILTERS: [usize; 2] = [60, 142];
+/// Whether a word of one of the two filters stands at the place in the file.
+fn is_in_filter(place: usize) -> bool {
+    matches!(place, 60..=67 | 142..=149)
+}
 
 /// The file, whose filters allow every key.
-fn without_filters() -> [u8; 182] {
-    let mut file = FILE;
-    for filter in FILTERS {
-        for place in filter..filter + 8 {
-            file[place] = 0xff;
+fn without_filters(alloc: Global) -> Result<Vec<u8>, Fail> {
+    let mut file = FILE.to_vec(alloc)?;
+    for (place, byte) in file.iter_mut().enumerate() {
+        if is_in_filter(place) {
+            *byte = 0xff;
         }
     }
-    file
+    Ok(file)
 }
 
 /// A key, and whether the tile has it between its own least and greatest key.
@@ -78,10 +79,10 @@ const FENCED: [(&str, bool); 6] = [
 #[test]
 fn a_tile_is_found_by_its_fence(rt: HostRuntime) -> Result<(), Fail> {
     let alloc = rt.alloc();
-    let file = without_filters();
+    let file = without_filters(alloc)?;
     for (key, fenced) in FENCED {
         // Each page is torn, and the filters allow each key: so the first page of its tile is told of a key that has one.
-        let found = found_in(alloc, &file, &[&PAGE_AC, &PAGE_BD], &[1, 2], key)?;
+        let found = found_in(alloc, &file, &[PAGE_AC, PAGE_BD], &[1, 2], key)?;
         if fenced {
             assert_eq!(rt; found.err(), Some(damaged(1)), "{key}");
         } else {

@@ -14,26 +14,25 @@ use std::alloc::Global;
 use std::test::Fail;
 
 /// The tombstone of `e`.
-const PAGE_E: [u8; 28] = *b"LP\x01\x02\0\0\0\x01\x02\0\0\0\0\0\0\0\x05\x01\0\0\0\0\0\0\02\x01e";
+const PAGE_E: &[u8] = b"LP\x01\x02\0\0\0\x01\x02\0\0\0\0\0\0\0\x05\x01\0\0\0\0\0\0\02\x01e";
 
 /// The puts of `f` with delete key 7 and of `g` with delete key 3.
-const PAGE_FG: [u8; 62] =
-    *b"LP\x01\x01\0\0\0\x02\x01\0\0\0\0\0\0\0\x06\0\x01f\0\0\0\0\0\0\0\x07\0\x01x\x01\0\0\0\0\0\0\0\x07\x01\0\0\0\0\0\0\0(\x01g\0\0\0\0\0\0\0\x03\0\x01x";
+const PAGE_FG: &[u8] =
+    b"LP\x01\x01\0\0\0\x02\x01\0\0\0\0\0\0\0\x06\0\x01f\0\0\0\0\0\0\0\x07\0\x01x\x01\0\0\0\0\0\0\0\x07\x01\0\0\0\0\0\0\0(\x01g\0\0\0\0\0\0\0\x03\0\x01x";
 
 /// The put of `h` with delete key 9.
-const PAGE_H: [u8; 31] =
-    *b"LP\x01\x01\0\0\0\x01\x01\0\0\0\0\0\0\0\x08\0\x01h\0\0\0\0\0\0\0\x09\0\x01x";
+const PAGE_H: &[u8] = b"LP\x01\x01\0\0\0\x01\x01\0\0\0\0\0\0\0\x08\0\x01h\0\0\0\0\0\0\0\x09\0\x01x";
 
 /// File 9. Its tile of the keys from `a` to `d` has these as its pages 1 and 2, its tile from `e` to `h` as its pages 3 to 5.
-const FILE: [u8; 433] =
-    *b"LF\x01\0\0\0\0\0\0\0\x09\0\x02\x01a\x01d\x02\0\0\0\0\0\0\0\x01\x01\0\0\0\x02\0\0\0\0\0\0\0\x03\0\0\0\0\0\0\0\0\x0b\0\0\0\0\0\0\0\x0c\0\0\0\x01\x80\x0c\0@\x02\00\x01\xdc\x88\xef\x05\xe6\xb4-\x95N\x1e<\xce\xe8]\x12E\xb2h\x93<\xf1gAO\x99\x0e|V\x92]\x9cl\0\0\0\0\0\0\0\x02\x01\0\0\0\x02\0\0\0\0\0\0\0\x04\0\0\0\0\0\0\0\0\x0f\0\0\0\0\0\0\0\x1e\0\0\0\x01\x80\x1c\0\xe0\x06\00\x01[S\x8f(\xcd\xd3H\x17W\xba\x95\x98\xd2\xc1\xf9\xd4\xdf\x81\xa1\xdb\x7f\xe6\x1fQW\xb3\xc7r\x8b\xf6\xdb\xd4\x01e\x01h\x03\0\0\0\0\0\0\0\x03\x02\0\0\0\x01\0\0\0\0\0\0\0\x05\x01\0\0\0\0\0\0\02\0\0\0\x01\0\x10\0\x80\x04\0\x20\x03\xf9\x99\xf5\x14\xc30=j%e\x86fRD\x03\xf1R\xb19\x07\xb5\xf5\x9b\x03\x8f\xe3t\xf9\xfd\x97\xa4^\0\0\0\0\0\0\0\x04\x01\0\0\0\x02\0\0\0\0\0\0\0\x07\x01\0\0\0\0\0\0\0(\0\0\0\0\0\0\0\x03\0\0\0\0\0\0\0\x07\0\0\0\x01\0\x08\0\xc0\x06\0\x20\x01N\x1cu\x8c\x10\xd49\xa8\xceP\xed\xa5\xe4\xcf\xcf\x9dZ\xa8]O\xa6\xcb\x87\xb2\x0f\xf8=\xe9W\x91\x9e?\0\0\0\0\0\0\0\x05\x01\0\0\0\x01\0\0\0\0\0\0\0\x08\0\0\0\0\0\0\0\0\x09\0\0\0\0\0\0\0\x09\0\0\0\x01@\x02\0\x10\x01\x80\x08\0%\xe5\0]a\x0d,\xd2>?\xf9\xe2})\xc1\xc5\x16L\x8c\x1c\xa8\xd7Z\xbe<\x02\xae8\xdc\x0e\x85D";
+const FILE: &[u8] =
+    b"LF\x01\0\0\0\0\0\0\0\x09\0\x02\x01a\x01d\x02\0\0\0\0\0\0\0\x01\x01\0\0\0\x02\0\0\0\0\0\0\0\x03\0\0\0\0\0\0\0\0\x0b\0\0\0\0\0\0\0\x0c\0\0\0\x01\x80\x0c\0@\x02\00\x01\xdc\x88\xef\x05\xe6\xb4-\x95N\x1e<\xce\xe8]\x12E\xb2h\x93<\xf1gAO\x99\x0e|V\x92]\x9cl\0\0\0\0\0\0\0\x02\x01\0\0\0\x02\0\0\0\0\0\0\0\x04\0\0\0\0\0\0\0\0\x0f\0\0\0\0\0\0\0\x1e\0\0\0\x01\x80\x1c\0\xe0\x06\00\x01[S\x8f(\xcd\xd3H\x17W\xba\x95\x98\xd2\xc1\xf9\xd4\xdf\x81\xa1\xdb\x7f\xe6\x1fQW\xb3\xc7r\x8b\xf6\xdb\xd4\x01e\x01h\x03\0\0\0\0\0\0\0\x03\x02\0\0\0\x01\0\0\0\0\0\0\0\x05\x01\0\0\0\0\0\0\02\0\0\0\x01\0\x10\0\x80\x04\0\x20\x03\xf9\x99\xf5\x14\xc30=j%e\x86fRD\x03\xf1R\xb19\x07\xb5\xf5\x9b\x03\x8f\xe3t\xf9\xfd\x97\xa4^\0\0\0\0\0\0\0\x04\x01\0\0\0\x02\0\0\0\0\0\0\0\x07\x01\0\0\0\0\0\0\0(\0\0\0\0\0\0\0\x03\0\0\0\0\0\0\0\x07\0\0\0\x01\0\x08\0\xc0\x06\0\x20\x01N\x1cu\x8c\x10\xd49\xa8\xceP\xed\xa5\xe4\xcf\xcf\x9dZ\xa8]O\xa6\xcb\x87\xb2\x0f\xf8=\xe9W\x91\x9e?\0\0\0\0\0\0\0\x05\x01\0\0\0\x01\0\0\0\0\0\0\0\x08\0\0\0\0\0\0\0\0\x09\0\0\0\0\0\0\0\x09\0\0\0\x01@\x02\0\x10\x01\x80\x08\0%\xe5\0]a\x0d,\xd2>?\xf9\xe2})\xc1\xc5\x16L\x8c\x1c\xa8\xd7Z\xbe<\x02\xae8\xdc\x0e\x85D";
 
 /// The pages 1 to 5.
-const PAGES: [&[u8]; 5] = [&PAGE_AC, &PAGE_BD, &PAGE_E, &PAGE_FG, &PAGE_H];
+const PAGES: &[&[u8]] = &[PAGE_AC, PAGE_BD, PAGE_E, PAGE_FG, PAGE_H];
 
 /// The file, some pages of which are torn.
 fn open_torn(alloc: Global, torn: &[u64]) -> Result<(FileView<MemDisk>, MemPort), Fail> {
-    open_file(alloc, &FILE, &PAGES, torn)
+    open_file(alloc, FILE, PAGES, torn)
 }
 
 /// What a cursor gives, or why it is refused.
@@ -94,9 +93,9 @@ fn page_again(alloc: Global, bytes: &[u8]) -> Result<Vec<u8>, Fail> {
 #[test]
 fn a_file_is_written_as_it_was_read(rt: HostRuntime) -> Result<(), Fail> {
     let alloc = rt.alloc();
-    assert_eq!(rt; header_again(alloc, &FILE)?.as_slice(), FILE.as_slice());
+    assert_eq!(rt; header_again(alloc, FILE)?.as_slice(), FILE);
     for page in PAGES {
-        assert_eq!(rt; page_again(alloc, page)?.as_slice(), page);
+        assert_eq!(rt; page_again(alloc, page)?.as_slice(), *page);
     }
     Ok(())
 }
@@ -151,7 +150,7 @@ fn found(
     torn: &[u64],
     key: &str,
 ) -> Result<Result<Option<Entry>, ReadRefused>, Fail> {
-    found_in(alloc, &FILE, &PAGES, torn, key)
+    found_in(alloc, FILE, PAGES, torn, key)
 }
 
 #[test]
@@ -174,12 +173,8 @@ fn a_key_is_found_in_the_page_that_has_it(rt: HostRuntime) -> Result<(), Fail> {
 }
 
 fn others_than(alloc: Global, page: u64) -> Result<Vec<u64>, Fail> {
-    let mut others = Vec::new(alloc);
-    for no in 1..6 {
-        if no != page {
-            others.push(no)?;
-        }
-    }
+    let mut others = [1, 2, 3, 4, 5].as_slice().to_vec(alloc)?;
+    others.retain(|no| *no != page);
     Ok(others)
 }
 

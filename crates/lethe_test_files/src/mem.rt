@@ -1,7 +1,7 @@
 //! A buffer of entries.
 
-use crate::common::{insert, key_of};
-use lethe_base::{Body, Entry, Value};
+use crate::common::{insert, key_of, value_of};
+use lethe_base::{Body, Entry};
 use lethe_mem::{Buffer, VecBuffer, first_from};
 use std::alloc::Global;
 use std::test::Fail;
@@ -28,13 +28,12 @@ const KEPT: [(&str, u64, usize); 5] = [
 
 /// A put of the key at a place, which is its delete key too.
 fn put_of(alloc: Global, key: &str, seq: u64) -> Result<Entry, Fail> {
+    let key = key_of(alloc, key)?;
+    let value = value_of(alloc, b"")?;
     Ok(Entry {
         seq,
-        key: key_of(alloc, key)?,
-        body: Body::Put {
-            dkey: seq,
-            value: Value::new(Vec::new(alloc))?,
-        },
+        key,
+        body: Body::Put { dkey: seq, value },
         since: None,
     })
 }
@@ -53,18 +52,33 @@ fn below(alloc: Global, buffer: &VecBuffer, key: &str) -> Result<usize, Fail> {
     Ok(first_from(buffer, &key_of(alloc, key)?))
 }
 
-#[test]
-fn a_buffer_keeps_the_last_entry_of_each_key_in_order(rt: HostRuntime) -> Result<(), Fail> {
-    let alloc = rt.alloc();
+/// The buffer of the entries that are put.
+fn filled(alloc: Global) -> Result<VecBuffer, Fail> {
     let mut buffer = VecBuffer::new(alloc);
-    assert!(rt; buffer.is_empty() && buffer.at(0).is_none());
     for (seq, key) in PUTS {
         insert(&mut buffer, put_of(alloc, key, seq)?)?;
     }
+    Ok(buffer)
+}
+
+/// A copy of the buffer, into which two entries more are put.
+fn copy_with_more(alloc: Global, buffer: &VecBuffer) -> Result<VecBuffer, Fail> {
     let mut copy = buffer.copy()?;
     insert(&mut copy, put_of(alloc, "b", 8)?)?;
     insert(&mut copy, put_of(alloc, "m", 9)?)?;
-    assert_eq!(rt; (buffer.len(), copy.len(), copy.is_empty()), (5, 6, false));
+    Ok(copy)
+}
+
+#[test]
+fn a_buffer_keeps_the_last_entry_of_each_key_in_order(rt: HostRuntime) -> Result<(), Fail> {
+    let alloc = rt.alloc();
+    let empty = VecBuffer::new(alloc);
+    assert!(rt; empty.is_empty() && empty.at(0).is_none());
+    let buffer = filled(alloc)?;
+    let copy = copy_with_more(alloc, &buffer)?;
+    assert_eq!(rt; buffer.len(), 5);
+    assert_eq!(rt; copy.len(), 6);
+    assert!(rt; !copy.is_empty());
     for (place, (key, seq, lower)) in KEPT.into_iter().enumerate() {
         assert_eq!(rt; found(alloc, &buffer, key)?, Some(seq), "{key}");
         assert_eq!(rt; seq_at(&buffer, place), Some(seq), "{key}");

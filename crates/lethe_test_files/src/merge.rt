@@ -2,8 +2,8 @@
 ghost use Rattle.std.specs.Prelude.{reverse};
 ghost use Rattle.lethe_base.specs.Entries.{IsAscending};
 
-use crate::common::{erase_of, key_of};
-use lethe_base::{Body, Entry, Pending, Value};
+use crate::common::{erase_of, key_of, value_of};
+use lethe_base::{Body, Entry, Pending};
 use lethe_disk::{Cursor, Disk, ReadRefused};
 use lethe_memdisk::{MemDisk, MemPort};
 use lethe_merge::{Merger, merge_entries, settle};
@@ -42,19 +42,23 @@ type Row = (&'static str, u64, Option<u64>, Option<u64>);
 /// An erase: its place, its time, and its range.
 type Erase = (u64, u64, u64, u64);
 
+/// A put with the delete key, or a tombstone.
+fn body_of(alloc: Global, dkey: Option<u64>) -> Result<Body, Fail> {
+    match dkey {
+        Some(dkey) => {
+            let value = value_of(alloc, b"")?;
+            Ok(Body::Put { dkey, value })
+        }
+        None => Ok(Body::Tomb),
+    }
+}
+
 fn entry_of(alloc: Global, row: &Row) -> Result<Entry, Fail> {
     let (key, seq, dkey, since) = *row;
-    let body = match dkey {
-        Some(dkey) => Body::Put {
-            dkey,
-            value: Value::new(Vec::new(alloc))?,
-        },
-        None => Body::Tomb,
-    };
     Ok(Entry {
         seq,
         key: key_of(alloc, key)?,
-        body,
+        body: body_of(alloc, dkey)?,
         since,
     })
 }
@@ -340,10 +344,14 @@ fn a_put_that_an_erase_matches_is_given_as_a_tombstone(rt: HostRuntime) -> Resul
     Ok(())
 }
 
+const STRONG: &[Row] = &[("a", 1, Some(1), None), ("c", 2, Some(1), None)];
+
+const WEAK: &[Row] = &[("b", 3, Some(1), None), ("d", 4, Some(1), None)];
+
 /// A merger of two lists, the second of which has memory for one answer alone.
 fn weak_merger(alloc: Global) -> Result<Merger<MemDisk, Listed>, Fail> {
-    let strong = cursor_of(alloc, &[("a", 1, Some(1), None), ("c", 2, Some(1), None)])?;
-    let mut weak = cursor_of(alloc, &[("b", 3, Some(1), None), ("d", 4, Some(1), None)])?;
+    let strong = cursor_of(alloc, STRONG)?;
+    let mut weak = cursor_of(alloc, WEAK)?;
     weak.answers = 1;
     let mut cursors = Vec::new(alloc);
     cursors.push(strong)?;

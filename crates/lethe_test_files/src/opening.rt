@@ -30,7 +30,10 @@ pub fn damaged(no: u64) -> ReadRefused {
 pub fn header_of(alloc: Global, bytes: &[u8]) -> Result<Header, Fail>
     ensures { IfOk result HasSpelling }
 {
-    Ok(read_header(alloc, bytes).map_err(|_| "no header")?)
+    match read_header(alloc, bytes) {
+        Ok(header) => Ok(header),
+        Err(_) => Err(Fail::new("a header")),
+    }
 }
 
 /// Writes a page, and opens it.
@@ -58,7 +61,10 @@ fn page_on(alloc: Global, disk: &mut MemDisk, no: u64, bytes: &[u8]) -> Result<A
 fn written(alloc: Global, no: u64, bytes: &[u8], torn: &[u64]) -> Result<Vec<u8>, Fail> {
     let mut written = bytes.to_vec(alloc)?;
     if torn.contains(&no) {
-        *written.last_mut().ok_or("a byte")? ^= 1;
+        let Some(last) = written.last_mut() else {
+            return Err(Fail::new("a byte"));
+        };
+        *last ^= 1;
     }
     Ok(written)
 }

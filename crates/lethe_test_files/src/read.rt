@@ -1,6 +1,6 @@
 //! Gets and scans over two buffers.
 
-use crate::common::{erase_of, insert, key_of};
+use crate::common::{erase_of, insert, key_of, value_of};
 use lethe_base::{Body, Entry, Key, Pending, Value};
 use lethe_mem::VecBuffer;
 use lethe_memdisk::{MemDisk, MemPort};
@@ -15,19 +15,23 @@ type Row = (&'static str, u8, Option<u64>);
 /// A pair: its key, its delete key, and the one byte of its value.
 type Shown = (&'static str, u64, u8);
 
+/// A put with the delete key, or a tombstone.
+fn body_of(alloc: Global, dkey: Option<u64>, byte: u8) -> Result<Body, Fail> {
+    match dkey {
+        Some(dkey) => {
+            let value = value_of(alloc, &[byte])?;
+            Ok(Body::Put { dkey, value })
+        }
+        None => Ok(Body::Tomb),
+    }
+}
+
 fn entry_of(alloc: Global, row: &Row) -> Result<Entry, Fail> {
     let (key, seq, dkey) = *row;
-    let body = match dkey {
-        Some(dkey) => Body::Put {
-            dkey,
-            value: Value::new([seq].as_slice().to_vec(alloc)?)?,
-        },
-        None => Body::Tomb,
-    };
     Ok(Entry {
         seq: seq as u64,
         key: key_of(alloc, key)?,
-        body,
+        body: body_of(alloc, dkey, seq)?,
         since: None,
     })
 }
@@ -44,17 +48,18 @@ fn is_value(value: &Value, byte: u8) -> bool {
     value.bytes() == [byte].as_slice()
 }
 
+fn is_shown(pair: &(Key, u64, Value), shown: &Shown) -> bool {
+    let (key, dkey, value) = pair;
+    *dkey == shown.1 && is_value(value, shown.2) && key.bytes() == shown.0.as_bytes()
+}
+
 /// Whether these are the pairs.
 fn are_shown(pairs: &[(Key, u64, Value)], wanted: &[Shown]) -> bool {
-    let mut same = pairs.len() == wanted.len();
-    for (pair, shown) in pairs.iter().zip(wanted) {
-        let (key, dkey, value) = pair;
-        same = same
-            && key.bytes() == shown.0.as_bytes()
-            && *dkey == shown.1
-            && is_value(value, shown.2);
-    }
-    same
+    pairs.len() == wanted.len()
+        && pairs
+            .iter()
+            .zip(wanted)
+            .all(|(pair, shown)| is_shown(pair, shown))
 }
 
 const ACTIVE: [Row; 3] = [("b", 7, Some(20)), ("d", 8, None), ("f", 9, Some(90))];

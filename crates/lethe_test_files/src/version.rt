@@ -33,7 +33,7 @@ fn version_of(alloc: Global, files: Vec<FileView<MemDisk>>) -> Result<Version<Me
 
 /// Whether a page of the file may have the key.
 fn may_hold(alloc: Global, key: &str) -> Result<bool, Fail> {
-    let (file, _) = open_file(alloc, &FILE, &[&PAGE_AC, &PAGE_BD], &[])?;
+    let (file, _) = open_file(alloc, FILE, &[PAGE_AC, PAGE_BD], &[])?;
     let version = version_of(alloc, vec![in alloc; file]?)?;
     Ok(version.may_hold(&key_of(alloc, key)?))
 }
@@ -107,6 +107,19 @@ fn file_of(
     )
 }
 
+/// The files of both contents, of which the second one's has the lower numbers.
+fn file_pair(
+    alloc: Global,
+    disk: &mut MemDisk,
+    first: &Content,
+    second: &Content,
+) -> Result<Vec<FileView<MemDisk>>, Fail> {
+    let mut files = Vec::new(alloc);
+    files.push(file_of(alloc, disk, second, 1)?)?;
+    files.push(file_of(alloc, disk, first, 3)?)?;
+    Ok(files)
+}
+
 /// A version of two files in level 0, where the first one's greatest place is greater, and a port of their disk. Each can have an entry
 /// newer than those of `a`, so that both are asked.
 fn two_files(
@@ -125,9 +138,7 @@ fn two_files(
         since: 2,
         greatest: 8,
     };
-    let mut files = Vec::new(alloc);
-    files.push(file_of(alloc, &mut disk, &second, 1)?)?;
-    files.push(file_of(alloc, &mut disk, &first, 3)?)?;
+    let files = file_pair(alloc, &mut disk, &first, &second)?;
     let version = version_of(alloc, files)?;
     let port = disk.port(alloc)?;
     Ok((version, port))
