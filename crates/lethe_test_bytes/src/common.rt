@@ -41,6 +41,18 @@ pub(crate) fn changed(
     Ok(copy)
 }
 
+/// The bytes with others in place of those from a place on.
+pub(crate) fn replaced(
+    alloc: Global,
+    bytes: &[u8],
+    place: usize,
+    others: &[u8],
+) -> Result<Vec<u8>, Fail> {
+    let mut copy = extended(alloc, &cut(alloc, bytes, place)?, others)?;
+    copy.extend_from_slice(bytes.get(copy.len()..).ok_or("bytes")?)?;
+    Ok(copy)
+}
+
 /// So many of the first bytes.
 pub(crate) fn cut(alloc: Global, bytes: &[u8], len: usize) -> Result<Vec<u8>, Fail> {
     Ok(bytes.get(..len).ok_or("a cut")?.to_vec(alloc)?)

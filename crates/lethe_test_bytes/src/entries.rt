@@ -9,10 +9,10 @@ use std::alloc::Global;
 use std::test::Fail;
 
 /// The put of key `a`, delete key 5, value `x` at place 1.
-const PUT: [u8; 23] = *b"\x01\0\0\0\0\0\0\0\x01\0\x01a\0\0\0\0\0\0\0\x05\0\x01x";
+const PUT: &[u8] = b"\x01\0\0\0\0\0\0\0\x01\0\x01a\0\0\0\0\0\0\0\x05\0\x01x";
 
 /// The tombstone of key `a` at place 2 with time 0.
-const TOMB: [u8; 20] = *b"\x02\0\0\0\0\0\0\0\x02\x01\0\0\0\0\0\0\0\0\x01a";
+const TOMB: &[u8] = b"\x02\0\0\0\0\0\0\0\x02\x01\0\0\0\0\0\0\0\0\x01a";
 
 /// How the entry at the begin of the bytes is read.
 fn read(alloc: Global, bytes: &[u8]) -> Result<(Entry, usize), EntryRefused> {
@@ -56,21 +56,23 @@ fn key_len(alloc: Global, bytes: &[u8], at: usize) -> Option<(usize, usize)> {
 #[test]
 fn entries_are_spelled_as_the_format_says(rt: HostRuntime) -> Result<(), Fail> {
     let alloc = rt.alloc();
-    for bytes in [PUT.as_slice(), TOMB.as_slice()] {
+    for bytes in [PUT, TOMB] {
         assert_eq!(rt; rewritten(alloc, bytes)?.as_slice(), bytes);
     }
-    let (kind, at, entry) = in_parts(alloc, &PUT)?;
-    assert_eq!(rt; (kind, at), (BodyKind::Put, 12));
-    assert_eq!(rt; (entry.seq, entry.since), (1, None));
+    let (kind, at, entry) = in_parts(alloc, PUT)?;
+    assert_eq!(rt; kind, BodyKind::Put);
+    assert_eq!(rt; at, 12);
+    assert_eq!(rt; entry.seq, 1);
+    assert_eq!(rt; entry.since, None);
     assert_eq!(rt; entry.key.bytes(), b"a".as_slice());
     assert!(rt; matches!(entry.body, Body::Put { dkey: 5, .. }));
-    assert_eq!(rt; read_place(&TOMB, 1).ok(), Some((2, 9)));
-    assert_eq!(rt; key_len(alloc, &TOMB, 18), Some((1, 20)));
+    assert_eq!(rt; read_place(TOMB, 1).ok(), Some((2, 9)));
+    assert_eq!(rt; key_len(alloc, TOMB, 18), Some((1, 20)));
     Ok(())
 }
 
 /// How much of `PUT` is there, and the field that goes past its end.
-const CUT: [(usize, u64); 8] = [
+const CUT: &[(usize, u64)] = &[
     (0, 0),
     (8, 1),
     (9, 9),
@@ -82,31 +84,33 @@ const CUT: [(usize, u64); 8] = [
 ];
 
 /// An entry, a byte that none has at this place, and the field that it stands in.
-const CHANGES: [(&[u8], usize, u8, u64); 9] = [
-    (&PUT, 0, 3, 0),
-    (&PUT, 1, 0x40, 1),
-    (&PUT, 8, 0, 1),
-    (&PUT, 9, 2, 9),
-    (&PUT, 10, 0, 10),
-    (&PUT, 20, 0x10, 20),
-    (&TOMB, 0, 0, 0),
-    (&TOMB, 9, 0, 9),
-    (&TOMB, 10, 0x41, 10),
+const CHANGES: &[(&[u8], usize, u8, u64)] = &[
+    (PUT, 0, 3, 0),
+    (PUT, 1, 0x40, 1),
+    (PUT, 8, 0, 1),
+    (PUT, 9, 2, 9),
+    (PUT, 10, 0, 10),
+    (PUT, 20, 0x10, 20),
+    (TOMB, 0, 0, 0),
+    (TOMB, 9, 0, 9),
+    (TOMB, 10, 0x41, 10),
 ];
 
 #[test]
 fn the_first_fault_from_the_left_is_told(rt: HostRuntime) -> Result<(), Fail> {
     one_spelling();
     let alloc = rt.alloc();
-    for (len, at) in CUT {
+    for row in CUT {
+        let (len, at) = *row;
         let why = EntryRefused::Short { at };
         assert_eq!(rt;
-            read(alloc, &cut(alloc, &PUT, len)?).err(),
+            read(alloc, &cut(alloc, PUT, len)?).err(),
             Some(why),
             "{len} bytes"
         );
     }
-    for (entry, place, byte, at) in CHANGES {
+    for row in CHANGES {
+        let (entry, place, byte, at) = *row;
         let bytes = changed(alloc, entry, place, byte)?;
         let why = EntryRefused::Kind { at };
         assert_eq!(rt; read(alloc, &bytes).err(), Some(why), "byte {place}");

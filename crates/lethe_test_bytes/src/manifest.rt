@@ -2,8 +2,8 @@
 ghost use Rattle.std.specs.Prelude.{IfOk};
 ghost use Rattle.lethe_manifest.specs.Manifests.{HasSpelling};
 
-use crate::common::{changed, cut, extended, small};
-use lethe_base::{List, Pending, Pick, Range};
+use crate::common::{changed, cut, extended, replaced, small};
+use lethe_base::{List, Pending, Pick};
 use lethe_manifest::{
     Cited, LastCert, Manifest, ManifestRefused, one_manifest, read_manifest, write_manifest,
 };
@@ -11,14 +11,14 @@ use std::alloc::Global;
 use std::test::Fail;
 
 /// A new store: manifest 2, threshold 100, ratio 2, levels 2, page 2, tile 2, file 2, buffer 4, pick so, segment 1.
-const NEW: [u8; 71] =
-    *b"LM\x01\0\0\0\0\0\0\0\x02\0\0\0\0\0\0\0\x64\x02\x02\0\x02\x02\0\x02\0\x04\0\0\0\0\0\0\0\0\0\0\0\0\0\0\0\0\0\0\0\0\0\0\0\0\x03\0\0\0\0\0\x01\0\0\0\0\0\0\0\x01\0\0\0\0";
+const NEW: &[u8] =
+    b"LM\x01\0\0\0\0\0\0\0\x02\0\0\0\0\0\0\0\x64\x02\x02\0\x02\x02\0\x02\0\x04\0\0\0\0\0\0\0\0\0\0\0\0\0\0\0\0\0\0\0\0\0\0\0\0\x03\0\0\0\0\0\x01\0\0\0\0\0\0\0\x01\0\0\0\0";
 
 /// A store that has all parts: manifest 9 of the same configuration with pick sd, clock 50, count 20 and next 12;
 /// certificate 3 at 40 of what was before 30; erase 5 at 10 from 1 to 9 and erase 7 at 20 of all but the greatest
 /// delete key; segments 8 and 4; on level 1 file 6, never swept, and on level 2 file 7, swept to place 5.
-const FULL: [u8; 265] =
-    *b"LM\x01\0\0\0\0\0\0\0\x09\0\0\0\0\0\0\0\x64\x02\x02\0\x02\x02\0\x02\0\x04\x01\0\0\0\0\0\0\0\x32\0\0\0\0\0\0\0\x14\0\0\0\0\0\0\0\x0c\x01\0\0\0\0\0\0\0\x03\0\0\0\0\0\0\0\x28\0\0\0\0\0\0\0\x1e\0\0\0\x02\0\0\0\0\0\0\0\x05\0\0\0\0\0\0\0\x0a\0\0\0\0\0\0\0\x01\0\0\0\0\0\0\0\x09\0\0\0\0\0\0\0\x07\0\0\0\0\0\0\0\x14\0\0\0\0\0\0\0\0\xff\xff\xff\xff\xff\xff\xff\xff\x02\0\0\0\0\0\0\0\x08\0\0\0\0\0\0\0\x04\0\0\0\x02\x01\0\0\0\0\0\0\0\x06\0\0\0\0\0\0\0\0abcdefghijklmnopqrstuvwxyz012345\x02\0\0\0\0\0\0\0\x07\0\0\0\0\0\0\0\x05ABCDEFGHIJKLMNOPQRSTUVWXYZ678901";
+const FULL: &[u8] =
+    b"LM\x01\0\0\0\0\0\0\0\x09\0\0\0\0\0\0\0\x64\x02\x02\0\x02\x02\0\x02\0\x04\x01\0\0\0\0\0\0\0\x32\0\0\0\0\0\0\0\x14\0\0\0\0\0\0\0\x0c\x01\0\0\0\0\0\0\0\x03\0\0\0\0\0\0\0\x28\0\0\0\0\0\0\0\x1e\0\0\0\x02\0\0\0\0\0\0\0\x05\0\0\0\0\0\0\0\x0a\0\0\0\0\0\0\0\x01\0\0\0\0\0\0\0\x09\0\0\0\0\0\0\0\x07\0\0\0\0\0\0\0\x14\0\0\0\0\0\0\0\0\xff\xff\xff\xff\xff\xff\xff\xff\x02\0\0\0\0\0\0\0\x08\0\0\0\0\0\0\0\x04\0\0\0\x02\x01\0\0\0\0\0\0\0\x06\0\0\0\0\0\0\0\0abcdefghijklmnopqrstuvwxyz012345\x02\0\0\0\0\0\0\0\x07\0\0\0\0\0\0\0\x05ABCDEFGHIJKLMNOPQRSTUVWXYZ678901";
 
 /// How the bytes are read.
 fn read(alloc: Global, bytes: &[u8]) -> Result<Manifest, ManifestRefused>
@@ -31,17 +31,24 @@ fn read(alloc: Global, bytes: &[u8]) -> Result<Manifest, ManifestRefused>
 fn new_store(alloc: Global) -> Result<Manifest, Fail>
     ensures { IfOk result HasSpelling }
 {
+    let config = small(Pick::So)?;
+    let segments = vec![in alloc; 1; 1]?;
     Ok(Manifest {
         no: 2,
-        config: small(Pick::So)?,
+        config,
         clock: 0,
         count: 0,
         next: 3,
         certificate: None,
         erases: List::of(Vec::new(alloc)),
-        segments: List::of(vec![in alloc; 1; 1]?),
+        segments: List::of(segments),
         files: List::of(Vec::new(alloc)),
     })
+}
+
+/// Whether the manifest has this number, clock, count and next number.
+fn are_numbers(manifest: &Manifest, no: u64, clock: u64, count: u64, next: u64) -> bool {
+    manifest.no == no && manifest.clock == clock && manifest.count == count && manifest.next == next
 }
 
 fn new_store_written(alloc: Global) -> Result<Vec<u8>, Fail> {
@@ -52,9 +59,9 @@ fn new_store_written(alloc: Global) -> Result<Vec<u8>, Fail> {
 #[test]
 fn a_new_store_has_71_bytes(rt: HostRuntime) -> Result<(), Fail> {
     let alloc = rt.alloc();
-    assert_eq!(rt; new_store_written(alloc)?.as_slice(), NEW.as_slice());
-    let read = read(alloc, &NEW).ok().ok_or("a manifest")?;
-    assert_eq!(rt; (read.no, read.clock, read.count, read.next), (2, 0, 0, 3));
+    assert_eq!(rt; new_store_written(alloc)?.as_slice(), NEW);
+    let read = read(alloc, NEW).ok().ok_or("a manifest")?;
+    assert!(rt; are_numbers(&read, 2, 0, 0, 3));
     assert_eq!(rt; *read.config.fields(), *small(Pick::So)?.fields());
     assert_eq!(rt; read.segments.items(), [1].as_slice());
     one_manifest();
@@ -64,21 +71,57 @@ fn a_new_store_has_71_bytes(rt: HostRuntime) -> Result<(), Fail> {
 #[test]
 fn a_store_with_all_parts_is_written_as_it_was_read(rt: HostRuntime) -> Result<(), Fail> {
     let alloc = rt.alloc();
-    let Ok(manifest) = read(alloc, &FULL) else {
+    let Ok(manifest) = read(alloc, FULL) else {
         return Err(Fail::new("a manifest"));
     };
     let bytes = write_manifest(alloc, &manifest).ok().ok_or("a spelling")?;
-    assert_eq!(rt; bytes.as_slice(), FULL.as_slice());
+    assert_eq!(rt; bytes.as_slice(), FULL);
     Ok(())
+}
+
+/// An erase: its place, its time and its range.
+type Erase = (u64, u64, u64, u64);
+
+const ERASES_OF_FULL: &[Erase] = &[(5, 10, 1, 9), (7, 20, 0, u64::MAX)];
+
+fn is_erase(erase: &Pending, wanted: &Erase) -> bool {
+    let (seq, time, lo, hi) = *wanted;
+    erase.seq == seq && erase.time == time && erase.range.lo() == lo && erase.range.hi() == hi
+}
+
+fn are_erases(erases: &[Pending], wanted: &[Erase]) -> bool {
+    erases.len() == wanted.len()
+        && erases
+            .iter()
+            .zip(wanted)
+            .all(|(erase, wanted)| is_erase(erase, wanted))
+}
+
+/// A file: its level, its number, the place that it is swept to, and its digest.
+type File = (u64, u64, u64, &'static [u8]);
+
+const FILES_OF_FULL: &[File] = &[
+    (1, 6, 0, b"abcdefghijklmnopqrstuvwxyz012345"),
+    (2, 7, 5, b"ABCDEFGHIJKLMNOPQRSTUVWXYZ678901"),
+];
+
+fn is_file(file: &Cited, wanted: &File) -> bool {
+    let (level, no, swept, digest) = *wanted;
+    file.level == level && file.no == no && file.swept == swept && file.digest.as_slice() == digest
+}
+
+fn are_files(files: &[Cited], wanted: &[File]) -> bool {
+    files.len() == wanted.len()
+        && files
+            .iter()
+            .zip(wanted)
+            .all(|(file, wanted)| is_file(file, wanted))
 }
 
 #[test]
 fn all_parts_of_a_store_are_read(rt: HostRuntime) -> Result<(), Fail> {
-    let read = read(rt.alloc(), &FULL).ok().ok_or("a manifest")?;
-    assert_eq!(rt;
-        (read.no, read.clock, read.count, read.next),
-        (9, 50, 20, 12)
-    );
+    let read = read(rt.alloc(), FULL).ok().ok_or("a manifest")?;
+    assert!(rt; are_numbers(&read, 9, 50, 20, 12));
     assert_eq!(rt; *read.config.fields(), *small(Pick::Sd)?.fields());
     let cert = LastCert {
         number: 3,
@@ -86,42 +129,16 @@ fn all_parts_of_a_store_are_read(rt: HostRuntime) -> Result<(), Fail> {
         before: 30,
     };
     assert_eq!(rt; read.certificate, Some(cert));
-    let erases = [
-        Pending {
-            seq: 5,
-            time: 10,
-            range: Range::new(1, 9).ok_or("a range")?,
-        },
-        Pending {
-            seq: 7,
-            time: 20,
-            range: Range::new(0, u64::MAX).ok_or("a range")?,
-        },
-    ];
-    assert_eq!(rt; read.erases.items(), erases.as_slice());
+    assert!(rt; are_erases(read.erases.items(), ERASES_OF_FULL));
     assert_eq!(rt; read.segments.items(), [8, 4].as_slice());
-    let files = [
-        Cited {
-            level: 1,
-            no: 6,
-            swept: 0,
-            digest: *b"abcdefghijklmnopqrstuvwxyz012345",
-        },
-        Cited {
-            level: 2,
-            no: 7,
-            swept: 5,
-            digest: *b"ABCDEFGHIJKLMNOPQRSTUVWXYZ678901",
-        },
-    ];
-    assert_eq!(rt; read.files.items(), files.as_slice());
+    assert!(rt; are_files(read.files.items(), FILES_OF_FULL));
     Ok(())
 }
 
 /// A place, the byte that is put there, and why the manifest is then refused.
 type Change = (usize, u8, ManifestRefused);
 
-const CHANGES_OF_NEW: [Change; 29] = [
+const CHANGES_OF_NEW: &[Change] = &[
     (0, b'M', ManifestRefused::Kind { at: 0 }),
     (1, b'S', ManifestRefused::Kind { at: 0 }),
     (2, 2, ManifestRefused::Kind { at: 2 }),
@@ -156,20 +173,18 @@ const CHANGES_OF_NEW: [Change; 29] = [
 #[test]
 fn other_bytes_are_refused_at_their_field(rt: HostRuntime) -> Result<(), Fail> {
     let alloc = rt.alloc();
-    for (place, byte, why) in CHANGES_OF_NEW {
-        let bytes = changed(alloc, &NEW, place, byte)?;
+    for row in CHANGES_OF_NEW {
+        let (place, byte, why) = *row;
+        let bytes = changed(alloc, NEW, place, byte)?;
         assert_eq!(rt; read(alloc, &bytes).err(), Some(why));
     }
-    let mut wide = NEW;
-    wide[21] = 4;
-    wide[22] = 0;
-    wide[23] = 64;
+    let wide = replaced(alloc, NEW, 21, &[4, 0, 64])?;
     let too_many = ManifestRefused::Kind { at: 24 };
     assert_eq!(rt; read(alloc, &wide).err(), Some(too_many));
     Ok(())
 }
 
-const CHANGES_OF_FULL: [Change; 25] = [
+const CHANGES_OF_FULL: &[Change] = &[
     // The mark and the certificate's number, clock and before.
     (53, 2, ManifestRefused::Kind { at: 53 }),
     (61, 0, ManifestRefused::Kind { at: 54 }),
@@ -204,15 +219,16 @@ const CHANGES_OF_FULL: [Change; 25] = [
 
 #[test]
 fn a_part_is_refused_at_its_field(rt: HostRuntime) -> Result<(), Fail> {
-    for (place, byte, why) in CHANGES_OF_FULL {
-        let bytes = changed(rt.alloc(), &FULL, place, byte)?;
+    for row in CHANGES_OF_FULL {
+        let (place, byte, why) = *row;
+        let bytes = changed(rt.alloc(), FULL, place, byte)?;
         assert_eq!(rt; read(rt.alloc(), &bytes).err(), Some(why));
     }
     Ok(())
 }
 
 /// How much of `FULL` is there, and the field that goes past its end.
-const CUTS: [(usize, u64); 38] = [
+const CUTS: &[(usize, u64)] = &[
     (0, 0),
     (1, 0),
     (2, 2),
@@ -255,14 +271,15 @@ const CUTS: [(usize, u64); 38] = [
 
 #[test]
 fn a_cut_manifest_is_short_at_its_field(rt: HostRuntime) -> Result<(), Fail> {
-    for (len, at) in CUTS {
+    for row in CUTS {
+        let (len, at) = *row;
         let why = ManifestRefused::Short { at };
         assert_eq!(rt;
-            read(rt.alloc(), &cut(rt.alloc(), &FULL, len)?).err(),
+            read(rt.alloc(), &cut(rt.alloc(), FULL, len)?).err(),
             Some(why)
         );
     }
-    let long = extended(rt.alloc(), &FULL, &[0])?;
+    let long = extended(rt.alloc(), FULL, &[0])?;
     let why = ManifestRefused::Trailing { at: 265 };
     assert_eq!(rt; read(rt.alloc(), &long).err(), Some(why));
     Ok(())
@@ -270,11 +287,9 @@ fn a_cut_manifest_is_short_at_its_field(rt: HostRuntime) -> Result<(), Fail> {
 
 #[test]
 fn no_memory_is_taken_on_the_word_of_a_count(rt: HostRuntime) -> Result<(), Fail> {
-    let mut most = NEW;
-    for byte in &mut most[67..] {
-        *byte = 0xff;
-    }
+    let alloc = rt.alloc();
+    let most = extended(alloc, &cut(alloc, NEW, 67)?, &[0xff; 4])?;
     let why = ManifestRefused::Short { at: 71 };
-    assert_eq!(rt; read(rt.alloc(), &most).err(), Some(why));
+    assert_eq!(rt; read(alloc, &most).err(), Some(why));
     Ok(())
 }

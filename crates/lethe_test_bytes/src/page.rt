@@ -2,19 +2,18 @@
 ghost use Rattle.std.specs.Prelude.{IfOk};
 ghost use Rattle.lethe_page.specs.Pages.{HasSpelling};
 
-use crate::common::{changed, cut, extended};
+use crate::common::{changed, cut, extended, replaced};
 use lethe_base::{Body, Entry};
 use lethe_page::{Class, PageRefused, one_page, read_page, write_page};
 use std::alloc::Global;
 use std::test::Fail;
 
 /// The put of key `a`, delete key 5, value `x` at place 1.
-const PUT: [u8; 31] =
-    *b"LP\x01\x01\0\0\0\x01\x01\0\0\0\0\0\0\0\x01\0\x01a\0\0\0\0\0\0\0\x05\0\x01x";
+const PUT: &[u8] = b"LP\x01\x01\0\0\0\x01\x01\0\0\0\0\0\0\0\x01\0\x01a\0\0\0\0\0\0\0\x05\0\x01x";
 
 /// The tombstones of keys `a` at place 2 with time 0, and `b` at place 3 with time 2^62.
-const TOMBS: [u8; 48] =
-    *b"LP\x01\x02\0\0\0\x02\x02\0\0\0\0\0\0\0\x02\x01\0\0\0\0\0\0\0\0\x01a\x02\0\0\0\0\0\0\0\x03\x01\x40\0\0\0\0\0\0\0\x01b";
+const TOMBS: &[u8] =
+    b"LP\x01\x02\0\0\0\x02\x02\0\0\0\0\0\0\0\x02\x01\0\0\0\0\0\0\0\0\x01a\x02\0\0\0\0\0\0\0\x03\x01\x40\0\0\0\0\0\0\0\x01b";
 
 /// How the bytes are read.
 fn read(alloc: Global, bytes: &[u8]) -> Result<(Class, Vec<Entry>), PageRefused>
@@ -39,26 +38,26 @@ fn first_of(alloc: Global, bytes: &[u8]) -> Result<(Class, usize, Entry), Fail> 
     Ok((class, count, first))
 }
 
+/// Whether the body is a put of the delete key and the value.
+fn is_put(body: &Body, wanted: u64, bytes: &[u8]) -> bool {
+    match body {
+        Body::Put { dkey, value } => *dkey == wanted && value.bytes() == bytes,
+        Body::Tomb => false,
+    }
+}
+
 #[test]
 fn a_page_is_written_as_it_was_read(rt: HostRuntime) -> Result<(), Fail> {
     let alloc = rt.alloc();
-    assert_eq!(rt; rewritten(alloc, &PUT)?.as_slice(), PUT.as_slice());
-    assert_eq!(rt; rewritten(alloc, &TOMBS)?.as_slice(), TOMBS.as_slice());
-    let (class, count, entry) = first_of(alloc, &PUT)?;
-    assert_eq!(rt; (class, count), (Class::Puts, 1));
-    let Entry {
-        seq,
-        key,
-        body,
-        since,
-    } = entry;
-    assert_eq!(rt; (seq, since), (1, None));
-    assert_eq!(rt; key.bytes(), b"a".as_slice());
-    let Body::Put { dkey, value } = body else {
-        return Err(Fail::new("a put"));
-    };
-    assert_eq!(rt; dkey, 5);
-    assert_eq!(rt; value.bytes(), b"x".as_slice());
+    assert_eq!(rt; rewritten(alloc, PUT)?.as_slice(), PUT);
+    assert_eq!(rt; rewritten(alloc, TOMBS)?.as_slice(), TOMBS);
+    let (class, count, entry) = first_of(alloc, PUT)?;
+    assert_eq!(rt; class, Class::Puts);
+    assert_eq!(rt; count, 1);
+    assert_eq!(rt; entry.seq, 1);
+    assert_eq!(rt; entry.since, None);
+    assert_eq!(rt; entry.key.bytes(), b"a".as_slice());
+    assert!(rt; is_put(&entry.body, 5, b"x"));
     one_page();
     Ok(())
 }
@@ -66,7 +65,7 @@ fn a_page_is_written_as_it_was_read(rt: HostRuntime) -> Result<(), Fail> {
 /// A place, the byte that is put there, and why the page is then refused.
 type Change = (usize, u8, PageRefused);
 
-const CHANGES_OF_PUT: [Change; 13] = [
+const CHANGES_OF_PUT: &[Change] = &[
     (0, b'M', PageRefused::Kind { at: 0 }),
     (1, b'F', PageRefused::Kind { at: 0 }),
     (2, 2, PageRefused::Kind { at: 2 }),
@@ -82,7 +81,7 @@ const CHANGES_OF_PUT: [Change; 13] = [
     (28, 0x10, PageRefused::Kind { at: 28 }),
 ];
 
-const CHANGES_OF_TOMBS: [Change; 7] = [
+const CHANGES_OF_TOMBS: &[Change] = &[
     (3, 1, PageRefused::Kind { at: 8 }),
     (7, 1, PageRefused::Trailing { at: 28 }),
     (17, 0, PageRefused::Kind { at: 17 }),
@@ -95,26 +94,24 @@ const CHANGES_OF_TOMBS: [Change; 7] = [
 #[test]
 fn other_bytes_are_refused_at_their_field(rt: HostRuntime) -> Result<(), Fail> {
     let alloc = rt.alloc();
-    for (place, byte, why) in CHANGES_OF_PUT {
-        let bytes = changed(alloc, &PUT, place, byte)?;
+    for row in CHANGES_OF_PUT {
+        let (place, byte, why) = *row;
+        let bytes = changed(alloc, PUT, place, byte)?;
         assert_eq!(rt; read(alloc, &bytes).err(), Some(why));
     }
-    for (place, byte, why) in CHANGES_OF_TOMBS {
-        let bytes = changed(alloc, &TOMBS, place, byte)?;
+    for row in CHANGES_OF_TOMBS {
+        let (place, byte, why) = *row;
+        let bytes = changed(alloc, TOMBS, place, byte)?;
         assert_eq!(rt; read(alloc, &bytes).err(), Some(why));
     }
-    let mut many = PUT;
-    many[4] = 255;
-    many[5] = 255;
-    many[6] = 255;
-    many[7] = 255;
+    let many = replaced(alloc, PUT, 4, &[255; 4])?;
     let why = PageRefused::Short { at: 31 };
     assert_eq!(rt; read(alloc, &many).err(), Some(why));
     Ok(())
 }
 
 /// How much of `PUT` is there, and the field that goes past its end.
-const CUTS: [(usize, u64); 13] = [
+const CUTS: &[(usize, u64)] = &[
     (0, 0),
     (1, 0),
     (2, 2),
@@ -131,7 +128,7 @@ const CUTS: [(usize, u64); 13] = [
 ];
 
 /// A count, bytes behind `PUT`, and why the page is then refused.
-const LONG: [(u8, &[u8], PageRefused); 4] = [
+const LONG: &[(u8, &[u8], PageRefused)] = &[
     (1, b"\0", PageRefused::Trailing { at: 31 }),
     (2, b"\x02", PageRefused::Kind { at: 31 }),
     (
@@ -149,12 +146,14 @@ const LONG: [(u8, &[u8], PageRefused); 4] = [
 #[test]
 fn a_cut_page_is_short_at_its_field(rt: HostRuntime) -> Result<(), Fail> {
     let alloc = rt.alloc();
-    for (len, at) in CUTS {
+    for row in CUTS {
+        let (len, at) = *row;
         let why = PageRefused::Short { at };
-        assert_eq!(rt; read(alloc, &cut(alloc, &PUT, len)?).err(), Some(why));
+        assert_eq!(rt; read(alloc, &cut(alloc, PUT, len)?).err(), Some(why));
     }
-    for (count, behind, why) in LONG {
-        let changed = changed(alloc, &PUT, 7, count)?;
+    for row in LONG {
+        let (count, behind, why) = *row;
+        let changed = changed(alloc, PUT, 7, count)?;
         let long = extended(alloc, &changed, behind)?;
         assert_eq!(rt; read(alloc, &long).err(), Some(why));
     }

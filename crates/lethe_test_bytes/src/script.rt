@@ -1,7 +1,7 @@
 //! Tests of scripts, and of the first bad line of other bytes.
 
 use crate::common::extended;
-use lethe_script::{Act, Script, ScriptRefused, read_script};
+use lethe_script::{Act, Order, Script, ScriptRefused, read_script};
 use std::alloc::Global;
 use std::str;
 use std::test::Fail;
@@ -11,34 +11,39 @@ fn shown(alloc: Global, script: &Script) -> Result<String, Fail> {
     let mut text = String::new(alloc);
     for phase in script.phases.items() {
         for order in phase.items() {
-            let line = format!(in alloc; "{}:{} ", order.line, order.caller)?;
-            text.push_str(&line)?;
-            let act = act_shown(alloc, &order.act)?;
-            text.push_str(&act)?;
-            text.push_str(";")?;
+            text.push_str(&order_shown(alloc, order)?)?;
         }
     }
     Ok(text)
 }
 
+fn order_shown(alloc: Global, order: &Order) -> Result<String, Fail> {
+    let act = act_shown(alloc, &order.act)?;
+    Ok(format!(in alloc; "{}:{} {act};", order.line, order.caller)?)
+}
+
+fn text_of(bytes: &[u8]) -> Result<&str, Fail> {
+    Ok(str::from_utf8(bytes)?)
+}
+
 fn act_shown(alloc: Global, act: &Act) -> Result<String, Fail> {
     match act {
         Act::Put { key, dkey, value } => {
-            let key = str::from_utf8(key.bytes())?;
-            let value = str::from_utf8(value.bytes())?;
+            let key = text_of(key.bytes())?;
+            let value = text_of(value.bytes())?;
             Ok(format!(in alloc; "put {key} {dkey} {value}")?)
         }
         Act::Get { key } => {
-            let key = str::from_utf8(key.bytes())?;
+            let key = text_of(key.bytes())?;
             Ok(format!(in alloc; "get {key}")?)
         }
         Act::Scan { lo, hi } => {
-            let lo = str::from_utf8(lo.bytes())?;
-            let hi = str::from_utf8(hi.bytes())?;
+            let lo = text_of(lo.bytes())?;
+            let hi = text_of(hi.bytes())?;
             Ok(format!(in alloc; "scan {lo} {hi}")?)
         }
         Act::Delete { key } => {
-            let key = str::from_utf8(key.bytes())?;
+            let key = text_of(key.bytes())?;
             Ok(format!(in alloc; "del {key}")?)
         }
         Act::Stat => Ok(format!(in alloc; "stat")?),
@@ -48,11 +53,10 @@ fn act_shown(alloc: Global, act: &Act) -> Result<String, Fail> {
 /// The number of orders of a script.
 fn orders_of(alloc: Global, bytes: &[u8]) -> Result<usize, Fail> {
     let script = read_script(alloc, bytes)?;
-    let mut orders = 0;
-    for phase in script.phases.items() {
-        orders = phase.items().len();
+    match script.phases.items().last() {
+        Some(phase) => Ok(phase.items().len()),
+        None => Ok(0),
     }
-    Ok(orders)
 }
 
 /// The bytes are refused for this line, and the reason has this word.
@@ -64,7 +68,7 @@ fn is_refused(alloc: Global, bytes: &[u8], line: u64, word: &[u8]) -> bool {
 }
 
 /// Scripts, and their orders with the numbers of their lines.
-const READ: [(&[u8], &[u8]); 13] = [
+const READ: &[(&[u8], &[u8])] = &[
     (b"", b""),
     (b"\n\r\n  \n#\n", b""),
     (
@@ -95,7 +99,8 @@ const READ: [(&[u8], &[u8]); 13] = [
 #[test]
 fn scripts_are_read(rt: HostRuntime) -> Result<(), Fail> {
     let alloc = rt.alloc();
-    for (bytes, text) in READ {
+    for row in READ {
+        let (bytes, text) = *row;
         let script = read_script(alloc, bytes)?;
         let found = shown(alloc, &script)?;
         assert!(rt; found.as_bytes() == text, "{found}");
@@ -104,7 +109,7 @@ fn scripts_are_read(rt: HostRuntime) -> Result<(), Fail> {
 }
 
 /// Other bytes, the number of their first bad line, and the word for what is wrong with it.
-const BAD: [(&[u8], u64, &[u8]); 46] = [
+const BAD: &[(&[u8], u64, &[u8])] = &[
     (b"1 get\ta\n", 1, b"byte"),
     (b"\t# note\n", 1, b"byte"),
     (b"# \xff\n", 1, b"byte"),
@@ -155,7 +160,8 @@ const BAD: [(&[u8], u64, &[u8]); 46] = [
 
 #[test]
 fn the_first_bad_line_is_answered(rt: HostRuntime) {
-    for (bytes, line, word) in BAD {
+    for row in BAD {
+        let (bytes, line, word) = *row;
         assert!(rt;
             is_refused(rt.alloc(), bytes, line, word),
             "line {line} of {bytes:?}"
@@ -165,7 +171,7 @@ fn the_first_bad_line_is_answered(rt: HostRuntime) {
 
 /// The begin of a script, a byte and how often it follows, the end, and the bad line and its word. Where the line is 0
 /// there is one order.
-const LIMITS: [(&[u8], u8, usize, &[u8], u64, &[u8]); 18] = [
+const LIMITS: &[(&[u8], u8, usize, &[u8], u64, &[u8])] = &[
     (b"", b' ', 16_777_217, b"", 1, b"size"),
     (b"", b'\t', 16_777_216, b"\n", 1, b"size"),
     (b"", b' ', 16_777_215, b"\nx", 2, b"size"),
@@ -200,7 +206,8 @@ fn filled(
 #[test]
 fn limits_are_met_to_the_byte(rt: HostRuntime) -> Result<(), Fail> {
     let alloc = rt.alloc();
-    for (head, filler, count, tail, line, word) in LIMITS {
+    for row in LIMITS {
+        let (head, filler, count, tail, line, word) = *row;
         let bytes = filled(alloc, head, filler, count, tail)?;
         let found = if line == 0 {
             orders_of(alloc, &bytes)? == 1
@@ -228,7 +235,7 @@ fn is_put(script: &Script, wanted_key: &[u8], wanted_value: &[u8]) -> bool {
 }
 
 /// A script of one put, its key and its value.
-const DIGITS: [(&[u8], &[u8], &[u8]); 5] = [
+const DIGITS: &[(&[u8], &[u8], &[u8])] = &[
     (b"1 put =6162 7 =", b"ab", b""),
     (b"1 put c 8 =00ff", b"c", b"\x00\xff"),
     (b"1 put =3d 8 =3d3d", b"=", b"=="),
@@ -239,7 +246,8 @@ const DIGITS: [(&[u8], &[u8], &[u8]); 5] = [
 #[test]
 fn digits_stand_for_bytes(rt: HostRuntime) -> Result<(), Fail> {
     let alloc = rt.alloc();
-    for (bytes, wanted_key, wanted_value) in DIGITS {
+    for row in DIGITS {
+        let (bytes, wanted_key, wanted_value) = *row;
         let script = read_script(alloc, bytes)?;
         assert!(rt; is_put(&script, wanted_key, wanted_value), "{bytes:?}");
     }

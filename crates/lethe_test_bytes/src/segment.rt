@@ -10,18 +10,16 @@ use std::alloc::Global;
 use std::test::Fail;
 
 /// Segment 3 with the put of key `a`, delete key 5, value `x` at place 1.
-const SEGMENT: [u8; 36] =
-    *b"LS\x01\0\0\0\0\0\0\0\x03\x01\x01\0\0\0\0\0\0\0\x01\0\x01a\0\0\0\0\0\0\0\x05\0\x01x\0";
+const SEGMENT: &[u8] =
+    b"LS\x01\0\0\0\0\0\0\0\x03\x01\x01\0\0\0\0\0\0\0\x01\0\x01a\0\0\0\0\0\0\0\x05\0\x01x\0";
 
 /// The spelling of the put that `SEGMENT` has.
 fn put(alloc: Global) -> Result<Vec<u8>, Fail> {
+    let value = Value::new(b"x".to_vec(alloc)?)?;
     let record = Record::Entry(Entry {
         seq: 1,
         key: key_of(alloc, "a")?,
-        body: Body::Put {
-            dkey: 5,
-            value: Value::new(b"x".to_vec(alloc)?)?,
-        },
+        body: Body::Put { dkey: 5, value },
         since: None,
     });
     Ok(write_record(alloc, &record)?)
@@ -53,7 +51,7 @@ fn records_are_spelled_as_the_format_says(rt: HostRuntime) -> Result<(), Fail> {
     assert_eq!(rt; blind(alloc)?.as_slice(), spelling.as_slice());
     let empty = b"LS\x01\0\0\0\0\0\0\0\x03\0";
     assert_eq!(rt; new_segment(3).as_slice(), empty.as_slice());
-    assert_eq!(rt; segment_number(&SEGMENT), Some(3));
+    assert_eq!(rt; segment_number(SEGMENT), Some(3));
     assert_eq!(rt; segment_number(&SEGMENT[..10]), None);
     Ok(())
 }
@@ -79,10 +77,10 @@ fn places(alloc: Global, bytes: &[u8]) -> Result<Vec<u64>, SegmentRefused> {
 }
 
 /// A segment, how much of it is there, and the places of the records that are replayed.
-const REPLAYED: [(&[u8], usize, &[u64]); 6] = [
-    (&SEGMENT, 36, &[1]),
-    (&SEGMENT, 35, &[1]),
-    (&SEGMENT, 11, &[]),
+const REPLAYED: &[(&[u8], usize, &[u64])] = &[
+    (SEGMENT, 36, &[1]),
+    (SEGMENT, 35, &[1]),
+    (SEGMENT, 11, &[]),
     (BLIND, 32, &[2, 9]),
     (CLOSED, 32, &[2]),
     (OTHER, 22, &[]),
@@ -91,7 +89,8 @@ const REPLAYED: [(&[u8], usize, &[u64]); 6] = [
 #[test]
 fn records_are_replayed_up_to_a_gate_that_is_not_open(rt: HostRuntime) -> Result<(), Fail> {
     let alloc = rt.alloc();
-    for (bytes, len, wanted) in REPLAYED {
+    for row in REPLAYED {
+        let (bytes, len, wanted) = *row;
         let found = places(alloc, &cut(alloc, bytes, len)?)
             .ok()
             .ok_or("records")?;
@@ -103,7 +102,7 @@ fn records_are_replayed_up_to_a_gate_that_is_not_open(rt: HostRuntime) -> Result
 }
 
 /// Bytes that are no segment, and why.
-const REFUSED: [(&[u8], SegmentRefused); 16] = [
+const REFUSED: &[(&[u8], SegmentRefused)] = &[
     (b"", SegmentRefused::Header { at: 0 }),
     (b"M", SegmentRefused::Header { at: 0 }),
     (b"L", SegmentRefused::Header { at: 1 }),
@@ -154,7 +153,8 @@ const REFUSED: [(&[u8], SegmentRefused); 16] = [
 
 #[test]
 fn other_bytes_are_refused_at_their_place(rt: HostRuntime) {
-    for (bytes, why) in REFUSED {
+    for row in REFUSED {
+        let (bytes, why) = *row;
         assert_eq!(rt; places(rt.alloc(), bytes).err(), Some(why));
     }
     let why = SegmentRefused::Record { at: 12 };

@@ -56,10 +56,9 @@ fn weave_row(alloc: Global, row: &str, config: &Config) -> Result<Vec<Tile>, Fai
 
 fn filter_of(alloc: Global, keys: &[Key]) -> Result<Filter, Fail> {
     if keys.is_empty() {
-        Err("there are no keys")?
-    } else {
-        Ok(Filter::build(alloc, keys)?)
+        return Err(Fail::new("there are no keys"));
     }
+    Ok(Filter::build(alloc, keys)?)
 }
 
 /// Tiles as a text: each tile its keys, and behind them its pages, of which each is its keys.
@@ -88,7 +87,7 @@ fn push_key(text: &mut String, key: &Key) -> Result<(), Fail> {
 }
 
 /// The entries of a row, and the text of the tiles that they are woven into.
-const WOVEN: [(&str, &str); 8] = [
+const WOVEN: &[(&str, &str)] = &[
     ("a=11 b=15 c=12 d=30", "a..d ac bd;"),
     (
         "a=11 b=15 c=12 d=30 e=13 f=14 g=40 h=50",
@@ -108,7 +107,8 @@ fn entries_are_woven_by_delete_key_and_by_key(rt: HostRuntime) -> Result<(), Fai
     let config = small(Pick::So)?;
     assert!(rt; !ascends(alloc, "a=1 b=2 b-")?);
     assert!(rt; !ascends(alloc, "b=1 a=2 c=3")?);
-    for (row, woven) in WOVEN {
+    for pair in WOVEN {
+        let (row, woven) = *pair;
         let text = text_of(alloc, &weave_row(alloc, row, &config)?)?;
         assert_eq!(rt; text.as_str(), woven, "{row}");
     }

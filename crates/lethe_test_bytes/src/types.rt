@@ -47,7 +47,8 @@ fn types_of_the_base_keep_what_they_are_made_of(rt: HostRuntime) -> Result<(), F
     assert_eq!(rt; copy.since, Some(3));
     assert!(rt; Range::new(2, 2).is_none());
     let range = Range::new(2, 9).ok_or("no range")?;
-    assert_eq!(rt; (range.lo(), range.hi()), (2, 9));
+    assert_eq!(rt; range.lo(), 2);
+    assert_eq!(rt; range.hi(), 9);
     Ok(())
 }
 
@@ -86,7 +87,7 @@ fn a_configuration_is_within_its_limits(rt: HostRuntime) -> Result<(), Fail> {
 }
 
 /// Fields, the first of them that breaks its limit, and its value.
-const REFUSED: [(Fields, Field, u64); 17] = [
+const REFUSED: &[(Fields, Field, u64)] = &[
     (
         Fields {
             threshold: 0,
@@ -187,7 +188,8 @@ fn refusal(fields: Fields) -> Option<ConfigRefused> {
 
 #[test]
 fn the_first_field_that_breaks_its_limit_is_named(rt: HostRuntime) {
-    for (fields, field, value) in REFUSED {
+    for row in REFUSED {
+        let (fields, field, value) = *row;
         let why = ConfigRefused { field, value };
         assert_eq!(rt; refusal(fields), Some(why));
     }
