@@ -1,6 +1,6 @@
 //! What several modules share: two pages and their file, keys and erases.
 
-use lethe_base::{Entry, Key, Pending, Range, Value};
+use lethe_base::{Body, Entry, Key, Pending, Range, Value};
 use lethe_mem::{Buffer, VecBuffer};
 use std::alloc::Global;
 use std::test::Fail;
@@ -23,6 +23,17 @@ pub fn key_of(alloc: Global, text: &str) -> Result<Key, Fail> {
 
 pub fn value_of(alloc: Global, bytes: &[u8]) -> Result<Value, Fail> {
     Ok(Value::new(bytes.to_vec(alloc)?)?)
+}
+
+/// A put of the bytes with the delete key, or a tombstone.
+pub fn body_of(alloc: Global, dkey: Option<u64>, bytes: &[u8]) -> Result<Body, Fail> {
+    match dkey {
+        Some(dkey) => {
+            let value = value_of(alloc, bytes)?;
+            Ok(Body::Put { dkey, value })
+        }
+        None => Ok(Body::Tomb),
+    }
 }
 
 /// The bytes with another byte at a place.

@@ -2,7 +2,7 @@
 ghost use Rattle.std.specs.Prelude.{reverse};
 ghost use Rattle.lethe_base.specs.Entries.{IsAscending};
 
-use crate::common::{erase_of, key_of, value_of};
+use crate::common::{body_of, erase_of, key_of};
 use lethe_base::{Body, Entry, Pending};
 use lethe_disk::{Cursor, Disk, ReadRefused};
 use lethe_memdisk::{MemDisk, MemPort};
@@ -42,23 +42,12 @@ type Row = (&'static str, u64, Option<u64>, Option<u64>);
 /// An erase: its place, its time, and its range.
 type Erase = (u64, u64, u64, u64);
 
-/// A put with the delete key, or a tombstone.
-fn body_of(alloc: Global, dkey: Option<u64>) -> Result<Body, Fail> {
-    match dkey {
-        Some(dkey) => {
-            let value = value_of(alloc, b"")?;
-            Ok(Body::Put { dkey, value })
-        }
-        None => Ok(Body::Tomb),
-    }
-}
-
 fn entry_of(alloc: Global, row: &Row) -> Result<Entry, Fail> {
     let (key, seq, dkey, since) = *row;
     Ok(Entry {
         seq,
         key: key_of(alloc, key)?,
-        body: body_of(alloc, dkey)?,
+        body: body_of(alloc, dkey, b"")?,
         since,
     })
 }

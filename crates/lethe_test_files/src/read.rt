@@ -1,7 +1,7 @@
 //! Gets and scans over two buffers.
 
-use crate::common::{erase_of, insert, key_of, value_of};
-use lethe_base::{Body, Entry, Key, Pending, Value};
+use crate::common::{body_of, erase_of, insert, key_of};
+use lethe_base::{Entry, Key, Pending, Value};
 use lethe_mem::VecBuffer;
 use lethe_memdisk::{MemDisk, MemPort};
 use lethe_read::{get, scan};
@@ -15,23 +15,12 @@ type Row = (&'static str, u8, Option<u64>);
 /// A pair: its key, its delete key, and the one byte of its value.
 type Shown = (&'static str, u64, u8);
 
-/// A put with the delete key, or a tombstone.
-fn body_of(alloc: Global, dkey: Option<u64>, byte: u8) -> Result<Body, Fail> {
-    match dkey {
-        Some(dkey) => {
-            let value = value_of(alloc, &[byte])?;
-            Ok(Body::Put { dkey, value })
-        }
-        None => Ok(Body::Tomb),
-    }
-}
-
 fn entry_of(alloc: Global, row: &Row) -> Result<Entry, Fail> {
     let (key, seq, dkey) = *row;
     Ok(Entry {
         seq: seq as u64,
         key: key_of(alloc, key)?,
-        body: body_of(alloc, dkey, seq)?,
+        body: body_of(alloc, dkey, &[seq])?,
         since: None,
     })
 }
