@@ -1,5 +1,5 @@
 -- A job that was begun is in flight.
-use Rattle.std.proofs.Common.{◌≡◌, ◌≢◌, ◌≤◌, ◌<◌, ◌++◌, ℕ, List, [], All, Some, None, refl, subst, sym, arith}
+use Rattle.std.proofs.Common.{◌≡◌, ◌≢◌, ◌≤◌, ◌<◌, ◌+◌, ◌++◌, ℕ, List, [], All, Some, None, refl, subst, sym, arith}
 use Rattle.std.specs.Prelude.{Contains}
 use Rattle.std.proofs.lemmas.List.Elements.{All-contains, All-nil, All-weaker}
 use Rattle.lethe_base.specs.History.{History}
@@ -40,10 +40,10 @@ begun_counted h s task coherent stands is =
 
 module _ (Tells : Type 0) (old : View) (task : PlainTask) (free : old.flight ≡ None) (runs : old.state.stopped ≡ None) (sound : IsSound Tells old) (begun : (s : Stored) → Holds old s → IsBegunIn s task) where
   abbrev flying : Flying
-  flying = record { task = task; written = [] }
+  flying = record { number = old.begun; task = task; written = [] }
 
   abbrev now : View
-  now = record old { flight = Some flying }
+  now = record old { flight = Some flying; begun = old.begun + 1 }
 
   begun_running : (s : Stored) → Holds old s → IsRunning now s
   begun_running s holds =
@@ -93,14 +93,14 @@ abbrev beside_disk : View → Seen → ℕ → View
 beside_disk view disk faults = record view { disk = disk; faults = faults }
 
 pub idle_sound : (Tells : Type 0) (view : View) (disk : Seen) (faults : ℕ) → (Tells → IsIdle view.disk disk) → IsSound Tells view → IsSound Tells (beside_disk view disk faults)
-idle_sound Tells view disk faults idle sound = sound_back Tells view (beside_disk view disk faults) (λ told. idle_back view.disk disk (idle told)) refl (record { levels = refl; flight = refl }) sound
+idle_sound Tells view disk faults idle sound = sound_back Tells view (beside_disk view disk faults) (λ told. idle_back view.disk disk (idle told)) refl (record { levels = refl; flight = refl; begun = refl }) sound
 
 module _ (view : View) (disk : Seen) (faults : ℕ) (idle : IsIdle view.disk disk) where
   pub idle_holds : (s : Stored) → Holds view s → Holds (beside_disk view disk faults) s
   idle_holds s holds = record {
     remembers = holds.remembers;
-    running = running_back view (beside_disk view disk faults) (idle_back view.disk disk idle) s refl (record { levels = refl; flight = refl }) holds.running;
+    running = running_back view (beside_disk view disk faults) (idle_back view.disk disk idle) s refl (record { levels = refl; flight = refl; begun = refl }) holds.running;
   }
 
   pub idle_stands : (config : Fields) (h : History) → StandsNow config h view → StandsNow config h (beside_disk view disk faults)
-  idle_stands config h stands = stands_back view (beside_disk view disk faults) (idle_back view.disk disk idle) config h refl (record { levels = refl; flight = refl }) stands
+  idle_stands config h stands = stands_back view (beside_disk view disk faults) (idle_back view.disk disk idle) config h refl (record { levels = refl; flight = refl; begun = refl }) stands

@@ -1,11 +1,14 @@
 -- Steps behind others that were carried out: they may be done, and their refusals are those of the whole.
-use Rattle.std.proofs.Common.{◌≡◌, ◌≤◌, ◌⊎◌, inl, inr, ℕ, ◌+◌, Ok, Err, Result, refl, sym, ap, ◌∙◌, subst, arith}
+use Rattle.std.proofs.Common.{◌≡◌, ◌≤◌, ◌⊎◌, inl, inr, ℕ, ◌+◌, Option, Some, None, refl, sym, ap, ◌∙◌, subst, arith}
+use Rattle.std.specs.Prelude.{option_map}
+use Rattle.std.specs.Option.{option_map_or, option_or}
 use Rattle.lethe_base.specs.History.{History}
 use Rattle.lethe_base.specs.declared.call.Call.{Call}
 use Rattle.lethe_base.specs.declared.refused.Refused.{Refused}
 use Rattle.lethe_base.specs.declared.refused.Refused.TheVariants.{Fault, Stopped, Backwards, Pinned, NothingDue, Cancelled, Exhausted, ReadFault, NoMemory, Damaged}
+use Rattle.lethe_cover.specs.Steps.{with_failed}
 use Rattle.lethe_state.specs.declared.state.State.{State}
-use Rattle.lethe_core.specs.Changes.{refused_to}
+use Rattle.lethe_core.specs.Asked.{Failure, failure_of}
 use Rattle.lethe_core.specs.Keeps.{Keeps, MayStep}
 use Rattle.lethe_core.specs.Reasons.{HasReason, IsUnreadable, told_since}
 use Rattle.lethe_core.specs.StandsNow.{StandsNow}
@@ -14,14 +17,13 @@ use Rattle.lethe_core.specs.View.{View}
 use Rattle.lethe_core.proofs.Hindered.{keeps_then}
 
 -- the next step may be done
-pub next_may : {T : Type 0} (Tells : Type 0) (old mid : View) (before : ℕ) (result : Result T Refused) → MayStep Tells old before → Keeps Tells old mid result → mid.state.stopped ≡ old.state.stopped
-    → mid.state.count ≡ old.state.count → MayStep Tells mid before
-next_may Tells old mid before result may keeps stopped count =
+pub next_may : (Tells : Type 0) (old mid : View) (before : ℕ) → MayStep Tells old before → Keeps Tells old mid None → MayStep Tells mid before
+next_may Tells old mid before may keeps =
     let rose = keeps.faults in
     record {
       sound = keeps.sound;
-      runs = stopped ∙ may.runs;
-      fits = let below = may.fits in omega (arith, below, count);
+      runs = keeps.stopped ∙ may.runs;
+      fits = let below = may.fits in let count = keeps.count in omega (arith, below, count);
       told_from = let told = may.told_from in omega (arith, told, rose);
     }
 
@@ -40,30 +42,37 @@ reason_behind Short Other old mid before now stopped count wider (Damaged name) 
 
 -- Reads that were refused, told with the count of faults before the first of them
 
--- whatever count of a port's faults it is told with, the history behind it is the same
-since_same : (h : History) (caller : ℕ) (call : Call) (earlier : ℕ) (why : Refused) → refused_to h caller call why ≡ refused_to h caller call (told_since earlier why)
-since_same h caller call earlier (Fault place before now) = refl
-since_same h caller call earlier (Stopped at) = refl
-since_same h caller call earlier (Backwards clock) = refl
-since_same h caller call earlier (Pinned pin limit) = refl
-since_same h caller call earlier NothingDue = refl
-since_same h caller call earlier (Cancelled begun now) = refl
-since_same h caller call earlier (Exhausted last) = refl
-since_same h caller call earlier (ReadFault before now) = refl
-since_same h caller call earlier NoMemory = refl
-since_same h caller call earlier (Damaged name) = refl
+-- whatever count of a port's faults it is told with, it tells of the same failure
+failure_since : (earlier : ℕ) (why : Refused) → failure_of why ≡ failure_of (told_since earlier why)
+failure_since earlier (Fault place before now) = refl
+failure_since earlier (Stopped at) = refl
+failure_since earlier (Backwards clock) = refl
+failure_since earlier (Pinned pin limit) = refl
+failure_since earlier NothingDue = refl
+failure_since earlier (Cancelled begun now) = refl
+failure_since earlier (Exhausted last) = refl
+failure_since earlier (ReadFault before now) = refl
+failure_since earlier NoMemory = refl
+failure_since earlier (Damaged name) = refl
 
-pub keeps_since : {A : Type 0} (Tells : Type 0) (old mid new : View) → Keeps {T = Unit {0}} Tells old mid (Ok tt) → (why : Refused) (earlier : ℕ) → Keeps {T = A} Tells mid new (Err why)
-    → Keeps {T = Unit {0}} Tells old new (Err (told_since earlier why))
-keeps_since {A} Tells old mid new before why earlier keeps =
-    let both : Keeps {T = A} Tells old new (Err why) = keeps_then Tells old mid new _ (λ h caller call. refl) before (Err why) keeps in
+pub keeps_since : (Tells : Type 0) (old mid new : View) → Keeps Tells old mid None → (why : Refused) (earlier : ℕ) → Keeps Tells mid new (Some why) → Keeps Tells old new (Some (told_since earlier why))
+keeps_since Tells old mid new before why earlier keeps =
+    let both = keeps_then Tells old mid new before (Some why) keeps in
+    let same = failure_since earlier why in
     record {
       sound = both.sound;
-      stands = λ told config h stands caller call. subst (λ g. StandsNow config g new) (since_same h caller call earlier why) (both.stands told config h stands caller call);
+      count = both.count ∙ ap (λ f. option_map_or (λ failure. old.state.count + 1) f old.state.count) same;
+      stopped = both.stopped ∙ ap (λ f. option_or (option_map (λ failure. failure.place) f) old.state.stopped) same;
+      stands = λ told config h stands caller call.
+          subst (λ f. StandsNow config (option_map_or (λ failure. with_failed h caller call failure.before failure.after) f h) new) same (both.stands told config h stands caller call);
       any_moment = both.any_moment;
       numbers = both.numbers;
       faults = both.faults;
     }
+
+-- what was refused was no failure, then or as it is told
+pub since_failed : (earlier : ℕ) (why : Refused) → failure_of (told_since earlier why) ≡ None → failure_of why ≡ None
+since_failed earlier why none = failure_since earlier why ∙ none
 
 reason_since : (Short : Type 0) (state : State) (before now earlier : ℕ) (why : Refused) → HasReason Short state before now why → HasReason Short state before now (told_since earlier why)
 reason_since Short state before now earlier (Fault place b a) is = is

@@ -1,5 +1,5 @@
 -- Steps that went wrong, and steps one after another: what they keep.
-use Rattle.std.proofs.Common.{◌≡◌, ◌≤◌, ◌<◌, ◌⊎◌, inl, inr, ℕ, ◌+◌, List, Option, Some, None, Result, Err, refl, sym, ap, subst, arith}
+use Rattle.std.proofs.Common.{◌≡◌, ◌≤◌, ◌<◌, ℕ, ◌+◌, List, Option, Some, None, refl, sym, ap, ◌∙◌, subst, arith}
 use Rattle.std.specs.Prelude.{IfSome}
 use Rattle.std.proofs.lemmas.List.Elements.{All-weaker}
 use Rattle.lethe_base.specs.History.{History, Change}
@@ -11,7 +11,7 @@ use Rattle.lethe_base.specs.declared.config.Fields.{Fields}
 use Rattle.lethe_base.specs.declared.name.Kind.TheVariants.{Page}
 use Rattle.lethe_base.specs.declared.name.Name.{Name}
 use Rattle.lethe_base.specs.declared.refused.Refused.{Refused}
-use Rattle.lethe_base.specs.declared.refused.Refused.TheVariants.{Fault, Exhausted, NoMemory}
+use Rattle.lethe_base.specs.declared.refused.Refused.TheVariants.{Fault, NoMemory}
 use Rattle.lethe_disk.specs.Disk.{Image}
 use Rattle.lethe_stored.specs.Files.{Parts}
 use Rattle.lethe_stored.specs.Kept.{IsKept}
@@ -19,17 +19,18 @@ use Rattle.lethe_stored.specs.Numbers.{GoesFrom}
 use Rattle.lethe_stored.specs.Stored.{Stored}
 use Rattle.lethe_stored.proofs.Numbers.{goes_from_then}
 use Rattle.lethe_advance.specs.Settled.{AreDrawn, names_in}
-use Rattle.lethe_state.specs.Records.{halted}
+use Rattle.lethe_state.specs.Records.{IsLike, halted}
 use Rattle.lethe_state.specs.Remembered.{Remembers}
 use Rattle.lethe_state.specs.Writable.{IsWritable}
 use Rattle.lethe_state.specs.declared.state.State.{State}
-use Rattle.lethe_core.specs.Changes.{refused_to}
+use Rattle.lethe_core.specs.Asked.{Serves, counted, failure_of, refused_to, stopped_by}
 use Rattle.lethe_core.specs.Keeps.{Keeps, MayStep}
 use Rattle.lethe_core.specs.Reasons.{HasReason}
 use Rattle.lethe_core.specs.Running.{IsFlying, IsSmall, IsSound}
 use Rattle.lethe_core.specs.StandsNow.{StandsNow, retried}
-use Rattle.lethe_core.specs.Steps.{IsHindered, stepped_to}
+use Rattle.lethe_core.specs.Steps.{IsAsBefore, IsHindered, IsUndone}
 use Rattle.lethe_core.specs.View.{Flying, View}
+use Rattle.lethe_core.proofs.Asked.{counted_none, refused_none, stopped_none}
 use Rattle.lethe_core.proofs.Standing.{beside, is_beside, left_at_end, moments_or, sound_back, stands_back, stands_done, stands_for, stands_moments, stopped_stands}
 
 -- Numbers that are drawn
@@ -94,6 +95,15 @@ sound_halted Tells old new fits sound = record {
 
 -- A step that was hindered
 
+like_itself : (state : State) → IsLike state state
+like_itself state = record { manifest = refl; count = refl; pending = refl; active = refl; records = refl; end_is = refl; frozen = refl; stopped = refl; next = refl }
+
+pub like_of : (old new : State) → new ≡ old → IsLike old new
+like_of old new same = subst (IsLike old) (sym same) (like_itself old)
+
+pub as_itself : (Tells : Type 0) (view : View) → IsAsBefore Tells view view
+as_itself Tells view = record { state = like_itself view.state; levels = refl; disk = λ told. record { directory = refl; images = λ c here. here } }
+
 module _ (Tells : Type 0) (old new : View) (before : ℕ) where
   pub hindered_sound : old.state.count < max_place → IsSound Tells old → (why : Refused) → IsHindered Tells old new before why → IsSound Tells new
   hindered_sound fits sound (Fault place b a) is = subst (IsSound Tells) (is_beside old new (halted old.state) is.4 is.5) (sound_halted Tells old new fits sound)
@@ -104,6 +114,21 @@ module _ (Tells : Type 0) (old new : View) (before : ℕ) where
   hindered_reason Short runs (Fault place b a) is = (runs, is.0, is.1, is.2, is.3)
   hindered_reason Short runs NoMemory is = tt
   hindered_reason Short runs why is = absurd is
+
+  pub hindered_count : (why : Refused) → IsHindered Tells old new before why → new.state.count ≡ counted (Serves Work) (Some why) old.state.count
+  hindered_count (Fault place b a) is = ap (λ (state : State). state.count) is.4
+  hindered_count NoMemory is = ap (λ (state : State). state.count) is.0
+  hindered_count why is = absurd is
+
+  pub hindered_stopped : (why : Refused) → IsHindered Tells old new before why → new.state.stopped ≡ stopped_by (Some why) old.state.stopped
+  hindered_stopped (Fault place b a) is = ap (λ (state : State). state.stopped) is.4 ∙ ap Some (sym is.0)
+  hindered_stopped NoMemory is = ap (λ (state : State). state.stopped) is.0
+  hindered_stopped why is = absurd is
+
+  pub hindered_undone : (why : Refused) → IsHindered Tells old new before why → IsUndone Tells old new why
+  hindered_undone (Fault place b a) is none = absurd (let clash : Some (record { place = place; before = b; after = a }) ≡ None = none in cc)
+  hindered_undone NoMemory is none = record { state = like_of old.state new.state is.0; levels = is.1.levels; disk = is.2 }
+  hindered_undone why is none = absurd is
 
   pub hindered_next : (why : Refused) → IsHindered Tells old new before why → new.state.next ≡ old.state.next
   hindered_next (Fault place b a) is = ap (λ (state : State). state.next) is.4
@@ -129,48 +154,51 @@ module _ (Tells : Type 0) (old new : View) (before : ℕ) where
 -- What is kept
 
 -- `itself` of the disk gives the image that a read gives
-pub hindered_keeps : {T : Type 0} (Tells : Type 0) (old new : View) (before : ℕ) → MayStep Tells old before → (why : Refused) → IsHindered Tells old new before why
+pub hindered_keeps : (Tells : Type 0) (old new : View) (before : ℕ) → MayStep Tells old before → (why : Refused) → IsHindered Tells old new before why
     → (Tells → (config : Fields) (h : History) → StandsNow config h old → GoesFrom old.state.next (λ c. IsKept config c h) old.disk new.disk) → (Tells → Image new.disk new.disk.directory)
-    → (Tells → old.disk.moment ≤ new.disk.moment) → old.faults ≤ new.faults → Keeps {T = T} Tells old new (Err why)
+    → (Tells → old.disk.moment ≤ new.disk.moment) → old.faults ≤ new.faults → Keeps Tells old new (Some why)
 hindered_keeps Tells old new before may why is goes itself later faults = record {
   sound = hindered_sound Tells old new before may.fits may.sound why is;
+  count = hindered_count Tells old new before why is;
+  stopped = hindered_stopped Tells old new before why is;
   stands = λ told config h stands caller call. hindered_stands Tells old new before config h stands may.runs told may.fits (goes told config h stands) (itself told) caller call why is;
   any_moment = goes;
   numbers = λ told. let same = hindered_next Tells old new before why is in let on = later told in omega (arith, same, on);
   faults = faults;
 }
 
--- where nothing was done, and the result is in no history
-pub keeps_itself : {T : Type 0} (Tells : Type 0) (view : View) → IsSound Tells view → view.state.stopped ≡ None → (result : Result T Refused)
-    → ((h : History) (caller : ℕ) (call : Call) → stepped_to h caller call result ≡ h) → Keeps Tells view view result
-keeps_itself Tells view sound runs result same = record {
+-- where nothing was done, and what was answered is in no history
+pub keeps_itself : (Tells : Type 0) (view : View) → IsSound Tells view → view.state.stopped ≡ None → (why : Option Refused) → IfSome why (λ why. failure_of why ≡ None) → Keeps Tells view view why
+keeps_itself Tells view sound runs None none = record {
   sound = sound;
-  stands = λ told config h stands caller call. subst (λ g. StandsNow config g view) (sym (same h caller call)) stands;
+  count = refl;
+  stopped = refl;
+  stands = λ told config h stands caller call. stands;
+  any_moment = λ told config h stands. stands_moments config h view stands runs sound.writable;
+  numbers = λ told. omega arith;
+  faults = omega arith;
+}
+keeps_itself Tells view sound runs (Some why) none = record {
+  sound = sound;
+  count = sym (counted_none (Serves Work) why view.state.count none);
+  stopped = sym (stopped_none why view.state.stopped none);
+  stands = λ told config h stands caller call. subst (λ g. StandsNow config g view) (sym (refused_none h caller call why none)) stands;
   any_moment = λ told config h stands. stands_moments config h view stands runs sound.writable;
   numbers = λ told. omega arith;
   faults = omega arith;
 }
 
--- one step, which is in no history, and then another
-pub keeps_then : {A B : Type 0} (Tells : Type 0) (a b c : View) (first : Result A Refused) → ((h : History) (caller : ℕ) (call : Call) → stepped_to h caller call first ≡ h) → Keeps Tells a b first
-    → (second : Result B Refused) → Keeps Tells b c second → Keeps Tells a c second
-keeps_then Tells a b c first same one second two =
-    let mid : Tells → (config : Fields) (h : History) → StandsNow config h a → StandsNow config h b
-    = λ told config h stands. subst (λ g. StandsNow config g b) (same h 0 Work) (one.stands told config h stands 0 Work) in
+-- one step that was done, and then another
+pub keeps_then : (Tells : Type 0) (a b c : View) → Keeps Tells a b None → (why : Option Refused) → Keeps Tells b c why → Keeps Tells a c why
+keeps_then Tells a b c one why two =
+    let mid : Tells → (config : Fields) (h : History) → StandsNow config h a → StandsNow config h b = λ told config h stands. one.stands told config h stands 0 Work in
     record {
       sound = two.sound;
+      count = two.count ∙ ap (counted (Serves Work) why) one.count;
+      stopped = two.stopped ∙ ap (stopped_by why) one.stopped;
       stands = λ told config h stands caller call. two.stands told config h (mid told config h stands) caller call;
       any_moment = λ told config h stands.
           goes_from_then (λ d. IsKept config d h) a.state.next b.state.next a.disk b.disk c.disk (one.any_moment told config h stands) (one.numbers told) (two.any_moment told config h (mid told config h stands));
       numbers = λ told. let early = one.numbers told in let late = two.numbers told in omega (arith, early, late);
       faults = let early = one.faults in let late = two.faults in omega (arith, early, late);
     }
-
--- a refusal is told on
-pub keeps_refused : {A B : Type 0} (Tells : Type 0) (old new : View) (why : Refused) → Keeps {T = A} Tells old new (Err why) → Keeps {T = B} Tells old new (Err why)
-keeps_refused Tells old new why is = record { sound = is.sound; stands = is.stands; any_moment = is.any_moment; numbers = is.numbers; faults = is.faults }
-
--- a refusal before the step is in no history
-pub refused_before : (h : History) (caller : ℕ) (call : Call) (why : Refused) → (why ≡ Exhausted max_place) ⊎ (why ≡ NoMemory) → refused_to h caller call why ≡ h
-refused_before h caller call why (inl short) = ap (refused_to h caller call) short
-refused_before h caller call why (inr memory) = ap (refused_to h caller call) memory

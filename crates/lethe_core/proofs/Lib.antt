@@ -1,3 +1,4 @@
+pub mod Asked
 pub mod Histories
 pub mod Standing
 pub mod Hindered

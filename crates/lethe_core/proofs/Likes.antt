@@ -1,7 +1,9 @@
 -- What a store is where memory was reserved.
+use Rattle.std.specs.Prelude.{option_map}
 use Rattle.std.proofs.Common.{◌≡◌, ◌≤◌, ◌<◌, ◌+◌, ℕ, List, None, length, refl, sym, ap, ◌∙◌, subst, arith}
 use Rattle.lethe_base.specs.History.{History}
 use Rattle.lethe_base.specs.declared.config.Fields.{Fields}
+use Rattle.lethe_disk.specs.declared.disk.Disk.{Ghosts}
 use Rattle.lethe_mem.specs.Buffered.{Buffered}
 use Rattle.lethe_manifest.specs.declared.manifest.Manifest.{Manifest}
 use Rattle.lethe_segment.specs.declared.record.Record.{Record}
@@ -18,9 +20,11 @@ use Rattle.lethe_state.specs.Writable.{IsWritable}
 use Rattle.lethe_state.specs.declared.state.State.{State}
 use Rattle.lethe_core.specs.Running.{Holds, IsRunning, IsSmall, IsSound}
 use Rattle.lethe_core.specs.StandsNow.{StandsNow}
-use Rattle.lethe_core.specs.View.{View}
+use Rattle.lethe_core.specs.Steps.{IsAsBefore, IsBeside}
+use Rattle.lethe_core.specs.View.{Face, View, face_of, flying_of, view_of}
+use Rattle.lethe_core.specs.declared.holding.Core.{Core}
 use Rattle.lethe_core.proofs.Hindered.{flies_on}
-use Rattle.lethe_core.proofs.Standing.{next_stands_now, stands_for, stands_holds}
+use Rattle.lethe_core.proofs.Standing.{next_stands_now, running_back, stands_for, stands_holds}
 
 like_remembered : (s : Stored) (old new : State) (levels : List (List Parts)) → IsLike old new → Remembers s old levels → Remembers s new levels
 like_remembered s old new levels like is = record {
@@ -97,3 +101,20 @@ next_small next end old new is room small =
     let few = small.active in
     let rest = small.frozen in
     record { active = omega (arith, entries, records, few); records = omega (arith, records, buffer, room); frozen = omega (arith, older, buffer, rest) }
+
+-- A step that left all as it was
+
+-- the jobs of a store are as they were
+pub jobs_same : {D Page Port : Type 0} {kind : Ghosts D Page Port} (old new : Core D Page Port kind) → new.begun ≡ old.begun → new.flight ≡ old.flight → face_of (view_of new) ≡ face_of (view_of old)
+jobs_same old new begun flight = λ i. record { begun = (begun i).count; flight = option_map flying_of (flight i) }
+
+-- what it held it holds
+pub before_holds : (Tells : Type 0) → Tells → (old new : View) (s : Stored) → face_of new ≡ face_of old → IsAsBefore Tells old new → Holds old s → Holds new s
+before_holds Tells told old new s face is holds =
+    let mid = with_state old new.state in
+    let rest : IsBeside mid new = record { levels = is.levels; flight = ap (λ (face : Face). face.flight) face; begun = ap (λ (face : Face). face.begun) face } in
+    let like = like_holds old new.state is.state s holds in
+    record {
+      remembers = subst (Remembers s new.state) (sym is.levels) like.remembers;
+      running = running_back mid new (is.disk told) s refl rest like.running;
+    }

@@ -68,12 +68,12 @@ small_under manifest state config is =
 
 -- The view behind the step: no job is in flight
 
-abbrev pub merged_view : View → Seen → ℕ → List (List Parts) → Step → View
-merged_view old disk faults levels step = record { disk = disk; faults = faults; state = under step.manifest old.state; levels = levels; flight = None }
+abbrev pub merged_view : View → Seen → ℕ → List (List Parts) → ℕ → Step → View
+merged_view old disk faults levels begun step = record { disk = disk; faults = faults; state = under step.manifest old.state; levels = levels; flight = None; begun = begun }
 
-module _ (old : View) (disk : Seen) (faults : ℕ) (levels : List (List Parts)) (headers : List Header) (step : Step) where
+module _ (old : View) (disk : Seen) (faults : ℕ) (levels : List (List Parts)) (begun : ℕ) (headers : List Header) (step : Step) where
   abbrev new : View
-  new = merged_view old disk faults levels step
+  new = merged_view old disk faults levels begun step
 
   module _ (s t : Stored) (task : PlainTask) (holds : Holds old s) (may : MayMerge old s task t headers step) (files : HasFiles t levels) where
     merged_both : Remembers t new.state levels × IsCurrent t new.state
@@ -128,7 +128,7 @@ module _ (old : View) (disk : Seen) (faults : ℕ) (levels : List (List Parts)) 
           (installed_for h s next.0 next.1 holds.remembers.coherent (stands_for config h old stands can.runs) (next.3 config h stands) next.2.installed) (behind told s next.0 next.1 holds next.2) tt
 
       pub merge_keeps : length levels ≡ length old.levels → (Tells → (config : Fields) (h : History) → StandsNow config h old → GoesFrom old.state.next (λ c. IsKept config c h) old.disk disk)
-          → (Tells → old.disk.moment + length step.objects.items + 5 ≤ disk.moment) → old.faults ≤ faults → Keeps {T = Unit {0}} Tells old new (Ok tt)
+          → (Tells → old.disk.moment + length step.objects.items + 5 ≤ disk.moment) → old.faults ≤ faults → Keeps Tells old new None
       merge_keeps count moments calls rise = record {
         sound = record {
           writable = writable_under old.state step from can.sound.writable;
@@ -142,6 +142,8 @@ module _ (old : View) (disk : Seen) (faults : ℕ) (levels : List (List Parts)) 
               let after = behind told held.0 next.0 next.1 holds next.2 in
               (next.1, after.remembers, λ runs. after.running);
         };
+        count = refl;
+        stopped = refl;
         stands = λ told config h stands caller call. merge_stands told config h stands;
         any_moment = moments;
         numbers = λ told.

@@ -104,8 +104,8 @@ module _ (P : Stored → Stored → Type 0) (Tells : Type 0) (old : View) (heade
           (subst (λ flight. IfSome flight (λ (flying : Flying). IsCounted flying.task)) (sym carried.flight) stands.counted)
 
       pub next_keeps : (segments : ℕ) → IsStepFrom segments old.state step → new.state.manifest ≡ step.manifest → new.state.next ≡ step.manifest.next → new.state.count ≡ old.state.count
-          → IsWritable new.state → IsSmall new.state → Keeps {T = Unit {0}} Tells old new (Ok tt)
-      next_keeps segments from manifest next count writable small =
+          → new.state.stopped ≡ old.state.stopped → IsWritable new.state → IsSmall new.state → Keeps Tells old new None
+      next_keeps segments from manifest next count stopped writable small =
           let config : new.state.manifest.config ≡ old.state.manifest.config = ap (λ (m : Manifest). m.config) manifest ∙ from.config in
           let number = from.numbers in
           let above = from.next in
@@ -121,6 +121,8 @@ module _ (P : Stored → Stored → Type 0) (Tells : Type 0) (old : View) (heade
                   let done = next_done told held.0 (record { remembers = held.1; running = held.2 may.runs }) in
                   (done.0, done.2.remembers, λ runs. done.2.running);
             };
+            count = count;
+            stopped = stopped;
             stands = λ told config h stands caller call. next_stands told count config h stands;
             any_moment = next_moments segments from carried.moments;
             numbers = λ told. let made = carried.calls told in omega (arith, made, number, above, next);

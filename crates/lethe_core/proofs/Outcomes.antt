@@ -1,6 +1,5 @@
 -- Merges one after another.
-use Rattle.std.proofs.Common.{◌≡◌, ◌≤◌, ◌<◌, ℕ, ◌+◌, ◌^◌, ◌-◌, min, List, [], ◌∷◌, ◌++◌, Ok, refl, sym, ap, ◌∙◌, subst, arith}
-use Rattle.std.specs.Prelude.{Bool, true}
+use Rattle.std.proofs.Common.{◌≡◌, ◌≤◌, ◌<◌, ℕ, ◌+◌, ◌^◌, ◌-◌, min, List, [], ◌∷◌, ◌++◌, None, refl, sym, ap, ◌∙◌, subst, arith}
 use Rattle.std.proofs.lemmas.List.Sums.{sum_by-append}
 use Rattle.lethe_base.specs.declared.config.Fields.{Fields}
 use Rattle.lethe_manifest.specs.declared.manifest.Manifest.{Manifest}
@@ -8,7 +7,7 @@ use Rattle.lethe_stored.specs.Stored.{Stored, pending_of}
 use Rattle.lethe_job.specs.Tasks.{inputs_in, pages_in}
 use Rattle.lethe_core.specs.Descent.{steps_down}
 use Rattle.lethe_core.specs.Keeps.{Keeps, MayStep}
-use Rattle.lethe_core.specs.Merges.{AreOutcomes, HasNoMerge, IsOutcome, Outcome, pages_of}
+use Rattle.lethe_core.specs.Merges.{AreOutcomes, AreSomeOutcomes, HasNoMerge, IsOutcome, Outcome, pages_of}
 use Rattle.lethe_core.specs.Running.{Holds}
 use Rattle.lethe_core.specs.Steps.{IsSteady}
 use Rattle.lethe_core.specs.View.{View}
@@ -16,16 +15,13 @@ use Rattle.lethe_core.proofs.Behind.{next_may}
 use Rattle.lethe_core.proofs.Descending.{few_steps, goes_down}
 use Rattle.lethe_core.proofs.Hindered.{keeps_itself, keeps_then}
 
--- as the outcomes of all merges that are due, but others may be due behind them
-abbrev pub AreSome : Stored → List Outcome → Stored → Type 0
-AreSome s [] t = t ≡ s
-AreSome s (outcome ∷ more) t = IsOutcome s outcome × AreSome outcome.to more t
+-- Some of the merges that are due
 
-some_more : (s : Stored) (outcomes : List Outcome) (t : Stored) (next : Outcome) → AreSome s outcomes t → IsOutcome t next → AreSome s (outcomes ++ next ∷ []) next.to
+some_more : (s : Stored) (outcomes : List Outcome) (t : Stored) (next : Outcome) → AreSomeOutcomes s outcomes t → IsOutcome t next → AreSomeOutcomes s (outcomes ++ next ∷ []) next.to
 some_more s [] t next are is = (subst (λ x. IsOutcome x next) are is, refl)
 some_more s (outcome ∷ more) t next are is = (are.0, some_more outcome.to more t next are.1 is)
 
-some_ended : (s : Stored) (outcomes : List Outcome) (t : Stored) → AreSome s outcomes t → HasNoMerge t → AreOutcomes s outcomes t
+some_ended : (s : Stored) (outcomes : List Outcome) (t : Stored) → AreSomeOutcomes s outcomes t → HasNoMerge t → AreOutcomes s outcomes t
 some_ended s [] t are none = (subst HasNoMerge are none, are)
 some_ended s (outcome ∷ more) t are none = (are.0, some_ended outcome.to more t are.1 none)
 
@@ -33,21 +29,21 @@ some_ended s (outcome ∷ more) t are none = (are.0, some_ended outcome.to more 
 pub record AreBehind (s : Stored) (new : View) (count fetched : ℕ) : Type 0 where
   pub outcomes : List Outcome
   pub to : Stored
-  pub are : AreSome s outcomes to
+  pub are : AreSomeOutcomes s outcomes to
   pub holds : Holds new to
   pub pages : pages_of outcomes ≡ fetched
   pub down : steps_down s.manifest.config.levels to.files + count ≤ steps_down s.manifest.config.levels s.files
 
 -- Of a store that has carried out so many merges: what it keeps and what is stored, by its port's counts of fetches and of faults.
 pub record HasMerged (Tells : Type 0) (old new : View) (count fetches fetches' faults faults' : ℕ) : Type 0 where
-  pub keeps : Keeps {T = Unit {0}} Tells old new (Ok tt)
+  pub keeps : Keeps Tells old new None
   pub steady : IsSteady old.state new.state
   pub behind : Tells → (s : Stored) → Holds old s → (fetched : ℕ) × AreBehind s new count fetched × (fetches' ≡ fetches + fetched)
   pub port_faults : faults ≤ faults'
 
 pub none_merged : (Tells : Type 0) (view : View) (before fetches faults : ℕ) → MayStep Tells view before → HasMerged Tells view view 0 fetches fetches faults faults
 none_merged Tells view before fetches faults may = record {
-  keeps = keeps_itself Tells view may.sound may.runs (Ok tt) (λ h caller call. refl);
+  keeps = keeps_itself Tells view may.sound may.runs None tt;
   steady = record { stopped = refl; count = refl; records = refl; config = refl };
   behind = λ told s holds. (0, record { outcomes = []; to = s; are = refl; holds = holds; pages = refl; down = omega arith }, omega arith);
   port_faults = omega arith;
@@ -59,7 +55,7 @@ config_held view s holds = ap (λ (m : Manifest). m.config) (sym holds.remembers
 
 module _ (Tells : Type 0) (old mid : View) (before count f0 f1 p0 p1 : ℕ) (merged : HasMerged Tells old mid count f0 f1 p0 p1) where
   pub merged_may : MayStep Tells old before → MayStep Tells mid before
-  merged_may may = next_may Tells old mid before (Ok tt) may merged.keeps merged.steady.stopped merged.steady.count
+  merged_may may = next_may Tells old mid before may merged.keeps
 
   merged_steady : (new : View) → IsSteady mid.state new.state → IsSteady old.state new.state
   merged_steady new steady = record {
@@ -72,12 +68,11 @@ module _ (Tells : Type 0) (old mid : View) (before count f0 f1 p0 p1 : ℕ) (mer
   levels_same : (s t : Stored) → Holds old s → Holds mid t → t.manifest.config.levels ≡ s.manifest.config.levels
   levels_same s t first then = ap (λ (fields : Fields). fields.levels) (config_held mid t then ∙ merged.steady.config ∙ sym (config_held old s first))
 
-  pub once_more : (new : View) (f2 p2 : ℕ) → Keeps {T = Bool} Tells mid new (Ok true) → IsSteady mid.state new.state
+  pub once_more : (new : View) (f2 p2 : ℕ) → Keeps Tells mid new None → IsSteady mid.state new.state
       → (Tells → (t : Stored) → Holds mid t → (next : Outcome) × IsOutcome t next × Holds new next.to × (f2 ≡ f1 + pages_in (inputs_in next.task))) → p1 ≤ p2
       → HasMerged Tells old new (count + 1) f0 f2 p0 p2
   once_more new f2 p2 keeps steady done faults = record {
-    keeps = let both = keeps_then Tells old mid new _ (λ h caller call. refl) merged.keeps (Ok true) keeps in
-        record { sound = both.sound; stands = both.stands; any_moment = both.any_moment; numbers = both.numbers; faults = both.faults };
+    keeps = keeps_then Tells old mid new merged.keeps None keeps;
     steady = merged_steady new steady;
     behind = λ told s holds.
         let had = merged.behind told s holds in
@@ -118,6 +113,10 @@ module _ (Tells : Type 0) (old mid : View) (before count f0 f1 p0 p1 : ℕ) (mer
       let pages = are.pages in
       let fetched = had.2 in
       (are.to, are.outcomes, some_ended s are.outcomes are.to are.are (none are.to are.holds), are.holds, omega (arith, pages, fetched))
+
+  -- what some of them left
+  pub some_merged : Tells → (s : Stored) → Holds old s → (t : Stored) × ((outcomes : List Outcome) × AreSomeOutcomes s outcomes t) × Holds mid t
+  some_merged told s holds = let are = (merged.behind told s holds).1 in (are.to, (are.outcomes, are.are), are.holds)
 
   -- there are no more merges than steps down
   pub too_many : Tells → (s : Stored) → Holds old s → (most : ℕ) → most ≡ steps_down s.manifest.config.levels s.files → min (most + 1) (2 ^ 64 - 1) ≤ count → ⊥

@@ -97,7 +97,7 @@ module _ (Tells : Type 0) (old : View) (sound : IsSound Tells old) where
 
   -- and so where the step was hindered
   pub refused_keeps : (new : View) (before : ℕ) → MayStep Tells old before → (Tells → (s : Stored) → Holds old s → Goes (λ c. Encodes c s) old.disk new.disk) → (Tells → Image new.disk new.disk.directory)
-      → old.faults ≤ new.faults → (why : Refused) → IsHindered Tells old new before why → Keeps {T = Unit {0}} Tells old new (Err why)
+      → old.faults ≤ new.faults → (why : Refused) → IsHindered Tells old new before why → Keeps Tells old new (Some why)
   refused_keeps new before may goes itself rose why is = hindered_keeps Tells old new before may why is (λ told. kept_moments new.disk may.runs (goes told)) itself
       (λ told. let held = held_now told may.runs in (goes told held.0 held.1).later) rose
 
@@ -166,9 +166,11 @@ module _ (Tells : Type 0) (old : View) (flying : Flying) (is : old.flight ≡ So
     }
 
     pub written_keeps : old.state.stopped ≡ None → (Tells → (s : Stored) → MayWrite old.disk s flying.written old.state.next → Goes (λ c. Encodes c s) old.disk disk)
-        → (Tells → disk.moment ≡ old.disk.moment + 2) → old.faults ≤ faults → Keeps Tells old now (Ok (tt {0}))
+        → (Tells → disk.moment ≡ old.disk.moment + 2) → old.faults ≤ faults → Keeps Tells old now None
     written_keeps runs goes calls rose = record {
       sound = written_sound;
+      count = refl;
+      stopped = refl;
       stands = λ told config h stands caller call.
           let holds = stands_holds config h old stands runs in
           next_stands_now config h old now stands runs stands.stored refl refl (stands_for config h old stands runs) (written_holds told stands.stored holds)

@@ -38,7 +38,8 @@ use Rattle.lethe_state.specs.Remembered.{Remembers}
 use Rattle.lethe_state.specs.Writable.{IsWritable}
 use Rattle.lethe_state.specs.declared.state.State.{State}
 use Rattle.lethe_job.proofs.Staying.{task_appended}
-use Rattle.lethe_core.specs.Changes.{done_by, with_record}
+use Rattle.lethe_core.specs.Asked.{done_by}
+use Rattle.lethe_core.specs.Changes.{with_record}
 use Rattle.lethe_core.specs.Running.{Holds, IsRunning, IsTasked}
 use Rattle.lethe_core.specs.StandsNow.{StandsNow}
 use Rattle.lethe_core.specs.View.{Flying, View, loose_in}

@@ -1,5 +1,5 @@
 -- The pages of the job in flight are removed.
-use Rattle.std.proofs.Common.{◌≡◌, ◌≤◌, ◌<◌, ℕ, List, [], Some, None, Result, Ok, Err, refl, sym, ◌∙◌, subst, arith}
+use Rattle.std.proofs.Common.{◌≡◌, ◌≤◌, ◌<◌, ℕ, List, [], Option, Some, None, Result, Err, refl, sym, ◌∙◌, subst, arith}
 use Rattle.std.specs.Prelude.{IsErrOf}
 use Rattle.std.proofs.lemmas.List.Elements.{All-contains, All-nil}
 use Rattle.lethe_base.specs.History.{History}
@@ -17,10 +17,10 @@ use Rattle.lethe_stored.specs.Stored.{IsCited, Stored, segment_name}
 use Rattle.lethe_stored.proofs.Frame.{none_of}
 use Rattle.lethe_advance.specs.Settled.{HasOnly, IsSettled, names_in}
 use Rattle.lethe_loose.specs.Loose.{MayRemove}
+use Rattle.lethe_core.specs.Asked.{Serves, behind}
 use Rattle.lethe_core.specs.Keeps.{Keeps}
 use Rattle.lethe_core.specs.Running.{Holds, IsRunning, IsSound}
 use Rattle.lethe_core.specs.StandsNow.{IsOpenOrStopped, StandsNow}
-use Rattle.lethe_core.specs.Steps.{stepped_to}
 use Rattle.lethe_core.specs.View.{Flying, View}
 use Rattle.lethe_core.proofs.Pages.{ends_stay, flies, held_now, kept_moments, may_remove}
 use Rattle.lethe_core.proofs.Standing.{next_stands_now, stands_for, stands_holds}
@@ -66,11 +66,13 @@ module _ (Tells : Type 0) (old : View) (flying : Flying) (is : old.flight ≡ So
     held = λ told. let held = sound.held told in (held.0, held.1, λ runs. removed_running told held.0 (record { remembers = held.1; running = held.2 runs }));
   }
 
-  pub removed_keeps : old.state.stopped ≡ None → (Tells → (s : Stored) → MayRemove old.disk s flying.written → Goes (λ c. Encodes c s) old.disk disk) → old.faults ≤ faults → Keeps Tells old alone (Ok (tt {0}))
+  pub removed_keeps : old.state.stopped ≡ None → (Tells → (s : Stored) → MayRemove old.disk s flying.written → Goes (λ c. Encodes c s) old.disk disk) → old.faults ≤ faults → Keeps Tells old alone None
   removed_keeps runs goes rose =
       let moments : Tells → (s : Stored) → Holds old s → Goes (λ c. Encodes c s) old.disk disk = λ told s holds. goes told s (may_remove Tells old flying is sound s holds) in
       record {
         sound = removed_sound;
+        count = refl;
+        stopped = refl;
         stands = λ told config h stands caller call.
             next_stands_now config h old alone stands runs stands.stored refl refl (stands_for config h old stands runs) (removed_holds told stands.stored (stands_holds config h old stands runs)) tt;
         any_moment = λ told. kept_moments Tells old sound disk runs (moments told);
@@ -92,8 +94,8 @@ grounded_stands config h view at stopped stands = record {
   counted = tt;
 }
 
-pub grounded_keeps : {T : Type 0} (Tells : Type 0) (old new : View) (result : Result T Refused) (at : ℕ) → new.state.stopped ≡ Some at → Keeps Tells old new result → Keeps Tells old (record new { flight = None }) result
-grounded_keeps Tells old new result at stopped is = record {
+pub grounded_keeps : (Tells : Type 0) (old new : View) (why : Option Refused) (at : ℕ) → new.state.stopped ≡ Some at → Keeps Tells old new why → Keeps Tells old (record new { flight = None }) why
+grounded_keeps Tells old new why at stopped is = record {
   sound = record {
     writable = is.sound.writable;
     small = is.sound.small;
@@ -101,7 +103,9 @@ grounded_keeps Tells old new result at stopped is = record {
     flies = tt;
     held = λ told. let held = is.sound.held told in (held.0, held.1, λ runs. absurd (let clash : Some at ≡ None = sym stopped ∙ runs in cc));
   };
-  stands = λ told config h stands caller call. grounded_stands config (stepped_to h caller call result) new at stopped (is.stands told config h stands caller call);
+  count = is.count;
+  stopped = is.stopped;
+  stands = λ told config h stands caller call. grounded_stands config (behind h caller (Serves call) why) new at stopped (is.stands told config h stands caller call);
   any_moment = is.any_moment;
   numbers = is.numbers;
   faults = is.faults;

@@ -1,12 +1,12 @@
 -- Room for a record.
-use Rattle.std.proofs.Common.{◌≡◌, ◌<◌, inl, inr, List, [], Option, Some, None, refl, ap, ◌∙◌, arith}
+use Rattle.std.proofs.Common.{◌≡◌, ◌<◌, inl, inr, List, [], ◌∷◌, Option, Some, None, refl, ap, ◌∙◌, arith}
 use Rattle.std.specs.Prelude.{Bool, IsSome, IsTrue, false, option_map}
 use Rattle.lethe_base.specs.declared.config.Fields.{Fields}
 use Rattle.lethe_manifest.specs.declared.manifest.Manifest.{Manifest}
 use Rattle.lethe_stored.specs.Stored.{Stored}
 use Rattle.lethe_state.specs.Room.{HasRoom}
 use Rattle.lethe_state.specs.declared.state.State.{State}
-use Rattle.lethe_core.specs.Merges.{AreOutcomes, IsCrowded, IsUncrowded, Outcome}
+use Rattle.lethe_core.specs.Merges.{AreOutcomes, AreSomeOutcomes, IsCrowded, IsMergedInPart, IsRoomBegun, IsRoomMadeBy, IsUncrowded, Outcome}
 use Rattle.lethe_core.specs.Running.{Holds}
 use Rattle.lethe_core.specs.Steps.{IsEmptied, IsReady, IsReadyToFreeze, IsSteady}
 use Rattle.lethe_core.specs.View.{Flying, View}
@@ -53,3 +53,29 @@ still_uncrowded (Some flying) s few = (refl, refl)
 pub merged_uncrowded : (flight : Option Flying) (s : Stored) (outcomes : List Outcome) (t : Stored) → flight ≡ None → IsCrowded s → AreOutcomes s outcomes t → IsUncrowded flight s outcomes t
 merged_uncrowded None s outcomes t free many are = inl (many, are)
 merged_uncrowded (Some flying) s outcomes t free many are = absurd (cc)
+
+pub merged_in_part : (flight : Option Flying) (s t : Stored) → flight ≡ None → IsCrowded s → (outcomes : List Outcome) × AreSomeOutcomes s outcomes t → IsMergedInPart flight s t
+merged_in_part None s t free many some = inr (many, some.0, some.1)
+merged_in_part (Some flying) s t free many some = absurd (cc)
+
+-- Room that was made, all of it or in part
+
+all_some : (s : Stored) (outcomes : List Outcome) (t : Stored) → AreOutcomes s outcomes t → AreSomeOutcomes s outcomes t
+all_some s [] t are = are.1
+all_some s (outcome ∷ more) t are = (are.0, all_some outcome.to more t are.1)
+
+uncrowded_in_part : (flight : Option Flying) (s : Stored) (outcomes : List Outcome) (t : Stored) → IsUncrowded flight s outcomes t → IsMergedInPart flight s t
+uncrowded_in_part None s outcomes t (inl all) = inr (all.0, outcomes, all_some s outcomes t all.1)
+uncrowded_in_part None s outcomes t (inr none) = inl none.2
+uncrowded_in_part (Some flying) s outcomes t is = is.1
+
+pub room_begun : (flight : Option Flying) (s : Stored) (outcomes : List Outcome) (t : Stored) → IsRoomMadeBy flight s outcomes t → IsRoomBegun flight s t
+room_begun flight s outcomes t (inl room) = inl room.2
+room_begun flight s outcomes t (inr cleared) = inr (
+  cleared.0,
+  record {
+    middle = cleared.1.middle;
+    unfrozen = cleared.1.unfrozen;
+    rest = inr (cleared.1.cleared, cleared.1.frozen, uncrowded_in_part flight cleared.1.cleared outcomes t cleared.1.merges);
+  },
+)

@@ -1,9 +1,7 @@
 -- Files that could not be read, and numbers that ran out.
 use Rattle.std.proofs.Common.{◌≡◌, ◌⊎◌, inl, inr, ℕ, None, Err, refl, sym, subst}
 use Rattle.lethe_base.specs.Counts.{Rose}
-use Rattle.lethe_base.specs.History.{History}
 use Rattle.lethe_base.specs.Limits.{max_place}
-use Rattle.lethe_base.specs.declared.call.Call.{Call}
 use Rattle.lethe_base.specs.declared.name.Name.{Name}
 use Rattle.lethe_base.specs.declared.refused.Refused.{Refused}
 use Rattle.lethe_base.specs.declared.refused.Refused.TheVariants.{Exhausted, NoMemory}
@@ -12,14 +10,14 @@ use Rattle.lethe_disk.specs.declared.cursor.ReadRefused.{ReadRefused}
 use Rattle.lethe_disk.specs.declared.cursor.ReadRefused.TheVariants as reads
 use Rattle.lethe_job.specs.Jobs.{told_as}
 use Rattle.lethe_state.specs.declared.state.State.{State}
-use Rattle.lethe_core.specs.Changes.{refused_to}
+use Rattle.lethe_core.specs.Asked.{failure_of}
 use Rattle.lethe_core.specs.Reasons.{HasReason, IsUnreadable}
 
--- a refused read is in no history
-pub told_before : (h : History) (caller : ℕ) (call : Call) (why : ReadRefused) → refused_to h caller call (told_as why) ≡ h
-told_before h caller call (reads.ReadFault before after) = refl
-told_before h caller call (reads.Damaged name) = refl
-told_before h caller call reads.NoMemory = refl
+-- a refused read is no failure of the disk
+pub not_failed_read : (why : ReadRefused) → failure_of (told_as why) ≡ None
+not_failed_read (reads.ReadFault before after) = refl
+not_failed_read (reads.Damaged name) = refl
+not_failed_read reads.NoMemory = refl
 
 -- and it has a reason
 pub told_reason : {T : Type 0} (Short Tells PortsFail : Type 0) (state : State) (before now earlier later : ℕ) (why : ReadRefused) → HasReadCause {T = T} earlier later (Err why) → (IsFault {T = T} (Err why) → PortsFail)

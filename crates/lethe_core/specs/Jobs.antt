@@ -1,19 +1,20 @@
 -- A job and the store that has it in flight.
-use Rattle.std.specs.Prelude.{◌≡◌, ◌≤◌, ℕ, List, ◌++◌, ◌∷◌, [], length, IfSome, IsSome, Some, false}
+use Rattle.std.specs.Prelude.{◌≡◌, ◌≤◌, ℕ, ◌+◌, List, ◌++◌, ◌∷◌, [], length, IfSome, IsSome, Some, false}
 use Rattle.lethe_base.specs.declared.name.Name.{Name}
 use Rattle.lethe_build.specs.declared.draft.Draft.{Draft}
 use Rattle.lethe_disk.specs.declared.disk.Disk.{Ghosts}
 use Rattle.lethe_advance.specs.Settled.{names_in}
 use Rattle.lethe_flush.specs.Made.{pages_in, written_pages}
 use Rattle.lethe_job.specs.Jobs.{AreOutputs, IsJob}
-use Rattle.lethe_job.specs.Tasks.{plain_task}
+use Rattle.lethe_job.specs.Tasks.{PlainTask, plain_task}
 use Rattle.lethe_job.specs.declared.job.Job.{Job}
-use Rattle.lethe_core.specs.View.{Flying, View}
+use Rattle.lethe_core.specs.View.{Face, Flying, View}
 
 -- the store has the job in flight
 pub record IsInFlight {D Page Port : Type 0} {kind : Ghosts D Page Port} (view : View) (job : Job D Page Port kind) : Type 0 where
   pub flying : Flying
   pub is : view.flight ≡ Some flying
+  pub number : job.number.value.count ≡ flying.number
   pub task : plain_task job.task.value ≡ flying.task
 
 -- the drafts are those of its outputs, whose first pages were written
@@ -34,6 +35,10 @@ pub record IsAtWork {D Page Port : Type 0} {kind : Ghosts D Page Port} (Tells : 
 pub record IsWhole {D Page Port : Type 0} {kind : Ghosts D Page Port} (job : Job D Page Port kind) : Type 0 where
   pub made : IsSome job.drafts
   pub all : IfSome job.drafts (λ drafts. job.written ≡ length (pages_in drafts.items))
+
+-- one job more was begun, which has the next number and no page yet
+abbrev pub with_begun : Face → PlainTask → Face
+with_begun face task = record { begun = face.begun + 1; flight = Some (record { number = face.begun; task = task; written = [] }) }
 
 -- one page more is written
 abbrev pub with_page : Flying → Name × List ℕ → Flying

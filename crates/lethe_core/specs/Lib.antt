@@ -1,6 +1,7 @@
 pub mod View
 pub mod Running
 pub mod StandsNow
+pub mod Asked
 pub mod Changes
 pub mod Merges
 pub mod Reasons

@@ -46,6 +46,11 @@ abbrev pub AreOutcomes : Stored → List Outcome → Stored → Type 0
 AreOutcomes s [] t = HasNoMerge s × (t ≡ s)
 AreOutcomes s (outcome ∷ more) t = IsOutcome s outcome × AreOutcomes outcome.to more t
 
+-- some of the merges that are due, one after another
+abbrev pub AreSomeOutcomes : Stored → List Outcome → Stored → Type 0
+AreSomeOutcomes s [] t = t ≡ s
+AreSomeOutcomes s (outcome ∷ more) t = IsOutcome s outcome × AreSomeOutcomes outcome.to more t
+
 -- level 0 has at least twice as many files as the ratio
 abbrev pub IsCrowded : Stored → Type 0
 IsCrowded s = 2 * s.manifest.config.ratio ≤ length (at 0 s.files)
@@ -54,6 +59,11 @@ IsCrowded s = 2 * s.manifest.config.ratio ≤ length (at 0 s.files)
 abbrev pub IsUncrowded : Option Flying → Stored → List Outcome → Stored → Type 0
 IsUncrowded None s outcomes t = (IsCrowded s × AreOutcomes s outcomes t) ⊎ ((IsCrowded s → ⊥) × (outcomes ≡ []) × (t ≡ s))
 IsUncrowded (Some flying) s outcomes t = (outcomes ≡ []) × (t ≡ s)
+
+-- some of them were, and none where level 0 isn't crowded or a job is in flight
+abbrev pub IsMergedInPart : Option Flying → Stored → Stored → Type 0
+IsMergedInPart None s t = (t ≡ s) ⊎ (IsCrowded s × (outcomes : List Outcome) × AreSomeOutcomes s outcomes t)
+IsMergedInPart (Some flying) s t = t ≡ s
 
 -- Room was made for a record where there was none: the frozen segment was flushed, if there was one, the active one was frozen, and then the merges were carried
 -- out.
@@ -67,6 +77,17 @@ pub record IsCleared (flight : Option Flying) (s : Stored) (outcomes : List Outc
 -- Where there is room nothing was done.
 abbrev pub IsRoomMadeBy : Option Flying → Stored → List Outcome → Stored → Type 0
 IsRoomMadeBy flight s outcomes t = (HasRoom s × (outcomes ≡ []) × (t ≡ s)) ⊎ ((HasRoom s → ⊥) × IsCleared flight s outcomes t)
+
+-- Of the steps that make room the first was done, which flushes the frozen segment, if there is one, and maybe the second, which freezes the active one, and behind that some
+-- of the merges.
+pub record IsClearedInPart (flight : Option Flying) (s t : Stored) : Type 0 where
+  pub middle : Stored
+  pub unfrozen : IsUnfrozen s middle
+  pub rest : (t ≡ middle) ⊎ ((cleared : Stored) × IsFrozen middle cleared × IsMergedInPart flight cleared t)
+
+-- Where there is room nothing was done, and where there is none some of the steps that make it.
+abbrev pub IsRoomBegun : Option Flying → Stored → Stored → Type 0
+IsRoomBegun flight s t = (t ≡ s) ⊎ ((HasRoom s → ⊥) × IsClearedInPart flight s t)
 
 -- how many pages these merges read
 abbrev pub pages_of : List Outcome → ℕ

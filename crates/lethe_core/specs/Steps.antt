@@ -1,29 +1,39 @@
 -- What the steps of a call leave.
-use Rattle.std.specs.Prelude.{◌≡◌, ◌<◌, ℕ, ◌+◌, List, sum_by, None, Result, Ok, Err}
+use Rattle.std.specs.Prelude.{◌≡◌, ◌<◌, ℕ, ◌+◌, List, sum_by, None}
 use Rattle.lethe_base.specs.Counts.{Rose}
-use Rattle.lethe_base.specs.History.{History}
-use Rattle.lethe_base.specs.declared.call.Call.{Call}
 use Rattle.lethe_base.specs.declared.refused.Refused.{Refused}
 use Rattle.lethe_base.specs.declared.refused.Refused.TheVariants.{Fault, Stopped, Backwards, Pinned, NothingDue, Cancelled, Exhausted, ReadFault, NoMemory, Damaged}
 use Rattle.lethe_build.specs.Drafts.{numbers_for}
 use Rattle.lethe_build.specs.declared.draft.Draft.{Draft}
 use Rattle.lethe_commit.specs.Switch.{IsTakenBack}
-use Rattle.lethe_state.specs.Records.{halted}
+use Rattle.lethe_stored.specs.Stored.{Stored}
+use Rattle.lethe_state.specs.Records.{IsLike, halted}
 use Rattle.lethe_state.specs.Room.{AreDrafted, IsShortToFreeze}
 use Rattle.lethe_state.specs.declared.state.State.{State}
-use Rattle.lethe_core.specs.Changes.{refused_to}
+use Rattle.lethe_core.specs.Asked.{failure_of}
 use Rattle.lethe_core.specs.Reasons.{IsShort}
+use Rattle.lethe_core.specs.Running.{Holds}
 use Rattle.lethe_core.specs.View.{View}
 
--- the history behind a step of a call: what is no change itself is in no history, unless the disk failed in it
-abbrev pub stepped_to : {T : Type 0} → History → ℕ → Call → Result T Refused → History
-stepped_to h caller call (Ok done) = h
-stepped_to h caller call (Err why) = refused_to h caller call why
-
--- the files and the job are as they were
+-- the files and the jobs are as they were
 pub record IsBeside (old new : View) : Type 0 where
   pub levels : new.levels ≡ old.levels
   pub flight : new.flight ≡ old.flight
+  pub begun : new.begun ≡ old.begun
+
+-- All is as it was, but for memory that was reserved and the jobs: a read gives what it gave, and a crash leaves nothing that it couldn't leave before.
+pub record IsAsBefore (Tells : Type 0) (old new : View) : Type 0 where
+  pub state : IsLike old.state new.state
+  pub levels : new.levels ≡ old.levels
+  pub disk : Tells → IsTakenBack old.disk new.disk
+
+-- A step that was refused, unless the disk failed in it, left all as it was.
+abbrev pub IsUndone : Type 0 → View → View → Refused → Type 0
+IsUndone Tells old new why = failure_of why ≡ None → IsAsBefore Tells old new
+
+-- One that was refused, unless the disk failed in it, left what came of what was stored in this way.
+abbrev pub IsDoneInPart : Type 0 → (Stored → Stored → Type 0) → View → View → Refused → Type 0
+IsDoneInPart Tells Comes old new why = failure_of why ≡ None → Tells → (s : Stored) → Holds old s → (t : Stored) × Comes s t × Holds new t
 
 -- How a step was hindered: the disk failed and the store is stopped, or there was no memory and what was done is taken back.
 abbrev pub IsHindered : Type 0 → View → View → ℕ → Refused → Type 0

@@ -10,12 +10,12 @@ ghost use Rattle.lethe_core.specs.View.{view_of};
 use crate::Flight;
 use lethe_base::NoMemory;
 use lethe_disk::Disk;
-use lethe_job::{Task, cited_files, next_task};
+use lethe_job::{BegunJobs, Task, cited_files, next_task};
 use lethe_state::State;
 use lethe_version::Version;
 use std::alloc::Global;
 
-/// What a store has: its disk, what it remembers of what is stored there, the files that readers have, and the job in flight. Its calls are made of steps, which
+/// What a store has: its disk, what it remembers of what is stored there, the files that readers have, the job in flight, and how many jobs were begun. Its calls are made of steps, which
 /// each leave it so that it can go on.
 #[derive(Drop)]
 pub struct Core<D: Disk> {
@@ -23,6 +23,8 @@ pub struct Core<D: Disk> {
     pub state: State,
     pub version: Version<D>,
     pub flight: Option<Flight<D>>,
+    /// How many jobs were begun since the store was opened.
+    pub begun: BegunJobs,
 }
 
 impl<D: Disk> Core<D> {

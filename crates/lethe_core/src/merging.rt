@@ -1,5 +1,6 @@
 //! Merges that a store carries out itself, and the step of a merge.
 ghost use Rattle.std.specs.Prelude.{◌≡◌, ◌≤◌, ◌+◌, ◌⊎◌, ◌↔◌, true, false, IsTrue, List, Ok, None, All, IfOk, IfErr, OnErr, OnOk};
+ghost use Rattle.std.specs.Result.{result_err};
 ghost use Rattle.lethe_base.specs.History.{History};
 ghost use Rattle.lethe_base.specs.declared.config.Fields.{Fields};
 ghost use Rattle.lethe_base.specs.declared.refused.Refused.TheVariants as refused;
@@ -11,11 +12,11 @@ ghost use Rattle.lethe_core.specs.Descent.{steps_down};
 ghost use Rattle.lethe_job.specs.Jobs.{told_as};
 ghost use Rattle.lethe_job.specs.Tasks.{PlainTask, inputs_in, pages_in};
 ghost use Rattle.lethe_core.specs.Keeps.{Keeps, MayStep};
-ghost use Rattle.lethe_core.specs.Merges.{AreOutcomes, HasNoMerge, IsCrowded, IsOutcome, IsShortToMerge, IsUncrowded, MayMerge, Outcome, pages_of};
+ghost use Rattle.lethe_core.specs.Merges.{AreOutcomes, AreSomeOutcomes, HasNoMerge, IsCrowded, IsMergedInPart, IsOutcome, IsShortToMerge, IsUncrowded, MayMerge, Outcome, pages_of};
 ghost use Rattle.lethe_core.specs.Reasons.{HasReason, IsUnreadable, told_since};
 ghost use Rattle.lethe_core.specs.Running.{Holds, IsSound};
 ghost use Rattle.lethe_core.specs.StandsNow.{IsCounted, StandsNow};
-ghost use Rattle.lethe_core.specs.Steps.{IsSteady};
+ghost use Rattle.lethe_core.specs.Steps.{IsDoneInPart, IsSteady, IsUndone};
 ghost use Rattle.lethe_core.specs.View.{view_of};
 
 use crate::Core;
@@ -37,7 +38,8 @@ impl<D: Disk> Core<D> {
         before: u64,
     ) -> Result<(), Refused>
         requires may { MayStep D.tells (view_of self.old) before }
-        ensures keeps { Keeps D.tells (view_of self.old) (view_of self.new) result }
+        ensures keeps { Keeps D.tells (view_of self.old) (view_of self.new) (result_err result) }
+        ensures partly { IfErr result (IsDoneInPart D.tells (IsMergedInPart (view_of self.old).flight) (view_of self.old) (view_of self.new)) }
         ensures done { D.tells → (s : Stored) → Holds (view_of self.old) s
             → OnOk result ((t : Stored) × (outcomes : List Outcome) × IsUncrowded (view_of self.old).flight s outcomes t × Holds (view_of self.new) t
             × (D.fetches port.new ≡ D.fetches port.old + pages_of outcomes)) }
@@ -45,6 +47,7 @@ impl<D: Disk> Core<D> {
         ensures why { IfErr result (λ why. HasReason (IsShortToMerge D.tells (view_of self.new)) self.old.state before (D.faults self.new.disk) why
             ⊎ IsUnreadable D.tells D.ports_fail (D.port_faults port.old) (D.port_faults port.new) why) }
         ensures flight { self.new.flight ≡ self.old.flight }
+        ensures begun { self.new.begun ≡ self.old.begun }
         ensures port_faults { D.port_faults port.old ≤ D.port_faults port.new }
     {
         if self.flight.is_some() || !self.is_crowded() {
@@ -66,7 +69,8 @@ impl<D: Disk> Core<D> {
     fn merge_all(&mut self, alloc: Global, port: &mut D::Port, before: u64) -> Result<(), Refused>
         requires may { MayStep D.tells (view_of self.old) before }
         requires free { self.old.flight ≡ None }
-        ensures keeps { Keeps D.tells (view_of self.old) (view_of self.new) result }
+        ensures keeps { Keeps D.tells (view_of self.old) (view_of self.new) (result_err result) }
+        ensures partly { IfErr result (IsDoneInPart D.tells (λ s t. (outcomes : List Outcome) × AreSomeOutcomes s outcomes t) (view_of self.old) (view_of self.new)) }
         ensures done { D.tells → (s : Stored) → Holds (view_of self.old) s
             → OnOk result ((t : Stored) × (outcomes : List Outcome) × AreOutcomes s outcomes t × Holds (view_of self.new) t
             × (D.fetches port.new ≡ D.fetches port.old + pages_of outcomes)) }
@@ -74,6 +78,7 @@ impl<D: Disk> Core<D> {
         ensures why { IfErr result (λ why. HasReason (IsShortToMerge D.tells (view_of self.new)) self.old.state before (D.faults self.new.disk) why
             ⊎ IsUnreadable D.tells D.ports_fail (D.port_faults port.old) (D.port_faults port.new) why) }
         ensures free { self.new.flight ≡ None }
+        ensures begun { self.new.begun ≡ self.old.begun }
         ensures port_faults { D.port_faults port.old ≤ D.port_faults port.new }
     {
         let earlier = D::port_faults(port);
@@ -111,7 +116,8 @@ impl<D: Disk> Core<D> {
     ) -> Result<bool, Refused>
         requires may { MayStep D.tells (view_of self.old) before }
         requires free { self.old.flight ≡ None }
-        ensures keeps { Keeps D.tells (view_of self.old) (view_of self.new) result }
+        ensures keeps { Keeps D.tells (view_of self.old) (view_of self.new) (result_err result) }
+        ensures undone { IfErr result (IsUndone D.tells (view_of self.old) (view_of self.new)) }
         ensures ended { result ≡ Ok false → (self.new ≡ self.old) × (D.fetches port.new ≡ D.fetches port.old) × ((s : Stored) → Holds (view_of self.old) s → HasNoMerge s) }
         ensures done { D.tells → (s : Stored) → Holds (view_of self.old) s → result ≡ Ok true
             → (outcome : Outcome) × IsOutcome s outcome × Holds (view_of self.new) outcome.to
@@ -120,6 +126,7 @@ impl<D: Disk> Core<D> {
         ensures why { IfErr result (λ why. HasReason (IsShortToMerge D.tells (view_of self.new)) self.old.state before (D.faults self.new.disk) why
             ⊎ IsUnreadable D.tells D.ports_fail (D.port_faults port.old) (D.port_faults port.new) why) }
         ensures free { self.new.flight ≡ None }
+        ensures begun { self.new.begun ≡ self.old.begun }
         ensures port_faults { D.port_faults port.old ≤ D.port_faults port.new }
     {
         let task = match self.next_task(alloc) {
@@ -149,12 +156,14 @@ impl<D: Disk> Core<D> {
         requires from { IsStepFrom (segments_for self.old.state.frozen) self.old.state step }
         requires merges { D.tells → (s : Stored) → Holds (view_of self.old) s → (task : PlainTask) × (t : Stored) × MayMerge (view_of self.old) s task t headers.items step
             × ((config : Fields) (h : History) → StandsNow config h (view_of self.old) → IsCounted task) }
-        ensures keeps { Keeps D.tells (view_of self.old) (view_of self.new) result }
+        ensures keeps { Keeps D.tells (view_of self.old) (view_of self.new) (result_err result) }
+        ensures undone { IfErr result (IsUndone D.tells (view_of self.old) (view_of self.new)) }
         ensures done { D.tells → (s : Stored) (task : PlainTask) (t : Stored) → Holds (view_of self.old) s → MayMerge (view_of self.old) s task t headers.items step
             → OnOk result (Holds (view_of self.new) t) }
         ensures steady { OnOk result (IsSteady self.old.state self.new.state) }
         ensures free { OnOk result (self.new.flight ≡ None) }
         ensures kept { IfErr result (λ why. self.new.flight ≡ self.old.flight) }
+        ensures begun { self.new.begun ≡ self.old.begun }
         ensures drawn { OnErr result (self.new.state.next ≡ self.old.state.next) }
         ensures why { IfErr result (HasReason ⊥ self.old.state before (D.faults self.new.disk)) }
     {

@@ -1,5 +1,6 @@
 //! Appending the record of a change.
 ghost use Rattle.std.specs.Prelude.{◌≡◌, ◌≤◌, ◌<◌, ◌+◌, ℕ, false, IfOk, IfErr, OnOk};
+ghost use Rattle.std.specs.Result.{result_err};
 ghost use Rattle.lethe_base.specs.History.{History};
 ghost use Rattle.lethe_base.specs.declared.call.Call.{Call};
 ghost use Rattle.lethe_base.specs.declared.config.Fields.{Fields};
@@ -10,11 +11,13 @@ ghost use Rattle.lethe_stored.specs.Kept.{IsFor};
 ghost use Rattle.lethe_stored.specs.Left.{IsKeptOr, is_work};
 ghost use Rattle.lethe_stored.specs.Numbers.{GoesFrom};
 ghost use Rattle.lethe_stored.specs.Stored.{Stored, appended, erase_of};
-ghost use Rattle.lethe_core.specs.Changes.{answered_to, with_record, written_by};
+ghost use Rattle.lethe_core.specs.Asked.{Makes, behind, counted, stopped_by, written_by};
+ghost use Rattle.lethe_core.specs.Changes.{with_record};
 ghost use Rattle.lethe_core.specs.Keeps.{MayStep};
 ghost use Rattle.lethe_core.specs.Reasons.{HasReason};
 ghost use Rattle.lethe_core.specs.Running.{Holds, IsSound};
 ghost use Rattle.lethe_core.specs.StandsNow.{StandsNow};
+ghost use Rattle.lethe_core.specs.Steps.{IsUndone};
 ghost use Rattle.lethe_core.specs.View.{view_of};
 
 use crate::Core;
@@ -33,18 +36,22 @@ impl<D: Disk> Core<D> {
         requires place { record_seq next ≡ self.old.state.count + 1 }
         requires entry { erase_of next ≡ None }
         ensures sound { IsSound D.tells (view_of self.new) }
+        ensures count { (call : Call) → self.new.state.count ≡ counted (Makes call) (result_err result) self.old.state.count }
+        ensures stopped { self.new.state.stopped ≡ stopped_by (result_err result) self.old.state.stopped }
+        ensures undone { IfErr result (IsUndone D.tells (view_of self.old) (view_of self.new)) }
         ensures place { IfOk result (λ place. place ≡ self.old.state.count + 1) }
         ensures why { IfErr result (HasReason ⊥ self.old.state before (D.faults self.new.disk)) }
         ensures stands { D.tells → (config : Fields) (h : History) (caller : ℕ) (call : Call) → is_work call ≡ false
             → (stands : StandsNow config h (view_of self.old)) → IsFor (with_done h caller call) (appended stands.stored next)
-            → StandsNow config (answered_to h caller call result) (view_of self.new) }
+            → StandsNow config (behind h caller (Makes call) (result_err result)) (view_of self.new) }
         ensures any_moment { D.tells → (config : Fields) (h : History) (caller : ℕ) (call : Call)
             → (stands : StandsNow config h (view_of self.old)) → IsFor (with_done h caller call) (appended stands.stored next)
-            → GoesFrom self.old.state.next (IsKeptOr config h (written_by caller call result)) (D.seen self.old.disk) (D.seen self.new.disk) }
+            → GoesFrom self.old.state.next (IsKeptOr config h (written_by caller (Makes call) (result_err result))) (D.seen self.old.disk) (D.seen self.new.disk) }
         ensures written { D.tells → (s : Stored) → Holds (view_of self.old) s
             → OnOk result (Holds (view_of self.new) (appended s next) × ((D.seen self.new.disk).directory ≡ with_record (D.seen self.old.disk).directory s next)) }
         ensures version { self.new.version ≡ self.old.version }
         ensures flight { self.new.flight ≡ self.old.flight }
+        ensures begun { self.new.begun ≡ self.old.begun }
         ensures calls { D.tells → OnOk result ((D.seen self.new.disk).moment ≡ (D.seen self.old.disk).moment + 4) }
         ensures numbers { D.tells → self.new.state.next + (D.seen self.old.disk).moment ≤ self.old.state.next + (D.seen self.new.disk).moment }
         ensures faults { D.faults self.old.disk ≤ D.faults self.new.disk }

@@ -1,5 +1,6 @@
 //! Freezing, flushing and making room, as steps of a call.
-ghost use Rattle.std.specs.Prelude.{◌≡◌, ◌≤◌, ◌<◌, ◌+◌, ◌⊎◌, ℕ, List, None, length, Contains, All, IfErr, IsSome, OnOk};
+ghost use Rattle.std.specs.Prelude.{◌≡◌, ◌≤◌, ◌<◌, ◌+◌, ◌⊎◌, ℕ, List, None, length, Contains, All, IfErr, IsOk, IsSome, OnOk};
+ghost use Rattle.std.specs.Result.{result_err};
 ghost use Rattle.lethe_base.specs.declared.name.Name.{Name};
 ghost use Rattle.lethe_base.specs.History.{History};
 ghost use Rattle.lethe_disk.specs.Directory.{object};
@@ -15,10 +16,10 @@ ghost use Rattle.lethe_advance.specs.Shown.{parts_by_level};
 ghost use Rattle.lethe_advance.specs.Steps.{IsStep};
 ghost use Rattle.lethe_state.specs.Room.{IsFlushed, IsFrozen, IsShortToFlush, IsShortToFreeze, IsUnfrozen};
 ghost use Rattle.lethe_core.specs.Keeps.{Keeps, MayStep};
-ghost use Rattle.lethe_core.specs.Merges.{Outcome, IsRoomMadeBy, pages_of};
+ghost use Rattle.lethe_core.specs.Merges.{Outcome, IsRoomBegun, IsRoomMadeBy, pages_of};
 ghost use Rattle.lethe_core.specs.Reasons.{HasReason, IsShort, IsShortOfRoom, IsUnreadable};
 ghost use Rattle.lethe_core.specs.Running.{Holds, IsRunning};
-ghost use Rattle.lethe_core.specs.Steps.{IsEmptied, IsHindered, IsReady, IsReadyToFreeze, IsUnfrozenAfter};
+ghost use Rattle.lethe_core.specs.Steps.{IsDoneInPart, IsEmptied, IsHindered, IsReady, IsReadyToFreeze, IsUndone, IsUnfrozenAfter};
 ghost use Rattle.lethe_core.specs.View.{loose_in, view_of};
 
 use crate::Core;
@@ -39,15 +40,17 @@ impl<D: Disk> Core<D> {
         before: u64,
     ) -> Result<(), Refused>
         requires { MayStep D.tells (view_of self.old) before }
-        ensures keeps { Keeps D.tells (view_of self.old) (view_of self.new) result }
+        ensures keeps { Keeps D.tells (view_of self.old) (view_of self.new) (result_err result) }
+        ensures partly { IfErr result (IsDoneInPart D.tells (IsRoomBegun (view_of self.old).flight) (view_of self.old) (view_of self.new)) }
         ensures done { D.tells → (s : Stored) → Holds (view_of self.old) s
             → OnOk result ((t : Stored) × (outcomes : List Outcome) × IsRoomMadeBy (view_of self.old).flight s outcomes t × Holds (view_of self.new) t
             × (D.fetches port.new ≡ D.fetches port.old + pages_of outcomes)) }
-        ensures room { self.old.state.records < self.old.state.manifest.config.buffer → OnOk result ((self.new ≡ self.old) × (port.new ≡ port.old)) }
+        ensures room { self.old.state.records < self.old.state.manifest.config.buffer → IsOk result × (self.new ≡ self.old) × (port.new ≡ port.old) }
         ensures ready { OnOk result (IsReady self.old.state self.new.state) }
         ensures why { IfErr result (λ why. HasReason (IsShortOfRoom D.tells self.old.state (view_of self.new)) self.old.state before (D.faults self.new.disk) why
             ⊎ IsUnreadable D.tells D.ports_fail (D.port_faults port.old) (D.port_faults port.new) why) }
         ensures flight { self.new.flight ≡ self.old.flight }
+        ensures begun { self.new.begun ≡ self.old.begun }
         ensures port_faults { D.port_faults port.old ≤ D.port_faults port.new }
     {
         if self.state.has_room() {
@@ -61,11 +64,13 @@ impl<D: Disk> Core<D> {
     /// Flushes the frozen buffer, if there is one.
     fn unfreeze(&mut self, alloc: Global, before: u64) -> Result<(), Refused>
         requires { MayStep D.tells (view_of self.old) before }
-        ensures keeps { Keeps D.tells (view_of self.old) (view_of self.new) result }
+        ensures keeps { Keeps D.tells (view_of self.old) (view_of self.new) (result_err result) }
+        ensures undone { IfErr result (IsUndone D.tells (view_of self.old) (view_of self.new)) }
         ensures done { D.tells → (s : Stored) → Holds (view_of self.old) s → OnOk result ((t : Stored) × IsUnfrozen s t × Holds (view_of self.new) t) }
         ensures ready { OnOk result (IsReadyToFreeze self.old.state self.new.state) }
         ensures why { IfErr result (HasReason (IsShort self.old.state) self.old.state before (D.faults self.new.disk)) }
         ensures flight { self.new.flight ≡ self.old.flight }
+        ensures begun { self.new.begun ≡ self.old.begun }
     {
         if self.state.frozen.is_none() {
             return Ok(());
@@ -77,11 +82,13 @@ impl<D: Disk> Core<D> {
     pub fn flush_now(&mut self, alloc: Global, before: u64) -> Result<(), Refused>
         requires may { MayStep D.tells (view_of self.old) before }
         requires frozen { IsSome self.old.state.frozen }
-        ensures keeps { Keeps D.tells (view_of self.old) (view_of self.new) result }
+        ensures keeps { Keeps D.tells (view_of self.old) (view_of self.new) (result_err result) }
+        ensures undone { IfErr result (IsUndone D.tells (view_of self.old) (view_of self.new)) }
         ensures done { D.tells → (s : Stored) → Holds (view_of self.old) s → OnOk result ((t : Stored) × IsFlushed s t × Holds (view_of self.new) t) }
         ensures ready { OnOk result (IsUnfrozenAfter self.old.state self.new.state) }
         ensures why { IfErr result (HasReason (IsShortToFlush self.old.state) self.old.state before (D.faults self.new.disk)) }
         ensures flight { self.new.flight ≡ self.old.flight }
+        ensures begun { self.new.begun ≡ self.old.begun }
     {
         let (headers, step) = self.state.flushing(alloc, &self.version)?;
         self.carry_out(alloc, before, headers, &step)?;
@@ -93,11 +100,13 @@ impl<D: Disk> Core<D> {
     pub fn freeze_now(&mut self, alloc: Global, before: u64) -> Result<(), Refused>
         requires may { MayStep D.tells (view_of self.old) before }
         requires unfrozen { self.old.state.frozen ≡ None }
-        ensures keeps { Keeps D.tells (view_of self.old) (view_of self.new) result }
+        ensures keeps { Keeps D.tells (view_of self.old) (view_of self.new) (result_err result) }
+        ensures undone { IfErr result (IsUndone D.tells (view_of self.old) (view_of self.new)) }
         ensures done { D.tells → (s : Stored) → Holds (view_of self.old) s → OnOk result ((t : Stored) × IsFrozen s t × Holds (view_of self.new) t) }
         ensures ready { OnOk result (IsEmptied self.old.state self.new.state) }
         ensures why { IfErr result (HasReason (IsShortToFreeze self.old.state) self.old.state before (D.faults self.new.disk)) }
         ensures flight { self.new.flight ≡ self.old.flight }
+        ensures begun { self.new.begun ≡ self.old.begun }
     {
         let step = self.state.freezing(alloc)?;
         self.carry_out(alloc, before, Vec::new(alloc), &step)?;
@@ -132,6 +141,7 @@ impl<D: Disk> Core<D> {
         ensures levels { length (parts_by_level self.new.version) ≡ length (parts_by_level self.old.version) }
         ensures refused { IfErr result (IsHindered D.tells (view_of self.old) (view_of self.new) before) }
         ensures flight { self.new.flight ≡ self.old.flight }
+        ensures begun { self.new.begun ≡ self.old.begun }
         ensures calls { D.tells → OnOk result ((D.seen self.old.disk).moment + length step.now.objects.items + 5 ≤ (D.seen self.new.disk).moment) }
         ensures later { D.tells → (D.seen self.old.disk).moment ≤ (D.seen self.new.disk).moment }
         ensures faults { D.faults self.old.disk ≤ D.faults self.new.disk }

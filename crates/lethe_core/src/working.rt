@@ -1,5 +1,6 @@
 //! The steps of a job: begun, written page by page, installed or given up.
 ghost use Rattle.std.specs.Prelude.{◌≡◌, ◌≤◌, ◌+◌, ◌-◌, Ok, Some, None, length, sum_by, IfOk, IfErr, IfSome, IsErrOf, IsSome, OnErr, OnOk};
+ghost use Rattle.std.specs.Result.{result_err};
 ghost use Rattle.std.specs.FinMap.{insert};
 ghost use Rattle.lethe_base.specs.History.{History};
 ghost use Rattle.lethe_base.specs.Limits.{max_place};
@@ -10,14 +11,14 @@ ghost use Rattle.lethe_disk.specs.Disk.{IsIdle};
 ghost use Rattle.lethe_file.specs.Agreement.{page_name};
 ghost use Rattle.lethe_stored.specs.Stored.{Stored};
 ghost use Rattle.lethe_job.specs.Tasks.{IsBegunIn, plain_task};
-ghost use Rattle.lethe_core.specs.Jobs.{AreOutputsOf, IsAtWork, with_page};
+ghost use Rattle.lethe_core.specs.Jobs.{AreOutputsOf, IsAtWork, with_begun, with_page};
 ghost use Rattle.lethe_core.specs.Keeps.{Keeps, MayStep};
 ghost use Rattle.lethe_core.specs.Merges.{HasNoMerge, IsInstalled};
 ghost use Rattle.lethe_core.specs.Reasons.{HasReason};
 ghost use Rattle.lethe_core.specs.Running.{Holds, IsSound};
 ghost use Rattle.lethe_core.specs.StandsNow.{StandsNow};
-ghost use Rattle.lethe_core.specs.Steps.{IsSteady};
-ghost use Rattle.lethe_core.specs.View.{view_of};
+ghost use Rattle.lethe_core.specs.Steps.{IsSteady, IsUndone};
+ghost use Rattle.lethe_core.specs.View.{face_of, view_of};
 
 use crate::{Core, Flight};
 use lethe_base::{MAX_PLACE, NoMemory, Refused};
@@ -27,6 +28,7 @@ use lethe_install::installing;
 use lethe_job::Job;
 use lethe_loose::{Written, remove_pages, write_page};
 use std::alloc::Global;
+use std::snapshot::Snapshot;
 use std::sync::Arc;
 
 impl<D: Disk> Core<D> {
@@ -43,8 +45,9 @@ impl<D: Disk> Core<D> {
         ensures works { IfOk result (λ found. IfSome found (IsAtWork D.tells (view_of self.new))) }
         ensures unmade { IfOk result (λ found. IfSome found (λ job. job.drafts ≡ None)) }
         ensures port { IfOk result (λ found. IfSome found (λ job. (D.fetches job.port ≡ 0) × (D.port_faults job.port ≡ 0))) }
-        ensures free { result ≡ Ok None → self.new.flight ≡ None }
-        ensures kept { IfErr result (λ why. self.new.flight ≡ None) }
+        ensures face { IfOk result (λ found. IfSome found (λ job. face_of (view_of self.new) ≡ with_begun (face_of (view_of self.old)) (plain_task job.task.value))) }
+        ensures none_begun { result ≡ Ok None → face_of (view_of self.new) ≡ face_of (view_of self.old) }
+        ensures kept { OnErr result (face_of (view_of self.new) ≡ face_of (view_of self.old)) }
         ensures state { self.new.state ≡ self.old.state }
         ensures version { self.new.version ≡ self.old.version }
         ensures idle { D.tells → IsIdle (D.seen self.old.disk) (D.seen self.new.disk) }
@@ -55,11 +58,16 @@ impl<D: Disk> Core<D> {
         };
         let port = self.disk.port(alloc)?;
         let task = Arc::new(alloc, task)?;
+        let shared = Arc::clone(&task)?;
+        let number = Snapshot::of(&self.begun);
         self.flight = Some(Flight {
-            task: Arc::clone(&task)?,
+            number: Snapshot::of(&self.begun),
+            task: shared,
             written: Written::new(alloc),
         });
+        self.begun = self.begun.more();
         Ok(Some(Job {
+            number,
             task,
             port,
             drafts: None,
@@ -72,10 +80,12 @@ impl<D: Disk> Core<D> {
     pub fn write_now(&mut self, before: u64, bytes: &[u8]) -> Result<(), Refused>
         requires may { MayStep D.tells (view_of self.old) before }
         requires flies { IsSome self.old.flight }
-        ensures keeps { Keeps D.tells (view_of self.old) (view_of self.new) result }
+        ensures keeps { Keeps D.tells (view_of self.old) (view_of self.new) (result_err result) }
+        ensures undone { IfErr result (IsUndone D.tells (view_of self.old) (view_of self.new)) }
         ensures held { D.tells → (s : Stored) → Holds (view_of self.old) s → OnOk result (Holds (view_of self.new) s) }
         ensures written { IfSome (view_of self.old).flight (λ flying. OnOk result ((view_of self.new).flight ≡ Some (with_page flying (page_name self.old.state.next, bytes.now)))) }
         ensures kept { IfErr result (λ why. (view_of self.new).flight ≡ (view_of self.old).flight) }
+        ensures begun { self.new.begun ≡ self.old.begun }
         ensures drawn { OnErr result (self.new.state.next ≡ self.old.state.next) }
         ensures steady { OnOk result (IsSteady self.old.state self.new.state) }
         ensures why { IfErr result (HasReason (max_place ≤ self.old.state.next) self.old.state before (D.faults self.new.disk)) }
@@ -120,12 +130,14 @@ impl<D: Disk> Core<D> {
         requires may { MayStep D.tells (view_of self.old) before }
         requires flies { IsSome self.old.flight }
         requires outputs { IfSome (view_of self.old).flight (λ flying. AreOutputsOf D.tells flying drafts.items) }
-        ensures keeps { Keeps D.tells (view_of self.old) (view_of self.new) result }
+        ensures keeps { Keeps D.tells (view_of self.old) (view_of self.new) (result_err result) }
+        ensures undone { IfErr result (IsUndone D.tells (view_of self.old) (view_of self.new)) }
         ensures done { D.tells → (s : Stored) → Holds (view_of self.old) s
             → IfSome (view_of self.old).flight (λ flying. OnOk result ((t : Stored) × IsInstalled s flying.task t × Holds (view_of self.new) t)) }
         ensures steady { OnOk result (IsSteady self.old.state self.new.state) }
         ensures free { OnOk result (self.new.flight ≡ None) }
         ensures kept { IfErr result (λ why. self.new.flight ≡ self.old.flight) }
+        ensures begun { self.new.begun ≡ self.old.begun }
         ensures drawn { OnErr result (self.new.state.next ≡ self.old.state.next) }
         ensures why { IfErr result (HasReason (IfSome (view_of self.old).flight (λ flying. max_place ≤ self.old.state.next + (sum_by numbers_for drafts.items - length flying.written)))
             self.old.state before (D.faults self.new.disk)) }
@@ -147,9 +159,11 @@ impl<D: Disk> Core<D> {
     /// Gives the job in flight up: its pages are removed. It takes no memory.
     pub fn cancel_now(&mut self, before: u64) -> Result<(), Refused>
         requires may { MayStep D.tells (view_of self.old) before }
-        ensures keeps { Keeps D.tells (view_of self.old) (view_of self.new) result }
+        ensures keeps { Keeps D.tells (view_of self.old) (view_of self.new) (result_err result) }
         ensures held { D.tells → (s : Stored) → Holds (view_of self.old) s → OnOk result (Holds (view_of self.new) s) }
+        ensures undone { IfErr result (IsUndone D.tells (view_of self.old) (view_of self.new)) }
         ensures free { self.new.flight ≡ None }
+        ensures begun { self.new.begun ≡ self.old.begun }
         ensures state { OnOk result (self.new.state ≡ self.old.state) }
         ensures version { self.new.version ≡ self.old.version }
         ensures why { IfErr result (HasReason ⊥ self.old.state before (D.faults self.new.disk)) }

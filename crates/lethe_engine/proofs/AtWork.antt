@@ -1,6 +1,7 @@
 -- A job at work, where one page more is written, where it is installed and where it is given up.
 use Rattle.std.proofs.Common.{◌≡◌, ◌<◌, ℕ, ◌+◌, ◌^◌, List, [], ◌∷◌, ◌++◌, length, get_or, take, Option, Some, None, Vec, Result, Ok, Err, refl, sym, ap, ◌∙◌, subst, length-append, drop-cons, arith}
-use Rattle.std.specs.Prelude.{IfSome, IsSome, OnOk}
+use Rattle.std.specs.Prelude.{IfSome, IsSome, OnOk, option_map}
+use Rattle.std.specs.Option.{option_map_or}
 use Rattle.std.specs.List.{zip}
 use Rattle.std.specs.declared.alloc.Global.{Global}
 use Rattle.std.proofs.lemmas.List.{length-map, map-append}
@@ -22,11 +23,10 @@ use Rattle.lethe_job.specs.declared.job.Job.{Job}
 use Rattle.lethe_job.specs.declared.job.Piece.{Piece}
 use Rattle.lethe_core.specs.Jobs.{IsAtWork, with_page}
 use Rattle.lethe_core.specs.Merges.{IsInstalled}
-use Rattle.lethe_core.specs.Running.{Holds}
+use Rattle.lethe_core.specs.Running.{Holds, IsSound}
 use Rattle.lethe_core.specs.StandsNow.{IsOpenOrStopped, StandsNow}
-use Rattle.lethe_core.specs.View.{Flying, View}
-use Rattle.lethe_engine.specs.Jobs.{IsNextPage}
-use Rattle.lethe_engine.specs.StandsFor.{Opened, StandsFor}
+use Rattle.lethe_core.specs.View.{Face, Flying, View, face_of}
+use Rattle.lethe_engine.specs.Jobs.{IsNextPage, next_bytes, written_face}
 
 -- the value, where there is one
 some_there : {X : Type 0} (P : X → Type 0) (o : Option X) → IsSome o → IfSome o P → (x : X) × (o ≡ Some x) × P x
@@ -70,23 +70,24 @@ module _ {D Page Port : Type 0} {kind : Ghosts D Page Port} (Tells : Type 0) (ol
         let left = there.2 in
         omega (arith, few, upto, left)
 
-    pub one_more : (new : View) (name : Name) (result : Result (Unit {0}) Refused)
-        → IfSome old.flight (λ flying. IfSome job.drafts (λ drafts. OnOk result (new.flight ≡ Some (with_page flying (name, get_or (pages_in drafts.items) job.written [])))))
-        → OnOk result (IsAtWork Tells new (record job { written = job.written + 1 }))
+    pub one_more : (new : View) (name : Name) (result : Result (Unit {0}) Refused) → face_of new ≡ written_face (face_of old) (name, next_bytes job) result → OnOk result (IsAtWork Tells new (record job { written = job.written + 1 }))
     one_more new name (Err why) is = tt
     one_more new name (Ok done) is =
         let there = some_there (λ (drafts : Vec Draft Global). job.written < length (pages_in drafts.items)) job.drafts next.made next.left in
         let drafts : Vec Draft Global = there.0 in
         let flying : Flying = works.flies.flying in
         let page : Name × List ℕ = (name, get_or (pages_in drafts.items) job.written []) in
-        let flight : IfSome job.drafts (λ drafts. new.flight ≡ Some (with_page flying (name, get_or (pages_in drafts.items) job.written []))) =
-        some_at (λ (flying : Flying). IfSome job.drafts (λ drafts. new.flight ≡ Some (with_page flying (name, get_or (pages_in drafts.items) job.written [])))) old.flight flying works.flies.is is in
+        let bytes : next_bytes job ≡ get_or (pages_in drafts.items) job.written [] =
+        ap (λ (o : Option (Vec Draft Global)). option_map_or (λ (drafts : Vec Draft Global). get_or (pages_in drafts.items) job.written []) o []) there.1 in
+        let flight : new.flight ≡ Some (with_page flying page) =
+        ap (λ (face : Face). face.flight) is ∙ ap (option_map (λ (flying : Flying). with_page flying (name, next_bytes job))) works.flies.is ∙ ap (λ (b : List ℕ). Some (with_page flying (name, b))) bytes in
         let was : flying.written ≡ written_pages (names_in flying.written) drafts.items = some_at (λ (drafts : Vec Draft Global). flying.written ≡ written_pages (names_in flying.written) drafts.items) job.drafts drafts there.1 works.pages in
         let count = works.count in
         record {
           flies = record {
             flying = with_page flying page;
-            is = some_at (λ (drafts : Vec Draft Global). new.flight ≡ Some (with_page flying (name, get_or (pages_in drafts.items) job.written []))) job.drafts drafts there.1 flight;
+            is = flight;
+            number = works.flies.number;
             task = works.flies.task;
           };
           asked = works.asked;
@@ -108,33 +109,30 @@ module _ {D Page Port : Type 0} {kind : Ghosts D Page Port} (Tells : Type 0) (ol
 
 -- A store that was stopped forgets its job
 
-module _ (config : Fields) (view : View) (place : ℕ) (stopped : view.state.stopped ≡ Some place) where
+module _ (view : View) (place : ℕ) (stopped : view.state.stopped ≡ Some place) where
   abbrev free : View
   free = record view { flight = None }
 
-  left_stopped : (h : History) (s : Stored) → IsOpenOrStopped config view h s view.state.stopped → IsOpenOrStopped config free h s view.state.stopped
-  left_stopped h s held = subst (IsOpenOrStopped config free h s) (sym stopped) (subst (IsOpenOrStopped config view h s) stopped held)
+  left_stopped : (config : Fields) (h : History) (s : Stored) → IsOpenOrStopped config view h s view.state.stopped → IsOpenOrStopped config free h s view.state.stopped
+  left_stopped config h s held = subst (IsOpenOrStopped config free h s) (sym stopped) (subst (IsOpenOrStopped config view h s) stopped held)
 
-  forgets_now : (h : History) → StandsNow config h view → StandsNow config h free
-  forgets_now h stands = record {
+  pub forgets_now : (config : Fields) (h : History) → StandsNow config h view → StandsNow config h free
+  forgets_now config h stands = record {
     legal = stands.legal;
     count = stands.count;
     stored = stands.stored;
     remembers = stands.remembers;
     config_is = stands.config_is;
     stands = stands.stands;
-    held = left_stopped h stands.stored stands.held;
+    held = left_stopped config h stands.stored stands.held;
     counted = tt;
   }
 
-  pub forgets_for : (opened : Opened) (h : History) → StandsFor config opened h view → StandsFor config opened h free
-  forgets_for opened h stands = record {
-    now = forgets_now h stands.now;
-    begins = stands.begins;
-    later = stands.later;
-    images = stands.images;
-    numbers = stands.numbers;
-    pace = stands.pace;
-    since = stands.since;
-    counts = stands.counts;
+  pub forgets_sound : (Tells : Type 0) → IsSound Tells view → IsSound Tells free
+  forgets_sound Tells sound = record {
+    writable = sound.writable;
+    small = sound.small;
+    count = sound.count;
+    flies = tt;
+    held = λ told. let held = sound.held told in (held.0, held.1, λ runs. absurd (let clash : Some place ≡ None = sym stopped ∙ runs in cc));
   }

@@ -5,6 +5,6 @@ pub mod Opened
 pub mod Reasons
 pub mod Prefixes
 pub mod Onward
-pub mod Steps
 pub mod AtWork
-pub mod Answered
+pub mod Calls
+pub mod Faces

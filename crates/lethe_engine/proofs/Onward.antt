@@ -1,6 +1,7 @@
 -- A store goes on, and stands for what it has kept since it was opened.
-use Rattle.std.proofs.Common.{◌≡◌, ◌≤◌, inl, inr, ℕ, ◌+◌, [], ◌∷◌, ◌++◌, Some, None, Result, Ok, Err, refl, sym, ap, ◌∙◌, subst, append_assoc, append-nil, arith}
-use Rattle.std.specs.Prelude.{All, IfErr}
+use Rattle.std.proofs.Common.{◌≡◌, ◌≤◌, inl, inr, ℕ, ◌+◌, [], ◌∷◌, ◌++◌, Option, Some, None, refl, sym, ap, ◌∙◌, subst, append_assoc, append-nil, arith}
+use Rattle.std.specs.Prelude.{All, IfSome, option_map}
+use Rattle.std.specs.Option.{option_map_or}
 use Rattle.std.proofs.lemmas.Bool.{cases_lt}
 use Rattle.std.proofs.lemmas.List.Elements.{All-append, All-cons, All-nil, All-weaker}
 use Rattle.lethe_base.specs.Counts.{Rose}
@@ -12,7 +13,6 @@ use Rattle.lethe_base.specs.declared.call.Did.{Did}
 use Rattle.lethe_base.specs.declared.call.Did.TheVariants.{Done, Failed}
 use Rattle.lethe_base.specs.declared.config.Fields.{Fields}
 use Rattle.lethe_base.specs.declared.refused.Refused.{Refused}
-use Rattle.lethe_base.specs.declared.refused.Refused.TheVariants.{Fault, Stopped, Backwards, Pinned, NothingDue, Cancelled, Exhausted, ReadFault, NoMemory, Damaged}
 use Rattle.lethe_cover.specs.Steps.{with_done, with_failed}
 use Rattle.lethe_disk.specs.Directory.{Directory}
 use Rattle.lethe_disk.specs.Disk.{Seen, IsIdle}
@@ -21,16 +21,13 @@ use Rattle.lethe_stored.specs.Left.{IsKeptOr}
 use Rattle.lethe_stored.specs.Numbers.{GoesFrom}
 use Rattle.lethe_stored.proofs.Numbers.{pace_then}
 use Rattle.lethe_state.specs.Writable.{IsWritable}
-use Rattle.lethe_core.specs.Changes.{answered_to, done_by, refused_to, written_by}
-use Rattle.lethe_core.specs.Keeps.{Keeps}
-use Rattle.lethe_core.specs.Reasons.{HasReason}
+use Rattle.lethe_core.specs.Asked.{Failure, Makes, Serves, behind, done_by, failure_of, written_by}
 use Rattle.lethe_core.specs.StandsNow.{StandsNow}
-use Rattle.lethe_core.specs.Steps.{stepped_to}
 use Rattle.lethe_core.specs.View.{View}
 use Rattle.lethe_engine.specs.Opening.{opened_as}
 use Rattle.lethe_engine.specs.StandsFor.{HasCounts, IsKeptFor, IsPrefixFrom, Opened, StandsFor}
 use Rattle.lethe_engine.proofs.Prefixes.{prefix_done, prefix_failed, prefix_itself, prefix_longer}
-use Rattle.lethe_engine.proofs.Reasons.{IsTold, reasons_told}
+use Rattle.lethe_engine.proofs.Reasons.{IsTold}
 use Rattle.lethe_core.proofs.Standing.{stands_done, stands_moments}
 
 -- counts of faults stay within later ones
@@ -120,22 +117,16 @@ module _ (config : Fields) (opened : Opened) (h : History) (old new : View) (bef
         let change : Change = record { caller = caller; call = Work; did = Failed b a } in
         added_to (λ c. IsKept config c h) (with_failed h caller Work b a) (change ∷ []) refl (prefix_longer Was h (change ∷ []) before.now.legal done) (now_kept (change ∷ [])) (one_counted change (failed_counts b a b_is a_is rose))
 
-    refused_work : (why : Refused) → IsTold old.faults new.faults why → GoesFrom old.state.next (λ c. IsKept config c h) old.disk new.disk → StandsNow config (refused_to h caller Work why) new → StandsFor config opened (refused_to h caller Work why) new
-    refused_work (Fault place b a) told = failed_work b a told.0 told.1 told.2
-    refused_work (Stopped at) told = still_for
-    refused_work (Backwards clock) told = still_for
-    refused_work (Pinned pin limit) told = still_for
-    refused_work NothingDue told = still_for
-    refused_work (Cancelled begun other) told = still_for
-    refused_work (Exhausted last) told = still_for
-    refused_work (ReadFault b a) told = still_for
-    refused_work NoMemory told = still_for
-    refused_work (Damaged name) told = still_for
+    failed_or : (f : Option Failure) → IfSome f (λ failure. (failure.before ≡ old.faults) × (failure.after ≡ new.faults) × Rose old.faults new.faults) → GoesFrom old.state.next (λ c. IsKept config c h) old.disk new.disk
+        → StandsNow config (option_map_or (λ failure. with_failed h caller Work failure.before failure.after) f h) new → StandsFor config opened (option_map_or (λ failure. with_failed h caller Work failure.before failure.after) f h) new
+    failed_or None told = still_for
+    failed_or (Some failure) told = failed_work failure.before failure.after told.0 told.1 told.2
 
-    worked_for : {T : Type 0} (result : Result T Refused) → IfErr result (IsTold old.faults new.faults) → GoesFrom old.state.next (λ c. IsKept config c h) old.disk new.disk → StandsNow config (stepped_to h caller Work result) new
-        → StandsFor config opened (stepped_to h caller Work result) new
-    worked_for (Ok x) told = still_for
-    worked_for (Err e) told = refused_work e told
+    -- work
+    pub worked_for : (why : Option Refused) → IfSome why (IsTold old.faults new.faults) → GoesFrom old.state.next (λ c. IsKept config c h) old.disk new.disk → StandsNow config (behind h caller (Serves Work) why) new
+        → StandsFor config opened (behind h caller (Serves Work) why) new
+    worked_for None told = still_for
+    worked_for (Some why) told = failed_or (failure_of why) told
 
     module _ (call : Call) (works : call ≡ Work → ⊥) where
       written_for : (change : Change) → IsPrefixFrom Was (h ++ change ∷ []) (with_done h caller call) → HasCounts opened.faults new.faults change.did → GoesFrom old.state.next (IsKeptOr config h (Some (done_by caller call))) old.disk new.disk
@@ -155,27 +146,17 @@ module _ (config : Fields) (opened : Opened) (h : History) (old new : View) (bef
           let change : Change = record { caller = caller; call = call; did = Failed b a } in
           written_for change (prefix_failed Was h change before.now.legal done works before.begins) (failed_counts b a b_is a_is rose)
 
-      -- a change
-      pub answered_for : (result : Result ℕ Refused) → IfErr result (IsTold old.faults new.faults) → GoesFrom old.state.next (IsKeptOr config h (written_by caller call result)) old.disk new.disk → StandsNow config (answered_to h caller call result) new
-          → StandsFor config opened (answered_to h caller call result) new
-      answered_for (Ok place) told = done_for
-      answered_for (Err (Fault place b a)) told = failed_for b a told.0 told.1 told.2
-      answered_for (Err (Stopped at)) told = none_for
-      answered_for (Err (Backwards clock)) told = none_for
-      answered_for (Err (Pinned pin limit)) told = none_for
-      answered_for (Err NothingDue) told = none_for
-      answered_for (Err (Cancelled begun other)) told = none_for
-      answered_for (Err (Exhausted last)) told = none_for
-      answered_for (Err (ReadFault b a)) told = none_for
-      answered_for (Err NoMemory) told = none_for
-      answered_for (Err (Damaged name)) told = none_for
+      tried_for : (f : Option Failure) → IfSome f (λ failure. (failure.before ≡ old.faults) × (failure.after ≡ new.faults) × Rose old.faults new.faults)
+          → GoesFrom old.state.next (IsKeptOr config h (option_map (λ failure. done_by caller call) f)) old.disk new.disk → StandsNow config (option_map_or (λ failure. with_failed h caller call failure.before failure.after) f h) new
+          → StandsFor config opened (option_map_or (λ failure. with_failed h caller call failure.before failure.after) f h) new
+      tried_for None told = none_for
+      tried_for (Some failure) told = failed_for failure.before failure.after told.0 told.1 told.2
 
--- work, made of steps
-pub keeps_for : {T : Type 0} (Tells Short : Type 0) (config : Fields) (opened : Opened) (h : History) (old new : View) → StandsFor config opened h old → old.state.stopped ≡ None → (result : Result T Refused) → Tells
-    → Keeps Tells old new result → IfErr result (HasReason Short old.state old.faults new.faults) → (caller : ℕ) → StandsFor config opened (stepped_to h caller Work result) new
-keeps_for Tells Short config opened h old new before runs result told keeps why caller =
-    worked_for config opened h old new before runs keeps.faults (keeps.numbers told) caller result (reasons_told Short old.state old.faults new.faults result why) (keeps.any_moment told config h before.now)
-    (keeps.stands told config h before.now caller Work)
+      -- a change
+      pub answered_for : (why : Option Refused) → IfSome why (IsTold old.faults new.faults) → GoesFrom old.state.next (IsKeptOr config h (written_by caller (Makes call) why)) old.disk new.disk
+          → StandsNow config (behind h caller (Makes call) why) new → StandsFor config opened (behind h caller (Makes call) why) new
+      answered_for None told = done_for
+      answered_for (Some why) told = tried_for (failure_of why) told
 
 pub put_works : (key : Bytes) (dkey : ℕ) (value : Bytes) → Put key dkey value ≡ Work → ⊥
 put_works key dkey value e = cc

@@ -32,12 +32,12 @@ use Rattle.lethe_engine.proofs.Onward.{opened_for}
 use Rattle.lethe_core.proofs.Standing.{open_stands}
 
 -- no job is in flight
-abbrev pub fresh_view : Seen → ℕ → State → List (List Parts) → View
-fresh_view disk faults state levels = record { disk = disk; faults = faults; state = state; levels = levels; flight = None }
+abbrev pub fresh_view : Seen → ℕ → ℕ → State → List (List Parts) → View
+fresh_view disk faults begun state levels = record { disk = disk; faults = faults; state = state; levels = levels; flight = None; begun = begun }
 
-pub opened_running : (disk : Seen) (faults : ℕ) (s : Stored) (state : State) (levels : List (List Parts)) → IsSettled disk s → HasOnly s [] disk.directory → AreRising s.files → s.active.records ≡ []
-    → EndsAt disk (segment_name s.active.no) s.active.no [] 11 → state.end ≡ 11 → IsCurrent s state → IsRunning (fresh_view disk faults state levels) s
-opened_running disk faults s state levels settled only rising none ends end_is current = record {
+pub opened_running : (disk : Seen) (faults begun : ℕ) (s : Stored) (state : State) (levels : List (List Parts)) → IsSettled disk s → HasOnly s [] disk.directory → AreRising s.files → s.active.records ≡ []
+    → EndsAt disk (segment_name s.active.no) s.active.no [] 11 → state.end ≡ 11 → IsCurrent s state → IsRunning (fresh_view disk faults begun state levels) s
+opened_running disk faults begun s state levels settled only rising none ends end_is current = record {
   settled = settled;
   only = only;
   uncited = All-nil (λ (named : Name × List ℕ). IsCited s named.0 → ⊥);
@@ -47,11 +47,11 @@ opened_running disk faults s state levels settled only rising none ends end_is c
   tasked = tt;
 }
 
-pub resumed : (config : Fields) (h g : History) (change : Option Change) (start finish : Seen) (faults : ℕ) (s : Stored) (state : State) (levels : List (List Parts)) → IsHistoryOr h change g → IsKept config start.directory g → IsWritable state
-    → IsRunning (fresh_view finish faults state levels) s → Remembers s state levels → s.manifest.config ≡ config → IsFor g s
-    → ((next : ℕ) → IsNextNumber start.directory next → state.next + start.moment ≤ next + finish.moment) → IsResumed config h change start (fresh_view finish faults state levels)
-resumed config h g change start finish faults s state levels either was writable running remembers config_is stands numbers =
-    let view : View = fresh_view finish faults state levels in
+pub resumed : (config : Fields) (h g : History) (change : Option Change) (start finish : Seen) (faults begun : ℕ) (s : Stored) (state : State) (levels : List (List Parts)) → IsHistoryOr h change g → IsKept config start.directory g → IsWritable state
+    → IsRunning (fresh_view finish faults begun state levels) s → Remembers s state levels → s.manifest.config ≡ config → IsFor g s
+    → ((next : ℕ) → IsNextNumber start.directory next → state.next + start.moment ≤ next + finish.moment) → IsResumed config h change start (fresh_view finish faults begun state levels)
+resumed config h g change start finish faults begun s state levels either was writable running remembers config_is stands numbers =
+    let view : View = fresh_view finish faults begun state levels in
     record {
       history = g;
       either = either;

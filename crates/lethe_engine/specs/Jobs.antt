@@ -1,16 +1,18 @@
 -- The calls of a job.
-use Rattle.std.specs.Prelude.{◌≡◌, ◌≤◌, ◌<◌, ℕ, ◌+◌, ◌-◌, length, sum_by, IfSome, IsSome, Result, Ok, Err}
-use Rattle.lethe_base.specs.History.{History}
+use Rattle.std.specs.Prelude.{◌≡◌, ◌≤◌, ◌<◌, ℕ, ◌+◌, ◌-◌, ◌&&◌, nat_le, List, [], length, slice_index_or, sum_by, None, is_none, option_map, IfSome, IsSome, Result, Ok, Err, if◌then◌else◌}
+use Rattle.std.specs.Option.{option_map_or}
 use Rattle.lethe_base.specs.Limits.{max_place}
-use Rattle.lethe_base.specs.declared.call.Call.TheVariants.{Work}
+use Rattle.lethe_base.specs.declared.name.Name.{Name}
 use Rattle.lethe_base.specs.declared.refused.Refused.{Refused}
 use Rattle.lethe_build.specs.Drafts.{numbers_for}
 use Rattle.lethe_disk.specs.declared.disk.Disk.{Ghosts}
 use Rattle.lethe_flush.specs.Made.{pages_in}
+use Rattle.lethe_state.specs.declared.state.State.{State}
+use Rattle.lethe_job.specs.Tasks.{plain_task}
 use Rattle.lethe_job.specs.declared.job.Job.{Job}
 use Rattle.lethe_job.specs.declared.job.Piece.{Piece}
-use Rattle.lethe_core.specs.Changes.{refused_to}
-use Rattle.lethe_core.specs.View.{View}
+use Rattle.lethe_core.specs.Jobs.{with_begun, with_page}
+use Rattle.lethe_core.specs.View.{Face, View}
 
 -- the piece is the job's next page
 pub record IsNextPage {D Page Port : Type 0} {kind : Ghosts D Page Port} (job : Job D Page Port kind) (piece : Piece) : Type 0 where
@@ -22,7 +24,27 @@ pub record IsNextPage {D Page Port : Type 0} {kind : Ghosts D Page Port} (job : 
 abbrev pub IsShortToInstall : {D Page Port : Type 0} {kind : Ghosts D Page Port} → View → Job D Page Port kind → Type 0
 IsShortToInstall view job = IfSome job.drafts (λ drafts. max_place ≤ view.state.next + (sum_by numbers_for drafts.items - job.written))
 
--- the history behind an install, which hands the job back where it is refused
-abbrev pub installed_to : {J : Type 0} → History → ℕ → Result (Unit {0}) (J × Refused) → History
-installed_to h caller (Ok done) = h
-installed_to h caller (Err back) = refused_to h caller Work back.1
+-- the bytes of the job's next page
+abbrev pub next_bytes : {D Page Port : Type 0} {kind : Ghosts D Page Port} → Job D Page Port kind → List ℕ
+next_bytes job = option_map_or (λ drafts. slice_index_or (pages_in drafts.items) job.written []) job.drafts []
+
+-- What the jobs have come to behind each of their calls
+
+-- the job is begun, unless it is refused
+abbrev pub begun_face : {D Page Port : Type 0} {kind : Ghosts D Page Port} → Face → Result (Job D Page Port kind) Refused → Face
+begun_face face (Ok job) = with_begun face (plain_task job.task.value)
+begun_face face (Err why) = face
+
+-- it has one page more
+abbrev pub written_face : Face → Name × List ℕ → Result (Unit {0}) Refused → Face
+written_face face page (Ok done) = record face { flight = option_map (λ flying. with_page flying page) face.flight }
+written_face face page (Err why) = face
+
+-- it is in flight no more
+abbrev pub ended_face : {E : Type 0} → Face → Result (Unit {0}) E → Face
+ended_face face (Ok done) = record face { flight = None }
+ended_face face (Err why) = face
+
+-- given up it is in flight no more, whether or not the disk failed, but where no place is left for that and no call has failed
+abbrev pub given_up : Face → State → Face
+given_up face state = if is_none state.stopped && nat_le max_place state.count then face else record face { flight = None }

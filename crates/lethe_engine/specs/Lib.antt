@@ -1,4 +1,5 @@
 pub mod StandsFor
+pub mod Answers
 pub mod Deletes
 pub mod Work
 pub mod Refusals

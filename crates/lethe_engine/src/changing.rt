@@ -1,24 +1,21 @@
 //! Changes of a store.
 ghost use Rattle.std.specs.Prelude.{◌≡◌, ◌≤◌, ◌+◌, ℕ, List, Some, None, IfOk, IfErr, OnOk, IsErrOf};
-ghost use Rattle.lethe_base.specs.History.{History};
+ghost use Rattle.std.specs.Result.{result_err};
 ghost use Rattle.lethe_base.specs.Limits.{max_place};
 ghost use Rattle.lethe_base.specs.declared.call.Call.TheVariants as call;
-ghost use Rattle.lethe_base.specs.declared.config.Fields.{Fields};
 ghost use Rattle.lethe_base.specs.declared.refused.Refused.TheVariants.{Stopped, Exhausted};
 ghost use Rattle.lethe_segment.specs.declared.record.Record.{Record};
-ghost use Rattle.lethe_stored.specs.Left.{IsKeptOr};
-ghost use Rattle.lethe_stored.specs.Numbers.{GoesFrom};
 ghost use Rattle.lethe_stored.specs.Stored.{Stored, appended};
 ghost use Rattle.lethe_state.specs.Records.{headers_in};
 ghost use Rattle.lethe_state.specs.Room.{HasRoom};
-ghost use Rattle.lethe_core.specs.Changes.{answered_to, put_over, with_record, written_by};
+ghost use Rattle.lethe_core.specs.Asked.{Makes};
+ghost use Rattle.lethe_core.specs.Changes.{put_over, with_record};
 ghost use Rattle.lethe_core.specs.Merges.{IsRoomMadeBy, Outcome, pages_of};
 ghost use Rattle.lethe_core.specs.Running.{Holds, IsSound};
-ghost use Rattle.lethe_core.specs.StandsNow.{StandsNow};
-ghost use Rattle.lethe_core.specs.View.{view_of};
+ghost use Rattle.lethe_core.specs.View.{face_of, view_of};
+ghost use Rattle.lethe_engine.specs.Answers.{Answers};
 ghost use Rattle.lethe_engine.specs.Deletes.{IsDeleteOver};
 ghost use Rattle.lethe_engine.specs.Refusals.{HasReasonOfChange};
-ghost use Rattle.lethe_engine.specs.StandsFor.{Opened, StandsFor};
 
 use crate::Engine;
 use lethe_base::{Key, Refused, Value};
@@ -44,11 +41,7 @@ impl<D: Disk> Engine<D> {
     ) -> Result<u64, Refused>
         // Opening gives this, and each call leaves it so.
         requires { IsSound D.tells (view_of self.old.core) }
-        ensures sound { IsSound D.tells (view_of self.new.core) }
-
-        // Over a store that stands for a history, it is behind that history, done or failed, or it is refused and is in no history.
-        ensures stands { D.tells → (config : Fields) (opened : Opened) (h : History) → StandsFor config opened h (view_of self.old.core) → (caller : ℕ)
-            → StandsFor config opened (answered_to h caller (call.Put key dkey value) result) (view_of self.new.core) }
+        ensures answers { Answers D.tells (Makes (call.Put key dkey value)) (result_err result) (face_of (view_of self.old.core)) (view_of self.old.core) (view_of self.new.core) }
         ensures place { IfOk result (λ place. place ≡ self.old.core.state.count + 1) }
 
         // A refusal has its reason, and a store that is stopped or whose places are used up is as it was.
@@ -66,16 +59,6 @@ impl<D: Disk> Engine<D> {
             → OnOk result (((D.seen self.new.core.disk).directory ≡ with_record (D.seen self.old.core.disk).directory s (put_over s key dkey value))
             × ((D.seen self.new.core.disk).moment ≡ (D.seen self.old.core.disk).moment + 4) × (port.new ≡ port.old)) }
 
-        // A crash at any moment of the call leaves what is kept for the history, or for it with the change where this was written, and numbers keep pace with its calls.
-        ensures any_moment { D.tells → (config : Fields) (h : History) → StandsNow config h (view_of self.old.core)
-            → self.old.core.state.stopped ≡ None → (caller : ℕ) → GoesFrom self.old.core.state.next (IsKeptOr config h (written_by caller (call.Put key dkey value) result)) (D.seen self.old.core.disk) (D.seen self.new.core.disk) }
-
-        // A job in flight stays so.
-        ensures flight { self.new.core.flight ≡ self.old.core.flight }
-
-        // Numbers are drawn no faster than device calls are made.
-        ensures numbers { D.tells → self.new.core.state.next + (D.seen self.old.core.disk).moment ≤ self.old.core.state.next + (D.seen self.new.core.disk).moment }
-        ensures faults { D.faults self.old.core.disk ≤ D.faults self.new.core.disk }
         ensures port_faults { D.port_faults port.old ≤ D.port_faults port.new }
     {
         self.core.state.may_change()?;
@@ -94,11 +77,7 @@ impl<D: Disk> Engine<D> {
     pub fn delete(&mut self, alloc: Global, port: &mut D::Port, key: Key) -> Result<u64, Refused>
         // Opening gives this, and each call leaves it so.
         requires { IsSound D.tells (view_of self.old.core) }
-        ensures sound { IsSound D.tells (view_of self.new.core) }
-
-        // Over a store that stands for a history, it is behind that history, done or failed, or it is refused and is in no history.
-        ensures stands { D.tells → (config : Fields) (opened : Opened) (h : History) → StandsFor config opened h (view_of self.old.core) → (caller : ℕ)
-            → StandsFor config opened (answered_to h caller (call.Delete key) result) (view_of self.new.core) }
+        ensures answers { Answers D.tells (Makes (call.Delete key)) (result_err result) (face_of (view_of self.old.core)) (view_of self.old.core) (view_of self.new.core) }
         ensures place { IfOk result (λ place. place ≡ self.old.core.state.count + 1) }
 
         // A refusal has its reason, and a store that is stopped or whose places are used up is as it was.
@@ -117,16 +96,6 @@ impl<D: Disk> Engine<D> {
             → OnOk result ((next : Record) × IsDeleteOver s (headers_in (view_of self.old.core).levels) key next
             × ((D.seen self.new.core.disk).directory ≡ with_record (D.seen self.old.core.disk).directory s next) × ((D.seen self.new.core.disk).moment ≡ (D.seen self.old.core.disk).moment + 4) × (port.new ≡ port.old)) }
 
-        // A crash at any moment of the call leaves what is kept for the history, or for it with the change where this was written, and numbers keep pace with its calls.
-        ensures any_moment { D.tells → (config : Fields) (h : History) → StandsNow config h (view_of self.old.core)
-            → self.old.core.state.stopped ≡ None → (caller : ℕ) → GoesFrom self.old.core.state.next (IsKeptOr config h (written_by caller (call.Delete key) result)) (D.seen self.old.core.disk) (D.seen self.new.core.disk) }
-
-        // A job in flight stays so.
-        ensures flight { self.new.core.flight ≡ self.old.core.flight }
-
-        // Numbers are drawn no faster than device calls are made.
-        ensures numbers { D.tells → self.new.core.state.next + (D.seen self.old.core.disk).moment ≤ self.old.core.state.next + (D.seen self.new.core.disk).moment }
-        ensures faults { D.faults self.old.core.disk ≤ D.faults self.new.core.disk }
         ensures port_faults { D.port_faults port.old ≤ D.port_faults port.new }
     {
         self.core.state.may_change()?;

@@ -1,7 +1,10 @@
 //! A store on a disk.
-ghost use Rattle.std.specs.Prelude.{◌≡◌, ◌≤◌, ◌<◌, ◌+◌, ◌⊎◌, ℕ, Option, None, IfOk, IfErr, MatchResult};
+ghost use Rattle.std.specs.Prelude.{◌≡◌, ◌≤◌, ◌<◌, ◌+◌, ◌⊎◌, ℕ, Option, None, IfOk, IfErr, MatchResult, option_map};
+ghost use Rattle.std.specs.Result.{result_err};
 ghost use Rattle.lethe_base.specs.History.{History, Change};
+ghost use Rattle.lethe_base.specs.declared.call.Call.TheVariants.{Work};
 ghost use Rattle.lethe_base.specs.declared.config.Fields.{Fields};
+ghost use Rattle.lethe_base.specs.declared.refused.Refused.TheVariants as refused;
 ghost use Rattle.lethe_disk.specs.Disk.{IsIdle};
 ghost use Rattle.lethe_disk.specs.Goes.{Goes};
 ghost use Rattle.lethe_disk.specs.Quiet.{IsQuiet};
@@ -12,13 +15,14 @@ ghost use Rattle.lethe_load.specs.declared.refused.RecoverRefused.{RecoverRefuse
 ghost use Rattle.lethe_recover.specs.Opening.{IsKeptInOpening, MayNotOpen, IsCut, since_start};
 ghost use Rattle.lethe_engine.specs.Opening.{IsResumed, IsUntold};
 ghost use Rattle.lethe_core.specs.Running.{IsSound};
-ghost use Rattle.lethe_core.specs.View.{view_of};
-ghost use Rattle.lethe_engine.specs.StandsFor as standing;
-ghost use Rattle.lethe_engine.specs.StandsFor.{StandsFor};
+ghost use Rattle.lethe_core.specs.Asked.{Serves};
+ghost use Rattle.lethe_core.specs.View.{face_of, no_jobs, view_of};
+ghost use Rattle.lethe_engine.specs.Answers.{Answers};
 
 use lethe_base::{Config, NoMemory};
 use lethe_core::Core;
 use lethe_disk::Disk;
+use lethe_job::BegunJobs;
 use lethe_recover::{OpenWhy, Opened, open};
 use lethe_state::State;
 use std::alloc::Global;
@@ -44,7 +48,8 @@ impl<D: Disk> Engine<D> {
     /// See `OpenWhy`. The disk comes back.
     pub fn open(alloc: Global, mut disk: D, config: &Config) -> Result<Engine<D>, OpenRefused<D>>
         ensures sound { IfOk result (λ engine. IsSound D.tells (view_of engine.core)) }
-        ensures runs { IfOk result (λ engine. (engine.core.state.stopped ≡ None) × (engine.core.flight ≡ None)) }
+        ensures runs { IfOk result (λ engine. engine.core.state.stopped ≡ None) }
+        ensures face { IfOk result (λ engine. face_of (view_of engine.core) ≡ no_jobs) }
 
         // Where the disk was left for a history, in whatever configuration, the store stands for it, or for it with the change carried out: for the one that the
         // directory is kept for.
@@ -83,6 +88,7 @@ impl<D: Disk> Engine<D> {
                         state,
                         version,
                         flight: None,
+                        begun: BegunJobs::none(),
                     },
                 }),
                 Err(NoMemory) => Err(OpenRefused {
@@ -97,9 +103,7 @@ impl<D: Disk> Engine<D> {
     /// A port for one more reader. It is no device call.
     pub fn new_port(&mut self, alloc: Global) -> Result<D::Port, NoMemory>
         requires { IsSound D.tells (view_of self.old.core) }
-        ensures sound { IsSound D.tells (view_of self.new.core) }
-        ensures stands { D.tells → (config : Fields) (opened : standing.Opened) (h : History) → StandsFor config opened h (view_of self.old.core)
-            → StandsFor config opened h (view_of self.new.core) }
+        ensures answers { Answers D.tells (Serves Work) (option_map (λ none. refused.NoMemory) (result_err result)) (face_of (view_of self.old.core)) (view_of self.old.core) (view_of self.new.core) }
         ensures fresh { IfOk result (λ port. (D.fetches port ≡ 0) × (D.port_faults port ≡ 0)) }
         ensures idle { D.tells → IsIdle (D.seen self.old.core.disk) (D.seen self.new.core.disk) }
         ensures same { (self.new.core.state ≡ self.old.core.state) × (self.new.core.version ≡ self.old.core.version) × (self.new.core.flight ≡ self.old.core.flight) }

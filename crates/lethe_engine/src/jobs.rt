@@ -1,28 +1,24 @@
 //! The jobs of a store: merges that run beside its other calls.
-ghost use Rattle.std.specs.Prelude.{◌≡◌, ◌≤◌, ◌<◌, ◌+◌, ◌-◌, ℕ, [], true, Some, None, length, slice_index_or, sum_by, IfOk, IfErr, IfSome, IsErrOf, IsOk, IsSome, OnErr, OnOk};
+ghost use Rattle.std.specs.Prelude.{◌≡◌, ◌≤◌, ◌<◌, ◌+◌, ◌-◌, ℕ, [], true, Some, None, length, slice_index_or, sum_by, IfOk, IfErr, IfSome, IsErrOf, IsOk, IsSome, OnErr, OnOk, option_map};
+ghost use Rattle.std.specs.Result.{result_err};
 ghost use Rattle.std.specs.FinMap.{insert};
-ghost use Rattle.lethe_base.specs.History.{History};
 ghost use Rattle.lethe_base.specs.Limits.{max_place};
 ghost use Rattle.lethe_base.specs.declared.call.Call.TheVariants.{Work};
-ghost use Rattle.lethe_base.specs.declared.config.Fields.{Fields};
 ghost use Rattle.lethe_base.specs.declared.refused.Refused.TheVariants as refused;
 ghost use Rattle.lethe_build.specs.Drafts.{numbers_for};
 ghost use Rattle.lethe_disk.specs.Disk.{IsIdle};
 ghost use Rattle.lethe_file.specs.Agreement.{page_name};
 ghost use Rattle.lethe_flush.specs.Made.{pages_in};
-ghost use Rattle.lethe_stored.specs.Kept.{IsKept};
-ghost use Rattle.lethe_stored.specs.Numbers.{GoesFrom};
 ghost use Rattle.lethe_stored.specs.Stored.{Stored};
 ghost use Rattle.lethe_job.specs.Tasks.{IsBegunIn, plain_task};
+ghost use Rattle.lethe_core.specs.Asked.{Serves};
 ghost use Rattle.lethe_core.specs.Jobs.{AreOutputsOf, IsAtWork, IsInFlight, IsWhole, with_page};
 ghost use Rattle.lethe_core.specs.Merges.{IsInstalled};
 ghost use Rattle.lethe_core.specs.Running.{Holds, IsSound};
-ghost use Rattle.lethe_core.specs.StandsNow.{StandsNow};
-ghost use Rattle.lethe_core.specs.Steps.{stepped_to};
-ghost use Rattle.lethe_core.specs.View.{view_of};
-ghost use Rattle.lethe_engine.specs.Jobs.{IsNextPage, IsShortToInstall, installed_to};
+ghost use Rattle.lethe_core.specs.View.{face_of, view_of};
+ghost use Rattle.lethe_engine.specs.Answers.{Answers};
+ghost use Rattle.lethe_engine.specs.Jobs.{IsNextPage, IsShortToInstall, begun_face, ended_face, given_up, next_bytes, written_face};
 ghost use Rattle.lethe_engine.specs.Refusals.{HasReasonOfBegin, HasReasonOfWork};
-ghost use Rattle.lethe_engine.specs.StandsFor.{Opened, StandsFor};
 
 use crate::Engine;
 use lethe_base::{MAX_PLACE, NoMemory, Refused};
@@ -41,11 +37,11 @@ impl<D: Disk> Engine<D> {
     pub fn begin(&mut self, alloc: Global) -> Result<Job<D>, Refused>
         // Opening gives this, and each call leaves it so.
         requires { IsSound D.tells (view_of self.old.core) }
-        ensures sound { IsSound D.tells (view_of self.new.core) }
-        ensures stands { D.tells → (config : Fields) (opened : Opened) (h : History) → StandsFor config opened h (view_of self.old.core) → StandsFor config opened h (view_of self.new.core) }
+        ensures answers { Answers D.tells (Serves Work) (result_err result) (begun_face (face_of (view_of self.old.core)) result) (view_of self.old.core) (view_of self.new.core) }
 
-        // The job is in flight, and has made and fetched nothing. Its task is that of the first merge that is due.
+        // The job has the next number, and has made and fetched nothing. Its task is that of the first merge that is due.
         ensures begun { D.tells → (s : Stored) → Holds (view_of self.old.core) s → IfOk result (λ job. IsBegunIn s (plain_task job.task.value) × Holds (view_of self.new.core) s) }
+        ensures number { IfOk result (λ job. job.number.value ≡ self.old.core.begun) }
         ensures works { IfOk result (IsAtWork D.tells (view_of self.new.core)) }
         ensures unmade { IfOk result (λ job. (job.drafts ≡ None) × (D.fetches job.port ≡ 0) × (D.port_faults job.port ≡ 0)) }
 
@@ -53,7 +49,6 @@ impl<D: Disk> Engine<D> {
         ensures why { IfErr result (HasReasonOfBegin D.tells (view_of self.old.core)) }
         ensures stopped { (at : ℕ) → self.old.core.state.stopped ≡ Some at → IsErrOf result (refused.Stopped at) × (self.new ≡ self.old) }
         ensures busy { self.old.core.state.stopped ≡ None → IsSome self.old.core.flight → IsErrOf result refused.NothingDue × (self.new ≡ self.old) }
-        ensures kept { OnErr result (self.new.core.flight ≡ self.old.core.flight) }
 
         // All else is as it was.
         ensures same { (self.new.core.state ≡ self.old.core.state) × (self.new.core.version ≡ self.old.core.version) }
@@ -84,20 +79,13 @@ impl<D: Disk> Engine<D> {
         requires sound { IsSound D.tells (view_of self.old.core) }
         requires works { IsAtWork D.tells (view_of self.old.core) job.old }
         requires next { IsNextPage job.old piece }
-        ensures sound { IsSound D.tells (view_of self.new.core) }
-
-        // It stands for the same history, and where the disk failed for that with work that failed.
-        ensures stands { D.tells → (config : Fields) (opened : Opened) (h : History) → StandsFor config opened h (view_of self.old.core) → (caller : ℕ)
-            → StandsFor config opened (stepped_to h caller Work result) (view_of self.new.core) }
+        ensures answers { Answers D.tells (Serves Work) (result_err result) (written_face (face_of (view_of self.old.core)) (page_name self.old.core.state.next, next_bytes job.old) result) (view_of self.old.core) (view_of self.new.core) }
 
         // Acknowledged: the page is there beside what is stored, and is the one object that came.
         ensures works { OnOk result (IsAtWork D.tells (view_of self.new.core) job.new) }
         ensures written { OnOk result (job.new.written ≡ job.old.written + 1) }
         ensures held { D.tells → (s : Stored) → Holds (view_of self.old.core) s → OnOk result (Holds (view_of self.new.core) s) }
-        ensures next_page { IfSome (view_of self.old.core).flight (λ flying. IfSome job.old.drafts (λ drafts.
-            OnOk result ((view_of self.new.core).flight ≡ Some (with_page flying (page_name self.old.core.state.next, slice_index_or (pages_in drafts.items) job.old.written []))))) }
-        ensures page { D.tells → IfSome job.old.drafts (λ drafts. OnOk result ((D.seen self.new.core.disk).directory
-            ≡ insert (D.seen self.old.core.disk).directory (page_name self.old.core.state.next) (slice_index_or (pages_in drafts.items) job.old.written []))) }
+        ensures page { D.tells → OnOk result ((D.seen self.new.core.disk).directory ≡ insert (D.seen self.old.core.disk).directory (page_name self.old.core.state.next) (next_bytes job.old)) }
 
         // The job stays in flight, and where it was refused it can only be given up.
         ensures flies { IsInFlight (view_of self.new.core) job.new }
@@ -108,14 +96,6 @@ impl<D: Disk> Engine<D> {
         ensures why { IfErr result (HasReasonOfWork (max_place ≤ self.old.core.state.next) (view_of self.old.core) (view_of self.new.core)) }
         ensures drawn { OnErr result (self.new.core.state.next ≡ self.old.core.state.next) }
         ensures stopped { (at : ℕ) → self.old.core.state.stopped ≡ Some at → IsErrOf result (refused.Stopped at) × (self.new ≡ self.old) }
-
-        // A crash at any moment of the call leaves what is kept for the history, and numbers keep pace with its calls.
-        ensures any_moment { D.tells → (config : Fields) (h : History) → StandsNow config h (view_of self.old.core)
-            → self.old.core.state.stopped ≡ None → GoesFrom self.old.core.state.next (λ c. IsKept config c h) (D.seen self.old.core.disk) (D.seen self.new.core.disk) }
-
-        // Numbers are drawn no faster than device calls are made.
-        ensures numbers { D.tells → self.new.core.state.next + (D.seen self.old.core.disk).moment ≤ self.old.core.state.next + (D.seen self.new.core.disk).moment }
-        ensures faults { D.faults self.old.core.disk ≤ D.faults self.new.core.disk }
     {
         // The piece says only that this page is the next one.
         drop(piece);
@@ -134,22 +114,12 @@ impl<D: Disk> Engine<D> {
         requires works { IsAtWork D.tells (view_of self.old.core) job.now }
         requires made { IsSome job.now.drafts }
         requires left { IfSome job.now.drafts (λ drafts. job.now.written < length (pages_in drafts.items)) }
-        ensures sound { IsSound D.tells (view_of self.new.core) }
-        ensures stands { D.tells → (config : Fields) (opened : Opened) (h : History) → StandsFor config opened h (view_of self.old.core) → (caller : ℕ)
-            → StandsFor config opened (stepped_to h caller Work result) (view_of self.new.core) }
+        ensures answers { Answers D.tells (Serves Work) (result_err result) (written_face (face_of (view_of self.old.core)) (page_name self.old.core.state.next, next_bytes job.now) result) (view_of self.old.core) (view_of self.new.core) }
         ensures held { D.tells → (s : Stored) → Holds (view_of self.old.core) s → OnOk result (Holds (view_of self.new.core) s) }
-        ensures written { IfSome (view_of self.old.core).flight (λ flying. IfSome job.now.drafts (λ drafts.
-            OnOk result ((view_of self.new.core).flight ≡ Some (with_page flying (page_name self.old.core.state.next, slice_index_or (pages_in drafts.items) job.now.written []))))) }
-        ensures kept { OnErr result ((view_of self.new.core).flight ≡ (view_of self.old.core).flight) }
-        ensures page { D.tells → IfSome job.now.drafts (λ drafts. OnOk result ((D.seen self.new.core.disk).directory
-            ≡ insert (D.seen self.old.core.disk).directory (page_name self.old.core.state.next) (slice_index_or (pages_in drafts.items) job.now.written []))) }
+        ensures page { D.tells → OnOk result ((D.seen self.new.core.disk).directory ≡ insert (D.seen self.old.core.disk).directory (page_name self.old.core.state.next) (next_bytes job.now)) }
         ensures why { IfErr result (HasReasonOfWork (max_place ≤ self.old.core.state.next) (view_of self.old.core) (view_of self.new.core)) }
         ensures drawn { OnErr result (self.new.core.state.next ≡ self.old.core.state.next) }
         ensures stopped { (at : ℕ) → self.old.core.state.stopped ≡ Some at → IsErrOf result (refused.Stopped at) × (self.new ≡ self.old) }
-        ensures any_moment { D.tells → (config : Fields) (h : History) → StandsNow config h (view_of self.old.core)
-            → self.old.core.state.stopped ≡ None → GoesFrom self.old.core.state.next (λ c. IsKept config c h) (D.seen self.old.core.disk) (D.seen self.new.core.disk) }
-        ensures numbers { D.tells → self.new.core.state.next + (D.seen self.old.core.disk).moment ≤ self.old.core.state.next + (D.seen self.new.core.disk).moment }
-        ensures faults { D.faults self.old.core.disk ≤ D.faults self.new.core.disk }
     {
         self.core.state.may_change()?;
         let Some(drafts) = &job.drafts else {
@@ -169,15 +139,10 @@ impl<D: Disk> Engine<D> {
         requires sound { IsSound D.tells (view_of self.old.core) }
         requires works { IsAtWork D.tells (view_of self.old.core) job }
         requires whole { IsWhole job }
-        ensures sound { IsSound D.tells (view_of self.new.core) }
+        ensures answers { Answers D.tells (Serves Work) (option_map (λ back. back.1) (result_err result)) (ended_face (face_of (view_of self.old.core)) result) (view_of self.old.core) (view_of self.new.core) }
 
-        // It stands for the same history, and where the disk failed for that with work that failed.
-        ensures stands { D.tells → (config : Fields) (opened : Opened) (h : History) → StandsFor config opened h (view_of self.old.core) → (caller : ℕ)
-            → StandsFor config opened (installed_to h caller result) (view_of self.new.core) }
-
-        // Acknowledged: what is stored is the outcome of the task, and no job is in flight.
+        // Acknowledged: what is stored is the outcome of the task.
         ensures done { D.tells → (s : Stored) → Holds (view_of self.old.core) s → OnOk result ((t : Stored) × IsInstalled s (plain_task job.task.value) t × Holds (view_of self.new.core) t) }
-        ensures free { OnOk result (self.new.core.flight ≡ None) }
 
         // A refusal has its reason. The job stays in flight, and can only be given up.
         ensures back { IfErr result (λ back. IsInFlight (view_of self.new.core) back.0 × (back.0.refused ≡ true)) }
@@ -185,14 +150,6 @@ impl<D: Disk> Engine<D> {
         ensures why { IfErr result (λ back. HasReasonOfWork (IsShortToInstall (view_of self.old.core) job) (view_of self.old.core) (view_of self.new.core) back.1) }
         ensures drawn { OnErr result (self.new.core.state.next ≡ self.old.core.state.next) }
         ensures stopped { (at : ℕ) → self.old.core.state.stopped ≡ Some at → IfErr result (λ back. back.1 ≡ refused.Stopped at) × OnOk result ⊥ × (self.new ≡ self.old) }
-
-        // A crash at any moment of the call leaves what is kept for the history, and numbers keep pace with its calls.
-        ensures any_moment { D.tells → (config : Fields) (h : History) → StandsNow config h (view_of self.old.core)
-            → self.old.core.state.stopped ≡ None → GoesFrom self.old.core.state.next (λ c. IsKept config c h) (D.seen self.old.core.disk) (D.seen self.new.core.disk) }
-
-        // Numbers are drawn no faster than device calls are made.
-        ensures numbers { D.tells → self.new.core.state.next + (D.seen self.old.core.disk).moment ≤ self.old.core.state.next + (D.seen self.new.core.disk).moment }
-        ensures faults { D.faults self.old.core.disk ≤ D.faults self.new.core.disk }
     {
         let mut job = job;
         match self.install_drafts(alloc, job.drafts.take().unwrap()) {
@@ -209,22 +166,14 @@ impl<D: Disk> Engine<D> {
         requires sound { IsSound D.tells (view_of self.old.core) }
         requires flies { IsSome self.old.core.flight }
         requires outputs { IfSome (view_of self.old.core).flight (λ flying. AreOutputsOf D.tells flying drafts.items) }
-        ensures sound { IsSound D.tells (view_of self.new.core) }
-        ensures stands { D.tells → (config : Fields) (opened : Opened) (h : History) → StandsFor config opened h (view_of self.old.core) → (caller : ℕ)
-            → StandsFor config opened (stepped_to h caller Work result) (view_of self.new.core) }
+        ensures answers { Answers D.tells (Serves Work) (result_err result) (ended_face (face_of (view_of self.old.core)) result) (view_of self.old.core) (view_of self.new.core) }
         ensures done { D.tells → (s : Stored) → Holds (view_of self.old.core) s
             → IfSome (view_of self.old.core).flight (λ flying. OnOk result ((t : Stored) × IsInstalled s flying.task t × Holds (view_of self.new.core) t)) }
-        ensures free { OnOk result (self.new.core.flight ≡ None) }
-        ensures kept { OnErr result (self.new.core.flight ≡ self.old.core.flight) }
         ensures why { IfErr result (HasReasonOfWork
             (IfSome (view_of self.old.core).flight (λ flying. max_place ≤ self.old.core.state.next + (sum_by numbers_for drafts.items - length flying.written)))
             (view_of self.old.core) (view_of self.new.core)) }
         ensures drawn { OnErr result (self.new.core.state.next ≡ self.old.core.state.next) }
         ensures stopped { (at : ℕ) → self.old.core.state.stopped ≡ Some at → IsErrOf result (refused.Stopped at) × (self.new ≡ self.old) }
-        ensures any_moment { D.tells → (config : Fields) (h : History) → StandsNow config h (view_of self.old.core)
-            → self.old.core.state.stopped ≡ None → GoesFrom self.old.core.state.next (λ c. IsKept config c h) (D.seen self.old.core.disk) (D.seen self.new.core.disk) }
-        ensures numbers { D.tells → self.new.core.state.next + (D.seen self.old.core.disk).moment ≤ self.old.core.state.next + (D.seen self.new.core.disk).moment }
-        ensures faults { D.faults self.old.core.disk ≤ D.faults self.new.core.disk }
     {
         self.core.state.may_change()?;
         let before = self.core.disk.faults();
@@ -241,15 +190,10 @@ impl<D: Disk> Engine<D> {
         // Opening gives this, and each call leaves it so.
         requires sound { IsSound D.tells (view_of self.old.core) }
         requires flies { IsInFlight (view_of self.old.core) job }
-        ensures sound { IsSound D.tells (view_of self.new.core) }
+        ensures answers { Answers D.tells (Serves Work) (result_err result) (given_up (face_of (view_of self.old.core)) self.old.core.state) (view_of self.old.core) (view_of self.new.core) }
 
-        // It stands for the same history, and where the disk failed for that with work that failed.
-        ensures stands { D.tells → (config : Fields) (opened : Opened) (h : History) → StandsFor config opened h (view_of self.old.core) → (caller : ℕ)
-            → StandsFor config opened (stepped_to h caller Work result) (view_of self.new.core) }
-
-        // What is stored stays, and the job is in flight no more, but where nothing can be removed.
+        // What is stored stays, and where nothing can be removed, all does.
         ensures held { D.tells → (s : Stored) → Holds (view_of self.old.core) s → OnOk result (Holds (view_of self.new.core) s) }
-        ensures free { (self.old.core.state.stopped ≡ None → self.old.core.state.count < max_place) → self.new.core.flight ≡ None }
         ensures last { self.old.core.state.stopped ≡ None → self.old.core.state.count ≡ max_place → IsOk result × (self.new ≡ self.old) }
 
         // A refusal has its reason: an earlier call failed, or the disk failed in this one.
@@ -257,14 +201,6 @@ impl<D: Disk> Engine<D> {
         ensures no_memory { IsErrOf result refused.NoMemory → ⊥ }
         ensures exhausted { (last : ℕ) → IsErrOf result (refused.Exhausted last) → ⊥ }
         ensures stopped { (at : ℕ) → self.old.core.state.stopped ≡ Some at → IsErrOf result (refused.Stopped at) × (self.new.core.state ≡ self.old.core.state) }
-
-        // A crash at any moment of the call leaves what is kept for the history, and numbers keep pace with its calls.
-        ensures any_moment { D.tells → (config : Fields) (h : History) → StandsNow config h (view_of self.old.core)
-            → self.old.core.state.stopped ≡ None → GoesFrom self.old.core.state.next (λ c. IsKept config c h) (D.seen self.old.core.disk) (D.seen self.new.core.disk) }
-
-        // Numbers are drawn no faster than device calls are made.
-        ensures numbers { D.tells → self.new.core.state.next + (D.seen self.old.core.disk).moment ≤ self.old.core.state.next + (D.seen self.new.core.disk).moment }
-        ensures faults { D.faults self.old.core.disk ≤ D.faults self.new.core.disk }
     {
         drop(job);
         if let Some(at) = self.core.state.stopped {

@@ -7,16 +7,20 @@ ghost use Rattle.lethe_job.specs.Jobs as jobs;
 ghost use Rattle.lethe_job.specs.Jobs.{IsJob, IsUnread};
 ghost use Rattle.lethe_job.specs.Tasks.{inputs_in, pages_in, plain_task};
 
+use crate::number::BegunJobs;
 use crate::task::Task;
 use lethe_base::Refused;
 use lethe_build::{Draft, numbers_for};
 use lethe_disk::{Disk, ReadRefused};
 use std::alloc::Global;
+use std::snapshot::Snapshot;
 use std::sync::Arc;
 
 /// A merge that runs beside a store: its task, which the store knows too, a port of its own, and once they are made its outputs.
 #[derive(Drop)]
 pub struct Job<D: Disk> {
+    /// Its number: how many jobs the store had begun before it.
+    pub number: Snapshot<BegunJobs>,
     pub task: Arc<Task<D>>,
     pub port: D::Port,
     /// The drafts of its outputs, once they are made.

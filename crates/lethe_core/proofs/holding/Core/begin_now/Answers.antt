@@ -1,14 +1,19 @@
-use Rattle.std.proofs.Common.{◌≡◌, ◌<◌, [], Some, length, refl, sym, ap, ◌∙◌, subst}
+use Rattle.std.proofs.Common.{◌≡◌, ◌<◌, ◌+◌, [], Some, length, refl, sym, ap, ◌∙◌, subst}
 use Rattle.std.specs.Prelude.{IfSome, option_map}
 use Rattle.lethe_stored.specs.Stored.{Stored}
+use Rattle.lethe_job.specs.declared.number.BegunJobs.{BegunJobs}
 use Rattle.lethe_job.specs.Tasks.{IsBegunIn, plain_task}
+use Rattle.lethe_core.specs.Jobs.{with_begun}
 use Rattle.lethe_core.specs.Running.{Holds, IsSound}
 use Rattle.lethe_core.specs.StandsNow.{StandsNow}
-use Rattle.lethe_core.specs.View.{Flying, flying_of, view_of}
+use Rattle.lethe_core.specs.View.{Face, Flying, face_of, flying_of, view_of}
 use Rattle.lethe_core.proofs.Begun.{begun_holds, begun_sound, begun_stands, idle_holds, idle_sound, idle_stands}
 use Rattle.lethe_core.proofs.holding.Core.begin_now.Goals as goal
 
 -- Where there was no memory
+
+pub returns-in_err-port-clause-sound : goal.returns-in_err-port-clause-sound
+returns-in_err-port-clause-sound g c = idle_sound g.D.Disk.tells (view_of c.args.self.now) (g.D.Disk.seen c.port.new.self) (g.D.Disk.faults c.port.new.self) c.port.ensures.idle c.requires.sound
 
 pub returns-in_err-port-clause-stands : goal.returns-in_err-port-clause-stands
 returns-in_err-port-clause-stands g c = λ told. idle_stands (view_of c.args.self.now) (g.D.Disk.seen c.port.new.self) (g.D.Disk.faults c.port.new.self) (c.port.ensures.idle told)
@@ -25,11 +30,14 @@ returns-in_err-task-2-clause-stands g c = λ told. idle_stands (view_of c.args.s
 pub returns-in_err-task-2-clause-held : goal.returns-in_err-task-2-clause-held
 returns-in_err-task-2-clause-held g c = λ told. idle_holds (view_of c.args.self.now) (g.D.Disk.seen c.port.new.self) (g.D.Disk.faults c.port.new.self) (c.port.ensures.idle told)
 
-pub returns-in_err-clone-clause-stands : goal.returns-in_err-clone-clause-stands
-returns-in_err-clone-clause-stands g c = λ told. idle_stands (view_of c.args.self.now) (g.D.Disk.seen c.port.new.self) (g.D.Disk.faults c.port.new.self) (c.port.ensures.idle told)
+pub returns-in_err-shared-clause-sound : goal.returns-in_err-shared-clause-sound
+returns-in_err-shared-clause-sound g c = idle_sound g.D.Disk.tells (view_of c.args.self.now) (g.D.Disk.seen c.port.new.self) (g.D.Disk.faults c.port.new.self) c.port.ensures.idle c.requires.sound
 
-pub returns-in_err-clone-clause-held : goal.returns-in_err-clone-clause-held
-returns-in_err-clone-clause-held g c = λ told. idle_holds (view_of c.args.self.now) (g.D.Disk.seen c.port.new.self) (g.D.Disk.faults c.port.new.self) (c.port.ensures.idle told)
+pub returns-in_err-shared-clause-stands : goal.returns-in_err-shared-clause-stands
+returns-in_err-shared-clause-stands g c = λ told. idle_stands (view_of c.args.self.now) (g.D.Disk.seen c.port.new.self) (g.D.Disk.faults c.port.new.self) (c.port.ensures.idle told)
+
+pub returns-in_err-shared-clause-held : goal.returns-in_err-shared-clause-held
+returns-in_err-shared-clause-held g c = λ told. idle_holds (view_of c.args.self.now) (g.D.Disk.seen c.port.new.self) (g.D.Disk.faults c.port.new.self) (c.port.ensures.idle told)
 
 -- The job is in flight
 
@@ -39,15 +47,16 @@ returns-clause-sound g c =
     let seen = g.D.Disk.seen c.port.new.self in
     let faults = g.D.Disk.faults c.port.new.self in
     let task = plain_task c.in-Some.task in
-    let flying : Flying = record { task = task; written = [] } in
-    let value : c.in_ok-clone.field-0.value ≡ c.in-Some.task = c.in_ok-clone.ensures.cases ∙ c.in_ok-task-2.ensures.ok in
-    let same : flying_of (record { task = c.in_ok-clone.field-0; written = c.new-2.result }) ≡ flying = λ i. record { task = plain_task (value i); written = c.new-2.ensures i } in
+    let flying : Flying = record { number = old.begun; task = task; written = [] } in
+    let value : c.in_ok-shared.shared.value ≡ c.in-Some.task = c.in_ok-shared.ensures.cases ∙ c.in_ok-task-2.ensures.ok in
+    let same : flying_of (record { number = c.of.result; task = c.in_ok-shared.shared; written = c.new-2.result }) ≡ flying = λ i. record { number = (c.of.ensures i).count; task = plain_task (value i); written = c.new-2.ensures i } in
+    let now : record { begun = c.more-self.result.count; flight = Some (flying_of (record { number = c.of.result; task = c.in_ok-shared.shared; written = c.new-2.result })) } ≡ with_begun (face_of old) task = λ i. record { begun = c.more-self.ensures i; flight = Some (same i) } in
     let begun : (s : Stored) → Holds old s → IsBegunIn s task = λ s holds. subst (λ found. IfSome found (λ task. IsBegunIn s (plain_task task))) c.in-Some.is (c.in_ok-task.ensures.some s holds) in
     let level = subst (λ found. IfSome found (λ task. task.level < old.state.manifest.config.levels)) c.in-Some.is c.in_ok-task.ensures.level in
     let upto = subst (λ found. IfSome found (λ task. task.upto ≡ old.state.count)) c.in-Some.is c.in_ok-task.ensures.upto in
     let erases = subst (λ found. IfSome found (λ task. task.erases ≡ old.state.pending)) c.in-Some.is c.in_ok-task.ensures.erases in
-    subst (λ f. IsSound g.D.Disk.tells (record old { disk = seen; faults = faults; flight = Some f })) (sym same)
-    (idle_sound g.D.Disk.tells (record old { flight = Some flying }) seen faults c.port.ensures.idle
+    subst (λ (face : Face). IsSound g.D.Disk.tells (record old { disk = seen; faults = faults; flight = face.flight; begun = face.begun })) (sym now)
+    (idle_sound g.D.Disk.tells (record old { flight = Some flying; begun = old.begun + 1 }) seen faults c.port.ensures.idle
     (begun_sound g.D.Disk.tells old task (ap (option_map flying_of) c.requires.free) c.requires.runs c.requires.sound begun level upto erases))
 
 pub returns-clause-stands : goal.returns-clause-stands
@@ -56,12 +65,13 @@ returns-clause-stands g c = λ told config h stands.
     let seen = g.D.Disk.seen c.port.new.self in
     let faults = g.D.Disk.faults c.port.new.self in
     let task = plain_task c.in-Some.task in
-    let flying : Flying = record { task = task; written = [] } in
-    let value : c.in_ok-clone.field-0.value ≡ c.in-Some.task = c.in_ok-clone.ensures.cases ∙ c.in_ok-task-2.ensures.ok in
-    let same : flying_of (record { task = c.in_ok-clone.field-0; written = c.new-2.result }) ≡ flying = λ i. record { task = plain_task (value i); written = c.new-2.ensures i } in
+    let flying : Flying = record { number = old.begun; task = task; written = [] } in
+    let value : c.in_ok-shared.shared.value ≡ c.in-Some.task = c.in_ok-shared.ensures.cases ∙ c.in_ok-task-2.ensures.ok in
+    let same : flying_of (record { number = c.of.result; task = c.in_ok-shared.shared; written = c.new-2.result }) ≡ flying = λ i. record { number = (c.of.ensures i).count; task = plain_task (value i); written = c.new-2.ensures i } in
+    let now : record { begun = c.more-self.result.count; flight = Some (flying_of (record { number = c.of.result; task = c.in_ok-shared.shared; written = c.new-2.result })) } ≡ with_begun (face_of old) task = λ i. record { begun = c.more-self.ensures i; flight = Some (same i) } in
     let begun : (s : Stored) → Holds old s → IsBegunIn s task = λ s holds. subst (λ found. IfSome found (λ task. IsBegunIn s (plain_task task))) c.in-Some.is (c.in_ok-task.ensures.some s holds) in
-    subst (λ f. StandsNow config h (record old { disk = seen; faults = faults; flight = Some f })) (sym same)
-    (idle_stands (record old { flight = Some flying }) seen faults (c.port.ensures.idle told) config h
+    subst (λ (face : Face). StandsNow config h (record old { disk = seen; faults = faults; flight = face.flight; begun = face.begun })) (sym now)
+    (idle_stands (record old { flight = Some flying; begun = old.begun + 1 }) seen faults (c.port.ensures.idle told) config h
     (begun_stands g.D.Disk.tells old task (ap (option_map flying_of) c.requires.free) c.requires.runs c.requires.sound begun config h stands))
 
 pub returns-clause-held : goal.returns-clause-held
@@ -70,19 +80,26 @@ returns-clause-held g c = λ told s holds.
     let seen = g.D.Disk.seen c.port.new.self in
     let faults = g.D.Disk.faults c.port.new.self in
     let task = plain_task c.in-Some.task in
-    let flying : Flying = record { task = task; written = [] } in
-    let value : c.in_ok-clone.field-0.value ≡ c.in-Some.task = c.in_ok-clone.ensures.cases ∙ c.in_ok-task-2.ensures.ok in
-    let same : flying_of (record { task = c.in_ok-clone.field-0; written = c.new-2.result }) ≡ flying = λ i. record { task = plain_task (value i); written = c.new-2.ensures i } in
+    let flying : Flying = record { number = old.begun; task = task; written = [] } in
+    let value : c.in_ok-shared.shared.value ≡ c.in-Some.task = c.in_ok-shared.ensures.cases ∙ c.in_ok-task-2.ensures.ok in
+    let same : flying_of (record { number = c.of.result; task = c.in_ok-shared.shared; written = c.new-2.result }) ≡ flying = λ i. record { number = (c.of.ensures i).count; task = plain_task (value i); written = c.new-2.ensures i } in
+    let now : record { begun = c.more-self.result.count; flight = Some (flying_of (record { number = c.of.result; task = c.in_ok-shared.shared; written = c.new-2.result })) } ≡ with_begun (face_of old) task = λ i. record { begun = c.more-self.ensures i; flight = Some (same i) } in
     let begun : (s : Stored) → Holds old s → IsBegunIn s task = λ s holds. subst (λ found. IfSome found (λ task. IsBegunIn s (plain_task task))) c.in-Some.is (c.in_ok-task.ensures.some s holds) in
-    subst (λ f. Holds (record old { disk = seen; faults = faults; flight = Some f }) s) (sym same)
-    (idle_holds (record old { flight = Some flying }) seen faults (c.port.ensures.idle told) s
+    subst (λ (face : Face). Holds (record old { disk = seen; faults = faults; flight = face.flight; begun = face.begun }) s) (sym now)
+    (idle_holds (record old { flight = Some flying; begun = old.begun + 1 }) seen faults (c.port.ensures.idle told) s
     (begun_holds g.D.Disk.tells old task (ap (option_map flying_of) c.requires.free) c.requires.runs c.requires.sound begun s holds))
 
 pub returns-clause-works : goal.returns-clause-works
 returns-clause-works g c = record {
-  flies = record { flying = flying_of (record { task = c.in_ok-clone.field-0; written = c.new-2.result }); is = refl; task = ap plain_task (sym c.in_ok-clone.ensures.cases) };
+  flies = record { flying = flying_of (record { number = c.of.result; task = c.in_ok-shared.shared; written = c.new-2.result }); is = refl; number = ap (λ (begun : BegunJobs). begun.count) (c.of-number.ensures ∙ sym c.of.ensures); task = ap plain_task (sym c.in_ok-shared.ensures.cases) };
   asked = refl;
   job_is = record { made = tt; few = tt; unmade = λ none. refl };
   count = ap length c.new-2.ensures;
   pages = tt;
+}
+
+pub returns-clause-face : goal.returns-clause-face
+returns-clause-face g c = λ i. record {
+  begun = c.more-self.ensures i;
+  flight = Some (record { number = (c.of.ensures i).count; task = plain_task (c.in_ok-shared.ensures.cases i); written = c.new-2.ensures i });
 }

@@ -1,10 +1,11 @@
-use Rattle.std.proofs.Common.{◌+◌, Err, Ok, refl, sym, ap, ◌∙◌, subst, arith}
+use Rattle.std.proofs.Common.{◌+◌, Some, None, refl, sym, ap, ◌∙◌, subst, arith}
 use Rattle.lethe_base.specs.Counts.{Rose}
 use Rattle.lethe_base.specs.declared.refused.Refused.TheVariants.{Fault}
 use Rattle.lethe_state.specs.declared.state.State.{State}
 use Rattle.lethe_core.specs.Keeps.{Keeps}
 use Rattle.lethe_core.specs.Running.{Holds}
 use Rattle.lethe_core.specs.View.{flying_of, view_of}
+use Rattle.lethe_core.proofs.Asked.{not_none}
 use Rattle.lethe_core.proofs.Hindered.{keeps_itself}
 use Rattle.lethe_core.proofs.Pages.{flying_is, may_remove, refused_keeps}
 use Rattle.lethe_core.proofs.Removed.{grounded_keeps, only_failed, removed_holds, removed_keeps}
@@ -14,8 +15,8 @@ pub returns-in_default-clause-keeps : goal.returns-in_default-clause-keeps
 returns-in_default-clause-keeps g c =
     let self = c.args.self.now in
     let may = c.requires.may in
-    subst (λ f. Keeps g.D.Disk.tells (view_of self) (view_of (record self { flight = f })) (Ok (tt {0}))) (sym c.take.ensures.value ∙ c.in_default.is ∙ sym c.take.ensures.after)
-    (keeps_itself g.D.Disk.tells (view_of self) may.sound may.runs (Ok (tt {0})) (λ h caller call. refl))
+    subst (λ f. Keeps g.D.Disk.tells (view_of self) (view_of (record self { flight = f })) None) (sym c.take.ensures.value ∙ c.in_default.is ∙ sym c.take.ensures.after)
+    (keeps_itself g.D.Disk.tells (view_of self) may.sound may.runs None tt)
 
 pub returns-in-Ok-clause-keeps : goal.returns-in-Ok-clause-keeps
 returns-in-Ok-clause-keeps g c =
@@ -24,7 +25,7 @@ returns-in-Ok-clause-keeps g c =
     let may = c.requires.may in
     let laws = g.met.D.Disk g.world.𝓛 g.world.𝓜 g.world.𝓡 ((λ s x. x), (λ x. x), (λ x. x), λ x. x) in
     let is = flying_is self c.take.result c.in-Some.flight c.take.ensures.value c.in-Some.is in
-    subst (λ f. Keeps g.D.Disk.tells (view_of self) (view_of (record self { disk = disk; flight = f })) (Ok (tt {0}))) (sym c.take.ensures.after)
+    subst (λ f. Keeps g.D.Disk.tells (view_of self) (view_of (record self { disk = disk; flight = f })) None) (sym c.take.ensures.after)
     (removed_keeps g.D.Disk.tells (view_of self) (flying_of c.in-Some.flight) is may.sound (g.D.Disk.seen disk) (g.D.Disk.faults disk) (λ told. laws.itself told self.disk)
     c.in-Ok.ensures.done c.in-Ok.ensures.others may.runs c.in-Ok.ensures.any_moment c.in-Ok.ensures.cause.later)
 
@@ -51,9 +52,12 @@ returns-clause-keeps g c =
     let from = may.told_from in
     let told : Rose c.args.before (g.D.Disk.faults disk) = omega (arith, rose, from) in
     let why = Fault c.stop-place.result c.args.before c.faults.result in
-    subst (λ f. Keeps {T = Unit {0}} g.D.Disk.tells old (view_of (record self { disk = disk; state = state; flight = f })) (Err why)) (sym c.take.ensures.after)
-    (grounded_keeps {T = Unit {0}} g.D.Disk.tells old (record old { disk = g.D.Disk.seen disk; faults = g.D.Disk.faults disk; state = state }) (Err why) (self.state.count + 1) (ap (λ (s : State). s.stopped) c.stop-place.ensures.is)
+    subst (λ f. Keeps g.D.Disk.tells old (view_of (record self { disk = disk; state = state; flight = f })) (Some why)) (sym c.take.ensures.after)
+    (grounded_keeps g.D.Disk.tells old (record old { disk = g.D.Disk.seen disk; faults = g.D.Disk.faults disk; state = state }) (Some why) (self.state.count + 1) (ap (λ (s : State). s.stopped) c.stop-place.ensures.is)
     (refused_keeps g.D.Disk.tells old may.sound (record old { disk = g.D.Disk.seen disk; faults = g.D.Disk.faults disk; state = state }) c.args.before may
     (λ told s holds. c.remove_pages.ensures.any_moment told s (may_remove g.D.Disk.tells old (flying_of c.in-Some.flight) is may.sound s holds))
     (λ told. laws.itself told disk) c.remove_pages.ensures.cause.later why
-    (c.stop-place.ensures.place, refl, c.faults.ensures, told, c.stop-place.ensures.is, record { levels = refl; flight = refl })))
+    (c.stop-place.ensures.place, refl, c.faults.ensures, told, c.stop-place.ensures.is, record { levels = refl; flight = refl; begun = refl })))
+
+pub returns-clause-undone : goal.returns-clause-undone
+returns-clause-undone g c = λ none. absurd (not_none (record { place = c.stop-place.result; before = c.args.before; after = c.faults.result }) none)

@@ -1,12 +1,15 @@
-use Rattle.std.proofs.Common.{rules, ◌≡◌, Err, sym, ap, ◌∙◌, subst}
-use Rattle.std.specs.Prelude.{option_map}
+use Rattle.std.proofs.Common.{rules, ◌≡◌, Some, Result, Err, sym, ap, ◌∙◌, subst}
+use Rattle.std.specs.Prelude.{IfErr, option_map}
+use Rattle.std.specs.Result.{result_err}
+use Rattle.lethe_base.specs.declared.refused.Refused.{Refused}
 use Rattle.lethe_state.specs.Room.{IsFrozen, IsFrozenWith}
 use Rattle.lethe_state.specs.declared.state.State.{State}
 use Rattle.lethe_core.specs.Keeps.{Keeps}
-use Rattle.lethe_core.specs.Steps.{stepped_to}
+use Rattle.lethe_core.specs.Steps.{IsUndone}
 use Rattle.lethe_core.specs.View.{flying_of, view_of}
 use Rattle.lethe_core.proofs.Carried.{IsCarried}
-use Rattle.lethe_core.proofs.Hindered.{hindered_keeps, keeps_itself, refused_before}
+use Rattle.lethe_core.proofs.Asked.{not_failed}
+use Rattle.lethe_core.proofs.Hindered.{as_itself, hindered_keeps, hindered_undone, keeps_itself}
 use Rattle.lethe_core.proofs.Next.{frozen_for, frozen_next, next_done, next_keeps, next_moments, next_step}
 use Rattle.lethe_core.proofs.Stepped.{frozen_holds, not_frozen, small_frozen}
 use Rattle.lethe_core.proofs.holding.Core.freeze_now.Goals as goal
@@ -15,8 +18,15 @@ pub returns-in_err-step-clause-keeps : goal.returns-in_err-step-clause-keeps
 returns-in_err-step-clause-keeps g c =
     let why = c.in_err-step.field-0.0 in
     let refusal : c.from_residual.result ≡ Err why = search rules in
-    keeps_itself g.D.Disk.tells (view_of c.args.self.now) c.requires.may.sound c.requires.may.runs c.from_residual.result
-    (λ h caller call. ap (stepped_to h caller call) refusal ∙ refused_before h caller call why c.in_err-step.ensures.refused)
+    let old = view_of c.args.self.now in
+    subst (λ (r : Result (Unit {0}) Refused). Keeps g.D.Disk.tells old old (result_err r)) (sym refusal) (keeps_itself g.D.Disk.tells old c.requires.may.sound c.requires.may.runs (Some why) (not_failed why c.in_err-step.ensures.refused))
+
+pub returns-in_err-step-clause-undone : goal.returns-in_err-step-clause-undone
+returns-in_err-step-clause-undone g c =
+    let why = c.in_err-step.field-0.0 in
+    let refusal : c.from_residual.result ≡ Err why = search rules in
+    let old = view_of c.args.self.now in
+    subst (λ (r : Result (Unit {0}) Refused). IfErr r (IsUndone g.D.Disk.tells old old)) (sym refusal) (λ none. as_itself g.D.Disk.tells old)
 
 pub carry_out-requires-clause-step : goal.carry_out-requires-clause-step
 carry_out-requires-clause-step g c κs within =
@@ -36,8 +46,16 @@ returns-in_err-carry_out-clause-keeps g c =
     let refusal : c.from_residual-in_err-carry_out.result ≡ Err why = search rules in
     let goes = next_moments IsFrozen g.D.Disk.tells old headers step c.args.before c.requires.may (frozen_next old c.requires.may.sound.flies headers step c.requires.may.sound.writable c.new.ensures.items c.in_ok-step.ensures.freezes)
     new (λ h s t holds for is. frozen_for h s t old.state old.levels holds.remembers (not_frozen s old.state old.levels holds.remembers c.requires.unfrozen) for is) 2 c.in_ok-step.ensures.step c.carry_out.ensures.moments in
-    subst (Keeps {T = Unit {0}} g.D.Disk.tells old new) (sym refusal)
+    subst (λ (r : Result (Unit {0}) Refused). Keeps g.D.Disk.tells old new (result_err r)) (sym refusal)
     (hindered_keeps g.D.Disk.tells old new c.args.before c.requires.may why c.in_err-carry_out.ensures.refused goes (λ told. laws.itself told c.carry_out.new.self.disk) c.carry_out.ensures.later c.carry_out.ensures.faults)
+
+pub returns-in_err-carry_out-clause-undone : goal.returns-in_err-carry_out-clause-undone
+returns-in_err-carry_out-clause-undone g c =
+    let old = view_of c.args.self.now in
+    let new = view_of c.carry_out.new.self in
+    let why = c.in_err-carry_out.field-0.0 in
+    let refusal : c.from_residual-in_err-carry_out.result ≡ Err why = search rules in
+    subst (λ (r : Result (Unit {0}) Refused). IfErr r (IsUndone g.D.Disk.tells old new)) (sym refusal) (hindered_undone g.D.Disk.tells old new c.args.before why c.in_err-carry_out.ensures.refused)
 
 pub returns-clause-keeps : goal.returns-clause-keeps
 returns-clause-keeps g c =
@@ -60,7 +78,7 @@ returns-clause-keeps g c =
     next_keeps IsFrozen g.D.Disk.tells old headers step c.args.before c.requires.may (frozen_next old c.requires.may.sound.flies headers step c.requires.may.sound.writable c.new.ensures.items c.in_ok-step.ensures.freezes)
     new (λ h s t holds for is. frozen_for h s t old.state old.levels holds.remembers (not_frozen s old.state old.levels holds.remembers c.requires.unfrozen) for is) carried
     (λ told s t holds made is. frozen_holds g.D.Disk.tells s t old new headers step carried told holds is made c.requires.unfrozen with)
-    2 from with.manifest_is with.next (c.freeze.ensures.is.count ∙ ap (λ (state : State). state.count) c.in_ok-carry_out.ensures.state) c.freeze.ensures.writable
+    2 from with.manifest_is with.next (c.freeze.ensures.is.count ∙ ap (λ (state : State). state.count) c.in_ok-carry_out.ensures.state) (c.freeze.ensures.is.stopped ∙ ap (λ (state : State). state.stopped) c.in_ok-carry_out.ensures.state) c.freeze.ensures.writable
     (small_frozen step.manifest old.state new.state with from.config c.requires.may.sound.small)
 
 pub returns-clause-done : goal.returns-clause-done

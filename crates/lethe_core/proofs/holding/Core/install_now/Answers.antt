@@ -1,5 +1,7 @@
-use Rattle.std.proofs.Common.{rules, ◌≡◌, Some, Err, sym, ap, subst}
-use Rattle.std.specs.Prelude.{IfSome, OnOk, option_map}
+use Rattle.std.proofs.Common.{rules, ◌≡◌, Some, Result, Err, sym, ap, subst}
+use Rattle.std.specs.Result.{result_err}
+use Rattle.lethe_base.specs.declared.refused.Refused.{Refused}
+use Rattle.std.specs.Prelude.{IfErr, IfSome, OnOk, option_map}
 use Rattle.lethe_flush.proofs.Results.{ok_weaker}
 use Rattle.lethe_stored.specs.Stored.{Stored}
 use Rattle.lethe_job.specs.Tasks.{plain_task}
@@ -8,8 +10,10 @@ use Rattle.lethe_core.specs.Keeps.{Keeps}
 use Rattle.lethe_core.specs.Merges.{IsInstalled}
 use Rattle.lethe_core.specs.Running.{Holds}
 use Rattle.lethe_core.specs.StandsNow.{IsCounted}
+use Rattle.lethe_core.specs.Steps.{IsUndone}
 use Rattle.lethe_core.specs.View.{flying_of, view_of}
-use Rattle.lethe_core.proofs.Hindered.{keeps_itself, refused_before}
+use Rattle.lethe_core.proofs.Asked.{not_failed}
+use Rattle.lethe_core.proofs.Hindered.{as_itself, keeps_itself}
 use Rattle.lethe_core.proofs.Installing.{next_install}
 use Rattle.lethe_core.proofs.holding.Core.install_now.Goals as goal
 
@@ -18,8 +22,15 @@ returns-in_err-headers-clause-keeps g c =
     let view = view_of c.args.self.now in
     let why = c.in_err-headers.field-0.0 in
     let refusal : c.from_residual.result ≡ Err why = search rules in
-    subst (Keeps {T = Unit {0}} g.D.Disk.tells view view) (sym refusal)
-    (keeps_itself g.D.Disk.tells view c.requires.may.sound c.requires.may.runs (Err why) (λ h caller call. refused_before h caller call why c.in_err-headers.ensures.refused))
+    subst (λ (r : Result (Unit {0}) Refused). Keeps g.D.Disk.tells view view (result_err r)) (sym refusal)
+    (keeps_itself g.D.Disk.tells view c.requires.may.sound c.requires.may.runs (Some why) (not_failed why c.in_err-headers.ensures.refused))
+
+pub returns-in_err-headers-clause-undone : goal.returns-in_err-headers-clause-undone
+returns-in_err-headers-clause-undone g c =
+    let view = view_of c.args.self.now in
+    let why = c.in_err-headers.field-0.0 in
+    let refusal : c.from_residual.result ≡ Err why = search rules in
+    subst (λ (r : Result (Unit {0}) Refused). IfErr r (IsUndone g.D.Disk.tells view view)) (sym refusal) (λ none. as_itself g.D.Disk.tells view)
 
 pub merge_now-requires-clause-merges : goal.merge_now-requires-clause-merges
 merge_now-requires-clause-merges g c κs within = λ told s holds.

@@ -1,25 +1,27 @@
-use Rattle.std.proofs.Common.{rules, ◌≡◌, ◌⊎◌, ◌+◌, [], inl, inr, Result, Err, Ok, refl, sym, ap, ◌∙◌, subst, arith}
+use Rattle.std.proofs.Common.{rules, ◌≡◌, ◌⊎◌, ◌+◌, [], inl, inr, Some, None, Result, Err, refl, sym, ap, ◌∙◌, subst, arith}
 use Rattle.std.specs.Prelude.{IfErr, List, Option, option_map}
+use Rattle.std.specs.Result.{result_err}
 use Rattle.std.proofs.lemmas.Result.{IfErr-weaker}
 use Rattle.lethe_base.specs.declared.refused.Refused.{Refused}
 use Rattle.lethe_disk.proofs.Quieting.{on_ok}
 use Rattle.lethe_stored.specs.Stored.{Stored}
 use Rattle.lethe_state.specs.Room.{HasRoom, IsShortToFreeze}
 use Rattle.lethe_core.specs.Keeps.{Keeps}
-use Rattle.lethe_core.specs.Merges.{IsRoomMadeBy, IsShortToMerge, IsUncrowded, Outcome, pages_of}
+use Rattle.lethe_core.specs.Merges.{IsMergedInPart, IsRoomBegun, IsRoomMadeBy, IsShortToMerge, IsUncrowded, Outcome, pages_of}
 use Rattle.lethe_core.specs.Reasons.{HasReason, IsShort, IsShortOfRoom, IsUnreadable}
 use Rattle.lethe_core.specs.Running.{Holds}
-use Rattle.lethe_core.specs.Steps.{IsReady, IsSteady}
+use Rattle.lethe_core.specs.Steps.{IsDoneInPart, IsReady, IsSteady}
 use Rattle.lethe_core.specs.View.{Flying, flying_of, view_of}
 use Rattle.lethe_core.proofs.Behind.{next_may, reason_behind}
 use Rattle.lethe_core.proofs.Hindered.{keeps_itself, keeps_then}
+use Rattle.lethe_core.proofs.Likes.{before_holds, jobs_same}
 use Rattle.lethe_core.proofs.Roomed.{clash, has_room, room_ready, sees_room}
 use Rattle.lethe_core.proofs.holding.Core.make_room.Goals as goal
 
 -- There was room
 
 pub returns-then-has_room-clause-keeps : goal.returns-then-has_room-clause-keeps
-returns-then-has_room-clause-keeps g c = keeps_itself g.D.Disk.tells (view_of c.args.self.now) c.requires.sound c.requires.runs _ (λ h caller call. refl)
+returns-then-has_room-clause-keeps g c = keeps_itself g.D.Disk.tells (view_of c.args.self.now) c.requires.sound c.requires.runs None tt
 
 pub returns-then-has_room-clause-done : goal.returns-then-has_room-clause-done
 returns-then-has_room-clause-done g c = λ told s holds.
@@ -30,16 +32,13 @@ returns-then-has_room-clause-done g c = λ told s holds.
 
 pub freeze_now-requires-clause-may : goal.freeze_now-requires-clause-may
 freeze_now-requires-clause-may g c κs within =
-    let steady = c.in_ok-unfreeze.ensures.ready.steady in
-    next_may g.D.Disk.tells (view_of c.args.self.now) (view_of c.unfreeze.new.self) c.args.before c.unfreeze.result c.requires c.unfreeze.ensures.keeps steady.stopped steady.count
+    next_may g.D.Disk.tells (view_of c.args.self.now) (view_of c.unfreeze.new.self) c.args.before c.requires c.in_ok-unfreeze.ensures.keeps
 
 pub merge_due-requires-clause-may : goal.merge_due-requires-clause-may
 merge_due-requires-clause-may g c κs within =
     let middle = view_of c.unfreeze.new.self in
-    let steady = c.in_ok-unfreeze.ensures.ready.steady in
-    let empty = c.in_ok-freeze_now.ensures.ready in
-    let may = next_may g.D.Disk.tells (view_of c.args.self.now) middle c.args.before c.unfreeze.result c.requires c.unfreeze.ensures.keeps steady.stopped steady.count in
-    next_may g.D.Disk.tells middle (view_of c.freeze_now.new.self) c.args.before c.freeze_now.result may c.freeze_now.ensures.keeps empty.stopped empty.count
+    let may = next_may g.D.Disk.tells (view_of c.args.self.now) middle c.args.before c.requires c.in_ok-unfreeze.ensures.keeps in
+    next_may g.D.Disk.tells middle (view_of c.freeze_now.new.self) c.args.before may c.in_ok-freeze_now.ensures.keeps
 
 -- The frozen buffer could not be flushed
 
@@ -47,7 +46,16 @@ pub returns-in_err-unfreeze-clause-keeps : goal.returns-in_err-unfreeze-clause-k
 returns-in_err-unfreeze-clause-keeps g c =
     let why = c.in_err-unfreeze.field-0.0 in
     let refusal : c.from_residual.result ≡ Err why = search rules in
-    subst (Keeps {T = Unit {0}} g.D.Disk.tells (view_of c.args.self.now) (view_of c.unfreeze.new.self)) (sym refusal) c.in_err-unfreeze.ensures.keeps
+    subst (λ (r : Result (Unit {0}) Refused). Keeps g.D.Disk.tells (view_of c.args.self.now) (view_of c.unfreeze.new.self) (result_err r)) (sym refusal) c.in_err-unfreeze.ensures.keeps
+
+pub returns-in_err-unfreeze-clause-partly : goal.returns-in_err-unfreeze-clause-partly
+returns-in_err-unfreeze-clause-partly g c =
+    let old = c.args.self.now in
+    let new = c.unfreeze.new.self in
+    let why = c.in_err-unfreeze.field-0.0 in
+    let refusal : c.from_residual.result ≡ Err why = search rules in
+    subst (λ (r : Result (Unit {0}) Refused). IfErr r (IsDoneInPart g.D.Disk.tells (IsRoomBegun (view_of old).flight) (view_of old) (view_of new))) (sym refusal)
+    (λ none told s holds. (s, inl refl, before_holds g.D.Disk.tells told (view_of old) (view_of new) s (jobs_same old new c.unfreeze.ensures.begun c.unfreeze.ensures.flight) (c.in_err-unfreeze.ensures.undone none) holds))
 
 pub returns-in_err-unfreeze-clause-why : goal.returns-in_err-unfreeze-clause-why
 returns-in_err-unfreeze-clause-why g c =
@@ -69,8 +77,23 @@ returns-in_err-freeze_now-clause-keeps g c =
     let new = view_of c.freeze_now.new.self in
     let why = c.in_err-freeze_now.field-0.0 in
     let refusal : c.from_residual-in_err-freeze_now.result ≡ Err why = search rules in
-    subst (Keeps {T = Unit {0}} g.D.Disk.tells old new) (sym refusal)
-    (keeps_then g.D.Disk.tells old middle new (let r : Result (Unit {0}) Refused = Ok tt in r) (λ h caller call. refl) c.in_ok-unfreeze.ensures.keeps (Err why) c.in_err-freeze_now.ensures.keeps)
+    subst (λ (r : Result (Unit {0}) Refused). Keeps g.D.Disk.tells old new (result_err r)) (sym refusal)
+    (keeps_then g.D.Disk.tells old middle new c.in_ok-unfreeze.ensures.keeps (Some why) c.in_err-freeze_now.ensures.keeps)
+
+pub returns-in_err-freeze_now-clause-partly : goal.returns-in_err-freeze_now-clause-partly
+returns-in_err-freeze_now-clause-partly g c =
+    let old = view_of c.args.self.now in
+    let mid = c.unfreeze.new.self in
+    let new = c.freeze_now.new.self in
+    let why = c.in_err-freeze_now.field-0.0 in
+    let refusal : c.from_residual-in_err-freeze_now.result ≡ Err why = search rules in
+    subst (λ (r : Result (Unit {0}) Refused). IfErr r (IsDoneInPart g.D.Disk.tells (IsRoomBegun old.flight) old (view_of new))) (sym refusal) (λ none told s holds.
+    let full : HasRoom s → ⊥ = λ room. clash c.has_room.result (c.has_room.ensures.1 (sees_room old s holds room)) c.if-has_room.false in
+    let middle = c.in_ok-unfreeze.ensures.done told s holds in (
+      middle.0,
+      inr (full, record { middle = middle.0; unfrozen = middle.1; rest = inl refl }),
+      before_holds g.D.Disk.tells told (view_of mid) (view_of new) middle.0 (jobs_same mid new c.freeze_now.ensures.begun c.freeze_now.ensures.flight) (c.in_err-freeze_now.ensures.undone none) middle.2,
+    ))
 
 pub returns-in_err-freeze_now-clause-why : goal.returns-in_err-freeze_now-clause-why
 returns-in_err-freeze_now-clause-why g c =
@@ -93,8 +116,22 @@ returns-clause-keeps g c =
     let middle = view_of c.unfreeze.new.self in
     let cleared = view_of c.freeze_now.new.self in
     let new = view_of c.merge_due.new.self in
-    keeps_then g.D.Disk.tells old cleared new (let r : Result (Unit {0}) Refused = Ok tt in r) (λ h caller call. refl)
-    (keeps_then g.D.Disk.tells old middle cleared (let r : Result (Unit {0}) Refused = Ok tt in r) (λ h caller call. refl) c.in_ok-unfreeze.ensures.keeps (Ok tt) c.in_ok-freeze_now.ensures.keeps) c.merge_due.result c.merge_due.ensures.keeps
+    keeps_then g.D.Disk.tells old cleared new (keeps_then g.D.Disk.tells old middle cleared c.in_ok-unfreeze.ensures.keeps None c.in_ok-freeze_now.ensures.keeps) (result_err c.merge_due.result) c.merge_due.ensures.keeps
+
+pub returns-clause-partly : goal.returns-clause-partly
+returns-clause-partly g c =
+    let old = view_of c.args.self.now in
+    let cleared = view_of c.freeze_now.new.self in
+    let new = view_of c.merge_due.new.self in
+    let flight = ap (option_map flying_of) (c.freeze_now.ensures.flight ∙ c.unfreeze.ensures.flight) in
+    IfErr-weaker c.merge_due.result (IsDoneInPart g.D.Disk.tells (IsMergedInPart cleared.flight) cleared new) (IsDoneInPart g.D.Disk.tells (IsRoomBegun old.flight) old new)
+    (λ why done none told s holds.
+    let full : HasRoom s → ⊥ = λ room. clash c.has_room.result (c.has_room.ensures.1 (sees_room old s holds room)) c.if-has_room.false in
+    let middle = c.in_ok-unfreeze.ensures.done told s holds in
+    let froze = c.in_ok-freeze_now.ensures.done told middle.0 middle.2 in
+    let some = done none told froze.0 froze.2 in
+    let merged = subst (λ flight. IsMergedInPart flight froze.0 some.0) flight some.1 in
+    (some.0, inr (full, record { middle = middle.0; unfrozen = middle.1; rest = inr (froze.0, froze.1, merged) }), some.2)) c.merge_due.ensures.partly
 
 pub returns-clause-done : goal.returns-clause-done
 returns-clause-done g c = λ told s holds.
@@ -135,3 +172,14 @@ returns-clause-ready g c =
     let some = c.requires.sound.writable.manifest.config.buffer.0 in
     on_ok c.merge_due.result (IsSteady c.freeze_now.new.self.state c.merge_due.new.self.state) (IsReady c.args.self.now.state c.merge_due.new.self.state) c.merge_due.ensures.steady
     (λ steady. room_ready c.args.self.now.state c.unfreeze.new.self.state c.freeze_now.new.self.state c.merge_due.new.self.state c.in_ok-unfreeze.ensures.ready c.in_ok-freeze_now.ensures.ready steady (omega (arith, some)))
+
+-- With room none of the steps is made
+
+pub returns-in_err-unfreeze-clause-room : goal.returns-in_err-unfreeze-clause-room
+returns-in_err-unfreeze-clause-room g c = λ room. absurd (clash c.has_room.result (c.has_room.ensures.1 room) c.if-has_room.false)
+
+pub returns-in_err-freeze_now-clause-room : goal.returns-in_err-freeze_now-clause-room
+returns-in_err-freeze_now-clause-room g c = λ room. absurd (clash c.has_room.result (c.has_room.ensures.1 room) c.if-has_room.false)
+
+pub returns-clause-room : goal.returns-clause-room
+returns-clause-room g c = λ room. absurd (clash c.has_room.result (c.has_room.ensures.1 room) c.if-has_room.false)

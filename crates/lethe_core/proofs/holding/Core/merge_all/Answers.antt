@@ -1,26 +1,39 @@
-use Rattle.std.proofs.Common.{rules, ◌≡◌, ◌⊎◌, inr, Ok, Err, sym, ap, ◌∙◌, subst, arith}
-use Rattle.std.specs.Prelude.{Bool, true}
+use Rattle.std.proofs.Common.{rules, ◌≡◌, ◌⊎◌, inr, List, [], Some, None, Result, Ok, Err, refl, sym, ap, ◌∙◌, subst, arith}
+use Rattle.std.specs.Prelude.{Bool, IfErr, true}
+use Rattle.std.specs.Result.{result_err}
 use Rattle.lethe_base.specs.declared.refused.Refused.{Refused}
+use Rattle.lethe_core.specs.Asked.{failure_of}
 use Rattle.lethe_core.specs.Keeps.{Keeps}
-use Rattle.lethe_core.specs.Merges.{IsShortToMerge}
+use Rattle.lethe_core.specs.Merges.{AreSomeOutcomes, IsShortToMerge, Outcome}
 use Rattle.lethe_core.specs.Reasons.{HasReason, IsUnreadable, told_since}
 use Rattle.lethe_core.specs.Running.{Holds}
-use Rattle.lethe_core.specs.Steps.{stepped_to}
+use Rattle.lethe_core.specs.Steps.{IsDoneInPart}
 use Rattle.lethe_core.specs.View.{view_of}
-use Rattle.lethe_core.proofs.Hindered.{keeps_itself, refused_before}
-use Rattle.lethe_core.proofs.Outcomes.{merged_may, no_more, none_merged, once_more, too_many}
-use Rattle.lethe_core.proofs.Behind.{either_since, keeps_since}
+use Rattle.lethe_core.proofs.Asked.{not_failed}
+use Rattle.lethe_core.proofs.Hindered.{keeps_itself}
+use Rattle.lethe_core.proofs.Outcomes.{merged_may, no_more, none_merged, once_more, some_merged, too_many}
+use Rattle.lethe_core.proofs.Behind.{either_since, keeps_since, since_failed}
+use Rattle.lethe_core.proofs.Likes.{before_holds, jobs_same}
 use Rattle.lethe_core.proofs.holding.Core.merge_all.Goals as goal
 
 pub returns-in_err-most_merges-clause-keeps : goal.returns-in_err-most_merges-clause-keeps
 returns-in_err-most_merges-clause-keeps g c =
     let why = c.in_err-most_merges.field-0.0 in
     let refusal : c.from_residual.result ≡ Err why = search rules in
-    keeps_itself g.D.Disk.tells (view_of c.args.self.now) c.requires.may.sound c.requires.may.runs c.from_residual.result
-    (λ h caller call. ap (stepped_to h caller call) refusal ∙ refused_before h caller call why (inr c.in_err-most_merges.ensures.refused))
+    let old = view_of c.args.self.now in
+    subst (λ (r : Result (Unit {0}) Refused). Keeps g.D.Disk.tells old old (result_err r)) (sym refusal)
+    (keeps_itself g.D.Disk.tells old c.requires.may.sound c.requires.may.runs (Some why) (not_failed why (inr c.in_err-most_merges.ensures.refused)))
+
+pub returns-in_err-most_merges-clause-partly : goal.returns-in_err-most_merges-clause-partly
+returns-in_err-most_merges-clause-partly g c =
+    let why = c.in_err-most_merges.field-0.0 in
+    let refusal : c.from_residual.result ≡ Err why = search rules in
+    let old = view_of c.args.self.now in
+    subst (λ (r : Result (Unit {0}) Refused). IfErr r (IsDoneInPart g.D.Disk.tells (λ s t. (outcomes : List Outcome) × AreSomeOutcomes s outcomes t) old old)) (sym refusal)
+    (λ none told s holds. (s, ([], refl), holds))
 
 pub loop-init : goal.loop-init
-loop-init g c = record { merged = none_merged g.D.Disk.tells (view_of c.args.self.now) c.args.before (g.D.Disk.fetches c.args.port.now) (g.D.Disk.port_faults c.args.port.now) c.requires.may; free = c.requires.free }
+loop-init g c = record { merged = none_merged g.D.Disk.tells (view_of c.args.self.now) c.args.before (g.D.Disk.fetches c.args.port.now) (g.D.Disk.port_faults c.args.port.now) c.requires.may; free = c.requires.free; begun = refl }
 
 pub loop-preserved : goal.loop-preserved
 loop-preserved g c =
@@ -29,9 +42,10 @@ loop-preserved g c =
       merged = once_more g.D.Disk.tells (view_of c.args.self.now) (view_of c.loop.self) c.args.before c.loop.counter (g.D.Disk.fetches c.args.port.now) (g.D.Disk.fetches c.loop.port)
           (g.D.Disk.port_faults c.args.port.now) (g.D.Disk.port_faults c.loop.port) c.loop.invariant.merged
           (view_of c.merge_next.new.self) (g.D.Disk.fetches c.merge_next.new.port) (g.D.Disk.port_faults c.merge_next.new.port)
-          (subst (Keeps {T = Bool} g.D.Disk.tells (view_of c.loop.self) (view_of c.merge_next.new.self)) ok c.merge_next.ensures.keeps) c.in-Ok-true.ensures.steady
+          (subst (λ (r : Result Bool Refused). Keeps g.D.Disk.tells (view_of c.loop.self) (view_of c.merge_next.new.self) (result_err r)) ok c.merge_next.ensures.keeps) c.in-Ok-true.ensures.steady
           (λ told t holds. c.merge_next.ensures.done told t holds ok) c.merge_next.ensures.port_faults;
       free = c.merge_next.ensures.free;
+      begun = c.merge_next.ensures.begun ∙ c.loop.invariant.begun;
     }
 
 pub merge_next-requires-clause-may : goal.merge_next-requires-clause-may
@@ -40,7 +54,7 @@ merge_next-requires-clause-may g c κs within = merged_may g.D.Disk.tells _ _ c.
 pub returns-in-Ok-false-clause-keeps : goal.returns-in-Ok-false-clause-keeps
 returns-in-Ok-false-clause-keeps g c =
     let same = (c.merge_next.ensures.ended (c.in-Ok-false.is ∙ ap Ok c.in-Ok-false.field-0-test)).0 in
-    subst (λ core. Keeps {T = Unit {0}} g.D.Disk.tells (view_of c.args.self.now) (view_of core) (Ok tt)) (sym same) c.loop.invariant.merged.keeps
+    subst (λ core. Keeps g.D.Disk.tells (view_of c.args.self.now) (view_of core) None) (sym same) c.loop.invariant.merged.keeps
 
 pub returns-in-Ok-false-clause-done : goal.returns-in-Ok-false-clause-done
 returns-in-Ok-false-clause-done g c = λ told s holds.
@@ -54,8 +68,21 @@ returns-in-Err-clause-keeps g c =
     let old = view_of c.args.self.now in
     let mid = view_of c.loop.self in
     let new = view_of c.merge_next.new.self in
-    subst (λ (why : Refused). Keeps {T = Unit {0}} g.D.Disk.tells old new (Err why)) (sym c.told_since.ensures)
-    (keeps_since g.D.Disk.tells old mid new c.loop.invariant.merged.keeps c.in-Err.why c.port_faults-earlier.result (subst (Keeps {T = Bool} g.D.Disk.tells mid new) c.in-Err.is c.merge_next.ensures.keeps))
+    subst (λ (why : Refused). Keeps g.D.Disk.tells old new (Some why)) (sym c.told_since.ensures)
+    (keeps_since g.D.Disk.tells old mid new c.loop.invariant.merged.keeps c.in-Err.why c.port_faults-earlier.result
+    (subst (λ (r : Result Bool Refused). Keeps g.D.Disk.tells mid new (result_err r)) c.in-Err.is c.merge_next.ensures.keeps))
+
+pub returns-in-Err-clause-partly : goal.returns-in-Err-clause-partly
+returns-in-Err-clause-partly g c = λ none told s holds.
+    let old = view_of c.args.self.now in
+    let mid = view_of c.loop.self in
+    let new = view_of c.merge_next.new.self in
+    let some = some_merged g.D.Disk.tells old mid c.args.before c.loop.counter (g.D.Disk.fetches c.args.port.now) (g.D.Disk.fetches c.loop.port)
+    (g.D.Disk.port_faults c.args.port.now) (g.D.Disk.port_faults c.loop.port) c.loop.invariant.merged told s holds in
+    let why = c.in-Err.why in
+    let earlier = c.port_faults-earlier.result in
+    let not : failure_of why ≡ None = since_failed earlier why (ap failure_of (sym c.told_since.ensures) ∙ none) in
+    (some.0, some.1, before_holds g.D.Disk.tells told mid new some.0 (jobs_same c.loop.self c.merge_next.new.self c.merge_next.ensures.begun (c.merge_next.ensures.free ∙ sym c.loop.invariant.free)) (c.in-Err.ensures.undone not) some.2)
 
 pub returns-in-Err-clause-why : goal.returns-in-Err-clause-why
 returns-in-Err-clause-why g c =

@@ -8,4 +8,5 @@ abbrev pub invariant-loop : goal.invariant-loop
 invariant-loop g l = record {
   merged : HasMerged g.D.Disk.tells (view_of l.fn.self) (view_of l.self) l.counter (g.D.Disk.fetches l.fn.port) (g.D.Disk.fetches l.port) (g.D.Disk.port_faults l.fn.port) (g.D.Disk.port_faults l.port);
   free : l.self.flight ≡ None;
+  begun : l.self.begun ≡ l.fn.self.begun;
 }

@@ -1,17 +1,19 @@
 use Rattle.std.proofs.Common.{rules, ◌≡◌, [], None, refl, ap, arith}
 use Rattle.std.specs.Prelude.{IsSome, IsTrue, List, ◌+◌, false, option_map}
+use Rattle.std.proofs.lemmas.Result.{IfErr-weaker}
 use Rattle.lethe_disk.proofs.Quieting.{on_ok}
 use Rattle.lethe_stored.specs.Stored.{Stored}
-use Rattle.lethe_core.specs.Merges.{AreOutcomes, IsCrowded, IsUncrowded, Outcome, pages_of}
+use Rattle.lethe_core.specs.Merges.{AreOutcomes, AreSomeOutcomes, IsCrowded, IsMergedInPart, IsUncrowded, Outcome, pages_of}
 use Rattle.lethe_core.specs.Running.{Holds}
+use Rattle.lethe_core.specs.Steps.{IsDoneInPart}
 use Rattle.lethe_core.specs.View.{flying_of, view_of}
 use Rattle.lethe_core.proofs.Hindered.{keeps_itself}
-use Rattle.lethe_core.proofs.Roomed.{clash, merged_uncrowded, some_mapped, still_uncrowded}
+use Rattle.lethe_core.proofs.Roomed.{clash, merged_in_part, merged_uncrowded, some_mapped, still_uncrowded}
 use Rattle.lethe_core.proofs.holding.Core.merge_due.Goals as goal
 use Rattle.lethe_core.proofs.holding.Core.merge_due.Goals.{then-is_some-via-then-is_some, then-is_some-via-else-is_some+then-not-is_crowded}
 
 pub returns-then-is_some-clause-keeps : goal.returns-then-is_some-clause-keeps
-returns-then-is_some-clause-keeps g c = keeps_itself g.D.Disk.tells (view_of c.args.self.now) c.requires.may.sound c.requires.may.runs _ (λ h caller call. refl)
+returns-then-is_some-clause-keeps g c = keeps_itself g.D.Disk.tells (view_of c.args.self.now) c.requires.may.sound c.requires.may.runs None tt
 
 pub returns-then-is_some-clause-done : goal.returns-then-is_some-clause-done
 returns-then-is_some-clause-done g c = λ told s holds.
@@ -21,6 +23,17 @@ returns-then-is_some-clause-done g c = λ told s holds.
       | then-is_some-via-else-is_some+then-not-is_crowded w ↦ λ none many. (let off : w.is_crowded.result ≡ false = search rules in clash w.is_crowded.result ((w.is_crowded.ensures told s holds).1 many) off)
     ] in
     (s, [], still_uncrowded view.flight s few, holds, omega arith)
+
+pub returns-clause-partly : goal.returns-clause-partly
+returns-clause-partly g c =
+    let view = view_of c.args.self.now in
+    let new = view_of c.merge_all.new.self in
+    let none : c.args.self.now.flight ≡ None = search rules in
+    let many : IsTrue c.is_crowded.result = search rules in
+    IfErr-weaker c.merge_all.result (IsDoneInPart g.D.Disk.tells (λ s t. (outcomes : List Outcome) × AreSomeOutcomes s outcomes t) view new) (IsDoneInPart g.D.Disk.tells (IsMergedInPart view.flight) view new)
+    (λ why done not told s holds.
+    let some = done not told s holds in
+    (some.0, merged_in_part view.flight s some.0 (ap (option_map flying_of) none) ((c.is_crowded.ensures told s holds).0 many) some.1, some.2)) c.merge_all.ensures.partly
 
 pub returns-clause-done : goal.returns-clause-done
 returns-clause-done g c = λ told s holds.

@@ -1,28 +1,38 @@
-use Rattle.std.proofs.Common.{rules, ◌≡◌, ◌⊎◌, inl, Some, Err, refl, sym, ap, ◌∙◌, subst, arith}
+use Rattle.std.proofs.Common.{rules, ◌≡◌, ◌⊎◌, inl, Some, None, Result, Err, refl, sym, ap, ◌∙◌, subst, arith}
 use Rattle.std.specs.Prelude.{Bool, IfErr, IfSome, option_map}
+use Rattle.std.specs.Result.{result_err}
 use Rattle.lethe_base.specs.declared.refused.Refused.{Refused}
+use Rattle.lethe_base.specs.declared.refused.Refused.TheVariants.{NoMemory}
 use Rattle.lethe_stored.specs.Stored.{Stored}
 use Rattle.lethe_job.specs.Tasks.{IsBegunIn, plain_task}
-use Rattle.lethe_core.specs.Changes.{refused_to}
+use Rattle.lethe_core.specs.Asked.{failure_of}
 use Rattle.lethe_core.specs.Keeps.{Keeps}
 use Rattle.lethe_core.specs.Merges.{IsShortToMerge}
 use Rattle.lethe_core.specs.Reasons.{HasReason, IsUnreadable}
 use Rattle.lethe_core.specs.Running.{Holds}
+use Rattle.lethe_core.specs.Steps.{IsUndone}
 use Rattle.lethe_core.specs.View.{flying_of, view_of}
-use Rattle.lethe_core.proofs.Hindered.{keeps_itself, keeps_refused, refused_before}
+use Rattle.lethe_core.proofs.Asked.{not_failed}
+use Rattle.lethe_core.proofs.Hindered.{as_itself, keeps_itself}
 use Rattle.lethe_core.proofs.Installing.{begun_counted, begun_sound, next_outcome}
-use Rattle.lethe_core.proofs.Unread.{short_reason, told_before, told_reason}
+use Rattle.lethe_core.proofs.Unread.{not_failed_read, short_reason, told_reason}
 use Rattle.lethe_core.proofs.holding.Core.merge_next.Goals as goal
 
 pub returns-in-Ok-None-clause-keeps : goal.returns-in-Ok-None-clause-keeps
-returns-in-Ok-None-clause-keeps g c = keeps_itself g.D.Disk.tells (view_of c.args.self.now) c.requires.may.sound c.requires.may.runs _ (λ h caller call. refl)
+returns-in-Ok-None-clause-keeps g c = keeps_itself g.D.Disk.tells (view_of c.args.self.now) c.requires.may.sound c.requires.may.runs None tt
 
 pub returns-in-Err-clause-keeps : goal.returns-in-Err-clause-keeps
-returns-in-Err-clause-keeps g c = keeps_itself g.D.Disk.tells (view_of c.args.self.now) c.requires.may.sound c.requires.may.runs _ (λ h caller call. refl)
+returns-in-Err-clause-keeps g c = keeps_itself g.D.Disk.tells (view_of c.args.self.now) c.requires.may.sound c.requires.may.runs (Some NoMemory) refl
+
+pub returns-in-Err-clause-undone : goal.returns-in-Err-clause-undone
+returns-in-Err-clause-undone g c = λ none. as_itself g.D.Disk.tells (view_of c.args.self.now)
 
 pub returns-in-Err-outcome-clause-keeps : goal.returns-in-Err-outcome-clause-keeps
 returns-in-Err-outcome-clause-keeps g c =
-    keeps_itself g.D.Disk.tells (view_of c.args.self.now) c.requires.may.sound c.requires.may.runs _ (λ h caller call. ap (refused_to h caller call) c.told_as.ensures ∙ told_before h caller call c.in-Err-outcome.why)
+    keeps_itself g.D.Disk.tells (view_of c.args.self.now) c.requires.may.sound c.requires.may.runs (Some c.told_as.result) (ap failure_of c.told_as.ensures ∙ not_failed_read c.in-Err-outcome.why)
+
+pub returns-in-Err-outcome-clause-undone : goal.returns-in-Err-outcome-clause-undone
+returns-in-Err-outcome-clause-undone g c = λ none. as_itself g.D.Disk.tells (view_of c.args.self.now)
 
 pub returns-in-Err-outcome-clause-why : goal.returns-in-Err-outcome-clause-why
 returns-in-Err-outcome-clause-why g c =
@@ -45,8 +55,15 @@ returns-in_err-headers-clause-keeps g c =
     let view = view_of c.args.self.now in
     let why = c.in_err-headers.field-0.0 in
     let refusal : c.from_residual.result ≡ Err why = search rules in
-    subst (Keeps {T = Bool} g.D.Disk.tells view view) (sym refusal)
-    (keeps_itself g.D.Disk.tells view c.requires.may.sound c.requires.may.runs (Err why) (λ h caller call. refused_before h caller call why c.in_err-headers.ensures.refused))
+    subst (λ (r : Result Bool Refused). Keeps g.D.Disk.tells view view (result_err r)) (sym refusal)
+    (keeps_itself g.D.Disk.tells view c.requires.may.sound c.requires.may.runs (Some why) (not_failed why c.in_err-headers.ensures.refused))
+
+pub returns-in_err-headers-clause-undone : goal.returns-in_err-headers-clause-undone
+returns-in_err-headers-clause-undone g c =
+    let view = view_of c.args.self.now in
+    let why = c.in_err-headers.field-0.0 in
+    let refusal : c.from_residual.result ≡ Err why = search rules in
+    subst (λ (r : Result Bool Refused). IfErr r (IsUndone g.D.Disk.tells view view)) (sym refusal) (λ none. as_itself g.D.Disk.tells view)
 
 pub returns-in_err-headers-clause-why : goal.returns-in_err-headers-clause-why
 returns-in_err-headers-clause-why g c =
@@ -81,7 +98,13 @@ returns-in_err-merge_now-clause-keeps g c =
     let new = view_of c.merge_now.new.self in
     let why = c.in_err-merge_now.field-0.0 in
     let refusal : c.from_residual-in_err-merge_now.result ≡ Err why = search rules in
-    subst (Keeps {T = Bool} g.D.Disk.tells old new) (sym refusal) (keeps_refused {A = Unit {0}} {B = Bool} g.D.Disk.tells old new why c.in_err-merge_now.ensures.keeps)
+    subst (λ (r : Result Bool Refused). Keeps g.D.Disk.tells old new (result_err r)) (sym refusal) c.in_err-merge_now.ensures.keeps
+
+pub returns-in_err-merge_now-clause-undone : goal.returns-in_err-merge_now-clause-undone
+returns-in_err-merge_now-clause-undone g c =
+    let why = c.in_err-merge_now.field-0.0 in
+    let refusal : c.from_residual-in_err-merge_now.result ≡ Err why = search rules in
+    subst (λ (r : Result Bool Refused). IfErr r (IsUndone g.D.Disk.tells (view_of c.args.self.now) (view_of c.merge_now.new.self))) (sym refusal) c.in_err-merge_now.ensures.undone
 
 pub returns-clause-done : goal.returns-clause-done
 returns-clause-done g c = λ told s holds is.

@@ -1,5 +1,7 @@
-use Rattle.std.proofs.Common.{rules, ◌≡◌, [], Ok, Err, sym, subst}
-use Rattle.std.specs.Prelude.{OnErr}
+use Rattle.std.proofs.Common.{rules, ◌≡◌, [], None, Result, Err, sym, subst}
+use Rattle.std.specs.Prelude.{IfErr, OnErr}
+use Rattle.std.specs.Result.{result_err}
+use Rattle.lethe_base.specs.declared.refused.Refused.{Refused}
 use Rattle.lethe_stored.specs.Stored.{Stored}
 use Rattle.lethe_state.specs.Room.{under}
 use Rattle.lethe_state.specs.declared.state.State.{State}
@@ -7,9 +9,10 @@ use Rattle.lethe_job.specs.Tasks.{PlainTask}
 use Rattle.lethe_core.specs.Keeps.{Keeps}
 use Rattle.lethe_core.specs.Merges.{MayMerge}
 use Rattle.lethe_core.specs.Running.{Holds}
+use Rattle.lethe_core.specs.Steps.{IsUndone}
 use Rattle.lethe_core.specs.View.{loose_in, view_of}
 use Rattle.lethe_core.proofs.Carried.{active_ends}
-use Rattle.lethe_core.proofs.Hindered.{hindered_keeps, hindered_next}
+use Rattle.lethe_core.proofs.Hindered.{hindered_keeps, hindered_next, hindered_undone}
 use Rattle.lethe_core.proofs.Merged.{merge_keeps, merge_moments, merged_holds, merged_view}
 use Rattle.lethe_core.proofs.holding.Core.merge_now.Goals as goal
 
@@ -20,9 +23,17 @@ returns-in_err-carry_out-clause-keeps g c =
     let laws = g.met.D.Disk g.world.𝓛 g.world.𝓜 g.world.𝓡 ((λ s x. x), (λ x. x), (λ x. x), λ x. x) in
     let why = c.in_err-carry_out.field-0.0 in
     let refusal : c.from_residual.result ≡ Err why = search rules in
-    subst (Keeps {T = Unit {0}} g.D.Disk.tells old new) (sym refusal) (hindered_keeps g.D.Disk.tells old new c.args.before c.requires.may why c.in_err-carry_out.ensures.refused
-    (merge_moments old new.disk new.faults new.levels c.args.headers.items c.args.step g.D.Disk.tells c.args.before c.requires.may c.requires.from c.requires.merges c.carry_out.ensures.moments)
+    subst (λ (r : Result (Unit {0}) Refused). Keeps g.D.Disk.tells old new (result_err r)) (sym refusal) (hindered_keeps g.D.Disk.tells old new c.args.before c.requires.may why c.in_err-carry_out.ensures.refused
+    (merge_moments old new.disk new.faults new.levels new.begun c.args.headers.items c.args.step g.D.Disk.tells c.args.before c.requires.may c.requires.from c.requires.merges c.carry_out.ensures.moments)
     (λ told. laws.itself told c.carry_out.new.self.disk) c.carry_out.ensures.later c.carry_out.ensures.faults)
+
+pub returns-in_err-carry_out-clause-undone : goal.returns-in_err-carry_out-clause-undone
+returns-in_err-carry_out-clause-undone g c =
+    let old = view_of c.args.self.now in
+    let new = view_of c.carry_out.new.self in
+    let why = c.in_err-carry_out.field-0.0 in
+    let refusal : c.from_residual.result ≡ Err why = search rules in
+    subst (λ (r : Result (Unit {0}) Refused). IfErr r (IsUndone g.D.Disk.tells old new)) (sym refusal) (hindered_undone g.D.Disk.tells old new c.args.before why c.in_err-carry_out.ensures.refused)
 
 pub returns-in_err-carry_out-clause-drawn : goal.returns-in_err-carry_out-clause-drawn
 returns-in_err-carry_out-clause-drawn g c =
@@ -46,8 +57,8 @@ returns-clause-done g c = λ told s task t holds may.
     let kept = c.in_ok-carry_out.ensures.kept told s t [] running is in
     let files = c.in_ok-carry_out.ensures.files told s t [] running is holds.remembers.files in
     let ends = active_ends s t loose [] headers step is holds.remembers.coherent old.disk mid.disk done.0 kept old.state.end may.installed.merged_is.active (laws.itself told c.args.self.now.disk) running.ends in
-    subst (λ (state : State). Holds (record (merged_view old mid.disk mid.faults mid.levels step) { state = under step.manifest state }) t) (sym c.in_ok-carry_out.ensures.state)
-    (merged_holds old mid.disk mid.faults mid.levels headers step s t task holds may files done.0 done.1 ends)
+    subst (λ (state : State). Holds (record (merged_view old mid.disk mid.faults mid.levels mid.begun step) { state = under step.manifest state }) t) (sym c.in_ok-carry_out.ensures.state)
+    (merged_holds old mid.disk mid.faults mid.levels mid.begun headers step s t task holds may files done.0 done.1 ends)
 
 pub returns-clause-keeps : goal.returns-clause-keeps
 returns-clause-keeps g c =
@@ -55,9 +66,9 @@ returns-clause-keeps g c =
     let mid = view_of c.carry_out.new.self in
     let step = c.args.step in
     let headers = c.args.headers.items in
-    let moments = merge_moments old mid.disk mid.faults mid.levels headers step g.D.Disk.tells c.args.before c.requires.may c.requires.from c.requires.merges c.carry_out.ensures.moments in
-    let P : State → Type 0 = λ state. (g.D.Disk.tells → (s : Stored) (task : PlainTask) (t : Stored) → Holds old s → MayMerge old s task t headers step → Holds (record (merged_view old mid.disk mid.faults mid.levels step) { state = under step.manifest state }) t)
-    → Keeps {T = Unit {0}} g.D.Disk.tells old (record (merged_view old mid.disk mid.faults mid.levels step) { state = under step.manifest state }) (Ok tt) in
+    let moments = merge_moments old mid.disk mid.faults mid.levels mid.begun headers step g.D.Disk.tells c.args.before c.requires.may c.requires.from c.requires.merges c.carry_out.ensures.moments in
+    let P : State → Type 0 = λ state. (g.D.Disk.tells → (s : Stored) (task : PlainTask) (t : Stored) → Holds old s → MayMerge old s task t headers step → Holds (record (merged_view old mid.disk mid.faults mid.levels mid.begun step) { state = under step.manifest state }) t)
+    → Keeps g.D.Disk.tells old (record (merged_view old mid.disk mid.faults mid.levels mid.begun step) { state = under step.manifest state }) None in
     subst P (sym c.in_ok-carry_out.ensures.state)
-    (λ behind. merge_keeps old mid.disk mid.faults mid.levels headers step g.D.Disk.tells c.args.before c.requires.may c.requires.from c.requires.merges behind c.carry_out.ensures.levels moments c.in_ok-carry_out.ensures.calls c.carry_out.ensures.faults)
+    (λ behind. merge_keeps old mid.disk mid.faults mid.levels mid.begun headers step g.D.Disk.tells c.args.before c.requires.may c.requires.from c.requires.merges behind c.carry_out.ensures.levels moments c.in_ok-carry_out.ensures.calls c.carry_out.ensures.faults)
     (returns-clause-done g c)

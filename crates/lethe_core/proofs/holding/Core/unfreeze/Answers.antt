@@ -10,7 +10,7 @@ use Rattle.lethe_core.proofs.Stepped.{frozen_there, not_frozen}
 use Rattle.lethe_core.proofs.holding.Core.unfreeze.Goals as goal
 
 pub returns-then-is_none-clause-keeps : goal.returns-then-is_none-clause-keeps
-returns-then-is_none-clause-keeps g c = keeps_itself g.D.Disk.tells (view_of c.args.self.now) c.requires.sound c.requires.runs _ (λ h caller call. refl)
+returns-then-is_none-clause-keeps g c = keeps_itself g.D.Disk.tells (view_of c.args.self.now) c.requires.sound c.requires.runs None tt
 
 pub returns-then-is_none-clause-done : goal.returns-then-is_none-clause-done
 returns-then-is_none-clause-done g c = λ told s holds.

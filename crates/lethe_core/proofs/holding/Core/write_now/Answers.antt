@@ -1,4 +1,4 @@
-use Rattle.std.proofs.Common.{◌≡◌, ◌≤◌, ◌+◌, Err, refl, ap, ◌∙◌, arith}
+use Rattle.std.proofs.Common.{◌≡◌, ◌≤◌, ◌+◌, Some, Err, refl, ap, ◌∙◌, arith}
 use Rattle.lethe_base.specs.Counts.{Rose}
 use Rattle.lethe_base.specs.Limits.{max_place}
 use Rattle.lethe_base.specs.declared.refused.Refused.TheVariants as refused
@@ -6,12 +6,15 @@ use Rattle.lethe_disk.specs.declared.disk.DiskRefused.TheVariants.{Failed, NoMem
 use Rattle.lethe_commit.proofs.Placing.{refused_at_once}
 use Rattle.lethe_state.specs.declared.state.State.{State}
 use Rattle.lethe_core.specs.View.{flying_of, view_of}
-use Rattle.lethe_core.proofs.Hindered.{keeps_itself}
+use Rattle.lethe_core.proofs.Hindered.{as_itself, keeps_itself, like_of}
 use Rattle.lethe_core.proofs.Pages.{as_written, flying_is, may_write, on_err, refused_keeps, written_holds, written_keeps}
 use Rattle.lethe_core.proofs.holding.Core.write_now.Goals as goal
 
 pub returns-then-number-ge-MAX_PLACE-clause-keeps : goal.returns-then-number-ge-MAX_PLACE-clause-keeps
-returns-then-number-ge-MAX_PLACE-clause-keeps g c = keeps_itself {T = Unit {0}} g.D.Disk.tells (view_of c.args.self.now) c.requires.may.sound c.requires.may.runs (Err (refused.Exhausted max_place)) (λ h caller call. refl)
+returns-then-number-ge-MAX_PLACE-clause-keeps g c = keeps_itself g.D.Disk.tells (view_of c.args.self.now) c.requires.may.sound c.requires.may.runs (Some (refused.Exhausted max_place)) refl
+
+pub returns-then-number-ge-MAX_PLACE-clause-undone : goal.returns-then-number-ge-MAX_PLACE-clause-undone
+returns-then-number-ge-MAX_PLACE-clause-undone g c = λ none. as_itself g.D.Disk.tells (view_of c.args.self.now)
 
 pub returns-in-Ok-clause-keeps : goal.returns-in-Ok-clause-keeps
 returns-in-Ok-clause-keeps g c =
@@ -53,7 +56,7 @@ returns-in-Err-Failed-clause-keeps g c =
     refused_keeps g.D.Disk.tells (view_of self) may.sound _ c.args.before may
     (λ told s holds. c.write_page-placed.ensures.any_moment told s (may_write g.D.Disk.tells (view_of self) flying is may.sound s holds))
     (λ told. laws.itself told c.write_page-placed.new.disk) c.write_page-placed.ensures.cause.later (refused.Fault c.stop-place.result c.args.before c.faults.result)
-    (c.stop-place.ensures.place, refl, c.faults.ensures, told, c.stop-place.ensures.is, record { levels = refl; flight = as_written g.D.Disk.tells (view_of self) flying is may.sound written kept })
+    (c.stop-place.ensures.place, refl, c.faults.ensures, told, c.stop-place.ensures.is, record { levels = refl; flight = as_written g.D.Disk.tells (view_of self) flying is may.sound written kept; begun = refl })
 
 pub returns-in-Err-Failed-clause-drawn : goal.returns-in-Err-Failed-clause-drawn
 returns-in-Err-Failed-clause-drawn g c = ap (λ (state : State). state.next) c.stop-place.ensures.is
@@ -73,6 +76,17 @@ returns-in-Err-NoMemory-clause-keeps g c =
     (λ told s holds. c.write_page-placed.ensures.any_moment told s (may_write g.D.Disk.tells (view_of self) flying is may.sound s holds))
     (λ told. laws.itself told c.write_page-placed.new.disk) c.write_page-placed.ensures.cause.later refused.NoMemory (
       refl,
-      record { levels = refl; flight = as_written g.D.Disk.tells (view_of self) flying is may.sound written kept },
+      record { levels = refl; flight = as_written g.D.Disk.tells (view_of self) flying is may.sound written kept; begun = refl },
       λ told. refused_at_once (g.D.Disk.seen self.disk) (g.D.Disk.seen c.write_page-placed.new.disk) (c.write_page-placed.ensures.no_memory told failed),
     )
+
+pub returns-in-Err-NoMemory-clause-undone : goal.returns-in-Err-NoMemory-clause-undone
+returns-in-Err-NoMemory-clause-undone g c = λ none.
+    let self = c.args.self.now in
+    let why : c.in-Err-NoMemory.field-0 ≡ NoMemory = rw c.in-Err-NoMemory.is at c.in-Err-NoMemory.field-0-is in
+    let failed : c.write_page-placed.result ≡ Err NoMemory = c.in-Err-NoMemory.is ∙ ap (λ e. Err e) why in
+    record {
+      state = like_of self.state self.state refl;
+      levels = refl;
+      disk = λ told. refused_at_once (g.D.Disk.seen self.disk) (g.D.Disk.seen c.write_page-placed.new.disk) (c.write_page-placed.ensures.no_memory told failed);
+    }

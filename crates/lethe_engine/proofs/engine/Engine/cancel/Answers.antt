@@ -1,19 +1,43 @@
-use Rattle.lethe_core.specs.View.{view_of}
-use Rattle.lethe_core.proofs.Standing.{stands_moments}
-use Rattle.lethe_engine.proofs.AtWork.{forgets_for}
-use Rattle.lethe_engine.proofs.Steps.{step_for}
+use Rattle.std.proofs.Common.{◌≡◌, ◌≤◌, ◌<◌, Some, None, Result, refl, ap, sym, ◌∙◌, subst, arith}
+use Rattle.std.specs.Prelude.{option_map}
+use Rattle.std.specs.Result.{result_err}
+use Rattle.lethe_base.specs.Limits.{max_place}
+use Rattle.lethe_base.specs.declared.call.Call.TheVariants.{Work}
+use Rattle.lethe_base.specs.declared.refused.Refused.{Refused}
+use Rattle.lethe_base.specs.declared.refused.Refused.TheVariants.{Stopped}
+use Rattle.lethe_core.specs.Asked.{Serves}
+use Rattle.lethe_core.specs.Reasons.{HasReason}
+use Rattle.lethe_core.specs.Steps.{IsUndone}
+use Rattle.lethe_core.specs.View.{face_of, flying_of, view_of}
+use Rattle.lethe_engine.specs.Answers.{Answers}
+use Rattle.lethe_engine.proofs.AtWork.{forgets_now, forgets_sound}
+use Rattle.lethe_engine.proofs.Calls.{idle_answers, if_refused, itself_answers, idle_itself, refused_is_none, served_is_none, step_answers}
+use Rattle.lethe_engine.proofs.Faces.{given_up_never, given_up_now, given_up_stopped}
 use Rattle.lethe_engine.proofs.engine.Engine.cancel.Goals as goal
 
-pub returns-in-Some-clause-stands : goal.returns-in-Some-clause-stands
-returns-in-Some-clause-stands g c = λ told config opened h stands caller. forgets_for config (view_of c.args.self.now.core) c.in-Some.at c.in-Some.is opened h stands
+pub returns-in-Some-clause-answers : goal.returns-in-Some-clause-answers
+returns-in-Some-clause-answers g c =
+    let old = view_of c.args.self.now.core in
+    let new = record old { flight = None } in
+    let at = c.in-Some.at in
+    subst (λ face. Answers g.D.Disk.tells (Serves Work) (Some (Stopped at)) face old new) (sym (given_up_stopped (face_of old) old.state at c.in-Some.is))
+    (idle_answers g.D.Disk.tells (Some (Stopped at)) old new (forgets_sound old at c.in-Some.is g.D.Disk.tells c.requires.sound) refl refl refl (λ told. idle_itself old)
+    (λ told config h stands. forgets_now old at c.in-Some.is config h stands) (refused_is_none (Serves Work) (Stopped at) refl))
 
-pub returns-then-self-ge-MAX_PLACE-clause-any_moment : goal.returns-then-self-ge-MAX_PLACE-clause-any_moment
-returns-then-self-ge-MAX_PLACE-clause-any_moment g c = λ told config h stands runs. stands_moments config h (view_of c.args.self.now.core) stands runs c.requires.sound.writable
+pub returns-then-self-ge-MAX_PLACE-clause-answers : goal.returns-then-self-ge-MAX_PLACE-clause-answers
+returns-then-self-ge-MAX_PLACE-clause-answers g c =
+    let old = view_of c.args.self.now.core in
+    let full = c.if-self-ge-MAX_PLACE.true in
+    subst (λ face. Answers g.D.Disk.tells (Serves Work) None face old old) (sym (given_up_never (face_of old) old.state c.in_default.is (omega (arith, full))))
+    (itself_answers g.D.Disk.tells (Serves Work) None old c.requires.sound (served_is_none Work))
 
-pub returns-clause-any_moment : goal.returns-clause-any_moment
-returns-clause-any_moment g c = λ told config h stands runs. c.cancel_now.ensures.keeps.any_moment told config h stands
-
-pub returns-clause-stands : goal.returns-clause-stands
-returns-clause-stands g c = λ told config opened h stands caller.
-    step_for g.D.Disk.tells ⊥ config opened h (view_of c.args.self.now.core) (view_of c.cancel_now.new.self) c.faults-before.result c.faults-before.ensures stands c.in_default.is c.cancel_now.result told
-    c.cancel_now.ensures.keeps c.cancel_now.ensures.why caller
+pub returns-clause-answers : goal.returns-clause-answers
+returns-clause-answers g c =
+    let old = view_of c.args.self.now.core in
+    let new = view_of c.cancel_now.new.self in
+    let result = c.cancel_now.result in
+    let left = c.if-self-ge-MAX_PLACE.false in
+    let now : face_of new ≡ record (face_of old) { flight = None } = λ i. record { begun = (c.cancel_now.ensures.begun i).count; flight = option_map flying_of (c.cancel_now.ensures.free i) } in
+    subst (λ face. Answers g.D.Disk.tells (Serves Work) (result_err result) face old new) (now ∙ sym (given_up_now (face_of old) old.state c.in_default.is (omega (arith, left))))
+    (step_answers g.D.Disk.tells ⊥ (result_err result) old new c.faults-before.result c.in_default.is c.faults-before.ensures c.cancel_now.ensures.keeps
+    (if_refused result (HasReason ⊥ old.state c.faults-before.result new.faults) c.cancel_now.ensures.why) (if_refused result (IsUndone g.D.Disk.tells old new) c.cancel_now.ensures.undone))

@@ -1,36 +1,44 @@
-use Rattle.std.proofs.Common.{rules, ◌≡◌, Ok, Err}
+use Rattle.std.proofs.Common.{rules, ◌≡◌, Some, None, Result, Err, refl, sym, subst}
+use Rattle.std.specs.Prelude.{Bool}
+use Rattle.std.specs.Result.{result_err}
+use Rattle.lethe_base.specs.declared.call.Call.TheVariants.{Work}
+use Rattle.lethe_base.specs.declared.refused.Refused.{Refused}
+use Rattle.lethe_base.specs.declared.refused.Refused.TheVariants.{Stopped}
 use Rattle.lethe_state.specs.Room.{IsShortToFreeze}
-use Rattle.lethe_core.specs.View.{view_of}
-use Rattle.lethe_core.proofs.Standing.{stands_moments}
-use Rattle.lethe_engine.proofs.Steps.{step_for, unbegun_work}
+use Rattle.lethe_core.specs.Asked.{Serves}
+use Rattle.lethe_core.specs.View.{face_of, view_of}
+use Rattle.lethe_core.proofs.Likes.{jobs_same}
+use Rattle.lethe_engine.specs.Answers.{Answers}
+use Rattle.lethe_engine.proofs.Calls.{itself_answers, refused_is_none, served_is_none, step_answers}
+use Rattle.lethe_engine.proofs.Reasons.{not_begun}
 use Rattle.lethe_engine.proofs.engine.Engine.freeze.Goals as goal
 
-pub returns-then-is_some-clause-any_moment : goal.returns-then-is_some-clause-any_moment
-returns-then-is_some-clause-any_moment g c = λ told config h stands runs. stands_moments config h (view_of c.args.self.now.core) stands runs c.requires.writable
+pub returns-in-Some-clause-answers : goal.returns-in-Some-clause-answers
+returns-in-Some-clause-answers g c = itself_answers g.D.Disk.tells (Serves Work) (Some (Stopped c.in-Some.at)) (view_of c.args.self.now.core) c.requires (refused_is_none (Serves Work) (Stopped c.in-Some.at) refl)
 
-pub returns-in_err-may_change-clause-any_moment : goal.returns-in_err-may_change-clause-any_moment
-returns-in_err-may_change-clause-any_moment g c = λ told config h stands runs. stands_moments config h (view_of c.args.self.now.core) stands runs c.requires.writable
+pub returns-then-is_some-clause-answers : goal.returns-then-is_some-clause-answers
+returns-then-is_some-clause-answers g c = itself_answers g.D.Disk.tells (Serves Work) None (view_of c.args.self.now.core) c.requires (served_is_none Work)
 
-pub returns-in_err-may_change-clause-stands : goal.returns-in_err-may_change-clause-stands
-returns-in_err-may_change-clause-stands g c = λ told config opened h stands caller.
+pub returns-in_err-may_change-clause-answers : goal.returns-in_err-may_change-clause-answers
+returns-in_err-may_change-clause-answers g c =
+    let old = view_of c.args.self.now.core in
     let why = c.in_err-may_change.field-0.0 in
     let refusal : c.from_residual.result ≡ Err why = search rules in
-    unbegun_work config opened h (view_of c.args.self.now.core) c.from_residual.result why refusal c.in_err-may_change.ensures.refused stands caller
+    subst (λ (r : Result Bool Refused). Answers g.D.Disk.tells (Serves Work) (result_err r) (face_of old) old old) (sym refusal)
+    (itself_answers g.D.Disk.tells (Serves Work) (Some why) old c.requires (refused_is_none (Serves Work) why (not_begun old.state why c.in_err-may_change.ensures.refused)))
 
-pub returns-in-Ok-clause-any_moment : goal.returns-in-Ok-clause-any_moment
-returns-in-Ok-clause-any_moment g c = λ told config h stands runs. c.freeze_now.ensures.keeps.any_moment told config h stands
+pub returns-in-Ok-clause-answers : goal.returns-in-Ok-clause-answers
+returns-in-Ok-clause-answers g c =
+    let core = c.args.self.now.core in
+    let old = view_of core in
+    let new = view_of c.freeze_now.new.self in
+    subst (λ face. Answers g.D.Disk.tells (Serves Work) None face old new) (jobs_same core c.freeze_now.new.self c.freeze_now.ensures.begun c.freeze_now.ensures.flight)
+    (step_answers g.D.Disk.tells (IsShortToFreeze old.state) None old new c.faults-before.result c.in_ok-may_change.ensures.fits.0 c.faults-before.ensures c.in-Ok.ensures.keeps tt tt)
 
-pub returns-in-Err-clause-any_moment : goal.returns-in-Err-clause-any_moment
-returns-in-Err-clause-any_moment g c = λ told config h stands runs. c.freeze_now.ensures.keeps.any_moment told config h stands
-
-pub returns-in-Ok-clause-stands : goal.returns-in-Ok-clause-stands
-returns-in-Ok-clause-stands g c = λ told config opened h stands caller.
-    let old = c.args.self.now.core in
-    step_for g.D.Disk.tells (IsShortToFreeze old.state) config opened h (view_of old) (view_of c.freeze_now.new.self) c.faults-before.result c.faults-before.ensures stands c.in_ok-may_change.ensures.fits.0
-    (Ok c.in-Ok.field-0) told c.in-Ok.ensures.keeps tt caller
-
-pub returns-in-Err-clause-stands : goal.returns-in-Err-clause-stands
-returns-in-Err-clause-stands g c = λ told config opened h stands caller.
-    let old = c.args.self.now.core in
-    step_for g.D.Disk.tells (IsShortToFreeze old.state) config opened h (view_of old) (view_of c.freeze_now.new.self) c.faults-before.result c.faults-before.ensures stands c.in_ok-may_change.ensures.fits.0
-    (Err c.in-Err.why) told c.in-Err.ensures.keeps c.in-Err.ensures.why caller
+pub returns-in-Err-clause-answers : goal.returns-in-Err-clause-answers
+returns-in-Err-clause-answers g c =
+    let core = c.args.self.now.core in
+    let old = view_of core in
+    let new = view_of c.freeze_now.new.self in
+    subst (λ face. Answers g.D.Disk.tells (Serves Work) (Some c.in-Err.why) face old new) (jobs_same core c.freeze_now.new.self c.freeze_now.ensures.begun c.freeze_now.ensures.flight)
+    (step_answers g.D.Disk.tells (IsShortToFreeze old.state) (Some c.in-Err.why) old new c.faults-before.result c.in_ok-may_change.ensures.fits.0 c.faults-before.ensures c.in-Err.ensures.keeps c.in-Err.ensures.why c.in-Err.ensures.undone)

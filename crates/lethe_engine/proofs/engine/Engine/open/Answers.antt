@@ -1,4 +1,4 @@
-use Rattle.std.proofs.Common.{◌≡◌, ◌+◌, ap, Err, refl, sym, ◌∙◌, arith}
+use Rattle.std.proofs.Common.{◌≡◌, ◌+◌, None, ap, Err, refl, sym, ◌∙◌, arith}
 use Rattle.std.proofs.lemmas.List.{length-map}
 use Rattle.lethe_manifest.specs.declared.manifest.Manifest.{Manifest}
 use Rattle.lethe_version.specs.Versions.{levels_of}
@@ -20,11 +20,14 @@ returns-in-Ok-opened-clause-sound g c =
       held = λ tells.
           let is = c.in-Ok.ensures.opened tells in
           let remembers = c.in-Ok-opened.ensures.remembers is.s (parts_by_level version) is.settled.coherent is.told.files (sym is.told.manifest) is.told.frozen is.told.active is.told.erases in
-          (is.s, remembers.0, λ runs. opened_running (g.D.Disk.seen disk) (g.D.Disk.faults disk) is.s c.in-Ok-opened.state (parts_by_level version) is.settled is.only is.rising is.told.active is.ends c.in-Ok-opened.ensures.end remembers.1);
+          (is.s, remembers.0, λ runs. opened_running (g.D.Disk.seen disk) (g.D.Disk.faults disk) c.none.result.count is.s c.in-Ok-opened.state (parts_by_level version) is.settled is.only is.rising is.told.active is.ends c.in-Ok-opened.ensures.end remembers.1);
     }
 
 pub returns-in-Ok-opened-clause-runs : goal.returns-in-Ok-opened-clause-runs
-returns-in-Ok-opened-clause-runs g c = (c.in-Ok-opened.ensures.fresh.stopped, refl)
+returns-in-Ok-opened-clause-runs g c = c.in-Ok-opened.ensures.fresh.stopped
+
+pub returns-in-Ok-opened-clause-face : goal.returns-in-Ok-opened-clause-face
+returns-in-Ok-opened-clause-face g c = λ i. record { begun = c.none.ensures i; flight = None }
 
 pub returns-in-Ok-opened-clause-numbers : goal.returns-in-Ok-opened-clause-numbers
 returns-in-Ok-opened-clause-numbers g c = λ told next is.
@@ -39,7 +42,7 @@ returns-in-Ok-opened-clause-resumed g c = λ tells kept h change left.
     let again = c.in-Ok.ensures.resumed tells kept h change left in
     let is = again.is in
     let remembers = c.in-Ok-opened.ensures.remembers is.s levels is.settled.coherent is.told.files (sym is.told.manifest) is.told.frozen is.told.active is.told.erases in
-    resumed c.args.config.now h again.history change (g.D.Disk.seen c.args.disk) seen (g.D.Disk.faults c.open.new.disk) is.s state levels again.either again.was c.in-Ok-opened.ensures.writable (opened_running seen (g.D.Disk.faults c.open.new.disk) is.s state levels is.settled is.only is.rising is.told.active is.ends c.in-Ok-opened.ensures.end remembers.1) remembers.0 is.config_is again.stands
+    resumed c.args.config.now h again.history change (g.D.Disk.seen c.args.disk) seen (g.D.Disk.faults c.open.new.disk) c.none.result.count is.s state levels again.either again.was c.in-Ok-opened.ensures.writable (opened_running seen (g.D.Disk.faults c.open.new.disk) c.none.result.count is.s state levels is.settled is.only is.rising is.told.active is.ends c.in-Ok-opened.ensures.end remembers.1) remembers.0 is.config_is again.stands
     (λ next from. returns-in-Ok-opened-clause-numbers g c tells next from)
 
 pub returns-in-Err-clause-untouched : goal.returns-in-Err-clause-untouched

@@ -1,61 +1,72 @@
-use Rattle.std.proofs.Common.{rules, ◌<◌, ◌+◌, refl, sym, ap, ◌∙◌, subst}
-use Rattle.std.specs.Prelude.{IfErr}
+use Rattle.std.proofs.Common.{rules, ◌≡◌, ◌<◌, ◌+◌, ℕ, Some, Result, Err, refl, sym, ap, ◌∙◌, subst}
+use Rattle.std.specs.Prelude.{IfErr, false, true}
+use Rattle.std.specs.Result.{result_err}
 use Rattle.lethe_base.specs.Limits.{max_place}
 use Rattle.lethe_base.specs.declared.call.Call.TheVariants as call
+use Rattle.lethe_base.specs.declared.refused.Refused.{Refused}
 use Rattle.lethe_disk.proofs.Quieting.{on_ok, on_ok_both}
 use Rattle.lethe_stored.specs.Stored.{appended}
+use Rattle.lethe_core.specs.Asked.{Makes}
 use Rattle.lethe_core.specs.Changes.{with_record}
 use Rattle.lethe_core.specs.Reasons.{HasReason}
 use Rattle.lethe_core.specs.Running.{Holds}
-use Rattle.lethe_core.specs.View.{View, view_of}
+use Rattle.lethe_core.specs.Steps.{IsUndone}
+use Rattle.lethe_core.specs.View.{View, face_of, view_of}
+use Rattle.lethe_core.proofs.Likes.{jobs_same}
 use Rattle.lethe_core.proofs.Roomed.{sees_room}
-use Rattle.lethe_engine.proofs.Answered.{changed_for, changed_moments, unbegun_for, unbegun_moments, unroomed_for, unroomed_moments}
+use Rattle.lethe_engine.specs.Answers.{Answers}
+use Rattle.lethe_engine.specs.Refusals.{HasReasonOfChange}
+use Rattle.lethe_engine.proofs.Calls.{if_refused, itself_answers, recorded_answers, refused_is_none, unroomed_answers}
 use Rattle.lethe_engine.proofs.Onward.{put_works}
 use Rattle.lethe_engine.proofs.Overs.{put_for, put_same}
+use Rattle.lethe_engine.proofs.Reasons.{not_begun}
 use Rattle.lethe_engine.proofs.engine.Engine.put.Goals as goal
 
-pub returns-in_err-may_change-clause-stands : goal.returns-in_err-may_change-clause-stands
-returns-in_err-may_change-clause-stands g c = λ told config opened h stands caller.
-    unbegun_for config opened h caller (call.Put c.args.key c.args.dkey c.args.value) (view_of c.args.self.now.core) c.from_residual.result c.in_err-may_change.field-0.0 (search rules) c.in_err-may_change.ensures.refused stands
+pub returns-in_err-may_change-clause-answers : goal.returns-in_err-may_change-clause-answers
+returns-in_err-may_change-clause-answers g c =
+    let old = view_of c.args.self.now.core in
+    let why = c.in_err-may_change.field-0.0 in
+    let refusal : c.from_residual.result ≡ Err why = search rules in
+    let Asks = Makes (call.Put c.args.key c.args.dkey c.args.value) in
+    subst (λ (r : Result ℕ Refused). Answers g.D.Disk.tells Asks (result_err r) (face_of old) old old) (sym refusal)
+    (itself_answers g.D.Disk.tells Asks (Some why) old c.requires (refused_is_none Asks why (not_begun old.state why c.in_err-may_change.ensures.refused)))
 
-pub returns-in_err-may_change-clause-any_moment : goal.returns-in_err-may_change-clause-any_moment
-returns-in_err-may_change-clause-any_moment g c = λ told config h stands runs caller.
-    unbegun_moments g.D.Disk.tells told config h caller (call.Put c.args.key c.args.dkey c.args.value) (view_of c.args.self.now.core) runs c.from_residual.result stands c.requires.writable
+pub returns-in_err-make_room-clause-answers : goal.returns-in_err-make_room-clause-answers
+returns-in_err-make_room-clause-answers g c =
+    let core = c.args.self.now.core in
+    let old = view_of core in
+    let new : View = view_of c.make_room.new.self in
+    let why = c.in_err-make_room.field-0.0 in
+    let refusal : c.from_residual-in_err-make_room.result ≡ Err why = search rules in
+    let Asks = call.Put c.args.key c.args.dkey c.args.value in
+    let first = g.D.Disk.port_faults c.args.port.now in
+    let last = g.D.Disk.port_faults c.make_room.new.port in
+    let reason : HasReasonOfChange g.D.Disk.tells g.D.Disk.ports_fail old new first last why = search rules in
+    subst (λ (r : Result ℕ Refused). Answers g.D.Disk.tells (Makes Asks) (result_err r) (face_of old) old new) (sym refusal)
+    (subst (λ face. Answers g.D.Disk.tells (Makes Asks) (Some why) face old new) (jobs_same core c.make_room.new.self c.make_room.ensures.begun c.make_room.ensures.flight)
+    (unroomed_answers g.D.Disk.tells Asks (put_works c.args.key c.args.dkey c.args.value) old c.in_ok-may_change.ensures.fits.0 g.D.Disk.ports_fail first last new why c.in_err-make_room.ensures.keeps reason
+    (λ room. absurd (let ok : false ≡ true = (c.in_err-make_room.ensures.room room).0 in cc)) c.in_err-make_room.ensures.partly))
 
-pub returns-in_err-make_room-clause-stands : goal.returns-in_err-make_room-clause-stands
-returns-in_err-make_room-clause-stands g c = λ told config opened h stands caller.
-    unroomed_for g.D.Disk.tells told config h caller (call.Put c.args.key c.args.dkey c.args.value) (view_of c.args.self.now.core) c.in_ok-may_change.ensures.fits.0 opened stands
-    (put_works c.args.key c.args.dkey c.args.value) g.D.Disk.ports_fail (g.D.Disk.port_faults c.args.port.now) (g.D.Disk.port_faults c.make_room.new.port) (view_of c.make_room.new.self)
-    c.from_residual-in_err-make_room.result c.in_err-make_room.field-0.0 (search rules) c.in_err-make_room.ensures.keeps (search rules)
-
-pub returns-in_err-make_room-clause-any_moment : goal.returns-in_err-make_room-clause-any_moment
-returns-in_err-make_room-clause-any_moment g c = λ told config h stands runs caller.
-    unroomed_moments g.D.Disk.tells told config h caller (call.Put c.args.key c.args.dkey c.args.value) (view_of c.args.self.now.core) runs (view_of c.make_room.new.self) c.make_room.result
-    c.from_residual-in_err-make_room.result c.make_room.ensures.keeps stands
-
-pub returns-clause-any_moment : goal.returns-clause-any_moment
-returns-clause-any_moment g c = λ told config h stands runs caller.
-    let Put = call.Put c.args.key c.args.dkey c.args.value in
-    let mid : View = view_of c.make_room.new.self in
-    let ready = c.in_ok-make_room.ensures.ready in
-    let fits = c.in_ok-may_change.ensures.fits in
-    let still = c.in_ok-make_room.ensures.keeps.stands told config h stands caller Put in
-    changed_moments g.D.Disk.tells told config h caller Put (view_of c.args.self.now.core) runs mid (view_of c.record.new.self) c.make_room.result c.record.result c.make_room.ensures.keeps stands
-    (c.record.ensures.any_moment told config h caller Put still
-    (put_for config h mid still (ready.stopped ∙ fits.0) (subst (λ n. n < max_place) (sym ready.count) fits.1) caller c.args.key (search rules) c.args.dkey c.args.value c.ranges.dkey.fits (search rules) c.put_record-next.result c.put_record-next.ensures.is))
-
-pub returns-clause-stands : goal.returns-clause-stands
-returns-clause-stands g c = λ told config opened h stands caller.
-    let Put = call.Put c.args.key c.args.dkey c.args.value in
+pub returns-clause-answers : goal.returns-clause-answers
+returns-clause-answers g c =
+    let Asks = call.Put c.args.key c.args.dkey c.args.value in
+    let core = c.args.self.now.core in
+    let old = view_of core in
     let mid : View = view_of c.make_room.new.self in
     let new : View = view_of c.record.new.self in
+    let why = result_err c.record.result in
     let ready = c.in_ok-make_room.ensures.ready in
     let fits = c.in_ok-may_change.ensures.fits in
-    let still = c.in_ok-make_room.ensures.keeps.stands told config h stands.now caller Put in
-    let for = put_for config h mid still (ready.stopped ∙ fits.0) (subst (λ n. n < max_place) (sym ready.count) fits.1) caller c.args.key (search rules) c.args.dkey c.args.value c.ranges.dkey.fits (search rules) c.put_record-next.result c.put_record-next.ensures.is in
-    changed_for g.D.Disk.tells told config h caller Put (view_of c.args.self.now.core) fits.0 opened stands (put_works c.args.key c.args.dkey c.args.value) mid new c.in_ok-make_room.field-0 c.record.result
-    c.in_ok-make_room.ensures.keeps c.record.ensures.faults (c.record.ensures.numbers told) (subst (λ n. IfErr c.record.result (HasReason ⊥ mid.state n new.faults)) c.faults-before.ensures c.record.ensures.why)
-    (c.record.ensures.any_moment told config h caller Put still for) (c.record.ensures.stands told config h caller Put refl still for)
+    let reason = if_refused c.record.result (HasReason ⊥ mid.state old.faults new.faults) (subst (λ n. IfErr c.record.result (HasReason ⊥ mid.state n new.faults)) c.faults-before.ensures c.record.ensures.why) in
+    subst (λ face. Answers g.D.Disk.tells (Makes Asks) why face old new) (jobs_same core c.make_room.new.self c.make_room.ensures.begun c.make_room.ensures.flight)
+    (recorded_answers g.D.Disk.tells Asks (put_works c.args.key c.args.dkey c.args.value) old fits.0 mid new why c.in_ok-make_room.ensures.keeps
+    (λ told s holds. let done = c.in_ok-make_room.ensures.done told s holds in (done.0, done.1, done.2, done.3)) (λ room. ap view_of (c.in_ok-make_room.ensures.room room).1)
+    (jobs_same c.make_room.new.self c.record.new.self c.record.ensures.begun c.record.ensures.flight) c.record.ensures.sound (c.record.ensures.count Asks) c.record.ensures.stopped reason
+    (if_refused c.record.result (IsUndone g.D.Disk.tells mid new) c.record.ensures.undone) c.record.ensures.numbers c.record.ensures.faults
+    (λ told config h caller still. c.record.ensures.stands told config h caller Asks refl still
+    (put_for config h mid still (ready.stopped ∙ fits.0) (subst (λ n. n < max_place) (sym ready.count) fits.1) caller c.args.key (search rules) c.args.dkey c.args.value c.ranges.dkey.fits (search rules) c.put_record-next.result c.put_record-next.ensures.is))
+    (λ told config h caller still. c.record.ensures.any_moment told config h caller Asks still
+    (put_for config h mid still (ready.stopped ∙ fits.0) (subst (λ n. n < max_place) (sym ready.count) fits.1) caller c.args.key (search rules) c.args.dkey c.args.value c.ranges.dkey.fits (search rules) c.put_record-next.result c.put_record-next.ensures.is)))
 
 pub returns-clause-written : goal.returns-clause-written
 returns-clause-written g c = λ told s holds.
@@ -70,11 +81,11 @@ pub returns-clause-room : goal.returns-clause-room
 returns-clause-room g c = λ told s holds has.
     let old : View = view_of c.args.self.now.core in
     let room = c.in_ok-make_room.ensures.room (sees_room old s holds has) in
-    let same = room.0 in
+    let same = room.1 in
     let still = subst (λ core. Holds (view_of core) s) (sym same) holds in
     let is = put_same (view_of c.make_room.new.self) s still c.args.key c.args.dkey c.args.value c.put_record-next.result c.put_record-next.ensures.is in
     on_ok_both c.record.result _ _ _ (c.record.ensures.written told s still) (c.record.ensures.calls told) (λ done calls. (
       done.1 ∙ ap (λ core. with_record (g.D.Disk.seen core.disk).directory s c.put_record-next.result) same ∙ ap (with_record old.disk.directory s) is,
       calls ∙ ap (λ core. (g.D.Disk.seen core.disk).moment + 4) same,
-      room.1,
+      room.2,
     ))

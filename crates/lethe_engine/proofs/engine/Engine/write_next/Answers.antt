@@ -1,24 +1,41 @@
-use Rattle.std.proofs.Common.{rules, ◌≡◌, ◌≤◌, Err}
+use Rattle.std.proofs.Common.{rules, ◌≡◌, ◌≤◌, Option, Some, Result, Err, List, ℕ, refl, sym, ap, ◌∙◌, subst}
+use Rattle.std.specs.Prelude.{IfSome, IsSome, OnOk}
+use Rattle.std.specs.Result.{result_err}
 use Rattle.lethe_base.specs.Limits.{max_place}
-use Rattle.lethe_core.specs.View.{view_of}
-use Rattle.lethe_core.proofs.Standing.{stands_moments}
-use Rattle.lethe_engine.proofs.Steps.{step_for, unbegun_work}
+use Rattle.lethe_base.specs.declared.call.Call.TheVariants.{Work}
+use Rattle.lethe_base.specs.declared.name.Name.{Name}
+use Rattle.lethe_base.specs.declared.refused.Refused.{Refused}
+use Rattle.lethe_file.specs.Agreement.{page_name}
+use Rattle.lethe_core.specs.Asked.{Serves}
+use Rattle.lethe_core.specs.Jobs.{with_page}
+use Rattle.lethe_core.specs.Reasons.{HasReason}
+use Rattle.lethe_core.specs.Steps.{IsUndone}
+use Rattle.lethe_core.specs.View.{Flying, face_of, view_of}
+use Rattle.lethe_engine.specs.Answers.{Answers}
+use Rattle.lethe_engine.specs.Jobs.{next_bytes, written_face}
+use Rattle.lethe_engine.proofs.Calls.{if_refused, itself_answers, refused_is_none, step_answers}
+use Rattle.lethe_engine.proofs.Faces.{written_by}
+use Rattle.lethe_engine.proofs.Reasons.{not_begun}
 use Rattle.lethe_engine.proofs.engine.Engine.write_next.Goals as goal
 
-pub returns-in_err-may_change-clause-any_moment : goal.returns-in_err-may_change-clause-any_moment
-returns-in_err-may_change-clause-any_moment g c = λ told config h stands runs. stands_moments config h (view_of c.args.self.now.core) stands runs c.requires.sound.writable
-
-pub returns-in_err-may_change-clause-stands : goal.returns-in_err-may_change-clause-stands
-returns-in_err-may_change-clause-stands g c = λ told config opened h stands caller.
+pub returns-in_err-may_change-clause-answers : goal.returns-in_err-may_change-clause-answers
+returns-in_err-may_change-clause-answers g c =
+    let old = view_of c.args.self.now.core in
+    let page : Name × List ℕ = (page_name old.state.next, next_bytes c.args.job.now) in
     let why = c.in_err-may_change.field-0.0 in
     let refusal : c.from_residual.result ≡ Err why = search rules in
-    unbegun_work config opened h (view_of c.args.self.now.core) c.from_residual.result why refusal c.in_err-may_change.ensures.refused stands caller
+    subst (λ (r : Result (Unit {0}) Refused). Answers g.D.Disk.tells (Serves Work) (result_err r) (written_face (face_of old) page r) old old) (sym refusal)
+    (itself_answers g.D.Disk.tells (Serves Work) (Some why) old c.requires.sound (refused_is_none (Serves Work) why (not_begun old.state why c.in_err-may_change.ensures.refused)))
 
-pub returns-clause-any_moment : goal.returns-clause-any_moment
-returns-clause-any_moment g c = λ told config h stands runs. c.write_now.ensures.keeps.any_moment told config h stands
-
-pub returns-clause-stands : goal.returns-clause-stands
-returns-clause-stands g c = λ told config opened h stands caller.
-    let old = c.args.self.now.core in
-    step_for g.D.Disk.tells (max_place ≤ old.state.next) config opened h (view_of old) (view_of c.write_now.new.self) c.faults-before.result c.faults-before.ensures stands c.in_ok-may_change.ensures.fits.0
-    c.write_now.result told c.write_now.ensures.keeps c.write_now.ensures.why caller
+pub returns-clause-answers : goal.returns-clause-answers
+returns-clause-answers g c =
+    let old = view_of c.args.self.now.core in
+    let new = view_of c.write_now.new.self in
+    let result = c.write_now.result in
+    let there : IsSome old.flight = subst (λ (flight : Option Flying). IsSome flight) (sym c.requires.works.flies.is) refl in
+    let bytes : c.page_at.result.now ≡ next_bytes c.args.job.now = search rules in
+    let written = subst (λ bytes. IfSome old.flight (λ flying. OnOk result (new.flight ≡ Some (with_page flying (page_name old.state.next, bytes))))) bytes c.write_now.ensures.written in
+    subst (λ face. Answers g.D.Disk.tells (Serves Work) (result_err result) face old new)
+    (written_by old new (page_name old.state.next, next_bytes c.args.job.now) result (ap (λ begun. begun.count) c.write_now.ensures.begun) there written c.write_now.ensures.kept)
+    (step_answers g.D.Disk.tells (max_place ≤ old.state.next) (result_err result) old new c.faults-before.result c.in_ok-may_change.ensures.fits.0 c.faults-before.ensures c.write_now.ensures.keeps
+    (if_refused result (HasReason (max_place ≤ old.state.next) old.state c.faults-before.result new.faults) c.write_now.ensures.why) (if_refused result (IsUndone g.D.Disk.tells old new) c.write_now.ensures.undone))

@@ -10,4 +10,4 @@ overflow_add-job g c = omega (arith, page_fits g.D.Disk.tells (view_of c.args.se
 pub returns-then-is_ok-clause-works : goal.returns-then-is_ok-clause-works
 returns-then-is_ok-clause-works g c =
     one_more g.D.Disk.tells (view_of c.args.self.now.core) c.args.job.now c.requires.works c.args.piece c.requires.next (view_of c.write_next-written.new.self.core) (page_name c.args.self.now.core.state.next)
-    c.write_next-written.result c.write_next-written.ensures.written
+    c.write_next-written.result c.write_next-written.ensures.answers.face_is

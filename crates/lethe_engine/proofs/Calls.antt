@@ -1,0 +1,245 @@
+-- What a call answers, by how it went: nothing was done, a step was, or a change was tried.
+use Rattle.std.proofs.Common.{◌≡◌, ◌≤◌, inl, ◌+◌, ℕ, List, Option, Some, None, Result, Ok, Err, refl, sym, ap, ◌∙◌, subst, arith}
+use Rattle.std.specs.Prelude.{IfErr, IfSome, IsSome}
+use Rattle.std.specs.Result.{result_err}
+use Rattle.lethe_base.specs.History.{History}
+use Rattle.lethe_base.specs.declared.call.Call.{Call}
+use Rattle.lethe_base.specs.declared.call.Call.TheVariants.{Work}
+use Rattle.lethe_base.specs.declared.config.Fields.{Fields}
+use Rattle.lethe_base.specs.declared.refused.Refused.{Refused}
+use Rattle.lethe_disk.specs.Directory.{Directory}
+use Rattle.lethe_disk.specs.Disk.{IsIdle}
+use Rattle.lethe_disk.specs.Goes.{Goes}
+use Rattle.lethe_stored.specs.Kept.{IsKept}
+use Rattle.lethe_stored.specs.Left.{IsKeptOr}
+use Rattle.lethe_stored.specs.Numbers.{GoesFrom}
+use Rattle.lethe_stored.specs.Stored.{Stored}
+use Rattle.lethe_stored.proofs.Numbers.{goes_from_then}
+use Rattle.lethe_state.specs.declared.state.State.{State}
+use Rattle.lethe_core.specs.Asked.{Asked, Makes, Serves, behind, counted, failure_of, refused_to, stopped_by, written_by}
+use Rattle.lethe_core.specs.Keeps.{Keeps}
+use Rattle.lethe_core.specs.Merges.{IsRoomBegun, IsRoomMadeBy, Outcome}
+use Rattle.lethe_core.specs.Reasons.{HasReason}
+use Rattle.lethe_core.specs.Running.{Holds, IsSound}
+use Rattle.lethe_core.specs.StandsNow.{StandsNow}
+use Rattle.lethe_core.specs.Steps.{IsDoneInPart, IsUndone}
+use Rattle.lethe_core.specs.View.{View, face_of}
+use Rattle.lethe_core.proofs.Asked.{behind_none, counted_none, stopped_none}
+use Rattle.lethe_core.proofs.Hindered.{as_itself, like_of}
+use Rattle.lethe_core.proofs.Likes.{before_holds}
+use Rattle.lethe_core.proofs.Roomed.{room_begun}
+use Rattle.lethe_core.proofs.Standing.{idle_back, moments_or, stands_moments}
+use Rattle.lethe_engine.specs.Answers.{Answers, IsRefused, SeesRoom}
+use Rattle.lethe_engine.specs.Refusals.{HasReasonOfChange}
+use Rattle.lethe_engine.specs.StandsFor.{IsKeptFor, Opened, StandsFor}
+use Rattle.lethe_engine.proofs.Onward.{answered_for, idle_for, worked_for}
+use Rattle.lethe_engine.proofs.Reasons.{changes_told, reasons_told}
+
+-- what is said of a refusal, by the answer that may be one
+pub if_refused : {T : Type 0} (result : Result T Refused) (P : Refused → Type 0) → IfErr result P → IfSome (result_err result) P
+if_refused (Ok done) P is = tt
+if_refused (Err why) P is = is
+
+-- What stands for a history at the end has kept it since the beginning.
+pub goes_by : (P : Directory → Type 0) (config : Fields) (opened : Opened) (h g : History) (old new : View) → StandsFor config opened h old → StandsFor config opened g new → Goes P old.disk new.disk
+    → Goes (IsKeptFor config opened.history g) old.disk new.disk
+goes_by P config opened h g old new before after run = record {
+  later = run.later;
+  past = run.past;
+  each = λ m c low high left. let since = before.later in after.images m c (omega (arith, since, low)) high left;
+}
+
+pub idle_goes : (config : Fields) (opened : Opened) (h g : History) (old new : View) → StandsFor config opened h old → StandsFor config opened g new → IsIdle old.disk new.disk
+    → Goes (IsKeptFor config opened.history g) old.disk new.disk
+idle_goes config opened h g old new before after idle = record {
+  later = let same = idle.moment in omega (arith, same);
+  past = λ m c low. idle.left m c;
+  each = λ m c low high left. let since = before.later in after.images m c (omega (arith, since, low)) high left;
+}
+
+pub idle_itself : (view : View) → IsIdle view.disk view.disk
+idle_itself view = record { directory = refl; moment = refl; left = λ m c. (λ left. left, λ left. left) }
+
+-- Where nothing was done
+
+-- an answer that is in no history
+pub record IsNoChange (asked : Asked) (why : Option Refused) : Type 0 where
+  pub count : (count : ℕ) → counted asked why count ≡ count
+  pub stopped : (stopped : Option ℕ) → stopped_by why stopped ≡ stopped
+  pub history : (h : History) (caller : ℕ) → behind h caller asked why ≡ h
+
+pub refused_is_none : (asked : Asked) (why : Refused) → failure_of why ≡ None → IsNoChange asked (Some why)
+refused_is_none asked why none = record {
+  count = λ count. counted_none asked why count none;
+  stopped = λ stopped. stopped_none why stopped none;
+  history = λ h caller. behind_none h caller asked why none;
+}
+
+pub served_is_none : (call : Call) → IsNoChange (Serves call) None
+served_is_none call = record { count = λ count. refl; stopped = λ stopped. refl; history = λ h caller. refl }
+
+idle_moments : (P : Directory → Type 0) (old new : View) → IsIdle old.disk new.disk → new.state.next ≡ old.state.next → GoesFrom new.state.next P new.disk new.disk → GoesFrom old.state.next P old.disk new.disk
+idle_moments P old new idle next run = let same = idle.moment in record {
+  goes = record { later = omega (arith, same); past = λ m c low. idle.left m c; each = λ m c low high left. run.goes.each m c (omega (arith, low, same)) high left };
+  pace = λ m c low high left more is. let below = run.pace m c (omega (arith, low, same)) high left more is in omega (arith, below, next, same);
+}
+
+-- nothing was done at all
+pub itself_answers : (Tells : Type 0) (asked : Asked) (why : Option Refused) (view : View) → IsSound Tells view → IsNoChange asked why → Answers Tells asked why (face_of view) view view
+itself_answers Tells asked why view sound none = record {
+  sound = sound;
+  count = sym (none.count view.state.count);
+  stopped = sym (none.stopped view.state.stopped);
+  stands = λ told config opened h before caller. same config opened h before caller;
+  goes = λ told config opened h before caller. idle_goes config opened h (behind h caller asked why) view view before (same config opened h before caller) (idle_itself view);
+  any_moment = λ told config h now runs caller. moments_or config h (written_by caller asked why) view.state.next view.disk view.disk (stands_moments config h view now runs sound.writable);
+  numbers = λ told. omega arith;
+  faults = omega arith;
+  still = λ some. record { state = refl; levels = refl; faults = refl; disk = λ told. idle_itself view };
+  refused = undone asked why;
+  face_is = refl;
+}
+  where
+    same : (config : Fields) (opened : Opened) (h : History) → StandsFor config opened h view → (caller : ℕ) → StandsFor config opened (behind h caller asked why) view
+    same config opened h before caller = subst (λ g. StandsFor config opened g view) (sym (none.history h caller)) before
+
+    undone : (asked : Asked) (why : Option Refused) → IfSome why (IsRefused Tells asked view view)
+    undone asked None = tt
+    undone (Makes call) (Some why) = ((λ room not. as_itself Tells view), λ not told s holds. (s, inl refl, holds))
+    undone (Serves call) (Some why) = λ not. as_itself Tells view
+
+-- work or a look that left the disk as it was
+pub idle_answers : (Tells : Type 0) (why : Option Refused) (old new : View) → IsSound Tells new → new.state ≡ old.state → new.levels ≡ old.levels → new.faults ≡ old.faults → (Tells → IsIdle old.disk new.disk)
+    → (Tells → (config : Fields) (h : History) → StandsNow config h old → StandsNow config h new) → IsNoChange (Serves Work) why → Answers Tells (Serves Work) why (face_of new) old new
+idle_answers Tells why old new sound state levels faults idle now none = record {
+  sound = sound;
+  count = ap (λ (state : State). state.count) state ∙ sym (none.count old.state.count);
+  stopped = ap (λ (state : State). state.stopped) state ∙ sym (none.stopped old.state.stopped);
+  stands = same;
+  goes = λ told config opened h before caller. idle_goes config opened h (behind h caller (Serves Work) why) old new before (same told config opened h before caller) (idle told);
+  any_moment = λ told config h before runs caller. moments_or config h None old.state.next old.disk new.disk
+      (idle_moments (λ c. IsKept config c h) old new (idle told) next (stands_moments config h new (now told config h before) (ap (λ (state : State). state.stopped) state ∙ runs) sound.writable));
+  numbers = λ told. let same = (idle told).moment in omega (arith, same, next);
+  faults = omega (arith, faults);
+  still = λ some. record { state = state; levels = levels; faults = faults; disk = idle };
+  refused = undone why;
+  face_is = refl;
+}
+  where
+    next : new.state.next ≡ old.state.next
+    next = ap (λ (state : State). state.next) state
+
+    same : Tells → (config : Fields) (opened : Opened) (h : History) → StandsFor config opened h old → (caller : ℕ) → StandsFor config opened (behind h caller (Serves Work) why) new
+    same told config opened h before caller =
+        subst (λ g. StandsFor config opened g new) (sym (none.history h caller)) (idle_for config opened h old new (idle told) next faults (now told config h before.now) before)
+
+    undone : (why : Option Refused) → IfSome why (IsRefused Tells (Serves Work) old new)
+    undone None = tt
+    undone (Some why) = λ not. record { state = like_of old.state new.state state; levels = levels; disk = λ told. idle_back old.disk new.disk (idle told) }
+
+-- Where something was done
+
+runs_on : (stopped : Option ℕ) → stopped ≡ None → IsSome stopped → ⊥
+runs_on None runs some = absurd cc
+runs_on (Some at) runs some = let clash : Some at ≡ None = runs in cc
+
+-- a step, by the count of faults that was taken before it
+pub step_answers : (Tells Short : Type 0) (why : Option Refused) (old new : View) (before : ℕ) → old.state.stopped ≡ None → before ≡ old.faults → Keeps Tells old new why → IfSome why (HasReason Short old.state before new.faults)
+    → IfSome why (IsUndone Tells old new) → Answers Tells (Serves Work) why (face_of new) old new
+step_answers Tells Short why old new before runs is keeps reason undone = record {
+  sound = keeps.sound;
+  count = keeps.count;
+  stopped = keeps.stopped;
+  stands = worked;
+  goes = λ told config opened h stands caller.
+      goes_by (λ c. IsKept config c h) config opened h (behind h caller (Serves Work) why) old new stands (worked told config opened h stands caller) (keeps.any_moment told config h stands.now).goes;
+  any_moment = λ told config h stands runs caller. moments_or config h None old.state.next old.disk new.disk (keeps.any_moment told config h stands);
+  numbers = keeps.numbers;
+  faults = keeps.faults;
+  still = λ some. absurd (runs_on old.state.stopped runs some);
+  refused = undone;
+  face_is = refl;
+}
+  where
+    worked : Tells → (config : Fields) (opened : Opened) (h : History) → StandsFor config opened h old → (caller : ℕ) → StandsFor config opened (behind h caller (Serves Work) why) new
+    worked told config opened h stands caller =
+        worked_for config opened h old new stands runs keeps.faults (keeps.numbers told) caller why (reasons_told Short old.state old.faults new.faults why (subst (λ n. IfSome why (HasReason Short old.state n new.faults)) is reason))
+        (keeps.any_moment told config h stands.now) (keeps.stands told config h stands.now caller Work)
+
+-- Changes
+
+module _ (Tells : Type 0) (call : Call) (works : call ≡ Work → ⊥) (old : View) (runs : old.state.stopped ≡ None) where
+  -- room couldn't be made
+  pub unroomed_answers : (PortsFail : Type 0) (first last : ℕ) (new : View) (why : Refused) → Keeps Tells old new (Some why) → HasReasonOfChange Tells PortsFail old new first last why → (SeesRoom old.state → ⊥)
+      → IsDoneInPart Tells (IsRoomBegun old.flight) old new why → Answers Tells (Makes call) (Some why) (face_of new) old new
+  unroomed_answers PortsFail first last new why keeps reason full partly = record {
+    sound = keeps.sound;
+    count = keeps.count;
+    stopped = keeps.stopped;
+    stands = answered;
+    goes = λ told config opened h stands caller.
+        goes_by (λ c. IsKept config c h) config opened h (refused_to h caller call why) old new stands (answered told config opened h stands caller) (keeps.any_moment told config h stands.now).goes;
+    any_moment = λ told config h stands runs caller. moments_or config h (written_by caller (Makes call) (Some why)) old.state.next old.disk new.disk (keeps.any_moment told config h stands);
+    numbers = keeps.numbers;
+    faults = keeps.faults;
+    still = λ some. absurd (runs_on old.state.stopped runs some);
+    refused = ((λ room. absurd (full room)), partly);
+    face_is = refl;
+  }
+    where
+      answered : Tells → (config : Fields) (opened : Opened) (h : History) → StandsFor config opened h old → (caller : ℕ) → StandsFor config opened (refused_to h caller call why) new
+      answered told config opened h stands caller =
+          answered_for config opened h old new stands runs keeps.faults (keeps.numbers told) caller call works (Some why) (changes_told Tells PortsFail old new first last why reason)
+          (moments_or config h (written_by caller (Makes call) (Some why)) old.state.next old.disk new.disk (keeps.any_moment told config h stands.now)) (keeps.stands told config h stands.now caller call)
+
+  -- room was made, and then the record was appended, or wasn't
+  module _ (mid new : View) (why : Option Refused) (room : Keeps Tells old mid None) (made : Tells → (s : Stored) → Holds old s → (t : Stored) × (outcomes : List Outcome) × IsRoomMadeBy old.flight s outcomes t × Holds mid t)
+      (same : SeesRoom old.state → mid ≡ old) (face : face_of new ≡ face_of mid) (sound : IsSound Tells new) (count : new.state.count ≡ counted (Makes call) why mid.state.count) (stopped : new.state.stopped ≡ stopped_by why mid.state.stopped)
+      (reason : IfSome why (HasReason ⊥ mid.state old.faults new.faults)) (undone : IfSome why (IsUndone Tells mid new)) (numbers : Tells → new.state.next + mid.disk.moment ≤ mid.state.next + new.disk.moment) (faults : mid.faults ≤ new.faults) where
+    recorded_refused : (why : Option Refused) → IfSome why (IsUndone Tells mid new) → IfSome why (IsRefused Tells (Makes call) old new)
+    recorded_refused None undone = tt
+    recorded_refused (Some why) undone = (
+      (λ room. subst (λ view. IsUndone Tells view new why) (same room) undone),
+      λ none told s holds.
+          let all = made told s holds in
+          (all.0, room_begun old.flight s all.1 all.0 all.2, before_holds Tells told mid new all.0 face (undone none) all.3),
+    )
+
+    pub recorded_answers : (Tells → (config : Fields) (h : History) (caller : ℕ) → StandsNow config h mid → StandsNow config (behind h caller (Makes call) why) new)
+        → (Tells → (config : Fields) (h : History) (caller : ℕ) → StandsNow config h mid → GoesFrom mid.state.next (IsKeptOr config h (written_by caller (Makes call) why)) mid.disk new.disk)
+        → Answers Tells (Makes call) why (face_of mid) old new
+    recorded_answers stands moments = record {
+      sound = sound;
+      count = count ∙ ap (counted (Makes call) why) room.count;
+      stopped = stopped ∙ ap (stopped_by why) room.stopped;
+      stands = answered;
+      goes = λ told config opened h before caller.
+          goes_by (IsKeptOr config h (written_by caller (Makes call) why)) config opened h (behind h caller (Makes call) why) old new before (answered told config opened h before caller) (whole told config h before.now caller).goes;
+      any_moment = λ told config h before runs caller. whole told config h before caller;
+      numbers = drawn;
+      faults = rose;
+      still = λ some. absurd (runs_on old.state.stopped runs some);
+      refused = recorded_refused why undone;
+      face_is = face;
+    }
+      where
+        drawn : Tells → new.state.next + old.disk.moment ≤ old.state.next + new.disk.moment
+        drawn told = let first = room.numbers told in let then = numbers told in omega (arith, first, then)
+
+        rose : old.faults ≤ new.faults
+        rose = let first = room.faults in omega (arith, first, faults)
+
+        -- the store behind the room that was made
+        behind_room : Tells → (config : Fields) (h : History) → StandsNow config h old → StandsNow config h mid
+        behind_room told config h before = room.stands told config h before 0 Work
+
+        whole : Tells → (config : Fields) (h : History) → StandsNow config h old → (caller : ℕ) → GoesFrom old.state.next (IsKeptOr config h (written_by caller (Makes call) why)) old.disk new.disk
+        whole told config h before caller =
+            let Change = written_by caller (Makes call) why in
+            goes_from_then (IsKeptOr config h Change) old.state.next mid.state.next old.disk mid.disk new.disk (moments_or config h Change old.state.next old.disk mid.disk (room.any_moment told config h before))
+            (room.numbers told) (moments told config h caller (behind_room told config h before))
+
+        answered : Tells → (config : Fields) (opened : Opened) (h : History) → StandsFor config opened h old → (caller : ℕ) → StandsFor config opened (behind h caller (Makes call) why) new
+        answered told config opened h before caller =
+            answered_for config opened h old new before runs rose (drawn told) caller call works why (reasons_told ⊥ mid.state old.faults new.faults why reason) (whole told config h before.now caller)
+            (stands told config h caller (behind_room told config h before.now))
