@@ -26,6 +26,7 @@ use Rattle.lethe_script.specs.declared.refused.BadLine.{BadLine}
 use Rattle.lethe_script.specs.Grammar.{script_of}
 use Rattle.lethe_run.specs.declared.reply.Line.{Line}
 use Rattle.lethe_run.specs.Asked.{config_of}
+use Rattle.lethe_run.specs.Anywhere.{IsPlausible}
 use Rattle.lethe_run.specs.Carried.{IsCarriedOut}
 use Rattle.lethe_run.specs.Printed.{bad_words, bad_line, open_line}
 use Rattle.lethe_run.specs.Transcript.{Course, course, most_of_a_change, text_of, has_refusal}
@@ -75,9 +76,10 @@ OnScript run P = (phases : List (List Order)) × IfSome run.source (λ bytes. sc
 abbrev pub course_of : Run → Fields → ℕ → Course
 course_of run config next = course run.PortsFail (record { config = config; faults = run.faults_before; next = next; moment = run.start.moment }) run.faults run.finish.moment
 
--- the lines answer these phases over a store of the configuration, and the disk is left so
-abbrev pub Carries : Run → Fields → List (List Order) → List (List Line) → Type 0
-Carries run config phases lines = OnLeft run (λ kept left change. (next : ℕ) → IsNextNumber run.start.directory next → IsCarriedOut config (course_of run config next) run.start run.finish kept left change phases lines)
+-- The lines answer these phases as they may on any disk; and on one that tells what it holds they do so over a store of the configuration, and the disk is left so.
+pub record Carries (run : Run) (config : Fields) (phases : List (List Order)) (lines : List (List Line)) : Type 0 where
+  pub told : IsPlausible run.PortsFail run.faults_before run.faults phases lines
+  pub left : OnLeft run (λ kept left change. (next : ℕ) → IsNextNumber run.start.directory next → IsCarriedOut config (course_of run config next) run.start run.finish kept left change phases lines)
 
 -- the directory shows no damage and no other configuration
 abbrev pub IsSoundFor : Run → Fields → Type 0
@@ -113,8 +115,7 @@ IsBegun phases front = (front ≡ []) ⊎ IsFront phases front
 -- the script was carried out up to an order for which there was no memory, or none of it was
 pub record StoppedInside (run : Run) (config : Fields) : Type 0 where
   pub lines : List (List Line)
-  pub script : OnScript run (λ phases. OnLeft run (λ kept left change. (next : ℕ) → IsNextNumber run.start.directory next → (front : List (List Order)) × IsBegun phases front
-      × IsCarriedOut config (course_of run config next) run.start run.finish kept left change front lines))
+  pub script : OnScript run (λ phases. (front : List (List Order)) × IsBegun phases front × Carries run config front lines)
   pub written : AppendsFront run.taken_before run.taken (text_of lines)
   pub sound : IsSoundFor run config
 

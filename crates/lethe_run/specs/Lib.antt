@@ -1,5 +1,6 @@
 pub mod Printed
 pub mod Transcript
+pub mod Anywhere
 pub mod Carried
 pub mod Ends
 pub mod Status

@@ -9,6 +9,7 @@ use Rattle.lethe_script.specs.declared.order.Order.{Order}
 use Rattle.lethe_run.specs.declared.reply.Line.{Line}
 use Rattle.lethe_run.specs.declared.status.Status.{Status}
 use Rattle.lethe_run.specs.declared.status.Status.TheVariants.{Answered, BadWords, BadScript, ReadFault, WriteFault, Refused, NoMemory, Damaged, OtherConfig}
+use Rattle.lethe_run.specs.Anywhere.{AreToldThrough, Standing, standing_of}
 use Rattle.lethe_run.specs.Ends.{IsBegun}
 use Rattle.lethe_run.specs.Serving.{IsOn, IsCarried, Point}
 use Rattle.lethe_run.specs.Transcript.{Start, course, text_of, has_refusal}
@@ -18,9 +19,14 @@ abbrev pub Serves : Type 0 → Type 0 → View → Seen → ℕ → List (List O
 Serves Tells PortsFail start finish now phases lines =
     Tells → (begin : Start) (from : Point) → IsOn begin from from.history start → IsCarried (course PortsFail begin now finish.moment) begin from phases lines start.disk finish
 
+-- the lines answer these phases as they may on any disk
+abbrev pub IsToldFrom : Type 0 → View → ℕ → List (List Order) → List (List Line) → Type 0
+IsToldFrom PortsFail start now phases lines = (end : Standing) × AreToldThrough PortsFail start.faults now phases (standing_of start) lines end
+
 -- all phases were answered
 pub record All (Tells PortsFail : Type 0) (start : View) (finish : Seen) (now : ℕ) (old new : Option Bytes) (phases : List (List Order)) (refused : Bool) : Type 0 where
   pub lines : List (List Line)
+  pub told : IsToldFrom PortsFail start now phases lines
   pub served : Serves Tells PortsFail start finish now phases lines
   pub written : Appends old new (text_of lines)
   pub is : has_refusal lines ≡ refused
@@ -29,14 +35,17 @@ pub record All (Tells PortsFail : Type 0) (start : View) (finish : Seen) (now : 
 pub record Behind (Tells PortsFail : Type 0) (start : View) (finish : Seen) (now : ℕ) (old new : Option Bytes) (phases : List (List Order)) : Type 0 where
   pub lines : List (List Line)
   pub count : ℕ
+  pub told : IsToldFrom PortsFail start now (take count phases) lines
   pub served : Serves Tells PortsFail start finish now (take count phases) lines
   pub written : AppendsFront old new (text_of lines)
 
 -- none were, or some, and of the next one the first orders
 pub record Inside (Tells PortsFail : Type 0) (start : View) (finish : Seen) (now : ℕ) (old new : Option Bytes) (phases : List (List Order)) : Type 0 where
   pub lines : List (List Line)
-  pub served : Tells → (begin : Start) (from : Point) → IsOn begin from from.history start
-      → (front : List (List Order)) × IsBegun phases front × IsCarried (course PortsFail begin now finish.moment) begin from front lines start.disk finish
+  pub front : List (List Order)
+  pub begun : IsBegun phases front
+  pub told : IsToldFrom PortsFail start now front lines
+  pub served : Serves Tells PortsFail start finish now front lines
   pub written : AppendsFront old new (text_of lines)
 
 abbrev pub ScriptEnds : Type 0 → Type 0 → View → Seen → ℕ → Option Bytes → Option Bytes → Type 0 → List (List Order) → Status → Type 0

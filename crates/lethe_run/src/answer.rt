@@ -4,6 +4,7 @@ ghost use Rattle.lethe_base.specs.History.{History};
 ghost use Rattle.lethe_engine.specs.Reads.{IsReadRefusal};
 ghost use Rattle.lethe_core.specs.Running.{IsSound};
 ghost use Rattle.lethe_core.specs.View.{view_of};
+ghost use Rattle.lethe_run.specs.Anywhere.{IsTold, standing_of};
 ghost use Rattle.lethe_run.specs.Replies.{IsOfChange, reply_of, unread_of};
 ghost use Rattle.lethe_run.specs.Serving.{IsOn, IsAnswered, Advances, Point};
 ghost use Rattle.lethe_run.specs.Transcript.{Start};
@@ -24,6 +25,10 @@ pub(crate) fn answer<D: Disk>(
 ) -> Result<Reply, NoMemory>
     requires { IsSound D.tells (view_of engine.old.core) }
     ensures sound { IsSound D.tells (view_of engine.new.core) }
+    // On any disk:
+    ensures told { MatchResult result
+        (λ reply. IsTold D.ports_fail (D.faults engine.old.core.disk) (D.faults engine.new.core.disk) act (standing_of (view_of engine.old.core)) reply (standing_of (view_of engine.new.core)))
+        (λ why. standing_of (view_of engine.new.core) ≡ standing_of (view_of engine.old.core)) }
     ensures served { D.tells → (begin : Start) (from : Point) (h : History) (caller : ℕ)
         → IsOn begin from h (view_of engine.old.core)
         → MatchResult result

@@ -4,6 +4,7 @@ ghost use Rattle.lethe_base.specs.History.{History};
 ghost use Rattle.lethe_core.specs.Running.{IsSound};
 ghost use Rattle.lethe_core.specs.View.{view_of};
 ghost use Rattle.lethe_script.specs.declared.order.Order.{Order};
+ghost use Rattle.lethe_run.specs.Anywhere.{AreTold, standing_of};
 ghost use Rattle.lethe_run.specs.Serving.{IsOn, IsPhase, Point};
 ghost use Rattle.lethe_run.specs.Transcript.{Start};
 
@@ -34,10 +35,10 @@ pub(crate) fn serve_phase<D: Disk>(
 ) -> Served
     requires { IsSound D.tells (view_of engine.old.core) }
     ensures sound { IsSound D.tells (view_of engine.new.core) }
-    ensures served { D.tells → (begin : Start) (from : Point) (start : History)
-        → IsOn begin from start (view_of engine.old.core)
-        → (h : History) × (part : List Order) × (rest : List Order) × (orders.items ≡ part ++ rest) × (IsTrue result.whole → rest ≡ [])
-        × IsPhase D.ports_fail begin start h part result.lines.items (view_of engine.old.core) (view_of engine.new.core) }
+    ensures served { (part : List Order) × (rest : List Order) × (orders.items ≡ part ++ rest) × (IsTrue result.whole → rest ≡ [])
+        × AreTold D.ports_fail (D.faults engine.old.core.disk) (D.faults engine.new.core.disk) part (standing_of (view_of engine.old.core)) result.lines.items (standing_of (view_of engine.new.core))
+        × (D.tells → (begin : Start) (from : Point) (start : History) → IsOn begin from start (view_of engine.old.core)
+        → (h : History) × IsPhase D.ports_fail begin start h part result.lines.items (view_of engine.old.core) (view_of engine.new.core)) }
     ensures faults { D.faults engine.old.core.disk ≤ D.faults engine.new.core.disk }
 {
     let Ok(mut lines) = Vec::with_capacity(alloc, orders.len()) else {
