@@ -1,5 +1,6 @@
 -- Changes: a put and a delete.
 use Rattle.std.proofs.Common.{◌≡◌, ◌⊎◌, inl, inr, ℕ, ◌+◌, List, Option, Some, None, Result, Ok, Err, IfErr, IfOk, OnOk, refl, ap, ◌∙◌, subst}
+use Rattle.std.specs.Result.{result_err}
 use Rattle.lethe_base.specs.History.{History}
 use Rattle.lethe_base.specs.Limits.{max_place}
 use Rattle.lethe_base.specs.declared.call.Call.{Call}
@@ -10,7 +11,7 @@ use Rattle.lethe_header.specs.declared.header.Header.{Header}
 use Rattle.lethe_segment.specs.declared.record.Record.{Record}
 use Rattle.lethe_stored.specs.Stored.{Stored, appended}
 use Rattle.lethe_state.specs.Records.{headers_in}
-use Rattle.lethe_core.specs.Changes.{answered_to, refused_to}
+use Rattle.lethe_core.specs.Asked.{Makes, behind, refused_to}
 use Rattle.lethe_core.specs.Merges.{IsRoomMadeBy, Outcome, pages_of}
 use Rattle.lethe_core.specs.Reasons.{HasReason, IsShort, IsShortOfRoom, IsUnreadable}
 use Rattle.lethe_core.specs.Running.{Holds}
@@ -27,19 +28,19 @@ module _ (Tells PortsFail : Type 0) (told : Tells) (call : Call) (IsNext : Store
   abbrev before : Moment
   before = moment_of old s fetches_before faults_before begun there
 
-  abbrev behind : Stored → Moment
-  behind t = moment_of new t fetches_now faults_now begun there
+  abbrev later : Stored → Moment
+  later t = moment_of new t fetches_now faults_now begun there
 
-  same_jobs : (t : Stored) → AreJobsSame before (behind t)
+  same_jobs : (t : Stored) → AreJobsSame before (later t)
   same_jobs t = record { flight = flight; begun = refl; there = refl }
 
-  -- room was made, and the record was written behind the others
+  -- room was made, and the record was written later the others
   abbrev pub Written : Type 0
   Written = (t : Stored) × (outcomes : List Outcome) × (next : Record) × IsRoomMadeBy old.flight s outcomes t × IsNext t (headers_in new.levels) next × Holds new (appended t next)
       × (fetches_now ≡ fetches_before + pages_of outcomes)
 
   -- the merge for which numbers are short is one of what is stored
-  short_on : (t : Stored) → Holds new t → IsShortOfRoom Tells old.state new → IsShort old.state ⊎ IsShortToMerge (behind t)
+  short_on : (t : Stored) → Holds new t → IsShortOfRoom Tells old.state new → IsShort old.state ⊎ IsShortToMerge (later t)
   short_on t holds (inl short) = inl short
   short_on t holds (inr short) =
       let is = short.are told t holds in
@@ -53,15 +54,15 @@ module _ (Tells PortsFail : Type 0) (told : Tells) (call : Call) (IsNext : Store
         (known_of config opened (refused_to h 0 call why) new stood).held (stopped_same config h old new stands.now still.now ∙ runs)
 
     change_reason : HasReasonOfChange Tells PortsFail old new faults_before faults_now why
-        → HasReason (IsShort old.state ⊎ IsShortToMerge (behind stood.now.stored)) old.state old.faults new.faults why ⊎ ((old.state.stopped ≡ None) × IsUnreadable (Unit {0}) PortsFail faults_before faults_now why)
-    change_reason (inl is) = inl (reason_on (IsShortOfRoom Tells old.state new) (IsShort old.state ⊎ IsShortToMerge (behind stood.now.stored)) old.state old.state old.faults new.faults refl refl why is
+        → HasReason (IsShort old.state ⊎ IsShortToMerge (later stood.now.stored)) old.state old.faults new.faults why ⊎ ((old.state.stopped ≡ None) × IsUnreadable (Unit {0}) PortsFail faults_before faults_now why)
+    change_reason (inl is) = inl (reason_on (IsShortOfRoom Tells old.state new) (IsShort old.state ⊎ IsShortToMerge (later stood.now.stored)) old.state old.state old.faults new.faults refl refl why is
         (λ last full runs. short_on stood.now.stored (held_still last full runs)))
     change_reason (inr is) = inr (is.0, unreadable_told Tells PortsFail faults_before faults_now why told is.1)
 
   abbrev pub Changed : Result ℕ Refused → Type 0
-  Changed result = (t : Stored) × IsKnown new t × IsChange PortsFail call IsNext h before result (answered_to h 0 call result) (behind t)
+  Changed result = (t : Stored) × IsKnown new t × IsChange PortsFail call IsNext h before result (behind h 0 (Makes call) (result_err result)) (later t)
 
-  pub changed : (result : Result ℕ Refused) → StandsFor config opened (answered_to h 0 call result) new → IfOk result (λ place. place ≡ old.state.count + 1)
+  pub changed : (result : Result ℕ Refused) → StandsFor config opened (behind h 0 (Makes call) (result_err result)) new → IfOk result (λ place. place ≡ old.state.count + 1)
       → IfErr result (HasReasonOfChange Tells PortsFail old new faults_before faults_now) → (Holds old s → OnOk result Written) → ((at : ℕ) → old.state.stopped ≡ Some at → result ≡ Err (Stopped at))
       → (old.state.stopped ≡ None → old.state.count ≡ max_place → result ≡ Err (Exhausted max_place)) → Changed result
   changed (Ok place) stood next why written stops last =

@@ -3,6 +3,7 @@ use Rattle.std.proofs.Common.{◌≡◌, ◌↔◌, ◌⊎◌, inl, inr, ℕ, �
 use Rattle.std.specs.Prelude.{IfErr, IsSome, option_map}
 use Rattle.std.proofs.lemmas.Option.{none-some}
 use Rattle.std.proofs.lemmas.List.{nil_from_length}
+use Rattle.std.specs.Result.{result_err}
 use Rattle.lethe_base.specs.History.{History}
 use Rattle.lethe_base.specs.declared.call.Call.TheVariants.{Work}
 use Rattle.lethe_base.specs.declared.config.Fields.{Fields}
@@ -16,11 +17,11 @@ use Rattle.lethe_state.specs.Remembered.{Remembers}
 use Rattle.lethe_state.specs.declared.state.State.{State}
 use Rattle.lethe_job.specs.Tasks.{IsBegunIn, plain_task}
 use Rattle.lethe_job.specs.declared.job.Job.{Job}
+use Rattle.lethe_core.specs.Asked.{Serves, behind}
 use Rattle.lethe_core.specs.Jobs.{IsAtWork}
 use Rattle.lethe_core.specs.Merges.{HasNoMerge}
 use Rattle.lethe_core.specs.Reasons.{HasReason}
 use Rattle.lethe_core.specs.Running.{Holds}
-use Rattle.lethe_core.specs.Steps.{stepped_to}
 use Rattle.lethe_core.specs.View.{View}
 use Rattle.lethe_core.proofs.Standing.{idle_back, running_back}
 use Rattle.lethe_engine.specs.Refusals.{HasReasonOfBegin}
@@ -42,12 +43,12 @@ module _ (config : Fields) (opened : Opened) (h : History) (old new : View) (s :
 
   abbrev pub Worked : Result Bool Refused → Type 0
   Worked result = (t : Stored) × IsKnown new t
-      × IsWork (λ m. Nothing m.state) Does Short h (moment_of old s fetches faults begun there) result (stepped_to h 0 Work result) (moment_of new t fetches faults begun there)
+      × IsWork (λ m. Nothing m.state) Does Short h (moment_of old s fetches faults begun there) result (behind h 0 (Serves Work) (result_err result)) (moment_of new t fetches faults begun there)
 
-  pub worked : (result : Result Bool Refused) → StandsFor config opened (stepped_to h 0 Work result) new → ((result ≡ Ok false) ↔ Nothing old.state) → (result ≡ Ok false → new ≡ old)
+  pub worked : (result : Result Bool Refused) → StandsFor config opened (behind h 0 (Serves Work) (result_err result)) new → ((result ≡ Ok false) ↔ Nothing old.state) → (result ≡ Ok false → new ≡ old)
       → (Holds old s → result ≡ Ok true → (t : Stored) × Does s t × Holds new t) → IfErr result (HasReason Short old.state old.faults new.faults)
       → ((at : ℕ) → old.state.stopped ≡ Some at → result ≡ Err (Stopped at)) → Worked result
-  worked (Ok true) behind idle same done why stopped =
+  worked (Ok true) stood idle same done why stopped =
       let made = done (known.held (not_stopped old.state.stopped (λ at e. ok_or_err true (Stopped at) (stopped at e)))) refl in (
         made.0,
         known_held new made.0 made.2,
@@ -62,7 +63,7 @@ module _ (config : Fields) (opened : Opened) (h : History) (old new : View) (s :
           port = record { fetches = refl; port_faults = refl };
         },
       )
-  worked (Ok false) behind idle same done why stopped = (
+  worked (Ok false) stood idle same done why stopped = (
     s,
     subst (λ (view : View). IsKnown view s) (sym (same refl)) known,
     record {
@@ -76,9 +77,9 @@ module _ (config : Fields) (opened : Opened) (h : History) (old new : View) (s :
       port = record { fetches = refl; port_faults = refl };
     },
   )
-  worked (Err why) behind idle same done is stopped = (
-    behind.now.stored,
-    known_of config opened (stepped_to {T = Bool} h 0 Work (Err why)) new behind,
+  worked (Err why) stood idle same done is stopped = (
+    stood.now.stored,
+    known_of config opened (behind h 0 (Serves Work) (Some why)) new stood,
     record {
       history = refl;
       idle = idle;
@@ -98,14 +99,14 @@ some_mapped f None is = is
 some_mapped f (Some x) is = refl
 
 -- no device call was made, and the store is as it was
-pub known_idle : (old new : View) (s : Stored) → IsIdle old.disk new.disk → new.state ≡ old.state → new.levels ≡ old.levels → new.flight ≡ old.flight → IsKnown old s → IsKnown new s
-known_idle old new s idle state levels flight known =
+pub known_idle : (old new : View) (s : Stored) → IsIdle old.disk new.disk → new.state ≡ old.state → new.levels ≡ old.levels → new.flight ≡ old.flight → new.begun ≡ old.begun → IsKnown old s → IsKnown new s
+known_idle old new s idle state levels flight begun known =
     let remembers = subst (λ (state : State). Remembers s state new.levels) (sym state) (subst (λ (levels : List (List Parts)). Remembers s old.state levels) (sym levels) known.remembers) in
     record {
       remembers = remembers;
       held = λ runs. record {
         remembers = remembers;
-        running = running_back old new (idle_back old.disk new.disk idle) s state (record { levels = levels; flight = flight }) (known.held (sym (ap (λ (state : State). state.stopped) state) ∙ runs)).running;
+        running = running_back old new (idle_back old.disk new.disk idle) s state (record { levels = levels; flight = flight; begun = begun }) (known.held (sym (ap (λ (state : State). state.stopped) state) ∙ runs)).running;
       };
     }
 
@@ -122,7 +123,8 @@ module _ (h : History) (old new : View) (s : Stored) (fetches faults begun : ℕ
           number_is = refl;
           task = plain_task job.task.value;
           begun = is;
-          flight = works.flies.is ∙ (λ i. Some (record { task = (sym works.flies.task) i; written = written i }));
+          own = works.flies.flying.number;
+          flight = works.flies.is ∙ (λ i. Some (record { number = works.flies.flying.number; task = (sym works.flies.task) i; written = written i }));
           there = λ i. Some (record { number = begun; refused = works.asked i; task = plain_task job.task.value; port_faults = unread i });
           count = refl;
         };

@@ -1,6 +1,7 @@
 -- The job of a run that hasn't ended, and giving it up.
 use Rattle.std.proofs.Common.{◌≡◌, ◌<◌, ℕ, Bool, true, false, Option, Some, None, Result, Ok, Err, refl, sym, ap, ◌∙◌, subst}
 use Rattle.std.specs.Prelude.{IfErr, IfSome, OnErr, OnOk}
+use Rattle.std.specs.Result.{result_err}
 use Rattle.lethe_base.specs.History.{History}
 use Rattle.lethe_base.specs.Limits.{max_place}
 use Rattle.lethe_base.specs.declared.call.Call.TheVariants.{Work}
@@ -11,10 +12,10 @@ use Rattle.lethe_disk.specs.declared.disk.Disk.{Ghosts}
 use Rattle.lethe_stored.specs.Stored.{Stored}
 use Rattle.lethe_job.specs.Tasks.{AreSound, IsBegunIn, PlainTask, inputs_in, plain_task}
 use Rattle.lethe_job.specs.declared.job.Job.{Job}
+use Rattle.lethe_core.specs.Asked.{Serves, behind}
 use Rattle.lethe_core.specs.Jobs.{IsAtWork, IsInFlight}
 use Rattle.lethe_core.specs.Reasons.{HasReason}
 use Rattle.lethe_core.specs.Running.{Holds, IsSound}
-use Rattle.lethe_core.specs.Steps.{stepped_to}
 use Rattle.lethe_core.specs.View.{View}
 use Rattle.lethe_core.proofs.Installing.{begun_sound}
 use Rattle.lethe_engine.specs.StandsFor.{Opened, StandsFor}
@@ -78,7 +79,7 @@ theirs_on {D} {Page} {Port} {kind} Tells old new jobs same is = record {
   where
     flies_on : (there : Option (Numbered D Page Port kind)) → IfSome there (λ numbered. IsInFlight old numbered.job) → IfSome there (λ numbered. IsInFlight new numbered.job)
     flies_on None is = tt
-    flies_on (Some numbered) is = record { flying = is.flying; is = same ∙ is.is; task = is.task }
+    flies_on (Some numbered) is = record { flying = is.flying; is = same ∙ is.is; number = is.number; task = is.task }
 
     works_on : (there : Option (Numbered D Page Port kind)) → IfSome there (λ numbered. numbered.job.refused ≡ false → IsAtWork Tells old numbered.job)
         → IfSome there (λ numbered. numbered.job.refused ≡ false → IsAtWork Tells new numbered.job)
@@ -104,17 +105,17 @@ module _ (config : Fields) (opened : Opened) (h : History) (old new : View) (s :
   kept_up t (Damaged name) is memory numbers = is
 
   abbrev pub GivenUp : Result (Unit {0}) Refused → Type 0
-  GivenUp result = (t : Stored) × IsKnown new t × StandsFor config opened (stepped_to h 0 Work result) new
-      × IsCancel h (moment_of old s fetches faults begun there) result (stepped_to h 0 Work result) (moment_of new t fetches faults begun gone)
+  GivenUp result = (t : Stored) × IsKnown new t × StandsFor config opened (behind h 0 (Serves Work) (result_err result)) new
+      × IsCancel h (moment_of old s fetches faults begun there) result (behind h 0 (Serves Work) (result_err result)) (moment_of new t fetches faults begun gone)
 
-  pub given_up : (result : Result (Unit {0}) Refused) → StandsFor config opened (stepped_to h 0 Work result) new → (Holds old s → OnOk result (Holds new s))
+  pub given_up : (result : Result (Unit {0}) Refused) → StandsFor config opened (behind h 0 (Serves Work) (result_err result)) new → (Holds old s → OnOk result (Holds new s))
       → ((old.state.stopped ≡ None → old.state.count < max_place) → new.flight ≡ None) → IfErr result (HasReason ⊥ old.state old.faults new.faults) → (result ≡ Err NoMemory → ⊥)
       → ((last : ℕ) → result ≡ Err (Exhausted last) → ⊥) → ((at : ℕ) → old.state.stopped ≡ Some at → result ≡ Err (Stopped at)) → GivenUp result
-  given_up (Ok done) behind held free why memory numbers stopped =
+  given_up (Ok done) stood held free why memory numbers stopped =
       let holds = held (known.held (not_stopped old.state.stopped (λ at e. ok_or_err done (Stopped at) (stopped at e)))) in (
         s,
         known_held new s holds,
-        behind,
+        stood,
         record {
           history = refl;
           why = tt;
@@ -126,13 +127,13 @@ module _ (config : Fields) (opened : Opened) (h : History) (old new : View) (s :
           port = record { fetches = refl; port_faults = refl };
         },
       )
-  given_up (Err why) behind held free is memory numbers stopped = (
-    behind.now.stored,
-    known_of config opened (stepped_to {T = Unit {0}} h 0 Work (Err why)) new behind,
-    behind,
+  given_up (Err why) stood held free is memory numbers stopped = (
+    stood.now.stored,
+    known_of config opened (behind h 0 (Serves Work) (Some why)) new stood,
+    stood,
     record {
       history = refl;
-      why = kept_up behind.now.stored why is (λ e. memory (λ i. Err (e i))) (λ last e. numbers last (λ i. Err (e i)));
+      why = kept_up stood.now.stored why is (λ e. memory (λ i. Err (e i))) (λ last e. numbers last (λ i. Err (e i)));
       stops = stopped;
       there = none;
       free = free;

@@ -14,7 +14,7 @@ use Rattle.lethe_flush.specs.Made.{pages_in}
 use Rattle.lethe_stored.specs.Stored.{Stored}
 use Rattle.lethe_job.specs.Tasks.{AreSound, PlainTask, inputs_in, plain_task}
 use Rattle.lethe_job.specs.declared.job.Job.{Job}
-use Rattle.lethe_core.specs.Changes.{refused_to}
+use Rattle.lethe_core.specs.Asked.{refused_to}
 use Rattle.lethe_core.specs.Jobs.{IsAtWork, IsInFlight, IsWhole}
 use Rattle.lethe_core.specs.Merges.{IsInstalled}
 use Rattle.lethe_core.specs.Reasons.{HasReason, IsUnreadable}
@@ -40,10 +40,6 @@ use Rattle.lethe_drive.proofs.Reasons.{reason_on}
 use Rattle.lethe_drive.proofs.Writing.{nothing_in, outputs_for, some_of, spoilt}
 
 module _ {D Page Port : Type 0} {kind : Ghosts D Page Port} where
-  -- no job is in flight
-  pub no_flight : (core : Core D Page Port kind) → core.flight ≡ None → (view_of core).flight ≡ None
-  no_flight core none = λ i. option_map (λ (flight : Flight D Page Port kind). flying_of flight) (none i)
-
   -- the task of a job that is handed back
   pub task_back : (job whole back : Job D Page Port kind) → whole.task.value ≡ job.task.value → back.task ≡ whole.task → back.task.value ≡ job.task.value
   task_back job whole back task handed = let same : back.task.value ≡ whole.task.value = λ i. (handed i).value in same ∙ task

@@ -1,7 +1,9 @@
 -- What asking a job for its next page and writing it comes to.
-use Rattle.std.proofs.Common.{◌≡◌, ◌≤◌, ◌<◌, ◌⊎◌, inl, inr, ℕ, Bool, true, false, [], length, Option, Some, Result, Ok, Err, Vec, refl, sym, ◌∙◌, subst, arith}
-use Rattle.std.specs.Prelude.{IfSome, IsSome, slice_index_or}
+use Rattle.std.proofs.Common.{◌≡◌, ◌≤◌, ◌<◌, ◌⊎◌, inl, inr, ℕ, Bool, true, false, [], length, Option, Some, Result, Ok, Err, Vec, refl, sym, ap, ◌∙◌, subst, arith}
+use Rattle.std.specs.Prelude.{IfSome, IsSome, List, option_map, slice_index_or}
+use Rattle.std.specs.Option.{option_map_or}
 use Rattle.std.specs.declared.alloc.Global.{Global}
+use Rattle.std.specs.Result.{result_err}
 use Rattle.lethe_base.specs.History.{History}
 use Rattle.lethe_base.specs.Limits.{max_place}
 use Rattle.lethe_base.specs.declared.call.Call.TheVariants.{Work}
@@ -15,11 +17,11 @@ use Rattle.lethe_stored.specs.Stored.{Stored}
 use Rattle.lethe_job.specs.Jobs.{IsJob, IsUnread}
 use Rattle.lethe_job.specs.Tasks.{AreSound, inputs_in, plain_task}
 use Rattle.lethe_job.specs.declared.job.Job.{Job}
-use Rattle.lethe_core.specs.Changes.{refused_to}
+use Rattle.lethe_core.specs.Asked.{Serves, behind, refused_to}
 use Rattle.lethe_core.specs.Jobs.{IsAtWork, with_page}
 use Rattle.lethe_core.specs.Reasons.{HasReason, IsUnreadable}
-use Rattle.lethe_core.specs.Steps.{stepped_to}
-use Rattle.lethe_core.specs.View.{Flying, View}
+use Rattle.lethe_core.specs.View.{Face, Flying, View, face_of}
+use Rattle.lethe_engine.specs.Jobs.{next_bytes, written_face}
 use Rattle.lethe_drive.specs.Answers.{IsJobRefusal, IsWriteOut}
 use Rattle.lethe_engine.specs.StandsFor.{Opened, StandsFor}
 use Rattle.lethe_drive.specs.Moments.{IsKnown, Moment, going_of, moment_of}
@@ -32,17 +34,17 @@ module _ {D Page Port : Type 0} {kind : Ghosts D Page Port} (Tells PortsFail : T
   abbrev before : Moment
   before = moment_of old s fetches faults begun (Some (going_of number job))
 
-  abbrev behind : View → Stored → Job D Page Port kind → Moment
-  behind new t after = moment_of new t fetches faults begun (Some (going_of number after))
+  abbrev later : View → Stored → Job D Page Port kind → Moment
+  later new t after = moment_of new t fetches faults begun (Some (going_of number after))
 
   -- what a store that stood for a history and held this comes to
   abbrev pub Paged : Fields → Opened → View → Job D Page Port kind → Result Bool Refused → Type 0
-  Paged config opened new after result = (t : Stored) × IsKnown new t × StandsFor config opened (stepped_to h 0 Work result) new
-      × IsWriteOut PortsFail (going_of number job) h before result (stepped_to h 0 Work result) (behind new t after)
+  Paged config opened new after result = (t : Stored) × IsKnown new t × StandsFor config opened (behind h 0 (Serves Work) (result_err result)) new
+      × IsWriteOut PortsFail (going_of number job) h before result (behind h 0 (Serves Work) (result_err result)) (later new t after)
 
   -- the engine refused the page
   pub page_refused : (new : View) (t : Stored) (why : Refused) → HasReason (max_place ≤ old.state.next) old.state old.faults new.faults why → mid.refused ≡ true
-      → IsWriteOut PortsFail (going_of number job) h before (Err why) (refused_to h 0 Work why) (behind new t mid)
+      → IsWriteOut PortsFail (going_of number job) h before (Err why) (refused_to h 0 Work why) (later new t mid)
   page_refused new t why is refused = record {
     history = refl;
     answers = (record { port_faults = kind.port_faults mid.port; there = spoilt Tells PortsFail job mid task number refused }, inl (old.faults, new.faults, omega arith, omega arith, is));
@@ -57,14 +59,14 @@ module _ {D Page Port : Type 0} {kind : Ghosts D Page Port} (Tells PortsFail : T
       (stands.now.stored, known_of config opened (refused_to h 0 Work why) new stands, stands, page_refused new stands.now.stored why is refused)
 
   unread_reason : (why : Refused) → HasReason (max_place ≤ old.state.next) old.state old.faults old.faults why ⊎ IsUnreadable (Unit {0}) PortsFail (kind.port_faults job.port) (kind.port_faults mid.port) why
-      → IsJobRefusal PortsFail (max_place ≤ old.state.next) before (going_of number job) (kind.port_faults mid.port) (behind old s mid) why
+      → IsJobRefusal PortsFail (max_place ≤ old.state.next) before (going_of number job) (kind.port_faults mid.port) (later old s mid) why
   unread_reason why (inl is) = inl (old.faults, old.faults, omega arith, omega arith, is)
   unread_reason why (inr is) = inr is
 
   -- the inputs could not be read
   pub page_unread : Tells → AreSound (inputs_in (plain_task job.task.value)) → (why : Refused)
       → IsUnread Tells PortsFail (inputs_in (plain_task job.task.value)) (kind.port_faults job.port) (kind.port_faults mid.port) why → mid.refused ≡ true
-      → IsWriteOut PortsFail (going_of number job) h before (Err why) (refused_to h 0 Work why) (behind old s mid)
+      → IsWriteOut PortsFail (going_of number job) h before (Err why) (refused_to h 0 Work why) (later old s mid)
   page_unread told sound why is refused = record {
     history = refl;
     answers = (
@@ -99,15 +101,17 @@ module _ {D Page Port : Type 0} {kind : Ghosts D Page Port} (Tells PortsFail : T
 
     -- the next page was written
     pub page_written : (new : View) (after : Job D Page Port kind) → IfSome mid.drafts (λ drafts. job.written < length (pages_in drafts.items))
-        → IfSome old.flight (λ flying. IfSome mid.drafts (λ drafts. new.flight ≡ Some (with_page flying (page_name old.state.next, slice_index_or (pages_in drafts.items) mid.written []))))
-        → IsWriteOut PortsFail (going_of number job) h before (Ok true) h (behind new s after)
-    page_written new after left page =
+        → face_of new ≡ written_face (face_of old) (page_name old.state.next, next_bytes mid) (Ok tt)
+        → IsWriteOut PortsFail (going_of number job) h before (Ok true) h (later new s after)
+    page_written new after left face =
         let P : Option (Vec Draft Global) → Type 0 = λ o. IfSome o (λ drafts. job.written < length (pages_in drafts.items)) in
         let few : job.written < length (pages_in drafts.items) = subst P drafts_are left in
         let count = works.count in
-        let Q : Option Flying → Type 0 = λ o. IfSome o (λ flying. IfSome mid.drafts (λ drafts. new.flight ≡ Some (with_page flying (page_name old.state.next, slice_index_or (pages_in drafts.items) mid.written [])))) in
-        let R : Option (Vec Draft Global) → Type 0 = λ o. IfSome o (λ drafts. new.flight ≡ Some (with_page flying (page_name old.state.next, slice_index_or (pages_in drafts.items) mid.written []))) in
-        let put : new.flight ≡ Some (with_page flying (page_name old.state.next, slice_index_or (pages_in drafts.items) mid.written [])) = subst R drafts_are (subst Q works.flies.is page) in
+        let bytes : next_bytes mid ≡ slice_index_or (pages_in drafts.items) mid.written [] =
+        ap (λ (o : Option (Vec Draft Global)). option_map_or (λ (drafts : Vec Draft Global). slice_index_or (pages_in drafts.items) mid.written []) o []) drafts_are in
+        let put : new.flight ≡ Some (with_page flying (page_name old.state.next, slice_index_or (pages_in drafts.items) mid.written [])) =
+        ap (λ (face : Face). face.flight) face ∙ ap (option_map (λ (flying : Flying). with_page flying (page_name old.state.next, next_bytes mid))) works.flies.is
+        ∙ ap (λ (b : List ℕ). Some (with_page flying (page_name old.state.next, b))) bytes in
         record {
           history = refl;
           answers = record {
@@ -124,7 +128,7 @@ module _ {D Page Port : Type 0} {kind : Ghosts D Page Port} (Tells PortsFail : T
         }
 
     -- none was left
-    pub no_page : IfSome mid.drafts (λ drafts. job.written < length (pages_in drafts.items) → ⊥) → IsWriteOut PortsFail (going_of number job) h before (Ok false) h (behind old s mid)
+    pub no_page : IfSome mid.drafts (λ drafts. job.written < length (pages_in drafts.items) → ⊥) → IsWriteOut PortsFail (going_of number job) h before (Ok false) h (later old s mid)
     no_page left =
         let P : Option (Vec Draft Global) → Type 0 = λ o. IfSome o (λ drafts. job.written < length (pages_in drafts.items) → ⊥) in
         let over : job.written < length (pages_in drafts.items) → ⊥ = subst P drafts_are left in

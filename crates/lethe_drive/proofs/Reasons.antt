@@ -12,7 +12,7 @@ use Rattle.lethe_stored.specs.Files.{StoredFile}
 use Rattle.lethe_state.specs.declared.state.State.{State}
 use Rattle.lethe_job.specs.Jobs.{IsUnread, told_as}
 use Rattle.lethe_job.specs.Tasks.{AreSound}
-use Rattle.lethe_core.specs.Changes.{refused_to}
+use Rattle.lethe_core.specs.Asked.{refused_to}
 use Rattle.lethe_core.specs.Reasons.{HasReason, IsUnreadable}
 
 -- the reason is one for an earlier state that was stopped as this one, with as many places, and for what follows from the want of numbers

@@ -1,6 +1,7 @@
 -- The pages of a job, written one after another: what is stored stays, and where one of them is refused so is the whole.
 use Rattle.std.proofs.Common.{◌≡◌, ◌≤◌, ◌⊎◌, inl, inr, ℕ, Bool, true, false, Option, Some, None, Result, Ok, Err, refl, sym, ap, subst, arith}
 use Rattle.std.specs.Prelude.{IsSome}
+use Rattle.std.specs.Result.{result_err}
 use Rattle.lethe_base.specs.History.{History}
 use Rattle.lethe_base.specs.Limits.{max_place}
 use Rattle.lethe_base.specs.declared.call.Call.TheVariants.{Work}
@@ -10,8 +11,8 @@ use Rattle.lethe_base.specs.declared.refused.Refused.TheVariants.{Fault, Stopped
 use Rattle.lethe_disk.specs.declared.disk.Disk.{Ghosts}
 use Rattle.lethe_stored.specs.Stored.{Stored}
 use Rattle.lethe_job.specs.declared.job.Job.{Job}
+use Rattle.lethe_core.specs.Asked.{Serves, behind}
 use Rattle.lethe_core.specs.Reasons.{HasReason, IsUnreadable}
-use Rattle.lethe_core.specs.Steps.{stepped_to}
 use Rattle.lethe_core.specs.View.{View}
 use Rattle.lethe_engine.specs.StandsFor.{Opened, StandsFor}
 use Rattle.lethe_drive.specs.Answers.{IsWriteOut}
@@ -75,14 +76,14 @@ module _ {D Page Port : Type 0} {kind : Ghosts D Page Port} (Tells PortsFail : T
   -- the next page is written, or none is left
   abbrev pub Turns : Result Bool Refused → Type 0
   Turns result = Tells → (config : Fields) (opened : Opened) (h : History) → StandsFor config opened h mid → (s : Stored) → IsKnown mid s → (number fetches faults begun : ℕ)
-      → (t : Stored) × IsKnown new t × StandsFor config opened (stepped_to h 0 Work result) new
+      → (t : Stored) × IsKnown new t × StandsFor config opened (behind h 0 (Serves Work) (result_err result)) new
       × IsWriteOut PortsFail (going_of number job) h (moment_of mid s fetches faults begun (Some (going_of number job))) result
-      (stepped_to h 0 Work result) (moment_of new t fetches faults begun (Some (going_of number after)))
+      (behind h 0 (Serves Work) (result_err result)) (moment_of new t fetches faults begun (Some (going_of number after)))
 
   -- what the turns come to
   abbrev pub Comes : ℕ → Result (Unit {0}) Refused → Type 0
   Comes first result = Tells → (config : Fields) (opened : Opened) (h : History) → StandsFor config opened h old → (s : Stored) → IsKnown old s
-      → (t : Stored) × IsKnown new t × StandsFor config opened (stepped_to h 0 Work result) new × IsWritingOn PortsFail old new first (kind.port_faults after.port) s t result
+      → (t : Stored) × IsKnown new t × StandsFor config opened (behind h 0 (Serves Work) (result_err result)) new × IsWritingOn PortsFail old new first (kind.port_faults after.port) s t result
 
   -- one more was acknowledged
   pub rests_on : (wrote : Bool) → Rests Tells old mid → Turns (Ok wrote) → Rests Tells old new

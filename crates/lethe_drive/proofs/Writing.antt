@@ -74,10 +74,10 @@ module _ {D Page Port : Type 0} {kind : Ghosts D Page Port} (Tells PortsFail : T
   pub spoilt : (number : ℕ) → mid.refused ≡ true → Some (going_of number mid) ≡ Some (record (going_of number job) { refused = true; port_faults = kind.port_faults mid.port })
   spoilt number refused = λ i. Some (record { number = number; refused = refused i; task = plain_task (task i); port_faults = kind.port_faults mid.port })
 
-  module _ (written : mid.written ≡ job.written) (kept : IsSome job.drafts → mid.drafts ≡ job.drafts) (is : IsJob Tells mid) where
+  module _ (number : mid.number ≡ job.number) (written : mid.written ≡ job.written) (kept : IsSome job.drafts → mid.drafts ≡ job.drafts) (is : IsJob Tells mid) where
     pub still_works : (view : View) → IsAtWork Tells view job → mid.refused ≡ false → IsAtWork Tells view mid
     still_works view works asked = record {
-      flies = record { flying = works.flies.flying; is = works.flies.is; task = ap plain_task task ∙ works.flies.task };
+      flies = record { flying = works.flies.flying; is = works.flies.is; number = (λ i. (number i).value.count) ∙ works.flies.number; task = ap plain_task task ∙ works.flies.task };
       asked = asked;
       job_is = is;
       count = works.count ∙ sym written;

@@ -1,5 +1,6 @@
 -- What a call of a run answers, by the moments before and behind it and the histories for which the store stands there.
 use Rattle.std.specs.Prelude.{◌≡◌, ◌⊎◌, ◌↔◌, ◌≤◌, ◌<◌, ℕ, ◌+◌, ◌-◌, Bool, true, false, List, [], length, sum_by, slice_index_or, Some, None, IsSome, Result, Ok, Err, IfErr}
+use Rattle.std.specs.Result.{result_err}
 use Rattle.lethe_base.specs.History.{History, after}
 use Rattle.lethe_base.specs.Limits.{max_place}
 use Rattle.lethe_base.specs.Read.{Read, Answer, answer}
@@ -19,11 +20,10 @@ use Rattle.lethe_segment.specs.declared.record.Record.{Record}
 use Rattle.lethe_stored.specs.Stored.{Stored, appended}
 use Rattle.lethe_state.specs.Records.{headers_in}
 use Rattle.lethe_job.specs.Tasks.{PlainTask, IsBegunIn, inputs_in}
-use Rattle.lethe_core.specs.Changes.{refused_to}
+use Rattle.lethe_core.specs.Asked.{Serves, behind, refused_to}
 use Rattle.lethe_core.specs.Jobs.{with_page}
 use Rattle.lethe_core.specs.Merges.{HasNoMerge, IsInstalled, IsRoomMadeBy, Outcome, pages_of}
 use Rattle.lethe_core.specs.Reasons.{HasReason, IsShort, IsUnreadable}
-use Rattle.lethe_core.specs.Steps.{stepped_to}
 use Rattle.lethe_core.specs.View.{Flying}
 use Rattle.lethe_drive.specs.Moments.{AreJobsSame, Going, IsAllButPort, IsPortSame, Moment}
 
@@ -88,7 +88,7 @@ pub record IsRead {T : Type 0} (PortsFail : Type 0) (read : Read) (told : T → 
 
 -- It is false exactly where there is nothing to do, and then nothing is done.
 pub record IsWork (Nothing : Moment → Type 0) (Does : Stored → Stored → Type 0) (Short : Type 0) (h : History) (old : Moment) (result : Result Bool Refused) (g : History) (new : Moment) : Type 0 where
-  pub history : g ≡ stepped_to h 0 call.Work result
+  pub history : g ≡ behind h 0 (Serves call.Work) (result_err result)
   pub idle : (result ≡ Ok false) ↔ Nothing old
   pub same : result ≡ Ok false → IsAllButPort old new
   pub done : result ≡ Ok true → Does old.stored new.stored
@@ -104,7 +104,9 @@ pub record HasBegun (old : Moment) (number : ℕ) (new : Moment) : Type 0 where
   pub number_is : number ≡ old.begun
   pub task : PlainTask
   pub begun : IsBegunIn old.stored task
-  pub flight : new.flight ≡ Some (record { task = task; written = [] })
+  -- the store's own number of it, which counts from its opening on
+  pub own : ℕ
+  pub flight : new.flight ≡ Some (record { number = own; task = task; written = [] })
   pub there : new.there ≡ Some (record { number = number; refused = false; task = task; port_faults = 0 })
   pub count : new.begun ≡ old.begun + 1
 
@@ -174,7 +176,7 @@ WriteAnswers PortsFail old going (Ok false) new = HasNoPage old going new
 WriteAnswers PortsFail old going (Err why) new = (spoilt : IsSpoilt going new) × IsJobRefusal PortsFail (max_place ≤ old.state.next) old going spoilt.port_faults new why
 
 pub record IsWriteOut (PortsFail : Type 0) (going : Going) (h : History) (old : Moment) (result : Result Bool Refused) (g : History) (new : Moment) : Type 0 where
-  pub history : g ≡ stepped_to h 0 call.Work result
+  pub history : g ≡ behind h 0 (Serves call.Work) (result_err result)
   pub answers : WriteAnswers PortsFail old going result new
   pub begun : new.begun ≡ old.begun
   pub port : IsPortSame old new
@@ -194,7 +196,7 @@ InstallAnswers PortsFail old going (Ok done) new = HasInstalled old going new
 InstallAnswers PortsFail old going (Err why) new = (spoilt : IsSpoilt going new) × IsJobRefusal PortsFail (IsShortToInstall going new) old going spoilt.port_faults new why
 
 pub record IsInstall (PortsFail : Type 0) (going : Going) (h : History) (old : Moment) (result : Result (Unit {0}) Refused) (g : History) (new : Moment) : Type 0 where
-  pub history : g ≡ stepped_to h 0 call.Work result
+  pub history : g ≡ behind h 0 (Serves call.Work) (result_err result)
   pub answers : InstallAnswers PortsFail old going result new
   pub begun : new.begun ≡ old.begun
   pub port : IsPortSame old new
@@ -214,7 +216,7 @@ IsKeptUp old new (Damaged name) = ⊥
 
 -- The job has ended, and is in flight no more, but where the last place is taken. What is stored stays.
 pub record IsCancel (h : History) (old : Moment) (result : Result (Unit {0}) Refused) (g : History) (new : Moment) : Type 0 where
-  pub history : g ≡ stepped_to h 0 call.Work result
+  pub history : g ≡ behind h 0 (Serves call.Work) (result_err result)
   pub why : IfErr result (IsKeptUp old new)
   pub stops : StopsIn old result
   pub there : new.there ≡ None

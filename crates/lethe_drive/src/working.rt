@@ -1,14 +1,15 @@
 //! The events of jobs.
 ghost use Rattle.std.specs.Prelude.{◌≡◌, ◌≤◌, ◌<◌, ◌+◌, ◌^◌, ℕ, true, false, Ok, Some, None, IsErrOf, IsSome, OnErr, OnOk};
+ghost use Rattle.std.specs.Result.{result_err};
 ghost use Rattle.lethe_base.specs.declared.call.Call.TheVariants.{Work};
 ghost use Rattle.lethe_base.specs.History.{History};
 ghost use Rattle.lethe_base.specs.declared.config.Fields.{Fields};
 ghost use Rattle.lethe_base.specs.declared.refused.Refused.TheVariants.{ReadFault};
 ghost use Rattle.lethe_stored.specs.Stored.{Stored};
 ghost use Rattle.lethe_job.specs.Tasks.{AreSound, inputs_in, plain_task};
+ghost use Rattle.lethe_core.specs.Asked.{Serves, behind};
 ghost use Rattle.lethe_core.specs.Jobs.{IsAtWork, IsInFlight, IsWhole};
 ghost use Rattle.lethe_core.specs.Running.{IsSound};
-ghost use Rattle.lethe_core.specs.Steps.{stepped_to};
 ghost use Rattle.lethe_core.specs.View.{view_of};
 ghost use Rattle.lethe_engine.specs.StandsFor.{Opened, StandsFor};
 ghost use Rattle.lethe_drive.specs.Answers.{IsInstall, IsWriteOut};
@@ -96,9 +97,9 @@ fn write_next<D: Disk>(
     ensures read { IsSome job.old.drafts → (before now : ℕ) → IsErrOf result (ReadFault before now) → ⊥ }
     ensures made { OnOk result (IsSome job.new.drafts) }
     ensures step { D.tells → (config : Fields) (opened : Opened) (h : History) → StandsFor config opened h (view_of engine.old.core) → (s : Stored) → IsKnown (view_of engine.old.core) s → (number fetches faults begun : ℕ)
-        → (t : Stored) × IsKnown (view_of engine.new.core) t × StandsFor config opened (stepped_to h 0 Work result) (view_of engine.new.core)
+        → (t : Stored) × IsKnown (view_of engine.new.core) t × StandsFor config opened (behind h 0 (Serves Work) (result_err result)) (view_of engine.new.core)
         × IsWriteOut D.ports_fail (going_of number job.old) h (moment_of (view_of engine.old.core) s fetches faults begun (Some (going_of number job.old))) result
-        (stepped_to h 0 Work result) (moment_of (view_of engine.new.core) t fetches faults begun (Some (going_of number job.new))) }
+        (behind h 0 (Serves Work) (result_err result)) (moment_of (view_of engine.new.core) t fetches faults begun (Some (going_of number job.new))) }
     ensures faults { D.faults engine.old.core.disk ≤ D.faults engine.new.core.disk }
 {
     match job.next_piece(alloc)? {
@@ -151,10 +152,10 @@ fn install_whole<D: Disk>(
     ensures sound { IsSound D.tells (view_of engine.new.core) }
     ensures jobs { IsTheirs D.tells (view_of engine.new.core) jobs.new }
     ensures step { D.tells → (config : Fields) (opened : Opened) (h : History) → StandsFor config opened h (view_of engine.old.core) → (s : Stored) → IsKnown (view_of engine.old.core) s → (fetches faults : ℕ)
-        → (t : Stored) × IsKnown (view_of engine.new.core) t × StandsFor config opened (stepped_to h 0 Work result) (view_of engine.new.core)
+        → (t : Stored) × IsKnown (view_of engine.new.core) t × StandsFor config opened (behind h 0 (Serves Work) (result_err result)) (view_of engine.new.core)
         × IsInstall D.ports_fail (going_of numbered.number numbered.job) h
         (moment_of (view_of engine.old.core) s fetches faults jobs.old.begun (Some (going_of numbered.number numbered.job))) result
-        (stepped_to h 0 Work result) (moment_of (view_of engine.new.core) t fetches faults jobs.new.begun (there_of jobs.new)) }
+        (behind h 0 (Serves Work) (result_err result)) (moment_of (view_of engine.new.core) t fetches faults jobs.new.begun (there_of jobs.new)) }
     ensures begun { jobs.new.begun ≡ jobs.old.begun }
     ensures faults { D.faults engine.old.core.disk ≤ D.faults engine.new.core.disk }
 {
@@ -188,7 +189,7 @@ fn write_rest<D: Disk>(
     ensures refused { OnErr result (job.new.refused ≡ true) }
     ensures task { job.new.task.value ≡ job.old.task.value }
     ensures step { D.tells → (config : Fields) (opened : Opened) (h : History) → StandsFor config opened h (view_of engine.old.core) → (s : Stored) → IsKnown (view_of engine.old.core) s
-        → (t : Stored) × IsKnown (view_of engine.new.core) t × StandsFor config opened (stepped_to h 0 Work result) (view_of engine.new.core)
+        → (t : Stored) × IsKnown (view_of engine.new.core) t × StandsFor config opened (behind h 0 (Serves Work) (result_err result)) (view_of engine.new.core)
         × IsWritingOn D.ports_fail (view_of engine.old.core) (view_of engine.new.core) (D.port_faults job.old.port) (D.port_faults job.new.port) s t result }
     ensures faults { D.faults engine.old.core.disk ≤ D.faults engine.new.core.disk }
 {

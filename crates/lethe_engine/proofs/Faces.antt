@@ -44,3 +44,10 @@ module _ (face : Face) (state : State) where
   given_up_now runs left =
       ap (λ stopped. if is_none stopped && nat_le max_place state.count then face else record face { flight = None }) runs
       ∙ ap (λ (b : Bool). if b then face else record face { flight = None }) (lt-leb max_place state.count left)
+
+  pub given_up_free : (state.stopped ≡ None → state.count < max_place) → given_up face state ≡ record face { flight = None }
+  given_up_free may = by state.stopped refl
+    where
+      by : (stopped : Option ℕ) → state.stopped ≡ stopped → given_up face state ≡ record face { flight = None }
+      by None runs = given_up_now runs (may runs)
+      by (Some at) stopped = given_up_stopped at stopped

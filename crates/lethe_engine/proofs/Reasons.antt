@@ -9,7 +9,7 @@ use Rattle.lethe_state.specs.declared.state.State.{State}
 use Rattle.lethe_core.specs.Asked.{failure_of}
 use Rattle.lethe_core.specs.Reasons.{HasReason, IsShortOfRoom, IsUnreadable}
 use Rattle.lethe_core.specs.View.{View}
-use Rattle.lethe_engine.specs.Refusals.{HasReasonOfChange}
+use Rattle.lethe_engine.specs.Refusals.{HasReasonOfBegin, HasReasonOfChange}
 
 -- the failure of a disk is told with these counts, which rose
 abbrev pub IsTold : ℕ → ℕ → Refused → Type 0
@@ -60,3 +60,16 @@ not_begun state (Exhausted last) may = refl
 not_begun state (ReadFault before now) may = refl
 not_begun state NoMemory may = refl
 not_begun state (Damaged name) may = refl
+
+-- nor is a begin that was refused
+pub no_failure_of_begin : (Tells : Type 0) (view : View) (why : Refused) → HasReasonOfBegin Tells view why → failure_of why ≡ None
+no_failure_of_begin Tells view (Fault place before now) is = absurd is
+no_failure_of_begin Tells view (Stopped at) is = refl
+no_failure_of_begin Tells view (Backwards clock) is = refl
+no_failure_of_begin Tells view (Pinned pin limit) is = refl
+no_failure_of_begin Tells view NothingDue is = refl
+no_failure_of_begin Tells view (Cancelled begun now) is = refl
+no_failure_of_begin Tells view (Exhausted last) is = refl
+no_failure_of_begin Tells view (ReadFault before now) is = refl
+no_failure_of_begin Tells view NoMemory is = refl
+no_failure_of_begin Tells view (Damaged name) is = refl

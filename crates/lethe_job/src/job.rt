@@ -63,6 +63,7 @@ impl<D: Disk> Job<D> {
         requires erases { All (λ erase. erase.time ≤ max_time) self.old.task.value.erases }
         requires job { IsJob D.tells self.old }
         ensures job { IsJob D.tells self.new }
+        ensures number { self.new.number ≡ self.old.number }
         ensures task { self.new.task.value ≡ self.old.task.value }
         ensures written { self.new.written ≡ self.old.written }
         ensures made { OnOk result (IsSome self.new.drafts) }
@@ -101,6 +102,7 @@ impl<D: Disk> Job<D> {
         requires job { IsJob D.tells self.old }
         requires asked { self.old.refused ≡ false }
         ensures job { IsJob D.tells self.new }
+        ensures number { self.new.number ≡ self.old.number }
         ensures task { self.new.task.value ≡ self.old.task.value }
         ensures written { self.new.written ≡ self.old.written }
         ensures made { OnOk result (IsSome self.new.drafts) }

@@ -1,4 +1,5 @@
 use Rattle.std.proofs.Common.{◌≡◌, ℕ, List, Result, Ok, Err, Vec, Global, refl, sym, ap, ◌∙◌, subst, option_map}
+use Rattle.std.specs.Result.{result_err}
 use Rattle.lethe_base.specs.History.{History}
 use Rattle.lethe_base.specs.Keys.{Bytes}
 use Rattle.lethe_base.specs.Read.{Answer, Read}
@@ -9,9 +10,9 @@ use Rattle.lethe_base.specs.declared.refused.Refused.{Refused}
 use Rattle.lethe_disk.proofs.Quieting.{on_ok}
 use Rattle.lethe_stored.specs.Stored.{Stored}
 use Rattle.lethe_state.specs.Room.{IsFlushed, IsFrozen, IsShortToFlush, IsShortToFreeze}
-use Rattle.lethe_core.specs.Changes.{answered_to, put_over}
-use Rattle.lethe_core.specs.Steps.{stepped_to}
-use Rattle.lethe_core.specs.View.{View, flying_of, view_of}
+use Rattle.lethe_core.specs.Asked.{Makes, Serves, behind}
+use Rattle.lethe_core.specs.Changes.{put_over}
+use Rattle.lethe_core.specs.View.{Face, View, flying_of, view_of}
 use Rattle.lethe_engine.specs.Deletes.{IsDeleteOver}
 use Rattle.lethe_engine.specs.Reads.{listed}
 use Rattle.lethe_engine.specs.StandsFor.{Opened, StandsFor}
@@ -50,7 +51,7 @@ module _ {T U : Type 0} (see : T → U) (PortsFail : Type 0) (read : Read) (told
 
 pub returns-in-Put-clause-jobs : goal.returns-in-Put-clause-jobs
 returns-in-Put-clause-jobs g c =
-    theirs_on g.D.Disk.tells (view_of c.args.engine.now.core) (view_of c.put.new.self.core) c.args.jobs.now (ap (option_map flying_of) c.put.ensures.flight) c.requires.jobs
+    theirs_on g.D.Disk.tells (view_of c.args.engine.now.core) (view_of c.put.new.self.core) c.args.jobs.now (ap (λ (face : Face). face.flight) c.put.ensures.answers.face_is) c.requires.jobs
 
 pub returns-in-Put-clause-step : goal.returns-in-Put-clause-step
 returns-in-Put-clause-step g c = λ told config opened h stands s known.
@@ -62,20 +63,20 @@ returns-in-Put-clause-step g c = λ told config opened h stands s known.
     let fetches = g.D.Disk.fetches c.put.new.port in
     let faults = g.D.Disk.port_faults c.put.new.port in
     let before = moment_of old s (g.D.Disk.fetches c.args.port.now) (g.D.Disk.port_faults c.args.port.now) jobs.begun (there_of jobs) in
-    let stood = c.put.ensures.stands told config opened h stands 0 in
+    let stood = c.put.ensures.answers.stands told config opened h stands 0 in
     let is = changed g.D.Disk.tells g.D.Disk.ports_fail told Put (λ s headers next. next ≡ put_over s c.in-Put.key c.in-Put.dkey c.in-Put.value) config opened h old new s known
-    (g.D.Disk.fetches c.args.port.now) fetches (g.D.Disk.port_faults c.args.port.now) faults jobs.begun (there_of jobs) stands (ap (option_map flying_of) c.put.ensures.flight)
+    (g.D.Disk.fetches c.args.port.now) fetches (g.D.Disk.port_faults c.args.port.now) faults jobs.begun (there_of jobs) stands (ap (λ (face : Face). face.flight) c.put.ensures.answers.face_is)
     result stood c.put.ensures.place c.put.ensures.why
     (λ holds. on_ok result _ _ (c.put.ensures.written told s holds) (λ done. (done.0, done.1, put_over done.0 c.in-Put.key c.in-Put.dkey c.in-Put.value, done.2, refl, done.3, done.4)))
     (λ at e. (c.put.ensures.stopped at e).0) (λ runs full. (c.put.ensures.exhausted runs full).0) in
     subst (Comes g.D.Disk.ports_fail config opened h before new (λ t. moment_of new t fetches faults jobs.begun (there_of jobs)) c.placed.result) (sym c.in-Put.is)
-    (answered_to h 0 Put result, is.0, is.1, stood, (result, c.placed.ensures, is.2))
+    (behind h 0 (Makes Put) (result_err result), is.0, is.1, stood, (result, c.placed.ensures, is.2))
 
 -- Delete
 
 pub returns-in-Delete-clause-jobs : goal.returns-in-Delete-clause-jobs
 returns-in-Delete-clause-jobs g c =
-    theirs_on g.D.Disk.tells (view_of c.args.engine.now.core) (view_of c.delete.new.self.core) c.args.jobs.now (ap (option_map flying_of) c.delete.ensures.flight) c.requires.jobs
+    theirs_on g.D.Disk.tells (view_of c.args.engine.now.core) (view_of c.delete.new.self.core) c.args.jobs.now (ap (λ (face : Face). face.flight) c.delete.ensures.answers.face_is) c.requires.jobs
 
 pub returns-in-Delete-clause-step : goal.returns-in-Delete-clause-step
 returns-in-Delete-clause-step g c = λ told config opened h stands s known.
@@ -87,13 +88,13 @@ returns-in-Delete-clause-step g c = λ told config opened h stands s known.
     let fetches = g.D.Disk.fetches c.delete.new.port in
     let faults = g.D.Disk.port_faults c.delete.new.port in
     let before = moment_of old s (g.D.Disk.fetches c.args.port.now) (g.D.Disk.port_faults c.args.port.now) jobs.begun (there_of jobs) in
-    let stood = c.delete.ensures.stands told config opened h stands 0 in
+    let stood = c.delete.ensures.answers.stands told config opened h stands 0 in
     let is = changed g.D.Disk.tells g.D.Disk.ports_fail told Delete (λ s headers next. IsDeleteOver s headers c.in-Delete.key next) config opened h old new s known
-    (g.D.Disk.fetches c.args.port.now) fetches (g.D.Disk.port_faults c.args.port.now) faults jobs.begun (there_of jobs) stands (ap (option_map flying_of) c.delete.ensures.flight)
+    (g.D.Disk.fetches c.args.port.now) fetches (g.D.Disk.port_faults c.args.port.now) faults jobs.begun (there_of jobs) stands (ap (λ (face : Face). face.flight) c.delete.ensures.answers.face_is)
     result stood c.delete.ensures.place c.delete.ensures.why (c.delete.ensures.written told s)
     (λ at e. (c.delete.ensures.stopped at e).0) (λ runs full. (c.delete.ensures.exhausted runs full).0) in
     subst (Comes g.D.Disk.ports_fail config opened h before new (λ t. moment_of new t fetches faults jobs.begun (there_of jobs)) c.placed-in-Delete.result) (sym c.in-Delete.is)
-    (answered_to h 0 Delete result, is.0, is.1, stood, (result, c.placed-in-Delete.ensures, is.2))
+    (behind h 0 (Makes Delete) (result_err result), is.0, is.1, stood, (result, c.placed-in-Delete.ensures, is.2))
 
 -- Get
 
@@ -164,7 +165,7 @@ returns-in-Scan-clause-step g c = λ told config opened h stands s known.
 
 pub returns-in-Freeze-clause-jobs : goal.returns-in-Freeze-clause-jobs
 returns-in-Freeze-clause-jobs g c =
-    theirs_on g.D.Disk.tells (view_of c.args.engine.now.core) (view_of c.freeze.new.self.core) c.args.jobs.now (ap (option_map flying_of) c.freeze.ensures.flight) c.requires.jobs
+    theirs_on g.D.Disk.tells (view_of c.args.engine.now.core) (view_of c.freeze.new.self.core) c.args.jobs.now (ap (λ (face : Face). face.flight) c.freeze.ensures.answers.face_is) c.requires.jobs
 
 pub returns-in-Freeze-clause-step : goal.returns-in-Freeze-clause-step
 returns-in-Freeze-clause-step g c = λ told config opened h stands s known.
@@ -174,17 +175,17 @@ returns-in-Freeze-clause-step g c = λ told config opened h stands s known.
     let result = c.freeze.result in
     let fetches = g.D.Disk.fetches c.args.port.now in
     let faults = g.D.Disk.port_faults c.args.port.now in
-    let stood = c.freeze.ensures.stands told config opened h stands 0 in
-    let is = worked config opened h old new s known fetches faults jobs.begun (there_of jobs) HasNoFreeze IsFrozen (IsShortToFreeze old.state) (ap (option_map flying_of) c.freeze.ensures.flight)
+    let stood = c.freeze.ensures.answers.stands told config opened h stands 0 in
+    let is = worked config opened h old new s known fetches faults jobs.begun (there_of jobs) HasNoFreeze IsFrozen (IsShortToFreeze old.state) (ap (λ (face : Face). face.flight) c.freeze.ensures.answers.face_is)
     result stood c.freeze.ensures.idle (λ none. (let same = c.freeze.ensures.same none in λ i. view_of (same i).core)) (c.freeze.ensures.done told s) c.freeze.ensures.why (λ at e. (c.freeze.ensures.stopped at e).0) in
     subst (Comes g.D.Disk.ports_fail config opened h (moment_of old s fetches faults jobs.begun (there_of jobs)) new (λ t. moment_of new t fetches faults jobs.begun (there_of jobs)) c.flagged.result) (sym c.in-Freeze.is)
-    (stepped_to h 0 call.Work result, is.0, is.1, stood, (result, c.flagged.ensures, is.2))
+    (behind h 0 (Serves call.Work) (result_err result), is.0, is.1, stood, (result, c.flagged.ensures, is.2))
 
 -- Flush
 
 pub returns-in-Flush-clause-jobs : goal.returns-in-Flush-clause-jobs
 returns-in-Flush-clause-jobs g c =
-    theirs_on g.D.Disk.tells (view_of c.args.engine.now.core) (view_of c.flush.new.self.core) c.args.jobs.now (ap (option_map flying_of) c.flush.ensures.flight) c.requires.jobs
+    theirs_on g.D.Disk.tells (view_of c.args.engine.now.core) (view_of c.flush.new.self.core) c.args.jobs.now (ap (λ (face : Face). face.flight) c.flush.ensures.answers.face_is) c.requires.jobs
 
 pub returns-in-Flush-clause-step : goal.returns-in-Flush-clause-step
 returns-in-Flush-clause-step g c = λ told config opened h stands s known.
@@ -194,11 +195,11 @@ returns-in-Flush-clause-step g c = λ told config opened h stands s known.
     let result = c.flush.result in
     let fetches = g.D.Disk.fetches c.args.port.now in
     let faults = g.D.Disk.port_faults c.args.port.now in
-    let stood = c.flush.ensures.stands told config opened h stands 0 in
-    let is = worked config opened h old new s known fetches faults jobs.begun (there_of jobs) HasNoFlush IsFlushed (IsShortToFlush old.state) (ap (option_map flying_of) c.flush.ensures.flight)
+    let stood = c.flush.ensures.answers.stands told config opened h stands 0 in
+    let is = worked config opened h old new s known fetches faults jobs.begun (there_of jobs) HasNoFlush IsFlushed (IsShortToFlush old.state) (ap (λ (face : Face). face.flight) c.flush.ensures.answers.face_is)
     result stood c.flush.ensures.idle (λ none. (let same = c.flush.ensures.same none in λ i. view_of (same i).core)) (c.flush.ensures.done told s) c.flush.ensures.why (λ at e. (c.flush.ensures.stopped at e).0) in
     subst (Comes g.D.Disk.ports_fail config opened h (moment_of old s fetches faults jobs.begun (there_of jobs)) new (λ t. moment_of new t fetches faults jobs.begun (there_of jobs)) c.flagged-in-Flush.result) (sym c.in-Flush.is)
-    (stepped_to h 0 call.Work result, is.0, is.1, stood, (result, c.flagged-in-Flush.ensures, is.2))
+    (behind h 0 (Serves call.Work) (result_err result), is.0, is.1, stood, (result, c.flagged-in-Flush.ensures, is.2))
 
 -- Jobs
 

@@ -1,9 +1,13 @@
-use Rattle.std.proofs.Common.{◌≡◌, Ok, Err, None, refl}
-use Rattle.std.specs.Prelude.{option_map}
+use Rattle.std.proofs.Common.{◌≡◌, Ok, Err, None, refl, ap, subst}
+use Rattle.lethe_base.specs.History.{History}
+use Rattle.lethe_base.specs.declared.call.Call.TheVariants.{Work}
 use Rattle.lethe_base.specs.declared.refused.Refused.TheVariants.{NothingDue, Stopped}
 use Rattle.lethe_advance.specs.Shown.{parts_by_level}
 use Rattle.lethe_job.specs.Tasks.{plain_task}
-use Rattle.lethe_core.specs.View.{flying_of, view_of}
+use Rattle.lethe_core.specs.View.{Face, flying_of, view_of}
+use Rattle.lethe_core.proofs.Asked.{refused_none}
+use Rattle.lethe_engine.specs.StandsFor.{StandsFor}
+use Rattle.lethe_engine.proofs.Reasons.{no_failure_of_begin}
 use Rattle.lethe_drive.specs.Moments.{there_of}
 use Rattle.lethe_drive.proofs.Freezing.{has_begun, has_not_begun, known_idle, some_mapped}
 use Rattle.lethe_drive.proofs.Giving.{begun_reads, theirs_on}
@@ -33,7 +37,7 @@ returns-in-Ok-clause-step g c = λ told config opened h stands s known fetches f
       h,
       s,
       known_held new s begun.1,
-      is.stands told config opened h stands,
+      is.answers.stands told config opened h stands 0,
       (
         Ok jobs.begun,
         refl,
@@ -44,7 +48,7 @@ returns-in-Ok-clause-step g c = λ told config opened h stands s known fetches f
 
 pub returns-in-Err-clause-jobs : goal.returns-in-Err-clause-jobs
 returns-in-Err-clause-jobs g c =
-    theirs_on g.D.Disk.tells (view_of c.args.engine.now.core) (view_of c.begin.new.self.core) c.args.jobs.now (λ i. option_map flying_of (c.in-Err.ensures.kept i)) c.requires.jobs
+    theirs_on g.D.Disk.tells (view_of c.args.engine.now.core) (view_of c.begin.new.self.core) c.args.jobs.now (ap (λ (face : Face). face.flight) c.in-Err.ensures.answers.face_is) c.requires.jobs
 
 pub returns-in-Err-clause-step : goal.returns-in-Err-clause-step
 returns-in-Err-clause-step g c = λ told config opened h stands s known fetches faults.
@@ -53,12 +57,12 @@ returns-in-Err-clause-step g c = λ told config opened h stands s known fetches 
     let jobs = c.args.jobs.now in
     let why = c.in-Err.why in
     let is = c.in-Err.ensures in
-    let flight : new.flight ≡ old.flight = λ i. option_map flying_of (is.kept i) in
+    let flight : new.flight ≡ old.flight = ap (λ (face : Face). face.flight) is.answers.face_is in
     let levels : new.levels ≡ old.levels = λ i. parts_by_level (is.same.1 i) in (
       h,
       s,
-      known_idle old new s (is.idle told) is.same.0 levels flight known,
-      is.stands told config opened h stands,
+      known_idle old new s (is.idle told) is.same.0 levels flight (ap (λ (face : Face). face.begun) is.answers.face_is) known,
+      subst (λ (g : History). StandsFor config opened g new) (refused_none h 0 Work why (no_failure_of_begin g.D.Disk.tells old why is.why)) (is.answers.stands told config opened h stands 0),
       (
         Err why,
         refl,

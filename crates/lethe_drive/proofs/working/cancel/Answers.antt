@@ -1,8 +1,9 @@
-use Rattle.std.proofs.Common.{◌≡◌, inl, inr, Some, None, sym, ◌∙◌}
-use Rattle.std.specs.Prelude.{option_map}
+use Rattle.std.proofs.Common.{◌≡◌, inl, inr, Some, None, sym, ap, ◌∙◌}
+use Rattle.std.specs.Result.{result_err}
 use Rattle.lethe_base.specs.declared.call.Call.TheVariants.{Work}
-use Rattle.lethe_core.specs.Steps.{stepped_to}
-use Rattle.lethe_core.specs.View.{flying_of, view_of}
+use Rattle.lethe_core.specs.Asked.{Serves, behind}
+use Rattle.lethe_core.specs.View.{Face, face_of, view_of}
+use Rattle.lethe_engine.proofs.Faces.{given_up_free}
 use Rattle.lethe_drive.specs.Moments.{going_of, moment_of, there_of}
 use Rattle.lethe_drive.specs.Steps.{IsThere}
 use Rattle.lethe_drive.proofs.Giving.{given_up, theirs_back, theirs_flies, theirs_none}
@@ -62,9 +63,9 @@ returns-clause-step g c = λ told config opened h stands s known fetches faults.
     let gone = record jobs { there = c.take.new.self } in
     let is = c.cancel.ensures in
     let given =
-    given_up config opened h old new s known fetches faults jobs.begun (there_of jobs) (there_of gone) (there_none gone c.take.ensures.after) c.cancel.result (is.stands told config opened h stands 0)
-    (is.held told s) (λ may i. option_map flying_of (is.free may i)) is.why is.no_memory is.exhausted (λ at e. (is.stopped at e).0) in (
-      stepped_to h 0 Work c.cancel.result,
+    given_up config opened h old new s known fetches faults jobs.begun (there_of jobs) (there_of gone) (there_none gone c.take.ensures.after) c.cancel.result (is.answers.stands told config opened h stands 0)
+    (is.held told s) (λ may. ap (λ (face : Face). face.flight) (is.answers.face_is ∙ given_up_free (face_of old) old.state may)) is.why is.no_memory is.exhausted (λ at e. (is.stopped at e).0) in (
+      behind h 0 (Serves Work) (result_err c.cancel.result),
       given.0,
       given.1,
       given.2,

@@ -1,6 +1,7 @@
 use Rattle.std.proofs.Common.{◌≡◌, inl, None, Some, sym, ◌∙◌}
+use Rattle.std.specs.Result.{result_err}
 use Rattle.lethe_base.specs.declared.call.Call.TheVariants.{Work}
-use Rattle.lethe_core.specs.Steps.{stepped_to}
+use Rattle.lethe_core.specs.Asked.{Serves, behind}
 use Rattle.lethe_core.specs.View.{view_of}
 use Rattle.lethe_drive.specs.Moments.{Going, moment_of, there_of}
 use Rattle.lethe_drive.specs.Steps.{IsAsked}
@@ -47,10 +48,10 @@ returns-clause-step g c = λ told config opened h stands s known fetches faults.
     let numbered = c.in-Some.numbered in
     let result = c.install_whole.result in
     let step = c.install_whole.ensures.step told config opened h stands s known fetches faults in (
-      stepped_to h 0 Work result,
+      behind h 0 (Serves Work) (result_err result),
       step.0,
       step.1,
       step.2,
-      asked_to_install jobs g.D.Disk.ports_fail h (stepped_to h 0 Work result) (view_of c.args.engine.now.core) s fetches faults c.args.number numbered result c.united.result
+      asked_to_install jobs g.D.Disk.ports_fail h (behind h 0 (Serves Work) (result_err result)) (view_of c.args.engine.now.core) s fetches faults c.args.number numbered result c.united.result
           (moment_of new step.0 fetches faults after.begun (there_of after)) (sym c.take.ensures.value ∙ c.in-Some.is) c.if-numbered-number.false c.if-numbered.false c.united.ensures step.3,
     )

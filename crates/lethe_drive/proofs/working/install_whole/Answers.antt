@@ -1,8 +1,9 @@
+use Rattle.std.proofs.Common.{ap}
 use Rattle.lethe_base.specs.declared.call.Call.TheVariants.{Work}
-use Rattle.lethe_core.specs.Changes.{refused_to}
-use Rattle.lethe_core.specs.View.{view_of}
+use Rattle.lethe_core.specs.Asked.{refused_to}
+use Rattle.lethe_core.specs.View.{Face, view_of}
 use Rattle.lethe_drive.specs.Moments.{there_of}
-use Rattle.lethe_drive.proofs.Installing.{install_refused, installed_whole, no_flight, rest_refused, task_back, theirs_spoilt}
+use Rattle.lethe_drive.proofs.Installing.{install_refused, installed_whole, rest_refused, task_back, theirs_spoilt}
 use Rattle.lethe_drive.proofs.Knowing.{known_of}
 use Rattle.lethe_drive.proofs.Naming.{there_none}
 use Rattle.lethe_drive.proofs.working.install_whole.Goals as goal
@@ -24,8 +25,8 @@ returns-in-Ok-clause-step g c = λ told config opened h stands s known fetches f
     let step = c.in_default.ensures.step told config opened h stands s known in
     let made = installed_whole g.D.Disk.tells g.D.Disk.ports_fail h (view_of c.args.engine.now.core) s numbered.number fetches faults c.args.jobs.now.begun numbered.job tt
     (view_of c.write_rest.new.engine.core) (view_of c.install.new.self.core) c.write_rest.new.job step.0 (there_of c.args.jobs.now) c.write_rest.ensures.task step.1 step.3.done
-    (λ at is. (c.in-Ok.ensures.stopped at is).1) (c.in-Ok.ensures.done told step.0) (no_flight c.install.new.self.core c.in-Ok.ensures.free) (there_none c.args.jobs.now c.requires.none) in
-    (made.0, made.1, c.in-Ok.ensures.stands told config opened h step.2 0, made.2)
+    (λ at is. (c.in-Ok.ensures.stopped at is).1) (c.in-Ok.ensures.done told step.0) (ap (λ (face : Face). face.flight) c.in-Ok.ensures.answers.face_is) (there_none c.args.jobs.now c.requires.none) in
+    (made.0, made.1, c.in-Ok.ensures.answers.stands told config opened h step.2 0, made.2)
 
 pub returns-in-Err-install-clause-jobs : goal.returns-in-Err-install-clause-jobs
 returns-in-Err-install-clause-jobs g c =
@@ -39,7 +40,7 @@ returns-in-Err-install-clause-step g c = λ told config opened h stands s known 
     let numbered = c.args.numbered in
     let step = c.in_default.ensures.step told config opened h stands s known in
     let is = c.in-Err-install.ensures in
-    let after = is.stands told config opened h step.2 0 in (
+    let after = is.answers.stands told config opened h step.2 0 in (
       after.now.stored,
       known_of config opened (refused_to h 0 Work c.in-Err-install.why) (view_of c.install.new.self.core) after,
       after,

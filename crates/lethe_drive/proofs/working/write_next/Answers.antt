@@ -17,7 +17,7 @@ returns-in_err-piece-clause-step g c = λ told config opened h stands s known nu
 
 pub write_out-requires-clause-works : goal.write_out-requires-clause-works
 write_out-requires-clause-works g c κs within =
-    still_works g.D.Disk.tells g.D.Disk.ports_fail c.args.job.now c.next_piece.new.self c.next_piece.ensures.task c.next_piece.ensures.written c.next_piece.ensures.kept c.next_piece.ensures.job
+    still_works g.D.Disk.tells g.D.Disk.ports_fail c.args.job.now c.next_piece.new.self c.next_piece.ensures.task c.next_piece.ensures.number c.next_piece.ensures.written c.next_piece.ensures.kept c.next_piece.ensures.job
     (view_of c.args.engine.now.core) c.requires.works c.in_ok-piece.ensures.ok
 
 -- the engine refuses it
@@ -27,7 +27,7 @@ returns-in_err-write_out-in-Some-clause-step g c = λ told config opened h stand
     let refused = c.in_err-write_out-in-Some.ensures in
     let same : c.write_out.new.job.task.value ≡ c.next_piece.new.self.task.value = λ i. (c.write_out.ensures.same.1 i).value in
     refused_paged g.D.Disk.tells g.D.Disk.ports_fail h (view_of c.args.engine.now.core) s number fetches faults begun c.args.job.now c.write_out.new.job (same ∙ c.next_piece.ensures.task)
-    config opened (view_of c.write_out.new.self.core) c.from_residual-in_err-write_out-in-Some.result c.in_err-write_out-in-Some.field-0.0 (search rules) (refused.stands told config opened h stands 0) refused.why refused.refused
+    config opened (view_of c.write_out.new.self.core) c.from_residual-in_err-write_out-in-Some.result c.in_err-write_out-in-Some.field-0.0 (search rules) (refused.answers.stands told config opened h stands 0) refused.why refused.refused
 
 -- it is written
 
@@ -37,7 +37,7 @@ returns-in_ok-write_out-in-Some-clause-fewer g c = λ done.
     let next = c.in_ok-piece.field-0 in
     let is : next ≡ Some c.in-Some.piece = cc in
     let asked = c.in_ok-piece.ensures in
-    fewer_left g.D.Disk.tells g.D.Disk.ports_fail c.args.job.now mid c.next_piece.ensures.task c.next_piece.ensures.written c.next_piece.ensures.kept c.next_piece.ensures.job c.write_out.new.job asked.made
+    fewer_left g.D.Disk.tells g.D.Disk.ports_fail c.args.job.now mid c.next_piece.ensures.task c.next_piece.ensures.number c.next_piece.ensures.written c.next_piece.ensures.kept c.next_piece.ensures.job c.write_out.new.job asked.made
     (left_of mid.drafts next c.in-Some.piece c.args.job.now.written is asked.left) c.write_out.ensures.same.0 c.in_ok-write_out-in-Some.ensures.written
 
 pub returns-in_ok-write_out-in-Some-clause-step : goal.returns-in_ok-write_out-in-Some-clause-step
@@ -52,16 +52,16 @@ returns-in_ok-write_out-in-Some-clause-step g c = λ told config opened h stands
     let runs = not_stopped old.state.stopped (λ at e. ok_or_err c.in_ok-write_out-in-Some.field-0 (Stopped at) (written.stopped at e).0) in (
       s,
       known_held new s (written.held told s (known.held runs)),
-      written.stands told config opened h stands 0,
+      written.answers.stands told config opened h stands 0,
       page_written g.D.Disk.tells g.D.Disk.ports_fail h old s number fetches faults begun c.args.job.now mid c.next_piece.ensures.task told (c.requires.reads told) c.requires.works c.next_piece.ensures.written
-          asked.made c.next_piece.ensures.job new c.write_out.new.job (left_of mid.drafts next c.in-Some.piece c.args.job.now.written is asked.left) written.next_page,
+          asked.made c.next_piece.ensures.job new c.write_out.new.job (left_of mid.drafts next c.in-Some.piece c.args.job.now.written is asked.left) written.answers.face_is,
     )
 
 -- none is left
 
 pub returns-in-None-clause-works : goal.returns-in-None-clause-works
 returns-in-None-clause-works g c =
-    still_works g.D.Disk.tells g.D.Disk.ports_fail c.args.job.now c.next_piece.new.self c.next_piece.ensures.task c.next_piece.ensures.written c.next_piece.ensures.kept c.next_piece.ensures.job
+    still_works g.D.Disk.tells g.D.Disk.ports_fail c.args.job.now c.next_piece.new.self c.next_piece.ensures.task c.next_piece.ensures.number c.next_piece.ensures.written c.next_piece.ensures.kept c.next_piece.ensures.job
     (view_of c.args.engine.now.core) c.requires.works c.in_ok-piece.ensures.ok
 
 pub returns-in-None-clause-step : goal.returns-in-None-clause-step

@@ -1,6 +1,7 @@
 use Rattle.std.proofs.Common.{◌≡◌, inl, inr, Option, Some, sym, subst, ◌∙◌}
+use Rattle.std.specs.Result.{result_err}
 use Rattle.lethe_base.specs.declared.call.Call.TheVariants.{Work}
-use Rattle.lethe_core.specs.Steps.{stepped_to}
+use Rattle.lethe_core.specs.Asked.{Serves, behind}
 use Rattle.lethe_core.specs.View.{view_of}
 use Rattle.lethe_drive.specs.Answers.{IsWriteOut}
 use Rattle.lethe_drive.specs.Moments.{Going, going_of, moment_of, there_of}
@@ -34,7 +35,7 @@ returns-in-Some-clause-step g c = λ told config opened h stands s known fetches
     let result = c.write_next.result in
     let there = there_is jobs numbered c.in-Some.is in
     let step = c.write_next.ensures.step told config opened h stands s known numbered.number fetches faults jobs.begun in (
-      stepped_to h 0 Work result,
+      behind h 0 (Serves Work) (result_err result),
       step.0,
       step.1,
       step.2,
@@ -43,7 +44,7 @@ returns-in-Some-clause-step g c = λ told config opened h stands s known fetches
         ((there, c.if-numbered-number.true), c.if-not-numbered.true),
         result,
         c.flagged.ensures,
-        subst (λ (o : Option Going). IsWriteOut g.D.Disk.ports_fail going h (moment_of old s fetches faults jobs.begun o) result (stepped_to h 0 Work result)
+        subst (λ (o : Option Going). IsWriteOut g.D.Disk.ports_fail going h (moment_of old s fetches faults jobs.begun o) result (behind h 0 (Serves Work) (result_err result))
             (moment_of new step.0 fetches faults jobs.begun (Some (going_of numbered.number c.write_next.new.job)))) (sym there) step.3,
       ),
     )
