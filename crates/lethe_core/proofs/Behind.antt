@@ -1,14 +1,12 @@
 -- Steps behind others that were carried out: they may be done, and their refusals are those of the whole.
-use Rattle.std.proofs.Common.{◌≡◌, ◌≤◌, ◌⊎◌, inl, inr, ℕ, ◌+◌, Option, Some, None, refl, sym, ap, ◌∙◌, subst, arith}
+use Rattle.std.proofs.Common.{◌≡◌, ◌≤◌, ◌⊎◌, inl, inr, ℕ, ◌+◌, Some, None, refl, sym, ap, ◌∙◌, subst, arith}
 use Rattle.std.specs.Prelude.{option_map}
 use Rattle.std.specs.Option.{option_map_or, option_or}
-use Rattle.lethe_base.specs.History.{History}
-use Rattle.lethe_base.specs.declared.call.Call.{Call}
 use Rattle.lethe_base.specs.declared.refused.Refused.{Refused}
 use Rattle.lethe_base.specs.declared.refused.Refused.TheVariants.{Fault, Stopped, Backwards, Pinned, NothingDue, Cancelled, Exhausted, ReadFault, NoMemory, Damaged}
 use Rattle.lethe_cover.specs.Steps.{with_failed}
 use Rattle.lethe_state.specs.declared.state.State.{State}
-use Rattle.lethe_core.specs.Asked.{Failure, failure_of}
+use Rattle.lethe_core.specs.Asked.{failure_of}
 use Rattle.lethe_core.specs.Keeps.{Keeps, MayStep}
 use Rattle.lethe_core.specs.Reasons.{HasReason, IsUnreadable, told_since}
 use Rattle.lethe_core.specs.StandsNow.{StandsNow}

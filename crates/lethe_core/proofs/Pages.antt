@@ -1,5 +1,5 @@
 -- A page of the job in flight is written beside what is stored.
-use Rattle.std.proofs.Common.{◌≡◌, ◌≤◌, ◌+◌, ℕ, List, Option, Some, None, Result, Ok, Err, refl, sym, ap, ◌∙◌, subst, arith}
+use Rattle.std.proofs.Common.{◌≡◌, ◌≤◌, ◌+◌, ℕ, List, Option, Some, None, Result, Err, refl, sym, ap, ◌∙◌, subst, arith}
 use Rattle.std.specs.Prelude.{IfSome, OnErr, option_map}
 use Rattle.std.specs.FinMap.{insert}
 use Rattle.lethe_base.specs.History.{History}

@@ -1,18 +1,13 @@
 -- What a change of a store comes to.
-use Rattle.std.specs.Prelude.{ℕ, ◌+◌, [], ◌∷◌, ◌++◌, Result, Ok, Err, Option, Some, None}
+use Rattle.std.specs.Prelude.{ℕ, ◌+◌, [], ◌∷◌, ◌++◌}
 use Rattle.std.specs.FinMap as finmap
-use Rattle.lethe_base.specs.History.{History, Change}
 use Rattle.lethe_base.specs.Keys.{Bytes}
-use Rattle.lethe_base.specs.declared.call.Call.{Call}
-use Rattle.lethe_base.specs.declared.call.Did.TheVariants.{Done}
 use Rattle.lethe_base.specs.declared.entry.Body.TheVariants.{Put}
-use Rattle.lethe_base.specs.declared.refused.Refused.{Refused}
-use Rattle.lethe_base.specs.declared.refused.Refused.TheVariants.{Fault, Stopped, Backwards, Pinned, NothingDue, Cancelled, Exhausted, ReadFault, NoMemory, Damaged}
 use Rattle.lethe_disk.specs.Directory.{Directory}
 use Rattle.lethe_segment.specs.declared.record.Record.{Record}
 use Rattle.lethe_segment.specs.declared.record.Record.TheVariants as of
 use Rattle.lethe_segment.specs.Segments.{segment_bytes}
-use Rattle.lethe_cover.specs.Steps.{time_of, with_done, with_failed}
+use Rattle.lethe_cover.specs.Steps.{time_of}
 use Rattle.lethe_stored.specs.Stored.{Stored, segment_name, count_of, layout_of}
 
 -- the directory with the record behind those of the active segment

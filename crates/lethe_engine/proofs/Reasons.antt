@@ -4,11 +4,14 @@ use Rattle.std.specs.Prelude.{IfSome}
 use Rattle.lethe_base.specs.Counts.{Rose}
 use Rattle.lethe_base.specs.declared.refused.Refused.{Refused}
 use Rattle.lethe_base.specs.declared.refused.Refused.TheVariants.{Fault, Stopped, Backwards, Pinned, NothingDue, Cancelled, Exhausted, ReadFault, NoMemory, Damaged}
+use Rattle.lethe_disk.specs.declared.cursor.ReadRefused.{ReadRefused}
+use Rattle.lethe_disk.specs.declared.cursor.ReadRefused.TheVariants as reads
 use Rattle.lethe_state.specs.Records.{MayRefuse}
 use Rattle.lethe_state.specs.declared.state.State.{State}
 use Rattle.lethe_core.specs.Asked.{failure_of}
 use Rattle.lethe_core.specs.Reasons.{HasReason, IsShortOfRoom, IsUnreadable}
 use Rattle.lethe_core.specs.View.{View}
+use Rattle.lethe_engine.specs.Reads.{told_as}
 use Rattle.lethe_engine.specs.Refusals.{HasReasonOfBegin, HasReasonOfChange}
 
 -- the failure of a disk is told with these counts, which rose
@@ -73,3 +76,9 @@ no_failure_of_begin Tells view (Exhausted last) is = refl
 no_failure_of_begin Tells view (ReadFault before now) is = refl
 no_failure_of_begin Tells view NoMemory is = refl
 no_failure_of_begin Tells view (Damaged name) is = refl
+
+-- nor is a read
+pub no_failure_of_read : (why : ReadRefused) → failure_of (told_as why) ≡ None
+no_failure_of_read (reads.ReadFault before after) = refl
+no_failure_of_read (reads.Damaged name) = refl
+no_failure_of_read reads.NoMemory = refl

@@ -1,8 +1,10 @@
 //! Reads of a store.
 ghost use Rattle.std.specs.Prelude.{◌≡◌, ◌≤◌, ◌+◌, ℕ, IfOk, IfErr, IsErrOf, sum_by, if◌then◌else◌};
+ghost use Rattle.std.specs.Result.{result_err};
 ghost use Rattle.lethe_base.specs.Counts.{Rose};
 ghost use Rattle.lethe_base.specs.History.{History, after};
 ghost use Rattle.lethe_base.specs.Read.{Get, Scan, Found, answer};
+ghost use Rattle.lethe_base.specs.declared.call.Call.TheVariants.{Work};
 ghost use Rattle.lethe_base.specs.declared.config.Fields.{Fields};
 ghost use Rattle.lethe_base.specs.declared.name.Name.{Name};
 ghost use Rattle.lethe_base.specs.declared.refused.Refused.TheVariants.{ReadFault, Damaged};
@@ -11,7 +13,9 @@ ghost use Rattle.lethe_version.specs.Versions.{files_of};
 ghost use Rattle.lethe_engine.specs.Reads.{IsReadRefusal, is_in_memory, listed, told_as};
 ghost use Rattle.lethe_core.specs.Running.{IsSound};
 ghost use Rattle.lethe_core.specs.StandsNow.{StandsNow};
-ghost use Rattle.lethe_core.specs.View.{view_of};
+ghost use Rattle.lethe_core.specs.View.{face_of, view_of};
+ghost use Rattle.lethe_core.specs.Asked.{Serves};
+ghost use Rattle.lethe_engine.specs.Answers.{Answers};
 
 use crate::Engine;
 use lethe_base::{Key, Refused, Value};
@@ -32,6 +36,9 @@ impl<D: Disk> Engine<D> {
         port: &mut D::Port,
         key: &Key,
     ) -> Result<Option<(u64, Value)>, Refused>
+        // The store stays as it is, whatever is answered.
+        ensures answers { IsSound D.tells (view_of self.now.core)
+            → Answers D.tells (Serves Work) (result_err result) (face_of (view_of self.now.core)) (view_of self.now.core) (view_of self.now.core) }
         ensures answer { D.tells → (config : Fields) (h : History) → StandsNow config h (view_of self.now.core)
             → IfOk result (λ held. answer (after h) (Get key.now) ≡ Found held) }
 
@@ -74,6 +81,9 @@ impl<D: Disk> Engine<D> {
         lo: &Key,
         hi: &Key,
     ) -> Result<Vec<(Key, u64, Value)>, Refused>
+        // The store stays as it is, whatever is answered.
+        ensures answers { IsSound D.tells (view_of self.now.core)
+            → Answers D.tells (Serves Work) (result_err result) (face_of (view_of self.now.core)) (view_of self.now.core) (view_of self.now.core) }
         ensures answer { D.tells → (config : Fields) (h : History) → StandsNow config h (view_of self.now.core)
             → IfOk result (λ pairs. answer (after h) (Scan lo.now hi.now) ≡ listed pairs.items) }
         ensures later { D.fetches port.old ≤ D.fetches port.new }

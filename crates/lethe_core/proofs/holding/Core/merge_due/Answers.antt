@@ -1,4 +1,4 @@
-use Rattle.std.proofs.Common.{rules, ◌≡◌, [], None, refl, ap, arith}
+use Rattle.std.proofs.Common.{rules, ◌≡◌, [], None, ap, arith}
 use Rattle.std.specs.Prelude.{IsSome, IsTrue, List, ◌+◌, false, option_map}
 use Rattle.std.proofs.lemmas.Result.{IfErr-weaker}
 use Rattle.lethe_disk.proofs.Quieting.{on_ok}

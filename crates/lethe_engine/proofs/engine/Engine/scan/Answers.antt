@@ -1,6 +1,11 @@
-use Rattle.std.proofs.Common.{Err, ap, sym, ◌∙◌}
+use Rattle.std.proofs.Common.{Some, None, Err, ap, sym, ◌∙◌}
 use Rattle.std.specs.Option.{option_copied}
+use Rattle.lethe_base.specs.declared.call.Call.TheVariants.{Work}
+use Rattle.lethe_core.specs.Asked.{Serves, failure_of}
+use Rattle.lethe_core.specs.View.{view_of}
 use Rattle.lethe_engine.proofs.Answering.{damage_told, err_told, fault_told, files_sound, listed_between, stored_sound}
+use Rattle.lethe_engine.proofs.Calls.{itself_answers, refused_is_none, served_is_none}
+use Rattle.lethe_engine.proofs.Reasons.{no_failure_of_read}
 use Rattle.lethe_engine.proofs.engine.Engine.scan.Goals as goal
 
 pub returns-in-Ok-clause-answer : goal.returns-in-Ok-clause-answer
@@ -18,3 +23,11 @@ returns-in-Err-clause-undamaged g c = λ told sound name is.
 pub returns-in-Err-clause-fault : goal.returns-in-Err-clause-fault
 returns-in-Err-clause-fault g c = λ before after is.
     c.in-Err.ensures.cause.fault before after (ap Err (fault_told c.in-Err.why before after (sym c.told_as.ensures ∙ err_told is)))
+
+pub returns-in-Ok-clause-answers : goal.returns-in-Ok-clause-answers
+returns-in-Ok-clause-answers g c = λ sound. itself_answers g.D.Disk.tells (Serves Work) None (view_of c.args.self.now.core) sound (served_is_none Work)
+
+pub returns-in-Err-clause-answers : goal.returns-in-Err-clause-answers
+returns-in-Err-clause-answers g c = λ sound.
+    itself_answers g.D.Disk.tells (Serves Work) (Some c.told_as.result) (view_of c.args.self.now.core) sound
+    (refused_is_none (Serves Work) c.told_as.result (ap failure_of c.told_as.ensures ∙ no_failure_of_read c.in-Err.why))
