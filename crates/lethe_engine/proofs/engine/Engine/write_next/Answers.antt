@@ -1,4 +1,4 @@
-use Rattle.std.proofs.Common.{rules, ◌≡◌, ◌≤◌, Option, Some, Result, Err, List, ℕ, refl, sym, ap, ◌∙◌, subst}
+use Rattle.std.proofs.Common.{rules, ◌≡◌, ◌≤◌, Option, Some, Result, Err, List, ℕ, refl, sym, ap, subst}
 use Rattle.std.specs.Prelude.{IfSome, IsSome, OnOk}
 use Rattle.std.specs.Result.{result_err}
 use Rattle.lethe_base.specs.Limits.{max_place}
