@@ -24,14 +24,16 @@ use Rattle.lethe_script.specs.Grammar.{script_of}
 use Rattle.lethe_run.specs.declared.reply.Line.{Line}
 use Rattle.lethe_run.specs.declared.status.Status.{Status}
 use Rattle.lethe_run.specs.declared.status.Status.TheVariants.{Answered, BadWords, BadScript, ReadFault, WriteFault, Refused, NoMemory, Damaged, OtherConfig}
+use Rattle.lethe_run.specs.Anywhere.{AreToldThrough, IsPlausible, Standing, standing_of}
 use Rattle.lethe_run.specs.Carried.{IsCarriedOut}
 use Rattle.lethe_run.specs.Ends as ends
 use Rattle.lethe_run.specs.Ends.{Run, Asks, IsCommand, IsNoCommand, IsUnused, OnLeft, OnScript, Carries, IsBegun, IsSoundFor, course_of, IsNoScript, IsNotOpened}
 use Rattle.lethe_run.specs.Printed.{bad_words, bad_line, open_line}
-use Rattle.lethe_run.specs.Scripts.{Serves, All, ScriptEnds}
+use Rattle.lethe_run.specs.Scripts.{All, IsToldFrom, ScriptEnds, Serves}
 use Rattle.lethe_run.specs.Serving.{IsOn, IsCarried, Point}
 use Rattle.lethe_run.specs.Status.{EndsWith, Says, IsToldOf, status_for}
 use Rattle.lethe_run.specs.Transcript.{Start, text_of}
+use Rattle.lethe_run.proofs.Anywhere.{through_wider}
 
 -- what stands behind the limit changes nothing
 past_limit : (bytes more : Bytes) → 16777216 < length bytes → script_of (bytes ++ more) ≡ script_of bytes
@@ -182,14 +184,27 @@ module _ (run : Run) (config : Fields) (asks : Asks run config) (phases : List (
     ];
   }
 
-  carries : (front : List (List Order)) (lines : List (List Line)) → Serves run.Tells run.PortsFail mid run.finish run.faults front lines → Carries run config front lines
-  carries front lines served = λ told kept left change is next drawn.
-      let r = resumed told kept left change is in
-      let opening = moments told kept left change is in
-      carried_out told kept left change r next drawn front lines opening (served told (begin_at next) (point left change r) (on left change r opening.later next drawn))
+  plausible : (front : List (List Order)) (lines : List (List Line)) → IsToldFrom run.PortsFail mid run.faults front lines → IsPlausible run.PortsFail run.faults_before run.faults front lines
+  plausible front lines told =
+      let standing : Option ℕ → Standing = λ failed. record { count = mid.state.count; failed = failed } in
+      record {
+        opened = mid.state.count;
+        end = told.0;
+        told = subst (λ s. AreToldThrough run.PortsFail run.faults_before run.faults front s lines told.0) (ap standing runs)
+            (through_wider run.PortsFail mid.faults run.faults run.faults_before run.faults up (omega arith) front (standing_of mid) lines told.0 told.1);
+      }
+
+  carries : (front : List (List Order)) (lines : List (List Line)) → IsToldFrom run.PortsFail mid run.faults front lines → Serves run.Tells run.PortsFail mid run.finish run.faults front lines → Carries run config front lines
+  carries front lines told served = record {
+    told = plausible front lines told;
+    left = λ told kept left change is next drawn.
+        let r = resumed told kept left change is in
+        let opening = moments told kept left change is in
+        carried_out told kept left change r next drawn front lines opening (served told (begin_at next) (point left change r) (on left change r opening.later next drawn));
+  }
 
   all : (refused : Bool) → All run.Tells run.PortsFail mid run.finish run.faults run.taken_before run.taken phases refused → ends.Answered run config refused
-  all refused a = record { lines = a.lines; script = script (λ p. Carries run config p a.lines) (carries phases a.lines a.served); written = a.written; is = a.is; sound = sound }
+  all refused a = record { lines = a.lines; script = script (λ p. Carries run config p a.lines) (carries phases a.lines a.told a.served); written = a.written; is = a.is; sound = sound }
 
   pub script_ended : (status : Status) → ScriptEnds run.Tells run.PortsFail mid run.finish run.faults run.taken_before run.taken run.SinkRose phases status → EndsWith run status
   script_ended Answered e = (config, asks, all false e)
@@ -202,25 +217,23 @@ module _ (run : Run) (config : Fields) (asks : Asks run config) (phases : List (
       asks,
       record {
         lines = e.1.lines;
-        script = script (λ p. (count : ℕ) × Carries run config (take count p) e.1.lines) (e.1.count, carries (take e.1.count phases) e.1.lines e.1.served);
+        script = script (λ p. (count : ℕ) × Carries run config (take count p) e.1.lines) (e.1.count, carries (take e.1.count phases) e.1.lines e.1.told e.1.served);
         is = refl;
         sound = sound;
       },
     ))),
     e.1.written,
   )
-  script_ended NoMemory e = (config, asks, inr (record { lines = e.lines; script = script (λ p. Inner p) inner; written = e.written; sound = sound }))
-    where
-      Inner : List (List Order) → Type 0
-      Inner p = OnLeft run (λ kept left change. (next : ℕ) → IsNextNumber run.start.directory next → (front : List (List Order)) × IsBegun p front
-          × IsCarriedOut config (course_of run config next) run.start run.finish kept left change front e.lines)
-
-      inner : Inner phases
-      inner = λ told kept left change is next drawn.
-          let r = resumed told kept left change is in
-          let opening = moments told kept left change is in
-          let c = e.served told (begin_at next) (point left change r) (on left change r opening.later next drawn) in
-          (c.0, c.1, carried_out told kept left change r next drawn c.0 e.lines opening c.2)
+  script_ended NoMemory e = (
+    config,
+    asks,
+    inr (record {
+      lines = e.lines;
+      script = script (λ p. (front : List (List Order)) × IsBegun p front × Carries run config front e.lines) (e.front, e.begun, carries e.front e.lines e.told e.served);
+      written = e.written;
+      sound = sound;
+    }),
+  )
   script_ended BadWords e = absurd e
   script_ended BadScript e = absurd e
   script_ended ReadFault e = absurd e

@@ -10,7 +10,6 @@ use Rattle.lethe_base.specs.declared.call.Did.TheVariants.{Done, Failed}
 use Rattle.lethe_base.proofs.Histories.{change_at-push}
 use Rattle.lethe_disk.specs.Directory.{Directory}
 use Rattle.lethe_disk.specs.Disk.{Image, Seen}
-use Rattle.lethe_disk.specs.Goes.{Goes}
 use Rattle.lethe_core.specs.Running.{IsRunning}
 use Rattle.lethe_core.specs.StandsNow.{IsOpenOrStopped, IsStopped, StandsNow, retried}
 use Rattle.lethe_core.specs.View.{View}
@@ -88,9 +87,6 @@ calls_then old mid new first second = record {
       let before = first.past m c le in
       (λ left. before.0 (here.0 left), λ left. here.1 (before.1 left));
 }
-
-pub calls_of : (P : Directory → Type 0) (old new : Seen) → Goes P old new → Continues old new
-calls_of P old new goes = record { later = goes.later; past = goes.past }
 
 pub still : (begin : Start) (h : History) (view : View) → Advances begin h h view view
 still begin h view = record { calls = calls_still view.disk; stands = λ from on. on }

@@ -5,6 +5,7 @@ pub mod Lasting
 pub mod Outcomes
 pub mod Shorts
 pub mod Steps
+pub mod Anywhere
 pub mod Looks
 pub mod Runs
 pub mod Options

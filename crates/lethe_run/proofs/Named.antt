@@ -219,7 +219,7 @@ module _ (run : Run) where
   carries_paces : (config : Fields) (phases : List (List Order)) (lines : List (List Line)) → Carries run config phases lines → Paces
   carries_paces config phases lines carries told kept left change l =
       let next = has_next kept l.now.0 run.start.directory l.now.2 in
-      (carries told kept left change l next.0 next.1).pace
+      (carries.left told kept left change l next.0 next.1).pace
 
   asked_paces : (text : Bytes) → IsAsked run text → Paces
   asked_paces text (inl words) = unused_paces words.2
@@ -229,9 +229,7 @@ module _ (run : Run) where
 
   memory_paces : (config : Fields) → IsUnbegun run config ⊎ StoppedInside run config → Paces
   memory_paces config (inl unbegun) = elim unbegun.1 [ inl unused ↦ unused_paces unused | inr not ↦ opening_paces config open_why.NoMemory not ]
-  memory_paces config (inr inside) = λ told kept left change l.
-      let next = has_next kept l.now.0 run.start.directory l.now.2 in
-      (inside.script.2 told kept left change l next.0 next.1).2.pace
+  memory_paces config (inr inside) = carries_paces config inside.script.2.0 inside.lines inside.script.2.2
 
   answered_end : EndsWith run status.Answered → Ends run 0
   answered_end e = record {
@@ -355,7 +353,7 @@ module _ (run : Run) where
           a.script.1,
           λ told kept left change l same numbers few room.
               let next = has_next kept l.now.0 run.start.directory l.now.2 in
-              absurd (no_refusal run config kept a.script.0 a.lines left change calm ports next.0 (few next.0 next.1) room a.is (a.script.2 told kept left change l next.0 next.1)),
+              absurd (no_refusal run config kept a.script.0 a.lines left change calm ports next.0 (few next.0 next.1) room a.is (a.script.2.left told kept left change l next.0 next.1)),
         ));
         known = (5, lit< tt, refl);
       }

@@ -1,4 +1,4 @@
-use Rattle.std.proofs.Common.{◌≡◌, ◌+◌, Err, refl, sym, ap, ◌∙◌, subst}
+use Rattle.std.proofs.Common.{◌≡◌, Err, refl, sym, ap, ◌∙◌, subst}
 use Rattle.lethe_base.specs.declared.call.Call.TheVariants as calls
 use Rattle.lethe_base.specs.History.{History, after}
 use Rattle.lethe_base.specs.Read.{answer}
@@ -6,12 +6,11 @@ use Rattle.lethe_base.specs.Read as answers
 use Rattle.lethe_core.specs.View.{view_of}
 use Rattle.lethe_core.proofs.Short.{merges_are_short}
 use Rattle.lethe_engine.specs.Reads.{IsReadRefusal, listed}
-use Rattle.lethe_engine.specs.Refusals.{HasReasonOfChange}
 use Rattle.lethe_script.specs.declared.order.Act.TheVariants as acts
 use Rattle.lethe_run.specs.declared.reply.Reply.TheVariants as reply
 use Rattle.lethe_run.specs.Replies.{reply_of, unread_of}
-use Rattle.lethe_run.specs.Serving.{Advances, IsAnswered}
-use Rattle.lethe_run.proofs.Images.{still}
+use Rattle.lethe_run.specs.Serving.{IsAnswered}
+use Rattle.lethe_run.proofs.Anywhere.{Tells, change_tells, unread_tells}
 use Rattle.lethe_run.proofs.Looks.{reads, read_answer, stat_answer, unread}
 use Rattle.lethe_run.proofs.Outcomes.{Outcome, ok_of, err_of}
 use Rattle.lethe_run.proofs.Shorts.{few_frozen}
@@ -24,16 +23,24 @@ returns-in-Put-clause-served g c = λ told begin from h caller on.
     let new = view_of c.put.new.self.core in
     let Tells = g.D.Disk.tells in
     let Ports = g.D.Disk.ports_fail in
-    let before = g.D.Disk.port_faults c.args.port.now in
-    let now = g.D.Disk.port_faults c.put.new.port in
     let act = acts.Put c.in-Put.key c.in-Put.dkey c.in-Put.value in
-    let same_store : c.put.new.self ≡ c.args.engine.now → Advances begin h h old new = λ same. subst (λ e. Advances begin h h old (view_of e.core)) (sym same) (still begin h old) in
+    let call = calls.Put c.in-Put.key c.in-Put.dkey c.in-Put.value in
     subst (λ r. Outcome Ports begin h caller c.args.act r old new) (sym c.changed.ensures)
     (subst (λ a. Outcome Ports begin h caller a (reply_of c.put.result) old new) (sym c.in-Put.is)
-    (changes Tells Ports told begin from h caller act (calls.Put c.in-Put.key c.in-Put.dkey c.in-Put.value) refl old new on c.put.ensures.faults (few_frozen Tells old c.requires) (merges_are_short Tells begin.config h new told)
-    before now c.put.result (λ opened stands. c.put.ensures.stands told begin.config opened h stands caller)
-    (ok_of (λ place. place ≡ old.state.count + 1) c.put.result c.put.ensures.place) (err_of (HasReasonOfChange Tells Ports old new before now) c.put.result c.put.ensures.why)
-    (λ runs. (c.put.ensures.any_moment told begin.config h on.stands.now runs caller).goes) (λ at stop. (let answer = c.put.ensures.stopped at stop in (answer.0, same_store answer.1)))))
+    (changes Tells Ports told begin from h caller act call refl old new on (few_frozen Tells old c.requires) (merges_are_short Tells begin.config h new told)
+    (g.D.Disk.port_faults c.args.port.now) (g.D.Disk.port_faults c.put.new.port) c.put.result c.put.ensures.answers c.put.ensures.place c.put.ensures.why))
+
+pub returns-in-Put-clause-told : goal.returns-in-Put-clause-told
+returns-in-Put-clause-told g c =
+    let old = view_of c.args.engine.now.core in
+    let new = view_of c.put.new.self.core in
+    let Ports = g.D.Disk.ports_fail in
+    let act = acts.Put c.in-Put.key c.in-Put.dkey c.in-Put.value in
+    let call = calls.Put c.in-Put.key c.in-Put.dkey c.in-Put.value in
+    subst (λ r. Tells Ports c.args.act r old new) (sym c.changed.ensures)
+    (subst (λ a. Tells Ports a (reply_of c.put.result) old new) (sym c.in-Put.is)
+    (change_tells g.D.Disk.tells Ports act call refl old new (g.D.Disk.port_faults c.args.port.now) (g.D.Disk.port_faults c.put.new.port) c.put.result c.put.ensures.answers c.put.ensures.place c.put.ensures.why
+    (λ at was. (c.put.ensures.stopped at was).0)))
 
 pub returns-in-Delete-clause-served : goal.returns-in-Delete-clause-served
 returns-in-Delete-clause-served g c = λ told begin from h caller on.
@@ -41,16 +48,24 @@ returns-in-Delete-clause-served g c = λ told begin from h caller on.
     let new = view_of c.delete.new.self.core in
     let Tells = g.D.Disk.tells in
     let Ports = g.D.Disk.ports_fail in
-    let before = g.D.Disk.port_faults c.args.port.now in
-    let now = g.D.Disk.port_faults c.delete.new.port in
     let act = acts.Delete c.in-Delete.key in
-    let same_store : c.delete.new.self ≡ c.args.engine.now → Advances begin h h old new = λ same. subst (λ e. Advances begin h h old (view_of e.core)) (sym same) (still begin h old) in
+    let call = calls.Delete c.in-Delete.key in
     subst (λ r. Outcome Ports begin h caller c.args.act r old new) (sym c.changed-in-Delete.ensures)
     (subst (λ a. Outcome Ports begin h caller a (reply_of c.delete.result) old new) (sym c.in-Delete.is)
-    (changes Tells Ports told begin from h caller act (calls.Delete c.in-Delete.key) refl old new on c.delete.ensures.faults (few_frozen Tells old c.requires) (merges_are_short Tells begin.config h new told)
-    before now c.delete.result (λ opened stands. c.delete.ensures.stands told begin.config opened h stands caller)
-    (ok_of (λ place. place ≡ old.state.count + 1) c.delete.result c.delete.ensures.place) (err_of (HasReasonOfChange Tells Ports old new before now) c.delete.result c.delete.ensures.why)
-    (λ runs. (c.delete.ensures.any_moment told begin.config h on.stands.now runs caller).goes) (λ at stop. (let answer = c.delete.ensures.stopped at stop in (answer.0, same_store answer.1)))))
+    (changes Tells Ports told begin from h caller act call refl old new on (few_frozen Tells old c.requires) (merges_are_short Tells begin.config h new told)
+    (g.D.Disk.port_faults c.args.port.now) (g.D.Disk.port_faults c.delete.new.port) c.delete.result c.delete.ensures.answers c.delete.ensures.place c.delete.ensures.why))
+
+pub returns-in-Delete-clause-told : goal.returns-in-Delete-clause-told
+returns-in-Delete-clause-told g c =
+    let old = view_of c.args.engine.now.core in
+    let new = view_of c.delete.new.self.core in
+    let Ports = g.D.Disk.ports_fail in
+    let act = acts.Delete c.in-Delete.key in
+    let call = calls.Delete c.in-Delete.key in
+    subst (λ r. Tells Ports c.args.act r old new) (sym c.changed-in-Delete.ensures)
+    (subst (λ a. Tells Ports a (reply_of c.delete.result) old new) (sym c.in-Delete.is)
+    (change_tells g.D.Disk.tells Ports act call refl old new (g.D.Disk.port_faults c.args.port.now) (g.D.Disk.port_faults c.delete.new.port) c.delete.result c.delete.ensures.answers c.delete.ensures.place c.delete.ensures.why
+    (λ at was. (c.delete.ensures.stopped at was).0)))
 
 pub returns-in-Ok-clause-served : goal.returns-in-Ok-clause-served
 returns-in-Ok-clause-served g c = λ told begin from h caller on.
@@ -72,6 +87,15 @@ returns-in-Get-clause-served g c = λ told begin from h caller on.
     (subst (λ a. Outcome Ports begin h caller a (unread_of why) view view) (sym c.in-Get.is)
     (unread Ports begin from h caller (acts.Get c.in-Get.key) view on refl why (err_of IsReadRefusal c.get.result c.get.ensures.why why c.in-Err.is)
     (λ before behind is. c.get.ensures.can_fail before behind (c.in-Err.is ∙ ap Err is)) (λ name is. c.get.ensures.undamaged told c.requires name (c.in-Err.is ∙ ap Err is))))
+
+pub returns-in-Get-clause-told : goal.returns-in-Get-clause-told
+returns-in-Get-clause-told g c =
+    let view = view_of c.args.engine.now.core in
+    let Ports = g.D.Disk.ports_fail in
+    let why = c.in-Err.why in
+    subst (λ r. Tells Ports c.args.act r view view) (sym c.unread.ensures)
+    (subst (λ a. Tells Ports a (unread_of why) view view) (sym c.in-Get.is)
+    (unread_tells Ports (acts.Get c.in-Get.key) view refl why (err_of IsReadRefusal c.get.result c.get.ensures.why why c.in-Err.is) (λ before after is. c.get.ensures.can_fail before after (c.in-Err.is ∙ ap Err is))))
 
 pub returns-in-Ok-scan-clause-served : goal.returns-in-Ok-scan-clause-served
 returns-in-Ok-scan-clause-served g c = λ told begin from h caller on.
@@ -96,6 +120,15 @@ returns-in-Scan-clause-served g c = λ told begin from h caller on.
     (subst (λ a. Outcome Ports begin h caller a (unread_of why) view view) (sym c.in-Scan.is)
     (unread Ports begin from h caller (acts.Scan c.in-Scan.lo c.in-Scan.hi) view on refl why (err_of IsReadRefusal c.scan.result c.scan.ensures.why why c.in-Err-scan.is)
     (λ before behind is. c.scan.ensures.can_fail before behind (c.in-Err-scan.is ∙ ap Err is)) (λ name is. c.scan.ensures.undamaged told c.requires name (c.in-Err-scan.is ∙ ap Err is))))
+
+pub returns-in-Scan-clause-told : goal.returns-in-Scan-clause-told
+returns-in-Scan-clause-told g c =
+    let view = view_of c.args.engine.now.core in
+    let Ports = g.D.Disk.ports_fail in
+    let why = c.in-Err-scan.why in
+    subst (λ r. Tells Ports c.args.act r view view) (sym c.unread-in-Err-scan.ensures)
+    (subst (λ a. Tells Ports a (unread_of why) view view) (sym c.in-Scan.is)
+    (unread_tells Ports (acts.Scan c.in-Scan.lo c.in-Scan.hi) view refl why (err_of IsReadRefusal c.scan.result c.scan.ensures.why why c.in-Err-scan.is) (λ before after is. c.scan.ensures.can_fail before after (c.in-Err-scan.is ∙ ap Err is))))
 
 pub returns-clause-served : goal.returns-clause-served
 returns-clause-served g c = λ told begin from h caller on.

@@ -7,8 +7,8 @@ use Rattle.lethe_base.specs.Counts.{Rose}
 use Rattle.lethe_core.specs.View.{view_of}
 use Rattle.lethe_run.specs.Scripts.{ScriptEnds}
 use Rattle.lethe_run.specs.Transcript.{is_refusal}
-use Rattle.lethe_run.proofs.Endings.{Phase, Before, next_so_far, cut_ends, all_ends}
-use Rattle.lethe_run.proofs.Phases.{so_far_start, appends_none, whole_text, front_text, refusal_more}
+use Rattle.lethe_run.proofs.Endings.{Phase, Before, before_any, next_so_far, cut_ends, all_ends}
+use Rattle.lethe_run.proofs.Phases.{appends_none, whole_text, front_text, refusal_more}
 use Rattle.lethe_run.proofs.Runs.{taken_front}
 use Rattle.lethe_run.proofs.script.serve_phases.Goals as goal
 
@@ -22,7 +22,7 @@ loop-orders-init g c =
         [],
         appends_none (g.K.Sink.taken c.args.sink.now),
         refl,
-        λ told begin from on. so_far_start g.D.Disk.ports_fail begin from (view_of c.args.engine.core) on,
+        before_any g.D.Disk.tells g.D.Disk.ports_fail (view_of c.args.engine.core),
       );
     }
 
@@ -45,7 +45,7 @@ loop-orders-preserved g c =
         so_far.0 ++ more ∷ [],
         whole_text (g.K.Sink.taken c.args.sink.now) (g.K.Sink.taken c.loop-orders.sink) (g.K.Sink.taken c.print_phase.new.sink) so_far.0 more so_far.1 c.in_default.ensures.ok.1,
         refusal_more so_far.0 more ∙ ap (λ b. b || list_any is_refusal more) so_far.2 ∙ sym (search rules),
-        next_so_far g.D.Disk.tells g.D.Disk.ports_fail old mid new c.serve_phase-served.ensures.faults (λ told. laws.itself told c.serve_phase-served.new.engine.core.disk) (c.loop-orders.yielded ++ c.in-Some.orders ∷ []) c.loop-orders.yielded [] c.in-Some.orders refl so_far.0 more
+        next_so_far g.D.Disk.tells g.D.Disk.ports_fail old new (λ told. laws.itself told c.serve_phase-served.new.engine.core.disk) mid c.loop-orders.invariant.faults c.serve_phase-served.ensures.faults (c.loop-orders.yielded ++ c.in-Some.orders ∷ []) c.loop-orders.yielded [] c.in-Some.orders refl so_far.0 more
             whole so_far.3 phase c.in_default.ensures.ok.0,
       );
     }
@@ -71,7 +71,7 @@ returns-in-Err-clause-ends g c =
     let are : c.args.phases ≡ c.loop-orders.yielded ++ c.in-Some.orders ∷ rest =
     sym c.into_vec-orders-items.ensures ∙ sym c.into_iter-orders-iterator.ensures.into_iter_gives.0 ∙ taken_front c.into_iter-orders-iterator.result c.loop-orders.yielded c.loop-orders.orders-iterator c.loop-orders.yielded_by ∙ ap (λ r. c.loop-orders.yielded ++ r) c.in-Some.ensures.steps.0 in
     subst (λ d. ScriptEnds g.D.Disk.tells g.D.Disk.ports_fail old (g.D.Disk.seen d) (g.D.Disk.faults d) t0 t2 (Rose s0 s2) c.args.phases c.in-Err.status) (sym c.into_disk.ensures)
-    (cut_ends g.D.Disk.tells g.D.Disk.ports_fail old mid new c.serve_phase-served.ensures.faults (λ told. laws.itself told c.serve_phase-served.new.engine.core.disk) c.args.phases c.loop-orders.yielded rest c.in-Some.orders are so_far.0 more
+    (cut_ends g.D.Disk.tells g.D.Disk.ports_fail old new (λ told. laws.itself told c.serve_phase-served.new.engine.core.disk) mid c.loop-orders.invariant.faults c.serve_phase-served.ensures.faults c.args.phases c.loop-orders.yielded rest c.in-Some.orders are so_far.0 more
     whole so_far.3 phase t0 t2 (Rose s1 s2) (Rose s0 s2) c.in-Err.status (λ rose. omega (arith, rose, low))
     (front_text t0 (g.K.Sink.taken c.loop-orders.sink) t2 so_far.0 more so_far.1 c.print_phase.ensures.front) c.in-Err.ensures.err)
 

@@ -3,9 +3,8 @@ use Rattle.std.specs.Io.KnownBytes.{Appends}
 use Rattle.lethe_core.specs.Running.{IsSound}
 use Rattle.lethe_core.specs.View.{view_of}
 use Rattle.lethe_run.specs.declared.reply.Line.{Line}
-use Rattle.lethe_run.specs.Serving.{IsOn, Point}
-use Rattle.lethe_run.specs.Transcript.{Start, text_of, has_refusal}
-use Rattle.lethe_run.proofs.Phases.{SoFar}
+use Rattle.lethe_run.specs.Transcript.{text_of, has_refusal}
+use Rattle.lethe_run.proofs.Endings.{Before}
 use Rattle.lethe_run.proofs.script.serve_phases.Given as goal
 
 -- the phases so far were carried out, and their lines written
@@ -18,5 +17,5 @@ invariant-loop-orders g l =
       sink : g.K.Sink.faults l.fn.sink ≤ g.K.Sink.faults l.sink;
       faults : old.faults ≤ now.faults;
       lines : (lines : List (List Line)) × Appends (g.K.Sink.taken l.fn.sink) (g.K.Sink.taken l.sink) (text_of lines) × (has_refusal lines ≡ l.refused)
-          × (g.D.Disk.tells → (begin : Start) (from : Point) → IsOn begin from from.history old → SoFar g.D.Disk.ports_fail begin from l.yielded lines old now);
+          × Before g.D.Disk.tells g.D.Disk.ports_fail old now l.yielded lines;
     }

@@ -9,8 +9,8 @@ use Rattle.lethe_run.proofs.script.serve_script.Goals as goal
 pub returns-in-Ok-clause-ends : goal.returns-in-Ok-clause-ends
 returns-in-Ok-clause-ends g c =
     let result = c.serve_phases.result in
-    ends_idle g.D.Disk.tells g.D.Disk.ports_fail (view_of c.args.engine.core) (view_of c.new_port.new.self.core) c.new_port.ensures.idle c.new_port.ensures.stands (g.D.Disk.seen result.1) (g.D.Disk.faults result.1)
-    (g.K.Sink.taken c.args.sink.now) (g.K.Sink.taken c.serve_phases.new.sink) (Rose (g.K.Sink.faults c.args.sink.now) (g.K.Sink.faults c.serve_phases.new.sink)) c.args.phases result.0 c.serve_phases.ensures.ends
+    ends_idle g.D.Disk.tells g.D.Disk.ports_fail (view_of c.args.engine.core) (view_of c.new_port.new.self.core) c.new_port.ensures.idle (λ told config opened h before. c.in-Ok.ensures.answers.stands told config opened h before 0) (g.D.Disk.seen result.1) (g.D.Disk.faults result.1)
+    c.new_port.ensures.same.0 c.new_port.ensures.faults (g.K.Sink.taken c.args.sink.now) (g.K.Sink.taken c.serve_phases.new.sink) (Rose (g.K.Sink.faults c.args.sink.now) (g.K.Sink.faults c.serve_phases.new.sink)) c.args.phases result.0 c.serve_phases.ensures.ends
 
 pub returns-in-Err-clause-ends : goal.returns-in-Err-clause-ends
 returns-in-Err-clause-ends g c =
@@ -20,4 +20,4 @@ returns-in-Err-clause-ends g c =
     let t0 = g.K.Sink.taken c.args.sink.now in
     let laws = g.met.D.Disk g.world.𝓛 g.world.𝓜 g.world.𝓡 ((λ s x. x), (λ x. x), (λ x. x), λ x. x) in
     subst (λ d. Inside Tells Ports old (g.D.Disk.seen d) (g.D.Disk.faults d) t0 t0 c.args.phases) (sym c.into_disk.ensures)
-    (none_served Tells Ports old (view_of c.new_port.new.self.core) c.new_port.ensures.idle c.new_port.ensures.stands (λ told. laws.itself told c.new_port.new.self.core.disk) t0 c.args.phases (front_whole t0 t0 [] (appends_none t0)))
+    (none_served Tells Ports old (view_of c.new_port.new.self.core) c.new_port.ensures.idle (λ told config opened h before. c.in-Err.ensures.answers.stands told config opened h before 0) (λ told. laws.itself told c.new_port.new.self.core.disk) t0 c.args.phases (front_whole t0 t0 [] (appends_none t0)))

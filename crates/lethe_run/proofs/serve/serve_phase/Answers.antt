@@ -2,38 +2,44 @@ use Rattle.std.proofs.Common.{rules, ◌≡◌, ◌+◌, true, cond, ◌∷◌, 
 use Rattle.lethe_run.specs.declared.reply.Line.TheVariants.{Answer}
 use mathlib.Core.Bool.{false≢true}
 use Rattle.lethe_core.specs.View.{view_of}
+use Rattle.lethe_run.specs.Anywhere.{AreTold, standing_of}
 use Rattle.lethe_run.specs.Serving.{IsPhase}
 use Rattle.std.specs.Prelude.{is_ok, vec_len}
 use Rattle.std.proofs.lemmas.List.{length_push, map-id}
 use Rattle.std.proofs.lemmas.Iterator.Consumers.{YieldsList-end}
 use Rattle.std.proofs.lemmas.Iterator.Adapters.{YieldsList-from_vec}
+use Rattle.lethe_run.proofs.Anywhere.{told_more, told_still}
 use Rattle.lethe_run.proofs.Runs.{taken_front}
 use Rattle.lethe_run.proofs.Serving.{IsBuilt, built_start, built_more, built_still, phase_of}
 use Rattle.lethe_run.proofs.serve.serve_phase.Goals as goal
 
 pub returns-in_default-clause-served : goal.returns-in_default-clause-served
-returns-in_default-clause-served g c = λ told begin from start on.
+returns-in_default-clause-served g c =
     let view = view_of c.args.engine.now.core in
     let Ports = g.D.Disk.ports_fail in (
-      start,
       [],
       c.args.orders.items,
       refl,
       (λ is. absurd (false≢true is)),
-      subst (λ l. IsPhase Ports begin start start [] l view view) (sym c.new.ensures.items)
-          (phase_of Ports begin from start start [] [] view view on (built_start Ports begin start view)),
+      subst (λ l. AreTold Ports view.faults view.faults [] (standing_of view) l (standing_of view)) (sym c.new.ensures.items) refl,
+      λ told begin from start on. (
+        start,
+        subst (λ l. IsPhase Ports begin start start [] l view view) (sym c.new.ensures.items)
+            (phase_of Ports begin from start start [] [] view view on (built_start Ports begin start view)),
+      ),
     )
 
 pub loop-order-init : goal.loop-order-init
 loop-order-init g c =
     let view = view_of c.args.engine.now.core in
+    let Ports = g.D.Disk.ports_fail in
     record {
       sound = c.requires;
-      served = λ told begin from start on.
-          let Ports = g.D.Disk.ports_fail in (
-            start,
-            subst (λ l. IsBuilt Ports begin start [] l start view view) (sym c.in-Ok.ensures.items) (built_start Ports begin start view),
-          );
+      told = subst (λ l. AreTold Ports view.faults view.faults [] (standing_of view) l (standing_of view)) (sym c.in-Ok.ensures.items) refl;
+      served = λ told begin from start on. (
+        start,
+        subst (λ l. IsBuilt Ports begin start [] l start view view) (sym c.in-Ok.ensures.items) (built_start Ports begin start view),
+      );
       faults = omega arith;
       room = search rules;
       len = search rules;
@@ -44,17 +50,20 @@ loop-order-preserved g c =
     let old = view_of c.args.engine.now.core in
     let mid = view_of c.loop-order.engine.core in
     let new = view_of c.answer.new.engine.core in
+    let Ports = g.D.Disk.ports_fail in
     let order = c.in-Some.order in
     let reply = c.in-Ok-answer.reply in
+    let yielded = c.loop-order.yielded ++ order ∷ [] in
     let pushed : c.push.new.self.items ≡ c.loop-order.lines.items ++ Answer order.caller reply ∷ [] = search rules in
     record {
       sound = c.answer.ensures.sound;
+      told = subst (λ l. AreTold Ports old.faults new.faults yielded (standing_of old) l (standing_of new)) (sym pushed)
+          (told_more Ports old mid new c.loop-order.invariant.faults c.answer.ensures.faults c.loop-order.yielded c.loop-order.lines.items order reply c.loop-order.invariant.told c.in-Ok-answer.ensures.told);
       served = λ told begin from start on.
-          let Ports = g.D.Disk.ports_fail in
           let so_far = c.loop-order.invariant.served told begin from start on in
           let answered = c.in-Ok-answer.ensures.served told begin from so_far.0 order.caller (so_far.1.goes.stands from on) in (
             answered.0,
-            subst (λ l. IsBuilt Ports begin start (c.loop-order.yielded ++ order ∷ []) l answered.0 old new) (sym pushed)
+            subst (λ l. IsBuilt Ports begin start yielded l answered.0 old new) (sym pushed)
                 (built_more Ports begin from start so_far.0 c.loop-order.yielded c.loop-order.lines.items old mid new c.answer.ensures.faults on so_far.1 answered.0 order reply answered.1),
           );
       faults = let a = c.loop-order.invariant.faults in let b = c.answer.ensures.faults in omega (arith, a, b);
@@ -65,37 +74,41 @@ loop-order-preserved g c =
     }
 
 pub returns-in-Err-clause-served : goal.returns-in-Err-clause-served
-returns-in-Err-clause-served g c = λ told begin from start on.
+returns-in-Err-clause-served g c =
     let old = view_of c.args.engine.now.core in
     let mid = view_of c.loop-order.engine.core in
     let new = view_of c.answer.new.engine.core in
     let order = c.in-Some.order in
     let Ports = g.D.Disk.ports_fail in
-    let so_far = c.loop-order.invariant.served told begin from start on in
-    let still = c.in-Err.ensures.served told begin from so_far.0 order.caller (so_far.1.goes.stands from on) in
     let whole : c.args.orders.items ≡ c.loop-order.yielded ++ order ∷ c.next.new.self.rest.items =
     sym c.into_iter-order-iterator.ensures.into_iter_gives.0 ∙ taken_front c.into_iter-order-iterator.result c.loop-order.yielded c.loop-order.order-iterator c.loop-order.yielded_by ∙ ap (λ r. c.loop-order.yielded ++ r) c.in-Some.ensures.steps.0 in (
-      so_far.0,
       c.loop-order.yielded,
       order ∷ c.next.new.self.rest.items,
       whole,
       (λ is. absurd (false≢true is)),
-      phase_of Ports begin from start so_far.0 c.loop-order.yielded c.loop-order.lines.items old new on
-          (built_still Ports begin from start so_far.0 c.loop-order.yielded c.loop-order.lines.items old mid new c.answer.ensures.faults on so_far.1 still),
+      told_still Ports old mid new c.loop-order.invariant.faults c.answer.ensures.faults c.loop-order.yielded c.loop-order.lines.items c.loop-order.invariant.told c.in-Err.ensures.told,
+      λ told begin from start on.
+          let so_far = c.loop-order.invariant.served told begin from start on in
+          let still = c.in-Err.ensures.served told begin from so_far.0 order.caller (so_far.1.goes.stands from on) in (
+            so_far.0,
+            phase_of Ports begin from start so_far.0 c.loop-order.yielded c.loop-order.lines.items old new on
+                (built_still Ports begin from start so_far.0 c.loop-order.yielded c.loop-order.lines.items old mid new c.answer.ensures.faults on so_far.1 still),
+          ),
     )
 
 pub returns-clause-served : goal.returns-clause-served
-returns-clause-served g c = λ told begin from start on.
+returns-clause-served g c =
     let old = view_of c.args.engine.now.core in
     let mid = view_of c.loop-order.engine.core in
-    let so_far = c.loop-order.invariant.served told begin from start on in
     let gives = c.into_iter-order-iterator.ensures.into_iter_gives in
     let ended = YieldsList-end (YieldsList-from_vec c.args.orders.items gives.0 (gives.1 ∙ search rules)) c.loop-order.yielded c.loop-order.order-iterator c.loop-order.yielded_by c.next.result c.next.new.self c.in-None.is c.next.ensures.steps in
     let whole : c.args.orders.items ≡ c.loop-order.yielded ++ [] = sym ended.0 ∙ map-id c.loop-order.yielded ∙ sym (append-nil c.loop-order.yielded) in (
-      so_far.0,
       c.loop-order.yielded,
       [],
       whole,
       (λ is. refl),
-      phase_of g.D.Disk.ports_fail begin from start so_far.0 c.loop-order.yielded c.loop-order.lines.items old mid on so_far.1,
+      c.loop-order.invariant.told,
+      λ told begin from start on.
+          let so_far = c.loop-order.invariant.served told begin from start on in
+          (so_far.0, phase_of g.D.Disk.ports_fail begin from start so_far.0 c.loop-order.yielded c.loop-order.lines.items old mid on so_far.1),
     )

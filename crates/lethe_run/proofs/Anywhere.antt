@@ -1,0 +1,170 @@
+-- What replies and lines tell on any disk.
+use Rattle.std.proofs.Common.{◌≡◌, inl, inr, ◌≤◌, ℕ, ◌+◌, List, [], ◌∷◌, ◌++◌, Option, Some, None, Result, Ok, Err, refl, sym, ap, ◌∙◌, subst, arith}
+use Rattle.std.specs.Prelude.{IfErr, IfOk, IsErrOf, IsSome, MatchResult}
+use Rattle.std.specs.Result.{result_err}
+use Rattle.lethe_base.specs.Counts.{Rose}
+use Rattle.lethe_base.specs.declared.call.Call.{Call}
+use Rattle.lethe_base.specs.declared.memory.NoMemory.{NoMemory}
+use Rattle.lethe_base.specs.declared.refused.Refused.{Refused}
+use Rattle.lethe_base.specs.declared.refused.Refused.TheVariants as refused
+use Rattle.lethe_core.specs.Asked.{Makes}
+use Rattle.lethe_core.specs.Reasons.{HasReason, IsUnreadable}
+use Rattle.lethe_core.specs.View.{View, face_of}
+use Rattle.lethe_engine.specs.Answers as engine
+use Rattle.lethe_engine.specs.Reads.{IsReadRefusal}
+use Rattle.lethe_engine.specs.Refusals.{HasReasonOfChange}
+use Rattle.lethe_script.specs.declared.order.Act.{Act}
+use Rattle.lethe_script.specs.declared.order.Order.{Order}
+use Rattle.lethe_run.specs.declared.reply.Line.{Line}
+use Rattle.lethe_run.specs.declared.reply.Line.TheVariants as line
+use Rattle.lethe_run.specs.declared.reply.Reply.{Reply}
+use Rattle.lethe_run.specs.declared.reply.Reply.TheVariants.{Done, Got, Scanned, Counted, Fault, Stopped, Exhausted, ReadFault, Damaged}
+use Rattle.lethe_run.specs.Anywhere.{AreTold, AreToldThrough, IsTold, MayChange, Standing, standing_of}
+use Rattle.lethe_run.specs.Replies.{refusal_of, reply_of, unread_of}
+use Rattle.lethe_run.specs.Transcript.{call_of, read_of}
+use Rattle.lethe_run.proofs.Steps.{asked}
+
+-- what a reply tells of the store before and behind; for want of memory both stand alike
+abbrev pub Tells : Type 0 → Act → Result Reply NoMemory → View → View → Type 0
+Tells PortsFail act result old new = MatchResult result (λ reply. IsTold PortsFail old.faults new.faults act (standing_of old) reply (standing_of new)) (λ why. standing_of new ≡ standing_of old)
+
+stands_so : (view : View) (count : ℕ) (failed : Option ℕ) → view.state.count ≡ count → view.state.stopped ≡ failed → standing_of view ≡ record { count = count; failed = failed }
+stands_so view count failed counted stopped =
+    let with : ℕ → Option ℕ → Standing = λ count failed. record { count = count; failed = failed } in
+    ap (λ n. with n view.state.stopped) counted ∙ ap (with count) stopped
+
+none_of : (stopped : Option ℕ) → ((at : ℕ) → stopped ≡ Some at → ⊥) → stopped ≡ None
+none_of None never = refl
+none_of (Some at) never = absurd (never at refl)
+
+-- A change
+
+module _ (Told Ports : Type 0) (act : Act) (call : Call) (is : call_of act ≡ Some call) (old new : View) where
+  -- what it says of itself
+  abbrev Says : Option Refused → Type 0
+  Says why = engine.Answers Told (Makes call) why (face_of old) old new
+
+  may : old.state.stopped ≡ None → MayChange act (standing_of old)
+  may runs = (asked act call is, runs)
+
+  made : (place : ℕ) → place ≡ old.state.count + 1 → old.state.stopped ≡ None → Says None → Tells Ports act (Ok (Done place)) old new
+  made place place_is runs says = (may runs, place_is, stands_so new place None (says.count ∙ sym place_is) (says.stopped ∙ runs))
+
+  failed : (place b a : ℕ) → old.state.stopped ≡ None → place ≡ old.state.count + 1 → b ≡ old.faults → a ≡ new.faults → Rose old.faults new.faults → Says (Some (refused.Fault place b a)) → Tells Ports act (Ok (Fault place b a)) old new
+  failed place b a runs place_is b_is a_is rose says = (
+    may runs,
+    place_is,
+    omega (arith, b_is),
+    subst (λ n. Rose n a) (sym b_is) (subst (Rose old.faults) (sym a_is) rose),
+    omega (arith, a_is),
+    stands_so new place (Some place) (says.count ∙ sym place_is) says.stopped,
+  )
+
+  hindered : (Short : Type 0) (why : Refused) → HasReason Short old.state old.faults new.faults why → Says (Some why) → Tells Ports act (refusal_of why) old new
+  hindered Short (refused.Fault place b a) reason says = failed place b a reason.0 reason.1 reason.2 reason.3 reason.4 says
+  hindered Short (refused.Stopped at) reason says = (asked act call is, reason, stands_so new old.state.count old.state.stopped says.count says.stopped)
+  hindered Short (refused.Exhausted last) reason says = (may reason.0, reason.1, stands_so new old.state.count old.state.stopped says.count says.stopped)
+  hindered Short refused.NoMemory reason says = stands_so new old.state.count old.state.stopped says.count says.stopped
+  hindered Short (refused.Backwards clock) reason says = absurd reason
+  hindered Short (refused.Pinned pin limit) reason says = absurd reason
+  hindered Short refused.NothingDue reason says = absurd reason
+  hindered Short (refused.Cancelled begun other) reason says = absurd reason
+  hindered Short (refused.ReadFault b a) reason says = absurd reason
+  hindered Short (refused.Damaged name) reason says = absurd reason
+
+  unreadable : (before now : ℕ) (why : Refused) → old.state.stopped ≡ None → IsUnreadable Told Ports before now why → Says (Some why) → Tells Ports act (refusal_of why) old new
+  unreadable before now (refused.ReadFault b a) runs reason says = (inr (may runs), reason.0, stands_so new old.state.count old.state.stopped says.count says.stopped)
+  unreadable before now (refused.Damaged name) runs reason says = (inr (may runs), stands_so new old.state.count old.state.stopped says.count says.stopped)
+  unreadable before now (refused.Fault place b a) runs reason says = absurd reason
+  unreadable before now (refused.Stopped at) runs reason says = absurd reason
+  unreadable before now (refused.Exhausted last) runs reason says = absurd reason
+  unreadable before now refused.NoMemory runs reason says = absurd reason
+  unreadable before now (refused.Backwards clock) runs reason says = absurd reason
+  unreadable before now (refused.Pinned pin limit) runs reason says = absurd reason
+  unreadable before now refused.NothingDue runs reason says = absurd reason
+  unreadable before now (refused.Cancelled begun other) runs reason says = absurd reason
+
+  pub change_tells : (before now : ℕ) (result : Result ℕ Refused) → Says (result_err result) → IfOk result (λ place. place ≡ old.state.count + 1) → IfErr result (HasReasonOfChange Told Ports old new before now)
+      → ((at : ℕ) → old.state.stopped ≡ Some at → IsErrOf result (refused.Stopped at)) → Tells Ports act (reply_of result) old new
+  change_tells before now (Ok place) says place_is why stop = made place place_is (none_of old.state.stopped (λ at was. let clash : Ok place ≡ Err (refused.Stopped at) = stop at was in cc)) says
+  change_tells before now (Err why) says place_is (inl reason) stop = hindered _ why reason says
+  change_tells before now (Err why) says place_is (inr reason) stop = unreadable before now why reason.0 reason.1 says
+
+-- A read that is refused
+
+pub unread_tells : (Ports : Type 0) (act : Act) (view : View) → IsSome (read_of act) → (why : Refused) → IsReadRefusal why → ((before after : ℕ) → why ≡ refused.ReadFault before after → Ports) → Tells Ports act (unread_of why) view view
+unread_tells Ports act view is (refused.ReadFault before after) reason fails = (inl is, fails before after refl, refl)
+unread_tells Ports act view is (refused.Damaged name) reason fails = (inl is, refl)
+unread_tells Ports act view is refused.NoMemory reason fails = refl
+unread_tells Ports act view is (refused.Fault place before after) reason fails = absurd reason
+unread_tells Ports act view is (refused.Stopped at) reason fails = absurd reason
+unread_tells Ports act view is (refused.Exhausted last) reason fails = absurd reason
+unread_tells Ports act view is (refused.Backwards clock) reason fails = absurd reason
+unread_tells Ports act view is (refused.Pinned pin limit) reason fails = absurd reason
+unread_tells Ports act view is refused.NothingDue reason fails = absurd reason
+unread_tells Ports act view is (refused.Cancelled begun other) reason fails = absurd reason
+
+-- Lines, and what stays of them when the counts of faults lie further apart
+
+module _ (Ports : Type 0) (from upto low high : ℕ) (below : low ≤ from) (above : upto ≤ high) where
+  wider : (act : Act) (s : Standing) (reply : Reply) (t : Standing) → IsTold Ports from upto act s reply t → IsTold Ports low high act s reply t
+  wider act s (Done place) t told = told
+  wider act s (Fault place b a) t told = let first = told.2 in let last = told.4 in (told.0, told.1, omega (arith, first, below), told.3, omega (arith, last, above), told.5)
+  wider act s (Stopped at) t told = told
+  wider act s (Exhausted last) t told = told
+  wider act s (Got point held) t told = told
+  wider act s (Scanned point pairs) t told = told
+  wider act s (Counted point stat) t told = told
+  wider act s ReadFault t told = told
+  wider act s (Damaged page) t told = told
+
+  pub told_wider : (orders : List Order) (s : Standing) (lines : List Line) (t : Standing) → AreTold Ports from upto orders s lines t → AreTold Ports low high orders s lines t
+  told_wider [] s [] t told = told
+  told_wider [] s (l ∷ lines) t told = absurd told
+  told_wider (order ∷ orders) s [] t told = absurd told
+  told_wider (order ∷ orders) s (line.Answer caller reply ∷ lines) t told = (told.0, told.1, wider order.act s reply told.1 told.2, told_wider orders told.1 lines t told.3)
+
+  pub through_wider : (phases : List (List Order)) (s : Standing) (lines : List (List Line)) (t : Standing) → AreToldThrough Ports from upto phases s lines t → AreToldThrough Ports low high phases s lines t
+  through_wider [] s [] t told = told
+  through_wider [] s (l ∷ lines) t told = absurd told
+  through_wider (orders ∷ phases) s [] t told = absurd told
+  through_wider (orders ∷ phases) s (l ∷ lines) t told = (told.0, told_wider orders s l told.0 told.1, through_wider phases told.0 lines t told.2)
+
+module _ (Ports : Type 0) (from upto : ℕ) where
+  one_more : (order : Order) (reply : Reply) (orders : List Order) (s : Standing) (lines : List Line) (middle t : Standing) → AreTold Ports from upto orders s lines middle → IsTold Ports from upto order.act middle reply t
+      → AreTold Ports from upto (orders ++ order ∷ []) s (lines ++ line.Answer order.caller reply ∷ []) t
+  one_more order reply [] s [] middle t told last = (refl, t, subst (λ s. IsTold Ports from upto order.act s reply t) told last, refl)
+  one_more order reply [] s (l ∷ lines) middle t told last = absurd told
+  one_more order reply (o ∷ orders) s [] middle t told last = absurd told
+  one_more order reply (o ∷ orders) s (line.Answer caller r ∷ lines) middle t told last = (told.0, told.1, told.2, one_more order reply orders told.1 lines middle t told.3 last)
+
+  phase_more : (part : List Order) (more : List Line) (phases : List (List Order)) (s : Standing) (lines : List (List Line)) (middle t : Standing) → AreToldThrough Ports from upto phases s lines middle → AreTold Ports from upto part middle more t
+      → AreToldThrough Ports from upto (phases ++ part ∷ []) s (lines ++ more ∷ []) t
+  phase_more part more [] s [] middle t told last = (t, subst (λ s. AreTold Ports from upto part s more t) told last, refl)
+  phase_more part more [] s (l ∷ lines) middle t told last = absurd told
+  phase_more part more (orders ∷ phases) s [] middle t told last = absurd told
+  phase_more part more (orders ∷ phases) s (l ∷ lines) middle t told last = (told.0, told.1, phase_more part more phases told.0 lines middle t told.2 last)
+
+-- One call after another, whose counts of faults rise
+
+module _ (Ports : Type 0) (old mid new : View) (first : old.faults ≤ mid.faults) (then : mid.faults ≤ new.faults) where
+  pub told_more : (orders : List Order) (lines : List Line) (order : Order) (reply : Reply) → AreTold Ports old.faults mid.faults orders (standing_of old) lines (standing_of mid)
+      → IsTold Ports mid.faults new.faults order.act (standing_of mid) reply (standing_of new) → AreTold Ports old.faults new.faults (orders ++ order ∷ []) (standing_of old) (lines ++ line.Answer order.caller reply ∷ []) (standing_of new)
+  told_more orders lines order reply told last =
+      one_more Ports old.faults new.faults order reply orders (standing_of old) lines (standing_of mid) (standing_of new)
+      (told_wider Ports old.faults mid.faults old.faults new.faults (omega arith) then orders (standing_of old) lines (standing_of mid) told)
+      (wider Ports mid.faults new.faults old.faults new.faults first (omega arith) order.act (standing_of mid) reply (standing_of new) last)
+
+  -- a call for which there was no memory has no line
+  pub told_still : (orders : List Order) (lines : List Line) → AreTold Ports old.faults mid.faults orders (standing_of old) lines (standing_of mid) → standing_of new ≡ standing_of mid
+      → AreTold Ports old.faults new.faults orders (standing_of old) lines (standing_of new)
+  told_still orders lines told same =
+      subst (AreTold Ports old.faults new.faults orders (standing_of old) lines) (sym same)
+      (told_wider Ports old.faults mid.faults old.faults new.faults (omega arith) then orders (standing_of old) lines (standing_of mid) told)
+
+  pub through_more : (phases : List (List Order)) (lines : List (List Line)) (part : List Order) (more : List Line) → AreToldThrough Ports old.faults mid.faults phases (standing_of old) lines (standing_of mid)
+      → AreTold Ports mid.faults new.faults part (standing_of mid) more (standing_of new) → AreToldThrough Ports old.faults new.faults (phases ++ part ∷ []) (standing_of old) (lines ++ more ∷ []) (standing_of new)
+  through_more phases lines part more told last =
+      phase_more Ports old.faults new.faults part more phases (standing_of old) lines (standing_of mid) (standing_of new)
+      (through_wider Ports old.faults mid.faults old.faults new.faults (omega arith) then phases (standing_of old) lines (standing_of mid) told)
+      (told_wider Ports mid.faults new.faults old.faults new.faults first (omega arith) part (standing_of mid) more (standing_of new) last)
