@@ -1,6 +1,6 @@
 -- Writing on and installing a job.
 use Rattle.std.proofs.Common.{◌≡◌, ◌≤◌, ◌⊎◌, inl, inr, ℕ, ◌+◌, ◌-◌, true, false, length, Option, Some, None, Result, Ok, Err, Vec, refl, sym, ap, ◌∙◌, subst, arith}
-use Rattle.std.specs.Prelude.{IfSome, option_map, sum_by}
+use Rattle.std.specs.Prelude.{IfSome, sum_by}
 use Rattle.std.specs.declared.alloc.Global.{Global}
 use Rattle.lethe_base.specs.History.{History}
 use Rattle.lethe_base.specs.Limits.{max_place}
@@ -19,9 +19,7 @@ use Rattle.lethe_core.specs.Jobs.{IsAtWork, IsInFlight, IsWhole}
 use Rattle.lethe_core.specs.Merges.{IsInstalled}
 use Rattle.lethe_core.specs.Reasons.{HasReason, IsUnreadable}
 use Rattle.lethe_core.specs.Running.{Holds}
-use Rattle.lethe_core.specs.View.{View, flying_of, view_of}
-use Rattle.lethe_core.specs.declared.flight.Flight.{Flight}
-use Rattle.lethe_core.specs.declared.holding.Core.{Core}
+use Rattle.lethe_core.specs.View.{View}
 use Rattle.lethe_engine.specs.Jobs as engine
 use Rattle.lethe_engine.specs.StandsFor.{Opened, StandsFor}
 use Rattle.lethe_drive.specs.Answers.{IsInstall, IsJobRefusal, IsShortToInstall}

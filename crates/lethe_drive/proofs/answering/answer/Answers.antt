@@ -1,4 +1,4 @@
-use Rattle.std.proofs.Common.{◌≡◌, ℕ, List, Result, Ok, Err, Vec, Global, refl, sym, ap, ◌∙◌, subst, option_map}
+use Rattle.std.proofs.Common.{◌≡◌, ℕ, List, Result, Ok, Err, Vec, Global, refl, sym, ap, ◌∙◌, subst}
 use Rattle.std.specs.Result.{result_err}
 use Rattle.lethe_base.specs.History.{History}
 use Rattle.lethe_base.specs.Keys.{Bytes}
@@ -12,7 +12,7 @@ use Rattle.lethe_stored.specs.Stored.{Stored}
 use Rattle.lethe_state.specs.Room.{IsFlushed, IsFrozen, IsShortToFlush, IsShortToFreeze}
 use Rattle.lethe_core.specs.Asked.{Makes, Serves, behind}
 use Rattle.lethe_core.specs.Changes.{put_over}
-use Rattle.lethe_core.specs.View.{Face, View, flying_of, view_of}
+use Rattle.lethe_core.specs.View.{Face, View, view_of}
 use Rattle.lethe_engine.specs.Deletes.{IsDeleteOver}
 use Rattle.lethe_engine.specs.Reads.{listed}
 use Rattle.lethe_engine.specs.StandsFor.{Opened, StandsFor}
