@@ -22,13 +22,13 @@ use Rattle.lethe_run.specs.declared.reply.Reply.TheVariants.{Done, Got, Scanned,
 use Rattle.lethe_run.specs.Anywhere.{AreTold, AreToldThrough, IsTold, MayChange, Standing, standing_of}
 use Rattle.lethe_run.specs.Replies.{refusal_of, reply_of, unread_of}
 use Rattle.lethe_run.specs.Transcript.{call_of, read_of}
-use Rattle.lethe_run.proofs.Steps.{asked}
+use Rattle.lethe_run.proofs.Steps.{asks_change}
 
 -- what a reply tells of the store before and behind; for want of memory both stand alike
 abbrev pub Tells : Type 0 → Act → Result Reply NoMemory → View → View → Type 0
 Tells PortsFail act result old new = MatchResult result (λ reply. IsTold PortsFail old.faults new.faults act (standing_of old) reply (standing_of new)) (λ why. standing_of new ≡ standing_of old)
 
-stands_so : (view : View) (count : ℕ) (failed : Option ℕ) → view.state.count ≡ count → view.state.stopped ≡ failed → standing_of view ≡ record { count = count; failed = failed }
+pub stands_so : (view : View) (count : ℕ) (failed : Option ℕ) → view.state.count ≡ count → view.state.stopped ≡ failed → standing_of view ≡ record { count = count; failed = failed }
 stands_so view count failed counted stopped =
     let with : ℕ → Option ℕ → Standing = λ count failed. record { count = count; failed = failed } in
     ap (λ n. with n view.state.stopped) counted ∙ ap (with count) stopped
@@ -44,8 +44,12 @@ module _ (Told Ports : Type 0) (act : Act) (call : Call) (is : call_of act ≡ S
   abbrev Says : Option Refused → Type 0
   Says why = engine.Answers Told (Makes call) why (face_of old) old new
 
+  -- it isn't made
+  still : new.state.count ≡ old.state.count → new.state.stopped ≡ old.state.stopped → standing_of new ≡ standing_of old
+  still count stopped = stands_so new old.state.count old.state.stopped count stopped
+
   may : old.state.stopped ≡ None → MayChange act (standing_of old)
-  may runs = (asked act call is, runs)
+  may runs = (asks_change act call is, runs)
 
   made : (place : ℕ) → place ≡ old.state.count + 1 → old.state.stopped ≡ None → Says None → Tells Ports act (Ok (Done place)) old new
   made place place_is runs says = (may runs, place_is, stands_so new place None (says.count ∙ sym place_is) (says.stopped ∙ runs))
@@ -62,9 +66,9 @@ module _ (Told Ports : Type 0) (act : Act) (call : Call) (is : call_of act ≡ S
 
   hindered : (Short : Type 0) (why : Refused) → HasReason Short old.state old.faults new.faults why → Says (Some why) → Tells Ports act (refusal_of why) old new
   hindered Short (refused.Fault place b a) reason says = failed place b a reason.0 reason.1 reason.2 reason.3 reason.4 says
-  hindered Short (refused.Stopped at) reason says = (asked act call is, reason, stands_so new old.state.count old.state.stopped says.count says.stopped)
-  hindered Short (refused.Exhausted last) reason says = (may reason.0, reason.1, stands_so new old.state.count old.state.stopped says.count says.stopped)
-  hindered Short refused.NoMemory reason says = stands_so new old.state.count old.state.stopped says.count says.stopped
+  hindered Short (refused.Stopped at) reason says = (asks_change act call is, reason, still says.count says.stopped)
+  hindered Short (refused.Exhausted last) reason says = (may reason.0, reason.1, still says.count says.stopped)
+  hindered Short refused.NoMemory reason says = still says.count says.stopped
   hindered Short (refused.Backwards clock) reason says = absurd reason
   hindered Short (refused.Pinned pin limit) reason says = absurd reason
   hindered Short refused.NothingDue reason says = absurd reason
@@ -73,8 +77,8 @@ module _ (Told Ports : Type 0) (act : Act) (call : Call) (is : call_of act ≡ S
   hindered Short (refused.Damaged name) reason says = absurd reason
 
   unreadable : (before now : ℕ) (why : Refused) → old.state.stopped ≡ None → IsUnreadable Told Ports before now why → Says (Some why) → Tells Ports act (refusal_of why) old new
-  unreadable before now (refused.ReadFault b a) runs reason says = (inr (may runs), reason.0, stands_so new old.state.count old.state.stopped says.count says.stopped)
-  unreadable before now (refused.Damaged name) runs reason says = (inr (may runs), stands_so new old.state.count old.state.stopped says.count says.stopped)
+  unreadable before now (refused.ReadFault b a) runs reason says = (inr (may runs), reason.0, still says.count says.stopped)
+  unreadable before now (refused.Damaged name) runs reason says = (inr (may runs), still says.count says.stopped)
   unreadable before now (refused.Fault place b a) runs reason says = absurd reason
   unreadable before now (refused.Stopped at) runs reason says = absurd reason
   unreadable before now (refused.Exhausted last) runs reason says = absurd reason

@@ -24,7 +24,7 @@ use Rattle.lethe_script.specs.Grammar.{script_of}
 use Rattle.lethe_run.specs.declared.reply.Line.{Line}
 use Rattle.lethe_run.specs.declared.status.Status.{Status}
 use Rattle.lethe_run.specs.declared.status.Status.TheVariants.{Answered, BadWords, BadScript, ReadFault, WriteFault, Refused, NoMemory, Damaged, OtherConfig}
-use Rattle.lethe_run.specs.Anywhere.{AreToldThrough, IsPlausible, Standing, standing_of}
+use Rattle.lethe_run.specs.Anywhere.{AreToldThrough, IsPlausible, standing_of}
 use Rattle.lethe_run.specs.Carried.{IsCarriedOut}
 use Rattle.lethe_run.specs.Ends as ends
 use Rattle.lethe_run.specs.Ends.{Run, Asks, IsCommand, IsNoCommand, IsUnused, OnLeft, OnScript, Carries, IsBegun, IsSoundFor, course_of, IsNoScript, IsNotOpened}
@@ -33,7 +33,7 @@ use Rattle.lethe_run.specs.Scripts.{All, IsToldFrom, ScriptEnds, Serves}
 use Rattle.lethe_run.specs.Serving.{IsOn, IsCarried, Point}
 use Rattle.lethe_run.specs.Status.{EndsWith, Says, IsToldOf, status_for}
 use Rattle.lethe_run.specs.Transcript.{Start, text_of}
-use Rattle.lethe_run.proofs.Anywhere.{through_wider}
+use Rattle.lethe_run.proofs.Anywhere.{stands_so, through_wider}
 
 -- what stands behind the limit changes nothing
 past_limit : (bytes more : Bytes) → 16777216 < length bytes → script_of (bytes ++ more) ≡ script_of bytes
@@ -185,14 +185,12 @@ module _ (run : Run) (config : Fields) (asks : Asks run config) (phases : List (
   }
 
   plausible : (front : List (List Order)) (lines : List (List Line)) → IsToldFrom run.PortsFail mid run.faults front lines → IsPlausible run.PortsFail run.faults_before run.faults front lines
-  plausible front lines told =
-      let standing : Option ℕ → Standing = λ failed. record { count = mid.state.count; failed = failed } in
-      record {
-        opened = mid.state.count;
-        end = told.0;
-        told = subst (λ s. AreToldThrough run.PortsFail run.faults_before run.faults front s lines told.0) (ap standing runs)
-            (through_wider run.PortsFail mid.faults run.faults run.faults_before run.faults up (omega arith) front (standing_of mid) lines told.0 told.1);
-      }
+  plausible front lines told = record {
+    opened = mid.state.count;
+    end = told.0;
+    told = subst (λ s. AreToldThrough run.PortsFail run.faults_before run.faults front s lines told.0) (stands_so mid mid.state.count None refl runs)
+        (through_wider run.PortsFail mid.faults run.faults run.faults_before run.faults up (omega arith) front (standing_of mid) lines told.0 told.1);
+  }
 
   carries : (front : List (List Order)) (lines : List (List Line)) → IsToldFrom run.PortsFail mid run.faults front lines → Serves run.Tells run.PortsFail mid run.finish run.faults front lines → Carries run config front lines
   carries front lines told served = record {

@@ -13,12 +13,12 @@ use Rattle.lethe_wire.specs.Causes.{AppendsFront}
 use Rattle.lethe_run.specs.declared.reply.Line.{Line}
 use Rattle.lethe_run.specs.declared.status.Status.{Status}
 use Rattle.lethe_run.specs.declared.status.Status.TheVariants.{Answered, BadWords, BadScript, ReadFault, WriteFault, Refused, NoMemory, Damaged, OtherConfig}
-use Rattle.lethe_run.specs.Anywhere.{AreTold, AreToldThrough, Standing, standing_of}
+use Rattle.lethe_run.specs.Anywhere.{AreTold, AreToldThrough, standing_of}
 use Rattle.lethe_run.specs.Ends.{IsBegun}
 use Rattle.lethe_run.specs.Scripts.{All, Behind, Inside, IsToldFrom, Serves, ScriptEnds, IsCutBy}
 use Rattle.lethe_run.specs.Serving.{IsOn, IsPhase, Point, opened_in}
 use Rattle.lethe_run.specs.Transcript.{Start, text_of, has_refusal}
-use Rattle.lethe_run.proofs.Anywhere.{through_more}
+use Rattle.lethe_run.proofs.Anywhere.{stands_so, through_more}
 use Rattle.lethe_run.proofs.Images.{calls_then}
 use Rattle.lethe_run.proofs.Phases.{SoFar, so_far_start, so_far_more, carried}
 
@@ -159,11 +159,11 @@ module _ (Tells Ports : Type 0) (start mid : View) (idle : Tells → IsIdle star
 
     module _ (state : mid.state ≡ start.state) (faults : mid.faults ≡ start.faults) (old new : Option Bytes) where
       told_idle : (phases : List (List Order)) (lines : List (List Line)) → IsToldFrom Ports mid now phases lines → IsToldFrom Ports start now phases lines
-      told_idle phases lines told =
-          let standing : State → Standing = λ state. record { count = state.count; failed = state.stopped } in (
-            told.0,
-            subst (λ s. AreToldThrough Ports start.faults now phases s lines told.0) (ap standing state) (subst (λ n. AreToldThrough Ports n now phases (standing_of mid) lines told.0) faults told.1),
-          )
+      told_idle phases lines told = (
+        told.0,
+        subst (λ s. AreToldThrough Ports start.faults now phases s lines told.0) (stands_so mid start.state.count start.state.stopped (ap (λ (state : State). state.count) state) (ap (λ (state : State). state.stopped) state))
+            (subst (λ n. AreToldThrough Ports n now phases (standing_of mid) lines told.0) faults told.1),
+      )
 
       all_idle : (phases : List (List Order)) (refused : Bool) → All Tells Ports mid finish now old new phases refused → All Tells Ports start finish now old new phases refused
       all_idle phases refused a = record { lines = a.lines; told = told_idle phases a.lines a.told; served = serves_idle phases a.lines a.served; written = a.written; is = a.is }

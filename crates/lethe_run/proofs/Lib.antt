@@ -9,8 +9,11 @@ pub mod Anywhere
 pub mod Looks
 pub mod Runs
 pub mod Options
+pub mod Turns
 pub mod Serving
 pub mod Phases
 pub mod Endings
 pub mod Ending
+pub mod Calm
+pub mod Parts
 pub mod Named

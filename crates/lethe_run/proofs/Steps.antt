@@ -42,8 +42,8 @@ stopped_later Ports begin h now moment later behind at le was = record {
 longer : (h : History) (change : Change) → length (h ++ change ∷ []) ≡ suc (length h)
 longer h change = omega (arith, length-append h (change ∷ []))
 
-pub asked : (act : Act) (call : Call) → call_of act ≡ Some call → IsSome (call_of act)
-asked act call is = subst IsSome (sym is) refl
+pub asks_change : (act : Act) (call : Call) → call_of act ≡ Some call → IsSome (call_of act)
+asks_change act call is = subst IsSome (sym is) refl
 
 module _ (Tells Ports : Type 0) (told : Tells) (begin : Start) (from : Point) (h : History) (caller : ℕ) (act : Act) (call : Call) (is : call_of act ≡ Some call) (old new : View)
     (on : IsOn begin from h old) (small : frozen_len old.state.frozen ≤ 16384)
@@ -120,18 +120,18 @@ module _ (Tells Ports : Type 0) (told : Tells) (begin : Start) (from : Point) (h
   stopped at was says =
       let held = subst (IsOpenOrStopped begin.config old h on.stands.now.stored) was on.stands.now.held in
       not_made (reply.Stopped at) (advances (Some (refused.Stopped at)) says)
-      (asked act call is, stopped_later Ports begin h old.faults old.disk.moment new.faults new.disk.moment at says.faults (stopped_by begin from h old on Ports at was)) (held.place, refl)
+      (asks_change act call is, stopped_later Ports begin h old.faults old.disk.moment new.faults new.disk.moment at says.faults (stopped_by begin from h old on Ports at was)) (held.place, refl)
 
   exhausted : (last : ℕ) → old.state.stopped ≡ None → last ≡ max_place → (old.state.count ≡ max_place) ⊎ IsShortOfRoom Tells old.state new → Says (Some (refused.Exhausted last)) → Replied (reply.Exhausted last)
   exhausted last runs last_is (inl full) says =
       let all : length h ≡ max_place = sym on.stands.now.count ∙ full in
-      not_made (reply.Exhausted last) (advances (Some (refused.Exhausted last)) says) (asked act call is, (last_is, inl all)) (inl (all ∙ sym last_is), refl)
+      not_made (reply.Exhausted last) (advances (Some (refused.Exhausted last)) says) (asks_change act call is, (last_is, inl all)) (inl (all ∙ sym last_is), refl)
   exhausted last runs last_is (inr few) says =
       let opened = opened_in begin from on.counted in
       let done : AreDone h = (subst (IsOpenOrStopped begin.config old h on.stands.now.stored) runs on.stands.now.held).0 in
       let later = (says.goes told begin.config opened h on.stands caller).later in
       let short = short_of Tells Ports begin from h old new on small merges later done (says.stands told begin.config opened h on.stands caller) few in
-      not_made (reply.Exhausted last) (advances (Some (refused.Exhausted last)) says) (asked act call is, (last_is, inr short)) (inr short, refl)
+      not_made (reply.Exhausted last) (advances (Some (refused.Exhausted last)) says) (asks_change act call is, (last_is, inr short)) (inr short, refl)
 
   -- it was refused, and not for reading a file
   hindered : (why : Refused) → HasReason (IsShortOfRoom Tells old.state new) old.state old.faults new.faults why → Says (Some why) → Outcome Ports begin h caller act (refusal_of why) old new
@@ -148,7 +148,7 @@ module _ (Tells Ports : Type 0) (told : Tells) (begin : Start) (from : Point) (h
 
   -- it was refused for that
   unreadable : (before now : ℕ) (why : Refused) → IsUnreadable Tells Ports before now why → Says (Some why) → Outcome Ports begin h caller act (refusal_of why) old new
-  unreadable before now (refused.ReadFault b a) reason says = not_made reply.ReadFault (advances (Some (refused.ReadFault b a)) says) (inr (asked act call is), reason.0) refl
+  unreadable before now (refused.ReadFault b a) reason says = not_made reply.ReadFault (advances (Some (refused.ReadFault b a)) says) (inr (asks_change act call is), reason.0) refl
   unreadable before now (refused.Damaged name) reason says = absurd (reason told)
   unreadable before now (refused.Fault place b a) reason says = absurd reason
   unreadable before now (refused.Stopped at) reason says = absurd reason
