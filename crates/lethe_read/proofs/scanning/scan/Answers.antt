@@ -1,10 +1,16 @@
-use Rattle.std.proofs.Common.{◌≡◌, true, List, [], Result, Ok, Err, IfOk, sym, ap, ◌∙◌}
-use Rattle.std.specs.Prelude.{flat_map, map}
+use Rattle.std.proofs.Common.{◌≡◌, ℕ, true, false, List, [], Result, Ok, Err, IfOk, sym, ap, ◌∙◌, arith}
+use Rattle.std.specs.Prelude.{IsErrAnd, IsErrOf, flat_map, map}
+use Rattle.std.specs.Ordering.{is_ge, is_lt}
+use Rattle.std.specs.declared.cmp.Ordering.{Ordering}
+use Rattle.std.specs.declared.cmp.Ordering.TheVariants.{Less, Equal, Greater}
 use Rattle.std.specs.Option.{option_copied}
 use Rattle.lethe_base.specs.History.{Pair}
 use Rattle.lethe_base.specs.Keys.{Bytes}
 use Rattle.lethe_base.specs.declared.entry.Entry.{Entry}
 use Rattle.lethe_base.specs.declared.pending.Pending.{Pending}
+use Rattle.lethe_disk.specs.Reads.{HasReadCause}
+use Rattle.lethe_disk.specs.declared.cursor.ReadRefused.{ReadRefused}
+use Rattle.lethe_disk.specs.declared.cursor.ReadRefused.TheVariants.{ReadFault, NoMemory}
 use Rattle.lethe_mem.specs.Pairs.{pairs_of}
 use Rattle.lethe_merge.specs.Merge.{merged}
 use Rattle.lethe_version.specs.Versions.{entries_of, files_of}
@@ -34,3 +40,26 @@ returns-clause-listed g c = λ told sound.
     (flat_map (part_left g.D.Disk) c.in_ok-parts.parts.items) _ c.args.erases.now c.in_ok-erases.erases.items c.pairs_from.result
     (c.in_ok-parts.ensures.left sound) (c.in_ok-erases.ensures.items_if_clones_equal (λ x y same. same)) c.in_ok-merger.ensures.left
     (c.pairs_from.ensures.listed told (c.in_ok-merger.ensures.sound (c.in_ok-parts.ensures.sound told sound)))
+
+-- a range that begins where it doesn't end has keys
+not_both : (r : Ordering) → is_ge r ≡ false → is_lt r ≡ false → ⊥
+not_both Less ge lt = cc
+not_both Equal ge lt = cc
+not_both Greater ge lt = cc
+
+pub returns-clause-unasked : goal.returns-clause-unasked
+returns-clause-unasked g c = λ ends. absurd (not_both _ (sym c.ge.ensures ∙ c.if-ge.false) ends)
+
+-- want of memory is no fault of the port
+no_fault : {T : Type 0} (result : Result T ReadRefused) (before after : ℕ) → IsErrAnd result (λ e. e ≡ NoMemory) → IsErrOf result (ReadFault before after) → ⊥
+no_fault (Ok x) before after short is = absurd short
+no_fault (Err e) before after short is = cc
+
+no_cause : {T : Type 0} (count : ℕ) (result : Result T ReadRefused) → IsErrAnd result (λ e. e ≡ NoMemory) → HasReadCause count count result
+no_cause count result short = record { later = omega arith; fault = λ before after is. absurd (no_fault result before after short is) }
+
+pub returns-in_err-erases-clause-cause : goal.returns-in_err-erases-clause-cause
+returns-in_err-erases-clause-cause g c = no_cause _ c.from_residual-in_err-erases.result c.from_residual-in_err-erases.ensures.1
+
+pub returns-in_err-merger-clause-cause : goal.returns-in_err-merger-clause-cause
+returns-in_err-merger-clause-cause g c = no_cause _ c.from_residual-in_err-merger.result c.from_residual-in_err-merger.ensures.1
