@@ -55,7 +55,7 @@ pub record IsCarriedOut (config : Fields) (course : Course) (start finish : Seen
   pub served : AreServed course opened phases lines history
   pub moment : ℕ
   pub any_moment : GoesThen (IsKeptInOpening kept config left change start.directory) (IsKeptFor config opened history) moment start finish
-  -- what was printed is never lost by a later crash
+  -- from a moment on no crash loses what was answered
   pub lasting : All (IsLasting config opened history finish) lines
   pub leaves : IsLeft config finish (without_failed history) (failed_in history)
   pub config_is : failed_in history ≡ None → HasConfig config finish.directory
