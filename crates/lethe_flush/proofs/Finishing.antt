@@ -1,6 +1,6 @@
 -- What is promised of files that were made.
 use Rattle.std.proofs.Common.{◌≡◌, ℕ, ◌<◌, ◌≤◌, Bool, List, [], ◌∷◌, drop, fold, length, get_or, map, All, refl, sym, ap, ◌∙◌, subst, arith}
-use Rattle.std.specs.Prelude.{flat_map}
+use Rattle.std.specs.Prelude.{◌↔◌, flat_map}
 use Rattle.std.specs.List.{AllZip}
 use Rattle.std.proofs.lemmas.List.Elements.{All-cons, All-head, All-map, All-nil, All-tail}
 use Rattle.sha2.proofs.Facts256.{length-sha256}
@@ -28,7 +28,7 @@ use Rattle.lethe_merge.specs.Merge.{merged}
 use Rattle.lethe_merge.proofs.Merges.{merged_ascends}
 use Rattle.lethe_stored.specs.Files.{StoredFile, cited_of, lines_in}
 use Rattle.lethe_tile.proofs.Orders.{all_left, all_right}
-use Rattle.lethe_flush.specs.Clear.{IsClearOf}
+use Rattle.lethe_flush.specs.Clear.{IsClearOf, range_of}
 use Rattle.lethe_flush.specs.Flushed.{IsFlushOf}
 use Rattle.lethe_flush.specs.Made.{AreFilesOf, IsOfDraft}
 use Rattle.lethe_flush.specs.declared.made.MadeFiles.{MadeFiles}
@@ -77,6 +77,7 @@ module _ (fields : Fields) (entries : List Entry) (erases : List Pending) (alone
         files_once = λ i j d before within same. let up = are.headers_ascend i j d before within in omega (arith, up, same);
         pages_once = are.lines_once;
       };
+      order = are.headers_ascend;
       woven = are_woven fields (merged entries erases alone) (merged_ascends entries erases alone) drafts of files are.each upto are.spelled are.swept;
       once = are.once;
     }
@@ -94,11 +95,11 @@ greatest_same numbers (tile ∷ tiles) before = greatest_same (drop (length tile
 abbrev headed : Draft → Header
 headed draft = header_of 0 draft.tiles
 
-clear_of : (keys : KeyRange) (draft : Draft) (file : StoredFile) → IsOfDraft draft file → IsClearOf keys (headed draft) → IsClearOf keys file.header
-clear_of keys draft file of clear =
+met_same : (keys : KeyRange) (draft : Draft) (file : StoredFile) → IsOfDraft draft file → overlaps keys (range_of file.header) ≡ overlaps keys (range_of (headed draft))
+met_same keys draft file of =
     let lo : least_key file.header.tiles ≡ least_key draft.tiles = ap least_key of.tiles ∙ least_same of.numbers draft.tiles in
     let hi : greatest_key file.header.tiles ≡ greatest_key draft.tiles = ap greatest_key of.tiles ∙ greatest_same of.numbers draft.tiles [] in
-    ap (overlaps keys) (λ i. record { lo = lo i; hi = hi i }) ∙ clear
+    ap (overlaps keys) (λ i. record { lo = lo i; hi = hi i })
 
 clear_each : (keys : KeyRange) (drafts : List Draft) (files : List StoredFile) → AllZip IsOfDraft drafts files → All (λ draft. IsClearOf keys (headed draft)) drafts → All (IsClearOf keys) (map (λ file. file.header) files)
 clear_each keys [] [] zipped clear = All-nil (IsClearOf keys)
@@ -106,9 +107,21 @@ clear_each keys [] (file ∷ files) zipped clear = absurd zipped
 clear_each keys (draft ∷ drafts) [] zipped clear = absurd zipped
 clear_each keys (draft ∷ drafts) (file ∷ files) zipped clear =
     All-cons (IsClearOf keys) file.header (map (λ file. file.header) files)
-    (clear_of keys draft file zipped.0 (All-head (λ draft. IsClearOf keys (headed draft)) draft drafts clear))
+    (met_same keys draft file zipped.0 ∙ All-head (λ draft. IsClearOf keys (headed draft)) draft drafts clear)
     (clear_each keys drafts files zipped.1 (All-tail (λ draft. IsClearOf keys (headed draft)) draft drafts clear))
 
+clear_back : (keys : KeyRange) (drafts : List Draft) (files : List StoredFile) → AllZip IsOfDraft drafts files → All (IsClearOf keys) (map (λ file. file.header) files) → All (λ draft. IsClearOf keys (headed draft)) drafts
+clear_back keys [] [] zipped clear = All-nil (λ draft. IsClearOf keys (headed draft))
+clear_back keys [] (file ∷ files) zipped clear = absurd zipped
+clear_back keys (draft ∷ drafts) [] zipped clear = absurd zipped
+clear_back keys (draft ∷ drafts) (file ∷ files) zipped clear =
+    All-cons (λ draft. IsClearOf keys (headed draft)) draft drafts
+    (sym (met_same keys draft file zipped.0) ∙ All-head (IsClearOf keys) file.header (map (λ file. file.header) files) clear)
+    (clear_back keys drafts files zipped.1 (All-tail (IsClearOf keys) file.header (map (λ file. file.header) files) clear))
+
 pub headers_clear : (keys : KeyRange) (drafts : List Draft) (level upto : ℕ) (written : List Name) (first : ℕ) (made : MadeFiles) (files : List StoredFile) → AreFilesOf drafts level upto written first made files
-    → All (λ draft. IsClearOf keys (headed draft)) drafts → All (IsClearOf keys) made.headers.items
-headers_clear keys drafts level upto written first made files are clear = subst (All (IsClearOf keys)) (sym are.headers_are) (clear_each keys drafts files are.each clear)
+    → All (λ draft. IsClearOf keys (headed draft)) drafts ↔ All (IsClearOf keys) made.headers.items
+headers_clear keys drafts level upto written first made files are = (
+  (λ clear. subst (All (IsClearOf keys)) (sym are.headers_are) (clear_each keys drafts files are.each clear)),
+  (λ clear. clear_back keys drafts files are.each (subst (All (IsClearOf keys)) are.headers_are clear)),
+)

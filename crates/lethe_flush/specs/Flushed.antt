@@ -3,7 +3,7 @@ use Rattle.std.specs.Prelude.{◌≡◌, ◌≢◌, ℕ, Bool, List, map, AllPai
 use Rattle.lethe_base.specs.declared.config.Fields.{Fields}
 use Rattle.lethe_base.specs.declared.entry.Entry.{Entry}
 use Rattle.lethe_base.specs.declared.pending.Pending.{Pending}
-use Rattle.lethe_follows.specs.Filed.{AreNewFiles}
+use Rattle.lethe_follows.specs.Filed.{AreInOrder, AreNewFiles}
 use Rattle.lethe_follows.specs.Woven.{AreWovenOf}
 use Rattle.lethe_merge.specs.Merge.{merged}
 use Rattle.lethe_stored.specs.Files.{StoredFile, cited_of, file_of, objects_of}
@@ -17,5 +17,6 @@ pub record IsFlushOf (fields : Fields) (entries : List Entry) (erases : List Pen
   pub cited : made.cited.items ≡ map cited_of files
   pub objects : IsPermutation (objects_of files) (map named_of made.objects.items)
   pub new : AreNewFiles first made.next files
+  pub order : AreInOrder files
   pub woven : AreWovenOf fields (merged entries erases alone) upto (map file_of files)
   pub once : AllPairs (λ a b. a.name ≢ b.name) made.objects.items

@@ -1,5 +1,5 @@
 //! The files of a buffer.
-ghost use Rattle.std.specs.Prelude.{◌≡◌, ℕ, Bool, ◌+◌, ◌<◌, ◌≤◌, List, length, sum_by, All, IfOk};
+ghost use Rattle.std.specs.Prelude.{◌≡◌, ◌↔◌, ℕ, Bool, ◌+◌, ◌<◌, ◌≤◌, List, length, sum_by, All, IfOk};
 ghost use Rattle.lethe_base.specs.Limits.{max_place, max_time};
 ghost use Rattle.lethe_base.specs.Spelling.{HasSpelling};
 ghost use Rattle.lethe_base.specs.declared.config.Fields.{Fields};
@@ -67,8 +67,8 @@ pub fn flush_files(
     ensures made { (fields : Fields) (entries : List entry.Entry) (erases : List pending.Pending) (alone : Bool) → AreDraftsOf fields (merged entries erases alone) drafts.items
         → IfOk result (λ made. (files : List StoredFile) × IsFlushOf fields entries erases alone upto first made files) }
 
-    // What no draft has a key of, no file has.
-    ensures clear { (keys : KeyRange) → All (λ draft. IsClearOf keys (header_of 0 draft.tiles)) drafts.items → IfOk result (λ made. All (IsClearOf keys) made.headers.items) }
+    // A range of keys has one of a file exactly where it has one of a draft.
+    ensures clear { (keys : KeyRange) → IfOk result (λ made. All (λ draft. IsClearOf keys (header_of 0 draft.tiles)) drafts.items ↔ All (IsClearOf keys) made.headers.items) }
     ensures headers { IfOk result (λ made. All headers.HasSpelling made.headers.items) }
     ensures cited { IfOk result (λ made. (levels : ℕ) → All (IsFile made.next levels) made.cited.items) }
     ensures level { IfOk result (λ made. All (λ file. file.level ≡ 0) made.cited.items) }

@@ -23,6 +23,10 @@ flushed s made number = record { manifest = filed s (s.active.no ∷ []) made nu
 abbrev pub reopened : Stored → List StoredFile → ℕ → ℕ → Stored
 reopened s made segment number = record { manifest = filed s (segment ∷ []) made number; frozen = None; active = record { no = segment; records = [] }; files = made ++ s.files }
 
+-- their headers have ascending numbers, in the order in which the files were cut
+abbrev pub AreInOrder : List StoredFile → Type 0
+AreInOrder made = AllPairs (λ a b. a.header.no < b.header.no) made
+
 -- files of level 0 whose objects have numbers of their own, from the first up to the last, which is excluded
 pub record AreNewFiles (first last : ℕ) (made : List StoredFile) : Type 0 where
   pub level : All (λ file. file.level ≡ 0) made

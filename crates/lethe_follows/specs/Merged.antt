@@ -13,6 +13,7 @@ use Rattle.lethe_moves.specs.Files.{IsClearOf, keys_of, hull_of_files}
 use Rattle.lethe_stored.specs.Files.{StoredFile, IsFile, lines_in, cited_of, file_of}
 use Rattle.lethe_stored.specs.Stored.{Stored, pending_of, count_of, part_names}
 use Rattle.lethe_version.specs.Order.{is_kept}
+use Rattle.lethe_follows.specs.Filed.{AreInOrder}
 use Rattle.lethe_follows.specs.Woven.{AreWovenOf}
 
 -- of a level and the next one, the files in their order
@@ -102,4 +103,5 @@ pub record IsMerged (s : Stored) (m : StoredMerge) (applied : List Pending) (alo
   pub rest : (level : ℕ) → level ≢ m.level → level ≢ m.level + 1 → at level t.files ≡ at level s.files
   pub level : All (λ file. file.level ≡ m.level + 1) made
   pub new : AreNewIn s number made
+  pub order : AreInOrder made
   pub woven : AreWovenOf s.manifest.config (merged (entries_in (inputs_of m)) applied alone) upto (map file_of made)

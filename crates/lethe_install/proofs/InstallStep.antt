@@ -164,6 +164,7 @@ module _ (s : Stored) (state : State) (levels : List (List Parts)) (is : Remembe
     rest = placed_rest s is.coherent m begun above found.above made are.level_is;
     level = are.level_is;
     new = new;
+    order = are.headers_ascend;
     woven = are_woven s.manifest.config left (merged_ascends (entries_in (inputs_of m)) (pending_of s) alone) drafts of made are.each upto are.spelled are.swept;
   }
 

@@ -1,5 +1,5 @@
 -- The files of a journal.
-use Rattle.std.specs.Prelude.{◌≡◌, ℕ, ◌+◌, ◌≤◌, Bool, IsTrue, List, ◌++◌, map, length, sum_by, All}
+use Rattle.std.specs.Prelude.{◌≡◌, ◌↔◌, ℕ, ◌+◌, ◌<◌, ◌≤◌, Bool, IsTrue, List, ◌++◌, map, length, sum_by, All}
 use Rattle.lethe_base.specs.Entries.{IsAscending}
 use Rattle.lethe_base.specs.Limits.{max_place}
 use Rattle.lethe_base.specs.declared.config.Fields.{Fields}
@@ -33,10 +33,10 @@ pub record AreDraftsFor (fields : Fields) (records : List Record) (erases : List
   pub are : AreDraftsOf fields (merged entries erases alone) drafts
   pub few : sum_by numbers_for drafts ≤ most_numbers (length records)
 
--- and they are alone only where no file of these headers has a key of the entries' range
+-- and they are alone exactly where there is an entry and no file of these headers has a key of the entries' range
 pub record AreDraftsOfRecords (fields : Fields) (records : List Record) (erases : List Pending) (headers : List Header) (drafts : List Draft) : Type 0 where
   pub for : AreDraftsFor fields records erases drafts
-  pub clear : IsTrue for.alone → All (IsClearOf (span_of for.entries)) headers
+  pub clear : IsTrue for.alone ↔ ((0 < length for.entries) × All (IsClearOf (span_of for.entries)) headers)
 
 -- those of the older records, and those of the newer ones where the former's files are there
 pub record AreDraftsOfJournal (fields : Fields) (journal : Journal) (erases : List Pending) (headers : List Header) (drafts : Drafts) : Type 0 where
@@ -55,13 +55,13 @@ pub record IsShort (m : Manifest) (older newer : List Record) (erases : List Pen
   pub of_newer : AreDraftsFor m.config newer erases newer_drafts
   pub short : max_place ≤ m.next + (sum_by numbers_for older_drafts + sum_by numbers_for newer_drafts) + 1
 
--- Files have what is left of the records' newest entries. They are alone only where no file of these headers has a key of the entries' range.
+-- Files have what is left of the records' newest entries. They are alone exactly where there is an entry and no file of these headers has a key of the entries' range.
 pub record IsFlushOfRecords (fields : Fields) (records : List Record) (erases : List Pending) (upto first : ℕ) (headers : List Header) (made : MadeFiles) : Type 0 where
   pub entries : List Entry
   pub ascending : IsAscending entries
   pub newest : AreNewestOf records entries
   pub alone : Bool
-  pub clear : IsTrue alone → All (IsClearOf (span_of entries)) headers
+  pub clear : IsTrue alone ↔ ((0 < length entries) × All (IsClearOf (span_of entries)) headers)
   pub files : List StoredFile
   pub is : IsFlushOf fields entries erases alone upto first made files
 

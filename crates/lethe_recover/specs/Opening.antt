@@ -23,6 +23,7 @@ use Rattle.lethe_load.specs.Refused.{HasOtherConfig}
 use Rattle.lethe_load.specs.declared.refused.RecoverRefused.{RecoverRefused}
 use Rattle.lethe_load.specs.declared.refused.RecoverRefused.TheVariants as refused
 use Rattle.lethe_recover.specs.Flushing.{IsShort}
+use Rattle.lethe_recover.specs.Reopening.{IsOpenedAs}
 use Rattle.lethe_recover.specs.declared.opening.OpenWhy.{OpenWhy}
 use Rattle.lethe_recover.specs.declared.opening.OpenWhy.TheVariants.{Damaged, OtherConfig, Fault, Exhausted, NoMemory}
 use Rattle.lethe_recover.specs.declared.opened.Opened.{Opened}
@@ -44,8 +45,10 @@ pub record IsSpellable {D Page Port : Type 0} {kind : Ghosts D Page Port} (confi
   pub levels : length (levels_of opened.version) ≡ config.levels + 1
 
 -- The disk has one store of the configuration and nothing else, as it is told. Behind level 0 the files of a level ascend.
-pub record IsOpened {D Page Port : Type 0} {kind : Ghosts D Page Port} (config : Fields) (disk : Seen) (opened : Opened D Page Port kind) : Type 0 where
+pub record IsOpened {D Page Port : Type 0} {kind : Ghosts D Page Port} (config : Fields) (start : Directory) (disk : Seen) (opened : Opened D Page Port kind) : Type 0 where
   pub s : Stored
+  -- it is what was stored at the start, reopened, or new
+  pub as : IsOpenedAs config start s
   pub settled : IsSettled disk s
   pub only : HasOnly s [] disk.directory
   pub rising : AreRising s.files
@@ -59,7 +62,7 @@ pub record IsResumed {D Page Port : Type 0} {kind : Ghosts D Page Port} (config 
   pub history : History
   pub either : IsHistoryOr h change history
   pub was : IsKept config start history
-  pub is : IsOpened config disk opened
+  pub is : IsOpened config start disk opened
   pub stands : IsFor history is.s
 
 -- what a crash leaves while a store is opened: what the disk was left for, or where there was no gate a new store of the asked configuration

@@ -1,16 +1,29 @@
 -- What a store becomes that is opened: its journal in files, and an empty segment.
-use Rattle.std.specs.Prelude.{◌≡◌, ℕ, ◌+◌, List, [], ◌∷◌, ◌++◌, map, All, Contains}
+use Rattle.std.specs.Prelude.{◌≡◌, ◌⊎◌, ◌↔◌, ℕ, ◌+◌, ◌<◌, Bool, IsTrue, List, [], ◌∷◌, ◌++◌, length, map, All, Contains, None}
+use Rattle.lethe_base.specs.Entries.{IsAscending}
 use Rattle.lethe_base.specs.History.{History}
+use Rattle.lethe_base.specs.declared.config.Fields.{Fields}
+use Rattle.lethe_base.specs.declared.entry.Entry.{Entry}
 use Rattle.lethe_base.specs.declared.pending.Pending.{Pending}
+use Rattle.lethe_disk.specs.Directory.{Directory}
 use Rattle.lethe_manifest.specs.declared.manifest.Cited.{Cited}
 use Rattle.lethe_manifest.specs.declared.manifest.Manifest.{Manifest}
 use Rattle.lethe_segment.specs.Segments.{segment_bytes}
+use Rattle.lethe_segment.specs.declared.record.Record.{Record}
+use Rattle.lethe_commit.specs.Switch.{HasGreatest}
 use Rattle.lethe_commit.specs.declared.objects.Object.{Object}
-use Rattle.lethe_stored.specs.Files.{StoredFile}
+use Rattle.lethe_merge.specs.Merge.{merged}
+use Rattle.lethe_moves.specs.Flushes.{span_of}
+use Rattle.lethe_stored.specs.Encodes.{Encodes}
+use Rattle.lethe_stored.specs.Files.{StoredFile, file_of}
 use Rattle.lethe_stored.specs.Kept.{IsFor}
-use Rattle.lethe_stored.specs.Stored.{Stored, segment_name}
-use Rattle.lethe_follows.specs.Filed.{reopened}
+use Rattle.lethe_stored.specs.Replayed.{AreNewestOf}
+use Rattle.lethe_stored.specs.Stored.{Stored, IsCoherent, count_of, pending_of, records_in, segment_name}
+use Rattle.lethe_follows.specs.Filed.{AreInOrder, AreNewFiles, reopened}
+use Rattle.lethe_follows.specs.Woven.{AreWovenOf}
+use Rattle.lethe_flush.specs.Clear.{IsClearOf}
 use Rattle.lethe_advance.specs.Steps.{IsStep, written_in}
+use Rattle.lethe_recover.specs.New.{new_stored}
 use Rattle.lethe_recover.specs.declared.flushing.Flushes.{Flushes}
 use Rattle.lethe_recover.specs.declared.reopening.Reopening.{Reopening}
 
@@ -39,10 +52,37 @@ pub record IsStepOf (m : Manifest) (count : ℕ) (erases : List Pending) (flushe
   pub manifest : made.step.manifest ≡ successor m count erases (flushes.newer.cited.items ++ flushes.older.cited.items ++ m.files) flushes.newer.next
   pub gone : made.step.gone.items ≡ map segment_name m.segments
 
+-- Of records the files of level 0 with what is left of their newest entries, woven by the configuration and cut, with numbers of their own that ascend in that order. They are
+-- alone exactly where there is an entry and none of these files has a key of the entries' range.
+pub record AreFiled (s : Stored) (records : List Record) (there : List StoredFile) (first last : ℕ) (made : List StoredFile) : Type 0 where
+  pub entries : List Entry
+  pub ascending : IsAscending entries
+  pub newest : AreNewestOf records entries
+  pub alone : Bool
+  pub clear : IsTrue alone ↔ ((0 < length entries) × All (λ file. IsClearOf (span_of entries) file.header) there)
+  pub woven : AreWovenOf s.manifest.config (merged entries (pending_of s) alone) (count_of s) (map file_of made)
+  pub new : AreNewFiles first last made
+  pub order : AreInOrder made
+
+-- The files of the journal come in front of the others, those of the newer segment first, and an empty segment is active.
+pub record IsReopenedAs (s t : Stored) : Type 0 where
+  pub older : List StoredFile
+  pub middle : ℕ
+  pub of_older : AreFiled s (records_in s.frozen) s.files s.manifest.next middle older
+  pub newer : List StoredFile
+  pub segment : ℕ
+  pub of_newer : AreFiled s s.active.records (older ++ s.files) middle segment newer
+  pub is : t ≡ reopened s (newer ++ older) segment (segment + 1)
+
+-- where a directory has no gate, a new store, and else what it encodes, reopened
+abbrev pub IsOpenedAs : Fields → Directory → Stored → Type 0
+IsOpenedAs config d t = (HasGreatest None d × (t ≡ new_stored config)) ⊎ ((s : Stored) × IsCoherent s × Encodes d s × IsReopenedAs s t)
+
 -- what is stored is reopened by the step, and stands for the same history
 pub record Reopens (s : Stored) (made : Reopening) : Type 0 where
   pub files : List StoredFile
   pub segment : ℕ
+  pub as : IsReopenedAs s (reopened s files segment (segment + 1))
   pub step : IsStep s [] (reopened s files segment (segment + 1)) [] made.headers.items made.step
   pub stands : (h : History) → IsFor h s → IsFor h (reopened s files segment (segment + 1))
   pub level : All (λ file. file.level ≡ 0) files

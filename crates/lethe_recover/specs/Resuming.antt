@@ -11,6 +11,7 @@ use Rattle.lethe_stored.specs.Stored.{Stored}
 use Rattle.lethe_advance.specs.Settled.{IsSettled, HasOnly}
 use Rattle.lethe_recover.specs.Journals.{IsJournalOf}
 use Rattle.lethe_recover.specs.Opening.{IsTold}
+use Rattle.lethe_recover.specs.Reopening.{IsReopenedAs}
 use Rattle.lethe_recover.specs.There.{IsWhole}
 use Rattle.lethe_recover.specs.declared.journal.Journal.{Journal}
 use Rattle.lethe_recover.specs.declared.opened.Opened.{Opened}
@@ -33,6 +34,7 @@ pub record IsThere {D Page Port : Type 0} {kind : Ghosts D Page Port} (disk : Se
 -- so is one of the same configuration that stands for the same history
 pub record IsReopened {D Page Port : Type 0} {kind : Ghosts D Page Port} (s : Stored) (disk : Seen) (opened : Opened D Page Port kind) : Type 0 where
   pub t : Stored
+  pub as : IsReopenedAs s t
   pub there : IsThere disk t opened
   pub config_is : t.manifest.config ≡ s.manifest.config
   pub stands : (h : History) → IsFor h s → IsFor h t

@@ -47,8 +47,8 @@ pub enum OpenWhy {
 /// removed; what is left of the journal's records is written into files of level 0, those of a frozen segment first; and a switch takes the
 /// place of the old manifest, whose successor cites these files, the old ones and one empty segment.
 pub fn open<D: Disk>(alloc: Global, disk: &mut D, config: &Config) -> Result<Opened<D>, OpenWhy>
-    // Opened: the disk has this store and nothing else.
-    ensures opened { D.tells → IfOk result (λ opened. IsOpened config.now (D.seen disk.new) opened) }
+    // Opened: the disk has what was stored, with the journal in files, and nothing else.
+    ensures opened { D.tells → IfOk result (λ opened. IsOpened config.now (D.seen disk.old).directory (D.seen disk.new) opened) }
 
     // What is told can be written, whatever the disk is.
     ensures spelled { IfOk result (λ opened. IsSpellable config.now opened) }
@@ -98,7 +98,7 @@ fn open_synced<D: Disk>(
 ) -> Result<Opened<D>, OpenWhy>
     requires before { before ≤ D.faults disk.old }
     requires synced { D.tells → IsSynced (D.seen disk.old) }
-    ensures opened { D.tells → IfOk result (λ opened. IsOpened config.now (D.seen disk.new) opened) }
+    ensures opened { D.tells → IfOk result (λ opened. IsOpened config.now (D.seen disk.old).directory (D.seen disk.new) opened) }
     ensures spelled { IfOk result (λ opened. IsSpellable config.now opened) }
     ensures resumed { D.tells → (kept : Fields) (h : History) → IsKept kept (D.seen disk.old).directory h
         → IfOk result (λ opened. IsResumed config.now h None (D.seen disk.old).directory (D.seen disk.new) opened) }

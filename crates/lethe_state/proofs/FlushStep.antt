@@ -236,6 +236,7 @@ module _ (s : Stored) (state : State) (levels : List (List Parts)) (is : Remembe
     number = number;
     is = refl;
     new = new;
+    order = flush.order;
     later = later;
     alone = alone;
     clear = subst (λ entries. IsTrue alone ↔ IsAlone entries) entries_are (

@@ -12,7 +12,7 @@ use Rattle.lethe_mem.specs.Buffered.{Buffered}
 use Rattle.lethe_merge.specs.Merge.{merged}
 use Rattle.lethe_moves.specs.Files.{IsClearOf}
 use Rattle.lethe_moves.specs.Flushes.{span_of, frozen_entries}
-use Rattle.lethe_follows.specs.Filed.{flushed, AreNewFiles}
+use Rattle.lethe_follows.specs.Filed.{flushed, AreInOrder, AreNewFiles}
 use Rattle.lethe_follows.specs.Woven.{AreWovenOf}
 use Rattle.lethe_stored.specs.Files.{StoredFile, file_of}
 use Rattle.lethe_stored.specs.Stored.{Stored, pending_of, count_of, layout_of, froze}
@@ -36,6 +36,7 @@ pub record IsFlushed (s t : Stored) : Type 0 where
   pub number : ℕ
   pub is : t ≡ flushed s made number
   pub new : AreNewFiles s.manifest.next number made
+  pub order : AreInOrder made
   pub later : s.manifest.next ≤ number
   pub alone : Bool
   pub clear : IsTrue alone ↔ ((frozen_entries (layout_of s) ≢ []) × All (IsClearOf (span_of (frozen_entries (layout_of s)))) (files_of (layout_of s)))
