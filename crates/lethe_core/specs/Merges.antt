@@ -1,18 +1,21 @@
 -- The merges that a store carries out itself, one after another, where a caller makes room.
 use Rattle.std.specs.Prelude.{◌≡◌, ◌⊎◌, ◌≤◌, ℕ, ◌+◌, ◌*◌, List, [], ◌∷◌, length, sum_by, Option, Some, None}
+use Rattle.std.specs.List.{AllZip}
 use Rattle.lethe_base.specs.Limits.{max_place}
 use Rattle.lethe_base.specs.Shapes.{shape_of}
+use Rattle.lethe_build.specs.Built.{most_numbers}
 use Rattle.lethe_build.specs.Drafts.{AreDraftsOf, numbers_for}
 use Rattle.lethe_build.specs.declared.draft.Draft.{Draft}
 use Rattle.lethe_fade.specs.Choice.{choice}
 use Rattle.lethe_follows.specs.Merged.{StoredMerge, IsMerged, at, entries_in}
 use Rattle.lethe_header.specs.declared.header.Header.{Header}
 use Rattle.lethe_merge.specs.Merge.{merged}
+use Rattle.lethe_stored.specs.Files.{StoredFile}
 use Rattle.lethe_stored.specs.Stored.{Stored, layout_of, pending_of}
 use Rattle.lethe_advance.specs.Steps.{IsStep}
 use Rattle.lethe_advance.specs.declared.step.Step.{Step}
 use Rattle.lethe_state.specs.Room.{HasRoom, IsFrozen, IsUnfrozen}
-use Rattle.lethe_job.specs.Tasks.{PlainTask, IsBegunIn, IsTaskIn, inputs_in, pages_in}
+use Rattle.lethe_job.specs.Tasks.{PlainTask, IsBegunIn, IsCitedAs, IsTaskIn, counted_in, inputs_in, pages_in}
 use Rattle.lethe_core.specs.Running.{Holds}
 use Rattle.lethe_core.specs.View.{Flying, View, loose_in}
 
@@ -93,9 +96,17 @@ IsRoomBegun flight s t = (t ≡ s) ⊎ ((HasRoom s → ⊥) × IsClearedInPart f
 abbrev pub pages_of : List Outcome → ℕ
 pages_of outcomes = sum_by (λ outcome. pages_in (inputs_in outcome.task)) outcomes
 
--- the numbers of the objects of the merge that is due, and of a manifest, can't be drawn
+-- the inputs of a task are some of the files that the manifest cites, as readers have them
+pub record IsTaskOf (view : View) (task : PlainTask) : Type 0 where
+  pub files : List StoredFile
+  pub cited : AllZip (IsCitedAs view.levels) view.state.manifest.files files
+  pub some : counted_in (inputs_in task) ≤ counted_in files
+
+-- The numbers of the objects of the merge that is due, and of a manifest, can't be drawn. On any disk these are no more than as many entries take as the headers of its inputs count.
 pub record IsShortToMerge (Tells : Type 0) (view : View) : Type 0 where
+  pub task : PlainTask
+  pub of : IsTaskOf view task
   pub drafts : List Draft
+  pub bounded : sum_by numbers_for drafts ≤ most_numbers (counted_in (inputs_in task))
   pub short : max_place ≤ view.state.next + sum_by numbers_for drafts
-  pub are : Tells → (s : Stored) → Holds view s
-      → (task : PlainTask) × IsBegunIn s task × AreDraftsOf task.config (merged (entries_in (inputs_in task)) task.erases task.alone) drafts
+  pub are : Tells → (s : Stored) → Holds view s → IsBegunIn s task × AreDraftsOf task.config (merged (entries_in (inputs_in task)) task.erases task.alone) drafts

@@ -3,7 +3,7 @@ ghost use Rattle.std.specs.Prelude.{◌≡◌, ◌<◌, ◌-◌, None, Ok, lengt
 ghost use Rattle.lethe_stored.specs.Stored.{Stored};
 ghost use Rattle.lethe_state.specs.Writable.{IsWritable};
 ghost use Rattle.lethe_job.specs.Tasks.{IsBegunIn, plain_task};
-ghost use Rattle.lethe_core.specs.Merges.{HasNoMerge};
+ghost use Rattle.lethe_core.specs.Merges.{HasNoMerge, IsTaskOf};
 ghost use Rattle.lethe_core.specs.Running.{Holds};
 ghost use Rattle.lethe_core.specs.View.{view_of};
 
@@ -39,6 +39,7 @@ impl<D: Disk> Core<D> {
         ensures upto { IfOk result (λ found. IfSome found (λ task. task.upto ≡ self.now.state.count)) }
         ensures erases { IfOk result (λ found. IfSome found (λ task. task.erases ≡ self.now.state.pending)) }
         ensures config { IfOk result (λ found. IfSome found (λ task. task.config ≡ self.now.state.manifest.config)) }
+        ensures of { IfOk result (λ found. IfSome found (λ task. IsTaskOf (view_of self.now) (plain_task task))) }
     {
         let manifest = &self.state.manifest;
         let files = cited_files(alloc, &self.version, manifest.files.items())?;

@@ -3,6 +3,7 @@ use Rattle.std.specs.Prelude.{◌≡◌, ◌≤◌, ◌<◌, ◌^◌, ℕ, List,
 use Rattle.lethe_base.specs.declared.name.Name.{Name}
 use Rattle.lethe_base.specs.declared.refused.Refused.{Refused}
 use Rattle.lethe_base.specs.declared.refused.Refused.TheVariants.{ReadFault, Damaged, NoMemory}
+use Rattle.lethe_build.specs.Built.{most_numbers}
 use Rattle.lethe_build.specs.Drafts.{AreDraftsOf, IsDraft, numbers_for}
 use Rattle.lethe_build.specs.declared.draft.Draft.{Draft}
 use Rattle.lethe_disk.specs.Reads.{HasReadCause, IsFault}
@@ -13,13 +14,14 @@ use Rattle.lethe_flush.specs.Made.{pages_in}
 use Rattle.lethe_follows.specs.Merged.{entries_in}
 use Rattle.lethe_merge.specs.Merge.{merged}
 use Rattle.lethe_stored.specs.Files.{StoredFile}
-use Rattle.lethe_job.specs.Tasks.{PlainTask, AreSound, HasPage, inputs_in, plain_task}
+use Rattle.lethe_job.specs.Tasks.{PlainTask, AreSound, HasPage, counted_in, inputs_in, plain_task}
 use Rattle.lethe_job.specs.declared.job.Job.{Job}
 
--- the drafts are those of the task's outputs
+-- The drafts are those of the task's outputs. On any disk they have no more numbers than as many entries take as the headers of the inputs count.
 pub record AreOutputs (Tells : Type 0) (task : PlainTask) (drafts : List Draft) : Type 0 where
   pub each : All IsDraft drafts
   pub few : sum_by numbers_for drafts < 2 ^ 63
+  pub bounded : sum_by numbers_for drafts ≤ most_numbers (counted_in (inputs_in task))
   pub told : Tells → AreSound (inputs_in task) → AreDraftsOf task.config (merged (entries_in (inputs_in task)) task.erases task.alone) drafts
 
 -- What holds of a job between its calls: once its drafts are made they are those of its task's outputs, and no more pages count as written than they have.

@@ -1,5 +1,5 @@
 -- What a job is to do.
-use Rattle.std.specs.Prelude.{◌≡◌, ◌≤◌, ℕ, ◌+◌, Bool, IsTrue, List, [], ◌++◌, length, map, sum_by, All, Any, Some}
+use Rattle.std.specs.Prelude.{◌≡◌, ◌≤◌, ℕ, ◌+◌, Bool, IsTrue, List, [], ◌++◌, length, map, slice_index_or, sum_by, All, Any, Contains, Some}
 use Rattle.lethe_base.specs.Shapes.{shape_of}
 use Rattle.lethe_base.specs.declared.config.Fields.{Fields}
 use Rattle.lethe_base.specs.declared.name.Name.{Name}
@@ -9,7 +9,9 @@ use Rattle.lethe_fade.specs.Choice.{choice}
 use Rattle.lethe_fade.specs.declared.plan.Plan.{Plan}
 use Rattle.lethe_file.specs.Agreement.{FileAgrees, page_name}
 use Rattle.lethe_follows.specs.Merged.{StoredMerge, IsAlone, IsMergeIn, hull_of, inputs_of}
-use Rattle.lethe_stored.specs.Files.{StoredFile, lines_in}
+use Rattle.lethe_header.specs.Headers.{entries_in}
+use Rattle.lethe_manifest.specs.declared.manifest.Cited.{Cited}
+use Rattle.lethe_stored.specs.Files.{StoredFile, Parts, lines_in, parts_of}
 use Rattle.lethe_stored.specs.Levels.{AreRising}
 use Rattle.lethe_stored.specs.Stored.{Stored, IsCoherent, count_of, layout_of, pending_of}
 use Rattle.lethe_version.specs.Versions.{bytes_of}
@@ -49,6 +51,17 @@ inputs_in task = task.sources ++ task.met
 -- how many pages the files have
 abbrev pub pages_in : List StoredFile → ℕ
 pages_in files = sum_by (λ file. length (lines_in file)) files
+
+-- how many entries the headers of files count
+abbrev pub counted_in : List StoredFile → ℕ
+counted_in files = sum_by (λ file. entries_in (lines_in file)) files
+
+-- a file that a manifest cites, as readers have it
+pub record IsCitedAs (levels : List (List Parts)) (cited : Cited) (file : StoredFile) : Type 0 where
+  pub level : file.level ≡ cited.level
+  pub swept : file.swept ≡ cited.swept
+  pub number : file.header.no ≡ cited.no
+  pub there : Contains (slice_index_or levels cited.level []) (parts_of file)
 
 -- the pages of each file agree with its header
 abbrev pub AreSound : List StoredFile → Type 0

@@ -1,11 +1,12 @@
 //! The files of a store as its manifest cites them.
 ghost use Rattle.std.specs.Prelude.{◌≡◌, ◌<◌, [], map, length, slice_index_or, Contains, IfOk};
+ghost use Rattle.std.specs.List.{AllZip};
 ghost use Rattle.lethe_header.specs.Facts.{least_key, greatest_key};
 ghost use Rattle.lethe_stored.specs.Levels.{HasFiles};
 ghost use Rattle.lethe_stored.specs.Stored.{Stored, IsCoherent};
 ghost use Rattle.lethe_version.specs.Versions.{levels_of};
 ghost use Rattle.lethe_advance.specs.Shown.{parts_by_level};
-ghost use Rattle.lethe_job.specs.Tasks.{plain_file};
+ghost use Rattle.lethe_job.specs.Tasks.{IsCitedAs, plain_file};
 
 use lethe_base::{Key, NoMemory};
 use lethe_disk::Disk;
@@ -65,7 +66,9 @@ pub fn cited_files<D: Disk>(
     version: &Version<D>,
     cited: &[Cited],
 ) -> Result<Vec<Filed<D>>, NoMemory>
-    ensures { (s : Stored) → IsCoherent s → s.manifest.files ≡ cited.now → HasFiles s (parts_by_level version.now) → IfOk result (λ files. map plain_file files.items ≡ s.files) }
+    ensures stored { (s : Stored) → IsCoherent s → s.manifest.files ≡ cited.now → HasFiles s (parts_by_level version.now) → IfOk result (λ files. map plain_file files.items ≡ s.files) }
+    // On any disk, one for each.
+    ensures each { IfOk result (λ files. AllZip (IsCitedAs (parts_by_level version.now)) cited.now (map plain_file files.items)) }
 {
     let mut files = Vec::new(alloc);
     for one in cited {

@@ -1,14 +1,15 @@
 //! What a job makes of its inputs.
-ghost use Rattle.std.specs.Prelude.{◌≡◌, ◌+◌, ◌≤◌, ◌<◌, ◌^◌, ◌++◌, map, sum_by, All, Any, IfOk, OnOk, IsErrOf};
+ghost use Rattle.std.specs.Prelude.{◌≡◌, ◌+◌, ◌≤◌, ◌<◌, ◌^◌, ◌++◌, length, map, sum_by, All, Any, IfOk, OnOk, IsErrOf};
 ghost use Rattle.lethe_base.specs.Limits.{max_time};
 ghost use Rattle.lethe_base.specs.Spelling.{HasSpelling};
 ghost use Rattle.lethe_base.specs.declared.name.Name.{Name};
+ghost use Rattle.lethe_build.specs.Built.{most_numbers};
 ghost use Rattle.lethe_build.specs.Drafts.{AreDraftsOf, IsDraft, numbers_for};
 ghost use Rattle.lethe_disk.specs.Reads.{HasReadCause, IsFault};
 ghost use Rattle.lethe_disk.specs.declared.cursor.ReadRefused.TheVariants.{Damaged};
 ghost use Rattle.lethe_merge.specs.Merge.{merged};
 ghost use Rattle.lethe_follows.specs.Merged.{entries_in};
-ghost use Rattle.lethe_job.specs.Tasks.{AreSound, HasPage, inputs_in, pages_in, plain_task};
+ghost use Rattle.lethe_job.specs.Tasks.{AreSound, HasPage, counted_in, inputs_in, pages_in, plain_task};
 
 use crate::reading::add_files;
 use crate::task::Task;
@@ -26,6 +27,7 @@ impl<D: Disk> Task<D> {
     fn entries(&self, alloc: Global, port: &mut D::Port) -> Result<Vec<Entry>, ReadRefused>
         ensures given { D.tells → IfOk result (λ entries. entries.items ≡ entries_in (inputs_in (plain_task self.now))) }
         ensures spelled { IfOk result (λ entries. All HasSpelling entries.items) }
+        ensures counted { IfOk result (λ entries. length entries.items ≡ counted_in (inputs_in (plain_task self.now))) }
         ensures fetches { OnOk result (D.fetches port.new ≡ D.fetches port.old + pages_in (inputs_in (plain_task self.now))) }
         ensures at_most { D.fetches port.new ≤ D.fetches port.old + pages_in (inputs_in (plain_task self.now)) }
         ensures damaged { (name : Name) → IsErrOf result (Damaged name) → Any (HasPage name) (inputs_in (plain_task self.now)) }
@@ -53,6 +55,9 @@ impl<D: Disk> Task<D> {
             → IfOk result (λ drafts. AreDraftsOf self.now.config (merged (entries_in (inputs_in (plain_task self.now))) self.now.erases self.now.alone) drafts.items) }
         ensures each { IfOk result (λ drafts. All IsDraft drafts.items) }
         ensures few { IfOk result (λ drafts. sum_by numbers_for drafts.items < 2 ^ 63) }
+
+        // On any disk they have no more numbers than as many entries take as the headers of the inputs count.
+        ensures bounded { IfOk result (λ drafts. sum_by numbers_for drafts.items ≤ most_numbers (counted_in (inputs_in (plain_task self.now)))) }
         ensures fetches { OnOk result (D.fetches port.new ≡ D.fetches port.old + pages_in (inputs_in (plain_task self.now))) }
         ensures at_most { D.fetches port.new ≤ D.fetches port.old + pages_in (inputs_in (plain_task self.now)) }
         ensures damaged { (name : Name) → IsErrOf result (Damaged name) → Any (HasPage name) (inputs_in (plain_task self.now)) }

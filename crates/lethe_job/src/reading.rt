@@ -6,9 +6,10 @@ ghost use Rattle.lethe_base.specs.declared.name.Name.{Name};
 ghost use Rattle.lethe_disk.specs.Reads.{HasReadCause, IsFault};
 ghost use Rattle.lethe_disk.specs.declared.cursor.ReadRefused.TheVariants.{Damaged};
 ghost use Rattle.lethe_file.specs.Agreement.{FileAgrees};
-ghost use Rattle.lethe_follows.specs.Merged.{entries_in};
+ghost use Rattle.lethe_follows.specs.Merged as merged;
+ghost use Rattle.lethe_header.specs.Headers.{entries_in};
 ghost use Rattle.lethe_stored.specs.Files.{file_of, lines_in};
-ghost use Rattle.lethe_job.specs.Tasks.{AreSound, HasPage, pages_in, plain_file};
+ghost use Rattle.lethe_job.specs.Tasks.{AreSound, HasPage, counted_in, pages_in, plain_file};
 
 use crate::filed::Filed;
 use lethe_base::Entry;
@@ -36,6 +37,8 @@ fn add_file<D: Disk>(
 ) -> Result<(), ReadRefused>
     ensures given { D.tells → OnOk result (entries.new.items ≡ entries.old.items ++ layout.entries_of (file_of (plain_file filed.now))) }
     ensures spelled { All HasSpelling entries.old.items → OnOk result (All HasSpelling entries.new.items) }
+    // On any disk, as many as the file's header counts.
+    ensures counted { OnOk result (length entries.new.items ≡ length entries.old.items + entries_in (lines_in (plain_file filed.now))) }
     ensures fetches { OnOk result (D.fetches port.new ≡ D.fetches port.old + length (lines_in (plain_file filed.now))) }
     ensures at_most { D.fetches port.new ≤ D.fetches port.old + length (lines_in (plain_file filed.now)) }
     ensures damaged { (name : Name) → IsErrOf result (Damaged name) → HasPage name (plain_file filed.now) }
@@ -61,8 +64,9 @@ pub fn add_files<D: Disk>(
     files: &[Filed<D>],
     entries: &mut Vec<Entry>,
 ) -> Result<(), ReadRefused>
-    ensures given { D.tells → OnOk result (entries.new.items ≡ entries.old.items ++ entries_in (map plain_file files.now)) }
+    ensures given { D.tells → OnOk result (entries.new.items ≡ entries.old.items ++ merged.entries_in (map plain_file files.now)) }
     ensures spelled { All HasSpelling entries.old.items → OnOk result (All HasSpelling entries.new.items) }
+    ensures counted { OnOk result (length entries.new.items ≡ length entries.old.items + counted_in (map plain_file files.now)) }
     ensures fetches { OnOk result (D.fetches port.new ≡ D.fetches port.old + pages_in (map plain_file files.now)) }
     ensures at_most { D.fetches port.new ≤ D.fetches port.old + pages_in (map plain_file files.now) }
     ensures damaged { (name : Name) → IsErrOf result (Damaged name) → Any (HasPage name) (map plain_file files.now) }

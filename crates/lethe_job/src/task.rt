@@ -1,10 +1,10 @@
 //! What a job is to do.
-ghost use Rattle.std.specs.Prelude.{◌≡◌, ◌<◌, ◌^◌, [], Ok, None, length, map, IfOk, IfSome};
+ghost use Rattle.std.specs.Prelude.{◌≡◌, ◌<◌, ◌≤◌, ◌^◌, [], Ok, None, length, map, IfOk, IfSome};
 ghost use Rattle.lethe_base.specs.Shapes.{shape_of};
 ghost use Rattle.lethe_fade.specs.Choice.{choice};
 ghost use Rattle.lethe_stored.specs.Stored.{Stored, layout_of};
 ghost use Rattle.lethe_job.specs.Chosen.{sources_in, task_in};
-ghost use Rattle.lethe_job.specs.Tasks.{IsBegunIn, IsStore, plain_file, plain_task};
+ghost use Rattle.lethe_job.specs.Tasks.{IsBegunIn, IsStore, counted_in, inputs_in, plain_file, plain_task};
 
 use crate::filed::Filed;
 use crate::inputs::{level_named, lies_below, met_in, sources_in};
@@ -52,6 +52,8 @@ pub fn next_task<D: Disk>(
     ensures upto { IfOk result (λ found. IfSome found (λ task. task.upto ≡ count)) }
     ensures erases { IfOk result (λ found. IfSome found (λ task. task.erases ≡ erases.now)) }
     ensures config { IfOk result (λ found. IfSome found (λ task. task.config ≡ config.now)) }
+    // Its inputs are some of the files.
+    ensures some_of { IfOk result (λ found. IfSome found (λ task. counted_in (inputs_in (plain_task task)) ≤ counted_in (map plain_file files.items))) }
 {
     let levels = config.fields().levels;
     let shape = shape_of(alloc, &files, levels, erases)?;
