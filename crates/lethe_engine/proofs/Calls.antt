@@ -29,8 +29,8 @@ use Rattle.lethe_core.proofs.Hindered.{as_itself, like_of}
 use Rattle.lethe_core.proofs.Likes.{before_holds}
 use Rattle.lethe_core.proofs.Roomed.{room_begun}
 use Rattle.lethe_core.proofs.Standing.{idle_back, moments_or, stands_moments}
-use Rattle.lethe_engine.specs.Answers.{Answers, IsRefused, SeesRoom}
-use Rattle.lethe_engine.specs.Refusals.{HasReasonOfChange}
+use Rattle.lethe_engine.specs.Answers.{Answers, IsRefused}
+use Rattle.lethe_engine.specs.Refusals.{HasReasonOfChange, SeesRoom}
 use Rattle.lethe_engine.specs.StandsFor.{IsKeptFor, Opened, StandsFor}
 use Rattle.lethe_engine.proofs.Onward.{answered_for, idle_for, worked_for}
 use Rattle.lethe_engine.proofs.Reasons.{changes_told, reasons_told}

@@ -1,7 +1,8 @@
 -- What the reasons of refusals say: the counts of faults with which a failure is told, and that what wasn't begun is in no history.
-use Rattle.std.proofs.Common.{◌≡◌, inl, inr, ℕ, Option, Some, None, refl}
+use Rattle.std.proofs.Common.{◌≡◌, ◌⊎◌, inl, inr, ℕ, Option, Some, None, refl}
 use Rattle.std.specs.Prelude.{IfSome}
 use Rattle.lethe_base.specs.Counts.{Rose}
+use Rattle.lethe_base.specs.Limits.{max_place}
 use Rattle.lethe_base.specs.declared.refused.Refused.{Refused}
 use Rattle.lethe_base.specs.declared.refused.Refused.TheVariants.{Fault, Stopped, Backwards, Pinned, NothingDue, Cancelled, Exhausted, ReadFault, NoMemory, Damaged}
 use Rattle.lethe_disk.specs.declared.cursor.ReadRefused.{ReadRefused}
@@ -12,7 +13,7 @@ use Rattle.lethe_core.specs.Asked.{failure_of}
 use Rattle.lethe_core.specs.Reasons.{HasReason, IsShortOfRoom, IsUnreadable}
 use Rattle.lethe_core.specs.View.{View}
 use Rattle.lethe_engine.specs.Reads.{told_as}
-use Rattle.lethe_engine.specs.Refusals.{HasReasonOfBegin, HasReasonOfChange}
+use Rattle.lethe_engine.specs.Refusals.{HasReasonOfBegin, HasReasonOfChange, SeesRoom}
 
 -- the failure of a disk is told with these counts, which rose
 abbrev pub IsTold : ℕ → ℕ → Refused → Type 0
@@ -48,8 +49,32 @@ unreadable_told Tells PortsFail first last before now NoMemory is = tt
 unreadable_told Tells PortsFail first last before now (Damaged name) is = tt
 
 pub changes_told : (Tells PortsFail : Type 0) (old new : View) (first last : ℕ) (why : Refused) → HasReasonOfChange Tells PortsFail old new first last why → IsTold old.faults new.faults why
-changes_told Tells PortsFail old new first last why (inl is) = reason_told (IsShortOfRoom Tells old.state new) old.state old.faults new.faults why is
-changes_told Tells PortsFail old new first last why (inr is) = unreadable_told Tells PortsFail first last old.faults new.faults why is.1
+changes_told Tells PortsFail old new first last why (inl is) = reason_told ((SeesRoom old.state → ⊥) × IsShortOfRoom Tells old.state new) old.state old.faults new.faults why is
+changes_told Tells PortsFail old new first last why (inr is) = unreadable_told Tells PortsFail first last old.faults new.faults why is.2
+
+-- Where there was no room
+
+with_premise : (Premise Short : Type 0) → Premise → (state : State) (before now : ℕ) (why : Refused) → HasReason Short state before now why → HasReason (Premise × Short) state before now why
+with_premise Premise Short premise state before now (Exhausted last) is = (is.0, is.1, or_short is.2)
+  where
+    or_short : (state.count ≡ max_place) ⊎ Short → (state.count ≡ max_place) ⊎ (Premise × Short)
+    or_short (inl last) = inl last
+    or_short (inr short) = inr (premise, short)
+with_premise Premise Short premise state before now (Fault place b a) is = is
+with_premise Premise Short premise state before now (Stopped at) is = is
+with_premise Premise Short premise state before now (Backwards clock) is = is
+with_premise Premise Short premise state before now (Pinned pin limit) is = is
+with_premise Premise Short premise state before now NothingDue is = is
+with_premise Premise Short premise state before now (Cancelled begun other) is = is
+with_premise Premise Short premise state before now (ReadFault b a) is = is
+with_premise Premise Short premise state before now NoMemory is = is
+with_premise Premise Short premise state before now (Damaged name) is = is
+
+-- room couldn't be made, for numbers or for a file that couldn't be read
+pub reason_of_room : (Tells PortsFail : Type 0) (old new : View) (first last : ℕ) (why : Refused) → (SeesRoom old.state → ⊥) → old.state.stopped ≡ None
+    → HasReason (IsShortOfRoom Tells old.state new) old.state old.faults new.faults why ⊎ IsUnreadable Tells PortsFail first last why → HasReasonOfChange Tells PortsFail old new first last why
+reason_of_room Tells PortsFail old new first last why full runs (inl is) = inl (with_premise (SeesRoom old.state → ⊥) (IsShortOfRoom Tells old.state new) full old.state old.faults new.faults why is)
+reason_of_room Tells PortsFail old new first last why full runs (inr is) = inr (full, runs, is)
 
 -- a call that wasn't begun is no failure
 pub not_begun : (state : State) (why : Refused) → MayRefuse state why → failure_of why ≡ None

@@ -1,5 +1,5 @@
 -- What each call of a store says of itself: what it was asked, why it was refused if it was, the store before and the store behind.
-use Rattle.std.specs.Prelude.{◌≡◌, ◌≤◌, ◌<◌, ◌+◌, ℕ, Option, None, IfSome, IsSome}
+use Rattle.std.specs.Prelude.{◌≡◌, ◌≤◌, ◌+◌, ℕ, Option, None, IfSome, IsSome}
 use Rattle.lethe_base.specs.History.{History}
 use Rattle.lethe_base.specs.declared.config.Fields.{Fields}
 use Rattle.lethe_base.specs.declared.refused.Refused.{Refused}
@@ -7,18 +7,14 @@ use Rattle.lethe_disk.specs.Disk.{IsIdle}
 use Rattle.lethe_disk.specs.Goes.{Goes}
 use Rattle.lethe_stored.specs.Left.{IsKeptOr}
 use Rattle.lethe_stored.specs.Numbers.{GoesFrom}
-use Rattle.lethe_state.specs.declared.state.State.{State}
 use Rattle.lethe_core.specs.Asked.{Asked, Makes, Serves, behind, counted, stopped_by, written_by}
 use Rattle.lethe_core.specs.Merges.{IsRoomBegun}
 use Rattle.lethe_core.specs.Running.{IsSound}
 use Rattle.lethe_core.specs.StandsNow.{StandsNow}
 use Rattle.lethe_core.specs.Steps.{IsDoneInPart, IsUndone}
 use Rattle.lethe_core.specs.View.{Face, View, face_of}
+use Rattle.lethe_engine.specs.Refusals.{SeesRoom}
 use Rattle.lethe_engine.specs.StandsFor.{IsKeptFor, Opened, StandsFor}
-
--- the active segment has fewer records than a buffer may have, as the store sees it
-abbrev pub SeesRoom : State → Type 0
-SeesRoom state = state.records < state.manifest.config.buffer
 
 -- What stands behind a call that was refused, unless the disk failed in it. Work and looks leave all as it was. So does a change where there was room; where there
 -- was none, some of the steps that make it may have been done, and nothing else.

@@ -1,8 +1,8 @@
 pub mod StandsFor
+pub mod Refusals
 pub mod Answers
 pub mod Deletes
 pub mod Work
-pub mod Refusals
 pub mod Jobs
 pub mod Reads
 pub mod Capped

@@ -1,8 +1,9 @@
 -- Why the calls of a store are refused.
-use Rattle.std.specs.Prelude.{◌≡◌, ◌⊎◌, ℕ, Some, None, IsSome}
+use Rattle.std.specs.Prelude.{◌≡◌, ◌<◌, ◌⊎◌, ℕ, Some, None, IsSome}
 use Rattle.lethe_base.specs.declared.refused.Refused.{Refused}
 use Rattle.lethe_base.specs.declared.refused.Refused.TheVariants.{Fault, Stopped, Backwards, Pinned, NothingDue, Cancelled, Exhausted, ReadFault, NoMemory, Damaged}
 use Rattle.lethe_stored.specs.Stored.{Stored}
+use Rattle.lethe_state.specs.declared.state.State.{State}
 use Rattle.lethe_core.specs.Merges.{HasNoMerge}
 use Rattle.lethe_core.specs.Reasons.{HasReason, IsShortOfRoom, IsUnreadable}
 use Rattle.lethe_core.specs.Running.{Holds}
@@ -12,10 +13,16 @@ use Rattle.lethe_core.specs.View.{View}
 abbrev pub HasReasonOfWork : Type 0 → View → View → Refused → Type 0
 HasReasonOfWork Short old new why = HasReason Short old.state old.faults new.faults why
 
--- A change: the same, or reading a file to make room was refused, by the port's counts of faults before and now.
+-- the active segment has fewer records than a buffer may have, as the store sees it
+abbrev pub SeesRoom : State → Type 0
+SeesRoom state = state.records < state.manifest.config.buffer
+
+-- A change: the same, where only one without room may be short of numbers; or there was no room, and reading a file to make it was refused, by the port's counts of faults
+-- before and now.
 abbrev pub HasReasonOfChange : Type 0 → Type 0 → View → View → ℕ → ℕ → Refused → Type 0
 HasReasonOfChange Tells PortsFail old new before now why =
-    HasReason (IsShortOfRoom Tells old.state new) old.state old.faults new.faults why ⊎ ((old.state.stopped ≡ None) × IsUnreadable Tells PortsFail before now why)
+    HasReason ((SeesRoom old.state → ⊥) × IsShortOfRoom Tells old.state new) old.state old.faults new.faults why
+    ⊎ ((SeesRoom old.state → ⊥) × (old.state.stopped ≡ None) × IsUnreadable Tells PortsFail before now why)
 
 -- The begin of a job: an earlier call failed, a job is in flight or no merge is due, or there was no memory.
 abbrev pub HasReasonOfBegin : Type 0 → View → Refused → Type 0

@@ -13,8 +13,10 @@ ghost use Rattle.lethe_stored.specs.Numbers.{IsNextNumber, KeepsPace};
 ghost use Rattle.lethe_load.specs.Refused.{HasReason};
 ghost use Rattle.lethe_load.specs.declared.refused.RecoverRefused.{RecoverRefused};
 ghost use Rattle.lethe_recover.specs.Opening.{IsKeptInOpening, MayNotOpen, IsCut, since_start};
+ghost use Rattle.lethe_recover.specs.Reopening.{IsOpenedAs};
+ghost use Rattle.lethe_stored.specs.Stored.{Stored};
 ghost use Rattle.lethe_engine.specs.Opening.{IsResumed, IsUntold};
-ghost use Rattle.lethe_core.specs.Running.{IsSound};
+ghost use Rattle.lethe_core.specs.Running.{Holds, IsSound};
 ghost use Rattle.lethe_core.specs.Asked.{Serves};
 ghost use Rattle.lethe_core.specs.View.{face_of, no_jobs, view_of};
 ghost use Rattle.lethe_engine.specs.Answers.{Answers};
@@ -50,6 +52,9 @@ impl<D: Disk> Engine<D> {
         ensures sound { IfOk result (λ engine. IsSound D.tells (view_of engine.core)) }
         ensures runs { IfOk result (λ engine. engine.core.state.stopped ≡ None) }
         ensures face { IfOk result (λ engine. face_of (view_of engine.core) ≡ no_jobs) }
+
+        // What is stored is a new store where there was no gate, and else what the directory encoded, with the journal in files.
+        ensures opened { D.tells → IfOk result (λ engine. (t : Stored) × Holds (view_of engine.core) t × IsOpenedAs config.now (D.seen disk).directory t) }
 
         // Where the disk was left for a history, in whatever configuration, the store stands for it, or for it with the change carried out: for the one that the
         // directory is kept for.

@@ -84,6 +84,7 @@ impl<D: Disk> Engine<D> {
         // Acknowledged: the page is there beside what is stored, and is the one object that came.
         ensures works { OnOk result (IsAtWork D.tells (view_of self.new.core) job.new) }
         ensures written { OnOk result (job.new.written ≡ job.old.written + 1) }
+        ensures unwritten { OnErr result (job.new.written ≡ job.old.written) }
         ensures held { D.tells → (s : Stored) → Holds (view_of self.old.core) s → OnOk result (Holds (view_of self.new.core) s) }
         ensures page { D.tells → OnOk result ((D.seen self.new.core.disk).directory ≡ insert (D.seen self.old.core.disk).directory (page_name self.old.core.state.next) (next_bytes job.old)) }
 
@@ -96,6 +97,7 @@ impl<D: Disk> Engine<D> {
         ensures why { IfErr result (HasReasonOfWork (max_place ≤ self.old.core.state.next) (view_of self.old.core) (view_of self.new.core)) }
         ensures drawn { OnErr result (self.new.core.state.next ≡ self.old.core.state.next) }
         ensures stopped { (at : ℕ) → self.old.core.state.stopped ≡ Some at → IsErrOf result (refused.Stopped at) × (self.new ≡ self.old) }
+        ensures exhausted { self.old.core.state.stopped ≡ None → self.old.core.state.count ≡ max_place → IsErrOf result (refused.Exhausted max_place) × (self.new ≡ self.old) }
     {
         // The piece says only that this page is the next one.
         drop(piece);
@@ -120,6 +122,7 @@ impl<D: Disk> Engine<D> {
         ensures why { IfErr result (HasReasonOfWork (max_place ≤ self.old.core.state.next) (view_of self.old.core) (view_of self.new.core)) }
         ensures drawn { OnErr result (self.new.core.state.next ≡ self.old.core.state.next) }
         ensures stopped { (at : ℕ) → self.old.core.state.stopped ≡ Some at → IsErrOf result (refused.Stopped at) × (self.new ≡ self.old) }
+        ensures exhausted { self.old.core.state.stopped ≡ None → self.old.core.state.count ≡ max_place → IsErrOf result (refused.Exhausted max_place) × (self.new ≡ self.old) }
     {
         self.core.state.may_change()?;
         let Some(drafts) = &job.drafts else {
@@ -150,6 +153,8 @@ impl<D: Disk> Engine<D> {
         ensures why { IfErr result (λ back. HasReasonOfWork (IsShortToInstall (view_of self.old.core) job) (view_of self.old.core) (view_of self.new.core) back.1) }
         ensures drawn { OnErr result (self.new.core.state.next ≡ self.old.core.state.next) }
         ensures stopped { (at : ℕ) → self.old.core.state.stopped ≡ Some at → IfErr result (λ back. back.1 ≡ refused.Stopped at) × OnOk result ⊥ × (self.new ≡ self.old) }
+        ensures exhausted { self.old.core.state.stopped ≡ None → self.old.core.state.count ≡ max_place
+            → IfErr result (λ back. back.1 ≡ refused.Exhausted max_place) × OnOk result ⊥ × (self.new ≡ self.old) }
     {
         let mut job = job;
         match self.install_drafts(alloc, job.drafts.take().unwrap()) {
@@ -174,6 +179,7 @@ impl<D: Disk> Engine<D> {
             (view_of self.old.core) (view_of self.new.core)) }
         ensures drawn { OnErr result (self.new.core.state.next ≡ self.old.core.state.next) }
         ensures stopped { (at : ℕ) → self.old.core.state.stopped ≡ Some at → IsErrOf result (refused.Stopped at) × (self.new ≡ self.old) }
+        ensures exhausted { self.old.core.state.stopped ≡ None → self.old.core.state.count ≡ max_place → IsErrOf result (refused.Exhausted max_place) × (self.new ≡ self.old) }
     {
         self.core.state.may_change()?;
         let before = self.core.disk.faults();

@@ -1,8 +1,9 @@
 //! Work on a store, which changes nothing that reads see.
 ghost use Rattle.std.specs.Prelude.{◌≡◌, ◌≤◌, ◌↔◌, ◌+◌, ℕ, true, false, Ok, Some, None, IfErr, IsErrOf};
 ghost use Rattle.std.specs.Result.{result_err};
+ghost use Rattle.lethe_base.specs.Limits.{max_place};
 ghost use Rattle.lethe_base.specs.declared.call.Call.TheVariants.{Work};
-ghost use Rattle.lethe_base.specs.declared.refused.Refused.TheVariants.{Stopped};
+ghost use Rattle.lethe_base.specs.declared.refused.Refused.TheVariants.{Exhausted, Stopped};
 ghost use Rattle.lethe_stored.specs.Stored.{Stored};
 ghost use Rattle.lethe_state.specs.Room.{IsFlushed, IsFrozen, IsShortToFlush, IsShortToFreeze};
 ghost use Rattle.lethe_core.specs.Running.{Holds, IsSound};
@@ -35,9 +36,10 @@ impl<D: Disk> Engine<D> {
         ensures done { D.tells → (s : Stored) → Holds (view_of self.old.core) s → result ≡ Ok true
             → (t : Stored) × IsFrozen s t × Holds (view_of self.new.core) t }
 
-        // A refusal has its reason, and a store that is stopped is as it was.
+        // A refusal has its reason, and a store that is stopped, or has something to do and no place for it, is as it was.
         ensures why { IfErr result (HasReasonOfWork (IsShortToFreeze self.old.core.state) (view_of self.old.core) (view_of self.new.core)) }
         ensures stopped { (at : ℕ) → self.old.core.state.stopped ≡ Some at → IsErrOf result (Stopped at) × (self.new ≡ self.old) }
+        ensures exhausted { self.old.core.state.stopped ≡ None → (HasNoFreeze self.old.core.state → ⊥) → self.old.core.state.count ≡ max_place → IsErrOf result (Exhausted max_place) × (self.new ≡ self.old) }
     {
         if let Some(at) = self.core.state.stopped {
             return Err(Refused::Stopped { at });
@@ -70,9 +72,10 @@ impl<D: Disk> Engine<D> {
         ensures done { D.tells → (s : Stored) → Holds (view_of self.old.core) s → result ≡ Ok true
             → (t : Stored) × IsFlushed s t × Holds (view_of self.new.core) t }
 
-        // A refusal has its reason, and a store that is stopped is as it was.
+        // A refusal has its reason, and a store that is stopped, or has something to do and no place for it, is as it was.
         ensures why { IfErr result (HasReasonOfWork (IsShortToFlush self.old.core.state) (view_of self.old.core) (view_of self.new.core)) }
         ensures stopped { (at : ℕ) → self.old.core.state.stopped ≡ Some at → IsErrOf result (Stopped at) × (self.new ≡ self.old) }
+        ensures exhausted { self.old.core.state.stopped ≡ None → (HasNoFlush self.old.core.state → ⊥) → self.old.core.state.count ≡ max_place → IsErrOf result (Exhausted max_place) × (self.new ≡ self.old) }
     {
         if let Some(at) = self.core.state.stopped {
             return Err(Refused::Stopped { at });

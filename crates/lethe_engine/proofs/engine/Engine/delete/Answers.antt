@@ -1,4 +1,4 @@
-use Rattle.std.proofs.Common.{rules, ◌≡◌, ◌<◌, ◌+◌, ℕ, Some, Result, Err, refl, sym, ap, ◌∙◌, subst}
+use Rattle.std.proofs.Common.{rules, ◌≡◌, ◌<◌, ◌+◌, ◌⊎◌, ℕ, Some, Result, Err, refl, sym, ap, ◌∙◌, subst}
 use Rattle.std.specs.Prelude.{IfErr, false, true}
 use Rattle.std.specs.Result.{result_err}
 use Rattle.lethe_base.specs.Limits.{max_place}
@@ -9,7 +9,7 @@ use Rattle.lethe_advance.specs.Shown.{parts_by_level}
 use Rattle.lethe_state.specs.Records.{headers_in}
 use Rattle.lethe_core.specs.Asked.{Makes}
 use Rattle.lethe_core.specs.Changes.{with_record}
-use Rattle.lethe_core.specs.Reasons.{HasReason}
+use Rattle.lethe_core.specs.Reasons.{HasReason, IsShortOfRoom, IsUnreadable}
 use Rattle.lethe_core.specs.Running.{Holds}
 use Rattle.lethe_core.specs.Steps.{IsUndone}
 use Rattle.lethe_core.specs.View.{View, face_of, view_of}
@@ -21,7 +21,7 @@ use Rattle.lethe_engine.specs.Refusals.{HasReasonOfChange}
 use Rattle.lethe_engine.proofs.Calls.{if_refused, itself_answers, recorded_answers, refused_is_none, unroomed_answers}
 use Rattle.lethe_engine.proofs.Onward.{delete_works}
 use Rattle.lethe_engine.proofs.Overs.{delete_for, delete_over}
-use Rattle.lethe_engine.proofs.Reasons.{not_begun}
+use Rattle.lethe_engine.proofs.Reasons.{not_begun, reason_of_room}
 use Rattle.lethe_engine.proofs.engine.Engine.delete.Goals as goal
 
 pub returns-in_err-may_change-clause-answers : goal.returns-in_err-may_change-clause-answers
@@ -43,11 +43,26 @@ returns-in_err-make_room-clause-answers g c =
     let Asks = call.Delete c.args.key in
     let first = g.D.Disk.port_faults c.args.port.now in
     let last = g.D.Disk.port_faults c.make_room.new.port in
-    let reason : HasReasonOfChange g.D.Disk.tells g.D.Disk.ports_fail old new first last why = search rules in
+    let full : old.state.records < old.state.manifest.config.buffer → ⊥ = λ room. absurd (let ok : false ≡ true = (c.in_err-make_room.ensures.room room).0 in cc) in
+    let cause : HasReason (IsShortOfRoom g.D.Disk.tells old.state new) old.state old.faults new.faults why ⊎ IsUnreadable g.D.Disk.tells g.D.Disk.ports_fail first last why = search rules in
+    let reason = reason_of_room g.D.Disk.tells g.D.Disk.ports_fail old new first last why full c.in_ok-may_change.ensures.fits.0 cause in
     subst (λ (r : Result ℕ Refused). Answers g.D.Disk.tells (Makes Asks) (result_err r) (face_of old) old new) (sym refusal)
     (subst (λ face. Answers g.D.Disk.tells (Makes Asks) (Some why) face old new) (jobs_same core c.make_room.new.self c.make_room.ensures.begun c.make_room.ensures.flight)
     (unroomed_answers g.D.Disk.tells Asks (delete_works c.args.key) old c.in_ok-may_change.ensures.fits.0 g.D.Disk.ports_fail first last new why c.in_err-make_room.ensures.keeps reason
-    (λ room. absurd (let ok : false ≡ true = (c.in_err-make_room.ensures.room room).0 in cc)) c.in_err-make_room.ensures.partly))
+    full c.in_err-make_room.ensures.partly))
+
+pub returns-in_err-make_room-clause-why : goal.returns-in_err-make_room-clause-why
+returns-in_err-make_room-clause-why g c =
+    let old = view_of c.args.self.now.core in
+    let new : View = view_of c.make_room.new.self in
+    let why = c.in_err-make_room.field-0.0 in
+    let refusal : c.from_residual-in_err-make_room.result ≡ Err why = search rules in
+    let first = g.D.Disk.port_faults c.args.port.now in
+    let last = g.D.Disk.port_faults c.make_room.new.port in
+    let full : old.state.records < old.state.manifest.config.buffer → ⊥ = λ room. absurd (let ok : false ≡ true = (c.in_err-make_room.ensures.room room).0 in cc) in
+    let cause : HasReason (IsShortOfRoom g.D.Disk.tells old.state new) old.state old.faults new.faults why ⊎ IsUnreadable g.D.Disk.tells g.D.Disk.ports_fail first last why = search rules in
+    subst (λ (r : Result ℕ Refused). IfErr r (HasReasonOfChange g.D.Disk.tells g.D.Disk.ports_fail old new first last)) (sym refusal)
+    (reason_of_room g.D.Disk.tells g.D.Disk.ports_fail old new first last why full c.in_ok-may_change.ensures.fits.0 cause)
 
 pub returns-clause-answers : goal.returns-clause-answers
 returns-clause-answers g c =

@@ -29,6 +29,14 @@ returns-in-Ok-opened-clause-runs g c = c.in-Ok-opened.ensures.fresh.stopped
 pub returns-in-Ok-opened-clause-face : goal.returns-in-Ok-opened-clause-face
 returns-in-Ok-opened-clause-face g c = λ i. record { begun = c.none.ensures i; flight = None }
 
+pub returns-in-Ok-opened-clause-opened : goal.returns-in-Ok-opened-clause-opened
+returns-in-Ok-opened-clause-opened g c = λ tells.
+    let levels = parts_by_level c.in-Ok.field-0.version in
+    let is = c.in-Ok.ensures.opened tells in
+    let remembers = c.in-Ok-opened.ensures.remembers is.s levels is.settled.coherent is.told.files (sym is.told.manifest) is.told.frozen is.told.active is.told.erases in
+    let running = opened_running (g.D.Disk.seen c.open.new.disk) (g.D.Disk.faults c.open.new.disk) c.none.result.count is.s c.in-Ok-opened.state levels is.settled is.only is.rising is.told.active is.ends c.in-Ok-opened.ensures.end remembers.1 in
+    (is.s, record { remembers = remembers.0; running = running }, is.as)
+
 pub returns-in-Ok-opened-clause-numbers : goal.returns-in-Ok-opened-clause-numbers
 returns-in-Ok-opened-clause-numbers g c = λ told next is.
     let next_is : c.in-Ok-opened.state.next ≡ c.in-Ok.field-0.manifest.next = c.in-Ok-opened.ensures.fresh.next in
