@@ -1,11 +1,13 @@
 -- What a call of a run answers, by the moments before and behind it and the histories for which the store stands there.
-use Rattle.std.specs.Prelude.{◌≡◌, ◌⊎◌, ◌↔◌, ◌≤◌, ◌<◌, ℕ, ◌+◌, ◌-◌, Bool, true, false, List, [], length, sum_by, slice_index_or, Some, None, IsSome, Result, Ok, Err, IfErr}
+use Rattle.std.specs.Prelude.{◌≡◌, ◌⊎◌, ◌↔◌, ◌≤◌, ◌<◌, ℕ, ◌+◌, ◌-◌, Bool, true, false, List, [], ◌++◌, length, sum_by, slice_index_or, Some, None, IsSome, Result, Ok, Err, IfErr}
+use Rattle.std.specs.FinMap.{insert}
 use Rattle.std.specs.Result.{result_err}
 use Rattle.lethe_base.specs.History.{History, after}
 use Rattle.lethe_base.specs.Limits.{max_place}
 use Rattle.lethe_base.specs.Read.{Read, Answer, answer}
 use Rattle.lethe_base.specs.declared.call.Call.{Call}
 use Rattle.lethe_base.specs.declared.call.Call.TheVariants as call
+use Rattle.lethe_base.specs.declared.name.Name.{Name}
 use Rattle.lethe_base.specs.declared.refused.Refused.{Refused}
 use Rattle.lethe_base.specs.declared.refused.Refused.TheVariants.{Fault, Stopped, Backwards, Pinned, NothingDue, Cancelled, Exhausted, ReadFault, NoMemory, Damaged}
 use Rattle.lethe_build.specs.Drafts.{AreDraftsOf, numbers_for}
@@ -20,12 +22,13 @@ use Rattle.lethe_segment.specs.declared.record.Record.{Record}
 use Rattle.lethe_stored.specs.Stored.{Stored, appended}
 use Rattle.lethe_state.specs.Records.{headers_in}
 use Rattle.lethe_job.specs.Tasks.{PlainTask, IsBegunIn, inputs_in}
-use Rattle.lethe_core.specs.Asked.{Serves, behind, refused_to}
+use Rattle.lethe_core.specs.Asked.{Serves, behind, failure_of, refused_to}
 use Rattle.lethe_core.specs.Jobs.{with_page}
-use Rattle.lethe_core.specs.Merges.{HasNoMerge, IsInstalled, IsRoomMadeBy, Outcome, pages_of}
+use Rattle.lethe_core.specs.Merges.{HasNoMerge, IsInstalled, IsRoomBegun, IsRoomMadeBy, Outcome, pages_of}
 use Rattle.lethe_core.specs.Reasons.{HasReason, IsShort, IsUnreadable}
 use Rattle.lethe_core.specs.View.{Flying}
-use Rattle.lethe_drive.specs.Moments.{AreJobsSame, Going, IsAllButPort, IsPortSame, Moment}
+use Rattle.lethe_engine.specs.Refusals.{SeesRoom}
+use Rattle.lethe_drive.specs.Moments.{AreJobsSame, Going, IsAllButPort, IsPortSame, IsUntouched, Moment}
 
 -- a store that was stopped refuses
 abbrev pub StopsIn : {T : Type 0} → Moment → Result T Refused → Type 0
@@ -57,10 +60,18 @@ pub record IsChanged (call : Call) (IsNext : Stored → List Header → Record �
   pub stored : new.stored ≡ appended cleared next
   pub fetches : new.fetches ≡ old.fetches + pages_of outcomes
 
--- it is refused for a reason, and is in the history where the disk failed in it
+-- there was no room for a record
+abbrev pub IsFull : Moment → Type 0
+IsFull m = SeesRoom m.state → ⊥
+
+-- It is refused for a reason, and is in the history where the disk failed in it. Else all is as it was where there was room, and where there was none some of the steps that
+-- make it may have been done.
 pub record IsUnchanged (PortsFail : Type 0) (call : Call) (h : History) (old : Moment) (why : Refused) (g : History) (new : Moment) : Type 0 where
   pub history : g ≡ refused_to h 0 call why
-  pub reason : HasReason (IsShort old.state ⊎ IsShortToMerge new) old.state old.faults new.faults why ⊎ ((old.state.stopped ≡ None) × IsUnreadable (Unit {0}) PortsFail old.port_faults new.port_faults why)
+  pub reason : HasReason (IsFull old × (IsShort old.state ⊎ IsShortToMerge new)) old.state old.faults new.faults why
+      ⊎ (IsFull old × (old.state.stopped ≡ None) × IsUnreadable (Unit {0}) PortsFail old.port_faults new.port_faults why)
+  pub untouched : SeesRoom old.state → failure_of why ≡ None → IsUntouched old new
+  pub begun : failure_of why ≡ None → IsRoomBegun old.flight old.stored new.stored
 
 abbrev pub ChangeAnswers : Type 0 → Call → (Stored → List Header → Record → Type 0) → History → Moment → Result ℕ Refused → History → Moment → Type 0
 ChangeAnswers PortsFail call IsNext h old (Ok place) g new = IsChanged call IsNext h old place g new
@@ -86,14 +97,16 @@ pub record IsRead {T : Type 0} (PortsFail : Type 0) (read : Read) (told : T → 
 
 -- Freezes and flushes
 
--- It is false exactly where there is nothing to do, and then nothing is done.
+-- It is false exactly where there is nothing to do, and then nothing is done. Where it is refused all is as it was, unless the disk failed.
 pub record IsWork (Nothing : Moment → Type 0) (Does : Stored → Stored → Type 0) (Short : Type 0) (h : History) (old : Moment) (result : Result Bool Refused) (g : History) (new : Moment) : Type 0 where
   pub history : g ≡ behind h 0 (Serves call.Work) (result_err result)
   pub idle : (result ≡ Ok false) ↔ Nothing old
   pub same : result ≡ Ok false → IsAllButPort old new
   pub done : result ≡ Ok true → Does old.stored new.stored
   pub why : IfErr result (HasReason Short old.state old.faults new.faults)
+  pub untouched : IfErr result (λ why. failure_of why ≡ None → IsUntouched old new)
   pub stops : StopsIn old result
+  pub last : old.state.stopped ≡ None → (Nothing old → ⊥) → old.state.count ≡ max_place → result ≡ Err (Exhausted max_place)
   pub jobs : AreJobsSame old new
   pub port : IsPortSame old new
 
@@ -107,7 +120,7 @@ pub record HasBegun (old : Moment) (number : ℕ) (new : Moment) : Type 0 where
   -- the store's own number of it, which counts from its opening on
   pub own : ℕ
   pub flight : new.flight ≡ Some (record { number = own; task = task; written = [] })
-  pub there : new.there ≡ Some (record { number = number; refused = false; task = task; port_faults = 0 })
+  pub there : new.there ≡ Some (record { number = number; refused = false; task = task; written = 0; port_faults = 0 })
   pub count : new.begun ≡ old.begun + 1
 
 -- why no job was begun
@@ -134,6 +147,8 @@ pub record IsBegin (h : History) (old : Moment) (result : Result ℕ Refused) (g
   pub busy : old.state.stopped ≡ None → IsSome old.flight → result ≡ Err NothingDue
   pub stored : new.stored ≡ old.stored
   pub state : new.state ≡ old.state
+  pub levels : new.levels ≡ old.levels
+  pub directory : new.directory ≡ old.directory
   pub calls : new.calls ≡ old.calls
   pub port : IsPortSame old new
 
@@ -145,18 +160,28 @@ IsJobRefusal PortsFail Short old going port_faults new why =
 
 -- it can only be given up
 pub record IsSpoilt (going : Going) (new : Moment) : Type 0 where
+  pub written : ℕ
   pub port_faults : ℕ
-  pub there : new.there ≡ Some (record going { refused = true; port_faults = port_faults })
+  pub there : new.there ≡ Some (record going { refused = true; written = written; port_faults = port_faults })
 
--- the next page of the outputs was written, under the next number
+-- it is there as it was, with so many pages
+pub record GoesOn (going : Going) (written : ℕ) (new : Moment) : Type 0 where
+  pub port_faults : ℕ
+  pub there : new.there ≡ Some (record going { written = written; port_faults = port_faults })
+
+-- the next page of the outputs was written, under the next number, and is the one object that came
 pub record HasWritten (old : Moment) (going : Going) (new : Moment) : Type 0 where
   pub flying : Flying
   pub flies : old.flight ≡ Some flying
   pub drafts : List Draft
   pub outputs : AreOutputsFor going.task drafts
   pub left : length flying.written < length (made.pages_in drafts)
-  pub flight : new.flight ≡ Some (with_page flying (page_name old.state.next, slice_index_or (made.pages_in drafts) (length flying.written) []))
+  pub bytes : List ℕ
+  pub next : bytes ≡ slice_index_or (made.pages_in drafts) (length flying.written) []
+  pub flight : new.flight ≡ Some (with_page flying (page_name old.state.next, bytes))
+  pub directory : new.directory ≡ insert old.directory (page_name old.state.next) bytes
   pub stored : new.stored ≡ old.stored
+  pub goes_on : GoesOn going (going.written + 1) new
 
 -- none was left, and nothing was done
 pub record HasNoPage (old : Moment) (going : Going) (new : Moment) : Type 0 where
@@ -169,11 +194,19 @@ pub record HasNoPage (old : Moment) (going : Going) (new : Moment) : Type 0 wher
   pub stored : new.stored ≡ old.stored
   pub state : new.state ≡ old.state
   pub calls : new.calls ≡ old.calls
+  pub goes_on : GoesOn going going.written new
+
+-- It was refused: the job can only be given up. It is in flight as it was, and all else is as it was, unless the disk failed.
+pub record IsUnwritten (PortsFail : Type 0) (old : Moment) (going : Going) (why : Refused) (new : Moment) : Type 0 where
+  pub spoilt : IsSpoilt going new
+  pub reason : IsJobRefusal PortsFail (max_place ≤ old.state.next) old going spoilt.port_faults new why
+  pub flight : new.flight ≡ old.flight
+  pub untouched : failure_of why ≡ None → IsUntouched old new
 
 abbrev pub WriteAnswers : Type 0 → Moment → Going → Result Bool Refused → Moment → Type 0
 WriteAnswers PortsFail old going (Ok true) new = HasWritten old going new
 WriteAnswers PortsFail old going (Ok false) new = HasNoPage old going new
-WriteAnswers PortsFail old going (Err why) new = (spoilt : IsSpoilt going new) × IsJobRefusal PortsFail (max_place ≤ old.state.next) old going spoilt.port_faults new why
+WriteAnswers PortsFail old going (Err why) new = IsUnwritten PortsFail old going why new
 
 pub record IsWriteOut (PortsFail : Type 0) (going : Going) (h : History) (old : Moment) (result : Result Bool Refused) (g : History) (new : Moment) : Type 0 where
   pub history : g ≡ behind h 0 (Serves call.Work) (result_err result)
@@ -191,9 +224,19 @@ pub record HasInstalled (old : Moment) (going : Going) (new : Moment) : Type 0 w
   pub flight : new.flight ≡ None
   pub there : new.there ≡ None
 
+-- It was refused: the job can only be given up, and more of its pages may have been written. What is stored is as it was, unless the disk failed.
+pub record IsUninstalled (PortsFail : Type 0) (old : Moment) (going : Going) (why : Refused) (new : Moment) : Type 0 where
+  pub spoilt : IsSpoilt going new
+  pub reason : IsJobRefusal PortsFail (IsShortToInstall going new) old going spoilt.port_faults new why
+  pub flying : Flying
+  pub flies : old.flight ≡ Some flying
+  pub pages : List (Name × List ℕ)
+  pub flight : new.flight ≡ Some (record flying { written = flying.written ++ pages })
+  pub stored : failure_of why ≡ None → new.stored ≡ old.stored
+
 abbrev pub InstallAnswers : Type 0 → Moment → Going → Result (Unit {0}) Refused → Moment → Type 0
 InstallAnswers PortsFail old going (Ok done) new = HasInstalled old going new
-InstallAnswers PortsFail old going (Err why) new = (spoilt : IsSpoilt going new) × IsJobRefusal PortsFail (IsShortToInstall going new) old going spoilt.port_faults new why
+InstallAnswers PortsFail old going (Err why) new = IsUninstalled PortsFail old going why new
 
 pub record IsInstall (PortsFail : Type 0) (going : Going) (h : History) (old : Moment) (result : Result (Unit {0}) Refused) (g : History) (new : Moment) : Type 0 where
   pub history : g ≡ behind h 0 (Serves call.Work) (result_err result)
@@ -214,13 +257,16 @@ IsKeptUp old new (ReadFault before after) = ⊥
 IsKeptUp old new NoMemory = ⊥
 IsKeptUp old new (Damaged name) = ⊥
 
--- The job has ended, and is in flight no more, but where the last place is taken. What is stored stays.
+-- The job has ended, and is in flight no more, but where the last place is taken: then nothing is done. What is stored stays; where it is refused all is as it was, unless the
+-- disk failed.
 pub record IsCancel (h : History) (old : Moment) (result : Result (Unit {0}) Refused) (g : History) (new : Moment) : Type 0 where
   pub history : g ≡ behind h 0 (Serves call.Work) (result_err result)
   pub why : IfErr result (IsKeptUp old new)
   pub stops : StopsIn old result
   pub there : new.there ≡ None
   pub free : (old.state.stopped ≡ None → old.state.count < max_place) → new.flight ≡ None
+  pub last : old.state.stopped ≡ None → old.state.count ≡ max_place → (result ≡ Ok tt) × IsUntouched old new × (new.flight ≡ old.flight)
   pub stored : (done : Unit {0}) → result ≡ Ok done → new.stored ≡ old.stored
+  pub untouched : IfErr result (λ why. failure_of why ≡ None → IsUntouched old new)
   pub begun : new.begun ≡ old.begun
   pub port : IsPortSame old new

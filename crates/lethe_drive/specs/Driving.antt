@@ -2,6 +2,7 @@
 use Rattle.std.specs.Prelude.{◌≡◌, ◌⊎◌, ◌≤◌, ◌-◌, ◌^◌, ℕ, List, ◌++◌, length, Option, Some, None, option_map, Result, OnOk, IfErr, IfSome, false}
 use Rattle.lethe_base.specs.History.{History}
 use Rattle.lethe_base.specs.Limits.{max_place}
+use Rattle.lethe_base.specs.declared.config.Fields.{Fields}
 use Rattle.lethe_base.specs.declared.refused.Refused.{Refused}
 use Rattle.lethe_disk.specs.declared.disk.Disk.{Ghosts}
 use Rattle.lethe_flush.specs.Made.{pages_in}
@@ -11,21 +12,21 @@ use Rattle.lethe_job.specs.declared.job.Job.{Job}
 use Rattle.lethe_core.specs.Reasons.{HasReason, IsUnreadable}
 use Rattle.lethe_core.specs.Jobs.{IsAtWork, IsInFlight}
 use Rattle.lethe_core.specs.View.{View}
-use Rattle.lethe_drive.specs.Moments.{IsMoment, Moment}
+use Rattle.lethe_drive.specs.Moments.{IsMomentOf, Moment}
 use Rattle.lethe_drive.specs.Steps.{Steps, cancels_for}
 use Rattle.lethe_drive.specs.declared.jobs.Jobs.{Jobs}
 use Rattle.lethe_drive.specs.declared.event.Event.{Event}
 use Rattle.lethe_drive.specs.declared.event.Reply.{Reply}
 
 -- The events are answered one after another, and then the jobs that haven't ended are given up, whose replies stand behind those of the events.
-pub record IsDriven (PortsFail : Type 0) (h : History) (start : Moment) (events : List Event) (replies : List Reply) (g : History) (finish : Moment) : Type 0 where
-  pub begins : IsMoment start
+pub record IsDriven (PortsFail : Type 0) (config : Fields) (h : History) (start : Moment) (events : List Event) (replies : List Reply) (g : History) (finish : Moment) : Type 0 where
+  pub begins : IsMomentOf config h start
   pub history : History
   pub middle : Moment
   pub answered : List Reply
-  pub steps : Steps PortsFail h start events answered history middle
+  pub steps : Steps PortsFail config h start events answered history middle
   pub given_up : List Reply
-  pub cancels : Steps PortsFail history middle (cancels_for middle.there) given_up g finish
+  pub cancels : Steps PortsFail config history middle (cancels_for middle.there) given_up g finish
   pub replies_are : replies ≡ answered ++ given_up
   pub ended : finish.there ≡ None
 

@@ -1,24 +1,32 @@
 -- What is told of a store between two calls of a run, as plain data.
-use Rattle.std.specs.Prelude.{◌≡◌, ℕ, Bool, List, Option, None, option_map}
+use Rattle.std.specs.Prelude.{◌≡◌, ◌≤◌, ℕ, Bool, false, List, [], ◌∷◌, ◌++◌, length, Option, Some, None, option_map, IfSome}
+use Rattle.lethe_base.specs.History.{AreDone, Change, History, IsLegal}
+use Rattle.lethe_base.specs.declared.call.Did.TheVariants.{Failed}
+use Rattle.lethe_base.specs.declared.config.Fields.{Fields}
 use Rattle.lethe_disk.specs.Directory.{Directory}
 use Rattle.lethe_disk.specs.declared.disk.Disk.{Ghosts}
 use Rattle.lethe_stored.specs.Encodes.{Encodes}
 use Rattle.lethe_stored.specs.Files.{Parts}
+use Rattle.lethe_stored.specs.Kept.{IsFor}
+use Rattle.lethe_stored.specs.Left.{without_failed}
 use Rattle.lethe_stored.specs.Stored.{Stored}
 use Rattle.lethe_advance.specs.Settled.{HasOnly}
+use Rattle.lethe_state.specs.Records.{IsLike}
 use Rattle.lethe_state.specs.Remembered.{Remembers, IsCurrent}
 use Rattle.lethe_state.specs.declared.state.State.{State}
 use Rattle.lethe_job.specs.Tasks.{PlainTask, plain_task}
 use Rattle.lethe_job.specs.declared.job.Job.{Job}
-use Rattle.lethe_core.specs.Running.{Holds}
+use Rattle.lethe_core.specs.Running.{Holds, IsTasked}
 use Rattle.lethe_core.specs.View.{Flying, View, loose_in}
 use Rattle.lethe_drive.specs.declared.jobs.Jobs.{Jobs}
 
--- a job that was begun and hasn't ended: its number, whether one of its calls was refused, its task, and its port's count of faults
+-- a job that was begun and hasn't ended: its number, whether one of its calls was refused, its task, how many of its pages are written, and its port's count of
+-- faults
 pub record Going : Type 0 where
   pub number : ℕ
   pub refused : Bool
   pub task : PlainTask
+  pub written : ℕ
   pub port_faults : ℕ
 
 -- The store with what is stored, its disk's directory, the device calls that the disk has taken and its count of faults; the port's counts; and the jobs of the run.
@@ -35,23 +43,47 @@ pub record Moment : Type 0 where
   pub begun : ℕ
   pub there : Option Going
 
--- the store remembers what is stored, and unless something has failed the disk is in its hands
-pub record IsKnown (view : View) (s : Stored) : Type 0 where
+-- What is stored stands for the history without what failed, and the store remembers it. Unless something has failed the disk is in its hands.
+pub record IsKnown (config : Fields) (h : History) (view : View) (s : Stored) : Type 0 where
+  pub config_is : s.manifest.config ≡ config
+  pub stands : IsFor (without_failed h) s
   pub remembers : Remembers s view.state view.levels
   pub held : view.state.stopped ≡ None → Holds view s
 
--- It remembers what is stored, and unless something has failed the directory has that and the pages of the job in flight, and nothing else.
-pub record IsMoment (m : Moment) : Type 0 where
+-- a store is stopped by the last change of its history, where that failed, and by none else
+abbrev pub IsStoppedBy : History → Option ℕ → Type 0
+IsStoppedBy h None = AreDone h
+IsStoppedBy h (Some at) =
+    (before : History) × (change : Change) × (h ≡ before ++ change ∷ []) × AreDone before × ((told_before : ℕ) × (told_now : ℕ) × (change.did ≡ Failed told_before told_now)) × (at ≡ length h)
+
+-- A job that hasn't ended is in flight, with its task. Unless one of its calls was refused its pages are those that it has written.
+pub record IsGoing (flight : Option Flying) (going : Going) : Type 0 where
+  pub flying : Flying
+  pub flies : flight ≡ Some flying
+  pub task : flying.task ≡ going.task
+  pub pages : going.refused ≡ false → length flying.written ≡ going.written
+
+-- A store of the configuration whose calls make the history. What is stored stands for that without what failed, and the store remembers it. Unless something has failed the
+-- directory has what is stored and the pages of the job in flight, and nothing else, and the job merges files that are stored.
+pub record IsMomentOf (config : Fields) (h : History) (m : Moment) : Type 0 where
+  pub legal : IsLegal h
+  pub count : m.state.count ≡ length h
+  pub stopped : IsStoppedBy h m.state.stopped
+  pub config_is : m.stored.manifest.config ≡ config
+  pub stands : IsFor (without_failed h) m.stored
   pub remembers : Remembers m.stored m.state m.levels
   pub current : m.state.stopped ≡ None → IsCurrent m.stored m.state
   pub encodes : m.state.stopped ≡ None → Encodes m.directory m.stored
   pub only : m.state.stopped ≡ None → HasOnly m.stored (loose_in m.flight) m.directory
+  pub tasked : m.state.stopped ≡ None → IfSome m.flight (IsTasked m.stored)
+  pub going : IfSome m.there (IsGoing m.flight)
 
 abbrev pub going_of : {D Page Port : Type 0} {kind : Ghosts D Page Port} → ℕ → Job D Page Port kind → Going
 going_of {kind = kind} number job = record {
   number = number;
   refused = job.refused;
   task = plain_task job.task.value;
+  written = job.written;
   port_faults = kind.port_faults job.port;
 }
 
@@ -85,6 +117,18 @@ pub record IsAllButPort (old new : Moment) : Type 0 where
   pub faults : new.faults ≡ old.faults
   pub begun : new.begun ≡ old.begun
   pub there : new.there ≡ old.there
+
+-- all is as it was, but for memory that was reserved, device calls that were taken back, and the jobs
+pub record IsUntouched (old new : Moment) : Type 0 where
+  pub stored : new.stored ≡ old.stored
+  pub state : IsLike old.state new.state
+  pub levels : new.levels ≡ old.levels
+  pub directory : new.directory ≡ old.directory
+
+-- counts of faults never fall
+pub record IsLater (old new : Moment) : Type 0 where
+  pub faults : old.faults ≤ new.faults
+  pub port_faults : old.port_faults ≤ new.port_faults
 
 -- the jobs are as they were
 pub record AreJobsSame (old new : Moment) : Type 0 where

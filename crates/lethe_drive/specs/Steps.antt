@@ -4,6 +4,7 @@ use Rattle.lethe_base.specs.History.{History}
 use Rattle.lethe_base.specs.Keys.{Bytes}
 use Rattle.lethe_base.specs.Read as reads
 use Rattle.lethe_base.specs.declared.call.Call.TheVariants as call
+use Rattle.lethe_base.specs.declared.config.Fields.{Fields}
 use Rattle.lethe_base.specs.declared.refused.Refused.{Refused}
 use Rattle.lethe_state.specs.Room.{IsFlushed, IsFrozen, IsShortToFlush, IsShortToFreeze}
 use Rattle.lethe_core.specs.Changes.{put_over}
@@ -11,7 +12,7 @@ use Rattle.lethe_engine.specs.Deletes.{IsDeleteOver}
 use Rattle.lethe_engine.specs.Reads.{listed}
 use Rattle.lethe_engine.specs.Work.{HasNoFlush, HasNoFreeze}
 use Rattle.lethe_drive.specs.Answers.{IsBegin, IsCancel, IsChange, IsInstall, IsRead, IsWork, IsWriteOut}
-use Rattle.lethe_drive.specs.Moments.{Going, IsMoment, Moment}
+use Rattle.lethe_drive.specs.Moments.{Going, IsLater, IsMomentOf, Moment}
 use Rattle.lethe_drive.specs.Replies.{flagged, got, numbered, paired, placed, united}
 use Rattle.lethe_drive.specs.declared.event.Event.{Event}
 use Rattle.lethe_drive.specs.declared.event.Event.TheVariants.{Put, Delete, Get, Scan, Freeze, Flush, Begin, WriteOut, Install, Cancel}
@@ -54,13 +55,14 @@ IsStep PortsFail h old (Cancel job) reply g new =
     IsNoSuch (IsThere job old) h old reply g new
     ⊎ ((going : Going) × IsThere job old going × (result : Result (Unit {0}) Refused) × (reply ≡ united result) × IsCancel h old result g new)
 
--- the events, one after another, each with its reply
-abbrev pub Steps : Type 0 → History → Moment → List Event → List Reply → History → Moment → Type 0
-Steps PortsFail h old [] [] g new = (g ≡ h) × (new ≡ old)
-Steps PortsFail h old [] (reply ∷ replies) g new = ⊥
-Steps PortsFail h old (event ∷ events) [] g new = ⊥
-Steps PortsFail h old (event ∷ events) (reply ∷ replies) g new =
-    (next : History) × (middle : Moment) × IsMoment middle × IsStep PortsFail h old event reply next middle × Steps PortsFail next middle events replies g new
+-- The events, one after another, each with its reply. Behind each the store is at a moment of the history there.
+abbrev pub Steps : Type 0 → Fields → History → Moment → List Event → List Reply → History → Moment → Type 0
+Steps PortsFail config h old [] [] g new = (g ≡ h) × (new ≡ old)
+Steps PortsFail config h old [] (reply ∷ replies) g new = ⊥
+Steps PortsFail config h old (event ∷ events) [] g new = ⊥
+Steps PortsFail config h old (event ∷ events) (reply ∷ replies) g new =
+    (next : History) × (middle : Moment) × IsMomentOf config next middle × IsLater old middle × IsStep PortsFail h old event reply next middle
+    × Steps PortsFail config next middle events replies g new
 
 -- the cancels of the jobs that haven't ended, in the order of their numbers
 abbrev pub cancels_for : Option Going → List Event

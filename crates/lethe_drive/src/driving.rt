@@ -35,9 +35,9 @@ pub fn drive<D: Disk>(
     ensures sound { IsSound D.tells (view_of engine.new.core) }
 
     // Over a store that stands for a history, the replies are those of the steps from it to another, for which the store stands behind them.
-    ensures driven { D.tells → (config : Fields) (opened : Opened) (h : History) → StandsFor config opened h (view_of engine.old.core) → (s : Stored) → IsKnown (view_of engine.old.core) s
-        → IfOk result (λ replies. (g : History) × (t : Stored) × IsKnown (view_of engine.new.core) t × StandsFor config opened g (view_of engine.new.core)
-        × (begun : ℕ) × IsDriven D.ports_fail h (moment_of (view_of engine.old.core) s (D.fetches port.old) (D.port_faults port.old) 0 None) events.items replies.items g
+    ensures driven { D.tells → (config : Fields) (opened : Opened) (h : History) → StandsFor config opened h (view_of engine.old.core) → (s : Stored) → IsKnown config h (view_of engine.old.core) s
+        → IfOk result (λ replies. (g : History) × (t : Stored) × IsKnown config g (view_of engine.new.core) t × StandsFor config opened g (view_of engine.new.core)
+        × (begun : ℕ) × IsDriven D.ports_fail config h (moment_of (view_of engine.old.core) s (D.fetches port.old) (D.port_faults port.old) 0 None) events.items replies.items g
         (moment_of (view_of engine.new.core) t (D.fetches port.new) (D.port_faults port.new) begun None)) }
     ensures untouched { IfErr result (λ why. (engine.new ≡ engine.old) × (port.new ≡ port.old)) }
     ensures faults { D.faults engine.old.core.disk ≤ D.faults engine.new.core.disk }

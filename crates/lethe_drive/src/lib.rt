@@ -5,8 +5,10 @@ mod answering;
 mod driving;
 mod event;
 mod jobs;
+mod laws;
 mod working;
 
 pub use driving::drive;
 pub use event::{Event, Reply};
 pub use jobs::{Jobs, Numbered};
+pub use laws::{a_job_has_its_outcome, puts_are_read};
