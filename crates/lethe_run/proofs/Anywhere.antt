@@ -92,7 +92,7 @@ module _ (Told Ports : Type 0) (act : Act) (call : Call) (is : call_of act ≡ S
       → ((at : ℕ) → old.state.stopped ≡ Some at → IsErrOf result (refused.Stopped at)) → Tells Ports act (reply_of result) old new
   change_tells before now (Ok place) says place_is why stop = made place place_is (none_of old.state.stopped (λ at was. let clash : Ok place ≡ Err (refused.Stopped at) = stop at was in cc)) says
   change_tells before now (Err why) says place_is (inl reason) stop = hindered _ why reason says
-  change_tells before now (Err why) says place_is (inr reason) stop = unreadable before now why reason.0 reason.1 says
+  change_tells before now (Err why) says place_is (inr reason) stop = unreadable before now why reason.1 reason.2 says
 
 -- A read that is refused
 

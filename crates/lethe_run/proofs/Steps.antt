@@ -20,7 +20,7 @@ use Rattle.lethe_core.specs.Reasons.{HasReason, IsShortOfRoom, IsUnreadable}
 use Rattle.lethe_core.specs.StandsNow.{IsOpenOrStopped, StandsNow}
 use Rattle.lethe_core.specs.View.{View, face_of}
 use Rattle.lethe_engine.specs.Answers as engine
-use Rattle.lethe_engine.specs.Refusals.{HasReasonOfChange}
+use Rattle.lethe_engine.specs.Refusals.{HasReasonOfChange, SeesRoom}
 use Rattle.lethe_script.specs.declared.order.Act.{Act}
 use Rattle.lethe_run.specs.declared.reply.Reply.{Reply}
 use Rattle.lethe_run.specs.declared.reply.Reply.TheVariants as reply
@@ -133,11 +133,16 @@ module _ (Tells Ports : Type 0) (told : Tells) (begin : Start) (from : Point) (h
       let short = short_of Tells Ports begin from h old new on small merges later done (says.stands told begin.config opened h on.stands caller) few in
       not_made (reply.Exhausted last) (advances (Some (refused.Exhausted last)) says) (asks_change act call is, (last_is, inr short)) (inr short, refl)
 
+  -- numbers run out only where there is no room
+  full_or_short : (old.state.count ≡ max_place) ⊎ ((SeesRoom old.state → ⊥) × IsShortOfRoom Tells old.state new) → (old.state.count ≡ max_place) ⊎ IsShortOfRoom Tells old.state new
+  full_or_short (inl full) = inl full
+  full_or_short (inr short) = inr short.1
+
   -- it was refused, and not for reading a file
-  hindered : (why : Refused) → HasReason (IsShortOfRoom Tells old.state new) old.state old.faults new.faults why → Says (Some why) → Outcome Ports begin h caller act (refusal_of why) old new
+  hindered : (why : Refused) → HasReason ((SeesRoom old.state → ⊥) × IsShortOfRoom Tells old.state new) old.state old.faults new.faults why → Says (Some why) → Outcome Ports begin h caller act (refusal_of why) old new
   hindered (refused.Fault place b a) reason says = failed place b a reason.1 reason.2 reason.3 reason.4 says
   hindered (refused.Stopped at) reason says = stopped at reason says
-  hindered (refused.Exhausted last) reason says = exhausted last reason.0 reason.1 reason.2 says
+  hindered (refused.Exhausted last) reason says = exhausted last reason.0 reason.1 (full_or_short reason.2) says
   hindered refused.NoMemory reason says = advances (Some refused.NoMemory) says
   hindered (refused.Backwards clock) reason says = absurd reason
   hindered (refused.Pinned pin limit) reason says = absurd reason
@@ -163,4 +168,4 @@ module _ (Tells Ports : Type 0) (told : Tells) (begin : Start) (from : Point) (h
       → Outcome Ports begin h caller act (reply_of result) old new
   changes before now (Ok place) says place_is why = made place place_is says
   changes before now (Err e) says place_is (inl reason) = hindered e reason says
-  changes before now (Err e) says place_is (inr reason) = unreadable before now e reason.1 says
+  changes before now (Err e) says place_is (inr reason) = unreadable before now e reason.2 says
