@@ -8,55 +8,37 @@ use std::alloc::Global;
 use std::process::ExitCode;
 
 fn main(rt: HostRuntime) -> ExitCode {
-    match tour(&rt) {
-        Ok(()) => ExitCode::SUCCESS,
-        Err(why) => {
-            let _ = eprintln!(rt; "{why}");
-            ExitCode::FAILURE
-        }
-    }
+    tour(&rt, rt.alloc()).map_or(ExitCode::FAILURE, |()| ExitCode::SUCCESS)
 }
 
-/// Puts, deletes and reads. An error says which step failed; the library's own errors, which are dropped here, say why.
-fn tour(rt: &HostRuntime) -> Result<(), &'static str> {
-    let alloc = rt.alloc();
-    let config = Config::new(Fields::default()).map_err(|_| "configuration")?;
-    let disk = DirDisk::open(rt, alloc, "clients").map_err(|_| "folder")?;
-    let mut engine = Engine::open(alloc, disk, &config).map_err(|_| "store")?;
-    let mut port = engine.new_port(alloc).map_err(|_| "port")?;
-
+/// Puts, deletes and reads. None where a step failed: the errors that are dropped here say why.
+fn tour(rt: &HostRuntime, alloc: Global) -> Option<()> {
+    let config = Config::new(Fields::default()).ok()?;
+    let disk = DirDisk::open(rt, alloc, "clients").ok()?;
+    let mut store = Engine::open(alloc, disk, &config).ok()?;
+    let mut port = store.new_port(alloc).ok()?;
     let (elm, oak) = (value(alloc, "12 Elm Street")?, value(alloc, "3 Oak Lane")?);
-    engine
-        .put(alloc, &mut port, key(alloc, "client:17")?, 20291231, elm)
-        .map_err(|_| "put")?;
-    engine
-        .put(alloc, &mut port, key(alloc, "client:18")?, 20310401, oak)
-        .map_err(|_| "put")?;
-    engine
-        .delete(alloc, &mut port, key(alloc, "client:17")?)
-        .map_err(|_| "delete")?;
+    let (one, two, again) = (key(alloc, "17")?, key(alloc, "18")?, key(alloc, "17")?);
+    store.put(alloc, &mut port, one, 20291231, elm).ok()?;
+    store.put(alloc, &mut port, two, 20310401, oak).ok()?;
+    store.delete(alloc, &mut port, again).ok()?;
 
-    let gone = engine
-        .get(alloc, &mut port, &key(alloc, "client:17")?)
-        .map_err(|_| "get")?;
-    println!(rt; "client:17 is there: {}", gone.is_some()).map_err(|_| "print")?;
-    let (first, last) = (key(alloc, "client:")?, key(alloc, "client;")?);
-    let found = engine
-        .scan(alloc, &mut port, &first, &last)
-        .map_err(|_| "scan")?;
-    for (key, day, value) in found {
+    let gone = store.get(alloc, &mut port, &key(alloc, "17")?).ok()?;
+    println!(rt; "17 is there: {}", gone.is_some()).ok()?;
+    let (first, end) = (key(alloc, "1")?, key(alloc, "2")?);
+    for (key, day, value) in store.scan(alloc, &mut port, &first, &end).ok()? {
         let (key, value) = (text(key.bytes()), text(value.bytes()));
-        println!(rt; "{key} until {day}: {value}").map_err(|_| "print")?;
+        println!(rt; "{key} until {day}: {value}").ok()?;
     }
-    Ok(())
+    Some(())
 }
 
-fn key(alloc: Global, text: &str) -> Result<Key, &'static str> {
-    Key::new(Vec::from_slice(alloc, text.as_bytes()).map_err(|_| "memory")?).map_err(|_| "key")
+fn key(alloc: Global, text: &str) -> Option<Key> {
+    Key::new(Vec::from_slice(alloc, text.as_bytes()).ok()?).ok()
 }
 
-fn value(alloc: Global, text: &str) -> Result<Value, &'static str> {
-    Value::new(Vec::from_slice(alloc, text.as_bytes()).map_err(|_| "memory")?).map_err(|_| "value")
+fn value(alloc: Global, text: &str) -> Option<Value> {
+    Value::new(Vec::from_slice(alloc, text.as_bytes()).ok()?).ok()
 }
 
 fn text(bytes: &[u8]) -> &str {
