@@ -6,6 +6,7 @@ use Rattle.lethe_base.specs.declared.config.Fields.{Fields}
 use Rattle.lethe_base.specs.declared.entry.Entry.{Entry}
 use Rattle.lethe_base.specs.declared.pending.Pending.{Pending}
 use Rattle.lethe_disk.specs.Directory.{Directory}
+use Rattle.lethe_header.specs.declared.header.Header.{Header}
 use Rattle.lethe_manifest.specs.declared.manifest.Cited.{Cited}
 use Rattle.lethe_manifest.specs.declared.manifest.Manifest.{Manifest}
 use Rattle.lethe_segment.specs.Segments.{segment_bytes}
@@ -51,6 +52,11 @@ pub record IsStepOf (m : Manifest) (count : ℕ) (erases : List Pending) (flushe
   pub older : made.step.older ≡ m.no
   pub manifest : made.step.manifest ≡ successor m count erases (flushes.newer.cited.items ++ flushes.older.cited.items ++ m.files) flushes.newer.next
   pub gone : made.step.gone.items ≡ map segment_name m.segments
+
+-- the headers of the stored files, in whatever order
+pub record AreHeadersOf (s : Stored) (heads : List Header) : Type 0 where
+  pub each : (file : StoredFile) → Contains s.files file → Contains heads file.header
+  pub only : (header : Header) → Contains heads header → (file : StoredFile) × Contains s.files file × (file.header ≡ header)
 
 -- Of records the files of level 0 with what is left of their newest entries, woven by the configuration and cut, with numbers of their own that ascend in that order. They are
 -- alone exactly where there is an entry and none of these files has a key of the entries' range.
