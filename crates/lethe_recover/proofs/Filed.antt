@@ -89,8 +89,7 @@ heads_same P s heads are = (
 pub heads_more : (P : Header → Type 0) (heads more : List Header) (made files : List StoredFile) → more ≡ map (λ file. file.header) made → All P heads ↔ All (λ (file : StoredFile). P file.header) files
     → All P (heads ++ more) ↔ All (λ (file : StoredFile). P file.header) (made ++ files)
 heads_more P heads more made files more_are same =
-    let Q : StoredFile → Type 0 = λ file. P file.header in
-    (
+    let Q : StoredFile → Type 0 = λ file. P file.header in (
       (λ all. All-append Q made files (unmapped P (λ (file : StoredFile). file.header) made (subst (All P) more_are (all_right P heads more all))) (same.0 (all_left P heads more all))),
       (λ all. All-append P heads more (same.1 (all_right Q made files all)) (subst (All P) (sym more_are) (All-map P (λ (file : StoredFile). file.header) made (all_left Q made files all)))),
     )

@@ -292,8 +292,8 @@ module _ (s : Stored) (coherent : IsCoherent s) (m : Manifest) (same : s.manifes
 
   -- What is stored next
 
-  reopened_as : IsReopenedAs s t
-  reopened_as =
+  is_reopened : IsReopenedAs s t
+  is_reopened =
       let config_is = ap (λ (x : Manifest). x.config) (sym same) in
       let there : (keys : KeyRange) → All (clear.IsClearOf keys) heads ↔ All (λ (file : StoredFile). clear.IsClearOf keys file.header) s.files = λ keys. heads_same (clear.IsClearOf keys) s heads heads_are in
       record {
@@ -310,4 +310,4 @@ module _ (s : Stored) (coherent : IsCoherent s) (m : Manifest) (same : s.manifes
       }
 
   pub reopens : Reopens s made
-  reopens = record { files = files; segment = segment; as = reopened_as; step = is_step; stands = stands; level = new_files.level; segment_is = segment_written }
+  reopens = record { files = files; segment = segment; reopened_as = is_reopened; step = is_step; stands = stands; level = new_files.level; segment_is = segment_written }

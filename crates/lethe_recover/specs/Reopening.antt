@@ -88,7 +88,7 @@ IsOpenedAs config d t = (HasGreatest None d × (t ≡ new_stored config)) ⊎ ((
 pub record Reopens (s : Stored) (made : Reopening) : Type 0 where
   pub files : List StoredFile
   pub segment : ℕ
-  pub as : IsReopenedAs s (reopened s files segment (segment + 1))
+  pub reopened_as : IsReopenedAs s (reopened s files segment (segment + 1))
   pub step : IsStep s [] (reopened s files segment (segment + 1)) [] made.headers.items made.step
   pub stands : (h : History) → IsFor h s → IsFor h (reopened s files segment (segment + 1))
   pub level : All (λ file. file.level ≡ 0) files
