@@ -58,8 +58,8 @@ pub record AreHeadersOf (s : Stored) (heads : List Header) : Type 0 where
   pub each : (file : StoredFile) → Contains s.files file → Contains heads file.header
   pub only : (header : Header) → Contains heads header → (file : StoredFile) × Contains s.files file × (file.header ≡ header)
 
--- Of records the files of level 0 with what is left of their newest entries, woven by the configuration and cut, with numbers of their own that ascend in that order. They are
--- alone exactly where there is an entry and none of these files has a key of the entries' range.
+-- The files of level 0 that are made of records where other files are there: what is left of the records' newest entries, woven by the configuration and cut, with numbers of
+-- their own that ascend in the order of the cuts. The entries are alone exactly where there is one and none of the other files has a key of their range.
 pub record AreFiled (s : Stored) (records : List Record) (there : List StoredFile) (first last : ℕ) (made : List StoredFile) : Type 0 where
   pub entries : List Entry
   pub ascending : IsAscending entries
