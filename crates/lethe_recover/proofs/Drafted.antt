@@ -1,6 +1,7 @@
 -- The drafts of a journal, and the files that they become.
 use Rattle.std.proofs.Common.{◌+◌, ◌≤◌, ℕ, List, [], ◌∷◌, ◌++◌, length, map, All, arith}
-use Rattle.std.proofs.lemmas.List.Elements.{All-append}
+use Rattle.std.specs.Prelude.{◌↔◌}
+use Rattle.std.proofs.lemmas.List.Elements.{All-append, All-map}
 use Rattle.lethe_base.specs.Limits.{max_place}
 use Rattle.lethe_build.specs.Drafts.{header_of}
 use Rattle.lethe_build.specs.declared.draft.Draft.{Draft}
@@ -25,8 +26,10 @@ few_records records up = let few = records_few 0 records up (omega arith) in ome
 abbrev headed : Draft → Header
 headed draft = header_of 0 draft.tiles
 
--- what no file of these headers and of the drafts has, no file that they become has
-pub clear_then : (keys : KeyRange) (heads : List Header) (drafts : List Draft) (made : List Header) → (All (λ draft. IsClearOf keys (headed draft)) drafts → All (IsClearOf keys) made)
-    → All (IsClearOf keys) (heads ++ map headed drafts) → All (IsClearOf keys) (heads ++ made)
-clear_then keys heads drafts made goes clear =
-    All-append (IsClearOf keys) heads made (all_left (IsClearOf keys) heads (map headed drafts) clear) (goes (unmapped (IsClearOf keys) headed drafts (all_right (IsClearOf keys) heads (map headed drafts) clear)))
+-- what no file of these headers and of the drafts has, no file that they become has, and the other way round
+pub clear_then : (keys : KeyRange) (heads : List Header) (drafts : List Draft) (made : List Header) → All (λ draft. IsClearOf keys (headed draft)) drafts ↔ All (IsClearOf keys) made
+    → All (IsClearOf keys) (heads ++ map headed drafts) ↔ All (IsClearOf keys) (heads ++ made)
+clear_then keys heads drafts made same = (
+  (λ clear. All-append (IsClearOf keys) heads made (all_left (IsClearOf keys) heads (map headed drafts) clear) (same.0 (unmapped (IsClearOf keys) headed drafts (all_right (IsClearOf keys) heads (map headed drafts) clear)))),
+  (λ clear. All-append (IsClearOf keys) heads (map headed drafts) (all_left (IsClearOf keys) heads made clear) (All-map (IsClearOf keys) headed drafts (same.1 (all_right (IsClearOf keys) heads made clear)))),
+)

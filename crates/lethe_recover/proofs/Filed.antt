@@ -1,10 +1,10 @@
 -- What the files of records are to a layout.
-use Rattle.std.proofs.Common.{◌≡◌, ◌≢◌, ◌<◌, ◌≤◌, ℕ, zero, suc, List, [], ◌∷◌, map, get_or, length, All, Contains, Option, Some, None, refl, sym, ap, ◌∙◌, subst, arith}
-use Rattle.std.specs.Prelude.{flat_map, filter, unwrap_or, option_map, ◌==◌}
+use Rattle.std.proofs.Common.{◌≡◌, ◌≢◌, ◌<◌, ◌≤◌, inl, inr, ℕ, zero, suc, List, [], ◌∷◌, ◌++◌, map, get_or, length, All, Contains, Option, Some, None, refl, sym, ap, ◌∙◌, subst, arith}
+use Rattle.std.specs.Prelude.{◌↔◌, flat_map, filter, unwrap_or, option_map, ◌==◌}
 use Rattle.std.specs.FinMap as finmap
 use Rattle.std.proofs.lemmas.Bool.{eq-eqb}
-use Rattle.std.proofs.lemmas.List.Elements.{All-contains, All-map, All-weaker, Contains-append_left, Contains-append_right}
-use Rattle.std.proofs.lemmas.List.Sorted.{Contains-permutation}
+use Rattle.std.proofs.lemmas.List.Elements.{All-append, All-contains, All-map, All-weaker, Contains-append_cases, Contains-append_left, Contains-append_right}
+use Rattle.std.proofs.lemmas.List.Sorted.{Contains-permutation, IsPermutation-sym}
 use Rattle.lethe_base.specs.History.{History}
 use Rattle.lethe_base.specs.Layout.{File, Layout, buffer_of, files_of, frozen_records}
 use Rattle.lethe_base.specs.declared.config.Fields.{Fields}
@@ -23,15 +23,19 @@ use Rattle.lethe_manifest.specs.Manifests as manifests
 use Rattle.lethe_manifest.specs.declared.manifest.Cited.{Cited}
 use Rattle.lethe_stored.specs.Files.{StoredFile, Parts, parts_of, file_of, cited_of}
 use Rattle.lethe_stored.specs.Levels.{HasFiles}
-use Rattle.lethe_stored.specs.Stored.{Stored, Segment, IsCoherent, layout_of, plain, records_in}
+use Rattle.lethe_stored.specs.Replayed.{AreNewestOf}
+use Rattle.lethe_stored.specs.Stored.{Stored, Segment, IsCoherent, count_of, layout_of, pending_of, plain, records_in}
 use Rattle.lethe_stored.proofs.FileFacts.{lower_is, upper_is}
-use Rattle.lethe_stored.proofs.Leveled.{in_filter, low_level}
-use Rattle.lethe_stored.proofs.Lists.{all_from, from_map, in_map}
+use Rattle.lethe_stored.proofs.Leveled.{from_filter, in_filter, low_level}
+use Rattle.lethe_stored.proofs.Lists.{all_from, all_left, all_right, from_map, in_map}
+use Rattle.lethe_follows.specs.Woven.{AreWovenOf}
 use Rattle.lethe_follows.proofs.Following.{file_from}
 use Rattle.lethe_flush.specs.Clear.{IsClearOf}
 use Rattle.lethe_flush.specs.declared.made.MadeFiles.{MadeFiles}
+use Rattle.lethe_flush.proofs.Clearness.{unmapped}
 use Rattle.lethe_flush.proofs.Newest.{newest_values}
 use Rattle.lethe_recover.specs.Flushing.{IsFlushOfRecords}
+use Rattle.lethe_recover.specs.Reopening.{AreFiled, AreHeadersOf}
 
 -- Headers that are there
 
@@ -41,7 +45,7 @@ from_level p [] level parts there = absurd (none_in parts there)
 from_level p (files ∷ levels) zero parts there = let found = from_map p files parts there in (found.0, Contains-append_left files (flat_map (λ files. files) levels) found.0 found.1, found.2)
 from_level p (files ∷ levels) (suc level) parts there = let found = from_level p levels level parts there in (found.0, Contains-append_right files (flat_map (λ files. files) levels) found.0 found.1, found.2)
 
-pub head_in : {F : Type 0} (p : F → Parts) (head : F → Header) → ((file : F) → head file ≡ (p file).header) → (levels : List (List F)) (s : Stored) → IsCoherent s → HasFiles s (map (map p) levels)
+head_in : {F : Type 0} (p : F → Parts) (head : F → Header) → ((file : F) → head file ≡ (p file).header) → (levels : List (List F)) (s : Stored) → IsCoherent s → HasFiles s (map (map p) levels)
     → (file : StoredFile) → Contains s.files file → Contains (map head (flat_map (λ files. files) levels)) file.header
 head_in p head own levels s coherent has file there =
     let low = low_level s coherent file there in
@@ -51,6 +55,44 @@ head_in p head own levels s coherent has file there =
     let found = from_level p levels file.level (parts_of file) stands in
     let same : head found.0 ≡ file.header = own found.0 ∙ ap (λ (parts : Parts). parts.header) found.2 in
     subst (Contains (map head (flat_map (λ files. files) levels))) same (in_map head (flat_map (λ files. files) levels) found.0 found.1)
+
+-- a file stands at some level
+to_level : {F : Type 0} (p : F → Parts) (levels : List (List F)) (file : F) → Contains (flat_map (λ files. files) levels) file → (level : ℕ) × (level < length (map (map p) levels)) × Contains (get_or (map (map p) levels) level []) (p file)
+to_level p [] file there = absurd (none_in file there)
+to_level p (files ∷ levels) file there = elim (Contains-append_cases files (flat_map (λ files. files) levels) file there) [
+  | inl here ↦ (zero, omega arith, in_map p files file here)
+  | inr rest ↦ let found = to_level p levels file rest in let lt = found.1 in (suc found.0, omega (arith, lt), found.2)
+]
+
+-- and no header is there beside those of the stored files
+head_from : {F : Type 0} (p : F → Parts) (head : F → Header) → ((file : F) → head file ≡ (p file).header) → (levels : List (List F)) (s : Stored) → HasFiles s (map (map p) levels)
+    → (header : Header) → Contains (map head (flat_map (λ files. files) levels)) header → (file : StoredFile) × Contains s.files file × (file.header ≡ header)
+head_from p head own levels s has header there =
+    let file = from_map head (flat_map (λ files. files) levels) header there in
+    let at = to_level p levels file.0 file.1 in
+    let stands = Contains-permutation _ _ (p file.0) (IsPermutation-sym _ _ (has.each at.0 at.1)) at.2 in
+    let stored = from_map parts_of (filter (λ (other : StoredFile). other.level == at.0) s.files) (p file.0) stands in
+    (stored.0, (from_filter (λ (other : StoredFile). other.level == at.0) s.files stored.0 stored.1).0, ap (λ (parts : Parts). parts.header) stored.2 ∙ sym (own file.0) ∙ file.2)
+
+pub heads_are : {F : Type 0} (p : F → Parts) (head : F → Header) → ((file : F) → head file ≡ (p file).header) → (levels : List (List F)) (s : Stored) → IsCoherent s → HasFiles s (map (map p) levels)
+    → AreHeadersOf s (map head (flat_map (λ files. files) levels))
+heads_are p head own levels s coherent has = record { each = head_in p head own levels s coherent has; only = head_from p head own levels s has }
+
+-- so what all these headers have is what all the files' have
+pub heads_same : (P : Header → Type 0) (s : Stored) (heads : List Header) → AreHeadersOf s heads → All P heads ↔ All (λ (file : StoredFile). P file.header) s.files
+heads_same P s heads are = (
+  (λ all. all_from (λ (file : StoredFile). P file.header) s.files (λ file there. All-contains P heads file.header all (are.each file there))),
+  (λ all. all_from P heads (λ header there. let found = are.only header there in subst P found.2 (All-contains (λ (file : StoredFile). P file.header) s.files found.0 all found.1))),
+)
+
+-- and where files come in front of them
+pub heads_more : (P : Header → Type 0) (heads more : List Header) (made files : List StoredFile) → more ≡ map (λ file. file.header) made → All P heads ↔ All (λ (file : StoredFile). P file.header) files
+    → All P (heads ++ more) ↔ All (λ (file : StoredFile). P file.header) (made ++ files)
+heads_more P heads more made files more_are same =
+    let Q : StoredFile → Type 0 = λ file. P file.header in (
+      (λ all. All-append Q made files (unmapped P (λ (file : StoredFile). file.header) made (subst (All P) more_are (all_right P heads more all))) (same.0 (all_left P heads more all))),
+      (λ all. All-append P heads more (same.1 (all_right Q made files all)) (subst (All P) (sym more_are) (All-map P (λ (file : StoredFile). file.header) made (all_left Q made files all)))),
+    )
 
 -- Whether a file has keys of a range
 
@@ -94,7 +136,7 @@ flushes_of h l records erases upto first heads fields made f records_are erases_
     let new = f.is.new in
     record {
       alone = f.alone;
-      clear = λ alone. subst (λ (es : List Entry). All (moves.IsClearOf (span_of es)) (files_of l)) entries_are (transfer (span_of f.entries) (f.clear alone));
+      clear = λ alone. subst (λ (es : List Entry). All (moves.IsClearOf (span_of es)) (files_of l)) entries_are (transfer (span_of f.entries) (f.clear.0 alone).1);
       made = subst (λ n. AreMade (merged (frozen_entries l) l.pending f.alone) n (map file_of files)) upto_is
           (subst (λ es. AreMade (merged (frozen_entries l) es f.alone) upto (map file_of files)) erases_are
           (subst (λ es. AreMade (merged es erases f.alone) upto (map file_of files)) entries_are f.is.woven.made));
@@ -105,4 +147,27 @@ flushes_of h l records erases upto first heads fields made f records_are erases_
             let from : first ≤ (get_or files k d).header.no = (new.headers k d inside).0 in
             All-weaker (λ (other : File). other.no < first) (λ (other : File). other.no < (get_or files k d).header.no) (λ other lt. omega (arith, lt, from)) (files_of l) below);
       };
+    }
+
+-- the same files, as those of the records that are stored
+pub filed_of : (s : Stored) (records stored : List Record) (erases : List Pending) (upto first : ℕ) (heads : List Header) (there : List StoredFile) (fields : Fields) (made : MadeFiles)
+    → (f : IsFlushOfRecords fields records erases upto first heads made) → fields ≡ s.manifest.config → records ≡ stored → erases ≡ pending_of s → upto ≡ count_of s
+    → ((keys : KeyRange) → All (IsClearOf keys) heads ↔ All (λ (file : StoredFile). IsClearOf keys file.header) there) → AreFiled s stored there first made.next f.files
+filed_of s records stored erases upto first heads there fields made f fields_are records_are erases_are upto_is same =
+    let files : List File = map file_of f.files in
+    let transfer = same (span_of f.entries) in
+    record {
+      entries = f.entries;
+      ascending = f.ascending;
+      newest = subst (λ (rs : List Record). AreNewestOf rs f.entries) records_are f.newest;
+      alone = f.alone;
+      clear = (
+        (λ alone. let both = f.clear.0 alone in (both.0, transfer.0 both.1)),
+        (λ both. f.clear.1 (both.0, transfer.1 both.1)),
+      );
+      woven = subst (λ config. AreWovenOf config (merged f.entries (pending_of s) f.alone) (count_of s) files) fields_are
+          (subst (λ n. AreWovenOf fields (merged f.entries (pending_of s) f.alone) n files) upto_is
+          (subst (λ es. AreWovenOf fields (merged f.entries es f.alone) upto files) erases_are f.is.woven));
+      new = f.is.new;
+      order = f.is.order;
     }

@@ -55,7 +55,7 @@ use Rattle.lethe_recover.specs.Flushing.{IsShort}
 use Rattle.lethe_recover.specs.Journals.{IsJournalOf, erases_of}
 use Rattle.lethe_recover.specs.New.{new_stored}
 use Rattle.lethe_recover.specs.Opening.{IsTold, IsOpened, IsResumed, IsKeptInOpening, IsExhausted, MayNotOpen, IsCut, since_start}
-use Rattle.lethe_recover.specs.Reopening.{Reopens}
+use Rattle.lethe_recover.specs.Reopening.{IsOpenedAs, Reopens}
 use Rattle.lethe_recover.specs.Resuming.{IsThere, IsReopened, IsLoadedAs}
 use Rattle.lethe_recover.specs.declared.journal.Journal.{Journal}
 use Rattle.lethe_recover.specs.declared.opened.Opened.{Opened}
@@ -154,24 +154,24 @@ module _ {D Page Port : Type 0} {kind : Ghosts D Page Port} (config : Fields) (d
     place = empty_long s.active.no;
   }
 
-  abbrev pub opened_of : (s : Stored) (opened : Opened D Page Port kind) → s.manifest.config ≡ config → IsThere disk s opened → IsOpened config disk opened
-  opened_of s opened config_is there = record { s = s; settled = there.settled; only = there.only; rising = there.rising; config_is = config_is; told = there.told; ends = ends_of s opened there }
+  abbrev pub opened_of : (start : Directory) (s : Stored) (opened : Opened D Page Port kind) → IsOpenedAs config start s → s.manifest.config ≡ config → IsThere disk s opened → IsOpened config start disk opened
+  opened_of start s opened same config_is there = record { s = s; opened_as = same; settled = there.settled; only = there.only; rising = there.rising; config_is = config_is; told = there.told; ends = ends_of s opened there }
 
-  abbrev pub new_opened : (opened : Opened D Page Port kind) → IsThere disk (new_stored config) opened → IsOpened config disk opened
-  new_opened opened there = opened_of (new_stored config) opened refl there
+  abbrev pub new_opened : (start : Directory) → HasGreatest None start → (opened : Opened D Page Port kind) → IsThere disk (new_stored config) opened → IsOpened config start disk opened
+  new_opened start none opened there = opened_of start (new_stored config) opened (inl (none, refl)) refl there
 
   pub new_resumed : (h : History) (start : Directory) (opened : Opened D Page Port kind) → HasGreatest None start → h ≡ [] → IsThere disk (new_stored config) opened → IsResumed config h None start disk opened
-  new_resumed h start opened none empty there = record { history = h; either = refl; was = inl (none, empty); is = new_opened opened there; stands = subst (λ g. IsFor g (new_stored config)) (sym empty) (new_stands config there.settled.coherent) }
+  new_resumed h start opened none empty there = record { history = h; either = refl; was = inl (none, empty); is = new_opened start none opened there; stands = subst (λ g. IsFor g (new_stored config)) (sym empty) (new_stands config there.settled.coherent) }
 
-  abbrev pub opened_from : (s : Stored) (opened : Opened D Page Port kind) → s.manifest.config ≡ config → IsReopened s disk opened → IsOpened config disk opened
-  opened_from s opened config_is again = opened_of again.t opened (again.config_is ∙ config_is) again.there
+  abbrev pub opened_from : (start : Directory) (s : Stored) (opened : Opened D Page Port kind) → IsCoherent s → Encodes start s → s.manifest.config ≡ config → IsReopened s disk opened → IsOpened config start disk opened
+  opened_from start s opened coherent e config_is again = opened_of start again.t opened (inr (s, coherent, e, again.reopened_as)) (again.config_is ∙ config_is) again.there
 
   pub resumed_from : (h : History) (start : Directory) (s : Stored) (opened : Opened D Page Port kind) → IsCoherent s → Encodes start s → s.manifest.config ≡ config → IsFor h s → IsReopened s disk opened → IsResumed config h None start disk opened
   resumed_from h start s opened coherent e config_is stands again = record {
     history = h;
     either = refl;
     was = inr (record { s = s; config_is = config_is; coherent = coherent; encodes = e; stands = stands });
-    is = opened_from s opened config_is again;
+    is = opened_from start s opened coherent e config_is again;
     stands = again.stands h stands;
   }
 
@@ -307,6 +307,7 @@ module _ {D Page Port : Type 0} {kind : Ghosts D Page Port} (s : Stored) (made :
       sym (ap (λ (named : Name × List ℕ). object (insert_all made.step.objects.items d) named.0) found.2) ∙ written ∙ ap (λ (named : Name × List ℕ). Some named.1) found.2 in
       record {
         t = next_stored s made is;
+        reopened_as = is.reopened_as;
         there = record { settled = settled; only = alone; rising = still_rising is.files s.files is.level rising; whole = kept (segment_name is.segment) (active_part (next_stored s made is)) ∙ whole; told = told_next version files };
         config_is = refl;
         stands = is.stands;

@@ -1,5 +1,6 @@
 -- The step of an opening leads from what is stored to what is stored next.
 use Rattle.std.proofs.Common.{◌≡◌, ◌≢◌, ◌⊎◌, ◌<◌, ◌≤◌, ◌+◌, inl, inr, ℕ, true, List, [], ◌∷◌, ◌++◌, append_assoc, map, length, All, AllPairs, Contains, refl, sym, ap, ◌∙◌, subst, arith}
+use Rattle.std.specs.Prelude.{◌↔◌}
 use Rattle.std.specs.List.Sorted.{IsPermutation}
 use Rattle.std.proofs.lemmas.List.{map-append}
 use Rattle.std.proofs.lemmas.List.Concat.{flat_map-append}
@@ -7,7 +8,6 @@ use Rattle.std.proofs.lemmas.List.Elements.{All-append, All-contains, All-cons, 
 use Rattle.std.proofs.lemmas.List.Sorted.{IsPermutation-refl}
 use Rattle.lethe_base.specs.History.{History}
 use Rattle.lethe_base.specs.Layout.{File, Layout, files_of}
-use Rattle.lethe_base.specs.declared.config.Fields.{Fields}
 use Rattle.lethe_base.specs.declared.name.Kind.TheVariants.{Page}
 use Rattle.lethe_base.specs.declared.name.Name.{Name}
 use Rattle.lethe_base.specs.declared.pending.Pending.{Pending}
@@ -15,6 +15,7 @@ use Rattle.lethe_cover.specs.Flushes as layouts
 use Rattle.lethe_cover.specs.Steps.{frozen}
 use Rattle.lethe_base.proofs.LayoutLaws.{none_in}
 use Rattle.lethe_cover.proofs.Lists.{Pairs, only_in, pairs_append, pairs_from, pairs_map, pairs_to}
+use Rattle.lethe_fade.specs.Spans.{KeyRange}
 use Rattle.lethe_header.specs.declared.header.Header.{Header}
 use Rattle.lethe_segment.specs.Segments.{segment_bytes}
 use Rattle.lethe_moves.specs.Files as moves
@@ -24,7 +25,7 @@ use Rattle.lethe_manifest.specs.declared.manifest.Manifest.{Manifest}
 use Rattle.lethe_commit.specs.declared.objects.Object.{Object}
 use Rattle.lethe_stored.specs.Files.{StoredFile, cited_of, file_of, objects_in, objects_of}
 use Rattle.lethe_stored.specs.Kept.{IsFor}
-use Rattle.lethe_stored.specs.Stored.{Stored, IsCited, IsCoherent, count_of, layout_of, part_names, pending_of, plain, segment_name, segment_numbers}
+use Rattle.lethe_stored.specs.Stored.{Stored, IsCited, IsCoherent, count_of, layout_of, part_names, pending_of, plain, records_in, segment_name, segment_numbers}
 use Rattle.lethe_stored.proofs.Frame.{same_no}
 use Rattle.lethe_stored.proofs.Lists.{all_from, all_left, all_right, from_map}
 use Rattle.lethe_stored.proofs.Parts.{active_part, object_apart, object_part, part_below}
@@ -39,11 +40,11 @@ use Rattle.lethe_advance.specs.Steps.{IsStep, IsSegmentFrom, IsObjectFrom, IsUnc
 use Rattle.lethe_advance.proofs.Lists.{filter_all}
 use Rattle.lethe_recover.specs.Flushing.{AreFlushesOf, IsWritable}
 use Rattle.lethe_recover.specs.Journals.{IsJournalOf}
-use Rattle.lethe_recover.specs.Reopening.{IsStepOf, Reopens, empty_segment, successor}
+use Rattle.lethe_recover.specs.Reopening.{AreFiled, AreHeadersOf, IsReopenedAs, IsStepOf, Reopens, empty_segment, successor}
 use Rattle.lethe_recover.specs.declared.flushing.Flushes as both
 use Rattle.lethe_recover.specs.declared.journal.Journal.{Journal}
 use Rattle.lethe_recover.specs.declared.reopening.Reopening.{Reopening}
-use Rattle.lethe_recover.proofs.Filed.{flushes_of, frozen_are, new_clear, stored_below, stored_clear}
+use Rattle.lethe_recover.proofs.Filed.{filed_of, flushes_of, frozen_are, heads_more, heads_same, new_clear, stored_below, stored_clear}
 use Rattle.lethe_recover.proofs.NewFiles.{both_new, numbers_of, object_from, object_to}
 
 -- One alone, and none
@@ -65,8 +66,7 @@ abbrev Within : ℕ → ℕ → Object → Type 0
 Within from to object = (from ≤ object.name.no) × (object.name.no < to)
 
 module _ (s : Stored) (coherent : IsCoherent s) (m : Manifest) (same : s.manifest ≡ m) (count : ℕ) (count_is : count ≡ count_of s) (erases : List Pending) (erases_are : erases ≡ pending_of s)
-    (heads : List Header) (has_heads : (file : StoredFile) → Contains s.files file → Contains heads file.header)
-    (journal : Journal) (is_journal : IsJournalOf s journal) (flushes : both.Flushes) (fields : Fields) (are : AreFlushesOf fields journal erases count m.next heads flushes)
+    (heads : List Header) (heads_are : AreHeadersOf s heads) (journal : Journal) (is_journal : IsJournalOf s journal) (flushes : both.Flushes) (are : AreFlushesOf m.config journal erases count m.next heads flushes)
     (writable_older : IsWritable m.next flushes.older) (writable_newer : IsWritable flushes.older.next flushes.newer)
     (made : Reopening) (is : IsStepOf m count erases flushes made) (spelled : HasSpelling made.step.manifest) where
   abbrev older : List StoredFile
@@ -78,10 +78,10 @@ module _ (s : Stored) (coherent : IsCoherent s) (m : Manifest) (same : s.manifes
   abbrev files : List StoredFile
   files = newer ++ older
 
-  abbrev older_is : IsFlushOf fields are.older.entries erases are.older.alone count m.next flushes.older older
+  abbrev older_is : IsFlushOf m.config are.older.entries erases are.older.alone count m.next flushes.older older
   older_is = are.older.is
 
-  abbrev newer_is : IsFlushOf fields are.newer.entries erases are.newer.alone count flushes.older.next flushes.newer newer
+  abbrev newer_is : IsFlushOf m.config are.newer.entries erases are.newer.alone count flushes.older.next flushes.newer newer
   newer_is = are.newer.is
 
   abbrev segment : ℕ
@@ -274,8 +274,8 @@ module _ (s : Stored) (coherent : IsCoherent s) (m : Manifest) (same : s.manifes
   stands h for =
       let upto : count ≡ length h = count_is ∙ for.count in
       let flushes_older : Flushes h (layout_of s) (map file_of older) =
-      flushes_of h (layout_of s) journal.older erases count m.next heads fields flushes.older are.older (frozen_are s.frozen ∙ ap (map plain) (sym is_journal.older)) erases_are upto
-      (stored_clear s coherent heads has_heads) (stored_below s coherent m.next (omega (arith, next_is))) in
+      flushes_of h (layout_of s) journal.older erases count m.next heads m.config flushes.older are.older (frozen_are s.frozen ∙ ap (map plain) (sym is_journal.older)) erases_are upto
+      (stored_clear s coherent heads heads_are.each) (stored_below s coherent m.next (omega (arith, next_is))) in
       let below : All (λ (file : File). file.no < flushes.older.next) (files_of (frozen first)) =
       subst (All (λ (file : File). file.no < flushes.older.next)) (sym files_are) (All-append (λ (file : File). file.no < flushes.older.next) (map file_of older) (files_of (layout_of s))
       (all_from (λ (file : File). file.no < flushes.older.next) (map file_of older) (λ file there.
@@ -284,11 +284,30 @@ module _ (s : Stored) (coherent : IsCoherent s) (m : Manifest) (same : s.manifes
       subst (λ (file : File). file.no < flushes.older.next) found.2 lt))
       (stored_below s coherent flushes.older.next (omega (arith, next_is, low)))) in
       let flushes_newer : Flushes h (frozen first) (map file_of newer) =
-      flushes_of h (frozen first) journal.newer erases count flushes.older.next (heads ++ flushes.older.headers.items) fields flushes.newer are.newer (ap (map plain) (sym is_journal.newer)) erases_are upto
+      flushes_of h (frozen first) journal.newer erases count flushes.older.next (heads ++ flushes.older.headers.items) m.config flushes.newer are.newer (ap (map plain) (sym is_journal.newer)) erases_are upto
       (λ keys free. subst (All (moves.IsClearOf keys)) (sym files_are) (All-append (moves.IsClearOf keys) (map file_of older) (files_of (layout_of s))
       (new_clear keys older (subst (All (clear.IsClearOf keys)) older_is.headers (all_right (clear.IsClearOf keys) heads flushes.older.headers.items free)))
-      (stored_clear s coherent heads has_heads keys (all_left (clear.IsClearOf keys) heads flushes.older.headers.items free)))) below in
+      (stored_clear s coherent heads heads_are.each keys (all_left (clear.IsClearOf keys) heads flushes.older.headers.items free)))) below in
       reopened_for s older newer segment (segment + 1) h coherent for older_is.new.level newer_is.new.level flushes_older flushes_newer
 
+  -- What is stored next
+
+  is_reopened : IsReopenedAs s t
+  is_reopened =
+      let config_is = ap (λ (x : Manifest). x.config) (sym same) in
+      let there : (keys : KeyRange) → All (clear.IsClearOf keys) heads ↔ All (λ (file : StoredFile). clear.IsClearOf keys file.header) s.files = λ keys. heads_same (clear.IsClearOf keys) s heads heads_are in
+      record {
+        older = older;
+        middle = flushes.older.next;
+        of_older = subst (λ n. AreFiled s (records_in s.frozen) s.files n flushes.older.next older) (sym next_is)
+            (filed_of s journal.older (records_in s.frozen) erases count m.next heads s.files m.config flushes.older are.older config_is is_journal.older erases_are count_is there);
+        newer = newer;
+        segment = segment;
+        of_newer =
+            filed_of s journal.newer s.active.records erases count flushes.older.next (heads ++ flushes.older.headers.items) (older ++ s.files) m.config flushes.newer are.newer config_is is_journal.newer erases_are count_is
+            (λ keys. heads_more (clear.IsClearOf keys) heads flushes.older.headers.items older s.files older_is.headers (there keys));
+        is = refl;
+      }
+
   pub reopens : Reopens s made
-  reopens = record { files = files; segment = segment; step = is_step; stands = stands; level = new_files.level; segment_is = segment_written }
+  reopens = record { files = files; segment = segment; reopened_as = is_reopened; step = is_step; stands = stands; level = new_files.level; segment_is = segment_written }

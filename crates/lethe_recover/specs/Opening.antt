@@ -48,7 +48,7 @@ pub record IsSpellable {D Page Port : Type 0} {kind : Ghosts D Page Port} (confi
 pub record IsOpened {D Page Port : Type 0} {kind : Ghosts D Page Port} (config : Fields) (start : Directory) (disk : Seen) (opened : Opened D Page Port kind) : Type 0 where
   pub s : Stored
   -- it is what was stored at the start, reopened, or new
-  pub as : IsOpenedAs config start s
+  pub opened_as : IsOpenedAs config start s
   pub settled : IsSettled disk s
   pub only : HasOnly s [] disk.directory
   pub rising : AreRising s.files

@@ -6,6 +6,7 @@ use Rattle.lethe_base.specs.declared.config.Fields.{Fields}
 use Rattle.lethe_base.specs.declared.entry.Entry.{Entry}
 use Rattle.lethe_base.specs.declared.pending.Pending.{Pending}
 use Rattle.lethe_disk.specs.Directory.{Directory}
+use Rattle.lethe_header.specs.declared.header.Header.{Header}
 use Rattle.lethe_manifest.specs.declared.manifest.Cited.{Cited}
 use Rattle.lethe_manifest.specs.declared.manifest.Manifest.{Manifest}
 use Rattle.lethe_segment.specs.Segments.{segment_bytes}
@@ -52,8 +53,13 @@ pub record IsStepOf (m : Manifest) (count : ℕ) (erases : List Pending) (flushe
   pub manifest : made.step.manifest ≡ successor m count erases (flushes.newer.cited.items ++ flushes.older.cited.items ++ m.files) flushes.newer.next
   pub gone : made.step.gone.items ≡ map segment_name m.segments
 
--- Of records the files of level 0 with what is left of their newest entries, woven by the configuration and cut, with numbers of their own that ascend in that order. They are
--- alone exactly where there is an entry and none of these files has a key of the entries' range.
+-- the headers of the stored files, in whatever order
+pub record AreHeadersOf (s : Stored) (heads : List Header) : Type 0 where
+  pub each : (file : StoredFile) → Contains s.files file → Contains heads file.header
+  pub only : (header : Header) → Contains heads header → (file : StoredFile) × Contains s.files file × (file.header ≡ header)
+
+-- The files of level 0 that are made of records where other files are there: what is left of the records' newest entries, woven by the configuration and cut, with numbers of
+-- their own that ascend in the order of the cuts. The entries are alone exactly where there is one and none of the other files has a key of their range.
 pub record AreFiled (s : Stored) (records : List Record) (there : List StoredFile) (first last : ℕ) (made : List StoredFile) : Type 0 where
   pub entries : List Entry
   pub ascending : IsAscending entries
@@ -82,7 +88,7 @@ IsOpenedAs config d t = (HasGreatest None d × (t ≡ new_stored config)) ⊎ ((
 pub record Reopens (s : Stored) (made : Reopening) : Type 0 where
   pub files : List StoredFile
   pub segment : ℕ
-  pub as : IsReopenedAs s (reopened s files segment (segment + 1))
+  pub reopened_as : IsReopenedAs s (reopened s files segment (segment + 1))
   pub step : IsStep s [] (reopened s files segment (segment + 1)) [] made.headers.items made.step
   pub stands : (h : History) → IsFor h s → IsFor h (reopened s files segment (segment + 1))
   pub level : All (λ file. file.level ≡ 0) files

@@ -34,7 +34,7 @@ pub record IsThere {D Page Port : Type 0} {kind : Ghosts D Page Port} (disk : Se
 -- so is one of the same configuration that stands for the same history
 pub record IsReopened {D Page Port : Type 0} {kind : Ghosts D Page Port} (s : Stored) (disk : Seen) (opened : Opened D Page Port kind) : Type 0 where
   pub t : Stored
-  pub as : IsReopenedAs s t
+  pub reopened_as : IsReopenedAs s t
   pub there : IsThere disk t opened
   pub config_is : t.manifest.config ≡ s.manifest.config
   pub stands : (h : History) → IsFor h s → IsFor h t

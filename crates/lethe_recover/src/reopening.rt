@@ -1,17 +1,16 @@
 //! What a store becomes that is opened.
 ghost use Rattle.std.specs.Prelude as prelude;
-ghost use Rattle.std.specs.Prelude.{◌≡◌, ℕ, ◌+◌, ◌<◌, ◌≤◌, ◌^◌, ◌++◌, ◌∷◌, [], length, All, AllPairs, Contains, IfOk};
+ghost use Rattle.std.specs.Prelude.{◌≡◌, ℕ, ◌+◌, ◌<◌, ◌≤◌, ◌^◌, ◌++◌, ◌∷◌, [], length, All, AllPairs, IfOk};
 ghost use Rattle.lethe_base.specs.Limits.{max_place};
 ghost use Rattle.lethe_build.specs.Drafts.{IsDraft};
 ghost use Rattle.lethe_header.specs.Headers as headers;
 ghost use Rattle.lethe_manifest.specs.Manifests.{HasSpelling, IsErase};
 ghost use Rattle.lethe_header.specs.declared.header.Header as header;
-ghost use Rattle.lethe_stored.specs.Files.{StoredFile};
 ghost use Rattle.lethe_stored.specs.Stored.{Stored, IsCoherent, count_of, pending_of};
 ghost use Rattle.lethe_recover.specs.Flushing.{AreDraftsOfJournal, IsWritable, numbers_of};
 ghost use Rattle.lethe_recover.specs.declared.journal.Journal.{Journal};
 ghost use Rattle.lethe_recover.specs.Journals.{IsJournalOf};
-ghost use Rattle.lethe_recover.specs.Reopening.{IsStepOf, Reopens, empty_segment, successor};
+ghost use Rattle.lethe_recover.specs.Reopening.{AreHeadersOf, IsStepOf, Reopens, empty_segment, successor};
 
 use crate::cited::push_segments;
 use crate::flushing::{Drafts, Flushes, flush_journal};
@@ -50,7 +49,7 @@ pub fn reopening_of(
     requires newer { All IsDraft drafts.newer.items }
     requires numbers { manifest.now.next + numbers_of drafts + 1 < max_place }
     ensures reopens { IfOk result (λ made. (s : Stored) (journal : Journal) (heads : prelude.List header.Header) → IsCoherent s → s.manifest ≡ manifest.now → count ≡ count_of s → erases.items ≡ pending_of s
-        → ((file : StoredFile) → Contains s.files file → Contains heads file.header) → IsJournalOf s journal → AreDraftsOfJournal manifest.now.config journal erases.items heads drafts → Reopens s made) }
+        → AreHeadersOf s heads → IsJournalOf s journal → AreDraftsOfJournal manifest.now.config journal erases.items heads drafts → Reopens s made) }
     ensures spelled { IfOk result (λ made. HasSpelling made.step.manifest) }
     ensures config { IfOk result (λ made. made.step.manifest.config ≡ manifest.now.config) }
     ensures segments { IfOk result (λ made. length made.step.manifest.segments ≡ 1) }

@@ -19,7 +19,7 @@ returns-clause-made g c =
     let long = c.in_ok-buffer.ensures.few in
     record {
       for = record { entries = entries; ascending = c.in_ok-buffer.buffer.ascending; newest = c.in_ok-buffer.ensures.newest; alone = c.is_clear-alone.result; are = are; few = omega (arith, few, long) };
-      clear = λ alone. (c.is_clear-alone.ensures.0 alone).1;
+      clear = c.is_clear-alone.ensures;
     })
 
 pub returns-clause-few : goal.returns-clause-few

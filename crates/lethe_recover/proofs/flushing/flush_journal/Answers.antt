@@ -9,6 +9,7 @@ returns-clause-made c = λ fields journal erases headers are.
     let newer = are.newer.for in
     let made_older = c.in_ok-older.ensures.made fields older.entries erases older.alone older.are in
     let made_newer = c.in_ok-newer.ensures.made fields newer.entries erases newer.alone newer.are in
+    let there = clear_then (span_of newer.entries) headers c.args.drafts.older.items c.in_ok-older.older.headers.items (c.in_ok-older.ensures.clear (span_of newer.entries)) in
     record {
       older = record { entries = older.entries; ascending = older.ascending; newest = older.newest; alone = older.alone; clear = are.older.clear; files = made_older.0; is = made_older.1 };
       newer = record {
@@ -16,7 +17,10 @@ returns-clause-made c = λ fields journal erases headers are.
         ascending = newer.ascending;
         newest = newer.newest;
         alone = newer.alone;
-        clear = λ alone. clear_then (span_of newer.entries) headers c.args.drafts.older.items c.in_ok-older.older.headers.items (c.in_ok-older.ensures.clear (span_of newer.entries)) (are.newer.clear alone);
+        clear = (
+          (λ alone. let both = are.newer.clear.0 alone in (both.0, there.0 both.1)),
+          (λ both. are.newer.clear.1 (both.0, there.1 both.1)),
+        );
         files = made_newer.0;
         is = made_newer.1;
       };

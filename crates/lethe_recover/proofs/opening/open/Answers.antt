@@ -6,10 +6,14 @@ use Rattle.lethe_stored.specs.Kept.{IsKept}
 use Rattle.lethe_stored.specs.Numbers.{IsNextNumber}
 use Rattle.lethe_stored.proofs.Numbers.{pace_then}
 use Rattle.lethe_load.specs.Refused.{HasReason}
-use Rattle.lethe_recover.specs.Opening.{IsResumed, IsKeptInOpening, MayNotOpen, IsCut, since_start}
+use Rattle.lethe_recover.specs.Opening.{IsOpened, IsResumed, IsKeptInOpening, MayNotOpen, IsCut, since_start}
 use Rattle.lethe_recover.proofs.Results.{ok_weaker, err_weaker}
 use Rattle.lethe_recover.proofs.Resumed.{same_may, AsKept, from_left, from_kept, quiet_pace}
 use Rattle.lethe_recover.proofs.opening.open.Goals as goal
+
+pub returns-in-Ok-clause-opened : goal.returns-in-Ok-clause-opened
+returns-in-Ok-clause-opened g c = λ told.
+    subst (λ d. IfOk c.open_synced.result (λ opened. IsOpened c.args.config.now d (g.D.Disk.seen c.open_synced.new.disk) opened)) (c.sync.ensures.directory told) (c.open_synced.ensures.opened told)
 
 pub returns-in-Ok-clause-resumed : goal.returns-in-Ok-clause-resumed
 returns-in-Ok-clause-resumed g c = λ told kept h change left.

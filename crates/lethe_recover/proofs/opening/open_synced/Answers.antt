@@ -38,9 +38,11 @@ returns-in-Err-clause-untouched g c = λ told why reason. c.load.ensures.quiet t
 
 pub returns-in-None-clause-opened : goal.returns-in-None-clause-opened
 returns-in-None-clause-opened g c = λ told.
+    let d = (g.D.Disk.seen c.args.disk.now).directory in
     let config = c.args.config.now in
     let s2 = g.D.Disk.seen c.start.new.disk in
-    ok_weaker c.start.result (λ opened. IsThere s2 (new_stored config) opened) (λ opened. IsOpened config s2 opened) (c.start.ensures.there told) (new_opened config s2)
+    let none = read_none config d (shown c.in-Ok.read) c.in-None.is (c.in-Ok.ensures.found told) in
+    ok_weaker c.start.result (λ opened. IsThere s2 (new_stored config) opened) (λ opened. IsOpened config d s2 opened) (c.start.ensures.there told) (new_opened config s2 d none)
 
 pub returns-in-None-clause-resumed : goal.returns-in-None-clause-resumed
 returns-in-None-clause-resumed g c = λ told kept h k.
@@ -119,7 +121,7 @@ returns-in-Some-clause-opened g c = λ told.
     let there = read_some config d read m c.in-Some.is (c.in-Ok.ensures.found told) in
     let settled = settled_again s0 s1 (c.load.ensures.quiet told) (c.requires.synced told) there.s there.coherent there.encodes in
     let loaded = loaded_as config d read there m c.in-Some.is c.of-journal.result c.of-journal.ensures.is in
-    ok_weaker c.resume.result (λ opened. IsReopened there.s s2 opened) (λ opened. IsOpened config s2 opened) (c.resume.ensures.there told there.s settled loaded) (λ opened again. opened_from config s2 there.s opened there.config_is again)
+    ok_weaker c.resume.result (λ opened. IsReopened there.s s2 opened) (λ opened. IsOpened config d s2 opened) (c.resume.ensures.there told there.s settled loaded) (λ opened again. opened_from config s2 d there.s opened there.coherent there.encodes there.config_is again)
 
 pub returns-in-Some-clause-resumed : goal.returns-in-Some-clause-resumed
 returns-in-Some-clause-resumed g c = λ told kept h k.

@@ -1,16 +1,15 @@
 use Rattle.std.proofs.Common.{◌≡◌, ◌+◌, [], ◌∷◌, ◌++◌, length, All, sym, ap, subst, arith, length-append}
-use Rattle.std.specs.Prelude.{Contains, List}
+use Rattle.std.specs.Prelude.{List}
 use Rattle.std.proofs.lemmas.List.Elements.{All-append}
 use Rattle.lethe_header.specs.Headers as headers
 use Rattle.lethe_manifest.specs.Manifests.{HasSpelling}
 use Rattle.lethe_manifest.specs.declared.manifest.Manifest.{Manifest}
 use Rattle.lethe_header.specs.declared.header.Header.{Header}
-use Rattle.lethe_stored.specs.Files.{StoredFile}
 use Rattle.lethe_stored.specs.Stored.{Stored, IsCoherent, count_of, pending_of}
 use Rattle.lethe_recover.specs.Flushing.{AreDraftsOfJournal}
 use Rattle.lethe_recover.specs.Journals.{IsJournalOf}
 use Rattle.lethe_recover.specs.declared.journal.Journal.{Journal}
-use Rattle.lethe_recover.specs.Reopening.{IsStepOf, Reopens, empty_segment}
+use Rattle.lethe_recover.specs.Reopening.{AreHeadersOf, IsStepOf, Reopens, empty_segment}
 use Rattle.lethe_recover.proofs.Results.{ok_both, ok_weaker}
 use Rattle.lethe_recover.proofs.Stepping.{reopens}
 use Rattle.lethe_recover.proofs.reopening.reopening_of.Goals as goal
@@ -23,10 +22,10 @@ returns-clause-reopens c =
     let flushes = c.in_ok-flushes.flushes in
     ok_both c.step_of.result (IsStepOf m count erases flushes) (λ made. HasSpelling made.step.manifest)
     (λ made. (s : Stored) (journal : Journal) (heads : List Header) → IsCoherent s → s.manifest ≡ m → count ≡ count_of s → erases ≡ pending_of s
-    → ((file : StoredFile) → Contains s.files file → Contains heads file.header) → IsJournalOf s journal → AreDraftsOfJournal m.config journal erases heads c.args.drafts → Reopens s made)
+    → AreHeadersOf s heads → IsJournalOf s journal → AreDraftsOfJournal m.config journal erases heads c.args.drafts → Reopens s made)
     c.step_of.ensures.is c.step_of.ensures.spelled
     (λ made is spelled s journal heads coherent same counted pending has journal_is drafts.
-    reopens s coherent m same count counted erases pending heads has journal journal_is flushes m.config (c.in_ok-flushes.ensures.made m.config journal erases heads drafts)
+    reopens s coherent m same count counted erases pending heads has journal journal_is flushes (c.in_ok-flushes.ensures.made m.config journal erases heads drafts)
     c.in_ok-flushes.ensures.older c.in_ok-flushes.ensures.newer made is spelled)
 
 pub returns-clause-headers : goal.returns-clause-headers
