@@ -27,13 +27,12 @@ pub ranged_more : {X : Type 0} (f : ℕ → X) (n : ℕ) (xs : List X) (x : X) �
 ranged_more f n xs x before is = (λ i. before i ++ is i ∷ []) ∙ sym (map-range_with_len_more f 0 n n (omega arith))
 
 -- one pair more, of lists that are gone through together
-pub zip_more : {A B C : Type 0} (R : A → C → Type 0) (f : B → C) (items : List A) (i : ℕ) (item : A) → i < length items → item ≡ get_or items i item → (old new : List B) (other : B) → new ≡ old ++ other ∷ []
-    → AllZip R (take i items) (map f old) → R item (f other) → AllZip R (take (i + 1) items) (map f new)
-zip_more R f items i item inside is old new other pushed zipped related =
-    let upto = take i items ++ item ∷ [] in
-    let all : AllZip R upto (map f old ++ f other ∷ []) = going_all R upto (map f old ++ f other ∷ []) (going_more R upto [] (map f old) item (f other) (record { done = take i items; is = refl; each = zipped }) related) in
-    subst (λ (l : List _). AllZip R l (map f new)) (ap (λ (one : _). take i items ++ one ∷ []) is ∙ sym (take_more items i item inside))
-    (subst (AllZip R upto) (sym (map-append f old (other ∷ [])) ∙ ap (map f) (sym pushed)) all)
+pub zip_more : {A B C : Type 0} (R : A → C → Type 0) (f : B → C) (items : List A) (i : ℕ) (d : A) → i < length items → (old new : List B) (other : B) → new ≡ old ++ other ∷ []
+    → AllZip R (take i items) (map f old) → R (get_or items i d) (f other) → AllZip R (take (i + 1) items) (map f new)
+zip_more R f items i d inside old new other pushed zipped related =
+    let upto = take i items ++ get_or items i d ∷ [] in
+    let all : AllZip R upto (map f old ++ f other ∷ []) = going_all R upto (map f old ++ f other ∷ []) (going_more R upto [] (map f old) (get_or items i d) (f other) (record { done = take i items; is = refl; each = zipped }) related) in
+    subst (λ l. AllZip R l (map f new)) (sym (take_more items i d inside)) (subst (AllZip R upto) (sym (map-append f old (other ∷ [])) ∙ ap (map f) (sym pushed)) all)
 
 -- Items
 

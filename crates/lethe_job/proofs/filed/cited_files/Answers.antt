@@ -17,9 +17,9 @@ loop-one-preserved g c =
       stored = λ s coherent are held. ap (map plain_file) c.in_ok-push.ensures.items
           ∙ cited_more s coherent plain_file parts_in c.args.cited.now are levels held c.loop-one.one-index _ c.loop-one-test.true c.loop-one.files.items (c.loop-one.invariant.stored s coherent are held)
           file file.file.file.value is.level is.swept is.no refl is.low is.there;
-      each = zip_more (IsCitedAs (parts_by_level c.args.version.now)) plain_file c.args.cited.now c.loop-one.one-index c.one-item.result c.loop-one-test.true c.one-item.is c.loop-one.files.items c.push.new.self.items file
+      each = zip_more (IsCitedAs (parts_by_level c.args.version.now)) plain_file c.args.cited.now c.loop-one.one-index _ c.loop-one-test.true c.loop-one.files.items c.push.new.self.items file
           c.in_ok-push.ensures.items c.loop-one.invariant.each
-          (cited_as parts_in levels c.one-item.result (plain_file file) file.file.file.value is.level is.swept is.no refl is.low is.there);
+          (cited_as parts_in levels _ (plain_file file) file.file.file.value is.level is.swept is.no refl is.low is.there);
     }
 
 pub returns-clause-each : goal.returns-clause-each
