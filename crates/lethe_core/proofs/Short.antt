@@ -22,9 +22,10 @@ merges_are_short Tells config h view told stands runs short =
     let s = stands.stored in
     let coherent = stands.remembers.coherent in
     let is = short.are told s (stands_holds config h view stands runs) in
-    let begun = is.1 in
-    let fit = numbers_fit is.0.config (merged (entries_in (inputs_in is.0)) is.0.erases is.0.alone) short.drafts is.2 in
-    let same : inputs_in is.0 ≡ inputs_of begun.m = λ i. begun.is.sources i ++ begun.is.met i in
+    let task = short.task in
+    let begun = is.0 in
+    let fit = numbers_fit task.config (merged (entries_in (inputs_in task)) task.erases task.alone) short.drafts is.1 in
+    let same : inputs_in task ≡ inputs_of begun.m = λ i. begun.is.sources i ++ begun.is.met i in
     let few = inputs_few s begun.m coherent begun.is.merge in
     let all = entries_few h s coherent (stands_for config h view stands runs) in
-    omega (arith, short.short, fit, length-merged is.0.erases is.0.alone (entries_in (inputs_in is.0)), ap (λ files. length (entries_in files)) same, few, all)
+    omega (arith, short.short, fit, length-merged task.erases task.alone (entries_in (inputs_in task)), ap (λ files. length (entries_in files)) same, few, all)

@@ -1,4 +1,4 @@
--- The files of a version that are cited are those that are stored.
+-- The files of a version that are cited, which are those that are stored.
 use Rattle.std.proofs.Common.{◌≡◌, ◌≢◌, ℕ, ◌+◌, ◌<◌, List, [], ◌∷◌, ◌++◌, get_or, length, take, map, sym, ap, ◌∙◌, subst, arith}
 use Rattle.std.specs.Prelude.{Contains, slice_index_or}
 use Rattle.std.proofs.lemmas.List.{get_or-map, length-map, map-append, take_more}
@@ -10,10 +10,23 @@ use Rattle.lethe_stored.specs.Files.{StoredFile, Parts, cited_of, parts_of}
 use Rattle.lethe_stored.specs.Levels.{HasFiles}
 use Rattle.lethe_stored.specs.Stored.{Stored, IsCoherent}
 use Rattle.lethe_stored.proofs.Leveled.{from_level, of_level}
+use Rattle.lethe_job.specs.Tasks.{IsCitedAs}
 use Rattle.lethe_job.proofs.Listed.{one_numbered}
 
 abbrev number_in : StoredFile → ℕ
 number_in file = file.header.no
+
+-- a file of a level is there as readers have it
+parts_there : {V : Type 0} (view : V → Parts) (levels : List (List V)) (level : ℕ) (v : V) (parts : Parts) → view v ≡ parts → level < length levels → Contains (slice_index_or levels level []) v
+    → Contains (slice_index_or (map (map view) levels) level []) parts
+parts_there view levels level v parts seen low there =
+    let here : slice_index_or (map (map view) levels) level [] ≡ map view (slice_index_or levels level []) = get_or-map (map view) levels level [] [] low in
+    subst (λ l. Contains l parts) (sym here) (subst (Contains (map view (slice_index_or levels level []))) seen (in_map view (slice_index_or levels level []) v there))
+
+pub cited_as : {V : Type 0} (view : V → Parts) (levels : List (List V)) (cited : Cited) (file : StoredFile) (v : V) → file.level ≡ cited.level → file.swept ≡ cited.swept → file.header.no ≡ cited.no → view v ≡ parts_of file
+    → cited.level < length levels → Contains (slice_index_or levels cited.level []) v → IsCitedAs (map (map view) levels) cited file
+cited_as view levels cited file v level swept number seen low there =
+    record { level = level; swept = swept; number = number; there = parts_there view levels cited.level v (parts_of file) seen low there }
 
 module _ (s : Stored) (coherent : IsCoherent s) where
   -- a file of a level, as readers have it, which has a stored file's number, level and place is that file
@@ -43,8 +56,6 @@ module _ (s : Stored) (coherent : IsCoherent s) where
       let cites : one ≡ cited_of stored = ap (λ l. get_or l k e) all ∙ get_or-map cited_of s.files k d e within in
       let same_level : one.level ≡ stored.level = ap (λ (c : Cited). c.level) cites in
       let as_many : length (map (map view) levels) ≡ length levels = length-map levels (map view) in
-      let parts : Contains (map view (slice_index_or levels one.level [])) (parts_of d) = subst (Contains (map view (slice_index_or levels one.level []))) seen (in_map view (slice_index_or levels one.level []) v there) in
-      let here : slice_index_or (map (map view) levels) one.level [] ≡ map view (slice_index_or levels one.level []) = get_or-map (map view) levels one.level [] [] low in
       let own : d ≡ stored = same_file (map (map view) levels) held stored d (Contains-get_or s.files k d within) (level ∙ same_level) (swept ∙ ap (λ (c : Cited). c.swept) cites) (number ∙ ap (λ (c : Cited). c.no) cites)
-      (omega (arith, low, same_level, as_many)) (subst (λ n. Contains (slice_index_or (map (map view) levels) n []) (parts_of d)) same_level (subst (λ l. Contains l (parts_of d)) (sym here) parts)) in
+      (omega (arith, low, same_level, as_many)) (subst (λ n. Contains (slice_index_or (map (map view) levels) n []) (parts_of d)) same_level (parts_there view levels one.level v (parts_of d) seen low there)) in
       map-append plain files (file ∷ []) ∙ (λ i. before i ++ own i ∷ []) ∙ sym (take_more s.files k d within)

@@ -1,14 +1,16 @@
 -- Lists that are looked through, and items of distinct numbers.
-use Rattle.std.proofs.Common.{◌≡◌, ◌≢◌, ℕ, ◌+◌, ◌<◌, Bool, true, false, cond, eqb, List, [], ◌∷◌, ◌++◌, get_or, length, map, refl, sym, ap, ◌∙◌, subst, arith}
-use Rattle.std.specs.Prelude.{◌&&◌, Contains, Some, filter, find}
-use Rattle.std.specs.List.{list_any, range_with_len}
+use Rattle.std.proofs.Common.{◌≡◌, ◌≢◌, ℕ, ◌+◌, ◌<◌, ◌≤◌, Bool, true, false, cond, eqb, List, [], ◌∷◌, ◌++◌, get_or, length, map, take, refl, sym, ap, ◌∙◌, subst, arith}
+use Rattle.std.specs.Prelude.{◌&&◌, Contains, Some, filter, find, sum_by}
+use Rattle.std.specs.List.{AllZip, list_any, range_with_len}
 use Rattle.std.proofs.lemmas.Bool.{cond-true, cond-false, eq-eqb, ne_eqb}
-use Rattle.std.proofs.lemmas.List.{get_or-map, length-map}
+use Rattle.std.proofs.lemmas.List.{get_or-map, length-map, map-append, take_more}
 use Rattle.std.proofs.lemmas.List.Elements.{Contains-get_or}
 use Rattle.std.proofs.lemmas.List.Folds.{list_any_at}
 use Rattle.std.proofs.lemmas.List.FromFn.{map-range_with_len_more}
+use Rattle.std.proofs.lemmas.List.Sums.{sum_by-cons}
 use Rattle.lethe_cover.proofs.Common.{⊎_elim, none_in, first_is, first_or_rest}
 use Rattle.lethe_cover.proofs.Lists.{Pairs, in_map, in_rest}
+use Rattle.lethe_tile.proofs.Pages.{going_all, going_more}
 
 -- Loops
 
@@ -24,7 +26,27 @@ held_here f xs ys same i item inside is y own = subst (λ l. Contains l y) same 
 pub ranged_more : {X : Type 0} (f : ℕ → X) (n : ℕ) (xs : List X) (x : X) → xs ≡ map f (range_with_len 0 n) → x ≡ f n → xs ++ x ∷ [] ≡ map f (range_with_len 0 (n + 1))
 ranged_more f n xs x before is = (λ i. before i ++ is i ∷ []) ∙ sym (map-range_with_len_more f 0 n n (omega arith))
 
+-- one pair more, of lists that are gone through together
+pub zip_more : {A B C : Type 0} (R : A → C → Type 0) (f : B → C) (items : List A) (i : ℕ) (d : A) → i < length items → (old new : List B) (other : B) → new ≡ old ++ other ∷ []
+    → AllZip R (take i items) (map f old) → R (get_or items i d) (f other) → AllZip R (take (i + 1) items) (map f new)
+zip_more R f items i d inside old new other pushed zipped related =
+    let upto = take i items ++ get_or items i d ∷ [] in
+    let all : AllZip R upto (map f old ++ f other ∷ []) = going_all R upto (map f old ++ f other ∷ []) (going_more R upto [] (map f old) (get_or items i d) (f other) (record { done = take i items; is = refl; each = zipped }) related) in
+    subst (λ l. AllZip R l (map f new)) (sym (take_more items i d inside)) (subst (AllZip R upto) (sym (map-append f old (other ∷ [])) ∙ ap (map f) (sym pushed)) all)
+
 -- Items
+
+-- items that pass either of two tests, which none passes both, have no more than all items
+pub apart_sums : {X : Type 0} (f : X → ℕ) (p q : X → Bool) → ((x : X) → p x ≡ true → q x ≡ false) → (xs : List X) → sum_by f (filter p xs) + sum_by f (filter q xs) ≤ sum_by f xs
+apart_sums f p q apart [] = omega arith
+apart_sums f p q apart (x ∷ xs) = by (p x) refl (q x) refl (apart_sums f p q apart xs)
+  where
+    by : (a : Bool) → p x ≡ a → (b : Bool) → q x ≡ b → sum_by f (filter p xs) + sum_by f (filter q xs) ≤ sum_by f xs
+        → sum_by f (cond a (x ∷ filter p xs) (filter p xs)) + sum_by f (cond b (x ∷ filter q xs) (filter q xs)) ≤ sum_by f (x ∷ xs)
+    by true passes true also rest = absurd (let clash : true ≡ false = sym also ∙ apart x passes in cc)
+    by true passes false other rest = omega (arith, rest, sum_by-cons f x xs, sum_by-cons f x (filter p xs))
+    by false other true passes rest = omega (arith, rest, sum_by-cons f x xs, sum_by-cons f x (filter q xs))
+    by false other false neither rest = omega (arith, rest, sum_by-cons f x xs)
 
 pub find_some : {X : Type 0} (p : X → Bool) (xs : List X) (x : X) → find p xs ≡ Some x → Contains xs x × (p x ≡ true)
 find_some p [] x is = absurd cc

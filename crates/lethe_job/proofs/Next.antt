@@ -1,6 +1,8 @@
 -- The first task of a store, as its files are told.
-use Rattle.std.proofs.Common.{◌≡◌, ℕ, ◌<◌, ◌^◌, List, [], length, map, Some, None, sym, ap, ◌∙◌, subst, arith}
-use Rattle.std.specs.Prelude.{Contains}
+use Rattle.std.proofs.Common.{◌≡◌, ℕ, ◌+◌, ◌<◌, ◌≤◌, ◌^◌, true, false, eqb, List, [], ◌++◌, length, map, Some, None, sym, ap, ◌∙◌, subst, arith}
+use Rattle.std.specs.Prelude.{◌&&◌, ◌||◌, Contains}
+use Rattle.std.proofs.lemmas.Bool.{and_left, and_parts, eqb-true, ne_eqb}
+use Rattle.std.proofs.lemmas.List.Sums.{sum_by-append}
 use Rattle.lethe_base.specs.Configuration.{IsConfig}
 use Rattle.lethe_base.specs.Shapes as shapes
 use Rattle.lethe_base.specs.declared.config.Fields.{Fields}
@@ -8,16 +10,35 @@ use Rattle.lethe_base.specs.declared.pending.Pending.{Pending}
 use Rattle.lethe_base.specs.declared.shape.Shape.{Shape}
 use Rattle.lethe_disk.specs.declared.disk.Disk.{Ghosts}
 use Rattle.lethe_fade.specs.Choice.{choice}
+use Rattle.lethe_fade.specs.Spans.{KeyRange, overlaps}
 use Rattle.lethe_fade.specs.declared.plan.Plan.{Plan}
-use Rattle.lethe_stored.specs.Files.{StoredFile}
+use Rattle.lethe_header.specs.Headers.{entries_in}
+use Rattle.lethe_stored.specs.Files.{StoredFile, lines_in}
 use Rattle.lethe_stored.specs.Stored.{Stored, layout_of}
-use Rattle.lethe_job.specs.Chosen.{level_named, sources_in, task_in}
+use Rattle.lethe_job.specs.Chosen.{hull_in, is_source, level_named, met_in, range_in, sources_in, task_in}
 use Rattle.lethe_job.specs.Shapes.{shape_of}
-use Rattle.lethe_job.specs.Tasks.{IsBegunIn, IsStore, PlainTask, plain_file}
+use Rattle.lethe_job.specs.Tasks.{IsBegunIn, IsStore, PlainTask, counted_in, inputs_in, plain_file}
 use Rattle.lethe_job.specs.declared.filed.Filed.{Filed}
 use Rattle.lethe_job.proofs.Begun.{is_begun, level_from, level_there, source_there}
+use Rattle.lethe_job.proofs.Listed.{apart_sums}
 use Rattle.lethe_job.proofs.Named.{chosen_file}
 use Rattle.lethe_job.proofs.Shaped.{shape_same}
+
+-- the inputs are some of the files: none is a source and met by the sources
+some_inputs : (level number : ℕ) (keys : KeyRange) (files : List StoredFile) → counted_in (sources_in level number files ++ met_in (level + 1) keys files) ≤ counted_in files
+some_inputs level number keys files =
+    let counted : StoredFile → ℕ = λ file. entries_in (lines_in file) in
+    let apart : (file : StoredFile) → is_source level number file ≡ true → (eqb file.level (level + 1) && overlaps keys (range_in file)) ≡ false = λ file source.
+    let parts = and_parts (eqb file.level level) (eqb level 0 || eqb file.header.no number) source in
+    let same : file.level ≡ level = eqb-true file.level level parts.0 in
+    and_left (eqb file.level (level + 1)) (overlaps keys (range_in file)) (ne_eqb file.level (level + 1) (λ next. omega (arith, same, next))) in
+    omega (arith, sum_by-append counted (sources_in level number files) (met_in (level + 1) keys files), apart_sums counted (is_source level number) (λ file. eqb file.level (level + 1) && overlaps keys (range_in file)) apart files)
+
+pub task_some : (level : ℕ) (plan : Plan) (files seen : List StoredFile) (config : Fields) (erases : List Pending) (count : ℕ) (task : PlainTask) → seen ≡ files → task ≡ task_in level plan seen config erases count
+    → counted_in (inputs_in task) ≤ counted_in files
+task_some level plan files seen config erases count task same is =
+    subst (λ (files : List StoredFile). counted_in (inputs_in task) ≤ counted_in files) same
+    (subst (λ (task : PlainTask). counted_in (inputs_in task) ≤ counted_in seen) (sym is) (some_inputs level plan.file (hull_in (sources_in level plan.file seen)) seen))
 
 module _ {D Page Port : Type 0} {disk : Ghosts D Page Port} (files : List (Filed D Page Port disk)) (config : Fields) (erases : List Pending) (count : ℕ) where
   abbrev all : List StoredFile

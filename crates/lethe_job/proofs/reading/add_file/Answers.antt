@@ -12,7 +12,7 @@ use Rattle.lethe_file.specs.Agreement.{entries_in, page_name}
 use Rattle.lethe_file.specs.declared.view.FileView.{FileView}
 use Rattle.lethe_version.specs.Versions.{bytes_of}
 use Rattle.lethe_job.specs.Tasks.{plain_file}
-use Rattle.lethe_job.proofs.Adding.{page_read, file_read, page_named}
+use Rattle.lethe_job.proofs.Adding.{file_many, file_read, page_named, page_read}
 use Rattle.lethe_job.proofs.reading.add_file.Goals as goal
 
 abbrev refused : ReadRefused → Result (Unit {0}) ReadRefused
@@ -43,6 +43,14 @@ returns-clause-given g c = λ told.
     file_read g.D.Disk.tells (plain_file c.args.filed.now) c.args.entries.now.items c.loop-place.entries.items c.loop-place.place
     (g.D.Disk.fetches c.args.port.now) (g.D.Disk.fetches c.loop-place.port) (g.D.Disk.port_faults c.args.port.now) (g.D.Disk.port_faults c.loop-place.port)
     c.loop-place.invariant (all ∙ file.paged) past told
+
+pub returns-clause-counted : goal.returns-clause-counted
+returns-clause-counted g c =
+    let file = c.args.filed.now.file.file.value in
+    let many : length c.file-file.result.now.pages.items ≡ length file.pages.items = ap (λ (f : FileView g.row.D.Denot g.row.D-Page.Denot g.row.D-Port.Denot g.D.Disk). length f.pages.items) c.file-file.ensures in
+    file_many g.D.Disk.tells (plain_file c.args.filed.now) c.args.entries.now.items c.loop-place.entries.items c.loop-place.place
+    (g.D.Disk.fetches c.args.port.now) (g.D.Disk.fetches c.loop-place.port) (g.D.Disk.port_faults c.args.port.now) (g.D.Disk.port_faults c.loop-place.port)
+    c.loop-place.invariant (omega (arith, c.loop-place-test.false, c.count_pages-place-end.ensures, many, file.paged))
 
 pub returns-in-Err-clause-damaged : goal.returns-in-Err-clause-damaged
 returns-in-Err-clause-damaged g c = λ name e.

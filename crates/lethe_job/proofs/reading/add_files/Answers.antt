@@ -17,7 +17,7 @@ loop-filed-preserved g c =
     file_added g.D.Disk.tells (map plain_file c.args.files.now) c.args.entries.now.items c.loop-filed.entries.items c.add_file.new.entries.items (plain_file c.filed-item.result) c.loop-filed.filed-index
     (g.D.Disk.fetches c.args.port.now) (g.D.Disk.fetches c.loop-filed.port) (g.D.Disk.fetches c.add_file.new.port)
     (g.D.Disk.port_faults c.args.port.now) (g.D.Disk.port_faults c.loop-filed.port) (g.D.Disk.port_faults c.add_file.new.port)
-    c.loop-filed.invariant at.0 at.1 c.in-Ok.ensures.given c.in-Ok.ensures.fetches c.add_file.ensures.cause.later c.in-Ok.ensures.spelled
+    c.loop-filed.invariant at.0 at.1 c.in-Ok.ensures.given c.in-Ok.ensures.fetches c.add_file.ensures.cause.later c.in-Ok.ensures.spelled c.in-Ok.ensures.counted
 
 pub returns-in-Err-clause-at_most : goal.returns-in-Err-clause-at_most
 returns-in-Err-clause-at_most g c =

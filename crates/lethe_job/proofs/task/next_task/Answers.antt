@@ -1,5 +1,6 @@
-use Rattle.lethe_job.specs.Tasks.{plain_task}
-use Rattle.lethe_job.proofs.Next.{begun, level_found, level_small, none_chosen, some_source, task_low}
+use Rattle.std.proofs.Common.{ap, map}
+use Rattle.lethe_job.specs.Tasks.{plain_file, plain_task}
+use Rattle.lethe_job.proofs.Next.{begun, level_found, level_small, none_chosen, some_source, task_low, task_some}
 use Rattle.lethe_job.proofs.task.next_task.Goals as goal
 
 pub returns-in_default-clause-none : goal.returns-in_default-clause-none
@@ -31,3 +32,8 @@ pub returns-clause-level : goal.returns-clause-level
 returns-clause-level g c =
     task_low c.args.files.items c.args.config.now c.args.erases.now c.args.count c.fields.result.now c.fields.ensures.fields c.fields.ensures.limits c.deref.result.now c.deref.ensures.value c.in_ok-shape.shape c.in_ok-shape.ensures.shape
     c.in-Some.plan c.in-Some.ensures c.deref-2.result.now c.deref-2.ensures.value c.in-Some-level_named.level c.in-Some-level_named.ensures c.deref-3.result.now (plain_task c.in_ok-task.task) c.in_ok-task.ensures
+
+pub returns-clause-some_of : goal.returns-clause-some_of
+returns-clause-some_of g c =
+    task_some c.in-Some-level_named.level c.in-Some.plan (map plain_file c.args.files.items) (map plain_file c.deref-3.result.now) c.args.config.now c.args.erases.now c.args.count (plain_task c.in_ok-task.task)
+    (ap (map plain_file) c.deref-3.ensures.value) c.in_ok-task.ensures

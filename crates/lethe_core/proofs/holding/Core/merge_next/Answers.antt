@@ -7,7 +7,7 @@ use Rattle.lethe_stored.specs.Stored.{Stored}
 use Rattle.lethe_job.specs.Tasks.{IsBegunIn, plain_task}
 use Rattle.lethe_core.specs.Asked.{failure_of}
 use Rattle.lethe_core.specs.Keeps.{Keeps}
-use Rattle.lethe_core.specs.Merges.{IsShortToMerge}
+use Rattle.lethe_core.specs.Merges.{IsShortToMerge, IsTaskOf}
 use Rattle.lethe_core.specs.Reasons.{HasReason, IsUnreadable}
 use Rattle.lethe_core.specs.Running.{Holds}
 use Rattle.lethe_core.specs.Steps.{IsUndone}
@@ -78,9 +78,12 @@ returns-in_err-headers-clause-why g c =
     let later = g.D.Disk.port_faults c.outcome.new.port in
     subst (λ result. IfErr result (λ why. HasReason Short view.state c.args.before view.faults why ⊎ IsUnreadable g.D.Disk.tells g.D.Disk.ports_fail earlier later why)) (sym refusal)
     (inl (short_reason Short view.state c.args.before view.faults c.requires.may.runs why c.in_err-headers.ensures.refused (λ is. record {
+      task = task;
+      of = subst (λ found. IfSome found (λ task. IsTaskOf view (plain_task task))) found c.in-Ok-Some.ensures.of;
       drafts = c.in-Ok.drafts.items;
+      bounded = c.in-Ok.ensures.bounded;
       short = let short = c.in_err-headers.ensures.exhausted (ap Err is) in omega (arith, short);
-      are = λ told s holds. (task, begins s holds, c.in-Ok.ensures.drafts told (begun_sound view task begins s holds));
+      are = λ told s holds. (begins s holds, c.in-Ok.ensures.drafts told (begun_sound view task begins s holds));
     })))
 
 pub merge_now-requires-clause-merges : goal.merge_now-requires-clause-merges
