@@ -96,7 +96,7 @@ IsRoomBegun flight s t = (t ≡ s) ⊎ ((HasRoom s → ⊥) × IsClearedInPart f
 abbrev pub pages_of : List Outcome → ℕ
 pages_of outcomes = sum_by (λ outcome. pages_in (inputs_in outcome.task)) outcomes
 
--- the inputs of a task are some of the files that the manifest cites, as readers have them
+-- the headers of a task's inputs count no more entries than those of all files that the manifest cites, as readers have them
 pub record IsTaskOf (view : View) (task : PlainTask) : Type 0 where
   pub files : List StoredFile
   pub cited : AllZip (IsCitedAs view.levels) view.state.manifest.files files

@@ -52,7 +52,7 @@ pub fn next_task<D: Disk>(
     ensures upto { IfOk result (λ found. IfSome found (λ task. task.upto ≡ count)) }
     ensures erases { IfOk result (λ found. IfSome found (λ task. task.erases ≡ erases.now)) }
     ensures config { IfOk result (λ found. IfSome found (λ task. task.config ≡ config.now)) }
-    // Its inputs are some of the files.
+    // Its inputs' headers count no more entries than those of all the files.
     ensures some_of { IfOk result (λ found. IfSome found (λ task. counted_in (inputs_in (plain_task task)) ≤ counted_in (map plain_file files.items))) }
 {
     let levels = config.fields().levels;

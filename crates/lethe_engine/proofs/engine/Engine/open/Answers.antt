@@ -35,7 +35,7 @@ returns-in-Ok-opened-clause-opened g c = λ tells.
     let is = c.in-Ok.ensures.opened tells in
     let remembers = c.in-Ok-opened.ensures.remembers is.s levels is.settled.coherent is.told.files (sym is.told.manifest) is.told.frozen is.told.active is.told.erases in
     let running = opened_running (g.D.Disk.seen c.open.new.disk) (g.D.Disk.faults c.open.new.disk) c.none.result.count is.s c.in-Ok-opened.state levels is.settled is.only is.rising is.told.active is.ends c.in-Ok-opened.ensures.end remembers.1 in
-    (is.s, record { remembers = remembers.0; running = running }, is.as)
+    (is.s, record { remembers = remembers.0; running = running }, is.opened_as)
 
 pub returns-in-Ok-opened-clause-numbers : goal.returns-in-Ok-opened-clause-numbers
 returns-in-Ok-opened-clause-numbers g c = λ told next is.
