@@ -1,5 +1,6 @@
 -- Changes: a put and a delete.
 use Rattle.std.proofs.Common.{◌≡◌, ◌⊎◌, inl, inr, ℕ, ◌+◌, List, Option, Some, None, Result, Ok, Err, IfErr, IfOk, OnOk, refl, ap, ◌∙◌, subst}
+use Rattle.std.specs.Prelude.{IfSome, IsSome}
 use Rattle.std.specs.Result.{result_err}
 use Rattle.lethe_base.specs.History.{History}
 use Rattle.lethe_base.specs.Limits.{max_place}
@@ -7,24 +8,32 @@ use Rattle.lethe_base.specs.declared.call.Call.{Call}
 use Rattle.lethe_base.specs.declared.config.Fields.{Fields}
 use Rattle.lethe_base.specs.declared.refused.Refused.{Refused}
 use Rattle.lethe_base.specs.declared.refused.Refused.TheVariants.{Exhausted, Stopped}
+use Rattle.lethe_cover.specs.Steps.{with_done}
 use Rattle.lethe_header.specs.declared.header.Header.{Header}
 use Rattle.lethe_segment.specs.declared.record.Record.{Record}
 use Rattle.lethe_stored.specs.Stored.{Stored, appended}
 use Rattle.lethe_state.specs.Records.{headers_in}
-use Rattle.lethe_core.specs.Asked.{Makes, behind, refused_to}
-use Rattle.lethe_core.specs.Merges.{IsRoomMadeBy, Outcome, pages_of}
+use Rattle.lethe_state.specs.Room.{HasRoom}
+use Rattle.lethe_core.specs.Asked.{Makes, behind, failure_of, refused_to}
+use Rattle.lethe_core.specs.Merges.{IsRoomBegun, IsRoomMadeBy, Outcome, pages_of}
 use Rattle.lethe_core.specs.Reasons.{HasReason, IsShort, IsShortOfRoom, IsUnreadable}
 use Rattle.lethe_core.specs.Running.{Holds}
-use Rattle.lethe_core.specs.View.{View}
-use Rattle.lethe_engine.specs.Refusals.{HasReasonOfChange}
+use Rattle.lethe_core.specs.View.{Flying, View}
+use Rattle.lethe_engine.specs.Answers.{IsRefused, IsStill}
+use Rattle.lethe_engine.specs.Refusals.{HasReasonOfChange, SeesRoom}
 use Rattle.lethe_engine.specs.StandsFor.{Opened, StandsFor}
-use Rattle.lethe_drive.specs.Answers.{IsChange, IsShortToMerge}
+use Rattle.lethe_drive.specs.Answers.{IsChange, IsFull, IsShortToMerge, IsUnchanged}
 use Rattle.lethe_drive.specs.Moments.{AreJobsSame, Going, IsKnown, Moment, moment_of}
-use Rattle.lethe_drive.proofs.Knowing.{known_held, known_of, not_stopped, ok_or_err, stopped_same}
+use Rattle.lethe_drive.proofs.Knowing.{known_held, not_stopped, ok_or_err, refused_known, room_in, stopped_same}
 use Rattle.lethe_drive.proofs.Reasons.{reason_on, unreadable_told}
 
+-- where there is room for a record none has to be made
+not_begun : (flight : Option Flying) (s t : Stored) → HasRoom s → IsRoomBegun flight s t → t ≡ s
+not_begun flight s t room (inl same) = same
+not_begun flight s t room (inr begun) = absurd (begun.0 room)
+
 module _ (Tells PortsFail : Type 0) (told : Tells) (call : Call) (IsNext : Stored → List Header → Record → Type 0) (config : Fields) (opened : Opened) (h : History) (old new : View) (s : Stored)
-    (known : IsKnown old s) (fetches_before fetches_now faults_before faults_now begun : ℕ) (there : Option Going) (stands : StandsFor config opened h old) (flight : new.flight ≡ old.flight) where
+    (known : IsKnown config h old s) (fetches_before fetches_now faults_before faults_now begun : ℕ) (there : Option Going) (stands : StandsFor config opened h old) (flight : new.flight ≡ old.flight) where
   abbrev before : Moment
   before = moment_of old s fetches_before faults_before begun there
 
@@ -44,31 +53,49 @@ module _ (Tells PortsFail : Type 0) (told : Tells) (call : Call) (IsNext : Store
   short_on t holds (inl short) = inl short
   short_on t holds (inr short) =
       let is = short.are told t holds in
-      inr (record { task = is.0; begun = is.1; drafts = short.drafts; are = is.2; short = short.short })
+      inr (record { task = short.task; begun = is.0; drafts = short.drafts; are = is.1; short = short.short })
 
   module _ (why : Refused) (stood : StandsFor config opened (refused_to h 0 call why) new) where
     -- what is refused for want of numbers is in no history, so nothing was stopped
-    held_still : (last : ℕ) → why ≡ Exhausted last → old.state.stopped ≡ None → Holds new stood.now.stored
-    held_still last full runs =
+    still_runs : (last : ℕ) → why ≡ Exhausted last → old.state.stopped ≡ None → new.state.stopped ≡ None
+    still_runs last full runs =
         let still = subst (λ (why : Refused). StandsFor config opened (refused_to h 0 call why) new) full stood in
-        (known_of config opened (refused_to h 0 call why) new stood).held (stopped_same config h old new stands.now still.now ∙ runs)
+        stopped_same config h old new stands.now still.now ∙ runs
 
-    change_reason : HasReasonOfChange Tells PortsFail old new faults_before faults_now why
-        → HasReason (IsShort old.state ⊎ IsShortToMerge (later stood.now.stored)) old.state old.faults new.faults why ⊎ ((old.state.stopped ≡ None) × IsUnreadable (Unit {0}) PortsFail faults_before faults_now why)
-    change_reason (inl is) = inl (reason_on (IsShortOfRoom Tells old.state new) (IsShort old.state ⊎ IsShortToMerge (later stood.now.stored)) old.state old.state old.faults new.faults refl refl why is
-        (λ last full runs. short_on stood.now.stored (held_still last full runs)))
-    change_reason (inr is) = inr (is.0, unreadable_told Tells PortsFail faults_before faults_now why told is.1)
+    change_reason : (t : Stored) → IsKnown config (refused_to h 0 call why) new t → HasReasonOfChange Tells PortsFail old new faults_before faults_now why
+        → HasReason (IsFull before × (IsShort old.state ⊎ IsShortToMerge (later t))) old.state old.faults new.faults why
+        ⊎ (IsFull before × (old.state.stopped ≡ None) × IsUnreadable (Unit {0}) PortsFail faults_before faults_now why)
+    change_reason t is (inl reason) = inl (reason_on ((SeesRoom old.state → ⊥) × IsShortOfRoom Tells old.state new) (IsFull before × (IsShort old.state ⊎ IsShortToMerge (later t)))
+        old.state old.state old.faults new.faults refl refl why reason (λ last full runs short. (short.0, short_on t (is.held (still_runs last full runs)) short.1)))
+    change_reason t is (inr reason) = inr (reason.0, reason.1, unreadable_told Tells PortsFail faults_before faults_now why told reason.2)
+
+    not_changed : IsRefused Tells (Makes call) old new why → (t : Stored) → IsKnown config (refused_to h 0 call why) new t → (failure_of why ≡ None → IsRoomBegun old.flight s t)
+        → HasReasonOfChange Tells PortsFail old new faults_before faults_now why → IsUnchanged PortsFail call h before why (refused_to h 0 call why) (later t)
+    not_changed refused t is comes reason = record {
+      history = refl;
+      reason = change_reason t is reason;
+      untouched = λ room none.
+          let undone = refused.0 room none in
+          record {
+            stored = not_begun old.flight s t (room_in s old.state old.levels known.remembers room) (comes none);
+            state = undone.state;
+            levels = undone.levels;
+            directory = (undone.disk told).directory;
+          };
+      begun = comes;
+    }
 
   abbrev pub Changed : Result ℕ Refused → Type 0
-  Changed result = (t : Stored) × IsKnown new t × IsChange PortsFail call IsNext h before result (behind h 0 (Makes call) (result_err result)) (later t)
+  Changed result = (t : Stored) × IsKnown config (behind h 0 (Makes call) (result_err result)) new t × IsChange PortsFail call IsNext h before result (behind h 0 (Makes call) (result_err result)) (later t)
 
-  pub changed : (result : Result ℕ Refused) → StandsFor config opened (behind h 0 (Makes call) (result_err result)) new → IfOk result (λ place. place ≡ old.state.count + 1)
+  pub changed : (result : Result ℕ Refused) → StandsFor config opened (behind h 0 (Makes call) (result_err result)) new → (IsSome old.state.stopped → IsStill Tells old new)
+      → IfSome (result_err result) (IsRefused Tells (Makes call) old new) → IfOk result (λ place. place ≡ old.state.count + 1)
       → IfErr result (HasReasonOfChange Tells PortsFail old new faults_before faults_now) → (Holds old s → OnOk result Written) → ((at : ℕ) → old.state.stopped ≡ Some at → result ≡ Err (Stopped at))
       → (old.state.stopped ≡ None → old.state.count ≡ max_place → result ≡ Err (Exhausted max_place)) → Changed result
-  changed (Ok place) stood next why written stops last =
+  changed (Ok place) stood still refused next why written stops last =
       let made = written (known.held (not_stopped old.state.stopped (λ at e. ok_or_err place (Stopped at) (stops at e)))) in (
         appended made.0 made.2,
-        known_held new (appended made.0 made.2) made.5,
+        known_held config opened (with_done h 0 call) new stood (appended made.0 made.2) made.5,
         record {
           answers = record {
             place_is = next ∙ ap (λ n. n + 1) stands.now.count;
@@ -86,8 +113,9 @@ module _ (Tells PortsFail : Type 0) (told : Tells) (call : Call) (IsNext : Store
           jobs = same_jobs (appended made.0 made.2);
         },
       )
-  changed (Err why) stood next is written stops last = (
-    stood.now.stored,
-    known_of config opened (refused_to h 0 call why) new stood,
-    record { answers = record { history = refl; reason = change_reason why stood is }; stops = stops; last = last; jobs = same_jobs stood.now.stored },
-  )
+  changed (Err why) stood still refused next reason written stops last =
+      let comes = refused_known Tells config opened h old new s known call why stood still (IsRoomBegun old.flight s) (inl refl) (λ none holds. refused.1 none told s holds) in (
+        comes.0,
+        comes.1,
+        record { answers = not_changed why stood refused comes.0 comes.1 comes.2 reason; stops = stops; last = last; jobs = same_jobs comes.0 },
+      )

@@ -1,10 +1,11 @@
 -- Freezes and flushes, and the begin of a job.
 use Rattle.std.proofs.Common.{◌≡◌, ◌↔◌, ◌⊎◌, inl, inr, ℕ, ◌+◌, Bool, true, false, List, Option, Some, None, Result, Ok, Err, refl, sym, ap, ◌∙◌, subst}
-use Rattle.std.specs.Prelude.{IfErr, IsSome, option_map}
+use Rattle.std.specs.Prelude.{IfErr, IfSome, IsSome, option_map}
 use Rattle.std.proofs.lemmas.Option.{none-some}
 use Rattle.std.proofs.lemmas.List.{nil_from_length}
 use Rattle.std.specs.Result.{result_err}
 use Rattle.lethe_base.specs.History.{History}
+use Rattle.lethe_base.specs.Limits.{max_place}
 use Rattle.lethe_base.specs.declared.call.Call.TheVariants.{Work}
 use Rattle.lethe_base.specs.declared.config.Fields.{Fields}
 use Rattle.lethe_base.specs.declared.refused.Refused.{Refused}
@@ -17,80 +18,110 @@ use Rattle.lethe_state.specs.Remembered.{Remembers}
 use Rattle.lethe_state.specs.declared.state.State.{State}
 use Rattle.lethe_job.specs.Tasks.{IsBegunIn, plain_task}
 use Rattle.lethe_job.specs.declared.job.Job.{Job}
-use Rattle.lethe_core.specs.Asked.{Serves, behind}
+use Rattle.lethe_core.specs.Asked.{Serves, behind, failure_of, refused_to}
 use Rattle.lethe_core.specs.Jobs.{IsAtWork}
 use Rattle.lethe_core.specs.Merges.{HasNoMerge}
 use Rattle.lethe_core.specs.Reasons.{HasReason}
 use Rattle.lethe_core.specs.Running.{Holds}
-use Rattle.lethe_core.specs.View.{View}
+use Rattle.lethe_core.specs.Steps.{IsUndone}
+use Rattle.lethe_core.specs.View.{Face, View, face_of}
+use Rattle.lethe_core.proofs.Likes.{before_holds}
 use Rattle.lethe_core.proofs.Standing.{idle_back, running_back}
+use Rattle.lethe_engine.specs.Answers.{IsRefused, IsStill}
 use Rattle.lethe_engine.specs.Refusals.{HasReasonOfBegin}
 use Rattle.lethe_engine.specs.StandsFor.{Opened, StandsFor}
 use Rattle.lethe_drive.specs.Answers.{IsBegin, IsUnbegun, IsWork}
-use Rattle.lethe_drive.specs.Moments.{Going, IsAllButPort, IsKnown, going_of, moment_of}
-use Rattle.lethe_drive.proofs.Knowing.{known_held, known_of, not_stopped, ok_or_err}
+use Rattle.lethe_drive.specs.Moments.{Going, IsAllButPort, IsKnown, IsUntouched, going_of, moment_of}
+use Rattle.lethe_drive.proofs.Knowing.{known_held, not_stopped, ok_or_err, refused_known}
 
 -- Freezes and flushes
 
 flags : ◌≡◌ {A = Result Bool Refused} (Ok true) (Ok false) → ⊥
 flags both = cc
 
-module _ (config : Fields) (opened : Opened) (h : History) (old new : View) (s : Stored) (known : IsKnown old s) (fetches faults begun : ℕ) (there : Option Going)
-    (Nothing : State → Type 0) (Does : Stored → Stored → Type 0) (Short : Type 0) (flight : new.flight ≡ old.flight) where
+-- Work that was refused: what is stored is as it was, unless the disk failed.
+module _ (Tells : Type 0) (told : Tells) (config : Fields) (opened : Opened) (h : History) (old new : View) (s : Stored) (known : IsKnown config h old s) (why : Refused)
+    (undone : IsUndone Tells old new why) where
+  pub work_refused : StandsFor config opened (refused_to h 0 Work why) new → (IsSome old.state.stopped → IsStill Tells old new) → face_of new ≡ face_of old
+      → (t : Stored) × IsKnown config (refused_to h 0 Work why) new t × (failure_of why ≡ None → t ≡ s)
+  work_refused stood still face =
+      refused_known Tells config opened h old new s known Work why stood still (λ (t : Stored). t ≡ s) refl (λ none holds. (s, refl, before_holds Tells told old new s face (undone none) holds))
+
+  -- and all else
+  pub work_untouched : (t : Stored) → (failure_of why ≡ None → t ≡ s) → (fetches_before fetches_now faults_before faults_now begun_before begun_now : ℕ) (there then : Option Going) → failure_of why ≡ None
+      → IsUntouched (moment_of old s fetches_before faults_before begun_before there) (moment_of new t fetches_now faults_now begun_now then)
+  work_untouched t same fetches_before fetches_now faults_before faults_now begun_before begun_now there then none =
+      let is = undone none in
+      record { stored = same none; state = is.state; levels = is.levels; directory = (is.disk told).directory }
+
+module _ (Tells : Type 0) (told : Tells) (config : Fields) (opened : Opened) (h : History) (old new : View) (s : Stored) (known : IsKnown config h old s) (fetches faults begun : ℕ) (there : Option Going)
+    (Nothing : State → Type 0) (Does : Stored → Stored → Type 0) (Short : Type 0) (face : face_of new ≡ face_of old) where
   same_moment : new ≡ old → IsAllButPort (moment_of old s fetches faults begun there) (moment_of new s fetches faults begun there)
   same_moment same = subst (λ (view : View). IsAllButPort (moment_of old s fetches faults begun there) (moment_of view s fetches faults begun there)) (sym same)
       (record { stored = refl; state = refl; levels = refl; flight = refl; directory = refl; calls = refl; faults = refl; begun = refl; there = refl })
 
+  flight : new.flight ≡ old.flight
+  flight = ap (λ (face : Face). face.flight) face
+
   abbrev pub Worked : Result Bool Refused → Type 0
-  Worked result = (t : Stored) × IsKnown new t
+  Worked result = (t : Stored) × IsKnown config (behind h 0 (Serves Work) (result_err result)) new t
       × IsWork (λ m. Nothing m.state) Does Short h (moment_of old s fetches faults begun there) result (behind h 0 (Serves Work) (result_err result)) (moment_of new t fetches faults begun there)
 
-  pub worked : (result : Result Bool Refused) → StandsFor config opened (behind h 0 (Serves Work) (result_err result)) new → ((result ≡ Ok false) ↔ Nothing old.state) → (result ≡ Ok false → new ≡ old)
+  pub worked : (result : Result Bool Refused) → StandsFor config opened (behind h 0 (Serves Work) (result_err result)) new → (IsSome old.state.stopped → IsStill Tells old new)
+      → IfSome (result_err result) (IsRefused Tells (Serves Work) old new) → ((result ≡ Ok false) ↔ Nothing old.state) → (result ≡ Ok false → new ≡ old)
       → (Holds old s → result ≡ Ok true → (t : Stored) × Does s t × Holds new t) → IfErr result (HasReason Short old.state old.faults new.faults)
-      → ((at : ℕ) → old.state.stopped ≡ Some at → result ≡ Err (Stopped at)) → Worked result
-  worked (Ok true) stood idle same done why stopped =
+      → ((at : ℕ) → old.state.stopped ≡ Some at → result ≡ Err (Stopped at))
+      → (old.state.stopped ≡ None → (Nothing old.state → ⊥) → old.state.count ≡ max_place → result ≡ Err (Exhausted max_place)) → Worked result
+  worked (Ok true) stood still refused idle same done why stopped last =
       let made = done (known.held (not_stopped old.state.stopped (λ at e. ok_or_err true (Stopped at) (stopped at e)))) refl in (
         made.0,
-        known_held new made.0 made.2,
+        known_held config opened h new stood made.0 made.2,
         record {
           history = refl;
           idle = idle;
           same = λ e. absurd (flags e);
           done = λ e. made.1;
           why = tt;
+          untouched = tt;
           stops = stopped;
+          last = last;
           jobs = record { flight = flight; begun = refl; there = refl };
           port = record { fetches = refl; port_faults = refl };
         },
       )
-  worked (Ok false) stood idle same done why stopped = (
+  worked (Ok false) stood still refused idle same done why stopped last = (
     s,
-    subst (λ (view : View). IsKnown view s) (sym (same refl)) known,
+    subst (λ (view : View). IsKnown config h view s) (sym (same refl)) known,
     record {
       history = refl;
       idle = idle;
       same = λ e. same_moment (same refl);
       done = λ e. absurd (flags (sym e));
       why = tt;
+      untouched = tt;
       stops = stopped;
+      last = last;
       jobs = record { flight = flight; begun = refl; there = refl };
       port = record { fetches = refl; port_faults = refl };
     },
   )
-  worked (Err why) stood idle same done is stopped = (
-    stood.now.stored,
-    known_of config opened (behind h 0 (Serves Work) (Some why)) new stood,
-    record {
-      history = refl;
-      idle = idle;
-      same = λ e. absurd (ok_or_err false why (sym e));
-      done = λ e. absurd (ok_or_err true why (sym e));
-      why = is;
-      stops = stopped;
-      jobs = record { flight = flight; begun = refl; there = refl };
-      port = record { fetches = refl; port_faults = refl };
-    },
-  )
+  worked (Err why) stood still refused idle same done reason stopped last =
+      let is = work_refused Tells told config opened h old new s known why refused stood still face in (
+        is.0,
+        is.1,
+        record {
+          history = refl;
+          idle = idle;
+          same = λ e. absurd (ok_or_err false why (sym e));
+          done = λ e. absurd (ok_or_err true why (sym e));
+          why = reason;
+          untouched = work_untouched Tells told config opened h old new s known why refused is.0 is.2 fetches fetches faults faults begun begun there there;
+          stops = stopped;
+          last = last;
+          jobs = record { flight = flight; begun = refl; there = refl };
+          port = record { fetches = refl; port_faults = refl };
+        },
+      )
 
 -- The begin of a job
 
@@ -99,10 +130,13 @@ some_mapped f None is = is
 some_mapped f (Some x) is = refl
 
 -- no device call was made, and the store is as it was
-pub known_idle : (old new : View) (s : Stored) → IsIdle old.disk new.disk → new.state ≡ old.state → new.levels ≡ old.levels → new.flight ≡ old.flight → new.begun ≡ old.begun → IsKnown old s → IsKnown new s
-known_idle old new s idle state levels flight begun known =
+pub known_idle : (config : Fields) (h : History) (old new : View) (s : Stored) → IsIdle old.disk new.disk → new.state ≡ old.state → new.levels ≡ old.levels → new.flight ≡ old.flight → new.begun ≡ old.begun
+    → IsKnown config h old s → IsKnown config h new s
+known_idle config h old new s idle state levels flight begun known =
     let remembers = subst (λ (state : State). Remembers s state new.levels) (sym state) (subst (λ (levels : List (List Parts)). Remembers s old.state levels) (sym levels) known.remembers) in
     record {
+      config_is = known.config_is;
+      stands = known.stands;
       remembers = remembers;
       held = λ runs. record {
         remembers = remembers;
@@ -110,7 +144,7 @@ known_idle old new s idle state levels flight begun known =
       };
     }
 
-module _ (h : History) (old new : View) (s : Stored) (fetches faults begun : ℕ) (there : Option Going) (state : new.state ≡ old.state) (idle : IsIdle old.disk new.disk) where
+module _ (config : Fields) (h : History) (old new : View) (s : Stored) (fetches faults begun : ℕ) (there : Option Going) (state : new.state ≡ old.state) (levels : new.levels ≡ old.levels) (idle : IsIdle old.disk new.disk) where
   -- it was begun
   pub has_begun : {D Page Port : Type 0} {kind : Ghosts D Page Port} (Tells : Type 0) (job : Job D Page Port kind) → old.state.stopped ≡ None → (IsSome old.flight → ⊥) → IsBegunIn s (plain_task job.task.value)
       → IsAtWork Tells new job → job.drafts ≡ None → kind.port_faults job.port ≡ 0
@@ -125,18 +159,20 @@ module _ (h : History) (old new : View) (s : Stored) (fetches faults begun : ℕ
           begun = is;
           own = works.flies.flying.number;
           flight = works.flies.is ∙ (λ i. Some (record { number = works.flies.flying.number; task = (sym works.flies.task) i; written = written i }));
-          there = λ i. Some (record { number = begun; refused = works.asked i; task = plain_task job.task.value; port_faults = unread i });
+          there = λ i. Some (record { number = begun; refused = works.asked i; task = plain_task job.task.value; written = works.job_is.unmade unmade i; port_faults = unread i });
           count = refl;
         };
         stops = λ at e. absurd (none-some at (sym runs ∙ e));
         busy = λ runs busy. absurd (free busy);
         stored = refl;
         state = state;
+        levels = levels;
+        directory = idle.directory;
         calls = idle.moment;
         port = record { fetches = refl; port_faults = refl };
       }
 
-  unbegun : (Tells : Type 0) → Tells → IsKnown old s → (why : Refused) → HasReasonOfBegin Tells old why → IsUnbegun (moment_of old s fetches faults begun there) why
+  unbegun : (Tells : Type 0) → Tells → IsKnown config h old s → (why : Refused) → HasReasonOfBegin Tells old why → IsUnbegun (moment_of old s fetches faults begun there) why
   unbegun Tells told known (Stopped at) is = is
   unbegun Tells told known NothingDue is = (is.0, none_due is.1)
     where
@@ -153,7 +189,7 @@ module _ (h : History) (old new : View) (s : Stored) (fetches faults begun : ℕ
   unbegun Tells told known (Damaged name) is = is
 
   -- it was refused
-  pub has_not_begun : (Tells : Type 0) → Tells → IsKnown old s → (why : Refused) → HasReasonOfBegin Tells old why → new.flight ≡ old.flight
+  pub has_not_begun : (Tells : Type 0) → Tells → IsKnown config h old s → (why : Refused) → HasReasonOfBegin Tells old why → new.flight ≡ old.flight
       → ((at : ℕ) → old.state.stopped ≡ Some at → ◌≡◌ {A = Result ℕ Refused} (Err why) (Err (Stopped at))) → (old.state.stopped ≡ None → IsSome old.flight → ◌≡◌ {A = Result ℕ Refused} (Err why) (Err NothingDue))
       → IsBegin h (moment_of old s fetches faults begun there) (Err why) h (moment_of new s fetches faults begun there)
   has_not_begun Tells told known why is flight stops busy = record {
@@ -163,6 +199,8 @@ module _ (h : History) (old new : View) (s : Stored) (fetches faults begun : ℕ
     busy = busy;
     stored = refl;
     state = state;
+    levels = levels;
+    directory = idle.directory;
     calls = idle.moment;
     port = record { fetches = refl; port_faults = refl };
   }

@@ -1,7 +1,8 @@
 -- The job of a run that hasn't ended, and giving it up.
-use Rattle.std.proofs.Common.{◌≡◌, ◌<◌, ℕ, Bool, true, false, Option, Some, None, Result, Ok, Err, refl, sym, ap, ◌∙◌, subst}
-use Rattle.std.specs.Prelude.{IfErr, IfSome, OnErr, OnOk}
+use Rattle.std.proofs.Common.{◌≡◌, ◌<◌, ℕ, Bool, true, false, length, Option, Some, None, Result, Ok, Err, refl, sym, ap, ◌∙◌, subst}
+use Rattle.std.specs.Prelude.{IfErr, IfSome, IsOk, IsSome, OnErr, OnOk, option_map}
 use Rattle.std.specs.Result.{result_err}
+use Rattle.std.proofs.lemmas.Option.{none-some, same_Some}
 use Rattle.lethe_base.specs.History.{History}
 use Rattle.lethe_base.specs.Limits.{max_place}
 use Rattle.lethe_base.specs.declared.call.Call.TheVariants.{Work}
@@ -10,21 +11,26 @@ use Rattle.lethe_base.specs.declared.refused.Refused.{Refused}
 use Rattle.lethe_base.specs.declared.refused.Refused.TheVariants.{Fault, Stopped, Backwards, Pinned, NothingDue, Cancelled, Exhausted, ReadFault, NoMemory, Damaged}
 use Rattle.lethe_disk.specs.declared.disk.Disk.{Ghosts}
 use Rattle.lethe_stored.specs.Stored.{Stored}
+use Rattle.lethe_state.specs.declared.state.State.{State}
 use Rattle.lethe_job.specs.Tasks.{AreSound, IsBegunIn, PlainTask, inputs_in, plain_task}
 use Rattle.lethe_job.specs.declared.job.Job.{Job}
-use Rattle.lethe_core.specs.Asked.{Serves, behind}
+use Rattle.lethe_core.specs.Asked.{Serves, behind, failure_of}
 use Rattle.lethe_core.specs.Jobs.{IsAtWork, IsInFlight}
 use Rattle.lethe_core.specs.Reasons.{HasReason}
 use Rattle.lethe_core.specs.Running.{Holds, IsSound}
-use Rattle.lethe_core.specs.View.{View}
+use Rattle.lethe_core.specs.View.{Flying, View}
+use Rattle.lethe_core.proofs.Asked.{not_none}
+use Rattle.lethe_core.proofs.Hindered.{like_of}
 use Rattle.lethe_core.proofs.Installing.{begun_sound}
+use Rattle.lethe_engine.specs.Answers.{IsRefused, IsStill}
 use Rattle.lethe_engine.specs.StandsFor.{Opened, StandsFor}
 use Rattle.lethe_drive.specs.Answers.{IsCancel, IsKeptUp}
 use Rattle.lethe_drive.specs.Driving.{IsTheirs}
-use Rattle.lethe_drive.specs.Moments.{Going, IsKnown, moment_of}
+use Rattle.lethe_drive.specs.Moments.{Going, IsGoing, IsKnown, IsUntouched, going_of, moment_of, there_of}
 use Rattle.lethe_drive.specs.declared.jobs.Jobs.{Jobs}
 use Rattle.lethe_drive.specs.declared.jobs.Numbered.{Numbered}
-use Rattle.lethe_drive.proofs.Knowing.{known_held, known_of, not_stopped, ok_or_err}
+use Rattle.lethe_drive.proofs.Knowing.{known_held, not_stopped, ok_or_err, refused_known}
+use Rattle.lethe_drive.proofs.Freezing.{work_untouched}
 use Rattle.lethe_drive.proofs.Writing.{nothing_in}
 
 -- What is known of the job
@@ -88,9 +94,45 @@ theirs_on {D} {Page} {Port} {kind} Tells old new jobs same is = record {
         let works = is asked in
         record { flies = flies_on (Some numbered) works.flies; asked = works.asked; job_is = works.job_is; count = works.count; pages = works.pages }
 
+-- how it is told
+pub going_there : {D Page Port : Type 0} {kind : Ghosts D Page Port} (Tells : Type 0) (view : View) (jobs : Jobs D Page Port kind) → IsTheirs Tells view jobs → IfSome (there_of jobs) (IsGoing view.flight)
+going_there {D} {Page} {Port} {kind} Tells view jobs is = by jobs.there is.flies is.works
+  where
+    by : (there : Option (Numbered D Page Port kind)) → IfSome there (λ numbered. IsInFlight view numbered.job) → IfSome there (λ numbered. numbered.job.refused ≡ false → IsAtWork Tells view numbered.job)
+        → IfSome (option_map (λ (numbered : Numbered D Page Port kind). going_of numbered.number numbered.job) there) (IsGoing view.flight)
+    by None flies works = tt
+    by (Some numbered) flies works = record {
+      flying = flies.flying;
+      flies = flies.is;
+      task = sym flies.task;
+      pages = λ asked.
+          let at_work = works asked in
+          let same : flies.flying ≡ at_work.flies.flying = same_Some flies.flying at_work.flies.flying (sym flies.is ∙ at_work.flies.is) in
+          ap (λ (flying : Flying). length flying.written) same ∙ at_work.count;
+    }
+
 -- Giving it up
 
-module _ (config : Fields) (opened : Opened) (h : History) (old new : View) (s : Stored) (known : IsKnown old s) (fetches faults begun : ℕ) (there gone : Option Going) (none : gone ≡ None) where
+-- it was acknowledged
+pub given : (result : Result (Unit {0}) Refused) → IsOk result → result ≡ Ok tt
+given (Ok done) is = refl
+given (Err why) is = absurd (nothing_in is)
+
+-- on a store that runs giving up is refused only where the disk fails
+must_fail : (state : State) (before now : ℕ) (why : Refused) → HasReason ⊥ state before now why → (why ≡ NoMemory → ⊥) → ((last : ℕ) → why ≡ Exhausted last → ⊥) → state.stopped ≡ None → failure_of why ≡ None → ⊥
+must_fail state before now (Fault place b a) is memory numbers runs none = not_none (record { place = place; before = b; after = a }) none
+must_fail state before now (Stopped at) is memory numbers runs none = none-some at (sym runs ∙ is)
+must_fail state before now NoMemory is memory numbers runs none = memory refl
+must_fail state before now (Exhausted last) is memory numbers runs none = numbers last refl
+must_fail state before now (Backwards clock) is memory numbers runs none = is
+must_fail state before now (Pinned pin limit) is memory numbers runs none = is
+must_fail state before now NothingDue is memory numbers runs none = is
+must_fail state before now (Cancelled first other) is memory numbers runs none = is
+must_fail state before now (ReadFault b a) is memory numbers runs none = is
+must_fail state before now (Damaged name) is memory numbers runs none = is
+
+module _ (Tells : Type 0) (told : Tells) (config : Fields) (opened : Opened) (h : History) (old new : View) (s : Stored) (known : IsKnown config h old s) (fetches faults begun : ℕ) (there gone : Option Going)
+    (none : gone ≡ None) where
   kept_up : (t : Stored) (why : Refused) → HasReason ⊥ old.state old.faults new.faults why → (why ≡ NoMemory → ⊥) → ((last : ℕ) → why ≡ Exhausted last → ⊥)
       → IsKeptUp (moment_of old s fetches faults begun there) (moment_of new t fetches faults begun gone) why
   kept_up t (Fault place before after) is memory numbers = is
@@ -104,17 +146,26 @@ module _ (config : Fields) (opened : Opened) (h : History) (old new : View) (s :
   kept_up t (ReadFault before after) is memory numbers = is
   kept_up t (Damaged name) is memory numbers = is
 
+  same_untouched : new ≡ old → IsUntouched (moment_of old s fetches faults begun there) (moment_of new s fetches faults begun gone)
+  same_untouched same = record {
+    stored = refl;
+    state = like_of old.state new.state (ap (λ (view : View). view.state) same);
+    levels = ap (λ (view : View). view.levels) same;
+    directory = ap (λ (view : View). view.disk.directory) same;
+  }
+
   abbrev pub GivenUp : Result (Unit {0}) Refused → Type 0
-  GivenUp result = (t : Stored) × IsKnown new t × StandsFor config opened (behind h 0 (Serves Work) (result_err result)) new
+  GivenUp result = (t : Stored) × IsKnown config (behind h 0 (Serves Work) (result_err result)) new t × StandsFor config opened (behind h 0 (Serves Work) (result_err result)) new
       × IsCancel h (moment_of old s fetches faults begun there) result (behind h 0 (Serves Work) (result_err result)) (moment_of new t fetches faults begun gone)
 
-  pub given_up : (result : Result (Unit {0}) Refused) → StandsFor config opened (behind h 0 (Serves Work) (result_err result)) new → (Holds old s → OnOk result (Holds new s))
-      → ((old.state.stopped ≡ None → old.state.count < max_place) → new.flight ≡ None) → IfErr result (HasReason ⊥ old.state old.faults new.faults) → (result ≡ Err NoMemory → ⊥)
-      → ((last : ℕ) → result ≡ Err (Exhausted last) → ⊥) → ((at : ℕ) → old.state.stopped ≡ Some at → result ≡ Err (Stopped at)) → GivenUp result
-  given_up (Ok done) stood held free why memory numbers stopped =
+  pub given_up : (result : Result (Unit {0}) Refused) → StandsFor config opened (behind h 0 (Serves Work) (result_err result)) new → (IsSome old.state.stopped → IsStill Tells old new)
+      → IfSome (result_err result) (IsRefused Tells (Serves Work) old new) → (Holds old s → OnOk result (Holds new s)) → ((old.state.stopped ≡ None → old.state.count < max_place) → new.flight ≡ None)
+      → IfErr result (HasReason ⊥ old.state old.faults new.faults) → (result ≡ Err NoMemory → ⊥) → ((last : ℕ) → result ≡ Err (Exhausted last) → ⊥)
+      → ((at : ℕ) → old.state.stopped ≡ Some at → result ≡ Err (Stopped at)) → (old.state.stopped ≡ None → old.state.count ≡ max_place → (result ≡ Ok tt) × (new ≡ old)) → GivenUp result
+  given_up (Ok done) stood still refused held free why memory numbers stopped last =
       let holds = held (known.held (not_stopped old.state.stopped (λ at e. ok_or_err done (Stopped at) (stopped at e)))) in (
         s,
-        known_held new s holds,
+        known_held config opened h new stood s holds,
         stood,
         record {
           history = refl;
@@ -122,23 +173,31 @@ module _ (config : Fields) (opened : Opened) (h : History) (old new : View) (s :
           stops = stopped;
           there = none;
           free = free;
+          last = λ runs full. let is = last runs full in (is.0, same_untouched is.1, ap (λ (view : View). view.flight) is.1);
           stored = λ done e. refl;
+          untouched = tt;
           begun = refl;
           port = record { fetches = refl; port_faults = refl };
         },
       )
-  given_up (Err why) stood held free is memory numbers stopped = (
-    stood.now.stored,
-    known_of config opened (behind h 0 (Serves Work) (Some why)) new stood,
-    stood,
-    record {
-      history = refl;
-      why = kept_up stood.now.stored why is (λ e. memory (λ i. Err (e i))) (λ last e. numbers last (λ i. Err (e i)));
-      stops = stopped;
-      there = none;
-      free = free;
-      stored = λ done e. absurd (ok_or_err done why (sym e));
-      begun = refl;
-      port = record { fetches = refl; port_faults = refl };
-    },
-  )
+  given_up (Err why) stood still refused held free reason memory numbers stopped last =
+      let no_memory : why ≡ NoMemory → ⊥ = λ e. memory (λ i. Err (e i)) in
+      let enough : (last : ℕ) → why ≡ Exhausted last → ⊥ = λ last e. numbers last (λ i. Err (e i)) in
+      let is = refused_known Tells config opened h old new s known Work why stood still (λ (t : Stored). t ≡ s) refl
+      (λ fine holds. absurd (must_fail old.state old.faults new.faults why reason no_memory enough holds.running.current.runs fine)) in (
+        is.0,
+        is.1,
+        stood,
+        record {
+          history = refl;
+          why = kept_up is.0 why reason no_memory enough;
+          stops = stopped;
+          there = none;
+          free = free;
+          last = λ runs full. absurd (ok_or_err tt why (sym (last runs full).0));
+          stored = λ done e. absurd (ok_or_err done why (sym e));
+          untouched = work_untouched Tells told config opened h old new s known why refused is.0 is.2 fetches fetches faults faults begun begun there gone;
+          begun = refl;
+          port = record { fetches = refl; port_faults = refl };
+        },
+      )

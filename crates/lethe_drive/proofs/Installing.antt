@@ -1,6 +1,6 @@
 -- Writing on and installing a job.
 use Rattle.std.proofs.Common.{◌≡◌, ◌≤◌, ◌⊎◌, inl, inr, ℕ, ◌+◌, ◌-◌, true, false, length, Option, Some, None, Result, Ok, Err, Vec, refl, sym, ap, ◌∙◌, subst, arith}
-use Rattle.std.specs.Prelude.{IfSome, sum_by}
+use Rattle.std.specs.Prelude.{IfSome, IsSome, sum_by}
 use Rattle.std.specs.declared.alloc.Global.{Global}
 use Rattle.lethe_base.specs.History.{History}
 use Rattle.lethe_base.specs.Limits.{max_place}
@@ -14,16 +14,18 @@ use Rattle.lethe_flush.specs.Made.{pages_in}
 use Rattle.lethe_stored.specs.Stored.{Stored}
 use Rattle.lethe_job.specs.Tasks.{AreSound, PlainTask, inputs_in, plain_task}
 use Rattle.lethe_job.specs.declared.job.Job.{Job}
-use Rattle.lethe_core.specs.Asked.{refused_to}
+use Rattle.lethe_core.specs.Asked.{failure_of, refused_to}
 use Rattle.lethe_core.specs.Jobs.{IsAtWork, IsInFlight, IsWhole}
 use Rattle.lethe_core.specs.Merges.{IsInstalled}
 use Rattle.lethe_core.specs.Reasons.{HasReason, IsUnreadable}
 use Rattle.lethe_core.specs.Running.{Holds}
-use Rattle.lethe_core.specs.View.{View}
+use Rattle.lethe_core.specs.Steps.{IsUndone}
+use Rattle.lethe_core.specs.View.{Face, View, face_of}
+use Rattle.lethe_engine.specs.Answers.{IsStill}
 use Rattle.lethe_engine.specs.Jobs as engine
 use Rattle.lethe_engine.specs.StandsFor.{Opened, StandsFor}
 use Rattle.lethe_drive.specs.Answers.{IsInstall, IsJobRefusal, IsShortToInstall}
-use Rattle.lethe_drive.specs.Driving.{IsTheirs, IsWritingOn}
+use Rattle.lethe_drive.specs.Driving.{IsTheirs, IsWritingOn, IsWrittenOn}
 use Rattle.lethe_drive.specs.Moments.{Going, IsKnown, Moment, going_of, moment_of, there_of}
 use Rattle.lethe_drive.specs.Replies.{united}
 use Rattle.lethe_drive.specs.Steps.{IsAsked, IsNoSuch, IsStep}
@@ -32,6 +34,7 @@ use Rattle.lethe_drive.specs.declared.event.Reply.{Reply}
 use Rattle.lethe_drive.specs.declared.event.Reply.TheVariants.{NoSuch}
 use Rattle.lethe_drive.specs.declared.jobs.Jobs.{Jobs}
 use Rattle.lethe_drive.specs.declared.jobs.Numbered.{Numbered}
+use Rattle.lethe_drive.proofs.Freezing.{work_refused}
 use Rattle.lethe_drive.proofs.Knowing.{count_same, known_held, not_stopped, stopped_same}
 use Rattle.lethe_drive.proofs.Naming.{no_such, there_is}
 use Rattle.lethe_drive.proofs.Reasons.{reason_on}
@@ -62,11 +65,19 @@ module _ {D Page Port : Type 0} {kind : Ghosts D Page Port} where
     abbrev Cause : View → Stored → Job D Page Port kind → Refused → Type 0
     Cause new t back why = IsJobRefusal PortsFail (IsShortToInstall (going_of number job) (behind new t back)) before (going_of number job) (kind.port_faults back.port) (behind new t back) why
 
-    not_installed : (new : View) (t : Stored) (back : Job D Page Port kind) (why : Refused) → back.task.value ≡ job.task.value → back.refused ≡ true → Cause new t back why
-        → IsInstall PortsFail (going_of number job) h before (Err why) (refused_to h 0 Work why) (behind new t back)
-    not_installed new t back why task refused cause = record {
+    not_installed : (new : View) (t : Stored) (back : Job D Page Port kind) (why : Refused) → back.task.value ≡ job.task.value → back.refused ≡ true → Cause new t back why → IsWrittenOn old.flight new.flight
+        → (failure_of why ≡ None → t ≡ s) → IsInstall PortsFail (going_of number job) h before (Err why) (refused_to h 0 Work why) (behind new t back)
+    not_installed new t back why task refused cause written kept = record {
       history = refl;
-      answers = (record { port_faults = kind.port_faults back.port; there = spoilt Tells PortsFail job back task number refused }, cause);
+      answers = record {
+        spoilt = record { written = back.written; port_faults = kind.port_faults back.port; there = spoilt Tells PortsFail job back task number refused };
+        reason = cause;
+        flying = written.flying;
+        flies = written.flies;
+        pages = written.pages;
+        flight = written.is;
+        stored = kept;
+      };
       begun = refl;
       port = record { fetches = refl; port_faults = refl };
     }
@@ -82,7 +93,7 @@ module _ {D Page Port : Type 0} {kind : Ghosts D Page Port} where
     pub rest_refused : (new : View) (t : Stored) (back : Job D Page Port kind) (why : Refused) → back.task.value ≡ job.task.value → back.refused ≡ true
         → IsWritingOn PortsFail old new (kind.port_faults job.port) (kind.port_faults back.port) s t (Err why)
         → IsInstall PortsFail (going_of number job) h before (Err why) (refused_to h 0 Work why) (behind new t back)
-    rest_refused new t back why task refused is = not_installed new t back why task refused (unwritten new t back why is.why)
+    rest_refused new t back why task refused is = not_installed new t back why task refused (unwritten new t back why is.why) is.flight is.kept
 
     -- all pages are written
     module _ (told : Tells) (sound : AreSound (inputs_in (plain_task job.task.value))) (mid : View) (whole : Job D Page Port kind) (task : whole.task.value ≡ job.task.value) (works : IsAtWork Tells mid whole)
@@ -103,27 +114,33 @@ module _ {D Page Port : Type 0} {kind : Ghosts D Page Port} where
           )
 
       -- the engine refused to install it
-      pub install_refused : (config : Fields) (opened : Opened) → StandsFor config opened h old → StandsFor config opened h mid → old.faults ≤ mid.faults → (new : View) (t : Stored)
-          (back : Job D Page Port kind) (why : Refused) → back.task.value ≡ job.task.value → back.refused ≡ true → HasReason (engine.IsShortToInstall mid whole) mid.state mid.faults new.faults why
-          → new.state.next ≡ mid.state.next → IsInstall PortsFail (going_of number job) h before (Err why) (refused_to h 0 Work why) (behind new t back)
-      install_refused config opened was stands later new t back why same refused reason drawn =
-          not_installed new t back why same refused (inl (
+      pub install_refused : (config : Fields) (opened : Opened) → StandsFor config opened h old → StandsFor config opened h mid → old.faults ≤ mid.faults → (m : Stored) → IsKnown config h mid m → m ≡ s
+          → IsWrittenOn old.flight mid.flight → (new : View) (back : Job D Page Port kind) (why : Refused) → StandsFor config opened (refused_to h 0 Work why) new
+          → (IsSome mid.state.stopped → IsStill Tells mid new) → IsUndone Tells mid new why → face_of new ≡ face_of mid → back.task.value ≡ job.task.value → back.refused ≡ true
+          → HasReason (engine.IsShortToInstall mid whole) mid.state mid.faults new.faults why → new.state.next ≡ mid.state.next
+          → (t : Stored) × IsKnown config (refused_to h 0 Work why) new t × IsInstall PortsFail (going_of number job) h before (Err why) (refused_to h 0 Work why) (behind new t back)
+      install_refused config opened was stands later m known stored written new back why stood still undone face same refused reason drawn =
+          let is = work_refused Tells told config opened h mid new m known why undone stood still face in
+          let cause : Cause new is.0 back why = inl (
             mid.faults,
             new.faults,
             later,
             omega arith,
-            reason_on (engine.IsShortToInstall mid whole) (IsShortToInstall (going_of number job) (behind new t back)) old.state mid.state mid.faults new.faults
-                (stopped_same config h old mid was.now stands.now) (count_same config h old mid was.now stands.now) why reason (λ last e runs short. short_of new t back drawn short),
-          ))
+            reason_on (engine.IsShortToInstall mid whole) (IsShortToInstall (going_of number job) (behind new is.0 back)) old.state mid.state mid.faults new.faults
+                (stopped_same config h old mid was.now stands.now) (count_same config h old mid was.now stands.now) why reason (λ last e runs short. short_of new is.0 back drawn short),
+          ) in
+          let flight : new.flight ≡ mid.flight = ap (λ (face : Face). face.flight) face in
+          (is.0, is.1, not_installed new is.0 back why same refused cause (subst (IsWrittenOn old.flight) (sym flight) written) (λ none. is.2 none ∙ stored))
 
     -- it was installed
-    pub installed_whole : (done : Unit {0}) (mid new : View) (whole : Job D Page Port kind) (m : Stored) (there : Option Going) → whole.task.value ≡ job.task.value → IsKnown mid m → m ≡ s
+    pub installed_whole : (config : Fields) (opened : Opened) (done : Unit {0}) (mid new : View) → StandsFor config opened h new → (whole : Job D Page Port kind) (m : Stored) (there : Option Going)
+        → whole.task.value ≡ job.task.value → IsKnown config h mid m → m ≡ s
         → ((at : ℕ) → mid.state.stopped ≡ Some at → ⊥) → (Holds mid m → (t : Stored) × IsInstalled m (plain_task whole.task.value) t × Holds new t) → new.flight ≡ None → there ≡ None
-        → (t : Stored) × IsKnown new t × IsInstall PortsFail (going_of number job) h before (Ok done) h (moment_of new t fetches faults begun there)
-    installed_whole done mid new whole m there task known same never install free none =
+        → (t : Stored) × IsKnown config h new t × IsInstall PortsFail (going_of number job) h before (Ok done) h (moment_of new t fetches faults begun there)
+    installed_whole config opened done mid new stood whole m there task known same never install free none =
         let made = install (known.held (not_stopped mid.state.stopped never)) in (
           made.0,
-          known_held new made.0 made.2,
+          known_held config opened h new stood made.0 made.2,
           record {
             history = refl;
             answers = record {

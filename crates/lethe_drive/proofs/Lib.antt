@@ -10,3 +10,4 @@ pub mod Resting
 pub mod Stepping
 pub mod Installing
 pub mod Changing
+pub mod Runs

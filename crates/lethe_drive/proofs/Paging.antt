@@ -1,6 +1,7 @@
 -- What asking a job for its next page and writing it comes to.
 use Rattle.std.proofs.Common.{◌≡◌, ◌≤◌, ◌<◌, ◌⊎◌, inl, inr, ℕ, Bool, true, false, [], length, Option, Some, Result, Ok, Err, Vec, refl, sym, ap, ◌∙◌, subst, arith}
-use Rattle.std.specs.Prelude.{IfSome, IsSome, List, option_map, slice_index_or}
+use Rattle.std.specs.FinMap.{insert}
+use Rattle.std.specs.Prelude.{IfSome, IsSome, List, None, ◌+◌, option_map, slice_index_or}
 use Rattle.std.specs.Option.{option_map_or}
 use Rattle.std.specs.declared.alloc.Global.{Global}
 use Rattle.std.specs.Result.{result_err}
@@ -17,17 +18,20 @@ use Rattle.lethe_stored.specs.Stored.{Stored}
 use Rattle.lethe_job.specs.Jobs.{IsJob, IsUnread}
 use Rattle.lethe_job.specs.Tasks.{AreSound, inputs_in, plain_task}
 use Rattle.lethe_job.specs.declared.job.Job.{Job}
-use Rattle.lethe_core.specs.Asked.{Serves, behind, refused_to}
+use Rattle.lethe_core.specs.Asked.{Serves, behind, failure_of, refused_to}
 use Rattle.lethe_core.specs.Jobs.{IsAtWork, with_page}
 use Rattle.lethe_core.specs.Reasons.{HasReason, IsUnreadable}
+use Rattle.lethe_core.specs.Steps.{IsUndone}
 use Rattle.lethe_core.specs.View.{Face, Flying, View, face_of}
+use Rattle.lethe_core.proofs.Hindered.{as_itself}
+use Rattle.lethe_engine.specs.Answers.{IsStill}
 use Rattle.lethe_engine.specs.Jobs.{next_bytes, written_face}
 use Rattle.lethe_drive.specs.Answers.{IsJobRefusal, IsWriteOut}
 use Rattle.lethe_engine.specs.StandsFor.{Opened, StandsFor}
 use Rattle.lethe_drive.specs.Moments.{IsKnown, Moment, going_of, moment_of}
-use Rattle.lethe_drive.proofs.Knowing.{known_of}
+use Rattle.lethe_drive.proofs.Freezing.{work_refused, work_untouched}
 use Rattle.lethe_drive.proofs.Reasons.{unread_cause, unread_history}
-use Rattle.lethe_drive.proofs.Writing.{outputs_for, some_of, spoilt}
+use Rattle.lethe_drive.proofs.Writing.{goes_on, outputs_for, some_of, spoilt}
 
 module _ {D Page Port : Type 0} {kind : Ghosts D Page Port} (Tells PortsFail : Type 0) (h : History) (old : View) (s : Stored) (number fetches faults begun : ℕ) (job mid : Job D Page Port kind)
     (task : mid.task.value ≡ job.task.value) where
@@ -39,24 +43,30 @@ module _ {D Page Port : Type 0} {kind : Ghosts D Page Port} (Tells PortsFail : T
 
   -- what a store that stood for a history and held this comes to
   abbrev pub Paged : Fields → Opened → View → Job D Page Port kind → Result Bool Refused → Type 0
-  Paged config opened new after result = (t : Stored) × IsKnown new t × StandsFor config opened (behind h 0 (Serves Work) (result_err result)) new
+  Paged config opened new after result = (t : Stored) × IsKnown config (behind h 0 (Serves Work) (result_err result)) new t × StandsFor config opened (behind h 0 (Serves Work) (result_err result)) new
       × IsWriteOut PortsFail (going_of number job) h before result (behind h 0 (Serves Work) (result_err result)) (later new t after)
 
   -- the engine refused the page
-  pub page_refused : (new : View) (t : Stored) (why : Refused) → HasReason (max_place ≤ old.state.next) old.state old.faults new.faults why → mid.refused ≡ true
-      → IsWriteOut PortsFail (going_of number job) h before (Err why) (refused_to h 0 Work why) (later new t mid)
-  page_refused new t why is refused = record {
-    history = refl;
-    answers = (record { port_faults = kind.port_faults mid.port; there = spoilt Tells PortsFail job mid task number refused }, inl (old.faults, new.faults, omega arith, omega arith, is));
-    begun = refl;
-    port = record { fetches = refl; port_faults = refl };
-  }
+  module _ (told : Tells) (config : Fields) (opened : Opened) (known : IsKnown config h old s) (new : View) (why : Refused) (undone : IsUndone Tells old new why) (face : face_of new ≡ face_of old) where
+    page_refused : (t : Stored) → (failure_of why ≡ None → t ≡ s) → HasReason (max_place ≤ old.state.next) old.state old.faults new.faults why → mid.refused ≡ true
+        → IsWriteOut PortsFail (going_of number job) h before (Err why) (refused_to h 0 Work why) (later new t mid)
+    page_refused t same is refused = record {
+      history = refl;
+      answers = record {
+        spoilt = record { written = mid.written; port_faults = kind.port_faults mid.port; there = spoilt Tells PortsFail job mid task number refused };
+        reason = inl (old.faults, new.faults, omega arith, omega arith, is);
+        flight = ap (λ (face : Face). face.flight) face;
+        untouched = work_untouched Tells told config opened h old new s known why undone t same fetches fetches faults faults begun begun (Some (going_of number job)) (Some (going_of number mid));
+      };
+      begun = refl;
+      port = record { fetches = refl; port_faults = refl };
+    }
 
-  pub refused_paged : (config : Fields) (opened : Opened) (new : View) (result : Result Bool Refused) (why : Refused) → result ≡ Err why → StandsFor config opened (refused_to h 0 Work why) new
-      → HasReason (max_place ≤ old.state.next) old.state old.faults new.faults why → mid.refused ≡ true → Paged config opened new mid result
-  refused_paged config opened new result why refusal stands is refused =
-      subst (Paged config opened new mid) (sym refusal)
-      (stands.now.stored, known_of config opened (refused_to h 0 Work why) new stands, stands, page_refused new stands.now.stored why is refused)
+    pub refused_paged : (IsSome old.state.stopped → IsStill Tells old new) → (result : Result Bool Refused) → result ≡ Err why → StandsFor config opened (refused_to h 0 Work why) new
+        → HasReason (max_place ≤ old.state.next) old.state old.faults new.faults why → mid.refused ≡ true → Paged config opened new mid result
+    refused_paged still result refusal stands is refused =
+        let known_then = work_refused Tells told config opened h old new s known why undone stands still face in
+        subst (Paged config opened new mid) (sym refusal) (known_then.0, known_then.1, stands, page_refused known_then.0 known_then.2 is refused)
 
   unread_reason : (why : Refused) → HasReason (max_place ≤ old.state.next) old.state old.faults old.faults why ⊎ IsUnreadable (Unit {0}) PortsFail (kind.port_faults job.port) (kind.port_faults mid.port) why
       → IsJobRefusal PortsFail (max_place ≤ old.state.next) before (going_of number job) (kind.port_faults mid.port) (later old s mid) why
@@ -69,23 +79,25 @@ module _ {D Page Port : Type 0} {kind : Ghosts D Page Port} (Tells PortsFail : T
       → IsWriteOut PortsFail (going_of number job) h before (Err why) (refused_to h 0 Work why) (later old s mid)
   page_unread told sound why is refused = record {
     history = refl;
-    answers = (
-      record { port_faults = kind.port_faults mid.port; there = spoilt Tells PortsFail job mid task number refused },
-      unread_reason why (unread_cause Tells PortsFail (max_place ≤ old.state.next) (inputs_in (plain_task job.task.value)) (kind.port_faults job.port) (kind.port_faults mid.port)
-          old.state old.faults old.faults told sound why is),
-    );
+    answers = record {
+      spoilt = record { written = mid.written; port_faults = kind.port_faults mid.port; there = spoilt Tells PortsFail job mid task number refused };
+      reason = unread_reason why (unread_cause Tells PortsFail (max_place ≤ old.state.next) (inputs_in (plain_task job.task.value)) (kind.port_faults job.port) (kind.port_faults mid.port)
+          old.state old.faults old.faults told sound why is);
+      flight = refl;
+      untouched = λ none. record { stored = refl; state = (as_itself Tells old).state; levels = refl; directory = refl };
+    };
     begun = refl;
     port = record { fetches = refl; port_faults = refl };
   }
 
-  pub unread_paged : (config : Fields) (opened : Opened) → Tells → AreSound (inputs_in (plain_task job.task.value)) → StandsFor config opened h old → IsKnown old s → (result : Result Bool Refused) (why : Refused) → result ≡ Err why
+  pub unread_paged : (config : Fields) (opened : Opened) → Tells → AreSound (inputs_in (plain_task job.task.value)) → StandsFor config opened h old → IsKnown config h old s → (result : Result Bool Refused) (why : Refused) → result ≡ Err why
       → IsUnread Tells PortsFail (inputs_in (plain_task job.task.value)) (kind.port_faults job.port) (kind.port_faults mid.port) why → mid.refused ≡ true → Paged config opened old mid result
   unread_paged config opened told sound stands known result why refusal is refused =
+      let same = sym (unread_history Tells PortsFail (inputs_in (plain_task job.task.value)) (kind.port_faults job.port) (kind.port_faults mid.port) h Work why is) in
       subst (Paged config opened old mid) (sym refusal) (
         s,
-        known,
-        subst (λ (g : History). StandsFor config opened g old)
-            (sym (unread_history Tells PortsFail (inputs_in (plain_task job.task.value)) (kind.port_faults job.port) (kind.port_faults mid.port) h Work why is)) stands,
+        subst (λ (g : History). IsKnown config g old s) same known,
+        subst (λ (g : History). StandsFor config opened g old) same stands,
         page_unread told sound why is refused,
       )
 
@@ -100,10 +112,10 @@ module _ {D Page Port : Type 0} {kind : Ghosts D Page Port} (Tells PortsFail : T
     drafts_are = (some_of mid.drafts made).1
 
     -- the next page was written
-    pub page_written : (new : View) (after : Job D Page Port kind) → IfSome mid.drafts (λ drafts. job.written < length (pages_in drafts.items))
-        → face_of new ≡ written_face (face_of old) (page_name old.state.next, next_bytes mid) (Ok tt)
+    pub page_written : (new : View) (after : Job D Page Port kind) → after.task.value ≡ mid.task.value → after.refused ≡ false → after.written ≡ mid.written + 1 → IfSome mid.drafts (λ drafts. job.written < length (pages_in drafts.items))
+        → face_of new ≡ written_face (face_of old) (page_name old.state.next, next_bytes mid) (Ok tt) → new.disk.directory ≡ insert old.disk.directory (page_name old.state.next) (next_bytes mid)
         → IsWriteOut PortsFail (going_of number job) h before (Ok true) h (later new s after)
-    page_written new after left face =
+    page_written new after kept asked more left face directory =
         let P : Option (Vec Draft Global) → Type 0 = λ o. IfSome o (λ drafts. job.written < length (pages_in drafts.items)) in
         let few : job.written < length (pages_in drafts.items) = subst P drafts_are left in
         let count = works.count in
@@ -112,6 +124,7 @@ module _ {D Page Port : Type 0} {kind : Ghosts D Page Port} (Tells PortsFail : T
         let put : new.flight ≡ Some (with_page flying (page_name old.state.next, slice_index_or (pages_in drafts.items) mid.written [])) =
         ap (λ (face : Face). face.flight) face ∙ ap (option_map (λ (flying : Flying). with_page flying (page_name old.state.next, next_bytes mid))) works.flies.is
         ∙ ap (λ (b : List ℕ). Some (with_page flying (page_name old.state.next, b))) bytes in
+        let place : mid.written ≡ length flying.written = written ∙ sym count in
         record {
           history = refl;
           answers = record {
@@ -120,16 +133,23 @@ module _ {D Page Port : Type 0} {kind : Ghosts D Page Port} (Tells PortsFail : T
             drafts = drafts.items;
             outputs = outputs_for Tells PortsFail job mid task told sound is drafts drafts_are;
             left = let low : length flying.written < length (pages_in drafts.items) = omega arith in low;
-            flight = put ∙ (λ i. Some (with_page flying (page_name old.state.next, slice_index_or (pages_in drafts.items) ((written ∙ sym count) i) [])));
+            bytes = slice_index_or (pages_in drafts.items) (length flying.written) [];
+            next = refl;
+            flight = put ∙ (λ i. Some (with_page flying (page_name old.state.next, slice_index_or (pages_in drafts.items) (place i) [])));
+            directory = directory ∙ ap (insert old.disk.directory (page_name old.state.next)) (bytes ∙ (λ i. slice_index_or (pages_in drafts.items) (place i) []));
             stored = refl;
+            goes_on = record {
+              port_faults = kind.port_faults after.port;
+              there = goes_on Tells PortsFail job after (kept ∙ task) number (job.written + 1) works.asked asked (more ∙ ap (λ n. n + 1) written);
+            };
           };
           begun = refl;
           port = record { fetches = refl; port_faults = refl };
         }
 
     -- none was left
-    pub no_page : IfSome mid.drafts (λ drafts. job.written < length (pages_in drafts.items) → ⊥) → IsWriteOut PortsFail (going_of number job) h before (Ok false) h (later old s mid)
-    no_page left =
+    pub no_page : mid.refused ≡ false → IfSome mid.drafts (λ drafts. job.written < length (pages_in drafts.items) → ⊥) → IsWriteOut PortsFail (going_of number job) h before (Ok false) h (later old s mid)
+    no_page asked left =
         let P : Option (Vec Draft Global) → Type 0 = λ o. IfSome o (λ drafts. job.written < length (pages_in drafts.items) → ⊥) in
         let over : job.written < length (pages_in drafts.items) → ⊥ = subst P drafts_are left in
         let Q : Option (Vec Draft Global) → Type 0 = λ o. IfSome o (λ drafts. mid.written ≤ length (pages_in drafts.items)) in
@@ -147,6 +167,7 @@ module _ {D Page Port : Type 0} {kind : Ghosts D Page Port} (Tells PortsFail : T
             stored = refl;
             state = refl;
             calls = refl;
+            goes_on = record { port_faults = kind.port_faults mid.port; there = goes_on Tells PortsFail job mid task number job.written works.asked asked written };
           };
           begun = refl;
           port = record { fetches = refl; port_faults = refl };

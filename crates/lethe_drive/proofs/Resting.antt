@@ -1,29 +1,69 @@
 -- The pages of a job, written one after another: what is stored stays, and where one of them is refused so is the whole.
-use Rattle.std.proofs.Common.{◌≡◌, ◌≤◌, ◌⊎◌, inl, inr, ℕ, Bool, true, false, Option, Some, None, Result, Ok, Err, refl, sym, ap, subst, arith}
+use Rattle.std.proofs.Common.{◌≡◌, ◌≤◌, ◌⊎◌, inl, inr, ℕ, Bool, true, false, List, [], ◌∷◌, ◌++◌, Option, Some, None, Result, Ok, Err, refl, sym, ap, ◌∙◌, subst, append-nil, append_assoc, arith}
 use Rattle.std.specs.Prelude.{IsSome}
 use Rattle.std.specs.Result.{result_err}
+use Rattle.std.proofs.lemmas.Option.{same_Some}
 use Rattle.lethe_base.specs.History.{History}
 use Rattle.lethe_base.specs.Limits.{max_place}
 use Rattle.lethe_base.specs.declared.call.Call.TheVariants.{Work}
 use Rattle.lethe_base.specs.declared.config.Fields.{Fields}
+use Rattle.lethe_base.specs.declared.name.Name.{Name}
 use Rattle.lethe_base.specs.declared.refused.Refused.{Refused}
 use Rattle.lethe_base.specs.declared.refused.Refused.TheVariants.{Fault, Stopped, Backwards, Pinned, NothingDue, Cancelled, Exhausted, ReadFault, NoMemory, Damaged}
 use Rattle.lethe_disk.specs.declared.disk.Disk.{Ghosts}
+use Rattle.lethe_file.specs.Agreement.{page_name}
 use Rattle.lethe_stored.specs.Stored.{Stored}
 use Rattle.lethe_job.specs.declared.job.Job.{Job}
 use Rattle.lethe_core.specs.Asked.{Serves, behind}
+use Rattle.lethe_core.specs.Jobs.{IsAtWork}
 use Rattle.lethe_core.specs.Reasons.{HasReason, IsUnreadable}
-use Rattle.lethe_core.specs.View.{View}
+use Rattle.lethe_core.specs.View.{Flying, View}
 use Rattle.lethe_engine.specs.StandsFor.{Opened, StandsFor}
 use Rattle.lethe_drive.specs.Answers.{IsWriteOut}
-use Rattle.lethe_drive.specs.Driving.{IsWritingOn}
+use Rattle.lethe_drive.specs.Driving.{IsWritingOn, IsWrittenOn}
 use Rattle.lethe_drive.specs.Moments.{Going, IsKnown, Moment, going_of, moment_of}
 use Rattle.lethe_drive.proofs.Knowing.{count_same, stopped_same}
 use Rattle.lethe_drive.proofs.Reasons.{reason_on}
 
--- the history for which a store stands and what it is known to have stored are as they were
+-- The pages of the job in flight
+
+pub none_more : (flight : Option Flying) (flying : Flying) → flight ≡ Some flying → IsWrittenOn flight flight
+none_more flight flying is = record {
+  flying = flying;
+  flies = is;
+  pages = [];
+  is = is ∙ (λ i. Some (record flying { written = sym (append-nil flying.written) i }));
+}
+
+some_more : (old mid new : Option Flying) → IsWrittenOn old mid → (flying : Flying) → mid ≡ Some flying → (pages : List (Name × List ℕ)) → new ≡ Some (record flying { written = flying.written ++ pages }) → IsWrittenOn old new
+some_more old mid new so_far flying flies pages is =
+    let first : Flying = so_far.flying in
+    let same : flying ≡ record first { written = first.written ++ so_far.pages } = same_Some flying (record first { written = first.written ++ so_far.pages }) (sym flies ∙ so_far.is) in
+    record {
+      flying = first;
+      flies = so_far.flies;
+      pages = so_far.pages ++ pages;
+      is = is ∙ (λ i. Some (record (same i) { written = (same i).written ++ pages })) ∙ (λ i. Some (record first { written = append_assoc first.written so_far.pages pages i }));
+    }
+
+no_more : (old mid new : Option Flying) → IsWrittenOn old mid → new ≡ mid → IsWrittenOn old new
+no_more old mid new so_far same = subst (IsWrittenOn old) (sym same) so_far
+
+one_more : (PortsFail : Type 0) (going : Going) (h : History) (first : Option Flying) (old : Moment) (wrote : Bool) (g : History) (new : Moment) → IsWriteOut PortsFail going h old (Ok wrote) g new
+    → IsWrittenOn first old.flight → IsWrittenOn first new.flight
+one_more PortsFail going h first old true g new is so_far =
+    let wrote = is.answers in
+    some_more first old.flight new.flight so_far wrote.flying wrote.flies ((page_name old.state.next, wrote.bytes) ∷ []) wrote.flight
+one_more PortsFail going h first old false g new is so_far = no_more first old.flight new.flight so_far is.answers.flight
+
+-- the history for which a store stands and what it is known to have stored are as they were, and the job in flight has more pages
 abbrev pub Rests : Type 0 → View → View → Type 0
-Rests Tells old new = Tells → (config : Fields) (opened : Opened) (h : History) → StandsFor config opened h old → (s : Stored) → IsKnown old s → StandsFor config opened h new × IsKnown new s
+Rests Tells old new =
+    Tells → (config : Fields) (opened : Opened) (h : History) → StandsFor config opened h old → (s : Stored) → IsKnown config h old s → StandsFor config opened h new × IsKnown config h new s × IsWrittenOn old.flight new.flight
+
+-- nothing was written yet
+pub rests_first : {D Page Port : Type 0} {kind : Ghosts D Page Port} (Tells : Type 0) (old : View) (job : Job D Page Port kind) → IsAtWork Tells old job → Rests Tells old old
+rests_first Tells old job works = λ told config opened h stands s known. (stands, known, none_more old.flight works.flies.flying works.flies.is)
 
 same_stored : (PortsFail : Type 0) (going : Going) (h : History) (old : Moment) (wrote : Bool) (g : History) (new : Moment) → IsWriteOut PortsFail going h old (Ok wrote) g new → new.stored ≡ old.stored
 same_stored PortsFail going h old true g new is = is.answers.stored
@@ -75,30 +115,33 @@ module _ (PortsFail : Type 0) (old mid new : View) (faults : old.faults ≤ mid.
 module _ {D Page Port : Type 0} {kind : Ghosts D Page Port} (Tells PortsFail : Type 0) (old mid new : View) (job after : Job D Page Port kind) where
   -- the next page is written, or none is left
   abbrev pub Turns : Result Bool Refused → Type 0
-  Turns result = Tells → (config : Fields) (opened : Opened) (h : History) → StandsFor config opened h mid → (s : Stored) → IsKnown mid s → (number fetches faults begun : ℕ)
-      → (t : Stored) × IsKnown new t × StandsFor config opened (behind h 0 (Serves Work) (result_err result)) new
+  Turns result = Tells → (config : Fields) (opened : Opened) (h : History) → StandsFor config opened h mid → (s : Stored) → IsKnown config h mid s → (number fetches faults begun : ℕ)
+      → (t : Stored) × IsKnown config (behind h 0 (Serves Work) (result_err result)) new t × StandsFor config opened (behind h 0 (Serves Work) (result_err result)) new
       × IsWriteOut PortsFail (going_of number job) h (moment_of mid s fetches faults begun (Some (going_of number job))) result
       (behind h 0 (Serves Work) (result_err result)) (moment_of new t fetches faults begun (Some (going_of number after)))
 
   -- what the turns come to
   abbrev pub Comes : ℕ → Result (Unit {0}) Refused → Type 0
-  Comes first result = Tells → (config : Fields) (opened : Opened) (h : History) → StandsFor config opened h old → (s : Stored) → IsKnown old s
-      → (t : Stored) × IsKnown new t × StandsFor config opened (behind h 0 (Serves Work) (result_err result)) new × IsWritingOn PortsFail old new first (kind.port_faults after.port) s t result
+  Comes first result = Tells → (config : Fields) (opened : Opened) (h : History) → StandsFor config opened h old → (s : Stored) → IsKnown config h old s
+      → (t : Stored) × IsKnown config (behind h 0 (Serves Work) (result_err result)) new t × StandsFor config opened (behind h 0 (Serves Work) (result_err result)) new × IsWritingOn PortsFail old new first (kind.port_faults after.port) s t result
 
   -- one more was acknowledged
   pub rests_on : (wrote : Bool) → Rests Tells old mid → Turns (Ok wrote) → Rests Tells old new
   rests_on wrote rests turn = λ told config opened h stands s known.
       let so_far = rests told config opened h stands s known in
-      let turned = turn told config opened h so_far.0 s so_far.1 0 0 0 0 in (
+      let turned = turn told config opened h so_far.0 s so_far.1 0 0 0 0 in
+      let before = moment_of mid s 0 0 0 (Some (going_of 0 job)) in
+      let now = moment_of new turned.0 0 0 0 (Some (going_of 0 after)) in (
         turned.2,
-        subst (IsKnown new) (same_stored PortsFail (going_of 0 job) h (moment_of mid s 0 0 0 (Some (going_of 0 job))) wrote h (moment_of new turned.0 0 0 0 (Some (going_of 0 after))) turned.3) turned.1,
+        subst (IsKnown config h new) (same_stored PortsFail (going_of 0 job) h before wrote h now turned.3) turned.1,
+        one_more PortsFail (going_of 0 job) h old.flight before wrote h now turned.3 so_far.2,
       )
 
   -- the last one was acknowledged
   pub all_written : (first : ℕ) → Rests Tells old new → Comes first (Ok tt)
   all_written first rests = λ told config opened h stands s known.
       let in_the_end = rests told config opened h stands s known in
-      (s, in_the_end.1, in_the_end.0, record { done = refl; why = tt })
+      (s, in_the_end.1, in_the_end.0, record { done = refl; why = tt; kept = tt; flight = in_the_end.2 })
 
   -- once its drafts are made a job reads no more
   no_more_read : (first : Job D Page Port kind) (why : Refused) → (job.port ≡ first.port) ⊎ IsSome job.drafts → (IsSome job.drafts → (b n : ℕ) → ◌≡◌ {A = Result Bool Refused} (Err why) (Err (ReadFault b n)) → ⊥)
@@ -112,7 +155,8 @@ module _ {D Page Port : Type 0} {kind : Ghosts D Page Port} (Tells PortsFail : T
   turn_refused first why rests turn faults drawn port never = λ told config opened h stands s known.
       let so_far = rests told config opened h stands s known in
       let turned = turn told config opened h so_far.0 s so_far.1 0 0 0 0 in
-      let spoilt = turned.3.answers.0 in
+      let refused = turned.3.answers in
+      let spoilt = refused.spoilt in
       let now : kind.port_faults after.port ≡ spoilt.port_faults = ap port_of spoilt.there in
       let Cause : ℕ → Type 0 = λ n. ((b : ℕ) × (c : ℕ) × (old.faults ≤ b) × (c ≤ new.faults) × HasReason (max_place ≤ new.state.next) old.state b c why) ⊎ IsUnreadable (Unit {0}) PortsFail (kind.port_faults first.port) n why in (
         turned.0,
@@ -122,6 +166,8 @@ module _ {D Page Port : Type 0} {kind : Ghosts D Page Port} (Tells PortsFail : T
           done = tt;
           why = subst Cause (sym now)
               (since PortsFail old mid new faults drawn (kind.port_faults first.port) (kind.port_faults job.port) spoilt.port_faults why (no_more_read first why port never)
-              (stopped_same config h old mid stands.now so_far.0.now) (count_same config h old mid stands.now so_far.0.now) turned.3.answers.1);
+              (stopped_same config h old mid stands.now so_far.0.now) (count_same config h old mid stands.now so_far.0.now) refused.reason);
+          kept = λ none. (refused.untouched none).stored;
+          flight = no_more old.flight mid.flight new.flight so_far.2 refused.flight;
         },
       )

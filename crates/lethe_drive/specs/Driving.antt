@@ -3,15 +3,17 @@ use Rattle.std.specs.Prelude.{◌≡◌, ◌⊎◌, ◌≤◌, ◌-◌, ◌^◌,
 use Rattle.lethe_base.specs.History.{History}
 use Rattle.lethe_base.specs.Limits.{max_place}
 use Rattle.lethe_base.specs.declared.config.Fields.{Fields}
+use Rattle.lethe_base.specs.declared.name.Name.{Name}
 use Rattle.lethe_base.specs.declared.refused.Refused.{Refused}
 use Rattle.lethe_disk.specs.declared.disk.Disk.{Ghosts}
 use Rattle.lethe_flush.specs.Made.{pages_in}
 use Rattle.lethe_stored.specs.Stored.{Stored}
 use Rattle.lethe_job.specs.Tasks.{AreSound, inputs_in, plain_task}
 use Rattle.lethe_job.specs.declared.job.Job.{Job}
+use Rattle.lethe_core.specs.Asked.{failure_of}
 use Rattle.lethe_core.specs.Reasons.{HasReason, IsUnreadable}
 use Rattle.lethe_core.specs.Jobs.{IsAtWork, IsInFlight}
-use Rattle.lethe_core.specs.View.{View}
+use Rattle.lethe_core.specs.View.{Flying, View}
 use Rattle.lethe_drive.specs.Moments.{IsMomentOf, Moment}
 use Rattle.lethe_drive.specs.Steps.{Steps, cancels_for}
 use Rattle.lethe_drive.specs.declared.jobs.Jobs.{Jobs}
@@ -45,8 +47,17 @@ pages_left_of (Some pages) written = pages - written
 abbrev pub pages_left : {D Page Port : Type 0} {kind : Ghosts D Page Port} → Job D Page Port kind → ℕ
 pages_left job = pages_left_of (option_map (λ drafts. length (pages_in drafts.items)) job.drafts) job.written
 
+-- the job in flight has more pages
+pub record IsWrittenOn (old new : Option Flying) : Type 0 where
+  pub flying : Flying
+  pub flies : old ≡ Some flying
+  pub pages : List (Name × List ℕ)
+  pub is : new ≡ Some (record flying { written = flying.written ++ pages })
+
 -- what is stored stays while pages of a job are written
 pub record IsWritingOn (PortsFail : Type 0) (old new : View) (before now : ℕ) (s t : Stored) (result : Result (Unit {0}) Refused) : Type 0 where
   pub done : OnOk result (t ≡ s)
   pub why : IfErr result (λ why. ((b : ℕ) × (n : ℕ) × (old.faults ≤ b) × (n ≤ new.faults) × HasReason (max_place ≤ new.state.next) old.state b n why)
       ⊎ IsUnreadable (Unit {0}) PortsFail before now why)
+  pub kept : IfErr result (λ why. failure_of why ≡ None → t ≡ s)
+  pub flight : IsWrittenOn old.flight new.flight

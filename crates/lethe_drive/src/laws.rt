@@ -17,20 +17,22 @@ ghost use Rattle.lethe_drive.specs.declared.event.Event.TheVariants as event;
 ghost use Rattle.lethe_drive.specs.declared.event.Reply as plain;
 ghost use Rattle.lethe_drive.specs.declared.event.Reply.TheVariants as reply;
 
+use lethe_disk::Disk;
+
 /// Two puts and a get over a store on which nothing has failed, with room and places for two changes: where no count of faults rises and there is memory, the puts take
 /// the next places and the get answers what the map has behind them, whatever moments the store goes through.
-pub fn puts_are_read()
-    ensures { (PortsFail : Type 0) (config : Fields) (h g : History) (start finish : Moment) (first second asked : Bytes) (dkey other : ℕ) (value next : Bytes) (replies : List plain.Reply)
+pub fn puts_are_read<D: Disk>()
+    ensures { (config : Fields) (h g : History) (start finish : Moment) (first second asked : Bytes) (dkey other : ℕ) (value next : Bytes) (replies : List plain.Reply)
         → IsMomentOf config h start → AreDone h → length h + 2 ≤ max_place → length start.stored.active.records + 2 ≤ config.buffer
-        → Steps PortsFail config h start (event.Put first dkey value ∷ event.Put second other next ∷ event.Get asked ∷ []) replies g finish
+        → Steps D.ports_fail config h start (event.Put first dkey value ∷ event.Put second other next ∷ event.Get asked ∷ []) replies g finish
         → (Rose start.faults finish.faults → ⊥) → (Rose start.port_faults finish.port_faults → ⊥) → All (λ given. given ≢ reply.Refused NoMemory) replies
         → (g ≡ with_done (with_done h 0 (call.Put first dkey value)) 0 (call.Put second other next))
         × ((held : Option (ℕ × Bytes)) × (replies ≡ reply.Place (length h + 1) ∷ reply.Place (length h + 2) ∷ reply.Got held ∷ []) × (reads.answer (after g) (reads.Get asked) ≡ reads.Found held)) }
 {}
 
 /// A job that is begun, written and installed leaves its outcome: that of the merge that was due.
-pub fn a_job_has_its_outcome()
-    ensures { (PortsFail : Type 0) (config : Fields) (h g : History) (start finish : Moment) (number : ℕ) (wrote : Bool)
-        → Steps PortsFail config h start (event.Begin ∷ event.WriteOut number ∷ event.Install number ∷ []) (reply.Job number ∷ reply.Flag wrote ∷ reply.Unit ∷ []) g finish
+pub fn a_job_has_its_outcome<D: Disk>()
+    ensures { (config : Fields) (h g : History) (start finish : Moment) (number : ℕ) (wrote : Bool)
+        → Steps D.ports_fail config h start (event.Begin ∷ event.WriteOut number ∷ event.Install number ∷ []) (reply.Job number ∷ reply.Flag wrote ∷ reply.Unit ∷ []) g finish
         → (g ≡ h) × ((task : PlainTask) × IsBegunIn start.stored task × IsInstalled start.stored task finish.stored) × (finish.flight ≡ None) × (finish.there ≡ None) }
 {}

@@ -32,7 +32,7 @@ use Rattle.lethe_drive.proofs.answering.answer.Goals as goal
 
 -- what the call for an event comes to
 abbrev Comes : Type 0 → Fields → Opened → History → Moment → View → (Stored → Moment) → Reply → Event → Type 0
-Comes PortsFail config opened h before new behind reply event = (g : History) × (t : Stored) × IsKnown new t × StandsFor config opened g new × IsStep PortsFail h before event reply g (behind t)
+Comes PortsFail config opened h before new behind reply event = (g : History) × (t : Stored) × IsKnown config g new t × StandsFor config opened g new × IsStep PortsFail h before event reply g (behind t)
 
 -- what a read gives, seen as another value
 abbrev seen_as : {T U : Type 0} → (T → U) → Result T Refused → Result U Refused
@@ -66,7 +66,7 @@ returns-in-Put-clause-step g c = λ told config opened h stands s known.
     let stood = c.put.ensures.answers.stands told config opened h stands 0 in
     let is = changed g.D.Disk.tells g.D.Disk.ports_fail told Put (λ s headers next. next ≡ put_over s c.in-Put.key c.in-Put.dkey c.in-Put.value) config opened h old new s known
     (g.D.Disk.fetches c.args.port.now) fetches (g.D.Disk.port_faults c.args.port.now) faults jobs.begun (there_of jobs) stands (ap (λ (face : Face). face.flight) c.put.ensures.answers.face_is)
-    result stood c.put.ensures.place c.put.ensures.why
+    result stood c.put.ensures.answers.still c.put.ensures.answers.refused c.put.ensures.place c.put.ensures.why
     (λ holds. on_ok result _ _ (c.put.ensures.written told s holds) (λ done. (done.0, done.1, put_over done.0 c.in-Put.key c.in-Put.dkey c.in-Put.value, done.2, refl, done.3, done.4)))
     (λ at e. (c.put.ensures.stopped at e).0) (λ runs full. (c.put.ensures.exhausted runs full).0) in
     subst (Comes g.D.Disk.ports_fail config opened h before new (λ t. moment_of new t fetches faults jobs.begun (there_of jobs)) c.placed.result) (sym c.in-Put.is)
@@ -91,7 +91,7 @@ returns-in-Delete-clause-step g c = λ told config opened h stands s known.
     let stood = c.delete.ensures.answers.stands told config opened h stands 0 in
     let is = changed g.D.Disk.tells g.D.Disk.ports_fail told Delete (λ s headers next. IsDeleteOver s headers c.in-Delete.key next) config opened h old new s known
     (g.D.Disk.fetches c.args.port.now) fetches (g.D.Disk.port_faults c.args.port.now) faults jobs.begun (there_of jobs) stands (ap (λ (face : Face). face.flight) c.delete.ensures.answers.face_is)
-    result stood c.delete.ensures.place c.delete.ensures.why (c.delete.ensures.written told s)
+    result stood c.delete.ensures.answers.still c.delete.ensures.answers.refused c.delete.ensures.place c.delete.ensures.why (c.delete.ensures.written told s)
     (λ at e. (c.delete.ensures.stopped at e).0) (λ runs full. (c.delete.ensures.exhausted runs full).0) in
     subst (Comes g.D.Disk.ports_fail config opened h before new (λ t. moment_of new t fetches faults jobs.begun (there_of jobs)) c.placed-in-Delete.result) (sym c.in-Delete.is)
     (behind h 0 (Makes Delete) (result_err result), is.0, is.1, stood, (result, c.placed-in-Delete.ensures, is.2))
@@ -176,8 +176,9 @@ returns-in-Freeze-clause-step g c = λ told config opened h stands s known.
     let fetches = g.D.Disk.fetches c.args.port.now in
     let faults = g.D.Disk.port_faults c.args.port.now in
     let stood = c.freeze.ensures.answers.stands told config opened h stands 0 in
-    let is = worked config opened h old new s known fetches faults jobs.begun (there_of jobs) HasNoFreeze IsFrozen (IsShortToFreeze old.state) (ap (λ (face : Face). face.flight) c.freeze.ensures.answers.face_is)
-    result stood c.freeze.ensures.idle (λ none. (let same = c.freeze.ensures.same none in λ i. view_of (same i).core)) (c.freeze.ensures.done told s) c.freeze.ensures.why (λ at e. (c.freeze.ensures.stopped at e).0) in
+    let is = worked g.D.Disk.tells told config opened h old new s known fetches faults jobs.begun (there_of jobs) HasNoFreeze IsFrozen (IsShortToFreeze old.state) c.freeze.ensures.answers.face_is
+    result stood c.freeze.ensures.answers.still c.freeze.ensures.answers.refused c.freeze.ensures.idle (λ none. (let same = c.freeze.ensures.same none in λ i. view_of (same i).core)) (c.freeze.ensures.done told s) c.freeze.ensures.why (λ at e. (c.freeze.ensures.stopped at e).0)
+    (λ runs some full. (c.freeze.ensures.exhausted runs some full).0) in
     subst (Comes g.D.Disk.ports_fail config opened h (moment_of old s fetches faults jobs.begun (there_of jobs)) new (λ t. moment_of new t fetches faults jobs.begun (there_of jobs)) c.flagged.result) (sym c.in-Freeze.is)
     (behind h 0 (Serves call.Work) (result_err result), is.0, is.1, stood, (result, c.flagged.ensures, is.2))
 
@@ -196,8 +197,9 @@ returns-in-Flush-clause-step g c = λ told config opened h stands s known.
     let fetches = g.D.Disk.fetches c.args.port.now in
     let faults = g.D.Disk.port_faults c.args.port.now in
     let stood = c.flush.ensures.answers.stands told config opened h stands 0 in
-    let is = worked config opened h old new s known fetches faults jobs.begun (there_of jobs) HasNoFlush IsFlushed (IsShortToFlush old.state) (ap (λ (face : Face). face.flight) c.flush.ensures.answers.face_is)
-    result stood c.flush.ensures.idle (λ none. (let same = c.flush.ensures.same none in λ i. view_of (same i).core)) (c.flush.ensures.done told s) c.flush.ensures.why (λ at e. (c.flush.ensures.stopped at e).0) in
+    let is = worked g.D.Disk.tells told config opened h old new s known fetches faults jobs.begun (there_of jobs) HasNoFlush IsFlushed (IsShortToFlush old.state) c.flush.ensures.answers.face_is
+    result stood c.flush.ensures.answers.still c.flush.ensures.answers.refused c.flush.ensures.idle (λ none. (let same = c.flush.ensures.same none in λ i. view_of (same i).core)) (c.flush.ensures.done told s) c.flush.ensures.why (λ at e. (c.flush.ensures.stopped at e).0)
+    (λ runs some full. (c.flush.ensures.exhausted runs some full).0) in
     subst (Comes g.D.Disk.ports_fail config opened h (moment_of old s fetches faults jobs.begun (there_of jobs)) new (λ t. moment_of new t fetches faults jobs.begun (there_of jobs)) c.flagged-in-Flush.result) (sym c.in-Flush.is)
     (behind h 0 (Serves call.Work) (result_err result), is.0, is.1, stood, (result, c.flagged-in-Flush.ensures, is.2))
 

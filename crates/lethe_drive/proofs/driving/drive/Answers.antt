@@ -6,6 +6,7 @@ use Rattle.lethe_core.specs.View.{view_of}
 use Rattle.lethe_drive.specs.Moments.{moment_of, there_of}
 use Rattle.lethe_drive.specs.Steps.{Steps}
 use Rattle.lethe_drive.specs.declared.event.Reply.{Reply}
+use Rattle.lethe_drive.proofs.Giving.{going_there}
 use Rattle.lethe_drive.proofs.Knowing.{moment_known}
 use Rattle.lethe_drive.proofs.Stepping.{driven_free, driven_on, ended_as, one_more}
 use Rattle.lethe_drive.proofs.driving.drive.Goals as goal
@@ -25,7 +26,7 @@ loop-event-init g c =
             s,
             known,
             stands,
-            subst (λ (replies : List Reply). Steps g.D.Disk.ports_fail h start [] replies h start) (sym c.in_ok-replies.ensures.items) (refl, refl),
+            subst (λ (replies : List Reply). Steps g.D.Disk.ports_fail config h start [] replies h start) (sym c.in_ok-replies.ensures.items) (refl, refl),
           );
       faults = omega arith;
       room = omega (arith, asked, c.in_ok-replies.ensures.capacity, c.len-count.ensures, c.args.events.ok.0);
@@ -59,8 +60,10 @@ loop-event-preserved g c =
             step.1,
             step.2,
             step.3,
-            subst (λ (replies : List Reply). Steps Ports h start (c.loop-event.yielded ++ event ∷ []) replies step.0 finish) (sym pushed)
-                (one_more Ports h start c.loop-event.yielded c.loop-event.replies.items so_far.0 middle so_far.4 event reply step.0 finish step.4 (moment_known new step.1 step.2 fetches faults begun there)),
+            subst (λ (replies : List Reply). Steps Ports config h start (c.loop-event.yielded ++ event ∷ []) replies step.0 finish) (sym pushed)
+                (one_more Ports config h start c.loop-event.yielded c.loop-event.replies.items so_far.0 middle so_far.4 event reply step.0 finish step.4
+                (moment_known config opened step.0 new step.3 step.1 step.2 fetches faults begun there (going_there g.D.Disk.tells new c.answer-reply.new.jobs c.answer-reply.ensures.jobs))
+                (record { faults = c.answer-reply.ensures.faults; port_faults = c.answer-reply.ensures.port_faults })),
           );
       faults = let before = c.loop-event.invariant.faults in let more = c.answer-reply.ensures.faults in omega (arith, before, more);
       room = let room = c.loop-event.invariant.room in let more = c.push.ensures.capacity in omega (arith, room, more);
@@ -90,7 +93,7 @@ returns-clause-driven g c = λ told config opened h stands s known.
     let mid = view_of c.loop-event.engine.core in
     let end = view_of c.match-number.engine.core in
     let start = moment_of old s (g.D.Disk.fetches c.args.port.now) (g.D.Disk.port_faults c.args.port.now) 0 None in
-    let begins = moment_known old s known (g.D.Disk.fetches c.args.port.now) (g.D.Disk.port_faults c.args.port.now) 0 None in
+    let begins = moment_known config opened h old stands s known (g.D.Disk.fetches c.args.port.now) (g.D.Disk.port_faults c.args.port.now) 0 None tt in
     let fetches = g.D.Disk.fetches c.loop-event.port in
     let faults = g.D.Disk.port_faults c.loop-event.port in
     let begun = c.loop-event.jobs.begun in
@@ -107,9 +110,11 @@ returns-clause-driven g c = λ told config opened h stands s known.
           let step = w.cancel.ensures.step told config opened so_far.0 so_far.3 so_far.1 so_far.2 fetches faults in
           let pushed : w.push-in-Some-number.new.self.items ≡ replies ++ reply ∷ [] = search rules in
           let whole : c.match-number.replies.items ≡ w.push-in-Some-number.new.self.items = λ i. (w.replies-is i).items in
-          let driven = driven_on Ports h start begins events replies so_far.0 mid so_far.1 fetches faults begun there so_far.4 number (sym c.number.ensures ∙ w.in-Some-number.is) reply step.0 new step.1 step.2 last.begun (there_of last) step.4 in
+          let moment = moment_known config opened step.0 new step.3 step.1 step.2 fetches faults last.begun (there_of last) (going_there g.D.Disk.tells new last w.cancel.ensures.jobs) in
+          let driven = driven_on Ports config h start begins events replies so_far.0 mid so_far.1 fetches faults begun there so_far.4 number (sym c.number.ensures ∙ w.in-Some-number.is) reply step.0 new step.1
+          last.begun (there_of last) moment (record { faults = w.cancel.ensures.faults; port_faults = omega arith }) step.4 in
           ended_as Ports config opened h start fetches faults new events (replies ++ reply ∷ []) (step.0, step.1, step.2, step.3, last.begun, driven) end c.args.events.items c.match-number.replies.items (λ i. view_of (w.engine-is i).core) (answered g c) (whole ∙ pushed)
       | in_default-number w ↦
-          let driven = driven_free Ports h start begins events replies so_far.0 mid so_far.1 fetches faults begun there so_far.4 (sym c.number.ensures ∙ w.in_default-number.is) in
+          let driven = driven_free Ports config h start begins events replies so_far.0 mid so_far.1 fetches faults begun there so_far.4 (sym c.number.ensures ∙ w.in_default-number.is) in
           ended_as Ports config opened h start fetches faults mid events replies (so_far.0, so_far.1, so_far.2, so_far.3, begun, driven) end c.args.events.items c.match-number.replies.items (λ i. view_of (w.engine-is i).core) (answered g c) (λ i. (w.replies-is i).items)
     ]

@@ -20,9 +20,9 @@ invariant-loop-event g l =
       sound : IsSound g.D.Disk.tells now;
       jobs : IsTheirs g.D.Disk.tells now l.jobs;
       begun : l.jobs.begun ≤ length l.yielded;
-      driven : g.D.Disk.tells → (config : Fields) (opened : Opened) (h : History) → StandsFor config opened h old → (s : Stored) → IsKnown old s
-          → (k : History) × (t : Stored) × IsKnown now t × StandsFor config opened k now
-          × Steps g.D.Disk.ports_fail h (moment_of old s (g.D.Disk.fetches l.fn.port) (g.D.Disk.port_faults l.fn.port) 0 None) l.yielded l.replies.items k
+      driven : g.D.Disk.tells → (config : Fields) (opened : Opened) (h : History) → StandsFor config opened h old → (s : Stored) → IsKnown config h old s
+          → (k : History) × (t : Stored) × IsKnown config k now t × StandsFor config opened k now
+          × Steps g.D.Disk.ports_fail config h (moment_of old s (g.D.Disk.fetches l.fn.port) (g.D.Disk.port_faults l.fn.port) 0 None) l.yielded l.replies.items k
           (moment_of now t (g.D.Disk.fetches l.port) (g.D.Disk.port_faults l.port) l.jobs.begun (there_of l.jobs));
       faults : old.faults ≤ now.faults;
       room : length l.fn.events.items + 1 ≤ vec_capacity l.replies;

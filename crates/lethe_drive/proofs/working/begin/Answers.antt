@@ -36,12 +36,12 @@ returns-in-Ok-clause-step g c = λ told config opened h stands s known fetches f
     let begun = is.begun told s (known.held runs) in (
       h,
       s,
-      known_held new s begun.1,
+      known_held config opened h new (is.answers.stands told config opened h stands 0) s begun.1,
       is.answers.stands told config opened h stands 0,
       (
         Ok jobs.begun,
         refl,
-        has_begun h old new s fetches faults jobs.begun (there_of jobs) is.same.0 (is.idle told) g.D.Disk.tells job runs
+        has_begun config h old new s fetches faults jobs.begun (there_of jobs) is.same.0 (λ i. parts_by_level (is.same.1 i)) (is.idle told) g.D.Disk.tells job runs
             (λ busy. ok_or_err job NothingDue (is.busy runs (some_mapped flying_of c.args.engine.now.core.flight busy)).0) begun.0 is.works is.unmade.0 is.unmade.2,
       ),
     )
@@ -61,12 +61,12 @@ returns-in-Err-clause-step g c = λ told config opened h stands s known fetches 
     let levels : new.levels ≡ old.levels = λ i. parts_by_level (is.same.1 i) in (
       h,
       s,
-      known_idle old new s (is.idle told) is.same.0 levels flight (ap (λ (face : Face). face.begun) is.answers.face_is) known,
+      known_idle config h old new s (is.idle told) is.same.0 levels flight (ap (λ (face : Face). face.begun) is.answers.face_is) known,
       subst (λ (g : History). StandsFor config opened g new) (refused_none h 0 Work why (no_failure_of_begin g.D.Disk.tells old why is.why)) (is.answers.stands told config opened h stands 0),
       (
         Err why,
         refl,
-        has_not_begun h old new s fetches faults jobs.begun (there_of jobs) is.same.0 (is.idle told) g.D.Disk.tells told known why is.why flight
+        has_not_begun config h old new s fetches faults jobs.begun (there_of jobs) is.same.0 levels (is.idle told) g.D.Disk.tells told known why is.why flight
             (λ at e. refused_as c.begin.result why (Stopped at) c.in-Err.is (c.begin.ensures.stopped at e).0)
             (λ runs busy. refused_as c.begin.result why NothingDue c.in-Err.is (c.begin.ensures.busy runs (some_mapped flying_of c.args.engine.now.core.flight busy)).0),
       ),

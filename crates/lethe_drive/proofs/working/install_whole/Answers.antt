@@ -1,10 +1,7 @@
 use Rattle.std.proofs.Common.{ap}
-use Rattle.lethe_base.specs.declared.call.Call.TheVariants.{Work}
-use Rattle.lethe_core.specs.Asked.{refused_to}
 use Rattle.lethe_core.specs.View.{Face, view_of}
 use Rattle.lethe_drive.specs.Moments.{there_of}
 use Rattle.lethe_drive.proofs.Installing.{install_refused, installed_whole, rest_refused, task_back, theirs_spoilt}
-use Rattle.lethe_drive.proofs.Knowing.{known_of}
 use Rattle.lethe_drive.proofs.Naming.{there_none}
 use Rattle.lethe_drive.proofs.working.install_whole.Goals as goal
 
@@ -23,10 +20,11 @@ pub returns-in-Ok-clause-step : goal.returns-in-Ok-clause-step
 returns-in-Ok-clause-step g c = λ told config opened h stands s known fetches faults.
     let numbered = c.args.numbered in
     let step = c.in_default.ensures.step told config opened h stands s known in
-    let made = installed_whole g.D.Disk.tells g.D.Disk.ports_fail h (view_of c.args.engine.now.core) s numbered.number fetches faults c.args.jobs.now.begun numbered.job tt
-    (view_of c.write_rest.new.engine.core) (view_of c.install.new.self.core) c.write_rest.new.job step.0 (there_of c.args.jobs.now) c.write_rest.ensures.task step.1 step.3.done
+    let stood = c.in-Ok.ensures.answers.stands told config opened h step.2 0 in
+    let made = installed_whole g.D.Disk.tells g.D.Disk.ports_fail h (view_of c.args.engine.now.core) s numbered.number fetches faults c.args.jobs.now.begun numbered.job config opened tt
+    (view_of c.write_rest.new.engine.core) (view_of c.install.new.self.core) stood c.write_rest.new.job step.0 (there_of c.args.jobs.now) c.write_rest.ensures.task step.1 step.3.done
     (λ at is. (c.in-Ok.ensures.stopped at is).1) (c.in-Ok.ensures.done told step.0) (ap (λ (face : Face). face.flight) c.in-Ok.ensures.answers.face_is) (there_none c.args.jobs.now c.requires.none) in
-    (made.0, made.1, c.in-Ok.ensures.answers.stands told config opened h step.2 0, made.2)
+    (made.0, made.1, stood, made.2)
 
 pub returns-in-Err-install-clause-jobs : goal.returns-in-Err-install-clause-jobs
 returns-in-Err-install-clause-jobs g c =
@@ -40,12 +38,10 @@ returns-in-Err-install-clause-step g c = λ told config opened h stands s known 
     let numbered = c.args.numbered in
     let step = c.in_default.ensures.step told config opened h stands s known in
     let is = c.in-Err-install.ensures in
-    let after = is.answers.stands told config opened h step.2 0 in (
-      after.now.stored,
-      known_of config opened (refused_to h 0 Work c.in-Err-install.why) (view_of c.install.new.self.core) after,
-      after,
-      install_refused g.D.Disk.tells g.D.Disk.ports_fail h (view_of c.args.engine.now.core) s numbered.number fetches faults c.args.jobs.now.begun numbered.job told (c.requires.reads told)
-          (view_of c.write_rest.new.engine.core) c.write_rest.new.job c.write_rest.ensures.task c.in_default.ensures.works c.in_default.ensures.whole config opened stands step.2 c.write_rest.ensures.faults
-          (view_of c.install.new.self.core) after.now.stored c.in-Err-install.job c.in-Err-install.why
-          (task_back numbered.job c.write_rest.new.job c.in-Err-install.job c.write_rest.ensures.task is.handed) is.back.1 is.why is.drawn,
-    )
+    let after = is.answers.stands told config opened h step.2 0 in
+    let not_made =
+    install_refused g.D.Disk.tells g.D.Disk.ports_fail h (view_of c.args.engine.now.core) s numbered.number fetches faults c.args.jobs.now.begun numbered.job told (c.requires.reads told)
+    (view_of c.write_rest.new.engine.core) c.write_rest.new.job c.write_rest.ensures.task c.in_default.ensures.works c.in_default.ensures.whole config opened stands step.2 c.write_rest.ensures.faults
+    step.0 step.1 step.3.done step.3.flight (view_of c.install.new.self.core) c.in-Err-install.job c.in-Err-install.why after is.answers.still is.answers.refused is.answers.face_is
+    (task_back numbered.job c.write_rest.new.job c.in-Err-install.job c.write_rest.ensures.task is.handed) is.back.1 is.why is.drawn in
+    (not_made.0, not_made.1, after, not_made.2)

@@ -27,7 +27,8 @@ returns-in_err-write_out-in-Some-clause-step g c = λ told config opened h stand
     let refused = c.in_err-write_out-in-Some.ensures in
     let same : c.write_out.new.job.task.value ≡ c.next_piece.new.self.task.value = λ i. (c.write_out.ensures.same.1 i).value in
     refused_paged g.D.Disk.tells g.D.Disk.ports_fail h (view_of c.args.engine.now.core) s number fetches faults begun c.args.job.now c.write_out.new.job (same ∙ c.next_piece.ensures.task)
-    config opened (view_of c.write_out.new.self.core) c.from_residual-in_err-write_out-in-Some.result c.in_err-write_out-in-Some.field-0.0 (search rules) (refused.answers.stands told config opened h stands 0) refused.why refused.refused
+    told config opened known (view_of c.write_out.new.self.core) c.in_err-write_out-in-Some.field-0.0 refused.answers.refused refused.answers.face_is refused.answers.still
+    c.from_residual-in_err-write_out-in-Some.result (search rules) (refused.answers.stands told config opened h stands 0) refused.why refused.refused
 
 -- it is written
 
@@ -51,10 +52,11 @@ returns-in_ok-write_out-in-Some-clause-step g c = λ told config opened h stands
     let written = c.in_ok-write_out-in-Some.ensures in
     let runs = not_stopped old.state.stopped (λ at e. ok_or_err c.in_ok-write_out-in-Some.field-0 (Stopped at) (written.stopped at e).0) in (
       s,
-      known_held new s (written.held told s (known.held runs)),
+      known_held config opened h new (written.answers.stands told config opened h stands 0) s (written.held told s (known.held runs)),
       written.answers.stands told config opened h stands 0,
       page_written g.D.Disk.tells g.D.Disk.ports_fail h old s number fetches faults begun c.args.job.now mid c.next_piece.ensures.task told (c.requires.reads told) c.requires.works c.next_piece.ensures.written
-          asked.made c.next_piece.ensures.job new c.write_out.new.job (left_of mid.drafts next c.in-Some.piece c.args.job.now.written is asked.left) written.answers.face_is,
+          asked.made c.next_piece.ensures.job new c.write_out.new.job (λ i. (c.write_out.ensures.same.1 i).value) written.works.asked written.written
+          (left_of mid.drafts next c.in-Some.piece c.args.job.now.written is asked.left) written.answers.face_is (written.page told),
     )
 
 -- none is left
@@ -75,5 +77,5 @@ returns-in-None-clause-step g c = λ told config opened h stands s known number 
       known,
       stands,
       no_page g.D.Disk.tells g.D.Disk.ports_fail h old s number fetches faults begun c.args.job.now mid c.next_piece.ensures.task told (c.requires.reads told) c.requires.works c.next_piece.ensures.written asked.made
-          c.next_piece.ensures.job (none_left mid.drafts next c.args.job.now.written is asked.left),
+          c.next_piece.ensures.job asked.ok (none_left mid.drafts next c.args.job.now.written is asked.left),
     )

@@ -1,13 +1,23 @@
-use Rattle.std.proofs.Common.{rules, ◌≡◌, inr, true, false, Ok, Err, sym, ap, ◌∙◌, subst, arith}
+use Rattle.std.proofs.Common.{rules, ◌≡◌, inl, inr, true, false, Ok, Err, refl, sym, ap, ◌∙◌, subst, arith}
 use Rattle.lethe_job.specs.Tasks.{AreSound, PlainTask, inputs_in, plain_task}
 use Rattle.lethe_core.specs.View.{view_of}
-use Rattle.lethe_drive.proofs.Resting.{Comes, Turns, all_written, rests_on, turn_refused}
+use Rattle.lethe_drive.proofs.Resting.{Comes, Turns, all_written, rests_first, rests_on, turn_refused}
 use Rattle.lethe_drive.proofs.working.write_rest.Goals as goal
 
 pub write_next-requires-clause-reads : goal.write_next-requires-clause-reads
 write_next-requires-clause-reads g c κs within = λ told.
     let task : plain_task c.args.job.now.task.value ≡ plain_task c.loop.job.task.value = ap plain_task (sym c.loop.invariant.task) in
     subst (λ (task : PlainTask). AreSound (inputs_in task)) task (c.requires.reads told)
+
+pub loop-init : goal.loop-init
+loop-init g c = record {
+  sound = c.requires.sound;
+  works = c.requires.works;
+  task = refl;
+  faults = omega arith;
+  port = inl refl;
+  rests = rests_first g.D.Disk.tells (view_of c.args.engine.now.core) c.args.job.now c.requires.works;
+}
 
 pub loop-preserved : goal.loop-preserved
 loop-preserved g c =

@@ -1,0 +1,261 @@
+-- What runs of events come to: two puts and a get, and a job from its begin to its end.
+use Rattle.std.proofs.Common.{◌≡◌, ◌≢◌, ◌≤◌, ◌⊎◌, inl, inr, ℕ, ◌+◌, Bool, true, false, List, [], ◌∷◌, length, All, Option, Some, None, Result, Ok, Err, refl, sym, ap, ◌∙◌, subst, arith}
+use Rattle.std.proofs.lemmas.List.{length_push}
+use Rattle.std.proofs.lemmas.List.Elements.{All-head, All-tail}
+use Rattle.std.proofs.lemmas.Option.{none-some, same_Some}
+use Rattle.lethe_base.specs.Counts.{Rose}
+use Rattle.lethe_base.specs.History.{AreDone, History, after}
+use Rattle.lethe_base.specs.Keys.{Bytes}
+use Rattle.lethe_base.specs.Limits.{max_place}
+use Rattle.lethe_base.specs.Read as reads
+use Rattle.lethe_base.specs.declared.call.Call.{Call}
+use Rattle.lethe_base.specs.declared.call.Call.TheVariants as call
+use Rattle.lethe_base.specs.declared.call.Did.TheVariants.{Done}
+use Rattle.lethe_base.specs.declared.config.Fields.{Fields}
+use Rattle.lethe_base.specs.declared.refused.Refused.{Refused}
+use Rattle.lethe_base.specs.declared.refused.Refused.TheVariants.{Fault, Stopped, Backwards, Pinned, NothingDue, Cancelled, Exhausted, ReadFault, NoMemory, Damaged}
+use Rattle.lethe_base.proofs.Histories.{done_push}
+use Rattle.lethe_cover.specs.Steps.{with_done}
+use Rattle.lethe_header.specs.declared.header.Header.{Header}
+use Rattle.lethe_manifest.specs.declared.manifest.Manifest.{Manifest}
+use Rattle.lethe_segment.specs.declared.record.Record.{Record}
+use Rattle.lethe_stored.specs.Stored.{Stored}
+use Rattle.lethe_state.specs.Room.{HasRoom}
+use Rattle.lethe_job.specs.Tasks.{IsBegunIn, PlainTask}
+use Rattle.lethe_core.specs.Changes.{put_over}
+use Rattle.lethe_core.specs.Merges.{IsInstalled, IsRoomMadeBy}
+use Rattle.lethe_core.specs.Reasons.{HasReason, IsShort, IsUnreadable}
+use Rattle.lethe_engine.specs.Refusals.{SeesRoom}
+use Rattle.lethe_drive.specs.Answers.{HasBegun, IsBegin, IsChange, IsChanged, IsFull, IsInstall, IsRead, IsShortToMerge, IsUnchanged, IsWriteOut}
+use Rattle.lethe_drive.specs.Moments.{Going, IsMomentOf, IsStoppedBy, Moment}
+use Rattle.lethe_drive.specs.Replies.{flagged, got, numbered, placed, united}
+use Rattle.lethe_drive.specs.Steps.{IsStep, Steps}
+use Rattle.lethe_drive.specs.declared.event.Event.TheVariants as event
+use Rattle.lethe_drive.specs.declared.event.Reply.{Reply}
+use Rattle.lethe_drive.specs.declared.event.Reply.TheVariants as reply
+use Rattle.lethe_drive.proofs.Knowing.{done_last, done_or_failed, room_in}
+
+-- A put that is done
+
+-- a store in whose history nothing failed runs
+never_stopped : (h : History) (stopped : Option ℕ) → AreDone h → IsStoppedBy h stopped → stopped ≡ None
+never_stopped h None done is = refl
+never_stopped h (Some at) done is =
+    let failed = is.4 in
+    absurd (done_or_failed is.1 failed.0 failed.1 (done_last is.0 is.1 (subst AreDone is.2 done)) failed.2)
+
+-- where a count rose within a time it rose in the whole of it
+rose_within : (first before now last : ℕ) → first ≤ before → now ≤ last → Rose before now → Rose first last
+rose_within first before now last begins ends rose = omega (arith, begins, ends, rose)
+
+module _ (PortsFail : Type 0) (config : Fields) (h : History) (old : Moment) (is : IsMomentOf config h old) (done : AreDone h) (few : length h + 1 ≤ max_place)
+    (room : length old.stored.active.records + 1 ≤ config.buffer) where
+  runs : old.state.stopped ≡ None
+  runs = never_stopped h old.state.stopped done is.stopped
+
+  sees : SeesRoom old.state
+  sees =
+      let records = is.remembers.records in
+      let buffer : old.state.manifest.config.buffer ≡ config.buffer = ap (λ (m : Manifest). m.config.buffer) is.remembers.manifest ∙ ap (λ (c : Fields). c.buffer) is.config_is in
+      omega (arith, records, buffer, room)
+
+  has : HasRoom old.stored
+  has = room_in old.stored old.state old.levels is.remembers sees
+
+  cleared_is : {outcomes : List _} (cleared : Stored) → IsRoomMadeBy old.flight old.stored outcomes cleared → cleared ≡ old.stored
+  cleared_is cleared (inl made) = made.2
+  cleared_is cleared (inr made) = absurd (made.0 has)
+
+  module _ (call : Call) (IsNext : Stored → List Header → Record → Type 0) (g : History) (new : Moment) where
+    one_record : (place : ℕ) → IsChanged call IsNext h old place g new → length new.stored.active.records ≡ length old.stored.active.records + 1
+    one_record place made =
+        ap (λ (s : Stored). length s.active.records) made.stored ∙ length_push made.cleared.active.records made.next
+        ∙ ap (λ (s : Stored). length s.active.records + 1) (cleared_is made.cleared made.room)
+
+    no_reason : (why : Refused) → HasReason (IsFull old × (IsShort old.state ⊎ IsShortToMerge new)) old.state old.faults new.faults why → (Rose old.faults new.faults → ⊥) → (why ≡ NoMemory → ⊥) → ⊥
+    no_reason (Fault place before behind) reason calm memory = calm reason.4
+    no_reason (Stopped at) reason calm memory = none-some at (sym runs ∙ reason)
+    no_reason (Exhausted last) reason calm memory = enough reason.2
+      where
+        enough : (old.state.count ≡ max_place) ⊎ (IsFull old × (IsShort old.state ⊎ IsShortToMerge new)) → ⊥
+        enough (inl full) = let count = is.count in absurd (omega (arith, full, count, few))
+        enough (inr short) = short.0 sees
+    no_reason NoMemory reason calm memory = memory refl
+    no_reason (Backwards clock) reason calm memory = reason
+    no_reason (Pinned pin limit) reason calm memory = reason
+    no_reason NothingDue reason calm memory = reason
+    no_reason (Cancelled begun other) reason calm memory = reason
+    no_reason (ReadFault before behind) reason calm memory = reason
+    no_reason (Damaged name) reason calm memory = reason
+
+    never_refused : (why : Refused) → IsUnchanged PortsFail call h old why g new → (Rose old.faults new.faults → ⊥) → (why ≡ NoMemory → ⊥) → ⊥
+    never_refused why refused calm memory = by refused.reason
+      where
+        by : HasReason (IsFull old × (IsShort old.state ⊎ IsShortToMerge new)) old.state old.faults new.faults why
+            ⊎ (IsFull old × (old.state.stopped ≡ None) × IsUnreadable (Unit {0}) PortsFail old.port_faults new.port_faults why) → ⊥
+        by (inl reason) = no_reason why reason calm memory
+        by (inr unread) = unread.0 sees
+
+    put_done : (result : Result ℕ Refused) → IsChange PortsFail call IsNext h old result g new → (Rose old.faults new.faults → ⊥) → (result ≡ Err NoMemory → ⊥)
+        → (result ≡ Ok (length h + 1)) × (g ≡ with_done h 0 call) × (length new.stored.active.records ≡ length old.stored.active.records + 1)
+    put_done (Ok place) made calm memory = let changed = made.answers in (λ i. Ok (changed.place_is i), changed.history, one_record place changed)
+    put_done (Err why) made calm memory = absurd (never_refused why made.answers calm (λ e. memory (λ i. Err (e i))))
+
+-- A get that is answered
+
+never_unread : (PortsFail : Type 0) (before now : ℕ) (why : Refused) → (Rose before now → ⊥) → IsUnreadable (Unit {0}) PortsFail before now why → ⊥
+never_unread PortsFail before now (ReadFault b a) calm is = calm is.3
+never_unread PortsFail before now (Damaged name) calm is = is tt
+never_unread PortsFail before now (Fault place b a) calm is = is
+never_unread PortsFail before now (Stopped at) calm is = is
+never_unread PortsFail before now (Exhausted last) calm is = is
+never_unread PortsFail before now NoMemory calm is = is
+never_unread PortsFail before now (Backwards clock) calm is = is
+never_unread PortsFail before now (Pinned pin limit) calm is = is
+never_unread PortsFail before now NothingDue calm is = is
+never_unread PortsFail before now (Cancelled begun other) calm is = is
+
+get_done : (PortsFail : Type 0) (asked : Bytes) (h : History) (old : Moment) (result : Result (Option (ℕ × Bytes)) Refused) (g : History) (new : Moment) → IsRead PortsFail (reads.Get asked) reads.Found h old result g new
+    → (Rose old.port_faults new.port_faults → ⊥) → (result ≡ Err NoMemory → ⊥) → (held : Option (ℕ × Bytes)) × (result ≡ Ok held) × (reads.answer (after h) (reads.Get asked) ≡ reads.Found held)
+get_done PortsFail asked h old (Ok held) g new is calm memory = (held, refl, is.answers)
+get_done PortsFail asked h old (Err why) g new is calm memory = absurd (by is.answers)
+  where
+    by : (why ≡ NoMemory) ⊎ IsUnreadable (Unit {0}) PortsFail old.port_faults new.port_faults why → ⊥
+    by (inl none) = memory (λ i. Err (none i))
+    by (inr unread) = never_unread PortsFail old.port_faults new.port_faults why calm unread
+
+-- Two puts and a get
+
+module _ (PortsFail : Type 0) (config : Fields) (h g : History) (start finish : Moment) (first second asked : Bytes) (dkey other : ℕ) (value next : Bytes) where
+  abbrev pub one : Call
+  one = call.Put first dkey value
+
+  abbrev pub two : Call
+  two = call.Put second other next
+
+  abbrev pub Answered : List Reply → Type 0
+  Answered replies = (g ≡ with_done (with_done h 0 one) 0 two)
+      × ((held : Option (ℕ × Bytes)) × (replies ≡ reply.Place (length h + 1) ∷ reply.Place (length h + 2) ∷ reply.Got held ∷ []) × (reads.answer (after g) (reads.Get asked) ≡ reads.Found held))
+
+  abbrev pub Goes : List Reply → Type 0
+  Goes replies = Steps PortsFail config h start (event.Put first dkey value ∷ event.Put second other next ∷ event.Get asked ∷ []) replies g finish
+
+  abbrev pub Remembers : List Reply → Type 0
+  Remembers replies = All (λ (given : Reply). given ≢ reply.Refused NoMemory) replies
+
+  module _ (is : IsMomentOf config h start) (done : AreDone h) (few : length h + 2 ≤ max_place) (room : length start.stored.active.records + 2 ≤ config.buffer)
+      (calm : Rose start.faults finish.faults → ⊥) (quiet : Rose start.port_faults finish.port_faults → ⊥) where
+    three : (a b c : Reply) → Goes (a ∷ b ∷ c ∷ []) → Remembers (a ∷ b ∷ c ∷ []) → Answered (a ∷ b ∷ c ∷ [])
+    three a b c steps memory =
+        let given : Reply → Type 0 = λ (given : Reply). given ≢ reply.Refused NoMemory in
+        let others = steps.5 in
+        let last = others.5 in
+        let end = last.5 in
+        let behind : All given (b ∷ c ∷ []) = All-tail given a (b ∷ c ∷ []) memory in
+        let faults : last.1.faults ≤ finish.faults = subst (λ (m : Moment). last.1.faults ≤ m.faults) (sym end.1) (omega arith) in
+        let port_faults : last.1.port_faults ≤ finish.port_faults = subst (λ (m : Moment). last.1.port_faults ≤ m.port_faults) (sym end.1) (omega arith) in
+        let put = steps.4 in
+        let put_next = others.4 in
+        let get = last.4 in
+        let a_done =
+        put_done PortsFail config h start is done (omega (arith, few)) (omega (arith, room)) one (λ s headers next_record. next_record ≡ put_over s first dkey value) steps.0 steps.1 put.0 put.2
+        (λ rose. calm (rose_within start.faults start.faults steps.1.faults finish.faults (omega arith) (omega (arith, others.3.faults, last.3.faults, faults)) rose))
+        (λ none. All-head given a (b ∷ c ∷ []) memory (put.1 ∙ (λ i. placed (none i)))) in
+        let count : length steps.0 ≡ length h + 1 = ap length a_done.1 ∙ length_push h (record { caller = 0; call = one; did = Done }) in
+        let done_one : AreDone steps.0 = subst AreDone (sym a_done.1) (done_push h (record { caller = 0; call = one; did = Done }) done refl) in
+        let b_done =
+        put_done PortsFail config steps.0 steps.1 steps.2 done_one (omega (arith, few, count)) (omega (arith, room, a_done.2)) two (λ s headers next_record. next_record ≡ put_over s second other next)
+        others.0 others.1 put_next.0 put_next.2
+        (λ rose. calm (rose_within start.faults steps.1.faults others.1.faults finish.faults steps.3.faults (omega (arith, last.3.faults, faults)) rose))
+        (λ none. All-head given b (c ∷ []) behind (put_next.1 ∙ (λ i. placed (none i)))) in
+        let got_it =
+        get_done PortsFail asked others.0 others.1 get.0 last.0 last.1 get.2
+        (λ rose. quiet (rose_within start.port_faults others.1.port_faults last.1.port_faults finish.port_faults (omega (arith, steps.3.port_faults, others.3.port_faults)) port_faults rose))
+        (λ none. All-head given c [] (All-tail given b (c ∷ []) behind) (get.1 ∙ (λ i. got (none i)))) in
+        let same : g ≡ others.0 = end.0 ∙ get.2.history in
+        let a_is : a ≡ reply.Place (length h + 1) = put.1 ∙ (λ i. placed (a_done.0 i)) in
+        let b_is : b ≡ reply.Place (length h + 2) = put_next.1 ∙ (λ i. placed (b_done.0 i)) ∙ ap reply.Place (omega (arith, count)) in
+        let c_is : c ≡ reply.Got got_it.0 = get.1 ∙ (λ i. got (got_it.1 i)) in (
+          same ∙ b_done.1 ∙ ap (λ (before : History). with_done before 0 two) a_done.1,
+          (got_it.0, (λ i. a_is i ∷ b_is i ∷ c_is i ∷ []), subst (λ (g : History). reads.answer (after g) (reads.Get asked) ≡ reads.Found got_it.0) (sym same) got_it.2),
+        )
+
+    pub puts_read : (replies : List Reply) → Goes replies → Remembers replies → Answered replies
+    puts_read [] steps memory = absurd steps
+    puts_read (a ∷ []) steps memory = absurd steps.5
+    puts_read (a ∷ b ∷ []) steps memory = let others = steps.5 in absurd others.5
+    puts_read (a ∷ b ∷ c ∷ []) steps memory = three a b c steps memory
+    puts_read (a ∷ b ∷ c ∷ d ∷ more) steps memory = let others = steps.5 in let last = others.5 in absurd last.5
+
+-- A job from its begin to its end
+
+-- it was begun
+module _ (h : History) (old : Moment) (number : ℕ) (g : History) (new : Moment) where
+  begun_as : (result : Result ℕ Refused) → reply.Job number ≡ numbered result → IsBegin h old result g new → (own : ℕ) × HasBegun old own new
+  begun_as (Ok own) told is = (own, is.answers)
+  begun_as (Err why) told is = absurd (let clash : reply.Job number ≡ reply.Refused why = told in cc)
+
+-- its next page was written, or none was left
+module _ (PortsFail : Type 0) (h : History) (old : Moment) (going : Going) (wrote : Bool) (g : History) (new : Moment) where
+  record Keeps : Type 0 where
+    history : g ≡ h
+    stored : new.stored ≡ old.stored
+    after : Going
+    there : new.there ≡ Some after
+    task : after.task ≡ going.task
+
+  wrote_as : (result : Result Bool Refused) → reply.Flag wrote ≡ flagged result → IsWriteOut PortsFail going h old result g new → Keeps
+  wrote_as (Ok true) told is =
+      let written = is.answers in
+      let goes_on = written.goes_on in
+      record { history = is.history; stored = written.stored; after = record going { written = going.written + 1; port_faults = goes_on.port_faults }; there = goes_on.there; task = refl }
+  wrote_as (Ok false) told is =
+      let none = is.answers in
+      let goes_on = none.goes_on in
+      record { history = is.history; stored = none.stored; after = record going { written = going.written; port_faults = goes_on.port_faults }; there = goes_on.there; task = refl }
+  wrote_as (Err why) told is = absurd (let clash : reply.Flag wrote ≡ reply.Refused why = told in cc)
+
+-- and it was installed
+module _ (PortsFail : Type 0) (number : ℕ) (h : History) (old : Moment) (going : Going) (there : old.there ≡ Some going) (g : History) (new : Moment) where
+  wrote_next : (wrote : Bool) → IsStep PortsFail h old (event.WriteOut number) (reply.Flag wrote) g new → Keeps PortsFail h old going wrote g new
+  wrote_next wrote (inl none) = absurd (let clash : reply.Flag wrote ≡ reply.NoSuch = none.is in cc)
+  wrote_next wrote (inr was) =
+      let same : was.0 ≡ going = same_Some was.0 going (sym was.1.0.0 ∙ there) in
+      wrote_as PortsFail h old going wrote g new was.2 was.3 (subst (λ (going : Going). IsWriteOut PortsFail going h old was.2 g new) same was.4)
+
+  record Ends : Type 0 where
+    history : g ≡ h
+    installed : IsInstalled old.stored going.task new.stored
+    flight : new.flight ≡ None
+    gone : new.there ≡ None
+
+  ended_as : (result : Result (Unit {0}) Refused) → reply.Unit ≡ united result → IsInstall PortsFail going h old result g new → Ends
+  ended_as (Ok done) told is = let installed = is.answers in record { history = is.history; installed = installed.installed; flight = installed.flight; gone = installed.there }
+  ended_as (Err why) told is = absurd (let clash : reply.Unit ≡ reply.Refused why = told in cc)
+
+  ends : IsStep PortsFail h old (event.Install number) reply.Unit g new → Ends
+  ends (inl none) = absurd (let clash : reply.Unit ≡ reply.NoSuch = none.is in cc)
+  ends (inr was) =
+      let same : was.0 ≡ going = same_Some was.0 going (sym was.1.0.0 ∙ there) in
+      ended_as was.2 was.3 (subst (λ (going : Going). IsInstall PortsFail going h old was.2 g new) same was.4)
+
+pub job_done : (PortsFail : Type 0) (config : Fields) (h g : History) (start finish : Moment) (number : ℕ) (wrote : Bool)
+    → Steps PortsFail config h start (event.Begin ∷ event.WriteOut number ∷ event.Install number ∷ []) (reply.Job number ∷ reply.Flag wrote ∷ reply.Unit ∷ []) g finish
+    → (g ≡ h) × ((task : PlainTask) × IsBegunIn start.stored task × IsInstalled start.stored task finish.stored) × (finish.flight ≡ None) × (finish.there ≡ None)
+job_done PortsFail config h g start finish number wrote steps =
+    let others = steps.5 in
+    let last = others.5 in
+    let end = last.5 in
+    let begin = steps.4 in
+    let begun = (begun_as h start number steps.0 steps.1 begin.0 begin.1 begin.2).1 in
+    let first : Going = record { number = (begun_as h start number steps.0 steps.1 begin.0 begin.1 begin.2).0; refused = false; task = begun.task; written = 0; port_faults = 0 } in
+    let written = wrote_next PortsFail number steps.0 steps.1 first begun.there others.0 others.1 wrote others.4 in
+    let ended = ends PortsFail number others.0 others.1 written.after written.there last.0 last.1 last.4 in
+    let stored : others.1.stored ≡ start.stored = written.stored ∙ begin.2.stored in
+    let installed : IsInstalled start.stored begun.task last.1.stored =
+    subst (λ (s : Stored). IsInstalled s begun.task last.1.stored) stored (subst (λ (task : PlainTask). IsInstalled others.1.stored task last.1.stored) written.task ended.installed) in (
+      end.0 ∙ ended.history ∙ written.history ∙ begin.2.history,
+      (begun.task, begun.begun, subst (λ (m : Moment). IsInstalled start.stored begun.task m.stored) (sym end.1) installed),
+      ap (λ (m : Moment). m.flight) end.1 ∙ ended.flight,
+      ap (λ (m : Moment). m.there) end.1 ∙ ended.gone,
+    )
