@@ -1,4 +1,4 @@
-use Rattle.std.proofs.Common.{◌≡◌, [], sym, ap, ◌∙◌, subst}
+use Rattle.std.proofs.Common.{◌≡◌, sym, ap, ◌∙◌, subst}
 use Rattle.lethe_disk.specs.Directory.{SameBeside, object}
 use Rattle.lethe_disk.specs.Disk.{IsSynced}
 use Rattle.lethe_disk.specs.Runs.{Leads}
