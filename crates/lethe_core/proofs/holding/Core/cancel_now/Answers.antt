@@ -7,9 +7,18 @@ use Rattle.lethe_core.specs.Running.{Holds}
 use Rattle.lethe_core.specs.View.{flying_of, view_of}
 use Rattle.lethe_core.proofs.Asked.{not_none}
 use Rattle.lethe_core.proofs.Hindered.{keeps_itself}
-use Rattle.lethe_core.proofs.Pages.{flying_is, may_remove, refused_keeps}
+use Rattle.lethe_core.proofs.Pages.{flying_is, held_now, may_remove, refused_keeps}
 use Rattle.lethe_core.proofs.Removed.{grounded_keeps, only_failed, removed_holds, removed_keeps}
 use Rattle.lethe_core.proofs.holding.Core.cancel_now.Goals as goal
+
+-- no page lies there but the job's
+pub remove_pages-requires-clause-there : goal.remove_pages-requires-clause-there
+remove_pages-requires-clause-there g c κs within = λ told.
+    let self = c.args.self.now in
+    let may = c.requires.may in
+    let is = flying_is self c.take.result c.in-Some.flight c.take.ensures.value c.in-Some.is in
+    let held = held_now g.D.Disk.tells (view_of self) may.sound told may.runs in
+    (held.0, [], may_remove g.D.Disk.tells (view_of self) (flying_of c.in-Some.flight) is may.sound held.0 held.1)
 
 pub returns-in_default-clause-keeps : goal.returns-in_default-clause-keeps
 returns-in_default-clause-keeps g c =
