@@ -20,11 +20,12 @@ use Rattle.lethe_stored.specs.Stored.{Stored, IsCoherent, IsCited, part_names}
 use Rattle.lethe_stored.specs.Encodes.{Encodes, AreSpare, HasObject}
 use Rattle.lethe_stored.proofs.Frame.{none_of}
 use Rattle.lethe_stored.proofs.Lists.{all_from, from_map}
-use Rattle.lethe_stored.proofs.Parts.{part_kind}
+use Rattle.lethe_stored.proofs.Parts.{object_part, part_kind}
+use Rattle.lethe_stored.specs.Files.{objects_of}
 use Rattle.lethe_stored.proofs.Steps.{switch_encodes}
 use Rattle.lethe_advance.specs.declared.step.Step.{Step}
 use Rattle.lethe_advance.specs.Settled.{HasOnly, names_in}
-use Rattle.lethe_advance.specs.Steps.{IsStep, IsUncited}
+use Rattle.lethe_advance.specs.Steps.{IsSettledBy, IsStep, IsUncited, WasThere}
 use Rattle.lethe_advance.proofs.Names.{is_among, all_present}
 use Rattle.lethe_advance.proofs.Placed.{part_there, written, names, older_below, still, part_stays, loose_stays, next_there, after}
 
@@ -35,8 +36,27 @@ module _ (s t : Stored) (loose left : List (Name × List ℕ)) (headers : List H
   abbrev pub gone : List Name
   gone = step.gone.items
 
-  uncited_at : (name : Name) → Contains gone name → IsUncited s t name
-  uncited_at name there = All-contains (IsUncited s t) gone name is.gone there
+  uncited_at : (name : Name) → Contains gone name → IsUncited s loose t name
+  uncited_at name there = All-contains (IsUncited s loose t) gone name is.gone there
+
+  -- a page is neither gate nor manifest
+  loose_kind : (named : Name × List ℕ) → Contains loose named → (named.0.kind ≢ kinds.Gate) × (named.0.kind ≢ kinds.Manifest)
+  loose_kind named among = (no_gate, no_manifest)
+    where
+      page : named.0.kind ≡ kinds.Page
+      page = All-contains (λ (other : Name × List ℕ). other.0.kind ≡ kinds.Page) loose named is.loose_pages among
+
+      no_gate : named.0.kind ≢ kinds.Gate
+      no_gate k = let clash : kinds.Page ≡ kinds.Gate = sym page ∙ k in cc
+
+      no_manifest : named.0.kind ≢ kinds.Manifest
+      no_manifest k = let clash : kinds.Page ≡ kinds.Manifest = sym page ∙ k in cc
+
+  old_kind : (name : Name) → Contains (part_names s) name ⊎ Contains (names_in loose) name → (name.kind ≢ kinds.Gate) × (name.kind ≢ kinds.Manifest)
+  old_kind name (inl part) = part_kind s name part
+  old_kind name (inr among) =
+      let found = from_map (λ (named : Name × List ℕ). named.0) loose name among in
+      subst (λ (n : Name). (n.kind ≢ kinds.Gate) × (n.kind ≢ kinds.Manifest)) found.2 (loose_kind found.0 found.1)
 
   pub gone_spare : AreSpare t gone
   gone_spare name there = record {
@@ -44,11 +64,11 @@ module _ (s t : Stored) (loose left : List (Name × List ℕ)) (headers : List H
     no_gate = λ k lt same. kind.0 (ap (λ (x : Name). x.kind) same);
   }
     where
-      out : IsUncited s t name
+      out : IsUncited s loose t name
       out = uncited_at name there
 
       kind : (name.kind ≢ kinds.Gate) × (name.kind ≢ kinds.Manifest)
-      kind = part_kind s name out.0
+      kind = old_kind name out.0
 
       uncited : IsCited t name → ⊥
       uncited (inl gate) = kind.0 (ap (λ (x : Name). x.kind) gate)
@@ -79,10 +99,16 @@ module _ (s t : Stored) (loose left : List (Name × List ℕ)) (headers : List H
       other_kind : (name : Name) → (name.kind ≢ kinds.Gate) × (name.kind ≢ kinds.Manifest) → object now name ≡ object made name
       other_kind name kind = beside_all name (λ k. kind.1 (ap (λ (x : Name). x.kind) k)) (λ k. kind.0 (ap (λ (x : Name). x.kind) k)) (λ k. kind.0 (ap (λ (x : Name). x.kind) k)) (λ k. kind.1 (ap (λ (x : Name). x.kind) k))
 
+      -- what was cited or lay beside that is there
+      old_there : (name : Name) → Contains (part_names s) name ⊎ Contains (names_in loose) name → IsSome (object now name)
+      old_there name (inl part) = ap is_some (other_kind name (part_kind s name part) ∙ part_stays s t loose left headers step coherent is d only e name part) ∙ part_there d s name e.parts part
+      old_there name (inr among) =
+          let found = from_map (λ (named : Name × List ℕ). named.0) loose name among in
+          subst (λ n. IsSome (object now n)) found.2 (ap is_some (other_kind found.0.0 (loose_kind found.0 found.1)
+          ∙ loose_stays s t loose left headers step coherent is d only e found.0 found.1 ∙ All-contains (HasObject d) loose found.0 only.there found.1))
+
       pub gone_present : ArePresent gone now
-      gone_present = all_present gone now is.gone_once (λ name there.
-          let part = (uncited_at name there).0 in
-          ap is_some (other_kind name (part_kind s name part) ∙ part_stays s t loose left headers step coherent is d only e name part) ∙ part_there d s name e.parts part)
+      gone_present = all_present gone now is.gone_once (λ name there. old_there name (uncited_at name there).0)
 
       gate_gone : object now (gate_name s.manifest.no) ≡ None
       gate_gone = ap (λ z. object z (gate_name s.manifest.no)) done ∙ object_beside_remove _ (manifest_name s.manifest.no) (gate_name s.manifest.no) (gate≢manifest s.manifest.no s.manifest.no)
@@ -116,26 +142,21 @@ module _ (s t : Stored) (loose left : List (Name × List ℕ)) (headers : List H
         not_manifest : name ≢ manifest_name s.manifest.no
         not_manifest same = true≢false (sym there_now ∙ ap is_some (ap (object now) same ∙ manifest_gone))
 
-        part_next : Contains (part_names s) name → Contains (part_names t) name
-        part_next part = elim (All-contains (λ n. Contains (part_names t) n ⊎ Contains gone n) (part_names s) name is.stays part) [
-          | inl next ↦ next
-          | inr out ↦ absurd (not_gone out)
-        ]
+        settled_by : IsSettledBy step t left name → IsCitedOrLeft name
+        settled_by (inl next) = inl (inr (inr next))
+        settled_by (inr (inl out)) = absurd (not_gone out)
+        settled_by (inr (inr stays)) = inr stays
 
         from_cited : IsCited s name → IsCitedOrLeft name
         from_cited (inl gate) = absurd (not_gate gate)
         from_cited (inr (inl manifest)) = absurd (not_manifest manifest)
-        from_cited (inr (inr part)) = inl (inr (inr (part_next part)))
+        from_cited (inr (inr part)) = settled_by (All-contains (IsSettledBy step t left) (part_names s) name is.stays part)
 
-        -- what is loose is cited next or left loose
         from_loose : Contains (names_in loose) name → IsCitedOrLeft name
         from_loose among =
             let found = from_map (λ (named : Name × List ℕ). named.0) loose name among in
-            let taken = All-contains (λ (named : Name × List ℕ). Contains (names_in left) named.0 ⊎ Contains (part_names t) named.0) loose found.0 is.taken found.1 in
-            elim (subst (λ n. Contains (names_in left) n ⊎ Contains (part_names t) n) found.2 taken) [
-              | inl stays ↦ inr stays
-              | inr part ↦ inl (inr (inr part))
-            ]
+            let taken = All-contains (λ (named : Name × List ℕ). IsSettledBy step t left named.0) loose found.0 is.taken found.1 in
+            settled_by (subst (IsSettledBy step t left) found.2 taken)
 
         from_old : IsSome (object d name) → IsCitedOrLeft name
         from_old here = elim (only.only name here) [ inl cited ↦ from_cited cited | inr among ↦ from_loose among ]
@@ -157,25 +178,20 @@ module _ (s t : Stored) (loose left : List (Name × List ℕ)) (headers : List H
           ]
         ]
 
-      -- an object that is left loose has the bytes that it had
+      -- an object that is left has the bytes that it had
+      made_there : (named : Name × List ℕ) → WasThere s loose named → HasObject made named
+      made_there named (inl among) = loose_stays s t loose left headers step coherent is d only e named among ∙ All-contains (HasObject d) loose named only.there among
+      made_there named (inr old) = All-contains (HasObject made) (objects_of s.files) named ((still s t loose left headers step coherent is d only e).parts).files old
+
+      was_kind : (named : Name × List ℕ) → WasThere s loose named → (named.0.kind ≢ kinds.Gate) × (named.0.kind ≢ kinds.Manifest)
+      was_kind named (inl among) = loose_kind named among
+      was_kind named (inr old) = part_kind s named.0 (object_part s named old)
+
       left_there : (named : Name × List ℕ) → Contains left named → HasObject cleared named
-      left_there named among = cleared_others gone now named.0 (none_of gone named.0 (λ there. uncited (inr (inr (uncited_at named.0 there).0)))) ∙ other_kind named.0 (no_gate, no_manifest)
-          ∙ loose_stays s t loose left headers step coherent is d only e named was ∙ All-contains (HasObject d) loose named only.there was
-        where
-          was : Contains loose named
-          was = All-contains (Contains loose) left named is.left_loose among
-
-          page : named.0.kind ≡ kinds.Page
-          page = All-contains (λ (other : Name × List ℕ). other.0.kind ≡ kinds.Page) loose named is.loose_pages was
-
-          no_gate : named.0.kind ≢ kinds.Gate
-          no_gate k = let clash : kinds.Page ≡ kinds.Gate = sym page ∙ k in cc
-
-          no_manifest : named.0.kind ≢ kinds.Manifest
-          no_manifest k = let clash : kinds.Page ≡ kinds.Manifest = sym page ∙ k in cc
-
-          uncited : IsCited s named.0 → ⊥
-          uncited = All-contains (λ (other : Name × List ℕ). IsCited s other.0 → ⊥) loose named is.loose_uncited was
+      left_there named among =
+          let was = All-contains (WasThere s loose) left named is.left_there among in
+          cleared_others gone now named.0 (none_of gone named.0 (All-contains (λ (other : Name × List ℕ). Contains gone other.0 → ⊥) left named is.left_stays among))
+          ∙ other_kind named.0 (was_kind named was) ∙ made_there named was
 
       pub only_next : HasOnly t left cleared
       only_next = record { only = known_next; there = all_from (HasObject cleared) left left_there }

@@ -24,16 +24,24 @@ IsSegmentFrom s step segment = Contains (segments_of s) segment ⊎ Contains (wr
 abbrev pub IsObjectFrom : Stored → List (Name × List ℕ) → Step → Name × List ℕ → Type 0
 IsObjectFrom s loose step named = Contains (objects_of s.files) named ⊎ Contains loose named ⊎ Contains (written_in step) named
 
--- it isn't cited any more
-abbrev pub IsUncited : Stored → Stored → Name → Type 0
-IsUncited s t name = Contains (part_names s) name × (Contains (part_names t) name → ⊥)
+-- it is cited, or lies beside that, and isn't cited next
+abbrev pub IsUncited : Stored → List (Name × List ℕ) → Stored → Name → Type 0
+IsUncited s loose t name = (Contains (part_names s) name ⊎ Contains (names_in loose) name) × (Contains (part_names t) name → ⊥)
+
+-- it is cited next, goes, or is left beside that
+abbrev pub IsSettledBy : Step → Stored → List (Name × List ℕ) → Name → Type 0
+IsSettledBy step t left name = Contains (part_names t) name ⊎ Contains step.gone.items name ⊎ Contains (names_in left) name
+
+-- it lay beside what is stored, or is an object of a stored file
+abbrev pub WasThere : Stored → List (Name × List ℕ) → Name × List ℕ → Type 0
+WasThere s loose named = Contains loose named ⊎ Contains (objects_of s.files) named
 
 -- the files that don't go
 abbrev pub kept_files : Stored → Step → List StoredFile
 kept_files s step = filter (λ file. is_kept step.merged.items file.header) s.files
 
--- Objects are written, files are added in a level, files go, and so do the objects that aren't cited any more. Of the loose objects some are
--- cited then, and the others are left loose.
+-- Objects are written, files are added in a level, files go. Of the objects that aren't cited any more, and of those that lay beside, some go and
+-- the others are left beside what is stored next.
 pub record IsStep (s : Stored) (loose : List (Name × List ℕ)) (t : Stored) (left : List (Name × List ℕ)) (headers : List Header) (step : Step) : Type 0 where
   pub coherent : IsCoherent t
   pub config : t.manifest.config ≡ s.manifest.config
@@ -51,13 +59,13 @@ pub record IsStep (s : Stored) (loose : List (Name × List ℕ)) (t : Stored) (l
   pub segments : All (IsSegmentFrom s step) (segments_of t)
   pub objects : All (IsObjectFrom s loose step) (objects_of t.files)
   pub cited : All (λ made. Contains (part_names t) made.name) step.objects.items
-  -- what was cited is cited next or goes, and nothing else goes
-  pub stays : All (λ name. Contains (part_names t) name ⊎ Contains step.gone.items name) (part_names s)
-  pub gone : All (IsUncited s t) step.gone.items
+  -- what was cited, or lay beside that, is cited next, goes or is left, and nothing else goes or is left
+  pub stays : All (IsSettledBy step t left) (part_names s)
+  pub taken : All (λ named. IsSettledBy step t left named.0) loose
+  pub gone : All (IsUncited s loose t) step.gone.items
   pub gone_once : AllPairs (λ name other. name ≢ other) step.gone.items
-  -- a loose object is cited next or left
-  pub taken : All (λ named. Contains (names_in left) named.0 ⊎ Contains (part_names t) named.0) loose
-  pub left_loose : All (Contains loose) left
+  pub left_there : All (WasThere s loose) left
+  pub left_stays : All (λ named. Contains step.gone.items named.0 → ⊥) left
   pub left_uncited : AreUncited t left
   -- the files of the headers come in the level, and the merged ones go
   pub added : List StoredFile

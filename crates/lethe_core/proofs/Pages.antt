@@ -1,5 +1,5 @@
 -- A page of the job in flight is written beside what is stored.
-use Rattle.std.proofs.Common.{◌≡◌, ◌≤◌, ◌+◌, ℕ, List, Option, Some, None, Result, Err, refl, sym, ap, ◌∙◌, subst, arith}
+use Rattle.std.proofs.Common.{◌≡◌, ◌≤◌, ◌+◌, ℕ, List, [], Option, Some, None, Result, Err, refl, sym, ap, ◌∙◌, subst, arith}
 use Rattle.std.specs.Prelude.{IfSome, OnErr, option_map}
 use Rattle.std.specs.FinMap.{insert}
 use Rattle.lethe_base.specs.History.{History}
@@ -119,7 +119,7 @@ module _ (Tells : Type 0) (old : View) (flying : Flying) (is : old.flight ≡ So
   pub may_write : (s : Stored) → Holds old s → MayWrite old.disk s flying.written old.state.next
   may_write s holds = record { settled = holds.running.settled; only = only_written s holds; drawn = flies.drawn; later = later s holds }
 
-  pub may_remove : (s : Stored) → Holds old s → MayRemove old.disk s flying.written
+  pub may_remove : (s : Stored) → Holds old s → MayRemove old.disk s [] flying.written
   may_remove s holds = record { settled = holds.running.settled; only = only_written s holds; uncited = uncited_written s holds; once = flies.drawn.once }
 
   -- a page that wasn't written isn't among them

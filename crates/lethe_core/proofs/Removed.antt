@@ -31,7 +31,7 @@ only_failed result Failed is some = is
 only_failed result NoMemory is some = absurd (some is)
 
 module _ (Tells : Type 0) (old : View) (flying : Flying) (is : old.flight ≡ Some flying) (sound : IsSound Tells old) (disk : Seen) (faults : ℕ) (here : Tells → Image old.disk old.disk.directory)
-    (done : Tells → (s : Stored) → MayRemove old.disk s flying.written → IsSettled disk s × HasOnly s [] disk.directory) (others : Tells → SameBeside (names_in flying.written) old.disk.directory disk.directory) where
+    (done : Tells → (s : Stored) → MayRemove old.disk s [] flying.written → IsSettled disk s × HasOnly s [] disk.directory) (others : Tells → SameBeside (names_in flying.written) old.disk.directory disk.directory) where
   abbrev alone : View
   alone = record old { disk = disk; faults = faults; flight = None }
 
@@ -66,7 +66,7 @@ module _ (Tells : Type 0) (old : View) (flying : Flying) (is : old.flight ≡ So
     held = λ told. let held = sound.held told in (held.0, held.1, λ runs. removed_running told held.0 (record { remembers = held.1; running = held.2 runs }));
   }
 
-  pub removed_keeps : old.state.stopped ≡ None → (Tells → (s : Stored) → MayRemove old.disk s flying.written → Goes (λ c. Encodes c s) old.disk disk) → old.faults ≤ faults → Keeps Tells old alone None
+  pub removed_keeps : old.state.stopped ≡ None → (Tells → (s : Stored) → MayRemove old.disk s [] flying.written → Goes (λ c. Encodes c s) old.disk disk) → old.faults ≤ faults → Keeps Tells old alone None
   removed_keeps runs goes rose =
       let moments : Tells → (s : Stored) → Holds old s → Goes (λ c. Encodes c s) old.disk disk = λ told s holds. goes told s (may_remove Tells old flying is sound s holds) in
       record {

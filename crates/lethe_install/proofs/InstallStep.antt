@@ -5,7 +5,7 @@ use Rattle.std.proofs.lemmas.List.Elements.{All-contains, All-nil, Contains-appe
 use Rattle.std.proofs.lemmas.List.Kept.{AllPairs-filter}
 use Rattle.std.proofs.lemmas.List.Sorted.{Contains-permutation, IsPermutation-append_comm, IsPermutation-append_right, IsPermutation-filter_both, IsPermutation-sym, IsPermutation-trans}
 use Rattle.lethe_advance.specs.Settled.{AreDrawn, AreUncited, names_in}
-use Rattle.lethe_advance.specs.Steps.{IsObjectFrom, IsSegmentFrom, IsStep, IsUncited, written_in}
+use Rattle.lethe_advance.specs.Steps.{IsObjectFrom, IsSegmentFrom, IsSettledBy, IsStep, IsUncited, WasThere, written_in}
 use Rattle.lethe_advance.specs.declared.step.Step.{Step}
 use Rattle.lethe_base.specs.declared.entry.Entry.{Entry}
 use Rattle.lethe_base.specs.declared.name.Kind.TheVariants as kinds
@@ -237,7 +237,7 @@ module _ (s : Stored) (state : State) (levels : List (List Parts)) (is : Remembe
     file_is : (file : StoredFile) → Contains s.files file → IsFile s.manifest.next file
     file_is file there = All-contains (IsFile s.manifest.next) s.files file (is.coherent).each there
 
-    stays : (name : Name) → Contains (part_names s) name → Contains (part_names t) name ⊎ Contains step.gone.items name
+    stays : (name : Name) → Contains (part_names s) name → IsSettledBy step t [] name
     stays name there = elim (Contains-append_cases (map segment_name (segment_numbers s)) (map name_in (objects_of s.files)) name there) [
       | inl segment ↦ inl (Contains-append_left (map segment_name (segment_numbers s)) (map name_in (objects_of files)) name segment)
       | inr object ↦
@@ -247,9 +247,9 @@ module _ (s : Stored) (state : State) (levels : List (List Parts)) (is : Remembe
     ]
       where
         by : (name : Name) (named : Name × List ℕ) (file : StoredFile) → Contains s.files file → Contains (objects_in file) named → named.0 ≡ name → (b : Bool) → goes file ≡ b
-            → Contains (part_names t) name ⊎ Contains step.gone.items name
-        by name named file there own same true at = inr (subst (λ l. Contains l name) (sym gone_is) (flat_in names_of lost file name (in_filter goes s.files file there at)
-            (subst (λ l. Contains l name) (sym (names_are s.manifest.next file (file_is file there))) (subst (Contains (map name_in (objects_in file))) same (in_map name_in (objects_in file) named own)))))
+            → IsSettledBy step t [] name
+        by name named file there own same true at = inr (inl (subst (λ l. Contains l name) (sym gone_is) (flat_in names_of lost file name (in_filter goes s.files file there at)
+            (subst (λ l. Contains l name) (sym (names_are s.manifest.next file (file_is file there))) (subst (Contains (map name_in (objects_in file))) same (in_map name_in (objects_in file) named own))))))
         by name named file there own same false at = inl (subst (Contains (part_names t)) same (object_part t named (flat_in objects_in files file named
             (to_files file (Contains-append_right made others file (in_filter (λ (file : StoredFile). not (goes file)) s.files file there (ap not at)))) own)))
 
@@ -290,12 +290,12 @@ module _ (s : Stored) (state : State) (levels : List (List Parts)) (is : Remembe
         (λ page. page_out file there gone page.0 page.1 (subst (Contains (part_names s)) (sym page.2) cited) g among other inside (number_in (page_name other.no) (line_name page.0) (same ∙ sym page.2)))
         (name_kinds file name own)
 
-    gone_uncited : (name : Name) → Contains (flat_map names_of lost) name → IsUncited s t name
+    gone_uncited : (name : Name) → Contains (flat_map names_of lost) name → IsUncited s loose t name
     gone_uncited name there =
         let file = flat_from names_of lost name there in
         let was = from_filter goes s.files file.0 file.1 in
         let cited = page_part file.0 was.0 name file.2 in
-        (cited, λ still. out file.0 was.0 was.1 name file.2 cited (name_cases t name still))
+        (inl cited, λ still. out file.0 was.0 was.1 name file.2 cited (name_cases t name still))
 
     gone_once : AllPairs (λ (name other : Name). name ≢ other) (flat_map names_of lost)
     gone_once = pairs_to (λ (name other : Name). name ≢ other) (flat_map names_of lost) (names_once lost
@@ -317,11 +317,12 @@ module _ (s : Stored) (state : State) (levels : List (List Parts)) (is : Remembe
       segments = all_from (IsSegmentFrom s step) (segments_of s) (λ segment there. inl there);
       objects = all_from (IsObjectFrom s loose step) (objects_of files) object_from;
       cited = all_from (λ (object : Object). Contains (part_names t) object.name) step.objects.items (λ object there. object_part t (named_of object) (new_object (named_of object) (of_written object there)));
-      stays = all_from (λ name. Contains (part_names t) name ⊎ Contains step.gone.items name) (part_names s) stays;
-      gone = subst (All (IsUncited s t)) (sym gone_is) (all_from (IsUncited s t) (flat_map names_of lost) gone_uncited);
+      stays = all_from (IsSettledBy step t []) (part_names s) stays;
+      taken = all_from (λ (named : Name × List ℕ). IsSettledBy step t [] named.0) loose (λ named there. inl (object_part t named (new_object named (of_loose named there))));
+      gone = subst (All (IsUncited s loose t)) (sym gone_is) (all_from (IsUncited s loose t) (flat_map names_of lost) gone_uncited);
       gone_once = subst (AllPairs (λ (name other : Name). name ≢ other)) (sym gone_is) gone_once;
-      taken = all_from (λ (named : Name × List ℕ). Contains (names_in []) named.0 ⊎ Contains (part_names t) named.0) loose (λ named there. inr (object_part t named (new_object named (of_loose named there))));
-      left_loose = All-nil (Contains loose);
+      left_there = All-nil (WasThere s loose);
+      left_stays = All-nil (λ (named : Name × List ℕ). Contains step.gone.items named.0 → ⊥);
       left_uncited = All-nil (λ (named : Name × List ℕ). IsCited t named.0 → ⊥);
       added = made;
       headers_are = stepped.headers_are ∙ are.headers_are;

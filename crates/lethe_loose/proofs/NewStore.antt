@@ -119,7 +119,7 @@ may_write disk written new none = record {
 }
 
 pub may_remove : (old new : Seen) (written now : List (Name × List ℕ)) → IsNew old → written ≡ [] → (MayWrite old new_stored written 3 → IsSettled new new_stored × HasOnly new_stored now new.directory)
-    → (IsCoherent new_stored → 3 ≤ 3 → AreUncited new_stored written → AreUncited new_stored now) → (AreDrawn 3 (names_in written) → AreDrawn (3 + 1) (names_in now)) → MayRemove new new_stored now
+    → (IsCoherent new_stored → 3 ≤ 3 → AreUncited new_stored written → AreUncited new_stored now) → (AreDrawn 3 (names_in written) → AreDrawn (3 + 1) (names_in now)) → MayRemove new new_stored [] now
 may_remove old new written now is none done loose drawn =
     let may = may_write old written is none in
     let after = done may in

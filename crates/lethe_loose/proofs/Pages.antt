@@ -1,9 +1,9 @@
 -- Pages that lie beside what is stored.
 use Rattle.std.proofs.Common.{◌≡◌, ◌≢◌, ◌≤◌, ◌<◌, ◌+◌, ◌⊎◌, inl, inr, ℕ, true, false, List, [], ◌∷◌, ◌++◌, length, get_or, Some, None, refl, sym, ap, ◌∙◌, subst, arith}
-use Rattle.std.specs.Prelude.{Contains, IsSome, is_some, zip}
+use Rattle.std.specs.Prelude.{AllPairs, Contains, IsSome, is_some, zip}
 use Rattle.std.specs.FinMap.{insert}
-use Rattle.std.proofs.lemmas.List.{map-append}
-use Rattle.std.proofs.lemmas.List.Elements.{All-contains, All-nil, All-push, All-weaker, Contains-append_left, Contains-get_or, Contains-push}
+use Rattle.std.proofs.lemmas.List.{get_or_append_left, get_or-append_right, length-append, map-append}
+use Rattle.std.proofs.lemmas.List.Elements.{All-contains, All-push, All-weaker, Contains-append_cases, Contains-append_left, Contains-append_right, Contains-get_or, Contains-push}
 use Rattle.std.proofs.lemmas.List.Quantifiers.{all_pairs_push}
 use Rattle.lethe_base.specs.declared.name.Kind.TheVariants as kinds
 use Rattle.lethe_base.specs.declared.name.Name.{Name}
@@ -46,6 +46,10 @@ zip_push [] [] x y same = refl
 zip_push [] (first ∷ ys) x y same = absurd (omega arith)
 zip_push (first ∷ xs) [] x y same = absurd (omega arith)
 zip_push (first ∷ xs) (head ∷ ys) x y same = ap (λ l. (first, head) ∷ l) (zip_push xs ys x y (omega arith))
+
+-- what stands behind others
+right_at : (xs ys : List Name) (d : Name) (j : ℕ) → get_or (xs ++ ys) (length xs + j) d ≡ get_or ys j d
+right_at xs ys d j = get_or-append_right xs ys (length xs) (length xs + j) d refl (omega arith) ∙ ap (λ k. get_or ys k d) (omega arith)
 
 -- A page under a number that hasn't been drawn
 
@@ -130,21 +134,40 @@ module _ (old : Seen) (s : Stored) (written : List (Name × List ℕ)) (number :
 
 -- Pages that are removed again
 
-module _ (old : Seen) (s : Stored) (written : List (Name × List ℕ)) (may : MayRemove old s written) where
+module _ (old : Seen) (s : Stored) (left written : List (Name × List ℕ)) (may : MayRemove old s left written) where
   abbrev names : List Name
   names = names_in written
+
+  abbrev together : List (Name × List ℕ)
+  together = left ++ written
 
   named_there : (name : Name) → Contains names name → IsSome (object old.directory name) × (IsCited s name → ⊥)
   named_there name among =
       let found = from_map (λ (named : Name × List ℕ). named.0) written name among in
+      let inside = Contains-append_right left written found.0 found.1 in
       let both : IsSome (object old.directory found.0.0) × (IsCited s found.0.0 → ⊥) = (
-        ap is_some (All-contains (HasObject old.directory) written found.0 may.only.there found.1),
-        All-contains (λ (named : Name × List ℕ). IsCited s named.0 → ⊥) written found.0 may.uncited found.1,
+        ap is_some (All-contains (HasObject old.directory) together found.0 may.only.there inside),
+        All-contains (λ (named : Name × List ℕ). IsCited s named.0 → ⊥) together found.0 may.uncited inside,
       ) in
       subst (λ n. IsSome (object old.directory n) × (IsCited s n → ⊥)) found.2 both
 
+  all_names : names_in together ≡ names_in left ++ names
+  all_names = map-append (λ (named : Name × List ℕ). named.0) left written
+
+  -- a page that stays isn't removed
+  apart : (i j : ℕ) (d : Name) → i < length (names_in left) → j < length names → get_or (names_in left) i d ≢ get_or names j d
+  apart i j d i_in j_in same = subst (AllPairs (λ a b. a ≢ b)) all_names may.once i (length (names_in left) + j) d (omega (arith, i_in)) (omega (arith, j_in, length-append (names_in left) names))
+      (get_or_append_left (names_in left) names d i i_in ∙ same ∙ sym (right_at (names_in left) names d j))
+
+  stays_out : (name : Name) → Contains (names_in left) name → Contains names name → ⊥
+  stays_out name here there = apart here.0 there.0 name here.1 there.1 (here.2 ∙ sym there.2)
+
+  written_once : AllPairs (λ a b. a ≢ b) names
+  written_once i j d before within same = subst (AllPairs (λ a b. a ≢ b)) all_names may.once (length (names_in left) + i) (length (names_in left) + j) d (omega (arith, before)) (omega (arith, within, length-append (names_in left) names))
+      (right_at (names_in left) names d i ∙ same ∙ sym (right_at (names_in left) names d j))
+
   pub pages_present : ArePresent names old.directory
-  pages_present = all_present names old.directory may.once (λ name among. (named_there name among).0)
+  pages_present = all_present names old.directory written_once (λ name among. (named_there name among).0)
 
   -- no page is a greater gate, since there is none
   pages_spare : AreSpare s names
@@ -162,21 +185,28 @@ module _ (old : Seen) (s : Stored) (written : List (Name × List ℕ)) (may : Ma
       beside_pages : SameBeside names old.directory new.directory
       beside_pages name none = ap (λ d. object d name) done ∙ cleared_others names old.directory name none
 
-      stored_alone : (name : Name) → IsSome (object new.directory name) → IsCited s name ⊎ Contains (names_in []) name
-      stored_alone name here = elim (is_among names name) [
+      known_alone : (name : Name) → IsSome (object new.directory name) → IsCited s name ⊎ Contains (names_in left) name
+      known_alone name here = elim (is_among names name) [
         | inl among ↦ absurd (true≢false (sym here ∙ ap is_some (ap (λ d. object d name) done ∙ cleared_absent names among.0 name old.directory among.1 (sym among.2))))
         | inr out ↦ elim (may.only.only name (sym (ap is_some (beside_pages name (none_of names name out))) ∙ here)) [
           | inl cited ↦ inl cited
-          | inr among ↦ absurd (out among)
+          | inr among ↦ elim (Contains-append_cases (names_in left) names name (subst (λ l. Contains l name) all_names among)) [
+            | inl stays ↦ inr stays
+            | inr goes ↦ absurd (out goes)
+          ]
         ]
       ]
 
-      pub settled_alone : IsSettled new s × HasOnly s [] new.directory
+      left_there : (named : Name × List ℕ) → Contains left named → HasObject new.directory named
+      left_there named among = beside_pages named.0 (none_of names named.0 (stays_out named.0 (in_map (λ (other : Name × List ℕ). other.0) left named among)))
+          ∙ All-contains (HasObject old.directory) together named may.only.there (Contains-append_left left written named among)
+
+      pub settled_alone : IsSettled new s × HasOnly s left new.directory
       settled_alone = (
         record {
           synced = synced;
           coherent = may.settled.coherent;
           encodes = besides s old.directory new.directory names may.settled.encodes pages_spare beside_pages;
         },
-        record { only = stored_alone; there = All-nil (HasObject new.directory) },
+        record { only = known_alone; there = all_from (HasObject new.directory) left left_there },
       )

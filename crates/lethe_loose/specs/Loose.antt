@@ -1,5 +1,5 @@
 -- When a page may be written beside what is stored, and when the pages may be removed again.
-use Rattle.std.specs.Prelude.{◌≢◌, ◌≤◌, ℕ, List, AllPairs}
+use Rattle.std.specs.Prelude.{◌≢◌, ◌≤◌, ℕ, List, ◌++◌, AllPairs}
 use Rattle.lethe_base.specs.declared.name.Name.{Name}
 use Rattle.lethe_disk.specs.Disk.{Seen}
 use Rattle.lethe_stored.specs.Stored.{Stored}
@@ -12,9 +12,9 @@ pub record MayWrite (disk : Seen) (s : Stored) (written : List (Name × List ℕ
   pub drawn : AreDrawn number (names_in written)
   pub later : s.manifest.next ≤ number
 
--- The disk has what is stored and these pages alone. Each page stands in the list once, and none is cited.
-pub record MayRemove (disk : Seen) (s : Stored) (written : List (Name × List ℕ)) : Type 0 where
+-- The disk has what is stored, pages that stay and these, and nothing else. Each page stands there once, and none is cited.
+pub record MayRemove (disk : Seen) (s : Stored) (left written : List (Name × List ℕ)) : Type 0 where
   pub settled : IsSettled disk s
-  pub only : HasOnly s written disk.directory
-  pub uncited : AreUncited s written
-  pub once : AllPairs (λ a b. a ≢ b) (names_in written)
+  pub only : HasOnly s (left ++ written) disk.directory
+  pub uncited : AreUncited s (left ++ written)
+  pub once : AllPairs (λ a b. a ≢ b) (names_in (left ++ written))

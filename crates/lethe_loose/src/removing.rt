@@ -1,5 +1,5 @@
 //! Removing the pages of a job that is given up.
-ghost use Rattle.std.specs.Prelude.{◌≡◌, ◌+◌, ℕ, List, [], length, OnOk, IsErrOf};
+ghost use Rattle.std.specs.Prelude.{◌≡◌, ◌+◌, ℕ, List, length, OnOk, IsErrOf};
 ghost use Rattle.lethe_base.specs.declared.name.Name.{Name};
 ghost use Rattle.lethe_disk.specs.declared.disk.DiskRefused.TheVariants.{NoMemory};
 ghost use Rattle.lethe_disk.specs.Directory.{SameBeside};
@@ -22,15 +22,15 @@ use lethe_disk::{Disk, DiskRefused};
 ///
 /// `Failed` where the disk failed: then each of the pages may or may not be there.
 pub fn remove_pages<D: Disk>(disk: &mut D, written: Written) -> Result<(), DiskRefused>
-    requires there { D.tells → (s : Stored) × MayRemove (D.seen disk.old) s written }
+    requires there { D.tells → (s : Stored) × (left : List (Name × List ℕ)) × MayRemove (D.seen disk.old) s left written }
 
     // A crash at any moment of the call leaves what was stored.
-    ensures any_moment { D.tells → (s : Stored) → MayRemove (D.seen disk.old) s written
+    ensures any_moment { D.tells → (s : Stored) (left : List (Name × List ℕ)) → MayRemove (D.seen disk.old) s left written
         → Goes (λ c. Encodes c s) (D.seen disk.old) (D.seen disk.new) }
 
-    // Acknowledged: each crash leaves what is stored and nothing else.
-    ensures done { D.tells → (s : Stored) → MayRemove (D.seen disk.old) s written
-        → OnOk result (IsSettled (D.seen disk.new) s × HasOnly s [] (D.seen disk.new).directory) }
+    // Acknowledged: each crash leaves what is stored and the pages that stay, and nothing else.
+    ensures done { D.tells → (s : Stored) (left : List (Name × List ℕ)) → MayRemove (D.seen disk.old) s left written
+        → OnOk result (IsSettled (D.seen disk.new) s × HasOnly s left (D.seen disk.new).directory) }
 
     // Each object but the pages is as it was.
     ensures others { D.tells → OnOk result (SameBeside (names_in written) (D.seen disk.old).directory (D.seen disk.new).directory) }

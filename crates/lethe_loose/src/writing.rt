@@ -1,5 +1,6 @@
 //! Writing a page that no manifest cites yet.
-ghost use Rattle.std.specs.Prelude.{◌≡◌, ◌+◌, ◌≤◌, [], ◌∷◌, ◌++◌, OnOk, OnErr, IsErrOf};
+ghost use Rattle.std.specs.Prelude.{◌≡◌, ◌+◌, ◌≤◌, ℕ, List, [], ◌∷◌, ◌++◌, OnOk, OnErr, IsErrOf};
+ghost use Rattle.lethe_base.specs.declared.name.Name as name;
 ghost use Rattle.std.specs.FinMap.{insert};
 ghost use Rattle.lethe_disk.specs.declared.disk.DiskRefused.TheVariants.{NoMemory};
 ghost use Rattle.lethe_disk.specs.Disk.{HasCause};
@@ -28,18 +29,18 @@ pub fn write_page<D: Disk>(
     no: u64,
     bytes: &[u8],
 ) -> Result<(), DiskRefused>
-    requires fresh { D.tells → (s : Stored) × MayWrite (D.seen disk.old) s written.old no }
+    requires fresh { D.tells → (s : Stored) × (left : List (name.Name × List ℕ)) × MayWrite (D.seen disk.old) s (left ++ written.old) no }
 
     // A crash at any moment of the call leaves what was stored.
-    ensures any_moment { D.tells → (s : Stored) → MayWrite (D.seen disk.old) s written.old no
+    ensures any_moment { D.tells → (s : Stored) (left : List (name.Name × List ℕ)) → MayWrite (D.seen disk.old) s (left ++ written.old) no
         → Goes (λ c. Encodes c s) (D.seen disk.old) (D.seen disk.new) }
 
-    // Acknowledged: each crash leaves the page too, beside what is stored.
-    ensures done { D.tells → (s : Stored) → MayWrite (D.seen disk.old) s written.old no
-        → OnOk result (IsSettled (D.seen disk.new) s × HasOnly s written.new (D.seen disk.new).directory) }
-    ensures loose { (s : Stored) → IsCoherent s → s.manifest.next ≤ no → AreUncited s written.old → OnOk result (AreUncited s written.new) }
+    // Acknowledged: each crash leaves the page too, beside what is stored and the pages that lay there.
+    ensures done { D.tells → (s : Stored) (left : List (name.Name × List ℕ)) → MayWrite (D.seen disk.old) s (left ++ written.old) no
+        → OnOk result (IsSettled (D.seen disk.new) s × HasOnly s (left ++ written.new) (D.seen disk.new).directory) }
+    ensures loose { (s : Stored) (left : List (name.Name × List ℕ)) → IsCoherent s → s.manifest.next ≤ no → AreUncited s (left ++ written.old) → OnOk result (AreUncited s (left ++ written.new)) }
     ensures written { OnOk result (written.new ≡ written.old ++ (page_name no, bytes.now) ∷ []) }
-    ensures drawn { AreDrawn no (names_in written.old) → OnOk result (AreDrawn (no + 1) (names_in written.new)) }
+    ensures drawn { (left : List (name.Name × List ℕ)) → AreDrawn no (names_in (left ++ written.old)) → OnOk result (AreDrawn (no + 1) (names_in (left ++ written.new))) }
     ensures kept { OnErr result (written.new ≡ written.old) }
 
     // Each object but the page is as it was.

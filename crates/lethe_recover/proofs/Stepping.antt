@@ -36,7 +36,7 @@ use Rattle.lethe_flush.specs.Clear as clear
 use Rattle.lethe_flush.specs.Flushed.{IsFlushOf}
 use Rattle.lethe_flush.specs.Made.{named_of}
 use Rattle.lethe_advance.specs.Settled.{names_in}
-use Rattle.lethe_advance.specs.Steps.{IsStep, IsSegmentFrom, IsObjectFrom, IsUncited, kept_files, written_in}
+use Rattle.lethe_advance.specs.Steps.{IsSettledBy, IsStep, IsSegmentFrom, IsObjectFrom, IsUncited, WasThere, kept_files, written_in}
 use Rattle.lethe_advance.proofs.Lists.{filter_all}
 use Rattle.lethe_recover.specs.Flushing.{AreFlushesOf, IsWritable}
 use Rattle.lethe_recover.specs.Journals.{IsJournalOf}
@@ -204,22 +204,22 @@ module _ (s : Stored) (coherent : IsCoherent s) (m : Manifest) (same : s.manifes
   gone_is : made.step.gone.items ≡ map segment_name (segment_numbers s)
   gone_is = is.gone ∙ ap (λ (x : Manifest). map segment_name x.segments) (sym same) ∙ ap (map segment_name) coherent.cites
 
-  goes : (name : Name) → Contains made.step.gone.items name → IsUncited s t name
+  goes : (name : Name) → Contains made.step.gone.items name → IsUncited s [] t name
   goes name there =
       let listed : Contains (map segment_name (segment_numbers s)) name = subst (λ l. Contains l name) gone_is there in
       let old : Contains (part_names s) name = Contains-append_left (map segment_name (segment_numbers s)) (map (λ (named : Name × List ℕ). named.0) (objects_of s.files)) name listed in
       let below = part_below s name coherent old in
       let number = from_map segment_name (segment_numbers s) name listed in (
-        old,
+        inl old,
         λ again. elim (Contains-append_cases (segment_name segment ∷ []) (map (λ (named : Name × List ℕ). named.0) objects_next) name again) [
           | inl active ↦ let at : segment ≡ name.no = ap (λ (n : Name). n.no) (one (segment_name segment) name active) in omega (arith, below, next_is, low, high, at)
           | inr object ↦ let named = from_map (λ (named : Name × List ℕ). named.0) objects_next name object in object_apart t number.0 named.0 named.1 (named.2 ∙ sym number.2)
         ],
       )
 
-  stays : (name : Name) → Contains (part_names s) name → Contains (part_names t) name ⊎ Contains made.step.gone.items name
+  stays : (name : Name) → Contains (part_names s) name → IsSettledBy made.step t [] name
   stays name there = elim (Contains-append_cases (map segment_name (segment_numbers s)) (map (λ (named : Name × List ℕ). named.0) (objects_of s.files)) name there) [
-    | inl listed ↦ inr (subst (λ l. Contains l name) (sym gone_is) listed)
+    | inl listed ↦ inr (inl (subst (λ l. Contains l name) (sym gone_is) listed))
     | inr object ↦
         let named = from_map (λ (named : Name × List ℕ). named.0) (objects_of s.files) name object in
         inl (subst (Contains (part_names t)) named.2 (object_part t named.0 (kept_object named.0 named.1)))
@@ -250,11 +250,12 @@ module _ (s : Stored) (coherent : IsCoherent s) (m : Manifest) (same : s.manifes
     segments = All-cons (IsSegmentFrom s made.step) t.active [] (inr segment_written) (All-nil (IsSegmentFrom s made.step));
     objects = all_from (IsObjectFrom s [] made.step) objects_next from_written;
     cited = all_from (λ (object : Object). Contains (part_names t) object.name) objects is_cited;
-    stays = all_from (λ name. Contains (part_names t) name ⊎ Contains made.step.gone.items name) (part_names s) stays;
-    gone = all_from (IsUncited s t) made.step.gone.items goes;
+    stays = all_from (IsSettledBy made.step t []) (part_names s) stays;
+    taken = All-nil (λ (named : Name × List ℕ). IsSettledBy made.step t [] named.0);
+    gone = all_from (IsUncited s [] t) made.step.gone.items goes;
     gone_once = gone_once;
-    taken = All-nil (λ (named : Name × List ℕ). Contains (names_in []) named.0 ⊎ Contains (part_names t) named.0);
-    left_loose = All-nil (Contains (let none : List (Name × List ℕ) = [] in none));
+    left_there = All-nil (WasThere s []);
+    left_stays = All-nil (λ (named : Name × List ℕ). Contains made.step.gone.items named.0 → ⊥);
     left_uncited = All-nil (λ (named : Name × List ℕ). IsCited t named.0 → ⊥);
     added = files;
     headers_are = is.headers ∙ (λ i. newer_is.headers i ++ older_is.headers i) ∙ sym (map-append (λ (file : StoredFile). file.header) newer older);

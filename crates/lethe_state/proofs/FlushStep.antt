@@ -45,7 +45,7 @@ use Rattle.lethe_stored.proofs.Lists.{from_flat, from_map, in_flat, zip_left}
 use Rattle.lethe_stored.proofs.Meanings.{frozen_are}
 use Rattle.lethe_stored.proofs.Parts.{active_part, frozen_part, object_apart, object_part}
 use Rattle.lethe_advance.specs.Settled.{AreDrawn, AreUncited, names_in}
-use Rattle.lethe_advance.specs.Steps.{IsObjectFrom, IsSegmentFrom, IsStep, IsUncited, written_in}
+use Rattle.lethe_advance.specs.Steps.{IsObjectFrom, IsSegmentFrom, IsSettledBy, IsStep, IsUncited, written_in}
 use Rattle.lethe_advance.specs.declared.step.Step.{Step}
 use Rattle.lethe_state.specs.Made.{IsFlushStep, flushing_manifest}
 use Rattle.lethe_state.specs.Records.{headers_in}
@@ -55,7 +55,7 @@ use Rattle.lethe_state.specs.Writable.{IsWritable}
 use Rattle.lethe_state.specs.declared.state.State.{State}
 use Rattle.lethe_state.proofs.FreezeStep.{later_files}
 use Rattle.lethe_state.proofs.Leveled.{all_parts, parts_from, parts_to}
-use Rattle.lethe_state.proofs.Shared.{all_kept, all_left, left_loose, loose_apart, loose_pages, one_all, one_once, still_uncited}
+use Rattle.lethe_state.proofs.Shared.{all_kept, all_left, left_stays, left_there, loose_apart, loose_pages, one_all, one_once, still_uncited}
 
 -- On any disk
 
@@ -306,16 +306,16 @@ module _ (s : Stored) (state : State) (levels : List (List Parts)) (is : Remembe
       | inr old ↦ inl (object_part s object old)
     ]
 
-    segment_stays : (name : Name) (k : ℕ) → Contains (older.no ∷ s.active.no ∷ []) k → segment_name k ≡ name → Contains (part_names t) name ⊎ Contains step.gone.items name
+    segment_stays : (name : Name) (k : ℕ) → Contains (older.no ∷ s.active.no ∷ []) k → segment_name k ≡ name → IsSettledBy step t loose name
     segment_stays name k there same = elim (first_or_rest older.no (s.active.no ∷ []) k there) [
-      | inl first ↦ inr (subst (λ l. Contains l name) (sym gone_is) (first_is (segment_name older.no) [] name (ap segment_name first ∙ same)))
+      | inl first ↦ inr (inl (subst (λ l. Contains l name) (sym gone_is) (first_is (segment_name older.no) [] name (ap segment_name first ∙ same))))
       | inr rest ↦ inl (subst (Contains (part_names t)) (ap segment_name (only s.active.no k rest) ∙ same) (active_part t))
     ]
       where
         only : (x y : ℕ) → Contains (x ∷ []) y → x ≡ y
         only x y there = elim (first_or_rest x [] y there) [ inl same ↦ same | inr none ↦ absurd (none_in y none) ]
 
-    stays : (name : Name) → Contains (part_names s) name → Contains (part_names t) name ⊎ Contains step.gone.items name
+    stays : (name : Name) → Contains (part_names s) name → IsSettledBy step t loose name
     stays name there = elim (Contains-append_cases (map segment_name (segment_numbers s)) named name there) [
       | inl segment ↦ let found = map_from segment_name (segment_numbers s) name segment in segment_stays name found.0 (subst (λ l. Contains l found.0) numbers found.1) found.2
       | inr object ↦
@@ -350,11 +350,13 @@ module _ (s : Stored) (state : State) (levels : List (List Parts)) (is : Remembe
       segments = All-cons (IsSegmentFrom s step) s.active [] (inl (Contains-append_right (option_to_list s.frozen) (s.active ∷ []) s.active (first_is s.active [] s.active refl))) (All-nil (IsSegmentFrom s step));
       objects = all_from (IsObjectFrom s loose step) (objects_of t.files) object_from;
       cited = all_from (λ (object : Object). Contains (part_names t) object.name) step.objects.items (λ object there. object_part t (named_of object) (new_object (named_of object) (of_files object there)));
-      stays = all_from (λ name. Contains (part_names t) name ⊎ Contains step.gone.items name) (part_names s) stays;
-      gone = one_all (IsUncited s t) (segment_name older.no) step.gone.items gone_is (frozen_part s older frozen.some, uncited);
+      stays = all_from (IsSettledBy step t loose) (part_names s) stays;
+      taken = all_left state.next loose drawn step t;
+      gone = one_all (IsUncited s loose t) (segment_name older.no) step.gone.items gone_is (inl (frozen_part s older frozen.some), uncited);
       gone_once = one_once (λ (name other : Name). name ≢ other) (segment_name older.no) step.gone.items gone_is;
-      taken = all_left state.next loose drawn (part_names t);
-      left_loose = left_loose state.next loose drawn;
+      left_there = left_there state.next loose drawn s;
+      left_stays = left_stays state.next loose drawn s step.gone.items uncited_before (λ name there.
+          All-contains (Contains (part_names s)) step.gone.items name (one_all (Contains (part_names s)) (segment_name older.no) step.gone.items gone_is (frozen_part s older frozen.some)) there);
       left_uncited = still_uncited state.next loose drawn s t old_or_fresh uncited_before;
       added = files;
       headers_are = stepped.headers_are ∙ flush.headers;

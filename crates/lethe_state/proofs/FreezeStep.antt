@@ -1,5 +1,5 @@
 -- The step of a freeze.
-use Rattle.std.proofs.Common.{◌≡◌, ◌≢◌, ◌⊎◌, ◌≤◌, ◌<◌, ◌+◌, inl, inr, ℕ, List, [], ◌∷◌, ◌++◌, length, map, All, AllPairs, Contains, None, refl, sym, ap, ◌∙◌, subst, arith}
+use Rattle.std.proofs.Common.{◌≡◌, ◌≢◌, ◌≤◌, ◌<◌, ◌+◌, inl, inr, ℕ, List, [], ◌∷◌, ◌++◌, length, map, All, AllPairs, Contains, None, refl, sym, ap, ◌∙◌, subst, arith}
 use Rattle.std.specs.Prelude.{option_to_list}
 use Rattle.std.specs.List.Sorted.{IsPermutation}
 use Rattle.std.proofs.lemmas.List.{length_push}
@@ -7,6 +7,7 @@ use Rattle.std.proofs.lemmas.List.Elements.{All-append, All-weaker, All-cons, Al
 use Rattle.std.proofs.lemmas.List.Sorted.{IsPermutation-refl}
 use Rattle.lethe_base.specs.Limits.{max_place}
 use Rattle.lethe_base.specs.declared.name.Name.{Name}
+use Rattle.lethe_base.proofs.LayoutLaws.{none_in}
 use Rattle.lethe_base.proofs.Newest.{first_is}
 use Rattle.lethe_commit.specs.declared.objects.Object.{Object}
 use Rattle.lethe_cover.proofs.Lists.{all_from, map_from, only_in}
@@ -19,14 +20,14 @@ use Rattle.lethe_stored.specs.Stored.{Stored, froze, number_of, part_names, segm
 use Rattle.lethe_stored.proofs.Freezing.{froze_coherent}
 use Rattle.lethe_stored.proofs.Parts.{active_part, frozen_part, object_part}
 use Rattle.lethe_advance.specs.Settled.{AreDrawn, AreUncited, names_in}
-use Rattle.lethe_advance.specs.Steps.{IsObjectFrom, IsSegmentFrom, IsStep, IsUncited, written_in}
+use Rattle.lethe_advance.specs.Steps.{IsObjectFrom, IsSegmentFrom, IsSettledBy, IsStep, IsUncited, written_in}
 use Rattle.lethe_advance.specs.declared.step.Step.{Step}
 use Rattle.lethe_state.specs.Made.{empty_segment, freezing_manifest}
 use Rattle.lethe_state.specs.Remembered.{IsCurrent, Remembers}
 use Rattle.lethe_state.specs.Room.{IsStepFrom}
 use Rattle.lethe_state.specs.Writable.{IsWritable, segments_for}
 use Rattle.lethe_state.specs.declared.state.State.{State}
-use Rattle.lethe_state.proofs.Shared.{all_kept, all_left, left_loose, loose_apart, loose_pages, one_all, one_once, still_uncited}
+use Rattle.lethe_state.proofs.Shared.{all_kept, all_left, left_stays, left_there, loose_apart, loose_pages, one_all, one_once, still_uncited}
 
 -- On any disk
 
@@ -142,11 +143,12 @@ module _ (s : Stored) (state : State) (levels : List (List Parts)) (is : Remembe
     segments = All-cons (IsSegmentFrom s step) s.active (t.active ∷ []) (inl (Contains-push (option_to_list s.frozen) s.active)) (All-cons (IsSegmentFrom s step) t.active [] (inr written) (All-nil (IsSegmentFrom s step)));
     objects = all_from (IsObjectFrom s loose step) (objects_of s.files) (λ named there. inl there);
     cited = one_all (λ (made : Object). Contains (part_names t) made.name) (empty_segment n) step.objects.items objects (active_part t);
-    stays = all_from (λ name. Contains (part_names t) name ⊎ Contains step.gone.items name) (part_names s) (λ name there. inl (stays name there));
-    gone = subst (All (IsUncited s t)) (sym gone) (All-nil (IsUncited s t));
+    stays = all_from (IsSettledBy step t loose) (part_names s) (λ name there. inl (stays name there));
+    taken = all_left n loose drawn step t;
+    gone = subst (All (IsUncited s loose t)) (sym gone) (All-nil (IsUncited s loose t));
     gone_once = subst (AllPairs (λ (name other : Name). name ≢ other)) (sym gone) (λ i j d before within. absurd (omega arith));
-    taken = all_left n loose drawn (part_names t);
-    left_loose = left_loose n loose drawn;
+    left_there = left_there n loose drawn s;
+    left_stays = left_stays n loose drawn s step.gone.items uncited (λ name there. absurd (none_in name (subst (λ l. Contains l name) gone there)));
     left_uncited = still_uncited n loose drawn s t (λ object there. inl (object_part s object there)) uncited;
     added = [];
     headers_are = refl;

@@ -6,7 +6,7 @@ use Rattle.lethe_base.specs.declared.name.Kind.TheVariants as kinds
 use Rattle.lethe_base.specs.declared.name.Name.{Name}
 use Rattle.lethe_cover.proofs.Lists.{all_from, in_map, map_from, pairs_to}
 use Rattle.lethe_advance.specs.Settled.{AreDrawn, AreUncited, names_in}
-use Rattle.lethe_advance.specs.Steps.{kept_files}
+use Rattle.lethe_advance.specs.Steps.{IsSettledBy, WasThere, kept_files}
 use Rattle.lethe_advance.specs.declared.step.Step.{Step}
 use Rattle.lethe_advance.proofs.Lists.{filter_all}
 use Rattle.lethe_stored.specs.Files.{StoredFile, objects_of}
@@ -39,7 +39,7 @@ kind_of : (a b : Name) → a ≡ b → a.kind ≡ b.kind
 kind_of a b same = ap (λ (n : Name). n.kind) same
 
 -- a page that no file has isn't cited
-page_uncited : (t : Stored) (name : Name) → name.kind ≡ kinds.Page → (Contains (names_in (objects_of t.files)) name → ⊥) → IsCited t name → ⊥
+pub page_uncited : (t : Stored) (name : Name) → name.kind ≡ kinds.Page → (Contains (names_in (objects_of t.files)) name → ⊥) → IsCited t name → ⊥
 page_uncited t name page out (inl gate) = clash_gate (sym page ∙ kind_of name _ gate)
 page_uncited t name page out (inr (inl manifest)) = clash_manifest (sym page ∙ kind_of name _ manifest)
 page_uncited t name page out (inr (inr part)) = elim (Contains-append_cases (map segment_name (segment_numbers t)) (names_in (objects_of t.files)) name part) [
@@ -61,11 +61,17 @@ module _ (first : ℕ) (loose : List (Name × List ℕ)) (drawn : AreDrawn first
   pub loose_apart : (name : Name) → first ≤ name.no → Contains (names_in loose) name → ⊥
   loose_apart name fresh there = let below = (All-contains IsDrawn (names_in loose) name drawn.each there).1 in omega (arith, fresh, below)
 
-  pub all_left : (taken : List Name) → All (λ (named : Name × List ℕ). Contains (names_in loose) named.0 ⊎ Contains taken named.0) loose
-  all_left taken = all_from (λ (named : Name × List ℕ). Contains (names_in loose) named.0 ⊎ Contains taken named.0) loose (λ named there. inl (in_map (λ (n : Name × List ℕ). n.0) loose named there))
+  -- all of it is left
+  pub all_left : (step : Step) (t : Stored) → All (λ (named : Name × List ℕ). IsSettledBy step t loose named.0) loose
+  all_left step t = all_from (λ (named : Name × List ℕ). IsSettledBy step t loose named.0) loose (λ named there. inr (inr (in_map (λ (n : Name × List ℕ). n.0) loose named there)))
 
-  pub left_loose : All (Contains loose) loose
-  left_loose = all_from (Contains loose) loose (λ named there. there)
+  pub left_there : (s : Stored) → All (WasThere s loose) loose
+  left_there s = all_from (WasThere s loose) loose (λ named there. inl there)
+
+  -- where what goes was cited, none of it goes
+  pub left_stays : (s : Stored) (gone : List Name) → AreUncited s loose → ((name : Name) → Contains gone name → Contains (part_names s) name) → All (λ (named : Name × List ℕ). Contains gone named.0 → ⊥) loose
+  left_stays s gone uncited cited = all_from (λ (named : Name × List ℕ). Contains gone named.0 → ⊥) loose (λ named there among.
+      All-contains (λ (other : Name × List ℕ). IsCited s other.0 → ⊥) loose named uncited there (inr (inr (cited named.0 among))))
 
   -- what was loose is so where files come whose objects have numbers that weren't drawn
   pub still_uncited : (s t : Stored) → ((object : Name × List ℕ) → Contains (objects_of t.files) object → Contains (part_names s) object.0 ⊎ (first ≤ object.0.no)) → AreUncited s loose → AreUncited t loose

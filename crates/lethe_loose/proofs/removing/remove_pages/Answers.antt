@@ -1,4 +1,4 @@
-use Rattle.std.proofs.Common.{◌≡◌, [], sym, ap, ◌∙◌, subst}
+use Rattle.std.proofs.Common.{◌≡◌, sym, ap, ◌∙◌, subst}
 use Rattle.lethe_disk.specs.Directory.{SameBeside, object}
 use Rattle.lethe_disk.specs.Disk.{IsSynced}
 use Rattle.lethe_disk.specs.Runs.{Leads}
@@ -13,21 +13,21 @@ pub clear-requires-after_bounds : goal.clear-requires-after_bounds
 clear-requires-after_bounds g c κs within = λ told.
     let asked = c.requires.there told in
     let s0 = g.D.Disk.seen c.args.disk.now in
-    subst (λ l. ArePresent l s0.directory) (sym c.names.ensures) (pages_present s0 asked.0 c.args.written asked.1)
+    subst (λ l. ArePresent l s0.directory) (sym c.names.ensures) (pages_present s0 asked.0 asked.1 c.args.written asked.2)
 
 pub returns-clause-any_moment : goal.returns-clause-any_moment
-returns-clause-any_moment g c = λ told s may.
+returns-clause-any_moment g c = λ told s left may.
     let s0 = g.D.Disk.seen c.args.disk.now in
     let s1 = g.D.Disk.seen c.clear.new.disk in
-    remove_moments s0 s c.args.written may s1 (subst (λ l. Leads (IsCleared l) s0 s1) c.names.ensures (c.clear.ensures.any_moment told))
+    remove_moments s0 s left c.args.written may s1 (subst (λ l. Leads (IsCleared l) s0 s1) c.names.ensures (c.clear.ensures.any_moment told))
 
 pub returns-clause-done : goal.returns-clause-done
-returns-clause-done g c = λ told s may.
+returns-clause-done g c = λ told s left may.
     let s0 = g.D.Disk.seen c.args.disk.now in
     let s1 = g.D.Disk.seen c.clear.new.disk in
-    on_ok_both c.clear.result (IsSynced s1) (s1.directory ≡ remove_all c.names.result.now s0.directory) (IsSettled s1 s × HasOnly s [] s1.directory)
+    on_ok_both c.clear.result (IsSynced s1) (s1.directory ≡ remove_all c.names.result.now s0.directory) (IsSettled s1 s × HasOnly s left s1.directory)
     (c.clear.ensures.synced told) (c.clear.ensures.done told) (λ synced done.
-    settled_alone s0 s c.args.written may s1 synced (done ∙ ap (λ l. remove_all l s0.directory) c.names.ensures))
+    settled_alone s0 s left c.args.written may s1 synced (done ∙ ap (λ l. remove_all l s0.directory) c.names.ensures))
 
 pub returns-clause-others : goal.returns-clause-others
 returns-clause-others g c = λ told.

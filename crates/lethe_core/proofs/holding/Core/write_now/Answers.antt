@@ -1,4 +1,4 @@
-use Rattle.std.proofs.Common.{◌≡◌, ◌≤◌, ◌+◌, Some, Err, refl, ap, ◌∙◌, arith}
+use Rattle.std.proofs.Common.{◌≡◌, ◌≤◌, ◌+◌, [], Some, Err, refl, ap, ◌∙◌, arith}
 use Rattle.lethe_base.specs.Counts.{Rose}
 use Rattle.lethe_base.specs.Limits.{max_place}
 use Rattle.lethe_base.specs.declared.refused.Refused.TheVariants as refused
@@ -25,8 +25,8 @@ returns-in-Ok-clause-keeps g c =
     let low = c.if-number-ge-MAX_PLACE.false in
     let fits : self.state.next + 1 ≤ max_place = omega (arith, low) in
     written_keeps g.D.Disk.tells (view_of self) (flying_of c.in-Some.flight) is c.requires.may.sound (g.D.Disk.seen disk) (g.D.Disk.faults disk) c.write_page-placed.new.written c.args.bytes.now
-    (λ told. laws.itself told self.disk) fits c.in-Ok.ensures.done c.in-Ok.ensures.loose c.in-Ok.ensures.drawn c.in-Ok.ensures.others
-    c.requires.may.runs c.in-Ok.ensures.any_moment c.in-Ok.ensures.calls c.in-Ok.ensures.cause.later
+    (λ told. laws.itself told self.disk) fits (λ told s. c.in-Ok.ensures.done told s []) (λ s. c.in-Ok.ensures.loose s []) (c.in-Ok.ensures.drawn []) c.in-Ok.ensures.others
+    c.requires.may.runs (λ told s. c.in-Ok.ensures.any_moment told s []) c.in-Ok.ensures.calls c.in-Ok.ensures.cause.later
 
 pub returns-in-Ok-clause-held : goal.returns-in-Ok-clause-held
 returns-in-Ok-clause-held g c =
@@ -37,7 +37,7 @@ returns-in-Ok-clause-held g c =
     let low = c.if-number-ge-MAX_PLACE.false in
     let fits : self.state.next + 1 ≤ max_place = omega (arith, low) in
     written_holds g.D.Disk.tells (view_of self) (flying_of c.in-Some.flight) is c.requires.may.sound (g.D.Disk.seen disk) (g.D.Disk.faults disk) c.write_page-placed.new.written c.args.bytes.now
-    (λ told. laws.itself told self.disk) fits c.in-Ok.ensures.done c.in-Ok.ensures.loose c.in-Ok.ensures.drawn c.in-Ok.ensures.others
+    (λ told. laws.itself told self.disk) fits (λ told s. c.in-Ok.ensures.done told s []) (λ s. c.in-Ok.ensures.loose s []) (c.in-Ok.ensures.drawn []) c.in-Ok.ensures.others
 
 pub returns-in-Err-Failed-clause-keeps : goal.returns-in-Err-Failed-clause-keeps
 returns-in-Err-Failed-clause-keeps g c =
@@ -54,7 +54,7 @@ returns-in-Err-Failed-clause-keeps g c =
     let from = may.told_from in
     let told : Rose c.args.before (g.D.Disk.faults c.write_page-placed.new.disk) = omega (arith, rose, from) in
     refused_keeps g.D.Disk.tells (view_of self) may.sound _ c.args.before may
-    (λ told s holds. c.write_page-placed.ensures.any_moment told s (may_write g.D.Disk.tells (view_of self) flying is may.sound s holds))
+    (λ told s holds. c.write_page-placed.ensures.any_moment told s [] (may_write g.D.Disk.tells (view_of self) flying is may.sound s holds))
     (λ told. laws.itself told c.write_page-placed.new.disk) c.write_page-placed.ensures.cause.later (refused.Fault c.stop-place.result c.args.before c.faults.result)
     (c.stop-place.ensures.place, refl, c.faults.ensures, told, c.stop-place.ensures.is, record { levels = refl; flight = as_written g.D.Disk.tells (view_of self) flying is may.sound written kept; begun = refl })
 
@@ -73,7 +73,7 @@ returns-in-Err-NoMemory-clause-keeps g c =
     let failed : c.write_page-placed.result ≡ Err NoMemory = c.in-Err-NoMemory.is ∙ ap (λ e. Err e) why in
     let kept = on_err c.write_page-placed.result NoMemory (written ≡ c.in-Some.flight.written) failed c.write_page-placed.ensures.kept in
     refused_keeps g.D.Disk.tells (view_of self) may.sound _ c.args.before may
-    (λ told s holds. c.write_page-placed.ensures.any_moment told s (may_write g.D.Disk.tells (view_of self) flying is may.sound s holds))
+    (λ told s holds. c.write_page-placed.ensures.any_moment told s [] (may_write g.D.Disk.tells (view_of self) flying is may.sound s holds))
     (λ told. laws.itself told c.write_page-placed.new.disk) c.write_page-placed.ensures.cause.later refused.NoMemory (
       refl,
       record { levels = refl; flight = as_written g.D.Disk.tells (view_of self) flying is may.sound written kept; begun = refl },
