@@ -40,8 +40,8 @@ WasThere s loose named = Contains loose named ⊎ Contains (objects_of s.files) 
 abbrev pub kept_files : Stored → Step → List StoredFile
 kept_files s step = filter (λ file. is_kept step.merged.items file.header) s.files
 
--- Objects are written, files are added in a level, files go. Of the objects that aren't cited any more, and of those that lay beside, some go and
--- the others are left beside what is stored next.
+-- Objects are written, files are added in a level, and files go. Of the objects that aren't cited any more, and of those that lay beside what is stored, some go and the
+-- others are left beside what is stored next.
 pub record IsStep (s : Stored) (loose : List (Name × List ℕ)) (t : Stored) (left : List (Name × List ℕ)) (headers : List Header) (step : Step) : Type 0 where
   pub coherent : IsCoherent t
   pub config : t.manifest.config ≡ s.manifest.config

@@ -55,7 +55,7 @@ pub fn advance<D: Disk>(
         → (moment : ℕ) (c : Directory) → (D.seen disk.old).moment ≤ moment → moment ≤ (D.seen disk.new).moment
         → moment ≤ (D.seen disk.old).moment + length step.now.objects.items → (D.seen disk.new).left moment c → Encodes c s }
 
-    // Acknowledged: each crash leaves what is stored next, and nothing else but the objects that are left loose.
+    // Acknowledged: each crash leaves what is stored next, and nothing else but the objects that are left beside it, with the bytes that they had.
     ensures done { D.tells → (s t : Stored) (loose left : List (Name × List ℕ)) → MayAdvance (D.seen disk.old) s loose t left headers.items step.now
         → OnOk result (IsSettled (D.seen disk.new) t × HasOnly t left (D.seen disk.new).directory) }
 
