@@ -11,7 +11,6 @@ use Rattle.lethe_disk.specs.Disk.{Seen, IsSynced}
 use Rattle.lethe_disk.proofs.Objects.{absent_of}
 use Rattle.lethe_segment.specs.Segments.{segment_bytes}
 use Rattle.lethe_segment.proofs.Runs.{holds_spelling}
-use Rattle.lethe_header.specs.declared.header.Header.{Header}
 use Rattle.lethe_commit.specs.declared.objects.Object.{Object}
 use Rattle.lethe_commit.specs.Gates.{gate_name}
 use Rattle.lethe_commit.specs.Place.{name_of, AreAbsent, insert_all}
@@ -23,6 +22,7 @@ use Rattle.lethe_stored.specs.Encodes.{Encodes, HasParts, HasSegment, HasObject,
 use Rattle.lethe_stored.proofs.Frame.{same_no, none_of, besides, fresh_spare}
 use Rattle.lethe_stored.proofs.Lists.{all_from, from_map, in_map}
 use Rattle.lethe_stored.proofs.Parts.{part_kind, part_below}
+use Rattle.lethe_advance.specs.declared.new_header.NewHeader.{NewHeader}
 use Rattle.lethe_advance.specs.declared.step.Step.{Step}
 use Rattle.lethe_advance.specs.Settled.{HasOnly, names_in}
 use Rattle.lethe_advance.specs.Steps.{IsStep, IsSegmentFrom, IsObjectFrom, written_in}
@@ -72,7 +72,7 @@ part_there d s name parts there = elim (Contains-append_cases (map segment_name 
 
 -- What is written
 
-module _ (s t : Stored) (loose left : List (Name × List ℕ)) (headers : List Header) (step : Step) (coherent : IsCoherent s) (is : IsStep s loose t left headers step) where
+module _ (s t : Stored) (loose left : List (Name × List ℕ)) (headers : List NewHeader) (step : Step) (coherent : IsCoherent s) (is : IsStep s loose t left headers step) where
   abbrev pub written : List Object
   written = step.objects.items
 

@@ -8,7 +8,6 @@ use Rattle.lethe_disk.specs.Disk.{Seen, Image, IsSynced}
 use Rattle.lethe_disk.specs.Goes.{Goes}
 use Rattle.lethe_disk.specs.Runs.{Leads}
 use Rattle.lethe_disk.proofs.Going.{goes_leads, goes_then}
-use Rattle.lethe_header.specs.declared.header.Header.{Header}
 use Rattle.lethe_manifest.specs.Manifests.{manifest_bytes}
 use Rattle.lethe_manifest.specs.declared.manifest.Manifest.{Manifest}
 use Rattle.lethe_commit.specs.declared.objects.Object.{Object}
@@ -19,17 +18,17 @@ use Rattle.lethe_commit.proofs.Creations.{all_present, taken_back}
 use Rattle.lethe_commit.proofs.Removals.{cleared_others}
 use Rattle.lethe_stored.specs.Stored.{Stored, part_names}
 use Rattle.lethe_stored.specs.Encodes.{Encodes, HasParts}
-use Rattle.lethe_stored.specs.Files.{parts_of}
 use Rattle.lethe_stored.proofs.Frame.{besides}
+use Rattle.lethe_advance.specs.declared.new_header.NewHeader.{NewHeader}
 use Rattle.lethe_advance.specs.declared.step.Step.{Step}
 use Rattle.lethe_advance.specs.Settled.{IsSettled, HasOnly}
-use Rattle.lethe_advance.specs.Shown.{HasPages, parts_at}
+use Rattle.lethe_advance.specs.Shown.{HasPages, new_parts_at}
 use Rattle.lethe_advance.specs.Steps.{MayAdvance}
-use Rattle.lethe_advance.proofs.Opened.{headers_present, headers_opened}
+use Rattle.lethe_advance.proofs.Opened.{new_stored, headers_present, headers_opened}
 use Rattle.lethe_advance.proofs.Placed.{written_spare, written_absent, still, next_there, is_free}
 use Rattle.lethe_advance.proofs.Switched.{gone_spare, switch_left, switch_new, gone_present, part_kept, only_next}
 
-module _ (s t : Stored) (loose left : List (Name × List ℕ)) (headers : List Header) (step : Step) (s0 : Seen) (may : MayAdvance s0 s loose t left headers step) where
+module _ (s t : Stored) (loose left : List (Name × List ℕ)) (headers : List NewHeader) (step : Step) (s0 : Seen) (may : MayAdvance s0 s loose t left headers step) where
   abbrev pub Either : Directory → Type 0
   Either c = Encodes c s ⊎ Encodes c t
 
@@ -97,10 +96,10 @@ module _ (s t : Stored) (loose left : List (Name × List ℕ)) (headers : List H
         pub older_placed : IsSome (object s1.directory (manifest_name step.older))
         older_placed = subst (λ (k : ℕ). IsSome (object s1.directory (manifest_name k))) (sym may.step_is.older) (ap is_some still_placed.manifest)
 
-        pub pages_placed : All (HasPages s1.directory) headers
+        pub pages_placed : All (λ new. HasPages s1.directory new.header) headers
         pages_placed = headers_present s t loose left headers step may.step_is s1.directory next_placed
 
-        pub opened_placed : map (parts_at s1.directory) headers ≡ map parts_of may.step_is.added
+        pub opened_placed : map (new_parts_at s1.directory) headers ≡ map new_stored may.step_is.added
         opened_placed = headers_opened s t loose left headers step may.step_is s1.directory next_placed
 
         image_left : (d c : Directory) → Image s1 d → Exchanges d c → Switches (insert_all step.objects.items s0.directory) c

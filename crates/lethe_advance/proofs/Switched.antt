@@ -6,7 +6,6 @@ use Rattle.lethe_base.specs.declared.name.Kind.TheVariants as kinds
 use Rattle.lethe_base.specs.declared.name.Name.{Name}
 use Rattle.lethe_disk.specs.Directory.{Directory, object}
 use Rattle.lethe_disk.proofs.Objects.{name_cases, object_removed, object_beside_remove}
-use Rattle.lethe_header.specs.declared.header.Header.{Header}
 use Rattle.lethe_manifest.specs.Manifests.{manifest_bytes}
 use Rattle.lethe_commit.specs.Clear.{ArePresent, remove_all}
 use Rattle.lethe_commit.specs.Gates.{gate_name}
@@ -23,6 +22,7 @@ use Rattle.lethe_stored.proofs.Lists.{all_from, from_map}
 use Rattle.lethe_stored.proofs.Parts.{object_part, part_kind}
 use Rattle.lethe_stored.specs.Files.{objects_of}
 use Rattle.lethe_stored.proofs.Steps.{switch_encodes}
+use Rattle.lethe_advance.specs.declared.new_header.NewHeader.{NewHeader}
 use Rattle.lethe_advance.specs.declared.step.Step.{Step}
 use Rattle.lethe_advance.specs.Settled.{HasOnly, names_in}
 use Rattle.lethe_advance.specs.Steps.{IsSettledBy, IsStep, IsUncited, WasThere}
@@ -32,7 +32,7 @@ use Rattle.lethe_advance.proofs.Placed.{part_there, written, names, older_below,
 true≢false : true ≡ false → ⊥
 true≢false e = cc
 
-module _ (s t : Stored) (loose left : List (Name × List ℕ)) (headers : List Header) (step : Step) (coherent : IsCoherent s) (is : IsStep s loose t left headers step) where
+module _ (s t : Stored) (loose left : List (Name × List ℕ)) (headers : List NewHeader) (step : Step) (coherent : IsCoherent s) (is : IsStep s loose t left headers step) where
   abbrev pub gone : List Name
   gone = step.gone.items
 

@@ -1,5 +1,5 @@
 -- The files that readers have.
-use Rattle.std.specs.Prelude.{◌≡◌, ◌≢◌, ◌<◌, ℕ, List, [], ◌++◌, length, map, filter, slice_index_or, All, IsSome}
+use Rattle.std.specs.Prelude.{◌≡◌, ◌==◌, ◌<◌, ℕ, List, [], ◌++◌, length, map, filter, slice_index_or, All, IsSome}
 use Rattle.std.specs.List.Sorted.{IsPermutation}
 use Rattle.lethe_disk.specs.declared.disk.Disk.{Ghosts}
 use Rattle.lethe_disk.specs.Directory.{Directory, object, content}
@@ -10,7 +10,9 @@ use Rattle.lethe_header.specs.declared.header.Header.{Header}
 use Rattle.lethe_stored.specs.Files.{Parts}
 use Rattle.lethe_version.specs.Order.{is_kept}
 use Rattle.lethe_version.specs.Versions.{bytes_of, levels_of}
+use Rattle.lethe_version.specs.declared.new_file.NewFile.{NewFile}
 use Rattle.lethe_version.specs.declared.version.Version.{Version}
+use Rattle.lethe_advance.specs.declared.new_header.NewHeader.{NewHeader}
 
 -- a file as its readers have it
 abbrev pub parts_in : {D Page Port : Type 0} {disk : Ghosts D Page Port} → FileView D Page Port disk → Parts
@@ -32,8 +34,22 @@ parts_at d header = record { header = header; pages = map (λ line. content d (p
 abbrev pub parts_without : List ℕ → List Parts → List Parts
 parts_without merged files = filter (λ file. is_kept merged file.header) files
 
--- the levels without the files of some numbers and with files added in one level; within a level in whatever order
-pub record AreLevelsWith (merged : List ℕ) (level : ℕ) (added : List Parts) (old new : List (List Parts)) : Type 0 where
+-- a file that is added, with its level
+pub record NewParts : Type 0 where
+  pub level : ℕ
+  pub parts : Parts
+
+abbrev pub new_parts : {D Page Port : Type 0} {disk : Ghosts D Page Port} → NewFile D Page Port disk → NewParts
+new_parts new = record { level = new.level; parts = parts_in new.file }
+
+abbrev pub new_parts_at : Directory → NewHeader → NewParts
+new_parts_at d new = record { level = new.level; parts = parts_at d new.header }
+
+-- of files that are added, those that come into the level
+abbrev pub in_level : ℕ → List NewParts → List Parts
+in_level level added = map (λ new. new.parts) (filter (λ new. new.level == level) added)
+
+-- the levels without the files of some numbers and with files added; within a level in whatever order
+pub record AreLevelsWith (merged : List ℕ) (added : List NewParts) (old new : List (List Parts)) : Type 0 where
   pub count : length new ≡ length old
-  pub others : (other : ℕ) → other < length old → other ≢ level → IsPermutation (parts_without merged (slice_index_or old other [])) (slice_index_or new other [])
-  pub there : IsPermutation (parts_without merged (slice_index_or old level []) ++ added) (slice_index_or new level [])
+  pub each : (level : ℕ) → level < length old → IsPermutation (parts_without merged (slice_index_or old level []) ++ in_level level added) (slice_index_or new level [])

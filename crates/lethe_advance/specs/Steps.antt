@@ -4,12 +4,12 @@ use Rattle.std.specs.List.Sorted.{IsPermutation}
 use Rattle.lethe_disk.specs.Disk.{Seen}
 use Rattle.lethe_base.specs.declared.name.Kind.TheVariants.{Page}
 use Rattle.lethe_base.specs.declared.name.Name.{Name}
-use Rattle.lethe_header.specs.declared.header.Header.{Header}
 use Rattle.lethe_segment.specs.Segments.{segment_bytes}
 use Rattle.lethe_stored.specs.Files.{StoredFile, objects_of}
 use Rattle.lethe_stored.specs.Stored.{Stored, Segment, IsCoherent, segments_of, segment_name, part_names}
 use Rattle.lethe_version.specs.Order.{is_kept}
 use Rattle.lethe_advance.specs.Settled.{IsSettled, HasOnly, AreUncited, names_in}
+use Rattle.lethe_advance.specs.declared.new_header.NewHeader.{NewHeader}
 use Rattle.lethe_advance.specs.declared.step.Step.{Step}
 
 -- the bytes that a step writes, each under its name
@@ -36,13 +36,17 @@ IsSettledBy step t left name = Contains (part_names t) name ⊎ Contains step.go
 abbrev pub WasThere : Stored → List (Name × List ℕ) → Name × List ℕ → Type 0
 WasThere s loose named = Contains loose named ⊎ Contains (objects_of s.files) named
 
+-- its header and its level
+abbrev pub new_header : StoredFile → NewHeader
+new_header file = record { level = file.level; header = file.header }
+
 -- the files that don't go
 abbrev pub kept_files : Stored → Step → List StoredFile
 kept_files s step = filter (λ file. is_kept step.merged.items file.header) s.files
 
--- Objects are written, files are added in a level, and files go. Of the objects that aren't cited any more, and of those that lay beside what is stored, some go and the
+-- Objects are written, files are added in their levels, and files go. Of the objects that aren't cited any more, and of those that lay beside what is stored, some go and the
 -- others are left beside what is stored next.
-pub record IsStep (s : Stored) (loose : List (Name × List ℕ)) (t : Stored) (left : List (Name × List ℕ)) (headers : List Header) (step : Step) : Type 0 where
+pub record IsStep (s : Stored) (loose : List (Name × List ℕ)) (t : Stored) (left : List (Name × List ℕ)) (headers : List NewHeader) (step : Step) : Type 0 where
   pub coherent : IsCoherent t
   pub config : t.manifest.config ≡ s.manifest.config
   pub older : step.older ≡ s.manifest.no
@@ -67,14 +71,13 @@ pub record IsStep (s : Stored) (loose : List (Name × List ℕ)) (t : Stored) (l
   pub left_there : All (WasThere s loose) left
   pub left_stays : All (λ named. Contains step.gone.items named.0 → ⊥) left
   pub left_uncited : AreUncited t left
-  -- the files of the headers come in the level, and the merged ones go
+  -- the files of the headers come, each in its level, and the merged ones go
   pub added : List StoredFile
-  pub headers_are : headers ≡ map (λ file. file.header) added
-  pub level : All (λ file. file.level ≡ step.level) added
+  pub headers_are : headers ≡ map new_header added
   pub files : IsPermutation (added ++ kept_files s step) t.files
 
 -- the disk has what is stored and the loose objects alone, and the step goes on from there
-pub record MayAdvance (disk : Seen) (s : Stored) (loose : List (Name × List ℕ)) (t : Stored) (left : List (Name × List ℕ)) (headers : List Header) (step : Step) : Type 0 where
+pub record MayAdvance (disk : Seen) (s : Stored) (loose : List (Name × List ℕ)) (t : Stored) (left : List (Name × List ℕ)) (headers : List NewHeader) (step : Step) : Type 0 where
   pub settled : IsSettled disk s
   pub only : HasOnly s loose disk.directory
   pub step_is : IsStep s loose t left headers step

@@ -19,16 +19,15 @@ ghost use Rattle.lethe_advance.specs.Settled.{IsSettled, HasOnly};
 ghost use Rattle.lethe_advance.specs.Shown.{parts_by_level};
 ghost use Rattle.lethe_advance.specs.Steps.{MayAdvance};
 
-use crate::Step;
 use crate::exchanging::exchange;
+use crate::{NewHeader, Step};
 use lethe_commit::{Object, clear, place_all, remove_objects};
 use lethe_disk::{Disk, DiskRefused};
-use lethe_header::Header;
 use lethe_version::Version;
 use std::alloc::Global;
 
 /// Goes from what is stored to what is stored next: writes the objects, opens the files of these headers, whose objects are among those
-/// that are written or stored, and adds them to the version, switches to the manifest, and removes what isn't cited any more.
+/// that are written or stored, and adds them to the version in their levels, switches to the manifest, and removes what isn't cited any more.
 ///
 /// # Errors
 ///
@@ -38,12 +37,12 @@ pub fn advance<D: Disk>(
     alloc: Global,
     disk: &mut D,
     version: &Version<D>,
-    headers: Vec<Header>,
+    headers: Vec<NewHeader>,
     step: &Step,
 ) -> Result<Version<D>, DiskRefused>
     requires spelled { HasSpelling step.now.manifest }
-    requires headers { All header.HasSpelling headers.items }
-    requires level { step.now.level < length (levels_of version.now) }
+    requires headers { All (λ new. header.HasSpelling new.header) headers.items }
+    requires levels { All (λ new. new.level < length (levels_of version.now)) headers.items }
     requires step { D.tells → (s t : Stored) × (loose left : List (Name × List ℕ)) × MayAdvance (D.seen disk.old) s loose t left headers.items step.now }
 
     // A crash at any moment of the call leaves what was stored, or what is stored next.

@@ -9,17 +9,15 @@ ghost use Rattle.lethe_header.specs.Headers as header;
 ghost use Rattle.lethe_manifest.specs.Manifests.{manifest_bytes, HasSpelling};
 ghost use Rattle.lethe_commit.specs.Switch.{IsFree, IsSwitched, HasNew, IsTakenBack, manifest_name, switched};
 ghost use Rattle.lethe_version.specs.Versions.{levels_of};
-ghost use Rattle.lethe_advance.specs.Shown.{HasPages, AreLevelsWith, parts_at, parts_in, parts_by_level};
+ghost use Rattle.lethe_advance.specs.Shown.{HasPages, AreLevelsWith, new_parts, new_parts_at, parts_by_level};
 
-use crate::Step;
+use crate::{NewHeader, Step};
 use lethe_commit::switch_from;
 use lethe_disk::{Disk, DiskRefused};
-use lethe_file::FileView;
-use lethe_header::Header;
-use lethe_version::{Version, open_file};
+use lethe_version::{NewFile, Version, open_file};
 use std::alloc::Global;
 
-/// Opens the files of these headers and adds them to the version, and then switches to the manifest.
+/// Opens the files of these headers and adds them to the version in their levels, and then switches to the manifest.
 ///
 /// # Errors
 ///
@@ -29,13 +27,13 @@ pub fn exchange<D: Disk>(
     alloc: Global,
     disk: &mut D,
     version: &Version<D>,
-    headers: Vec<Header>,
+    headers: Vec<NewHeader>,
     step: &Step,
 ) -> Result<Version<D>, DiskRefused>
     requires spelled { HasSpelling step.now.manifest }
-    requires headers { All header.HasSpelling headers.items }
-    requires level { step.now.level < length (levels_of version.now) }
-    requires present { D.tells → All (HasPages (D.seen disk.old).directory) headers.items }
+    requires headers { All (λ new. header.HasSpelling new.header) headers.items }
+    requires levels { All (λ new. new.level < length (levels_of version.now)) headers.items }
+    requires present { D.tells → All (λ new. HasPages (D.seen disk.old).directory new.header) headers.items }
     requires free { D.tells → IsFree (D.seen disk.old) step.now.manifest.no (Some step.now.older) }
     requires older { D.tells → IsSome (object (D.seen disk.old).directory (manifest_name step.now.older)) }
 
@@ -45,7 +43,7 @@ pub fn exchange<D: Disk>(
         ≡ switched step.now.manifest.no (manifest_bytes step.now.manifest) (Some step.now.older) (D.seen disk.old).directory) }
     ensures new { D.tells → OnOk result ((c : _) → Image (D.seen disk.new) c → HasNew step.now.manifest.no (manifest_bytes step.now.manifest) c) }
 
-    ensures files { D.tells → IfOk result (λ next. AreLevelsWith step.now.merged.items step.now.level (map (parts_at (D.seen disk.old).directory) headers.items)
+    ensures files { D.tells → IfOk result (λ next. AreLevelsWith step.now.merged.items (map (new_parts_at (D.seen disk.old).directory) headers.items)
         (parts_by_level version.now) (parts_by_level next)) }
     ensures levels { IfOk result (λ next. length (levels_of next) ≡ length (levels_of version.now)) }
     ensures calls { D.tells → OnOk result ((D.seen disk.old).moment + 4 ≤ (D.seen disk.new).moment) }
@@ -53,7 +51,7 @@ pub fn exchange<D: Disk>(
     ensures cause { HasCause (D.faults disk.old) (D.faults disk.new) result }
 {
     let files = open_files(alloc, disk, headers)?;
-    let next = version.with(alloc, &step.merged, files, step.level)?;
+    let next = version.with(alloc, &step.merged, files)?;
     switch_from(alloc, disk, Some(step.older), &step.manifest)?;
     Ok(next)
 }
@@ -62,17 +60,22 @@ pub fn exchange<D: Disk>(
 fn open_files<D: Disk>(
     alloc: Global,
     disk: &mut D,
-    headers: Vec<Header>,
-) -> Result<Vec<FileView<D>>, DiskRefused>
-    requires headers { All header.HasSpelling headers.items }
-    requires present { D.tells → All (HasPages (D.seen disk.old).directory) headers.items }
-    ensures opened { D.tells → IfOk result (λ files. map parts_in files.items ≡ map (parts_at (D.seen disk.old).directory) headers.items) }
+    headers: Vec<NewHeader>,
+) -> Result<Vec<NewFile<D>>, DiskRefused>
+    requires headers { All (λ new. header.HasSpelling new.header) headers.items }
+    requires present { D.tells → All (λ new. HasPages (D.seen disk.old).directory new.header) headers.items }
+    ensures opened { D.tells → IfOk result (λ files. map new_parts files.items ≡ map (new_parts_at (D.seen disk.old).directory) headers.items) }
+
+    // On any disk:
+    ensures levels { IfOk result (λ files. map (λ new. new.level) files.items ≡ map (λ new. new.level) headers.items) }
     ensures quiet { D.tells → IsQuiet (D.seen disk.old) (D.seen disk.new) }
     ensures cause { HasCause (D.faults disk.old) (D.faults disk.new) result }
 {
     let mut files = Vec::new(alloc);
-    for header in headers {
-        files.push(open_file(alloc, disk, header)?)?;
+    for new in headers {
+        let NewHeader { level, header } = new;
+        let file = open_file(alloc, disk, header)?;
+        files.push(NewFile { level, file })?;
     }
     Ok(files)
 }

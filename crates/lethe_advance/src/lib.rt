@@ -3,7 +3,9 @@
 
 mod advancing;
 mod exchanging;
+mod new_header;
 mod step;
 
 pub use advancing::advance;
+pub use new_header::NewHeader;
 pub use step::Step;

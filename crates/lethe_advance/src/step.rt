@@ -9,8 +9,6 @@ use lethe_manifest::Manifest;
 pub struct Step {
     /// Objects to be written, whose numbers have not been drawn.
     pub objects: Vec<Object>,
-    /// The level of the files that are added.
-    pub level: u64,
     /// The numbers of the files that go.
     pub merged: Vec<u64>,
     /// The number of the manifest that counts until then.

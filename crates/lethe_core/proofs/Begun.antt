@@ -1,29 +1,27 @@
 -- A job that was begun is in flight.
-use Rattle.std.proofs.Common.{◌≡◌, ◌≢◌, ◌≤◌, ◌<◌, ◌+◌, ◌++◌, ℕ, List, [], All, Some, None, refl, subst, sym, arith}
+use Rattle.std.proofs.Common.{◌≡◌, ◌≤◌, ◌<◌, ◌+◌, ◌++◌, ℕ, [], All, Some, None, refl, subst, sym, arith}
 use Rattle.std.specs.Prelude.{Contains}
-use Rattle.std.proofs.lemmas.List.Elements.{All-contains, All-nil, All-weaker}
+use Rattle.std.proofs.lemmas.List.Elements.{All-contains, All-weaker}
 use Rattle.lethe_base.specs.History.{History}
 use Rattle.lethe_base.specs.Layout.{entries_of}
 use Rattle.lethe_base.specs.Limits.{max_time}
 use Rattle.lethe_base.specs.declared.config.Fields.{Fields}
 use Rattle.lethe_base.specs.declared.entry.Entry.{Entry}
-use Rattle.lethe_base.specs.declared.name.Kind.TheVariants as kinds
-use Rattle.lethe_base.specs.declared.name.Name.{Name}
 use Rattle.lethe_base.specs.declared.pending.Pending.{Pending}
 use Rattle.lethe_disk.specs.Disk.{IsIdle, Seen}
 use Rattle.lethe_manifest.specs.Manifests.{IsErase}
 use Rattle.lethe_stored.specs.Files.{StoredFile, file_of}
 use Rattle.lethe_stored.specs.Kept.{IsFor}
-use Rattle.lethe_stored.specs.Stored.{IsCited, IsCoherent, Stored, count_of}
-use Rattle.lethe_stored.proofs.Lists.{all_from, from_flat, in_flat, no_pairs}
-use Rattle.lethe_advance.specs.Settled.{HasOnly}
+use Rattle.lethe_stored.specs.Stored.{IsCoherent, Stored, count_of}
+use Rattle.lethe_stored.proofs.Lists.{all_from, from_flat, in_flat}
+use Rattle.lethe_advance.specs.Settled.{AreDrawn, AreUncited, HasOnly, names_in}
 use Rattle.lethe_follows.specs.Merged.{entries_in, inputs_of}
 use Rattle.lethe_follows.proofs.Merging.{all_counted}
 use Rattle.lethe_install.proofs.Beside.{input_in}
 use Rattle.lethe_job.specs.Tasks.{IsBegunIn, PlainTask, inputs_in}
 use Rattle.lethe_core.specs.Running.{Holds, IsFlying, IsRunning, IsSound}
 use Rattle.lethe_core.specs.StandsNow.{IsCounted, StandsNow}
-use Rattle.lethe_core.specs.View.{Flying, View, loose_in}
+use Rattle.lethe_core.specs.View.{Flying, View, beside_at, loose_in}
 use Rattle.lethe_core.proofs.Standing.{idle_back, next_stands_now, running_back, sound_back, stands_back, stands_for, stands_holds}
 
 -- the inputs are files that are stored, whose entries' places are all counted
@@ -51,8 +49,8 @@ module _ (Tells : Type 0) (old : View) (task : PlainTask) (free : old.flight ≡
       let running = holds.running in
       record {
         settled = running.settled;
-        only = subst (λ flight. HasOnly s (loose_in flight) old.disk.directory) free running.only;
-        uncited = All-nil (λ (named : Name × List ℕ). IsCited s named.0 → ⊥);
+        only = subst (λ flight. HasOnly s (beside_at old.disk.directory old.retired flight) old.disk.directory) free running.only;
+        uncited = subst (λ flight. AreUncited s (beside_at old.disk.directory old.retired flight)) free running.uncited;
         rising = running.rising;
         ends = running.ends;
         current = running.current;
@@ -75,7 +73,6 @@ module _ (Tells : Type 0) (old : View) (task : PlainTask) (free : old.flight ≡
     upto = let few = sound.writable.count in omega (arith, upto, few);
     erases = subst (All (λ (erase : Pending). erase.time ≤ max_time)) (sym erases)
         (All-weaker IsErase (λ (erase : Pending). erase.time ≤ max_time) (λ erase is. is.time) old.state.pending sound.writable.pending.each);
-    drawn = record { each = All-nil (λ (name : Name). (name.kind ≡ kinds.Page) × (name.no < old.state.next)); once = no_pairs (λ a b. a ≢ b) };
   }
 
   pub begun_sound : task.level < old.state.manifest.config.levels → task.upto ≡ old.state.count → task.erases ≡ old.state.pending → IsSound Tells now
@@ -84,6 +81,7 @@ module _ (Tells : Type 0) (old : View) (task : PlainTask) (free : old.flight ≡
     small = sound.small;
     count = sound.count;
     flies = begun_flies level upto erases;
+    drawn = subst (λ flight. AreDrawn old.state.next (old.retired ++ names_in (loose_in flight))) free sound.drawn;
     held = λ told. let held = sound.held told in (held.0, held.1, λ runs. begun_running held.0 (record { remembers = held.1; running = held.2 runs }));
   }
 
@@ -93,14 +91,14 @@ abbrev beside_disk : View → Seen → ℕ → View
 beside_disk view disk faults = record view { disk = disk; faults = faults }
 
 pub idle_sound : (Tells : Type 0) (view : View) (disk : Seen) (faults : ℕ) → (Tells → IsIdle view.disk disk) → IsSound Tells view → IsSound Tells (beside_disk view disk faults)
-idle_sound Tells view disk faults idle sound = sound_back Tells view (beside_disk view disk faults) (λ told. idle_back view.disk disk (idle told)) refl (record { levels = refl; flight = refl; begun = refl }) sound
+idle_sound Tells view disk faults idle sound = sound_back Tells view (beside_disk view disk faults) (λ told. idle_back view.disk disk (idle told)) refl (record { levels = refl; retired = refl; flight = refl; begun = refl }) sound
 
 module _ (view : View) (disk : Seen) (faults : ℕ) (idle : IsIdle view.disk disk) where
   pub idle_holds : (s : Stored) → Holds view s → Holds (beside_disk view disk faults) s
   idle_holds s holds = record {
     remembers = holds.remembers;
-    running = running_back view (beside_disk view disk faults) (idle_back view.disk disk idle) s refl (record { levels = refl; flight = refl; begun = refl }) holds.running;
+    running = running_back view (beside_disk view disk faults) (idle_back view.disk disk idle) s refl (record { levels = refl; retired = refl; flight = refl; begun = refl }) holds.running;
   }
 
   pub idle_stands : (config : Fields) (h : History) → StandsNow config h view → StandsNow config h (beside_disk view disk faults)
-  idle_stands config h stands = stands_back view (beside_disk view disk faults) (idle_back view.disk disk idle) config h refl (record { levels = refl; flight = refl; begun = refl }) stands
+  idle_stands config h stands = stands_back view (beside_disk view disk faults) (idle_back view.disk disk idle) config h refl (record { levels = refl; retired = refl; flight = refl; begun = refl }) stands

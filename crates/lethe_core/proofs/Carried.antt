@@ -8,7 +8,6 @@ use Rattle.lethe_disk.specs.Directory.{Directory, object, IsNoneOf}
 use Rattle.lethe_disk.specs.Disk.{Seen, Image}
 use Rattle.lethe_disk.specs.Goes.{Goes}
 use Rattle.lethe_disk.proofs.Going.{goes_weaker}
-use Rattle.lethe_header.specs.declared.header.Header.{Header}
 use Rattle.lethe_segment.specs.Segments.{segment_bytes}
 use Rattle.lethe_commit.specs.declared.objects.Object.{Object}
 use Rattle.lethe_commit.specs.Append.{EndsAt}
@@ -25,12 +24,13 @@ use Rattle.lethe_stored.proofs.Numbers.{pace_stepped}
 use Rattle.lethe_stored.proofs.Parts.{active_part, part_below}
 use Rattle.lethe_advance.specs.Settled.{IsSettled, HasOnly}
 use Rattle.lethe_advance.specs.Steps.{IsStep, IsSegmentFrom, MayAdvance}
+use Rattle.lethe_advance.specs.declared.new_header.NewHeader.{NewHeader}
 use Rattle.lethe_advance.specs.declared.step.Step.{Step}
 use Rattle.lethe_advance.proofs.Placed.{written_absent}
 use Rattle.lethe_advance.proofs.Standing.{ends_empty}
 use Rattle.lethe_state.specs.Room.{IsFrozen}
 use Rattle.lethe_core.specs.Running.{IsRunning}
-use Rattle.lethe_core.specs.View.{View, loose_in}
+use Rattle.lethe_core.specs.View.{View, beside_in}
 
 -- a crash leaves what was stored or what is stored next, and both stand for the history
 pub step_moments : (h : History) (s t : Stored) (first count : ℕ) (old new : Seen) → IsCoherent s → IsCoherent t → t.manifest.config ≡ s.manifest.config → IsFor h s → IsFor h t → s.manifest.next ≤ first → t.manifest.next ≤ first + count + 1
@@ -47,19 +47,20 @@ step_moments h s t first count old new coherent next same stands after below abo
 }
 
 -- a step goes on from what is stored
-pub may_advance : (view : View) (s t : Stored) (left : List (Name × List ℕ)) (headers : List Header) (step : Step) → IsRunning view s → IsStep s (loose_in view.flight) t left headers step
-    → MayAdvance view.disk s (loose_in view.flight) t left headers step
+pub may_advance : (view : View) (s t : Stored) (left : List (Name × List ℕ)) (headers : List NewHeader) (step : Step) → IsRunning view s → IsStep s (beside_in view) t left headers step
+    → MayAdvance view.disk s (beside_in view) t left headers step
 may_advance view s t left headers step running is = record { settled = running.settled; only = running.only; step_is = is }
 
 -- What is known of a step once it is carried out. The new view may have another state.
-pub record IsCarried (Tells : Type 0) (old new : View) (headers : List Header) (step : Step) : Type 0 where
-  pub moments : Tells → (s t : Stored) (left : List (Name × List ℕ)) → IsRunning old s → IsStep s (loose_in old.flight) t left headers step → (h : History) → IsFor h s → IsFor h t
+pub record IsCarried (Tells : Type 0) (old new : View) (headers : List NewHeader) (step : Step) : Type 0 where
+  pub moments : Tells → (s t : Stored) (left : List (Name × List ℕ)) → IsRunning old s → IsStep s (beside_in old) t left headers step → (h : History) → IsFor h s → IsFor h t
       → s.manifest.next ≤ old.state.next → t.manifest.next ≤ old.state.next + length step.objects.items + 1 → GoesFrom old.state.next (λ c. IsKept s.manifest.config c h) old.disk new.disk
-  pub done : Tells → (s t : Stored) (left : List (Name × List ℕ)) → IsRunning old s → IsStep s (loose_in old.flight) t left headers step → IsSettled new.disk t × HasOnly t left new.disk.directory
-  pub kept : Tells → (s t : Stored) (left : List (Name × List ℕ)) → IsRunning old s → IsStep s (loose_in old.flight) t left headers step
+  pub done : Tells → (s t : Stored) (left : List (Name × List ℕ)) → IsRunning old s → IsStep s (beside_in old) t left headers step → IsSettled new.disk t × HasOnly t left new.disk.directory
+  pub kept : Tells → (s t : Stored) (left : List (Name × List ℕ)) → IsRunning old s → IsStep s (beside_in old) t left headers step
       → (name : Name) → Contains (part_names t) name → object new.disk.directory name ≡ object (insert_all step.objects.items old.disk.directory) name
-  pub files : Tells → (s t : Stored) (left : List (Name × List ℕ)) → IsRunning old s → IsStep s (loose_in old.flight) t left headers step → HasFiles s old.levels → HasFiles t new.levels
+  pub files : Tells → (s t : Stored) (left : List (Name × List ℕ)) → IsRunning old s → IsStep s (beside_in old) t left headers step → HasFiles s old.levels → HasFiles t new.levels
   pub levels : length new.levels ≡ length old.levels
+  pub retired : new.retired ≡ old.retired
   pub flight : new.flight ≡ old.flight
   pub calls : Tells → old.disk.moment + length step.objects.items + 5 ≤ new.disk.moment
   pub faults : old.faults ≤ new.faults
@@ -79,7 +80,7 @@ segment_below s segment coherent there =
       | inr last ↦ Contains-append_right (map number_of (option_to_list s.frozen)) (s.active.no ∷ []) segment.no (one_of last)
     ]
 
-module _ (s t : Stored) (loose left : List (Name × List ℕ)) (headers : List Header) (step : Step) (is : IsStep s loose t left headers step) (coherent : IsCoherent s) (old new : Seen) (settled : IsSettled new t)
+module _ (s t : Stored) (loose left : List (Name × List ℕ)) (headers : List NewHeader) (step : Step) (is : IsStep s loose t left headers step) (coherent : IsCoherent s) (old new : Seen) (settled : IsSettled new t)
     (kept : (name : Name) → Contains (part_names t) name → object new.directory name ≡ object (insert_all step.objects.items old.directory) name) where
   -- no object is written under a name that has been drawn
   apart : (name : Name) → name.no < s.manifest.next → IsNoneOf (map name_of step.objects.items) name

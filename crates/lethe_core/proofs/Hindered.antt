@@ -18,7 +18,7 @@ use Rattle.lethe_stored.specs.Kept.{IsKept}
 use Rattle.lethe_stored.specs.Numbers.{GoesFrom}
 use Rattle.lethe_stored.specs.Stored.{Stored}
 use Rattle.lethe_stored.proofs.Numbers.{goes_from_then}
-use Rattle.lethe_advance.specs.Settled.{AreDrawn, names_in}
+use Rattle.lethe_advance.specs.Settled.{AreDrawn}
 use Rattle.lethe_state.specs.Records.{IsLike, halted}
 use Rattle.lethe_state.specs.Remembered.{Remembers}
 use Rattle.lethe_state.specs.Writable.{IsWritable}
@@ -42,13 +42,12 @@ drawn_on first next names more is = record {
 }
 
 -- a job in flight stays within the limits
-pub flies_on : (old new : State) → new.manifest.config.levels ≡ old.manifest.config.levels → old.next ≤ new.next → (flight : Option Flying) → IfSome flight (IsFlying old) → IfSome flight (IsFlying new)
-flies_on old new levels more None is = tt
-flies_on old new levels more (Some flying) is = record {
+pub flies_on : (old new : State) → new.manifest.config.levels ≡ old.manifest.config.levels → (flight : Option Flying) → IfSome flight (IsFlying old) → IfSome flight (IsFlying new)
+flies_on old new levels None is = tt
+flies_on old new levels (Some flying) is = record {
   level = let below = is.level in omega (arith, below, levels);
   upto = is.upto;
   erases = is.erases;
-  drawn = drawn_on old.next new.next (names_in flying.written) more is.drawn;
 }
 
 -- A store that was stopped
@@ -89,7 +88,8 @@ sound_halted Tells old new fits sound = record {
   writable = writable_halted old.state fits sound.writable;
   small = small_halted old.state sound.small;
   count = sound.count;
-  flies = flies_on old.state (halted old.state) refl (omega arith) old.flight sound.flies;
+  flies = flies_on old.state (halted old.state) refl old.flight sound.flies;
+  drawn = sound.drawn;
   held = λ told. let held = sound.held told in (held.0, halted_remembered held.0 old.state old.levels held.1, λ runs. absurd (runs_not (old.state.count + 1) runs));
 }
 
@@ -102,7 +102,7 @@ pub like_of : (old new : State) → new ≡ old → IsLike old new
 like_of old new same = subst (IsLike old) (sym same) (like_itself old)
 
 pub as_itself : (Tells : Type 0) (view : View) → IsAsBefore Tells view view
-as_itself Tells view = record { state = like_itself view.state; levels = refl; disk = λ told. record { directory = refl; images = λ c here. here } }
+as_itself Tells view = record { state = like_itself view.state; levels = refl; retired = refl; disk = λ told. record { directory = refl; images = λ c here. here } }
 
 module _ (Tells : Type 0) (old new : View) (before : ℕ) where
   pub hindered_sound : old.state.count < max_place → IsSound Tells old → (why : Refused) → IsHindered Tells old new before why → IsSound Tells new
@@ -127,7 +127,7 @@ module _ (Tells : Type 0) (old new : View) (before : ℕ) where
 
   pub hindered_undone : (why : Refused) → IsHindered Tells old new before why → IsUndone Tells old new why
   hindered_undone (Fault place b a) is none = absurd (let clash : Some (record { place = place; before = b; after = a }) ≡ None = none in cc)
-  hindered_undone NoMemory is none = record { state = like_of old.state new.state is.0; levels = is.1.levels; disk = is.2 }
+  hindered_undone NoMemory is none = record { state = like_of old.state new.state is.0; levels = is.1.levels; retired = is.1.retired; disk = is.2 }
   hindered_undone why is none = absurd is
 
   pub hindered_next : (why : Refused) → IsHindered Tells old new before why → new.state.next ≡ old.state.next

@@ -1,5 +1,5 @@
 -- From the drafts of a task's outputs to the step that installs them.
-use Rattle.std.proofs.Common.{◌≡◌, ◌≤◌, List, [], Contains, Some, None, sym, ap, ◌∙◌, subst, arith}
+use Rattle.std.proofs.Common.{◌≡◌, ◌≤◌, ℕ, List, [], ◌++◌, Contains, Some, None, sym, ap, ◌∙◌, subst, arith}
 use Rattle.std.specs.Prelude.{IfSome}
 use Rattle.std.proofs.lemmas.List.Elements.{All-contains}
 use Rattle.lethe_base.specs.History.{History}
@@ -15,7 +15,9 @@ use Rattle.lethe_file.specs.Agreement.{FileAgrees}
 use Rattle.lethe_flush.specs.Made.{written_pages}
 use Rattle.lethe_follows.specs.Merged.{IsMerged, StoredMerge, entries_in, inputs_of}
 use Rattle.lethe_follows.proofs.Merging.{all_counted}
-use Rattle.lethe_header.specs.declared.header.Header.{Header}
+use Rattle.lethe_install.specs.Inputs.{numbered}
+use Rattle.lethe_install.specs.Left.{left_of}
+use Rattle.lethe_install.specs.declared.steps.Installation.{Installation}
 use Rattle.lethe_install.proofs.Beside.{input_in}
 use Rattle.lethe_job.specs.Tasks.{AreSound, IsBegunIn, IsTaskIn, PlainTask, inputs_in}
 use Rattle.lethe_merge.specs.Merge.{merged}
@@ -25,14 +27,14 @@ use Rattle.lethe_stored.specs.Levels.{AreRising}
 use Rattle.lethe_stored.specs.Stored.{IsCoherent, Stored, count_of, pending_of}
 use Rattle.lethe_advance.specs.Settled.{AreUncited, names_in}
 use Rattle.lethe_advance.specs.Steps.{IsStep}
-use Rattle.lethe_advance.specs.declared.step.Step.{Step}
 use Rattle.lethe_state.specs.Remembered.{IsCurrent, Remembers}
 use Rattle.lethe_state.specs.declared.state.State.{State}
 use Rattle.lethe_core.specs.Jobs.{AreOutputsOf}
 use Rattle.lethe_core.specs.Merges.{MayMerge}
 use Rattle.lethe_core.specs.Running.{Holds, IsTasked}
 use Rattle.lethe_core.specs.StandsNow.{IsCounted, StandsNow}
-use Rattle.lethe_core.specs.View.{Flying, View, loose_in}
+use Rattle.lethe_core.specs.View.{Flying, View, loose_in, named_in}
+use Rattle.lethe_core.proofs.Beside.{names_named}
 use Rattle.lethe_core.proofs.Merged.{inputs_same}
 use Rattle.lethe_core.proofs.Standing.{stands_for, stands_holds}
 
@@ -58,39 +60,47 @@ module _ (s : Stored) (coherent : IsCoherent s) (m : StoredMerge) (task : PlainT
 
 -- Installing
 
--- what the installing of a task's outputs promises, the first of whose pages were written under these names
-abbrev pub Installs : State → List (List Parts) → PlainTask → List Name → List Draft → List Header → Step → Type 0
-Installs state levels task written drafts headers step = (s : Stored) (m : StoredMerge) → Remembers s state levels → IsCurrent s state → AreRising s.files → IsTaskIn s m task → AreUncited s (written_pages written drafts)
-    → AreDraftsOf s.manifest.config (merged (entries_in (inputs_of m)) (pending_of s) task.alone) drafts
-    → (t : Stored) × IsMerged s m (pending_of s) task.alone task.upto t × IsStep s (written_pages written drafts) t [] headers step
+-- what the installing of a task's outputs promises, the first of whose pages were written under these names, where these pages are retired and those are needed
+abbrev pub Installs : State → List (List Parts) → PlainTask → List Draft → List Name → List Name → List Name → Installation → Type 0
+Installs state levels task drafts written retired needed made = (s : Stored) (m : StoredMerge) (beside : List (Name × List ℕ)) → Remembers s state levels → IsCurrent s state → AreRising s.files → IsTaskIn s m task
+    → names_in beside ≡ retired → AreUncited s (beside ++ written_pages written drafts) → AreDraftsOf s.manifest.config (merged (entries_in (inputs_of m)) (pending_of s) task.alone) drafts
+    → (t : Stored) × IsMerged s m (pending_of s) task.alone task.upto t
+    × IsStep s (beside ++ written_pages written drafts) t (left_of needed (numbered made.step.merged.items s.files) beside) made.headers.items made.step
+    × (made.left.items ≡ names_in (left_of needed (numbered made.step.merged.items s.files) beside))
 
--- where these pages are the loose ones, it is a step that may be carried out
-pub next_merge : (view : View) (task : PlainTask) (written : List Name) (drafts : List Draft) (headers : List Header) (step : Step) → Installs view.state view.levels task written drafts headers step
-    → loose_in view.flight ≡ written_pages written drafts → AreDraftsOf task.config (merged (entries_in (inputs_in task)) task.erases task.alone) drafts
-    → (s : Stored) (m : StoredMerge) → Holds view s → IsTaskIn s m task → (t : Stored) × IsMerged s m (pending_of s) task.alone task.upto t × MayMerge view s task t headers step
-next_merge view task written drafts headers step installs loose of s m holds is =
+-- where these pages are those of the job in flight, and the retired ones those of the store, it is a step that may be carried out
+pub next_merge : (view : View) (task : PlainTask) (drafts : List Draft) (written retired needed : List Name) (made : Installation) → Installs view.state view.levels task drafts written retired needed made
+    → view.retired ≡ retired → loose_in view.flight ≡ written_pages written drafts → AreDraftsOf task.config (merged (entries_in (inputs_in task)) task.erases task.alone) drafts
+    → (s : Stored) (m : StoredMerge) → Holds view s → IsTaskIn s m task → (t : Stored) × IsMerged s m (pending_of s) task.alone task.upto t × MayMerge view s task t made
+next_merge view task drafts written retired needed made installs there loose of s m holds is =
     let Are : Fields → List StoredFile → List Pending → Type 0 = λ config files erases. AreDraftsOf config (merged (entries_in files) erases task.alone) drafts in
     let erased : Are task.config (inputs_in task) (pending_of s) = subst (Are task.config (inputs_in task)) is.erases of in
     let filed : Are task.config (inputs_of m) (pending_of s) = subst (λ files. Are task.config files (pending_of s)) (inputs_same s m task is) erased in
     let all : Are s.manifest.config (inputs_of m) (pending_of s) = subst (λ config. Are config (inputs_of m) (pending_of s)) is.config filed in
-    let made = installs s m holds.remembers holds.running.current holds.running.rising is (subst (AreUncited s) loose holds.running.uncited) all in (
-      made.0,
-      made.1,
+    let beside = named_in view.disk.directory view.retired in
+    let left = left_of needed (numbered made.step.merged.items s.files) beside in
+    let next = installs s m beside holds.remembers holds.running.current holds.running.rising is (names_named view.disk.directory view.retired ∙ there)
+    (subst (λ pages. AreUncited s (beside ++ pages)) loose holds.running.uncited) all in (
+      next.0,
+      next.1,
       record {
-        installed = record { m = m; tasked = is; merged_is = made.1 };
-        step_is = subst (λ pages. IsStep s pages made.0 [] headers step) (sym loose) made.2;
+        installed = record { m = m; tasked = is; merged_is = next.1 };
+        left = left;
+        step_is = subst (λ pages. IsStep s (beside ++ pages) next.0 left made.headers.items made.step) (sym loose) next.2;
+        left_is = next.3;
       },
     )
 
 -- for the job in flight
-module _ (view : View) (flying : Flying) (flies : view.flight ≡ Some flying) (Tells : Type 0) (drafts : List Draft) (headers : List Header) (step : Step) (outputs : AreOutputsOf Tells flying drafts) where
-  pub next_install : (task : PlainTask) (written : List Name) → Installs view.state view.levels task written drafts headers step → task ≡ flying.task → written ≡ names_in flying.written → Tells → (s : Stored) → Holds view s
-      → (t : Stored) × MayMerge view s flying.task t headers step
-  next_install task written installs same names told s holds =
+module _ (view : View) (flying : Flying) (flies : view.flight ≡ Some flying) (Tells : Type 0) (drafts : List Draft) (made : Installation) (outputs : AreOutputsOf Tells flying drafts) where
+  pub next_install : (task : PlainTask) (written retired needed : List Name) → Installs view.state view.levels task drafts written retired needed made → task ≡ flying.task → written ≡ names_in flying.written
+      → view.retired ≡ retired → Tells → (s : Stored) → Holds view s → (t : Stored) × MayMerge view s flying.task t made
+  next_install task written retired needed installs same names there told s holds =
       let tasked = subst (λ flight. IfSome flight (IsTasked s)) flies holds.running.tasked in
       let of = outputs.outputs.told told (sound_inputs s holds.remembers.coherent tasked.0 flying.task tasked.1) in
-      let its = subst (λ names. Installs view.state view.levels flying.task names drafts headers step) names (subst (λ task. Installs view.state view.levels task written drafts headers step) same installs) in
-      let next = next_merge view flying.task (names_in flying.written) drafts headers step its (ap loose_in flies ∙ outputs.pages) of s tasked.0 holds tasked.1 in
+      let its = subst (λ names. Installs view.state view.levels flying.task drafts names retired needed made) names
+      (subst (λ task. Installs view.state view.levels task drafts written retired needed made) same installs) in
+      let next = next_merge view flying.task drafts (names_in flying.written) retired needed made its there (ap loose_in flies ∙ outputs.pages) of s tasked.0 holds tasked.1 in
       (next.0, next.2)
 
 -- for the merge that is due, where no job is in flight
@@ -104,9 +114,10 @@ module _ (view : View) (task : PlainTask) (begins : (s : Stored) → Holds view 
       let begun = begins stands.stored holds in
       counted_inputs stands.stored holds.remembers.coherent begun.m task begun.is h (stands_for config h view stands runs) begun.counted
 
-  module _ (free : view.flight ≡ None) (Tells : Type 0) (drafts : List Draft) (headers : List Header) (step : Step) (installs : Installs view.state view.levels task [] drafts headers step)
+  module _ (free : view.flight ≡ None) (Tells : Type 0) (drafts : List Draft) (retired needed : List Name) (made : Installation)
+      (installs : Installs view.state view.levels task drafts [] retired needed made) (there : view.retired ≡ retired)
       (of : Tells → AreSound (inputs_in task) → AreDraftsOf task.config (merged (entries_in (inputs_in task)) task.erases task.alone) drafts) where
-    pub next_outcome : Tells → (s : Stored) (holds : Holds view s) → (t : Stored) × IsMerged s (begins s holds).m (pending_of s) task.alone task.upto t × MayMerge view s task t headers step
+    pub next_outcome : Tells → (s : Stored) (holds : Holds view s) → (t : Stored) × IsMerged s (begins s holds).m (pending_of s) task.alone task.upto t × MayMerge view s task t made
     next_outcome told s holds =
         let begun = begins s holds in
-        next_merge view task [] drafts headers step installs (ap loose_in free) (of told (begun_sound s holds)) s begun.m holds begun.is
+        next_merge view task drafts [] retired needed made installs there (ap loose_in free) (of told (begun_sound s holds)) s begun.m holds begun.is

@@ -1,5 +1,6 @@
 pub mod Asked
 pub mod Histories
+pub mod Beside
 pub mod Standing
 pub mod Hindered
 pub mod Carried

@@ -21,9 +21,9 @@ use Rattle.lethe_state.specs.declared.state.State.{State}
 use Rattle.lethe_core.specs.Running.{Holds, IsRunning, IsSmall, IsSound}
 use Rattle.lethe_core.specs.StandsNow.{StandsNow}
 use Rattle.lethe_core.specs.Steps.{IsAsBefore, IsBeside}
-use Rattle.lethe_core.specs.View.{Face, View, face_of, flying_of, view_of}
+use Rattle.lethe_core.specs.View.{Face, View, face_of, flying_of, names_beside, view_of}
 use Rattle.lethe_core.specs.declared.holding.Core.{Core}
-use Rattle.lethe_core.proofs.Hindered.{flies_on}
+use Rattle.lethe_core.proofs.Hindered.{drawn_on, flies_on}
 use Rattle.lethe_core.proofs.Standing.{next_stands_now, running_back, stands_for, stands_holds}
 
 like_remembered : (s : Stored) (old new : State) (levels : List (List Parts)) → IsLike old new → Remembers s old levels → Remembers s new levels
@@ -75,7 +75,8 @@ module _ (view : View) (new : State) (like : IsLike view.state new) where
         writable = writable;
         small = like_small view.state new like sound.small;
         count = sound.count ∙ ap (λ (m : Manifest). m.config.levels + 1) (sym like.manifest);
-        flies = flies_on view.state new (ap (λ (m : Manifest). m.config.levels) like.manifest) (omega (arith, next)) view.flight sound.flies;
+        flies = flies_on view.state new (ap (λ (m : Manifest). m.config.levels) like.manifest) view.flight sound.flies;
+        drawn = drawn_on view.state.next new.next (names_beside view) (omega (arith, next)) sound.drawn;
         held = λ told.
             let held = sound.held told in
             (held.0, like_remembered held.0 view.state new view.levels like held.1, λ runs. like_running held.0 (held.2 (sym like.stopped ∙ runs)));
@@ -104,15 +105,15 @@ next_small next end old new is room small =
 
 -- A step that left all as it was
 
--- the jobs of a store are as they were
-pub jobs_same : {D Page Port : Type 0} {kind : Ghosts D Page Port} (old new : Core D Page Port kind) → new.begun ≡ old.begun → new.flight ≡ old.flight → face_of (view_of new) ≡ face_of (view_of old)
-jobs_same old new begun flight = λ i. record { begun = (begun i).count; flight = option_map flying_of (flight i) }
+-- the jobs of a store, and the pages that are retired, are as they were
+pub jobs_same : {D Page Port : Type 0} {kind : Ghosts D Page Port} (old new : Core D Page Port kind) → new.begun ≡ old.begun → new.flight ≡ old.flight → new.retired.items ≡ old.retired.items → face_of (view_of new) ≡ face_of (view_of old)
+jobs_same old new begun flight retired = λ i. record { begun = (begun i).count; flight = option_map flying_of (flight i); retired = retired i }
 
 -- what it held it holds
 pub before_holds : (Tells : Type 0) → Tells → (old new : View) (s : Stored) → face_of new ≡ face_of old → IsAsBefore Tells old new → Holds old s → Holds new s
 before_holds Tells told old new s face is holds =
     let mid = with_state old new.state in
-    let rest : IsBeside mid new = record { levels = is.levels; flight = ap (λ (face : Face). face.flight) face; begun = ap (λ (face : Face). face.begun) face } in
+    let rest : IsBeside mid new = record { levels = is.levels; retired = is.retired; flight = ap (λ (face : Face). face.flight) face; begun = ap (λ (face : Face). face.begun) face } in
     let like = like_holds old new.state is.state s holds in
     record {
       remembers = subst (Remembers s new.state) (sym is.levels) like.remembers;

@@ -1,12 +1,10 @@
 -- The step of a merge that was carried out.
-use Rattle.std.proofs.Common.{◌≡◌, ◌≤◌, ℕ, ◌+◌, List, [], ◌++◌, length, All, None, refl, sym, ap, ◌∙◌, subst, arith}
-use Rattle.std.proofs.lemmas.List.Elements.{All-nil}
+use Rattle.std.proofs.Common.{◌≡◌, ◌≤◌, ℕ, ◌+◌, List, ◌++◌, append-nil, length, All, None, refl, sym, ap, ◌∙◌, subst, arith}
 use Rattle.lethe_base.specs.History.{History}
 use Rattle.lethe_base.specs.declared.config.Fields.{Fields}
 use Rattle.lethe_base.specs.declared.entry.Entry.{Entry}
 use Rattle.lethe_base.specs.declared.name.Name.{Name}
 use Rattle.lethe_disk.specs.Disk.{Seen}
-use Rattle.lethe_header.specs.declared.header.Header.{Header}
 use Rattle.lethe_manifest.specs.declared.manifest.Manifest.{Manifest}
 use Rattle.lethe_commit.specs.Append.{EndsAt}
 use Rattle.lethe_follows.specs.Merged.{StoredMerge, entries_in, inputs_of}
@@ -16,21 +14,24 @@ use Rattle.lethe_stored.specs.Files.{Parts}
 use Rattle.lethe_stored.specs.Kept.{IsFor, IsKept}
 use Rattle.lethe_stored.specs.Numbers.{GoesFrom}
 use Rattle.lethe_stored.specs.Levels.{HasFiles}
-use Rattle.lethe_stored.specs.Stored.{IsCited, IsCoherent, Stored, pending_of, segment_name}
-use Rattle.lethe_advance.specs.Settled.{HasOnly, IsSettled}
+use Rattle.lethe_stored.specs.Stored.{IsCoherent, Stored, pending_of, segment_name}
+use Rattle.lethe_advance.specs.Settled.{AreDrawn, AreUncited, HasOnly, IsSettled}
 use Rattle.lethe_advance.specs.Steps.{IsStep}
+use Rattle.lethe_advance.specs.declared.new_header.NewHeader.{NewHeader}
 use Rattle.lethe_advance.specs.declared.step.Step.{Step}
 use Rattle.lethe_state.specs.Remembered.{IsCurrent, Remembers}
 use Rattle.lethe_state.specs.Room.{IsStepFrom, under}
 use Rattle.lethe_state.specs.Writable.{IsWritable, segments_for}
 use Rattle.lethe_state.specs.declared.state.State.{State}
+use Rattle.lethe_install.specs.declared.steps.Installation.{Installation}
 use Rattle.lethe_install.proofs.Remembering.{install_remembered}
 use Rattle.lethe_job.specs.Tasks.{IsTaskIn, PlainTask, inputs_in}
 use Rattle.lethe_core.specs.Keeps.{Keeps, MayStep}
 use Rattle.lethe_core.specs.Merges.{IsInstalled, MayMerge}
 use Rattle.lethe_core.specs.Running.{Holds, IsRunning, IsSmall}
 use Rattle.lethe_core.specs.StandsNow.{IsCounted, StandsNow}
-use Rattle.lethe_core.specs.View.{View, loose_in}
+use Rattle.lethe_core.specs.View.{View, beside_in}
+use Rattle.lethe_core.proofs.Beside.{named_left}
 use Rattle.lethe_core.proofs.Standing.{next_drawn, next_stands_now, stands_for, stands_holds}
 
 -- Its outcome stands for the same history
@@ -46,8 +47,8 @@ installed_for h s task t coherent stands counted is =
 
 -- The state under the manifest of a step
 
-writable_under : (state : State) (step : Step) → IsStepFrom (segments_for state.frozen) state step → IsWritable state → IsWritable (under step.manifest state)
-writable_under state step from is = record {
+writable_under : (state : State) (headers : List NewHeader) (step : Step) → IsStepFrom (segments_for state.frozen) state headers step → IsWritable state → IsWritable (under step.manifest state)
+writable_under state headers step from is = record {
   manifest = from.spelled;
   segments = from.segments_are;
   pending = is.pending;
@@ -66,32 +67,37 @@ small_under manifest state config is =
     let frozen = is.frozen in
     record { active = is.active; records = omega (arith, same, records); frozen = omega (arith, same, frozen) }
 
--- The view behind the step: no job is in flight
+-- The view behind the step: what is left is retired, and no job is in flight
 
-abbrev pub merged_view : View → Seen → ℕ → List (List Parts) → ℕ → Step → View
-merged_view old disk faults levels begun step = record { disk = disk; faults = faults; state = under step.manifest old.state; levels = levels; flight = None; begun = begun }
+abbrev pub merged_view : View → Seen → ℕ → List (List Parts) → ℕ → Installation → View
+merged_view old disk faults levels begun made =
+    record { disk = disk; faults = faults; state = under made.step.manifest old.state; levels = levels; retired = made.left.items; flight = None; begun = begun }
 
-module _ (old : View) (disk : Seen) (faults : ℕ) (levels : List (List Parts)) (begun : ℕ) (headers : List Header) (step : Step) where
+module _ (old : View) (disk : Seen) (faults : ℕ) (levels : List (List Parts)) (begun : ℕ) (made : Installation) where
   abbrev new : View
-  new = merged_view old disk faults levels begun step
+  new = merged_view old disk faults levels begun made
 
-  module _ (s t : Stored) (task : PlainTask) (holds : Holds old s) (may : MayMerge old s task t headers step) (files : HasFiles t levels) where
+  abbrev step : Step
+  step = made.step
+
+  module _ (s t : Stored) (task : PlainTask) (holds : Holds old s) (may : MayMerge old s task t made) (files : HasFiles t levels) where
     merged_both : Remembers t new.state levels × IsCurrent t new.state
     merged_both = subst (λ manifest. Remembers t (under manifest old.state) levels × IsCurrent t (under manifest old.state)) (sym may.step_is.manifest)
         (install_remembered s t may.installed.m (pending_of s) task.alone task.upto old.state old.levels levels holds.remembers holds.running.current may.installed.merged_is refl
         may.step_is.coherent.spelled may.step_is.coherent files)
 
-    pub merged_holds : IsSettled disk t → HasOnly t [] disk.directory → EndsAt disk (segment_name t.active.no) t.active.no t.active.records old.state.end → Holds new t
+    pub merged_holds : IsSettled disk t → HasOnly t may.left disk.directory → EndsAt disk (segment_name t.active.no) t.active.no t.active.records old.state.end → Holds new t
     merged_holds settled only ends =
         let m = may.installed.m in
         let coherent = holds.remembers.coherent in
         let merge = may.installed.tasked.merge in
+        let same : beside_in new ≡ may.left = append-nil _ ∙ named_left disk.directory made.left.items may.left only.there may.left_is in
         record {
           remembers = merged_both.0;
           running = record {
             settled = settled;
-            only = only;
-            uncited = All-nil (λ (named : Name × List ℕ). IsCited t named.0 → ⊥);
+            only = subst (λ l. HasOnly t l disk.directory) (sym same) only;
+            uncited = subst (AreUncited t) (sym same) may.step_is.left_uncited;
             rising = merged_rises s coherent holds.running.rising m merge (pending_of s) task.alone task.upto t may.installed.merged_is;
             ends = ends;
             current = merged_both.1;
@@ -101,9 +107,9 @@ module _ (old : View) (disk : Seen) (faults : ℕ) (levels : List (List Parts)) 
 
   -- What the step keeps
 
-  module _ (Tells : Type 0) (before : ℕ) (can : MayStep Tells old before) (from : IsStepFrom (segments_for old.state.frozen) old.state step)
-      (merges : Tells → (s : Stored) → Holds old s → (task : PlainTask) × (t : Stored) × MayMerge old s task t headers step × ((config : Fields) (h : History) → StandsNow config h old → IsCounted task)) where
-    pub merge_moments : (Tells → (s t : Stored) (left : List (Name × List ℕ)) → IsRunning old s → IsStep s (loose_in old.flight) t left headers step → (h : History) → IsFor h s → IsFor h t
+  module _ (Tells : Type 0) (before : ℕ) (can : MayStep Tells old before) (from : IsStepFrom (segments_for old.state.frozen) old.state made.headers.items step)
+      (merges : Tells → (s : Stored) → Holds old s → (task : PlainTask) × (t : Stored) × MayMerge old s task t made × ((config : Fields) (h : History) → StandsNow config h old → IsCounted task)) where
+    pub merge_moments : (Tells → (s t : Stored) (left : List (Name × List ℕ)) → IsRunning old s → IsStep s (beside_in old) t left made.headers.items step → (h : History) → IsFor h s → IsFor h t
         → s.manifest.next ≤ old.state.next → t.manifest.next ≤ old.state.next + length step.objects.items + 1 → GoesFrom old.state.next (λ c. IsKept s.manifest.config c h) old.disk disk)
         → Tells → (config : Fields) (h : History) → StandsNow config h old → GoesFrom old.state.next (λ c. IsKept config c h) old.disk disk
     merge_moments moments told config h stands =
@@ -113,12 +119,12 @@ module _ (old : View) (disk : Seen) (faults : ℕ) (levels : List (List Parts)) 
         let next = merges told s holds in
         let number = from.numbers in
         let above = from.next in
-        let made = ap (λ (m : Manifest). m.next) next.2.step_is.manifest in
+        let number_is = ap (λ (m : Manifest). m.next) next.2.step_is.manifest in
         subst (λ (fields : Fields). GoesFrom old.state.next (λ c. IsKept fields c h) old.disk disk) stands.config_is
-        (moments told s next.1 [] holds.running next.2.step_is h for (installed_for h s next.0 next.1 holds.remembers.coherent for (next.3 config h stands) next.2.installed)
-        (next_drawn old s can.sound.writable stands.remembers) (omega (arith, number, above, made)))
+        (moments told s next.1 next.2.left holds.running next.2.step_is h for (installed_for h s next.0 next.1 holds.remembers.coherent for (next.3 config h stands) next.2.installed)
+        (next_drawn old s can.sound.writable stands.remembers) (omega (arith, number, above, number_is)))
 
-    module _ (behind : Tells → (s : Stored) (task : PlainTask) (t : Stored) → Holds old s → MayMerge old s task t headers step → Holds new t) where
+    module _ (behind : Tells → (s : Stored) (task : PlainTask) (t : Stored) → Holds old s → MayMerge old s task t made → Holds new t) where
       merge_stands : Tells → (config : Fields) (h : History) → StandsNow config h old → StandsNow config h new
       merge_stands told config h stands =
           let s = stands.stored in
@@ -127,14 +133,15 @@ module _ (old : View) (disk : Seen) (faults : ℕ) (levels : List (List Parts)) 
           next_stands_now config h old new stands can.runs next.1 refl next.2.step_is.config
           (installed_for h s next.0 next.1 holds.remembers.coherent (stands_for config h old stands can.runs) (next.3 config h stands) next.2.installed) (behind told s next.0 next.1 holds next.2) tt
 
-      pub merge_keeps : length levels ≡ length old.levels → (Tells → (config : Fields) (h : History) → StandsNow config h old → GoesFrom old.state.next (λ c. IsKept config c h) old.disk disk)
+      pub merge_keeps : AreDrawn step.manifest.next made.left.items → length levels ≡ length old.levels → (Tells → (config : Fields) (h : History) → StandsNow config h old → GoesFrom old.state.next (λ c. IsKept config c h) old.disk disk)
           → (Tells → old.disk.moment + length step.objects.items + 5 ≤ disk.moment) → old.faults ≤ faults → Keeps Tells old new None
-      merge_keeps count moments calls rise = record {
+      merge_keeps drawn count moments calls rise = record {
         sound = record {
-          writable = writable_under old.state step from can.sound.writable;
+          writable = writable_under old.state made.headers.items step from can.sound.writable;
           small = small_under step.manifest old.state from.config can.sound.small;
           count = count ∙ can.sound.count ∙ ap (λ (f : Fields). f.levels + 1) (sym from.config);
           flies = tt;
+          drawn = subst (AreDrawn step.manifest.next) (sym (append-nil made.left.items)) drawn;
           held = λ told.
               let held = can.sound.held told in
               let holds : Holds old held.0 = record { remembers = held.1; running = held.2 can.runs } in
@@ -147,9 +154,9 @@ module _ (old : View) (disk : Seen) (faults : ℕ) (levels : List (List Parts)) 
         stands = λ told config h stands caller call. merge_stands told config h stands;
         any_moment = moments;
         numbers = λ told.
-            let made = calls told in
+            let called = calls told in
             let number = from.numbers in
             let next = from.next in
-            omega (arith, made, number, next);
+            omega (arith, called, number, next);
         faults = rise;
       }

@@ -1,12 +1,9 @@
 -- What a step of a store comes to whose job in flight stays.
-use Rattle.std.proofs.Common.{◌≡◌, ◌<◌, ◌≤◌, ℕ, ◌+◌, List, [], length, Option, Some, None, refl, sym, ap, ◌∙◌, subst, arith}
+use Rattle.std.proofs.Common.{◌≡◌, ◌≤◌, ℕ, ◌+◌, List, [], ◌++◌, length, None, refl, sym, ap, ◌∙◌, subst, arith}
 use Rattle.std.specs.Prelude.{IfSome}
-use Rattle.std.proofs.lemmas.List.Elements.{All-nil}
 use Rattle.lethe_base.specs.History.{History}
 use Rattle.lethe_base.specs.declared.config.Fields.{Fields}
-use Rattle.lethe_base.specs.declared.name.Kind.TheVariants.{Page}
 use Rattle.lethe_base.specs.declared.name.Name.{Name}
-use Rattle.lethe_header.specs.declared.header.Header.{Header}
 use Rattle.lethe_manifest.specs.declared.manifest.Manifest.{Manifest}
 use Rattle.lethe_stored.specs.Files.{Parts}
 use Rattle.lethe_stored.specs.Kept.{IsFor, IsKept}
@@ -15,6 +12,7 @@ use Rattle.lethe_stored.specs.Stored.{Stored, froze}
 use Rattle.lethe_stored.proofs.Freezing.{froze_for}
 use Rattle.lethe_advance.specs.Settled.{AreDrawn, AreUncited, names_in}
 use Rattle.lethe_advance.specs.Steps.{IsStep}
+use Rattle.lethe_advance.specs.declared.new_header.NewHeader.{NewHeader}
 use Rattle.lethe_advance.specs.declared.step.Step.{Step}
 use Rattle.lethe_state.specs.Remembered.{IsCurrent, Remembers}
 use Rattle.lethe_state.specs.Room.{IsFlushed, IsFrozen, IsStepFrom}
@@ -23,60 +21,56 @@ use Rattle.lethe_state.specs.declared.state.State.{State}
 use Rattle.lethe_core.specs.Keeps.{Keeps, MayStep}
 use Rattle.lethe_core.specs.Running.{Holds, IsFlying, IsRunning, IsSmall}
 use Rattle.lethe_core.specs.StandsNow.{IsCounted, StandsNow}
-use Rattle.lethe_core.specs.View.{Flying, View, loose_in}
+use Rattle.lethe_core.specs.View.{Flying, View, beside_in, loose_in, names_beside}
+use Rattle.lethe_core.proofs.Beside.{names_beside_at}
 use Rattle.lethe_core.proofs.Carried.{IsCarried}
-use Rattle.lethe_core.proofs.Hindered.{flies_on}
+use Rattle.lethe_core.proofs.Hindered.{drawn_on, flies_on}
 use Rattle.lethe_core.proofs.Standing.{next_drawn, next_stands_now, stands_for, stands_holds}
 
 pub frozen_for : (h : History) (s t : Stored) (state : State) (levels : List (List Parts)) → Remembers s state levels → s.frozen ≡ None → IsFor h s → IsFrozen s t → IsFor h t
 frozen_for h s t state levels remembers none stands is = subst (IsFor h) (sym is.is) (froze_for s remembers.coherent is.segment (is.segment + 1) none h stands)
 
--- Pages that are loose
-
-none_drawn : (next : ℕ) → AreDrawn next (names_in [])
-none_drawn next = record { each = All-nil (λ (name : Name). (name.kind ≡ Page) × (name.no < next)); once = λ i j d lt below. absurd (omega (arith, below)) }
-
-pub flying_drawn : (state : State) (flight : Option Flying) → IfSome flight (IsFlying state) → AreDrawn state.next (names_in (loose_in flight))
-flying_drawn state None flies = none_drawn state.next
-flying_drawn state (Some flying) flies = flies.drawn
+-- the numbers of the pages that lie beside what is stored were drawn
+pub beside_drawn : (view : View) → AreDrawn view.state.next (names_beside view) → AreDrawn view.state.next (names_in (beside_in view))
+beside_drawn view drawn = subst (AreDrawn view.state.next) (sym (names_beside_at view.disk.directory view.retired view.flight)) drawn
 
 -- Steps that the state gives
 
-module _ (view : View) (flies : IfSome view.flight (IsFlying view.state)) (headers : List Header) (step : Step) where
+module _ (view : View) (drawn : AreDrawn view.state.next (names_beside view)) (headers : List NewHeader) (step : Step) where
   pub flushed_next : ((s : Stored) → Remembers s view.state view.levels → IsCurrent s view.state → (loose : List (Name × List ℕ)) → AreDrawn view.state.next (names_in loose) → AreUncited s loose
-      → (t : Stored) × IsFlushed s t × IsStep s loose t loose headers step) → (s : Stored) → Holds view s → (t : Stored) × IsFlushed s t × IsStep s (loose_in view.flight) t (loose_in view.flight) headers step
-  flushed_next flushes s holds = flushes s holds.remembers holds.running.current (loose_in view.flight) (flying_drawn view.state view.flight flies) holds.running.uncited
+      → (t : Stored) × IsFlushed s t × IsStep s loose t loose headers step) → (s : Stored) → Holds view s → (t : Stored) × IsFlushed s t × IsStep s (beside_in view) t (beside_in view) headers step
+  flushed_next flushes s holds = flushes s holds.remembers holds.running.current (beside_in view) (beside_drawn view drawn) holds.running.uncited
 
   pub frozen_next : IsWritable view.state → headers ≡ [] → ((s : Stored) (levels : List (List Parts)) → Remembers s view.state levels → IsCurrent s view.state → (loose : List (Name × List ℕ))
       → AreDrawn view.state.next (names_in loose) → AreUncited s loose → IsStep s loose (froze s view.state.next (view.state.next + 1)) loose [] step)
-      → (s : Stored) → Holds view s → (t : Stored) × IsFrozen s t × IsStep s (loose_in view.flight) t (loose_in view.flight) headers step
+      → (s : Stored) → Holds view s → (t : Stored) × IsFrozen s t × IsStep s (beside_in view) t (beside_in view) headers step
   frozen_next writable none freezes s holds =
-      let loose = loose_in view.flight in
+      let loose = beside_in view in
       let t = froze s view.state.next (view.state.next + 1) in
-      let drawn = writable.drawn in
+      let later = writable.drawn in
       let cited : view.state.manifest.next ≡ s.manifest.next = ap (λ (m : Manifest). m.next) holds.remembers.manifest in (
         t,
-        record { segment = view.state.next; drawn = omega (arith, drawn, cited); is = refl },
+        record { segment = view.state.next; drawn = omega (arith, later, cited); is = refl },
         subst (λ headers. IsStep s loose t loose headers step) (sym none)
-            (freezes s view.levels holds.remembers holds.running.current loose (flying_drawn view.state view.flight flies) holds.running.uncited),
+            (freezes s view.levels holds.remembers holds.running.current loose (beside_drawn view drawn) holds.running.uncited),
       )
 
 -- A step that was carried out
 
-module _ (P : Stored → Stored → Type 0) (Tells : Type 0) (old : View) (headers : List Header) (step : Step) (before : ℕ) (may : MayStep Tells old before)
-    (next_is : (s : Stored) → Holds old s → (t : Stored) × P s t × IsStep s (loose_in old.flight) t (loose_in old.flight) headers step) where
+module _ (P : Stored → Stored → Type 0) (Tells : Type 0) (old : View) (headers : List NewHeader) (step : Step) (before : ℕ) (may : MayStep Tells old before)
+    (next_is : (s : Stored) → Holds old s → (t : Stored) × P s t × IsStep s (beside_in old) t (beside_in old) headers step) where
   -- what is stored is known to be there
-  pub next_step : Tells → (s t : Stored) × (left : List (Name × List ℕ)) × IsRunning old s × IsStep s (loose_in old.flight) t left headers step
+  pub next_step : Tells → (s t : Stored) × (left : List (Name × List ℕ)) × IsRunning old s × IsStep s (beside_in old) t left headers step
   next_step told =
       let held = may.sound.held told in
       let running = held.2 may.runs in
       let t = next_is held.0 (record { remembers = held.1; running = running }) in
-      (held.0, t.0, loose_in old.flight, running, t.2)
+      (held.0, t.0, beside_in old, running, t.2)
 
   module _ (new : View) (stays : (h : History) (s t : Stored) → Holds old s → IsFor h s → P s t → IsFor h t) where
     -- a crash at any moment leaves what stands for the history
-    pub next_moments : (segments : ℕ) → IsStepFrom segments old.state step
-        → (Tells → (s t : Stored) (left : List (Name × List ℕ)) → IsRunning old s → IsStep s (loose_in old.flight) t left headers step → (h : History) → IsFor h s → IsFor h t
+    pub next_moments : (segments : ℕ) → IsStepFrom segments old.state headers step
+        → (Tells → (s t : Stored) (left : List (Name × List ℕ)) → IsRunning old s → IsStep s (beside_in old) t left headers step → (h : History) → IsFor h s → IsFor h t
         → s.manifest.next ≤ old.state.next → t.manifest.next ≤ old.state.next + length step.objects.items + 1 → GoesFrom old.state.next (λ c. IsKept s.manifest.config c h) old.disk new.disk)
         → Tells → (config : Fields) (h : History) → StandsNow config h old → GoesFrom old.state.next (λ c. IsKept config c h) old.disk new.disk
     next_moments segments from moments told config h stands =
@@ -88,10 +82,10 @@ module _ (P : Stored → Stored → Type 0) (Tells : Type 0) (old : View) (heade
         let next = from.next in
         let made = ap (λ (m : Manifest). m.next) t.2.manifest in
         subst (λ (fields : Fields). GoesFrom old.state.next (λ c. IsKept fields c h) old.disk new.disk) stands.config_is
-        (moments told s t.0 (loose_in old.flight) holds.running t.2 h for (stays h s t.0 holds for t.1) (next_drawn old s may.sound.writable stands.remembers) (omega (arith, number, next, made)))
+        (moments told s t.0 (beside_in old) holds.running t.2 h for (stays h s t.0 holds for t.1) (next_drawn old s may.sound.writable stands.remembers) (omega (arith, number, next, made)))
 
     module _ (carried : IsCarried Tells old new headers step)
-        (behind : Tells → (s t : Stored) → Holds old s → P s t → IsStep s (loose_in old.flight) t (loose_in old.flight) headers step → Holds new t) where
+        (behind : Tells → (s t : Stored) → Holds old s → P s t → IsStep s (beside_in old) t (beside_in old) headers step → Holds new t) where
       pub next_done : Tells → (s : Stored) → Holds old s → (t : Stored) × P s t × Holds new t
       next_done told s holds = let t = next_is s holds in (t.0, t.1, behind told s t.0 holds t.1 t.2)
 
@@ -103,7 +97,7 @@ module _ (P : Stored → Stored → Type 0) (Tells : Type 0) (old : View) (heade
           next_stands_now config h old new stands may.runs t.0 count t.2.config (stays h s t.0 holds (stands_for config h old stands may.runs) t.1) (behind told s t.0 holds t.1 t.2)
           (subst (λ flight. IfSome flight (λ (flying : Flying). IsCounted flying.task)) (sym carried.flight) stands.counted)
 
-      pub next_keeps : (segments : ℕ) → IsStepFrom segments old.state step → new.state.manifest ≡ step.manifest → new.state.next ≡ step.manifest.next → new.state.count ≡ old.state.count
+      pub next_keeps : (segments : ℕ) → IsStepFrom segments old.state headers step → new.state.manifest ≡ step.manifest → new.state.next ≡ step.manifest.next → new.state.count ≡ old.state.count
           → new.state.stopped ≡ old.state.stopped → IsWritable new.state → IsSmall new.state → Keeps Tells old new None
       next_keeps segments from manifest next count stopped writable small =
           let config : new.state.manifest.config ≡ old.state.manifest.config = ap (λ (m : Manifest). m.config) manifest ∙ from.config in
@@ -115,7 +109,9 @@ module _ (P : Stored → Stored → Type 0) (Tells : Type 0) (old : View) (heade
               small = small;
               count = carried.levels ∙ may.sound.count ∙ ap (λ (fields : Fields). fields.levels + 1) (sym config);
               flies = subst (λ flight. IfSome flight (IsFlying new.state)) (sym carried.flight)
-                  (flies_on old.state new.state (ap (λ (fields : Fields). fields.levels) config) (omega (arith, number, above, next)) old.flight may.sound.flies);
+                  (flies_on old.state new.state (ap (λ (fields : Fields). fields.levels) config) old.flight may.sound.flies);
+              drawn = subst (AreDrawn new.state.next) (λ i. (sym carried.retired) i ++ names_in (loose_in ((sym carried.flight) i)))
+                  (drawn_on old.state.next new.state.next (names_beside old) (omega (arith, number, above, next)) may.sound.drawn);
               held = λ told.
                   let held = may.sound.held told in
                   let done = next_done told held.0 (record { remembers = held.1; running = held.2 may.runs }) in

@@ -1,5 +1,5 @@
 -- A page of the job in flight is written beside what is stored.
-use Rattle.std.proofs.Common.{◌≡◌, ◌≤◌, ◌+◌, ℕ, List, [], Option, Some, None, Result, Err, refl, sym, ap, ◌∙◌, subst, arith}
+use Rattle.std.proofs.Common.{◌≡◌, ◌≤◌, ◌+◌, ℕ, List, ◌++◌, Option, Some, None, Result, Err, refl, sym, ap, ◌∙◌, subst, arith}
 use Rattle.std.specs.Prelude.{IfSome, OnErr, option_map}
 use Rattle.std.specs.FinMap.{insert}
 use Rattle.lethe_base.specs.History.{History}
@@ -30,9 +30,10 @@ use Rattle.lethe_core.specs.Keeps.{Keeps, MayStep}
 use Rattle.lethe_core.specs.Running.{Holds, IsFlying, IsRunning, IsSound, IsTasked}
 use Rattle.lethe_core.specs.StandsNow.{IsCounted, StandsNow}
 use Rattle.lethe_core.specs.Steps.{IsHindered}
-use Rattle.lethe_core.specs.View.{Flying, View, flying_of, loose_in, view_of}
+use Rattle.lethe_core.specs.View.{Flying, View, flying_of, loose_in, named_in, view_of}
 use Rattle.lethe_core.specs.declared.flight.Flight.{Flight}
 use Rattle.lethe_core.specs.declared.holding.Core.{Core}
+use Rattle.lethe_core.proofs.Beside.{beside_stays, names_beside_at}
 use Rattle.lethe_core.proofs.Hindered.{hindered_keeps}
 use Rattle.lethe_core.proofs.Standing.{encoded_moments, next_stands_now, stands_for, stands_holds}
 
@@ -107,29 +108,38 @@ module _ (Tells : Type 0) (old : View) (flying : Flying) (is : old.flight ≡ So
   pub flies : IsFlying old.state flying
   flies = subst (λ f. IfSome f (IsFlying old.state)) is sound.flies
 
-  only_written : (s : Stored) → Holds old s → HasOnly s flying.written old.disk.directory
-  only_written s holds = subst (λ f. HasOnly s (loose_in f) old.disk.directory) is holds.running.only
+  -- the pages that stay
+  abbrev pub stays : List (Name × List ℕ)
+  stays = named_in old.disk.directory old.retired
 
-  uncited_written : (s : Stored) → Holds old s → AreUncited s flying.written
-  uncited_written s holds = subst (λ f. AreUncited s (loose_in f)) is holds.running.uncited
+  only_written : (s : Stored) → Holds old s → HasOnly s (stays ++ flying.written) old.disk.directory
+  only_written s holds = subst (λ f. HasOnly s (stays ++ loose_in f) old.disk.directory) is holds.running.only
+
+  uncited_written : (s : Stored) → Holds old s → AreUncited s (stays ++ flying.written)
+  uncited_written s holds = subst (λ f. AreUncited s (stays ++ loose_in f)) is holds.running.uncited
+
+  -- their numbers were drawn
+  pub drawn_written : AreDrawn old.state.next (names_in (stays ++ flying.written))
+  drawn_written = subst (λ f. AreDrawn old.state.next (names_in (stays ++ loose_in f))) is
+      (subst (AreDrawn old.state.next) (sym (names_beside_at old.disk.directory old.retired old.flight)) sound.drawn)
 
   later : (s : Stored) → Holds old s → s.manifest.next ≤ old.state.next
   later s holds = subst (λ (m : Manifest). m.next ≤ old.state.next) holds.remembers.manifest sound.writable.drawn
 
-  pub may_write : (s : Stored) → Holds old s → MayWrite old.disk s flying.written old.state.next
-  may_write s holds = record { settled = holds.running.settled; only = only_written s holds; drawn = flies.drawn; later = later s holds }
+  pub may_write : (s : Stored) → Holds old s → MayWrite old.disk s (stays ++ flying.written) old.state.next
+  may_write s holds = record { settled = holds.running.settled; only = only_written s holds; drawn = drawn_written; later = later s holds }
 
-  pub may_remove : (s : Stored) → Holds old s → MayRemove old.disk s [] flying.written
-  may_remove s holds = record { settled = holds.running.settled; only = only_written s holds; uncited = uncited_written s holds; once = flies.drawn.once }
+  pub may_remove : (s : Stored) → Holds old s → MayRemove old.disk s stays flying.written
+  may_remove s holds = record { settled = holds.running.settled; only = only_written s holds; uncited = uncited_written s holds; once = drawn_written.once }
 
   -- a page that wasn't written isn't among them
   pub as_written : (written : List (Name × List ℕ)) → written ≡ flying.written → Some (record flying { written = written }) ≡ old.flight
   as_written written same = ap (λ l. Some (record flying { written = l })) same ∙ sym is
 
   module _ (disk : Seen) (faults : ℕ) (written : List (Name × List ℕ)) (bytes : List ℕ) (here : Tells → Image old.disk old.disk.directory) (fits : old.state.next + 1 ≤ max_place)
-      (done : Tells → (s : Stored) → MayWrite old.disk s flying.written old.state.next → IsSettled disk s × HasOnly s written disk.directory)
-      (loose : (s : Stored) → IsCoherent s → s.manifest.next ≤ old.state.next → AreUncited s flying.written → AreUncited s written)
-      (more : AreDrawn old.state.next (names_in flying.written) → AreDrawn (old.state.next + 1) (names_in written))
+      (done : Tells → (s : Stored) → MayWrite old.disk s (stays ++ flying.written) old.state.next → IsSettled disk s × HasOnly s (stays ++ written) disk.directory)
+      (loose : (s : Stored) → IsCoherent s → s.manifest.next ≤ old.state.next → AreUncited s (stays ++ flying.written) → AreUncited s (stays ++ written))
+      (more : AreDrawn old.state.next (names_in (stays ++ flying.written)) → AreDrawn (old.state.next + 1) (names_in (stays ++ written)))
       (page : Tells → disk.directory ≡ insert old.disk.directory (page_name old.state.next) bytes) where
     abbrev now : View
     now = record old { disk = disk; faults = faults; state = drawn old.state; flight = Some (record flying { written = written }) }
@@ -141,10 +151,11 @@ module _ (Tells : Type 0) (old : View) (flying : Flying) (is : old.flight ≡ So
     written_running : Tells → (s : Stored) → Holds old s → IsRunning now s
     written_running told s holds =
         let after = done told s (may_write s holds) in
+        let same = beside_stays old.disk.directory disk.directory old.retired now.flight after.1.there in
         record {
           settled = after.0;
-          only = after.1;
-          uncited = loose s holds.remembers.coherent (later s holds) (uncited_written s holds);
+          only = subst (λ l. HasOnly s l disk.directory) (sym same) after.1;
+          uncited = subst (AreUncited s) (sym same) (loose s holds.remembers.coherent (later s holds) (uncited_written s holds));
           rising = holds.running.rising;
           ends = ends_stay old.disk disk s old.state.end after.0 (segment_stays told s.active.no) (here told) holds.running.ends;
           current = record { runs = holds.running.current.runs; count = holds.running.current.count };
@@ -159,13 +170,14 @@ module _ (Tells : Type 0) (old : View) (flying : Flying) (is : old.flight ≡ So
       writable = drawn_writable old.state fits sound.writable;
       small = record { active = sound.small.active; records = sound.small.records; frozen = sound.small.frozen };
       count = sound.count;
-      flies = record { level = flies.level; upto = flies.upto; erases = flies.erases; drawn = more flies.drawn };
+      flies = record { level = flies.level; upto = flies.upto; erases = flies.erases };
+      drawn = subst (AreDrawn (old.state.next + 1)) (names_beside_at old.disk.directory old.retired now.flight) (more drawn_written);
       held = λ told.
           let held = sound.held told in
           (held.0, drawn_remembered held.0 old.state old.levels held.1, λ runs. written_running told held.0 (record { remembers = held.1; running = held.2 runs }));
     }
 
-    pub written_keeps : old.state.stopped ≡ None → (Tells → (s : Stored) → MayWrite old.disk s flying.written old.state.next → Goes (λ c. Encodes c s) old.disk disk)
+    pub written_keeps : old.state.stopped ≡ None → (Tells → (s : Stored) → MayWrite old.disk s (stays ++ flying.written) old.state.next → Goes (λ c. Encodes c s) old.disk disk)
         → (Tells → disk.moment ≡ old.disk.moment + 2) → old.faults ≤ faults → Keeps Tells old now None
     written_keeps runs goes calls rose = record {
       sound = written_sound;

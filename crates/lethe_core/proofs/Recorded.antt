@@ -30,7 +30,7 @@ use Rattle.lethe_stored.specs.Stored.{Stored, Segment, IsCited, IsCoherent, numb
 use Rattle.lethe_stored.proofs.Numbers.{goes_from_encoded, next_of}
 use Rattle.lethe_stored.proofs.Parts.{active_part}
 use Rattle.lethe_stored.proofs.Steps.{append_encodes, append_keeps, active_changed, stored_appended}
-use Rattle.lethe_advance.specs.Settled.{names_in}
+use Rattle.lethe_advance.specs.Settled.{AreUncited, HasOnly, names_in}
 use Rattle.lethe_manifest.specs.declared.manifest.Manifest.{Manifest}
 use Rattle.lethe_state.proofs.Recording.{entered_remembered}
 use Rattle.lethe_state.specs.Records.{IsNext, halted}
@@ -42,7 +42,8 @@ use Rattle.lethe_core.specs.Asked.{done_by}
 use Rattle.lethe_core.specs.Changes.{with_record}
 use Rattle.lethe_core.specs.Running.{Holds, IsRunning, IsTasked}
 use Rattle.lethe_core.specs.StandsNow.{StandsNow}
-use Rattle.lethe_core.specs.View.{Flying, View, loose_in}
+use Rattle.lethe_core.specs.View.{Flying, View, beside_in}
+use Rattle.lethe_core.proofs.Beside.{beside_stays}
 use Rattle.lethe_core.proofs.Hindered.{halted_remembered}
 use Rattle.lethe_core.proofs.Standing.{left_at_end, next_drawn, stands_done, stands_for, stopped_stands}
 
@@ -145,17 +146,20 @@ module _ (view : View) (s : Stored) (holds : Holds view s) (next : Record) (spel
     beside_record : (other : Name) → (other ≡ segment_name s.active.no → ⊥) → object disk'.directory other ≡ object view.disk.directory other
     beside_record other apart = ap (λ d. object d other) inserted ∙ object_beside_insert view.disk.directory (segment_name s.active.no) (segment_bytes s.active.no (longer (addition s next))) other apart
 
-    within : (other : Name) → IsSome (object disk'.directory other) → IsCited (appended s next) other ⊎ Contains (names_in (loose_in view.flight)) other
+    within : (other : Name) → IsSome (object disk'.directory other) → IsCited (appended s next) other ⊎ Contains (names_in (beside_in view)) other
     within other there = elim (name_cases other (segment_name s.active.no)) [
       | inl same ↦ inl (inr (inr (subst (Contains (part_names s)) (sym same) (active_part s))))
       | inr apart ↦ running.only.only other (subst IsSome (beside_record other apart) there)
     ]
 
-    loose_there : All (HasObject disk'.directory) (loose_in view.flight)
-    loose_there =
-        let apart : All (λ named. named.0 ≡ segment_name s.active.no → ⊥) (loose_in view.flight) =
-        All-weaker (λ named. IsCited s named.0 → ⊥) (λ named. named.0 ≡ segment_name s.active.no → ⊥) (λ named uncited same. uncited (inr (inr (subst (Contains (part_names s)) (sym same) (active_part s))))) (loose_in view.flight) running.uncited in
-        subst (λ d. All (HasObject d) (loose_in view.flight)) (sym inserted) (all_beside view.disk.directory (segment_name s.active.no) (segment_bytes s.active.no (longer (addition s next))) (loose_in view.flight) apart running.only.there)
+    beside_there : All (HasObject disk'.directory) (beside_in view)
+    beside_there =
+        let apart : All (λ named. named.0 ≡ segment_name s.active.no → ⊥) (beside_in view) =
+        All-weaker (λ named. IsCited s named.0 → ⊥) (λ named. named.0 ≡ segment_name s.active.no → ⊥) (λ named uncited same. uncited (inr (inr (subst (Contains (part_names s)) (sym same) (active_part s))))) (beside_in view) running.uncited in
+        subst (λ d. All (HasObject d) (beside_in view)) (sym inserted) (all_beside view.disk.directory (segment_name s.active.no) (segment_bytes s.active.no (longer (addition s next))) (beside_in view) apart running.only.there)
+
+    same_beside : beside_in (moved view disk' faults' state') ≡ beside_in view
+    same_beside = beside_stays view.disk.directory disk'.directory view.retired view.flight beside_there
 
     pub holds_longer : (end : ℕ) → IsSynced disk' → EndsAt disk' (segment_name number) s.active.no (longer (addition s next)) end → IsNext next end view.state state' → Holds (moved view disk' faults' state') (appended s next)
     holds_longer end synced ends is =
@@ -172,8 +176,8 @@ module _ (view : View) (s : Stored) (holds : Holds view s) (next : Record) (spel
                 holds = holds_spelling s.active.no (longer (addition s next));
               });
             };
-            only = record { only = within; there = loose_there };
-            uncited = running.uncited;
+            only = subst (λ l. HasOnly (appended s next) l disk'.directory) (sym same_beside) (record { only = within; there = beside_there });
+            uncited = subst (AreUncited (appended s next)) (sym same_beside) running.uncited;
             rising = running.rising;
             ends = subst (EndsAt disk' (segment_name s.active.no) s.active.no (longer (addition s next))) (sym is.end_is) (subst (λ n. EndsAt disk' n s.active.no (longer (addition s next)) end) name_is ends);
             current = both.1;

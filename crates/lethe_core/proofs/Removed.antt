@@ -1,7 +1,8 @@
 -- The pages of the job in flight are removed.
-use Rattle.std.proofs.Common.{◌≡◌, ◌≤◌, ◌<◌, ℕ, List, [], Option, Some, None, Result, Err, refl, sym, ◌∙◌, subst, arith}
-use Rattle.std.specs.Prelude.{IsErrOf}
-use Rattle.std.proofs.lemmas.List.Elements.{All-contains, All-nil}
+use Rattle.std.proofs.Common.{◌≡◌, ◌≤◌, ◌<◌, ℕ, List, ◌++◌, append-nil, Option, Some, None, Result, Err, refl, sym, ◌∙◌, subst, arith}
+use Rattle.std.specs.Prelude.{Contains, IsErrOf}
+use Rattle.std.proofs.lemmas.List.{map-append}
+use Rattle.std.proofs.lemmas.List.Elements.{All-contains, Contains-append_right}
 use Rattle.lethe_base.specs.History.{History}
 use Rattle.lethe_base.specs.declared.config.Fields.{Fields}
 use Rattle.lethe_base.specs.declared.name.Kind.TheVariants as kinds
@@ -15,14 +16,16 @@ use Rattle.lethe_disk.specs.declared.disk.DiskRefused.TheVariants.{Failed, NoMem
 use Rattle.lethe_stored.specs.Encodes.{Encodes}
 use Rattle.lethe_stored.specs.Stored.{IsCited, Stored, segment_name}
 use Rattle.lethe_stored.proofs.Frame.{none_of}
-use Rattle.lethe_advance.specs.Settled.{HasOnly, IsSettled, names_in}
+use Rattle.lethe_stored.proofs.Lists.{all_left}
+use Rattle.lethe_advance.specs.Settled.{AreDrawn, AreUncited, HasOnly, IsSettled, names_in}
 use Rattle.lethe_loose.specs.Loose.{MayRemove}
 use Rattle.lethe_core.specs.Asked.{Serves, behind}
 use Rattle.lethe_core.specs.Keeps.{Keeps}
 use Rattle.lethe_core.specs.Running.{Holds, IsRunning, IsSound}
 use Rattle.lethe_core.specs.StandsNow.{IsOpenOrStopped, StandsNow}
-use Rattle.lethe_core.specs.View.{Flying, View}
-use Rattle.lethe_core.proofs.Pages.{ends_stay, flies, held_now, kept_moments, may_remove}
+use Rattle.lethe_core.specs.View.{Flying, View, loose_in, named_in}
+use Rattle.lethe_core.proofs.Beside.{drawn_front, named_stays}
+use Rattle.lethe_core.proofs.Pages.{drawn_written, ends_stay, held_now, kept_moments, may_remove}
 use Rattle.lethe_core.proofs.Standing.{next_stands_now, stands_for, stands_holds}
 
 -- what took no memory failed
@@ -30,24 +33,36 @@ pub only_failed : (result : Result (Unit {0}) DiskRefused) (why : DiskRefused) �
 only_failed result Failed is some = is
 only_failed result NoMemory is some = absurd (some is)
 
+-- without a job the retired pages alone lie beside what is stored
+grounded_drawn : (next : ℕ) (retired : List Name) (flight : Option Flying) → AreDrawn next (retired ++ names_in (loose_in flight)) → AreDrawn next (retired ++ names_in (loose_in None))
+grounded_drawn next retired flight is = subst (AreDrawn next) (sym (append-nil retired)) (drawn_front next retired (names_in (loose_in flight)) is)
+
 module _ (Tells : Type 0) (old : View) (flying : Flying) (is : old.flight ≡ Some flying) (sound : IsSound Tells old) (disk : Seen) (faults : ℕ) (here : Tells → Image old.disk old.disk.directory)
-    (done : Tells → (s : Stored) → MayRemove old.disk s [] flying.written → IsSettled disk s × HasOnly s [] disk.directory) (others : Tells → SameBeside (names_in flying.written) old.disk.directory disk.directory) where
+    (done : Tells → (s : Stored) → MayRemove old.disk s (named_in old.disk.directory old.retired) flying.written
+    → IsSettled disk s × HasOnly s (named_in old.disk.directory old.retired) disk.directory) (others : Tells → SameBeside (names_in flying.written) old.disk.directory disk.directory) where
   abbrev alone : View
   alone = record old { disk = disk; faults = faults; flight = None }
 
+  abbrev left : List (Name × List ℕ)
+  left = named_in old.disk.directory old.retired
+
   segment_stays : Tells → (number : ℕ) → object disk.directory (segment_name number) ≡ object old.disk.directory (segment_name number)
   segment_stays told number = others told (segment_name number) (none_of (names_in flying.written) (segment_name number) (λ there.
-      let drawn = (flies Tells old flying is sound).drawn in
-      let clash : kinds.Segment ≡ kinds.Page = (All-contains (λ (name : Name). (name.kind ≡ kinds.Page) × (name.no < old.state.next)) (names_in flying.written) (segment_name number) drawn.each there).0 in
+      let drawn = drawn_written Tells old flying is sound in
+      let among = subst (λ l. Contains l (segment_name number)) (sym (map-append (λ (named : Name × List ℕ). named.0) left flying.written))
+      (Contains-append_right (names_in left) (names_in flying.written) (segment_name number) there) in
+      let clash : kinds.Segment ≡ kinds.Page = (All-contains (λ (name : Name). (name.kind ≡ kinds.Page) × (name.no < old.state.next)) (names_in (left ++ flying.written)) (segment_name number) drawn.each among).0 in
       cc))
 
   removed_running : Tells → (s : Stored) → Holds old s → IsRunning alone s
   removed_running told s holds =
-      let after = done told s (may_remove Tells old flying is sound s holds) in
+      let may = may_remove Tells old flying is sound s holds in
+      let after = done told s may in
+      let same = append-nil (named_in disk.directory old.retired) ∙ named_stays old.disk.directory disk.directory old.retired after.1.there in
       record {
         settled = after.0;
-        only = after.1;
-        uncited = All-nil (λ (named : Name × List ℕ). IsCited s named.0 → ⊥);
+        only = subst (λ l. HasOnly s l disk.directory) (sym same) after.1;
+        uncited = subst (AreUncited s) (sym same) (all_left (λ (named : Name × List ℕ). IsCited s named.0 → ⊥) left flying.written may.uncited);
         rising = holds.running.rising;
         ends = ends_stay old.disk disk s old.state.end after.0 (segment_stays told s.active.no) (here told) holds.running.ends;
         current = holds.running.current;
@@ -63,10 +78,11 @@ module _ (Tells : Type 0) (old : View) (flying : Flying) (is : old.flight ≡ So
     small = sound.small;
     count = sound.count;
     flies = tt;
+    drawn = grounded_drawn old.state.next old.retired old.flight sound.drawn;
     held = λ told. let held = sound.held told in (held.0, held.1, λ runs. removed_running told held.0 (record { remembers = held.1; running = held.2 runs }));
   }
 
-  pub removed_keeps : old.state.stopped ≡ None → (Tells → (s : Stored) → MayRemove old.disk s [] flying.written → Goes (λ c. Encodes c s) old.disk disk) → old.faults ≤ faults → Keeps Tells old alone None
+  pub removed_keeps : old.state.stopped ≡ None → (Tells → (s : Stored) → MayRemove old.disk s left flying.written → Goes (λ c. Encodes c s) old.disk disk) → old.faults ≤ faults → Keeps Tells old alone None
   removed_keeps runs goes rose =
       let moments : Tells → (s : Stored) → Holds old s → Goes (λ c. Encodes c s) old.disk disk = λ told s holds. goes told s (may_remove Tells old flying is sound s holds) in
       record {
@@ -101,6 +117,7 @@ grounded_keeps Tells old new why at stopped is = record {
     small = is.sound.small;
     count = is.sound.count;
     flies = tt;
+    drawn = grounded_drawn new.state.next new.retired new.flight is.sound.drawn;
     held = λ told. let held = is.sound.held told in (held.0, held.1, λ runs. absurd (let clash : Some at ≡ None = sym stopped ∙ runs in cc));
   };
   count = is.count;

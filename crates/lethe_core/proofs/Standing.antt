@@ -19,14 +19,15 @@ use Rattle.lethe_stored.specs.Left.{IsLeft, IsKeptOr, IsHistoryOr}
 use Rattle.lethe_stored.specs.Numbers.{GoesFrom}
 use Rattle.lethe_stored.specs.Stored.{Stored}
 use Rattle.lethe_stored.proofs.Numbers.{goes_from_encoded, goes_from_weaker}
-use Rattle.lethe_advance.proofs.Standing.{only_back, settled_back}
+use Rattle.lethe_advance.specs.Settled.{AreUncited, HasOnly}
+use Rattle.lethe_advance.proofs.Standing.{settled_back}
 use Rattle.lethe_state.specs.Remembered.{Remembers}
 use Rattle.lethe_state.specs.Writable.{IsWritable}
 use Rattle.lethe_state.specs.declared.state.State.{State}
 use Rattle.lethe_core.specs.Running.{Holds, IsRunning, IsSound}
 use Rattle.lethe_core.specs.StandsNow.{IsCounted, IsOpenOrStopped, StandsNow, retried}
 use Rattle.lethe_core.specs.Steps.{IsBeside}
-use Rattle.lethe_core.specs.View.{View, loose_in}
+use Rattle.lethe_core.specs.View.{View, beside_at}
 use Rattle.lethe_core.proofs.Histories.{all_done, last_failed, legal_failed}
 
 -- A history is one of those that it may become
@@ -138,7 +139,7 @@ abbrev pub beside : View → View → State → View
 beside old new state = record old { disk = new.disk; faults = new.faults; state = state }
 
 pub is_beside : (old new : View) (state : State) → new.state ≡ state → IsBeside old new → beside old new state ≡ new
-is_beside old new state same rest = λ i. record new { state = (sym same) i; levels = (sym rest.levels) i; flight = (sym rest.flight) i; begun = (sym rest.begun) i }
+is_beside old new state same rest = λ i. record new { state = (sym same) i; levels = (sym rest.levels) i; retired = (sym rest.retired) i; flight = (sym rest.flight) i; begun = (sym rest.begun) i }
 
 pub idle_back : (old new : Seen) → IsIdle old new → IsTakenBack old new
 idle_back old new idle = record { directory = idle.directory; images = λ c here. (idle.left old.moment c).0 (subst (λ m. new.left m c) idle.moment here) }
@@ -147,8 +148,8 @@ module _ (old new : View) (back : IsTakenBack old.disk new.disk) where
   back_beside : (s : Stored) → IsRunning old s → IsRunning (beside old new old.state) s
   back_beside s running = record {
     settled = settled_back old.disk new.disk s back running.settled;
-    only = only_back old.disk new.disk s (loose_in old.flight) back running.only;
-    uncited = running.uncited;
+    only = subst (λ d. HasOnly s (beside_at d old.retired old.flight) d) (sym back.directory) running.only;
+    uncited = subst (λ d. AreUncited s (beside_at d old.retired old.flight)) (sym back.directory) running.uncited;
     rising = running.rising;
     ends = record {
       ascends = running.ends.ascends;
@@ -199,5 +200,6 @@ sound_back Tells old new back same rest sound = subst (IsSound Tells) (is_beside
   small = sound.small;
   count = sound.count;
   flies = sound.flies;
+  drawn = sound.drawn;
   held = λ told. let held = sound.held told in (held.0, held.1, λ runs. back_beside old new (back told) held.0 (held.2 runs));
 })

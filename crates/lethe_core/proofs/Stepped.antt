@@ -9,7 +9,6 @@ use Rattle.lethe_base.specs.declared.config.Fields.{Fields}
 use Rattle.lethe_disk.specs.Disk.{Image}
 use Rattle.lethe_file.proofs.Joined.{filter_none}
 use Rattle.lethe_header.specs.Facts.{least_key, greatest_key}
-use Rattle.lethe_header.specs.declared.header.Header.{Header}
 use Rattle.lethe_manifest.specs.declared.manifest.Manifest.{Manifest}
 use Rattle.lethe_mem.specs.Buffered.{Buffered}
 use Rattle.lethe_commit.specs.Append.{EndsAt}
@@ -18,15 +17,17 @@ use Rattle.lethe_job.proofs.Staying.{task_flushed, task_frozen}
 use Rattle.lethe_stored.specs.Files.{Parts, StoredFile}
 use Rattle.lethe_stored.specs.Levels.{AreRising, HasFiles}
 use Rattle.lethe_stored.specs.Stored.{Stored, Segment, segment_name}
-use Rattle.lethe_advance.specs.Settled.{IsSettled, HasOnly}
+use Rattle.lethe_advance.specs.Settled.{AreUncited, HasOnly, IsSettled}
 use Rattle.lethe_advance.specs.Steps.{IsStep}
+use Rattle.lethe_advance.specs.declared.new_header.NewHeader.{NewHeader}
 use Rattle.lethe_advance.specs.declared.step.Step.{Step}
 use Rattle.lethe_state.specs.Remembered.{IsCurrent, IsFrozenIn, Remembers}
 use Rattle.lethe_state.specs.Room.{IsFlushed, IsFrozen, IsFrozenWith, frozen_len, unfrozen}
 use Rattle.lethe_state.specs.declared.state.State.{State}
 use Rattle.lethe_state.proofs.Stepping.{flush_remembered, freeze_remembered}
 use Rattle.lethe_core.specs.Running.{Holds, IsRunning, IsSmall, IsTasked}
-use Rattle.lethe_core.specs.View.{Flying, View, loose_in}
+use Rattle.lethe_core.specs.View.{Flying, View, beside_at, beside_in}
+use Rattle.lethe_core.proofs.Beside.{beside_stays}
 use Rattle.lethe_core.proofs.Carried.{IsCarried, active_ends, frozen_ends}
 
 -- Small buffers
@@ -107,32 +108,35 @@ other_files s state levels next files is = record {
   counted = is.counted;
 }
 
--- the job in flight and its pages stay
-module _ (Tells : Type 0) (s t : Stored) (old new : View) (headers : List Header) (step : Step) (carried : IsCarried Tells old new headers step) (told : Tells) (holds : Holds old s)
-    (is : IsStep s (loose_in old.flight) t (loose_in old.flight) headers step) where
-  done : IsSettled new.disk t × HasOnly t (loose_in old.flight) new.disk.directory
-  done = carried.done told s t (loose_in old.flight) holds.running is
+-- what lies beside what is stored stays
+module _ (Tells : Type 0) (s t : Stored) (old new : View) (headers : List NewHeader) (step : Step) (carried : IsCarried Tells old new headers step) (told : Tells) (holds : Holds old s)
+    (is : IsStep s (beside_in old) t (beside_in old) headers step) where
+  done : IsSettled new.disk t × HasOnly t (beside_in old) new.disk.directory
+  done = carried.done told s t (beside_in old) holds.running is
 
   files : HasFiles t new.levels
-  files = carried.files told s t (loose_in old.flight) holds.running is holds.remembers.files
+  files = carried.files told s t (beside_in old) holds.running is holds.remembers.files
+
+  same_beside : beside_in new ≡ beside_in old
+  same_beside = (λ i. beside_at new.disk.directory (carried.retired i) (carried.flight i)) ∙ beside_stays old.disk.directory new.disk.directory old.retired old.flight done.1.there
 
   next_running : IsCurrent t new.state → EndsAt new.disk (segment_name t.active.no) t.active.no t.active.records new.state.end → AreRising t.files → ((flying : Flying) → IsTasked s flying → IsTasked t flying) → IsRunning new t
-  next_running current ends rising stays = subst (λ flight. IsRunning (record new { flight = flight }) t) (sym carried.flight) (record {
+  next_running current ends rising stays = record {
     settled = done.0;
-    only = done.1;
-    uncited = is.left_uncited;
+    only = subst (λ l. HasOnly t l new.disk.directory) (sym same_beside) done.1;
+    uncited = subst (AreUncited t) (sym same_beside) is.left_uncited;
     rising = rising;
     ends = ends;
     current = current;
-    tasked = if_tasked s t old.flight stays holds.running.tasked;
-  })
+    tasked = subst (λ flight. IfSome flight (IsTasked t)) (sym carried.flight) (if_tasked s t old.flight stays holds.running.tasked);
+  }
 
   pub flushed_holds : IsFlushed s t → new.state ≡ unfrozen step.manifest old.state → Image old.disk old.disk.directory → Holds new t
   flushed_holds flushed new_is here =
       let state_is : new.state ≡ unfrozen t.manifest old.state = new_is ∙ ap (λ m. unfrozen m old.state) is.manifest in
       let both = subst (λ state. Remembers t state new.levels × IsCurrent t state) (sym state_is) (flush_remembered s t old.state old.levels new.levels holds.remembers holds.running.current flushed is.coherent.spelled files) in
-      let kept = carried.kept told s t (loose_in old.flight) holds.running is in
-      let ends = active_ends s t (loose_in old.flight) (loose_in old.flight) headers step is holds.remembers.coherent old.disk new.disk done.0 kept old.state.end (ap (λ (x : Stored). x.active) flushed.is) here holds.running.ends in
+      let kept = carried.kept told s t (beside_in old) holds.running is in
+      let ends = active_ends s t (beside_in old) (beside_in old) headers step is holds.remembers.coherent old.disk new.disk done.0 kept old.state.end (ap (λ (x : Stored). x.active) flushed.is) here holds.running.ends in
       record {
         remembers = both.0;
         running = next_running both.1 (subst (EndsAt new.disk (segment_name t.active.no) t.active.no t.active.records) (sym (ap (λ (state : State). state.end) state_is)) ends)
@@ -143,8 +147,8 @@ module _ (Tells : Type 0) (s t : Stored) (old new : View) (headers : List Header
   frozen_holds frozen none with =
       let without = not_frozen s old.state old.levels holds.remembers none in
       let both = freeze_remembered s t old.state new.state old.levels holds.remembers holds.running.current without frozen is.coherent.spelled (subst (λ m. IsFrozenWith m old.state new.state) is.manifest with) in
-      let kept = carried.kept told s t (loose_in old.flight) holds.running is in
-      let ends = frozen_ends s t (loose_in old.flight) (loose_in old.flight) headers step is holds.remembers.coherent old.disk new.disk done.0 kept frozen holds.running.only in
+      let kept = carried.kept told s t (beside_in old) holds.running is in
+      let ends = frozen_ends s t (beside_in old) (beside_in old) headers step is holds.remembers.coherent old.disk new.disk done.0 kept frozen holds.running.only in
       record {
         remembers = other_files t new.state old.levels new.levels files both.0;
         running = next_running both.1 (subst (EndsAt new.disk (segment_name t.active.no) t.active.no t.active.records) (sym with.end_is) ends)

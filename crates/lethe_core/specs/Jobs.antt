@@ -38,7 +38,7 @@ pub record IsWhole {D Page Port : Type 0} {kind : Ghosts D Page Port} (job : Job
 
 -- one job more was begun, which has the next number and no page yet
 abbrev pub with_begun : Face → PlainTask → Face
-with_begun face task = record { begun = face.begun + 1; flight = Some (record { number = face.begun; task = task; written = [] }) }
+with_begun face task = record face { begun = face.begun + 1; flight = Some (record { number = face.begun; task = task; written = [] }) }
 
 -- one page more is written
 abbrev pub with_page : Flying → Name × List ℕ → Flying

@@ -2,22 +2,23 @@
 use Rattle.std.specs.Prelude.{◌≡◌, ◌⊎◌, ◌≤◌, ℕ, ◌+◌, ◌*◌, List, [], ◌∷◌, length, sum_by, Option, Some, None}
 use Rattle.std.specs.List.{AllZip}
 use Rattle.lethe_base.specs.Limits.{max_place}
+use Rattle.lethe_base.specs.declared.name.Name.{Name}
 use Rattle.lethe_base.specs.Shapes.{shape_of}
 use Rattle.lethe_build.specs.Built.{most_numbers}
 use Rattle.lethe_build.specs.Drafts.{AreDraftsOf, numbers_for}
 use Rattle.lethe_build.specs.declared.draft.Draft.{Draft}
 use Rattle.lethe_fade.specs.Choice.{choice}
 use Rattle.lethe_follows.specs.Merged.{StoredMerge, IsMerged, at, entries_in}
-use Rattle.lethe_header.specs.declared.header.Header.{Header}
 use Rattle.lethe_merge.specs.Merge.{merged}
 use Rattle.lethe_stored.specs.Files.{StoredFile}
 use Rattle.lethe_stored.specs.Stored.{Stored, layout_of, pending_of}
+use Rattle.lethe_advance.specs.Settled.{names_in}
 use Rattle.lethe_advance.specs.Steps.{IsStep}
-use Rattle.lethe_advance.specs.declared.step.Step.{Step}
+use Rattle.lethe_install.specs.declared.steps.Installation.{Installation}
 use Rattle.lethe_state.specs.Room.{HasRoom, IsFrozen, IsUnfrozen}
 use Rattle.lethe_job.specs.Tasks.{PlainTask, IsBegunIn, IsCitedAs, IsTaskIn, counted_in, inputs_in, pages_in}
 use Rattle.lethe_core.specs.Running.{Holds}
-use Rattle.lethe_core.specs.View.{Flying, View, loose_in}
+use Rattle.lethe_core.specs.View.{Flying, View, beside_in}
 
 -- no merge is due
 abbrev pub HasNoMerge : Stored → Type 0
@@ -34,10 +35,12 @@ pub record IsInstalled (s : Stored) (task : PlainTask) (t : Stored) : Type 0 whe
   pub tasked : IsTaskIn s m task
   pub merged_is : IsMerged s m (pending_of s) task.alone task.upto t
 
--- The step from what is stored to the outcome of a task, behind which no page is loose.
-pub record MayMerge (view : View) (s : Stored) (task : PlainTask) (t : Stored) (headers : List Header) (step : Step) : Type 0 where
+-- The step from what is stored to the outcome of a task, behind which no page of a job is loose.
+pub record MayMerge (view : View) (s : Stored) (task : PlainTask) (t : Stored) (made : Installation) : Type 0 where
   pub installed : IsInstalled s task t
-  pub step_is : IsStep s (loose_in view.flight) t [] headers step
+  pub left : List (Name × List ℕ)
+  pub step_is : IsStep s (beside_in view) t left made.headers.items made.step
+  pub left_is : made.left.items ≡ names_in left
 
 -- the merge that is due, with its outcome
 pub record IsOutcome (s : Stored) (outcome : Outcome) : Type 0 where
@@ -91,6 +94,11 @@ pub record IsClearedInPart (flight : Option Flying) (s t : Stored) : Type 0 wher
 -- Where there is room nothing was done, and where there is none some of the steps that make it.
 abbrev pub IsRoomBegun : Option Flying → Stored → Stored → Type 0
 IsRoomBegun flight s t = (t ≡ s) ⊎ ((HasRoom s → ⊥) × IsClearedInPart flight s t)
+
+-- The pages that are retired behind merges. A merge leaves none while nothing needs any, and without one they are as they were.
+abbrev pub retired_behind : List Outcome → List Name → List Name
+retired_behind [] retired = retired
+retired_behind (outcome ∷ more) retired = []
 
 -- how many pages these merges read
 abbrev pub pages_of : List Outcome → ℕ

@@ -5,24 +5,24 @@ use Rattle.lethe_commit.specs.Append.{EndsAt}
 use Rattle.lethe_follows.specs.Merged.{StoredMerge}
 use Rattle.lethe_stored.specs.Levels.{AreRising}
 use Rattle.lethe_stored.specs.Stored.{Stored, segment_name}
-use Rattle.lethe_advance.specs.Settled.{IsSettled, HasOnly, AreDrawn, AreUncited, names_in}
+use Rattle.lethe_advance.specs.Settled.{IsSettled, HasOnly, AreDrawn, AreUncited}
 use Rattle.lethe_state.specs.Remembered.{Remembers, IsCurrent}
 use Rattle.lethe_state.specs.Room.{frozen_len}
 use Rattle.lethe_state.specs.Writable.{IsWritable}
 use Rattle.lethe_state.specs.declared.state.State.{State}
 use Rattle.lethe_job.specs.Tasks.{IsTaskIn}
-use Rattle.lethe_core.specs.View.{Flying, View, loose_in}
+use Rattle.lethe_core.specs.View.{Flying, View, beside_in, names_beside}
 
 -- its task merges files that are stored
 abbrev pub IsTasked : Stored → Flying → Type 0
 IsTasked s flying = (m : StoredMerge) × IsTaskIn s m flying.task
 
--- The disk is in the store's hands: its one image is what is stored, and beside it the pages of the job in flight and nothing else. The next record goes behind
--- the end of the active segment, and nothing has failed since.
+-- The disk is in the store's hands: its one image is what is stored, and beside it the retired pages and those of the job in flight, and nothing else. The next record goes
+-- behind the end of the active segment, and nothing has failed since.
 pub record IsRunning (view : View) (s : Stored) : Type 0 where
   pub settled : IsSettled view.disk s
-  pub only : HasOnly s (loose_in view.flight) view.disk.directory
-  pub uncited : AreUncited s (loose_in view.flight)
+  pub only : HasOnly s (beside_in view) view.disk.directory
+  pub uncited : AreUncited s (beside_in view)
   pub rising : AreRising s.files
   pub ends : EndsAt view.disk (segment_name s.active.no) s.active.no s.active.records view.state.end
   pub current : IsCurrent s view.state
@@ -39,18 +39,18 @@ pub record IsSmall (state : State) : Type 0 where
   pub records : state.records ≤ state.manifest.config.buffer
   pub frozen : frozen_len state.frozen ≤ state.manifest.config.buffer
 
--- On any disk: the job merges files of a level above the last, its numbers and times are within their limits, and its pages' numbers were drawn.
+-- on any disk: the job merges files of a level above the last, and its numbers and times are within their limits
 pub record IsFlying (state : State) (flying : Flying) : Type 0 where
   pub level : flying.task.level < state.manifest.config.levels
   pub upto : flying.task.upto ≤ max_place
   pub erases : All (λ erase. erase.time ≤ max_time) flying.task.erases
-  pub drawn : AreDrawn state.next (names_in flying.written)
 
--- On any disk the state can be written, its buffers are small, it has each level, and a job in flight is within the limits. Where the disk tells what it holds, the store
--- remembers something stored, and unless something has failed the disk is in its hands.
+-- On any disk the state can be written, its buffers are small, it has each level, a job in flight is within the limits, and the number of each page beside what is stored was
+-- drawn, once. Where the disk tells what it holds, the store remembers something stored, and unless something has failed the disk is in its hands.
 pub record IsSound (Tells : Type 0) (view : View) : Type 0 where
   pub writable : IsWritable view.state
   pub small : IsSmall view.state
   pub count : length view.levels ≡ view.state.manifest.config.levels + 1
   pub flies : IfSome view.flight (IsFlying view.state)
+  pub drawn : AreDrawn view.state.next (names_beside view)
   pub held : Tells → (s : Stored) × Remembers s view.state view.levels × (view.state.stopped ≡ None → IsRunning view s)

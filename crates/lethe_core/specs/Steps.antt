@@ -15,9 +15,10 @@ use Rattle.lethe_core.specs.Reasons.{IsShort}
 use Rattle.lethe_core.specs.Running.{Holds}
 use Rattle.lethe_core.specs.View.{View}
 
--- the files and the jobs are as they were
+-- the files, the retired pages and the jobs are as they were
 pub record IsBeside (old new : View) : Type 0 where
   pub levels : new.levels ≡ old.levels
+  pub retired : new.retired ≡ old.retired
   pub flight : new.flight ≡ old.flight
   pub begun : new.begun ≡ old.begun
 
@@ -25,6 +26,7 @@ pub record IsBeside (old new : View) : Type 0 where
 pub record IsAsBefore (Tells : Type 0) (old new : View) : Type 0 where
   pub state : IsLike old.state new.state
   pub levels : new.levels ≡ old.levels
+  pub retired : new.retired ≡ old.retired
   pub disk : Tells → IsTakenBack old.disk new.disk
 
 -- A step that was refused, unless the disk failed in it, left all as it was.

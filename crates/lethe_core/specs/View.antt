@@ -1,9 +1,11 @@
 -- A store as contracts see it.
-use Rattle.std.specs.Prelude.{ℕ, List, [], Option, Some, None, option_map}
+use Rattle.std.specs.Prelude.{ℕ, List, [], ◌++◌, map, Option, Some, None, option_map}
 use Rattle.lethe_base.specs.declared.name.Name.{Name}
+use Rattle.lethe_disk.specs.Directory.{Directory, content}
 use Rattle.lethe_disk.specs.Disk.{Seen}
 use Rattle.lethe_disk.specs.declared.disk.Disk.{Ghosts}
 use Rattle.lethe_stored.specs.Files.{Parts}
+use Rattle.lethe_advance.specs.Settled.{names_in}
 use Rattle.lethe_advance.specs.Shown.{parts_by_level}
 use Rattle.lethe_state.specs.declared.state.State.{State}
 use Rattle.lethe_job.specs.Tasks.{PlainTask, plain_task}
@@ -16,13 +18,14 @@ pub record Flying : Type 0 where
   pub task : PlainTask
   pub written : List (Name × List ℕ)
 
--- the disk at this time with its count of faults, what the store remembers, its files by level as their readers have them, the job in flight, and how many jobs were
--- begun
+-- the disk at this time with its count of faults, what the store remembers, its files by level as their readers have them, the pages that no manifest cites any more and
+-- that are still needed, the job in flight, and how many jobs were begun
 pub record View : Type 1 where
   pub disk : Seen
   pub faults : ℕ
   pub state : State
   pub levels : List (List Parts)
+  pub retired : List Name
   pub flight : Option Flying
   pub begun : ℕ
 
@@ -35,23 +38,40 @@ view_of {kind = kind} core = record {
   faults = kind.faults core.disk;
   state = core.state;
   levels = parts_by_level core.version;
+  retired = core.retired.items;
   flight = option_map flying_of core.flight;
   begun = core.begun.count;
 }
 
--- What the jobs of a store have come to: how many were begun, and the one in flight.
+-- What the jobs of a store have come to: how many were begun, the one in flight, and the pages that are retired.
 pub record Face : Type 0 where
   pub begun : ℕ
   pub flight : Option Flying
+  pub retired : List Name
 
 abbrev pub face_of : View → Face
-face_of view = record { begun = view.begun; flight = view.flight }
+face_of view = record { begun = view.begun; flight = view.flight; retired = view.retired }
 
--- no job was begun yet
+-- no job was begun yet, and no page is retired
 abbrev pub no_jobs : Face
-no_jobs = record { begun = 0; flight = None }
+no_jobs = record { begun = 0; flight = None; retired = [] }
 
 -- the pages that were written for the job in flight, which no manifest cites yet
 abbrev pub loose_in : Option Flying → List (Name × List ℕ)
 loose_in None = []
 loose_in (Some flying) = flying.written
+
+-- objects with the bytes that they have in a directory
+abbrev pub named_in : Directory → List Name → List (Name × List ℕ)
+named_in d names = map (λ name. (name, content d name)) names
+
+-- what lies in a directory beside what is stored: the retired pages, and those of the job in flight
+abbrev pub beside_at : Directory → List Name → Option Flying → List (Name × List ℕ)
+beside_at d retired flight = named_in d retired ++ loose_in flight
+
+abbrev pub beside_in : View → List (Name × List ℕ)
+beside_in view = beside_at view.disk.directory view.retired view.flight
+
+-- their names
+abbrev pub names_beside : View → List Name
+names_beside view = view.retired ++ names_in (loose_in view.flight)

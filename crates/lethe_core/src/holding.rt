@@ -8,20 +8,22 @@ ghost use Rattle.lethe_core.specs.Running.{Holds};
 ghost use Rattle.lethe_core.specs.View.{view_of};
 
 use crate::Flight;
-use lethe_base::NoMemory;
+use lethe_base::{Name, NoMemory};
 use lethe_disk::Disk;
 use lethe_job::{BegunJobs, Task, cited_files, next_task};
 use lethe_state::State;
 use lethe_version::Version;
 use std::alloc::Global;
 
-/// What a store has: its disk, what it remembers of what is stored there, the files that readers have, the job in flight, and how many jobs were begun. Its calls are made of steps, which
-/// each leave it so that it can go on.
+/// What a store has: its disk, what it remembers of what is stored there, the files that readers have, the pages that lie there beside what is stored, and how many jobs were
+/// begun. Its calls are made of steps, which each leave it so that it can go on.
 #[derive(Drop)]
 pub struct Core<D: Disk> {
     pub disk: D,
     pub state: State,
     pub version: Version<D>,
+    /// The pages that no manifest cites any more and that are still needed. No call adds to them yet.
+    pub retired: Vec<Name>,
     pub flight: Option<Flight<D>>,
     /// How many jobs were begun since the store was opened.
     pub begun: BegunJobs,

@@ -1,9 +1,10 @@
 //! Merges that a store carries out itself, and the step of a merge.
-ghost use Rattle.std.specs.Prelude.{◌≡◌, ◌≤◌, ◌+◌, ◌⊎◌, ◌↔◌, true, false, IsTrue, List, Ok, None, All, IfOk, IfErr, OnErr, OnOk};
+ghost use Rattle.std.specs.Prelude.{◌≡◌, ◌≤◌, ◌+◌, ◌⊎◌, ◌↔◌, [], true, false, IsTrue, List, Ok, None, All, IfOk, IfErr, OnErr, OnOk};
 ghost use Rattle.std.specs.Result.{result_err};
 ghost use Rattle.lethe_base.specs.History.{History};
 ghost use Rattle.lethe_base.specs.declared.config.Fields.{Fields};
 ghost use Rattle.lethe_base.specs.declared.refused.Refused.TheVariants as refused;
+ghost use Rattle.lethe_advance.specs.Settled.{AreDrawn};
 ghost use Rattle.lethe_header.specs.Headers as header;
 ghost use Rattle.lethe_stored.specs.Stored.{Stored};
 ghost use Rattle.lethe_state.specs.Room.{IsStepFrom};
@@ -12,7 +13,7 @@ ghost use Rattle.lethe_core.specs.Descent.{steps_down};
 ghost use Rattle.lethe_job.specs.Jobs.{told_as};
 ghost use Rattle.lethe_job.specs.Tasks.{PlainTask, inputs_in, pages_in};
 ghost use Rattle.lethe_core.specs.Keeps.{Keeps, MayStep};
-ghost use Rattle.lethe_core.specs.Merges.{AreOutcomes, AreSomeOutcomes, HasNoMerge, IsCrowded, IsMergedInPart, IsOutcome, IsShortToMerge, IsUncrowded, MayMerge, Outcome, pages_of};
+ghost use Rattle.lethe_core.specs.Merges.{AreOutcomes, AreSomeOutcomes, HasNoMerge, IsCrowded, IsMergedInPart, IsOutcome, IsShortToMerge, IsUncrowded, MayMerge, Outcome, pages_of, retired_behind};
 ghost use Rattle.lethe_core.specs.Reasons.{HasReason, IsUnreadable, told_since};
 ghost use Rattle.lethe_core.specs.Running.{Holds, IsSound};
 ghost use Rattle.lethe_core.specs.StandsNow.{IsCounted, StandsNow};
@@ -21,11 +22,9 @@ ghost use Rattle.lethe_core.specs.View.{view_of};
 
 use crate::Core;
 use crate::descent::steps_down;
-use lethe_advance::Step;
 use lethe_base::{NoMemory, Refused};
 use lethe_disk::{Disk, ReadRefused};
-use lethe_header::Header;
-use lethe_install::installing;
+use lethe_install::{Installation, installing};
 use lethe_job::cited_files;
 use std::alloc::Global;
 
@@ -42,7 +41,7 @@ impl<D: Disk> Core<D> {
         ensures partly { IfErr result (IsDoneInPart D.tells (IsMergedInPart (view_of self.old).flight) (view_of self.old) (view_of self.new)) }
         ensures done { D.tells → (s : Stored) → Holds (view_of self.old) s
             → OnOk result ((t : Stored) × (outcomes : List Outcome) × IsUncrowded (view_of self.old).flight s outcomes t × Holds (view_of self.new) t
-            × (D.fetches port.new ≡ D.fetches port.old + pages_of outcomes)) }
+            × (D.fetches port.new ≡ D.fetches port.old + pages_of outcomes) × ((view_of self.new).retired ≡ retired_behind outcomes (view_of self.old).retired)) }
         ensures steady { OnOk result (IsSteady self.old.state self.new.state) }
         ensures why { IfErr result (λ why. HasReason (IsShortToMerge D.tells (view_of self.new)) self.old.state before (D.faults self.new.disk) why
             ⊎ IsUnreadable D.tells D.ports_fail (D.port_faults port.old) (D.port_faults port.new) why) }
@@ -73,7 +72,7 @@ impl<D: Disk> Core<D> {
         ensures partly { IfErr result (IsDoneInPart D.tells (λ s t. (outcomes : List Outcome) × AreSomeOutcomes s outcomes t) (view_of self.old) (view_of self.new)) }
         ensures done { D.tells → (s : Stored) → Holds (view_of self.old) s
             → OnOk result ((t : Stored) × (outcomes : List Outcome) × AreOutcomes s outcomes t × Holds (view_of self.new) t
-            × (D.fetches port.new ≡ D.fetches port.old + pages_of outcomes)) }
+            × (D.fetches port.new ≡ D.fetches port.old + pages_of outcomes) × ((view_of self.new).retired ≡ retired_behind outcomes (view_of self.old).retired)) }
         ensures steady { OnOk result (IsSteady self.old.state self.new.state) }
         ensures why { IfErr result (λ why. HasReason (IsShortToMerge D.tells (view_of self.new)) self.old.state before (D.faults self.new.disk) why
             ⊎ IsUnreadable D.tells D.ports_fail (D.port_faults port.old) (D.port_faults port.new) why) }
@@ -123,6 +122,7 @@ impl<D: Disk> Core<D> {
             → (outcome : Outcome) × IsOutcome s outcome × Holds (view_of self.new) outcome.to
             × (D.fetches port.new ≡ D.fetches port.old + pages_in (inputs_in outcome.task)) }
         ensures steady { OnOk result (IsSteady self.old.state self.new.state) }
+        ensures retired { result ≡ Ok true → self.new.retired.items ≡ [] }
         ensures why { IfErr result (λ why. HasReason (IsShortToMerge D.tells (view_of self.new)) self.old.state before (D.faults self.new.disk) why
             ⊎ IsUnreadable D.tells D.ports_fail (D.port_faults port.old) (D.port_faults port.new) why) }
         ensures free { self.new.flight ≡ None }
@@ -138,8 +138,17 @@ impl<D: Disk> Core<D> {
             Ok(drafts) => drafts,
             Err(why) => return Err(told_as(why)),
         };
-        let (headers, step) = installing(alloc, &self.state, &self.version, &task, drafts, &[])?;
-        self.merge_now(alloc, before, headers, step)?;
+        let made = installing(
+            alloc,
+            &self.state,
+            &self.version,
+            &task,
+            drafts,
+            &[],
+            &self.retired,
+            &[],
+        )?;
+        self.merge_now(alloc, before, made)?;
         Ok(true)
     }
 
@@ -148,28 +157,35 @@ impl<D: Disk> Core<D> {
         &mut self,
         alloc: Global,
         before: u64,
-        headers: Vec<Header>,
-        step: Step,
+        made: Installation,
     ) -> Result<(), Refused>
         requires may { MayStep D.tells (view_of self.old) before }
-        requires headers { All header.HasSpelling headers.items }
-        requires from { IsStepFrom (segments_for self.old.state.frozen) self.old.state step }
-        requires merges { D.tells → (s : Stored) → Holds (view_of self.old) s → (task : PlainTask) × (t : Stored) × MayMerge (view_of self.old) s task t headers.items step
+        requires headers { All (λ new. header.HasSpelling new.header) made.headers.items }
+        requires from { IsStepFrom (segments_for self.old.state.frozen) self.old.state made.headers.items made.step }
+        requires drawn { AreDrawn made.step.manifest.next made.left.items }
+        requires merges { D.tells → (s : Stored) → Holds (view_of self.old) s → (task : PlainTask) × (t : Stored) × MayMerge (view_of self.old) s task t made
             × ((config : Fields) (h : History) → StandsNow config h (view_of self.old) → IsCounted task) }
         ensures keeps { Keeps D.tells (view_of self.old) (view_of self.new) (result_err result) }
         ensures undone { IfErr result (IsUndone D.tells (view_of self.old) (view_of self.new)) }
-        ensures done { D.tells → (s : Stored) (task : PlainTask) (t : Stored) → Holds (view_of self.old) s → MayMerge (view_of self.old) s task t headers.items step
+        ensures done { D.tells → (s : Stored) (task : PlainTask) (t : Stored) → Holds (view_of self.old) s → MayMerge (view_of self.old) s task t made
             → OnOk result (Holds (view_of self.new) t) }
         ensures steady { OnOk result (IsSteady self.old.state self.new.state) }
         ensures free { OnOk result (self.new.flight ≡ None) }
-        ensures kept { IfErr result (λ why. self.new.flight ≡ self.old.flight) }
+        ensures retired { OnOk result (self.new.retired ≡ made.left) }
+        ensures kept { IfErr result (λ why. (self.new.flight ≡ self.old.flight) × (self.new.retired ≡ self.old.retired)) }
         ensures begun { self.new.begun ≡ self.old.begun }
         ensures drawn { OnErr result (self.new.state.next ≡ self.old.state.next) }
         ensures why { IfErr result (HasReason ⊥ self.old.state before (D.faults self.new.disk)) }
     {
+        let Installation {
+            headers,
+            step,
+            left,
+        } = made;
         self.carry_out(alloc, before, headers, &step)?;
         self.state.next = step.manifest.next;
         self.state.manifest = step.manifest;
+        self.retired = left;
         self.flight = None;
         Ok(())
     }

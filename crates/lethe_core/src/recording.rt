@@ -50,6 +50,7 @@ impl<D: Disk> Core<D> {
         ensures written { D.tells → (s : Stored) → Holds (view_of self.old) s
             → OnOk result (Holds (view_of self.new) (appended s next) × ((D.seen self.new.disk).directory ≡ with_record (D.seen self.old.disk).directory s next)) }
         ensures version { self.new.version ≡ self.old.version }
+        ensures retired { self.new.retired ≡ self.old.retired }
         ensures flight { self.new.flight ≡ self.old.flight }
         ensures begun { self.new.begun ≡ self.old.begun }
         ensures calls { D.tells → OnOk result ((D.seen self.new.disk).moment ≡ (D.seen self.old.disk).moment + 4) }

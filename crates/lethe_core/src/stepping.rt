@@ -16,17 +16,16 @@ ghost use Rattle.lethe_advance.specs.Shown.{parts_by_level};
 ghost use Rattle.lethe_advance.specs.Steps.{IsStep};
 ghost use Rattle.lethe_state.specs.Room.{IsFlushed, IsFrozen, IsShortToFlush, IsShortToFreeze, IsUnfrozen};
 ghost use Rattle.lethe_core.specs.Keeps.{Keeps, MayStep};
-ghost use Rattle.lethe_core.specs.Merges.{Outcome, IsRoomBegun, IsRoomMadeBy, pages_of};
+ghost use Rattle.lethe_core.specs.Merges.{Outcome, IsRoomBegun, IsRoomMadeBy, pages_of, retired_behind};
 ghost use Rattle.lethe_core.specs.Reasons.{HasReason, IsShort, IsShortOfRoom, IsUnreadable};
 ghost use Rattle.lethe_core.specs.Running.{Holds, IsRunning};
 ghost use Rattle.lethe_core.specs.Steps.{IsDoneInPart, IsEmptied, IsHindered, IsReady, IsReadyToFreeze, IsUndone, IsUnfrozenAfter};
-ghost use Rattle.lethe_core.specs.View.{loose_in, view_of};
+ghost use Rattle.lethe_core.specs.View.{beside_in, view_of};
 
 use crate::Core;
-use lethe_advance::{Step, advance};
+use lethe_advance::{NewHeader, Step, advance};
 use lethe_base::Refused;
 use lethe_disk::{Disk, DiskRefused};
-use lethe_header::Header;
 use std::alloc::Global;
 
 impl<D: Disk> Core<D> {
@@ -44,7 +43,7 @@ impl<D: Disk> Core<D> {
         ensures partly { IfErr result (IsDoneInPart D.tells (IsRoomBegun (view_of self.old).flight) (view_of self.old) (view_of self.new)) }
         ensures done { D.tells → (s : Stored) → Holds (view_of self.old) s
             → OnOk result ((t : Stored) × (outcomes : List Outcome) × IsRoomMadeBy (view_of self.old).flight s outcomes t × Holds (view_of self.new) t
-            × (D.fetches port.new ≡ D.fetches port.old + pages_of outcomes)) }
+            × (D.fetches port.new ≡ D.fetches port.old + pages_of outcomes) × ((view_of self.new).retired ≡ retired_behind outcomes (view_of self.old).retired)) }
         ensures room { self.old.state.records < self.old.state.manifest.config.buffer → IsOk result × (self.new ≡ self.old) × (port.new ≡ port.old) }
         ensures ready { OnOk result (IsReady self.old.state self.new.state) }
         ensures why { IfErr result (λ why. HasReason (IsShortOfRoom D.tells self.old.state (view_of self.new)) self.old.state before (D.faults self.new.disk) why
@@ -69,6 +68,7 @@ impl<D: Disk> Core<D> {
         ensures done { D.tells → (s : Stored) → Holds (view_of self.old) s → OnOk result ((t : Stored) × IsUnfrozen s t × Holds (view_of self.new) t) }
         ensures ready { OnOk result (IsReadyToFreeze self.old.state self.new.state) }
         ensures why { IfErr result (HasReason (IsShort self.old.state) self.old.state before (D.faults self.new.disk)) }
+        ensures retired { self.new.retired ≡ self.old.retired }
         ensures flight { self.new.flight ≡ self.old.flight }
         ensures begun { self.new.begun ≡ self.old.begun }
     {
@@ -87,6 +87,7 @@ impl<D: Disk> Core<D> {
         ensures done { D.tells → (s : Stored) → Holds (view_of self.old) s → OnOk result ((t : Stored) × IsFlushed s t × Holds (view_of self.new) t) }
         ensures ready { OnOk result (IsUnfrozenAfter self.old.state self.new.state) }
         ensures why { IfErr result (HasReason (IsShortToFlush self.old.state) self.old.state before (D.faults self.new.disk)) }
+        ensures retired { self.new.retired ≡ self.old.retired }
         ensures flight { self.new.flight ≡ self.old.flight }
         ensures begun { self.new.begun ≡ self.old.begun }
     {
@@ -105,6 +106,7 @@ impl<D: Disk> Core<D> {
         ensures done { D.tells → (s : Stored) → Holds (view_of self.old) s → OnOk result ((t : Stored) × IsFrozen s t × Holds (view_of self.new) t) }
         ensures ready { OnOk result (IsEmptied self.old.state self.new.state) }
         ensures why { IfErr result (HasReason (IsShortToFreeze self.old.state) self.old.state before (D.faults self.new.disk)) }
+        ensures retired { self.new.retired ≡ self.old.retired }
         ensures flight { self.new.flight ≡ self.old.flight }
         ensures begun { self.new.begun ≡ self.old.begun }
     {
@@ -119,27 +121,28 @@ impl<D: Disk> Core<D> {
         &mut self,
         alloc: Global,
         before: u64,
-        headers: Vec<Header>,
+        headers: Vec<NewHeader>,
         step: &Step,
     ) -> Result<(), Refused>
         requires may { MayStep D.tells (view_of self.old) before }
         requires spelled { HasSpelling step.now.manifest }
-        requires headers { All header.HasSpelling headers.items }
-        requires level { step.now.level ≤ self.old.state.manifest.config.levels }
-        requires step { D.tells → (s t : Stored) × (left : List (Name × List ℕ)) × IsRunning (view_of self.old) s × IsStep s (loose_in (view_of self.old).flight) t left headers.items step.now }
-        ensures moments { D.tells → (s t : Stored) (left : List (Name × List ℕ)) → IsRunning (view_of self.old) s → IsStep s (loose_in (view_of self.old).flight) t left headers.items step.now
+        requires headers { All (λ new. header.HasSpelling new.header) headers.items }
+        requires levels { All (λ new. new.level ≤ self.old.state.manifest.config.levels) headers.items }
+        requires step { D.tells → (s t : Stored) × (left : List (Name × List ℕ)) × IsRunning (view_of self.old) s × IsStep s (beside_in (view_of self.old)) t left headers.items step.now }
+        ensures moments { D.tells → (s t : Stored) (left : List (Name × List ℕ)) → IsRunning (view_of self.old) s → IsStep s (beside_in (view_of self.old)) t left headers.items step.now
             → (h : History) → IsFor h s → IsFor h t → s.manifest.next ≤ self.old.state.next → t.manifest.next ≤ self.old.state.next + length step.now.objects.items + 1
             → GoesFrom self.old.state.next (λ c. IsKept s.manifest.config c h) (D.seen self.old.disk) (D.seen self.new.disk) }
-        ensures done { D.tells → (s t : Stored) (left : List (Name × List ℕ)) → IsRunning (view_of self.old) s → IsStep s (loose_in (view_of self.old).flight) t left headers.items step.now
+        ensures done { D.tells → (s t : Stored) (left : List (Name × List ℕ)) → IsRunning (view_of self.old) s → IsStep s (beside_in (view_of self.old)) t left headers.items step.now
             → OnOk result (IsSettled (D.seen self.new.disk) t × HasOnly t left (D.seen self.new.disk).directory) }
-        ensures kept { D.tells → (s t : Stored) (left : List (Name × List ℕ)) → IsRunning (view_of self.old) s → IsStep s (loose_in (view_of self.old).flight) t left headers.items step.now
+        ensures kept { D.tells → (s t : Stored) (left : List (Name × List ℕ)) → IsRunning (view_of self.old) s → IsStep s (beside_in (view_of self.old)) t left headers.items step.now
             → OnOk result ((name : Name) → Contains (part_names t) name
             → object (D.seen self.new.disk).directory name ≡ object (insert_all step.now.objects.items (D.seen self.old.disk).directory) name) }
-        ensures files { D.tells → (s t : Stored) (left : List (Name × List ℕ)) → IsRunning (view_of self.old) s → IsStep s (loose_in (view_of self.old).flight) t left headers.items step.now
+        ensures files { D.tells → (s t : Stored) (left : List (Name × List ℕ)) → IsRunning (view_of self.old) s → IsStep s (beside_in (view_of self.old)) t left headers.items step.now
             → HasFiles s (parts_by_level self.old.version) → OnOk result (HasFiles t (parts_by_level self.new.version)) }
         ensures state { OnOk result (self.new.state ≡ self.old.state) }
         ensures levels { length (parts_by_level self.new.version) ≡ length (parts_by_level self.old.version) }
         ensures refused { IfErr result (IsHindered D.tells (view_of self.old) (view_of self.new) before) }
+        ensures retired { self.new.retired ≡ self.old.retired }
         ensures flight { self.new.flight ≡ self.old.flight }
         ensures begun { self.new.begun ≡ self.old.begun }
         ensures calls { D.tells → OnOk result ((D.seen self.old.disk).moment + length step.now.objects.items + 5 ≤ (D.seen self.new.disk).moment) }

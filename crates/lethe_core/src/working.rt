@@ -1,5 +1,5 @@
 //! The steps of a job: begun, written page by page, installed or given up.
-ghost use Rattle.std.specs.Prelude.{◌≡◌, ◌≤◌, ◌+◌, ◌-◌, Ok, Some, None, length, sum_by, IfOk, IfErr, IfSome, IsErrOf, IsSome, OnErr, OnOk};
+ghost use Rattle.std.specs.Prelude.{◌≡◌, ◌≤◌, ◌+◌, ◌-◌, [], Ok, Some, None, length, sum_by, IfOk, IfErr, IfSome, IsErrOf, IsSome, OnErr, OnOk};
 ghost use Rattle.std.specs.Result.{result_err};
 ghost use Rattle.std.specs.FinMap.{insert};
 ghost use Rattle.lethe_base.specs.History.{History};
@@ -50,6 +50,7 @@ impl<D: Disk> Core<D> {
         ensures kept { OnErr result (face_of (view_of self.new) ≡ face_of (view_of self.old)) }
         ensures state { self.new.state ≡ self.old.state }
         ensures version { self.new.version ≡ self.old.version }
+        ensures retired { self.new.retired ≡ self.old.retired }
         ensures idle { D.tells → IsIdle (D.seen self.old.disk) (D.seen self.new.disk) }
         ensures faults { D.faults self.new.disk ≡ D.faults self.old.disk }
     {
@@ -85,6 +86,7 @@ impl<D: Disk> Core<D> {
         ensures held { D.tells → (s : Stored) → Holds (view_of self.old) s → OnOk result (Holds (view_of self.new) s) }
         ensures written { IfSome (view_of self.old).flight (λ flying. OnOk result ((view_of self.new).flight ≡ Some (with_page flying (page_name self.old.state.next, bytes.now)))) }
         ensures kept { IfErr result (λ why. (view_of self.new).flight ≡ (view_of self.old).flight) }
+        ensures retired { self.new.retired ≡ self.old.retired }
         ensures begun { self.new.begun ≡ self.old.begun }
         ensures drawn { OnErr result (self.new.state.next ≡ self.old.state.next) }
         ensures steady { OnOk result (IsSteady self.old.state self.new.state) }
@@ -135,8 +137,8 @@ impl<D: Disk> Core<D> {
         ensures done { D.tells → (s : Stored) → Holds (view_of self.old) s
             → IfSome (view_of self.old).flight (λ flying. OnOk result ((t : Stored) × IsInstalled s flying.task t × Holds (view_of self.new) t)) }
         ensures steady { OnOk result (IsSteady self.old.state self.new.state) }
-        ensures free { OnOk result (self.new.flight ≡ None) }
-        ensures kept { IfErr result (λ why. self.new.flight ≡ self.old.flight) }
+        ensures free { OnOk result ((self.new.flight ≡ None) × (self.new.retired.items ≡ [])) }
+        ensures kept { IfErr result (λ why. (self.new.flight ≡ self.old.flight) × (self.new.retired ≡ self.old.retired)) }
         ensures begun { self.new.begun ≡ self.old.begun }
         ensures drawn { OnErr result (self.new.state.next ≡ self.old.state.next) }
         ensures why { IfErr result (HasReason (IfSome (view_of self.old).flight (λ flying. max_place ≤ self.old.state.next + (sum_by numbers_for drafts.items - length flying.written)))
@@ -145,15 +147,17 @@ impl<D: Disk> Core<D> {
         let Some(flight) = &self.flight else {
             unreachable!()
         };
-        let (headers, step) = installing(
+        let made = installing(
             alloc,
             &self.state,
             &self.version,
             &flight.task,
             drafts,
             flight.written.names(),
+            &self.retired,
+            &[],
         )?;
-        self.merge_now(alloc, before, headers, step)
+        self.merge_now(alloc, before, made)
     }
 
     /// Gives the job in flight up: its pages are removed. It takes no memory.
@@ -163,6 +167,7 @@ impl<D: Disk> Core<D> {
         ensures held { D.tells → (s : Stored) → Holds (view_of self.old) s → OnOk result (Holds (view_of self.new) s) }
         ensures undone { IfErr result (IsUndone D.tells (view_of self.old) (view_of self.new)) }
         ensures free { self.new.flight ≡ None }
+        ensures retired { self.new.retired ≡ self.old.retired }
         ensures begun { self.new.begun ≡ self.old.begun }
         ensures state { OnOk result (self.new.state ≡ self.old.state) }
         ensures version { self.new.version ≡ self.old.version }

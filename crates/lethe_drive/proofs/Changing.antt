@@ -15,7 +15,7 @@ use Rattle.lethe_stored.specs.Stored.{Stored, appended}
 use Rattle.lethe_state.specs.Records.{headers_in}
 use Rattle.lethe_state.specs.Room.{HasRoom}
 use Rattle.lethe_core.specs.Asked.{Makes, behind, failure_of, refused_to}
-use Rattle.lethe_core.specs.Merges.{IsRoomBegun, IsRoomMadeBy, Outcome, pages_of}
+use Rattle.lethe_core.specs.Merges.{IsRoomBegun, IsRoomMadeBy, Outcome, pages_of, retired_behind}
 use Rattle.lethe_core.specs.Reasons.{HasReason, IsShort, IsShortOfRoom, IsUnreadable}
 use Rattle.lethe_core.specs.Running.{Holds}
 use Rattle.lethe_core.specs.View.{Flying, View}
@@ -46,7 +46,7 @@ module _ (Tells PortsFail : Type 0) (told : Tells) (call : Call) (IsNext : Store
   -- room was made, and the record was written later the others
   abbrev pub Written : Type 0
   Written = (t : Stored) × (outcomes : List Outcome) × (next : Record) × IsRoomMadeBy old.flight s outcomes t × IsNext t (headers_in new.levels) next × Holds new (appended t next)
-      × (fetches_now ≡ fetches_before + pages_of outcomes)
+      × (fetches_now ≡ fetches_before + pages_of outcomes) × (new.retired ≡ retired_behind outcomes old.retired)
 
   -- the merge for which numbers are short is one of what is stored
   short_on : (t : Stored) → Holds new t → IsShortOfRoom Tells old.state new → IsShort old.state ⊎ IsShortToMerge (later t)
@@ -80,6 +80,7 @@ module _ (Tells PortsFail : Type 0) (told : Tells) (call : Call) (IsNext : Store
             stored = not_begun old.flight s t (room_in s old.state old.levels known.remembers room) (comes none);
             state = undone.state;
             levels = undone.levels;
+            retired = undone.retired;
             directory = (undone.disk told).directory;
           };
       begun = comes;
@@ -106,6 +107,7 @@ module _ (Tells PortsFail : Type 0) (told : Tells) (call : Call) (IsNext : Store
             next = made.2;
             next_is = made.4;
             stored = refl;
+            retired = made.7;
             fetches = made.6;
           };
           stops = stops;

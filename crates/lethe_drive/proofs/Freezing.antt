@@ -23,7 +23,7 @@ use Rattle.lethe_core.specs.Jobs.{IsAtWork}
 use Rattle.lethe_core.specs.Merges.{HasNoMerge}
 use Rattle.lethe_core.specs.Reasons.{HasReason}
 use Rattle.lethe_core.specs.Running.{Holds}
-use Rattle.lethe_core.specs.Steps.{IsUndone}
+use Rattle.lethe_core.specs.Steps.{IsBeside, IsUndone}
 use Rattle.lethe_core.specs.View.{Face, View, face_of}
 use Rattle.lethe_core.proofs.Likes.{before_holds}
 use Rattle.lethe_core.proofs.Standing.{idle_back, running_back}
@@ -52,16 +52,19 @@ module _ (Tells : Type 0) (told : Tells) (config : Fields) (opened : Opened) (h 
       → IsUntouched (moment_of old s fetches_before faults_before begun_before there) (moment_of new t fetches_now faults_now begun_now then)
   work_untouched t same fetches_before fetches_now faults_before faults_now begun_before begun_now there then none =
       let is = undone none in
-      record { stored = same none; state = is.state; levels = is.levels; directory = (is.disk told).directory }
+      record { stored = same none; state = is.state; levels = is.levels; retired = is.retired; directory = (is.disk told).directory }
 
 module _ (Tells : Type 0) (told : Tells) (config : Fields) (opened : Opened) (h : History) (old new : View) (s : Stored) (known : IsKnown config h old s) (fetches faults begun : ℕ) (there : Option Going)
     (Nothing : State → Type 0) (Does : Stored → Stored → Type 0) (Short : Type 0) (face : face_of new ≡ face_of old) where
   same_moment : new ≡ old → IsAllButPort (moment_of old s fetches faults begun there) (moment_of new s fetches faults begun there)
   same_moment same = subst (λ (view : View). IsAllButPort (moment_of old s fetches faults begun there) (moment_of view s fetches faults begun there)) (sym same)
-      (record { stored = refl; state = refl; levels = refl; flight = refl; directory = refl; calls = refl; faults = refl; begun = refl; there = refl })
+      (record { stored = refl; state = refl; levels = refl; retired = refl; flight = refl; directory = refl; calls = refl; faults = refl; begun = refl; there = refl })
 
   flight : new.flight ≡ old.flight
   flight = ap (λ (face : Face). face.flight) face
+
+  retired : new.retired ≡ old.retired
+  retired = ap (λ (face : Face). face.retired) face
 
   abbrev pub Worked : Result Bool Refused → Type 0
   Worked result = (t : Stored) × IsKnown config (behind h 0 (Serves Work) (result_err result)) new t
@@ -86,6 +89,7 @@ module _ (Tells : Type 0) (told : Tells) (config : Fields) (opened : Opened) (h 
           stops = stopped;
           last = last;
           jobs = record { flight = flight; begun = refl; there = refl };
+          retired = retired;
           port = record { fetches = refl; port_faults = refl };
         },
       )
@@ -102,6 +106,7 @@ module _ (Tells : Type 0) (told : Tells) (config : Fields) (opened : Opened) (h 
       stops = stopped;
       last = last;
       jobs = record { flight = flight; begun = refl; there = refl };
+      retired = retired;
       port = record { fetches = refl; port_faults = refl };
     },
   )
@@ -119,6 +124,7 @@ module _ (Tells : Type 0) (told : Tells) (config : Fields) (opened : Opened) (h 
           stops = stopped;
           last = last;
           jobs = record { flight = flight; begun = refl; there = refl };
+          retired = retired;
           port = record { fetches = refl; port_faults = refl };
         },
       )
@@ -130,21 +136,24 @@ some_mapped f None is = is
 some_mapped f (Some x) is = refl
 
 -- no device call was made, and the store is as it was
-pub known_idle : (config : Fields) (h : History) (old new : View) (s : Stored) → IsIdle old.disk new.disk → new.state ≡ old.state → new.levels ≡ old.levels → new.flight ≡ old.flight → new.begun ≡ old.begun
+pub known_idle : (config : Fields) (h : History) (old new : View) (s : Stored) → IsIdle old.disk new.disk → new.state ≡ old.state → new.levels ≡ old.levels → face_of new ≡ face_of old
     → IsKnown config h old s → IsKnown config h new s
-known_idle config h old new s idle state levels flight begun known =
+known_idle config h old new s idle state levels face known =
     let remembers = subst (λ (state : State). Remembers s state new.levels) (sym state) (subst (λ (levels : List (List Parts)). Remembers s old.state levels) (sym levels) known.remembers) in
+    let is_beside : IsBeside old new =
+    record { levels = levels; retired = ap (λ (face : Face). face.retired) face; flight = ap (λ (face : Face). face.flight) face; begun = ap (λ (face : Face). face.begun) face } in
     record {
       config_is = known.config_is;
       stands = known.stands;
       remembers = remembers;
       held = λ runs. record {
         remembers = remembers;
-        running = running_back old new (idle_back old.disk new.disk idle) s state (record { levels = levels; flight = flight; begun = begun }) (known.held (sym (ap (λ (state : State). state.stopped) state) ∙ runs)).running;
+        running = running_back old new (idle_back old.disk new.disk idle) s state is_beside (known.held (sym (ap (λ (state : State). state.stopped) state) ∙ runs)).running;
       };
     }
 
-module _ (config : Fields) (h : History) (old new : View) (s : Stored) (fetches faults begun : ℕ) (there : Option Going) (state : new.state ≡ old.state) (levels : new.levels ≡ old.levels) (idle : IsIdle old.disk new.disk) where
+module _ (config : Fields) (h : History) (old new : View) (s : Stored) (fetches faults begun : ℕ) (there : Option Going)
+    (state : new.state ≡ old.state) (levels : new.levels ≡ old.levels) (retired : new.retired ≡ old.retired) (idle : IsIdle old.disk new.disk) where
   -- it was begun
   pub has_begun : {D Page Port : Type 0} {kind : Ghosts D Page Port} (Tells : Type 0) (job : Job D Page Port kind) → old.state.stopped ≡ None → (IsSome old.flight → ⊥) → IsBegunIn s (plain_task job.task.value)
       → IsAtWork Tells new job → job.drafts ≡ None → kind.port_faults job.port ≡ 0
@@ -167,6 +176,7 @@ module _ (config : Fields) (h : History) (old new : View) (s : Stored) (fetches 
         stored = refl;
         state = state;
         levels = levels;
+        retired = retired;
         directory = idle.directory;
         calls = idle.moment;
         port = record { fetches = refl; port_faults = refl };
@@ -200,6 +210,7 @@ module _ (config : Fields) (h : History) (old new : View) (s : Stored) (fetches 
     stored = refl;
     state = state;
     levels = levels;
+    retired = retired;
     directory = idle.directory;
     calls = idle.moment;
     port = record { fetches = refl; port_faults = refl };

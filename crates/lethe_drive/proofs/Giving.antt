@@ -1,6 +1,6 @@
 -- The job of a run that hasn't ended, and giving it up.
 use Rattle.std.proofs.Common.{◌≡◌, ◌<◌, ℕ, Bool, true, false, length, Option, Some, None, Result, Ok, Err, refl, sym, ap, ◌∙◌, subst}
-use Rattle.std.specs.Prelude.{IfErr, IfSome, IsOk, IsSome, OnErr, OnOk, option_map}
+use Rattle.std.specs.Prelude.{◌&&◌, IfErr, IfSome, IsOk, IsSome, OnErr, OnOk, if◌then◌else◌, is_none, nat_le, option_map}
 use Rattle.std.specs.Result.{result_err}
 use Rattle.std.proofs.lemmas.Option.{none-some, same_Some}
 use Rattle.lethe_base.specs.History.{History}
@@ -18,11 +18,12 @@ use Rattle.lethe_core.specs.Asked.{Serves, behind, failure_of}
 use Rattle.lethe_core.specs.Jobs.{IsAtWork, IsInFlight}
 use Rattle.lethe_core.specs.Reasons.{HasReason}
 use Rattle.lethe_core.specs.Running.{Holds, IsSound}
-use Rattle.lethe_core.specs.View.{Flying, View}
+use Rattle.lethe_core.specs.View.{Face, Flying, View}
 use Rattle.lethe_core.proofs.Asked.{not_none}
 use Rattle.lethe_core.proofs.Hindered.{like_of}
 use Rattle.lethe_core.proofs.Installing.{begun_sound}
 use Rattle.lethe_engine.specs.Answers.{IsRefused, IsStill}
+use Rattle.lethe_engine.specs.Jobs as engine
 use Rattle.lethe_engine.specs.StandsFor.{Opened, StandsFor}
 use Rattle.lethe_drive.specs.Answers.{IsCancel, IsKeptUp}
 use Rattle.lethe_drive.specs.Driving.{IsTheirs}
@@ -118,6 +119,14 @@ pub given : (result : Result (Unit {0}) Refused) → IsOk result → result ≡ 
 given (Ok done) is = refl
 given (Err why) is = absurd (nothing_in is)
 
+-- the retired pages are as they were
+pub given_up_retired : (face : Face) (state : State) → (engine.given_up face state).retired ≡ face.retired
+given_up_retired face state = by (is_none state.stopped && nat_le max_place state.count)
+  where
+    by : (full : Bool) → (if full then face else record face { flight = None }).retired ≡ face.retired
+    by true = refl
+    by false = refl
+
 -- on a store that runs giving up is refused only where the disk fails
 must_fail : (state : State) (before now : ℕ) (why : Refused) → HasReason ⊥ state before now why → (why ≡ NoMemory → ⊥) → ((last : ℕ) → why ≡ Exhausted last → ⊥) → state.stopped ≡ None → failure_of why ≡ None → ⊥
 must_fail state before now (Fault place b a) is memory numbers runs none = not_none (record { place = place; before = b; after = a }) none
@@ -151,6 +160,7 @@ module _ (Tells : Type 0) (told : Tells) (config : Fields) (opened : Opened) (h 
     stored = refl;
     state = like_of old.state new.state (ap (λ (view : View). view.state) same);
     levels = ap (λ (view : View). view.levels) same;
+    retired = ap (λ (view : View). view.retired) same;
     directory = ap (λ (view : View). view.disk.directory) same;
   }
 
@@ -159,10 +169,10 @@ module _ (Tells : Type 0) (told : Tells) (config : Fields) (opened : Opened) (h 
       × IsCancel h (moment_of old s fetches faults begun there) result (behind h 0 (Serves Work) (result_err result)) (moment_of new t fetches faults begun gone)
 
   pub given_up : (result : Result (Unit {0}) Refused) → StandsFor config opened (behind h 0 (Serves Work) (result_err result)) new → (IsSome old.state.stopped → IsStill Tells old new)
-      → IfSome (result_err result) (IsRefused Tells (Serves Work) old new) → (Holds old s → OnOk result (Holds new s)) → ((old.state.stopped ≡ None → old.state.count < max_place) → new.flight ≡ None)
+      → IfSome (result_err result) (IsRefused Tells (Serves Work) old new) → (Holds old s → OnOk result (Holds new s)) → ((old.state.stopped ≡ None → old.state.count < max_place) → new.flight ≡ None) → new.retired ≡ old.retired
       → IfErr result (HasReason ⊥ old.state old.faults new.faults) → (result ≡ Err NoMemory → ⊥) → ((last : ℕ) → result ≡ Err (Exhausted last) → ⊥)
       → ((at : ℕ) → old.state.stopped ≡ Some at → result ≡ Err (Stopped at)) → (old.state.stopped ≡ None → old.state.count ≡ max_place → (result ≡ Ok tt) × (new ≡ old)) → GivenUp result
-  given_up (Ok done) stood still refused held free why memory numbers stopped last =
+  given_up (Ok done) stood still refused held free retired why memory numbers stopped last =
       let holds = held (known.held (not_stopped old.state.stopped (λ at e. ok_or_err done (Stopped at) (stopped at e)))) in (
         s,
         known_held config opened h new stood s holds,
@@ -176,11 +186,12 @@ module _ (Tells : Type 0) (told : Tells) (config : Fields) (opened : Opened) (h 
           last = λ runs full. let is = last runs full in (is.0, same_untouched is.1, ap (λ (view : View). view.flight) is.1);
           stored = λ done e. refl;
           untouched = tt;
+          retired = retired;
           begun = refl;
           port = record { fetches = refl; port_faults = refl };
         },
       )
-  given_up (Err why) stood still refused held free reason memory numbers stopped last =
+  given_up (Err why) stood still refused held free retired reason memory numbers stopped last =
       let no_memory : why ≡ NoMemory → ⊥ = λ e. memory (λ i. Err (e i)) in
       let enough : (last : ℕ) → why ≡ Exhausted last → ⊥ = λ last e. numbers last (λ i. Err (e i)) in
       let is = refused_known Tells config opened h old new s known Work why stood still (λ (t : Stored). t ≡ s) refl
@@ -197,6 +208,7 @@ module _ (Tells : Type 0) (told : Tells) (config : Fields) (opened : Opened) (h 
           last = λ runs full. absurd (ok_or_err tt why (sym (last runs full).0));
           stored = λ done e. absurd (ok_or_err done why (sym e));
           untouched = work_untouched Tells told config opened h old new s known why refused is.0 is.2 fetches fetches faults faults begun begun there gone;
+          retired = retired;
           begun = refl;
           port = record { fetches = refl; port_faults = refl };
         },

@@ -1,5 +1,5 @@
 -- Writing on and installing a job.
-use Rattle.std.proofs.Common.{◌≡◌, ◌≤◌, ◌⊎◌, inl, inr, ℕ, ◌+◌, ◌-◌, true, false, length, Option, Some, None, Result, Ok, Err, Vec, refl, sym, ap, ◌∙◌, subst, arith}
+use Rattle.std.proofs.Common.{◌≡◌, ◌≤◌, ◌⊎◌, inl, inr, ℕ, ◌+◌, ◌-◌, true, false, [], length, Option, Some, None, Result, Ok, Err, Vec, refl, sym, ap, ◌∙◌, subst, arith}
 use Rattle.std.specs.Prelude.{IfSome, IsSome, sum_by}
 use Rattle.std.specs.declared.alloc.Global.{Global}
 use Rattle.lethe_base.specs.History.{History}
@@ -65,9 +65,9 @@ module _ {D Page Port : Type 0} {kind : Ghosts D Page Port} where
     abbrev Cause : View → Stored → Job D Page Port kind → Refused → Type 0
     Cause new t back why = IsJobRefusal PortsFail (IsShortToInstall (going_of number job) (behind new t back)) before (going_of number job) (kind.port_faults back.port) (behind new t back) why
 
-    not_installed : (new : View) (t : Stored) (back : Job D Page Port kind) (why : Refused) → back.task.value ≡ job.task.value → back.refused ≡ true → Cause new t back why → IsWrittenOn old.flight new.flight
+    not_installed : (new : View) (t : Stored) (back : Job D Page Port kind) (why : Refused) → back.task.value ≡ job.task.value → back.refused ≡ true → Cause new t back why → IsWrittenOn old.flight new.flight → new.retired ≡ old.retired
         → (failure_of why ≡ None → t ≡ s) → IsInstall PortsFail (going_of number job) h before (Err why) (refused_to h 0 Work why) (behind new t back)
-    not_installed new t back why task refused cause written kept = record {
+    not_installed new t back why task refused cause written retired kept = record {
       history = refl;
       answers = record {
         spoilt = record { written = back.written; port_faults = kind.port_faults back.port; there = spoilt Tells PortsFail job back task number refused };
@@ -76,6 +76,7 @@ module _ {D Page Port : Type 0} {kind : Ghosts D Page Port} where
         flies = written.flies;
         pages = written.pages;
         flight = written.is;
+        retired = retired;
         stored = kept;
       };
       begun = refl;
@@ -93,7 +94,7 @@ module _ {D Page Port : Type 0} {kind : Ghosts D Page Port} where
     pub rest_refused : (new : View) (t : Stored) (back : Job D Page Port kind) (why : Refused) → back.task.value ≡ job.task.value → back.refused ≡ true
         → IsWritingOn PortsFail old new (kind.port_faults job.port) (kind.port_faults back.port) s t (Err why)
         → IsInstall PortsFail (going_of number job) h before (Err why) (refused_to h 0 Work why) (behind new t back)
-    rest_refused new t back why task refused is = not_installed new t back why task refused (unwritten new t back why is.why) is.flight is.kept
+    rest_refused new t back why task refused is = not_installed new t back why task refused (unwritten new t back why is.why) is.flight is.retired is.kept
 
     -- all pages are written
     module _ (told : Tells) (sound : AreSound (inputs_in (plain_task job.task.value))) (mid : View) (whole : Job D Page Port kind) (task : whole.task.value ≡ job.task.value) (works : IsAtWork Tells mid whole)
@@ -115,11 +116,11 @@ module _ {D Page Port : Type 0} {kind : Ghosts D Page Port} where
 
       -- the engine refused to install it
       pub install_refused : (config : Fields) (opened : Opened) → StandsFor config opened h old → StandsFor config opened h mid → old.faults ≤ mid.faults → (m : Stored) → IsKnown config h mid m → m ≡ s
-          → IsWrittenOn old.flight mid.flight → (new : View) (back : Job D Page Port kind) (why : Refused) → StandsFor config opened (refused_to h 0 Work why) new
+          → IsWrittenOn old.flight mid.flight → mid.retired ≡ old.retired → (new : View) (back : Job D Page Port kind) (why : Refused) → StandsFor config opened (refused_to h 0 Work why) new
           → (IsSome mid.state.stopped → IsStill Tells mid new) → IsUndone Tells mid new why → face_of new ≡ face_of mid → back.task.value ≡ job.task.value → back.refused ≡ true
           → HasReason (engine.IsShortToInstall mid whole) mid.state mid.faults new.faults why → new.state.next ≡ mid.state.next
           → (t : Stored) × IsKnown config (refused_to h 0 Work why) new t × IsInstall PortsFail (going_of number job) h before (Err why) (refused_to h 0 Work why) (behind new t back)
-      install_refused config opened was stands later m known stored written new back why stood still undone face same refused reason drawn =
+      install_refused config opened was stands later m known stored written retired new back why stood still undone face same refused reason drawn =
           let is = work_refused Tells told config opened h mid new m known why undone stood still face in
           let cause : Cause new is.0 back why = inl (
             mid.faults,
@@ -130,14 +131,15 @@ module _ {D Page Port : Type 0} {kind : Ghosts D Page Port} where
                 (stopped_same config h old mid was.now stands.now) (count_same config h old mid was.now stands.now) why reason (λ last e runs short. short_of new is.0 back drawn short),
           ) in
           let flight : new.flight ≡ mid.flight = ap (λ (face : Face). face.flight) face in
-          (is.0, is.1, not_installed new is.0 back why same refused cause (subst (IsWrittenOn old.flight) (sym flight) written) (λ none. is.2 none ∙ stored))
+          let stay : new.retired ≡ old.retired = ap (λ (face : Face). face.retired) face ∙ retired in
+          (is.0, is.1, not_installed new is.0 back why same refused cause (subst (IsWrittenOn old.flight) (sym flight) written) stay (λ none. is.2 none ∙ stored))
 
     -- it was installed
     pub installed_whole : (config : Fields) (opened : Opened) (done : Unit {0}) (mid new : View) → StandsFor config opened h new → (whole : Job D Page Port kind) (m : Stored) (there : Option Going)
         → whole.task.value ≡ job.task.value → IsKnown config h mid m → m ≡ s
-        → ((at : ℕ) → mid.state.stopped ≡ Some at → ⊥) → (Holds mid m → (t : Stored) × IsInstalled m (plain_task whole.task.value) t × Holds new t) → new.flight ≡ None → there ≡ None
+        → ((at : ℕ) → mid.state.stopped ≡ Some at → ⊥) → (Holds mid m → (t : Stored) × IsInstalled m (plain_task whole.task.value) t × Holds new t) → new.flight ≡ None → new.retired ≡ [] → there ≡ None
         → (t : Stored) × IsKnown config h new t × IsInstall PortsFail (going_of number job) h before (Ok done) h (moment_of new t fetches faults begun there)
-    installed_whole config opened done mid new stood whole m there task known same never install free none =
+    installed_whole config opened done mid new stood whole m there task known same never install free left none =
         let made = install (known.held (not_stopped mid.state.stopped never)) in (
           made.0,
           known_held config opened h new stood made.0 made.2,
@@ -145,6 +147,7 @@ module _ {D Page Port : Type 0} {kind : Ghosts D Page Port} where
             history = refl;
             answers = record {
               installed = subst (λ (m : Stored). IsInstalled m (plain_task job.task.value) made.0) same (subst (λ (task : PlainTask). IsInstalled m task made.0) (ap plain_task task) made.1);
+              retired = left;
               flight = free;
               there = none;
             };

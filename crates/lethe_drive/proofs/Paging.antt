@@ -58,6 +58,7 @@ module _ {D Page Port : Type 0} {kind : Ghosts D Page Port} (Tells PortsFail : T
         flight = ap (λ (face : Face). face.flight) face;
         untouched = work_untouched Tells told config opened h old new s known why undone t same fetches fetches faults faults begun begun (Some (going_of number job)) (Some (going_of number mid));
       };
+      retired = ap (λ (face : Face). face.retired) face;
       begun = refl;
       port = record { fetches = refl; port_faults = refl };
     }
@@ -84,8 +85,9 @@ module _ {D Page Port : Type 0} {kind : Ghosts D Page Port} (Tells PortsFail : T
       reason = unread_reason why (unread_cause Tells PortsFail (max_place ≤ old.state.next) (inputs_in (plain_task job.task.value)) (kind.port_faults job.port) (kind.port_faults mid.port)
           old.state old.faults old.faults told sound why is);
       flight = refl;
-      untouched = λ none. record { stored = refl; state = (as_itself Tells old).state; levels = refl; directory = refl };
+      untouched = λ none. record { stored = refl; state = (as_itself Tells old).state; levels = refl; retired = refl; directory = refl };
     };
+    retired = refl;
     begun = refl;
     port = record { fetches = refl; port_faults = refl };
   }
@@ -143,6 +145,7 @@ module _ {D Page Port : Type 0} {kind : Ghosts D Page Port} (Tells PortsFail : T
               there = goes_on Tells PortsFail job after (kept ∙ task) number (job.written + 1) works.asked asked (more ∙ ap (λ n. n + 1) written);
             };
           };
+          retired = ap (λ (face : Face). face.retired) face;
           begun = refl;
           port = record { fetches = refl; port_faults = refl };
         }
@@ -169,6 +172,7 @@ module _ {D Page Port : Type 0} {kind : Ghosts D Page Port} (Tells PortsFail : T
             calls = refl;
             goes_on = record { port_faults = kind.port_faults mid.port; there = goes_on Tells PortsFail job mid task number job.written works.asked asked written };
           };
+          retired = refl;
           begun = refl;
           port = record { fetches = refl; port_faults = refl };
         }

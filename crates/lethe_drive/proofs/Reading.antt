@@ -16,7 +16,7 @@ use Rattle.lethe_drive.specs.Moments.{Going, IsAllButPort, moment_of}
 
 module _ {T : Type 0} (PortsFail : Type 0) (read : Read) (told : T → Answer) (h : History) (view : View) (s : Stored) (fetches_before fetches_now faults_before faults_now begun : ℕ) (there : Option Going) where
   same : IsAllButPort (moment_of view s fetches_before faults_before begun there) (moment_of view s fetches_now faults_now begun there)
-  same = record { stored = refl; state = refl; levels = refl; flight = refl; directory = refl; calls = refl; faults = refl; begun = refl; there = refl }
+  same = record { stored = refl; state = refl; levels = refl; retired = refl; flight = refl; directory = refl; calls = refl; faults = refl; begun = refl; there = refl }
 
   read_refused : (why : Refused) → IsReadRefusal why → ((before after : ℕ) → why ≡ ReadFault before after → (before ≡ faults_before) × (after ≡ faults_now) × Rose before after)
       → ((before after : ℕ) → why ≡ ReadFault before after → PortsFail) → ((name : Name) → why ≡ Damaged name → ⊥) → (why ≡ NoMemory) ⊎ IsUnreadable (Unit {0}) PortsFail faults_before faults_now why

@@ -56,14 +56,15 @@ one_more PortsFail going h first old true g new is so_far =
     some_more first old.flight new.flight so_far wrote.flying wrote.flies ((page_name old.state.next, wrote.bytes) ∷ []) wrote.flight
 one_more PortsFail going h first old false g new is so_far = no_more first old.flight new.flight so_far is.answers.flight
 
--- the history for which a store stands and what it is known to have stored are as they were, and the job in flight has more pages
+-- the history for which a store stands, what it is known to have stored and the retired pages are as they were, and the job in flight has more pages
 abbrev pub Rests : Type 0 → View → View → Type 0
 Rests Tells old new =
     Tells → (config : Fields) (opened : Opened) (h : History) → StandsFor config opened h old → (s : Stored) → IsKnown config h old s → StandsFor config opened h new × IsKnown config h new s × IsWrittenOn old.flight new.flight
+    × (new.retired ≡ old.retired)
 
 -- nothing was written yet
 pub rests_first : {D Page Port : Type 0} {kind : Ghosts D Page Port} (Tells : Type 0) (old : View) (job : Job D Page Port kind) → IsAtWork Tells old job → Rests Tells old old
-rests_first Tells old job works = λ told config opened h stands s known. (stands, known, none_more old.flight works.flies.flying works.flies.is)
+rests_first Tells old job works = λ told config opened h stands s known. (stands, known, none_more old.flight works.flies.flying works.flies.is, refl)
 
 same_stored : (PortsFail : Type 0) (going : Going) (h : History) (old : Moment) (wrote : Bool) (g : History) (new : Moment) → IsWriteOut PortsFail going h old (Ok wrote) g new → new.stored ≡ old.stored
 same_stored PortsFail going h old true g new is = is.answers.stored
@@ -135,13 +136,14 @@ module _ {D Page Port : Type 0} {kind : Ghosts D Page Port} (Tells PortsFail : T
         turned.2,
         subst (IsKnown config h new) (same_stored PortsFail (going_of 0 job) h before wrote h now turned.3) turned.1,
         one_more PortsFail (going_of 0 job) h old.flight before wrote h now turned.3 so_far.2,
+        turned.3.retired ∙ so_far.3,
       )
 
   -- the last one was acknowledged
   pub all_written : (first : ℕ) → Rests Tells old new → Comes first (Ok tt)
   all_written first rests = λ told config opened h stands s known.
       let in_the_end = rests told config opened h stands s known in
-      (s, in_the_end.1, in_the_end.0, record { done = refl; why = tt; kept = tt; flight = in_the_end.2 })
+      (s, in_the_end.1, in_the_end.0, record { done = refl; why = tt; kept = tt; flight = in_the_end.2; retired = in_the_end.3 })
 
   -- once its drafts are made a job reads no more
   no_more_read : (first : Job D Page Port kind) (why : Refused) → (job.port ≡ first.port) ⊎ IsSome job.drafts → (IsSome job.drafts → (b n : ℕ) → ◌≡◌ {A = Result Bool Refused} (Err why) (Err (ReadFault b n)) → ⊥)
@@ -169,5 +171,6 @@ module _ {D Page Port : Type 0} {kind : Ghosts D Page Port} (Tells PortsFail : T
               (stopped_same config h old mid stands.now so_far.0.now) (count_same config h old mid stands.now so_far.0.now) refused.reason);
           kept = λ none. (refused.untouched none).stored;
           flight = no_more old.flight mid.flight new.flight so_far.2 refused.flight;
+          retired = turned.3.retired ∙ so_far.3;
         },
       )

@@ -24,7 +24,7 @@ use Rattle.lethe_state.specs.Records.{headers_in}
 use Rattle.lethe_job.specs.Tasks.{PlainTask, IsBegunIn, inputs_in}
 use Rattle.lethe_core.specs.Asked.{Serves, behind, failure_of, refused_to}
 use Rattle.lethe_core.specs.Jobs.{with_page}
-use Rattle.lethe_core.specs.Merges.{HasNoMerge, IsInstalled, IsRoomBegun, IsRoomMadeBy, Outcome, pages_of}
+use Rattle.lethe_core.specs.Merges.{HasNoMerge, IsInstalled, IsRoomBegun, IsRoomMadeBy, Outcome, pages_of, retired_behind}
 use Rattle.lethe_core.specs.Reasons.{HasReason, IsShort, IsUnreadable}
 use Rattle.lethe_core.specs.View.{Flying}
 use Rattle.lethe_engine.specs.Refusals.{SeesRoom}
@@ -58,6 +58,7 @@ pub record IsChanged (call : Call) (IsNext : Stored → List Header → Record �
   pub next : Record
   pub next_is : IsNext cleared (headers_in new.levels) next
   pub stored : new.stored ≡ appended cleared next
+  pub retired : new.retired ≡ retired_behind outcomes old.retired
   pub fetches : new.fetches ≡ old.fetches + pages_of outcomes
 
 -- there was no room for a record
@@ -108,6 +109,7 @@ pub record IsWork (Nothing : Moment → Type 0) (Does : Stored → Stored → Ty
   pub stops : StopsIn old result
   pub last : old.state.stopped ≡ None → (Nothing old → ⊥) → old.state.count ≡ max_place → result ≡ Err (Exhausted max_place)
   pub jobs : AreJobsSame old new
+  pub retired : new.retired ≡ old.retired
   pub port : IsPortSame old new
 
 -- Jobs
@@ -148,6 +150,7 @@ pub record IsBegin (h : History) (old : Moment) (result : Result ℕ Refused) (g
   pub stored : new.stored ≡ old.stored
   pub state : new.state ≡ old.state
   pub levels : new.levels ≡ old.levels
+  pub retired : new.retired ≡ old.retired
   pub directory : new.directory ≡ old.directory
   pub calls : new.calls ≡ old.calls
   pub port : IsPortSame old new
@@ -211,6 +214,7 @@ WriteAnswers PortsFail old going (Err why) new = IsUnwritten PortsFail old going
 pub record IsWriteOut (PortsFail : Type 0) (going : Going) (h : History) (old : Moment) (result : Result Bool Refused) (g : History) (new : Moment) : Type 0 where
   pub history : g ≡ behind h 0 (Serves call.Work) (result_err result)
   pub answers : WriteAnswers PortsFail old going result new
+  pub retired : new.retired ≡ old.retired
   pub begun : new.begun ≡ old.begun
   pub port : IsPortSame old new
 
@@ -221,6 +225,7 @@ IsShortToInstall going new = (max_place ≤ new.state.next) ⊎ ((drafts : List 
 -- what is stored is the outcome of its task, and it has ended
 pub record HasInstalled (old : Moment) (going : Going) (new : Moment) : Type 0 where
   pub installed : IsInstalled old.stored going.task new.stored
+  pub retired : new.retired ≡ []
   pub flight : new.flight ≡ None
   pub there : new.there ≡ None
 
@@ -232,6 +237,7 @@ pub record IsUninstalled (PortsFail : Type 0) (old : Moment) (going : Going) (wh
   pub flies : old.flight ≡ Some flying
   pub pages : List (Name × List ℕ)
   pub flight : new.flight ≡ Some (record flying { written = flying.written ++ pages })
+  pub retired : new.retired ≡ old.retired
   pub stored : failure_of why ≡ None → new.stored ≡ old.stored
 
 abbrev pub InstallAnswers : Type 0 → Moment → Going → Result (Unit {0}) Refused → Moment → Type 0
@@ -268,5 +274,6 @@ pub record IsCancel (h : History) (old : Moment) (result : Result (Unit {0}) Ref
   pub last : old.state.stopped ≡ None → old.state.count ≡ max_place → (result ≡ Ok tt) × IsUntouched old new × (new.flight ≡ old.flight)
   pub stored : (done : Unit {0}) → result ≡ Ok done → new.stored ≡ old.stored
   pub untouched : IfErr result (λ why. failure_of why ≡ None → IsUntouched old new)
+  pub retired : new.retired ≡ old.retired
   pub begun : new.begun ≡ old.begun
   pub port : IsPortSame old new

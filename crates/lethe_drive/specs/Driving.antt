@@ -61,3 +61,4 @@ pub record IsWritingOn (PortsFail : Type 0) (old new : View) (before now : ℕ) 
       ⊎ IsUnreadable (Unit {0}) PortsFail before now why)
   pub kept : IfErr result (λ why. failure_of why ≡ None → t ≡ s)
   pub flight : IsWrittenOn old.flight new.flight
+  pub retired : new.retired ≡ old.retired

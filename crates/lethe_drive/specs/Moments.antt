@@ -3,6 +3,7 @@ use Rattle.std.specs.Prelude.{◌≡◌, ◌≤◌, ℕ, Bool, false, List, [], 
 use Rattle.lethe_base.specs.History.{AreDone, Change, History, IsLegal}
 use Rattle.lethe_base.specs.declared.call.Did.TheVariants.{Failed}
 use Rattle.lethe_base.specs.declared.config.Fields.{Fields}
+use Rattle.lethe_base.specs.declared.name.Name.{Name}
 use Rattle.lethe_disk.specs.Directory.{Directory}
 use Rattle.lethe_disk.specs.declared.disk.Disk.{Ghosts}
 use Rattle.lethe_stored.specs.Encodes.{Encodes}
@@ -17,7 +18,7 @@ use Rattle.lethe_state.specs.declared.state.State.{State}
 use Rattle.lethe_job.specs.Tasks.{PlainTask, plain_task}
 use Rattle.lethe_job.specs.declared.job.Job.{Job}
 use Rattle.lethe_core.specs.Running.{Holds, IsTasked}
-use Rattle.lethe_core.specs.View.{Flying, View, loose_in}
+use Rattle.lethe_core.specs.View.{Flying, View, beside_at}
 use Rattle.lethe_drive.specs.declared.jobs.Jobs.{Jobs}
 
 -- a job that was begun and hasn't ended: its number, whether one of its calls was refused, its task, how many of its pages are written, and its port's count of
@@ -29,11 +30,13 @@ pub record Going : Type 0 where
   pub written : ℕ
   pub port_faults : ℕ
 
--- The store with what is stored, its disk's directory, the device calls that the disk has taken and its count of faults; the port's counts; and the jobs of the run.
+-- The store with what is stored and the pages that are retired, its disk's directory, the device calls that the disk has taken and its count of faults; the port's counts; and
+-- the jobs of the run.
 pub record Moment : Type 0 where
   pub stored : Stored
   pub state : State
   pub levels : List (List Parts)
+  pub retired : List Name
   pub flight : Option Flying
   pub directory : Directory
   pub calls : ℕ
@@ -64,7 +67,7 @@ pub record IsGoing (flight : Option Flying) (going : Going) : Type 0 where
   pub pages : going.refused ≡ false → length flying.written ≡ going.written
 
 -- A store of the configuration whose calls make the history. What is stored stands for that without what failed, and the store remembers it. Unless something has failed the
--- directory has what is stored and the pages of the job in flight, and nothing else, and the job merges files that are stored.
+-- directory has what is stored, the retired pages and those of the job in flight, and nothing else, and the job merges files that are stored.
 pub record IsMomentOf (config : Fields) (h : History) (m : Moment) : Type 0 where
   pub legal : IsLegal h
   pub count : m.state.count ≡ length h
@@ -74,7 +77,7 @@ pub record IsMomentOf (config : Fields) (h : History) (m : Moment) : Type 0 wher
   pub remembers : Remembers m.stored m.state m.levels
   pub current : m.state.stopped ≡ None → IsCurrent m.stored m.state
   pub encodes : m.state.stopped ≡ None → Encodes m.directory m.stored
-  pub only : m.state.stopped ≡ None → HasOnly m.stored (loose_in m.flight) m.directory
+  pub only : m.state.stopped ≡ None → HasOnly m.stored (beside_at m.directory m.retired m.flight) m.directory
   pub tasked : m.state.stopped ≡ None → IfSome m.flight (IsTasked m.stored)
   pub going : IfSome m.there (IsGoing m.flight)
 
@@ -96,6 +99,7 @@ moment_of view stored fetches port_faults begun there = record {
   stored = stored;
   state = view.state;
   levels = view.levels;
+  retired = view.retired;
   flight = view.flight;
   directory = view.disk.directory;
   calls = view.disk.moment;
@@ -111,6 +115,7 @@ pub record IsAllButPort (old new : Moment) : Type 0 where
   pub stored : new.stored ≡ old.stored
   pub state : new.state ≡ old.state
   pub levels : new.levels ≡ old.levels
+  pub retired : new.retired ≡ old.retired
   pub flight : new.flight ≡ old.flight
   pub directory : new.directory ≡ old.directory
   pub calls : new.calls ≡ old.calls
@@ -123,6 +128,7 @@ pub record IsUntouched (old new : Moment) : Type 0 where
   pub stored : new.stored ≡ old.stored
   pub state : IsLike old.state new.state
   pub levels : new.levels ≡ old.levels
+  pub retired : new.retired ≡ old.retired
   pub directory : new.directory ≡ old.directory
 
 -- counts of faults never fall

@@ -1,5 +1,5 @@
 -- A job at work, where one page more is written, where it is installed and where it is given up.
-use Rattle.std.proofs.Common.{◌≡◌, ◌<◌, ℕ, ◌+◌, ◌^◌, List, [], ◌∷◌, ◌++◌, length, get_or, take, Option, Some, None, Vec, Result, Ok, Err, refl, sym, ap, ◌∙◌, subst, length-append, drop-cons, arith}
+use Rattle.std.proofs.Common.{◌≡◌, ◌<◌, ℕ, ◌+◌, ◌^◌, List, [], ◌∷◌, ◌++◌, length, get_or, take, Option, Some, None, Vec, Result, Ok, Err, refl, sym, ap, ◌∙◌, subst, append-nil, length-append, drop-cons, arith}
 use Rattle.std.specs.Prelude.{IfSome, IsSome, OnOk, option_map}
 use Rattle.std.specs.Option.{option_map_or}
 use Rattle.std.specs.List.{zip}
@@ -13,7 +13,7 @@ use Rattle.lethe_base.specs.declared.refused.Refused.{Refused}
 use Rattle.lethe_build.specs.declared.draft.Draft.{Draft}
 use Rattle.lethe_disk.specs.declared.disk.Disk.{Ghosts}
 use Rattle.lethe_stored.specs.Stored.{Stored}
-use Rattle.lethe_advance.specs.Settled.{names_in}
+use Rattle.lethe_advance.specs.Settled.{AreDrawn, names_in}
 use Rattle.lethe_flush.specs.Made.{pages_in, written_pages}
 use Rattle.lethe_flush.proofs.Adding.{pages_few}
 use Rattle.lethe_flush.proofs.Zips.{zip_cut, zip_joined}
@@ -25,7 +25,8 @@ use Rattle.lethe_core.specs.Jobs.{IsAtWork, with_page}
 use Rattle.lethe_core.specs.Merges.{IsInstalled}
 use Rattle.lethe_core.specs.Running.{Holds, IsSound}
 use Rattle.lethe_core.specs.StandsNow.{IsOpenOrStopped, StandsNow}
-use Rattle.lethe_core.specs.View.{Face, Flying, View, face_of}
+use Rattle.lethe_core.specs.View.{Face, Flying, View, face_of, loose_in}
+use Rattle.lethe_core.proofs.Beside.{drawn_front}
 use Rattle.lethe_engine.specs.Jobs.{IsNextPage, next_bytes, written_face}
 
 -- the value, where there is one
@@ -134,5 +135,6 @@ module _ (view : View) (place : ℕ) (stopped : view.state.stopped ≡ Some plac
     small = sound.small;
     count = sound.count;
     flies = tt;
+    drawn = subst (AreDrawn view.state.next) (sym (append-nil view.retired)) (drawn_front view.state.next view.retired (names_in (loose_in view.flight)) sound.drawn);
     held = λ told. let held = sound.held told in (held.0, held.1, λ runs. absurd (let clash : Some place ≡ None = sym stopped ∙ runs in cc));
   }

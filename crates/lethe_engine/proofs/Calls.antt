@@ -109,9 +109,9 @@ itself_answers Tells asked why view sound none = record {
     undone (Serves call) (Some why) = λ not. as_itself Tells view
 
 -- work or a look that left the disk as it was
-pub idle_answers : (Tells : Type 0) (why : Option Refused) (old new : View) → IsSound Tells new → new.state ≡ old.state → new.levels ≡ old.levels → new.faults ≡ old.faults → (Tells → IsIdle old.disk new.disk)
+pub idle_answers : (Tells : Type 0) (why : Option Refused) (old new : View) → IsSound Tells new → new.state ≡ old.state → new.levels ≡ old.levels → new.retired ≡ old.retired → new.faults ≡ old.faults → (Tells → IsIdle old.disk new.disk)
     → (Tells → (config : Fields) (h : History) → StandsNow config h old → StandsNow config h new) → IsNoChange (Serves Work) why → Answers Tells (Serves Work) why (face_of new) old new
-idle_answers Tells why old new sound state levels faults idle now none = record {
+idle_answers Tells why old new sound state levels retired faults idle now none = record {
   sound = sound;
   count = ap (λ (state : State). state.count) state ∙ sym (none.count old.state.count);
   stopped = ap (λ (state : State). state.stopped) state ∙ sym (none.stopped old.state.stopped);
@@ -135,7 +135,7 @@ idle_answers Tells why old new sound state levels faults idle now none = record 
 
     undone : (why : Option Refused) → IfSome why (IsRefused Tells (Serves Work) old new)
     undone None = tt
-    undone (Some why) = λ not. record { state = like_of old.state new.state state; levels = levels; disk = λ told. idle_back old.disk new.disk (idle told) }
+    undone (Some why) = λ not. record { state = like_of old.state new.state state; levels = levels; retired = retired; disk = λ told. idle_back old.disk new.disk (idle told) }
 
 -- Where something was done
 

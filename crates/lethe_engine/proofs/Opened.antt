@@ -1,8 +1,10 @@
 -- A store that was opened.
-use Rattle.std.proofs.Common.{◌≡◌, ◌≤◌, ◌+◌, ◌⊎◌, inl, inr, ℕ, List, [], length, Option, None, refl, sym, ap, ◌∙◌, subst, arith}
+use Rattle.std.proofs.Common.{◌≡◌, ◌≤◌, ◌+◌, ◌⊎◌, inl, inr, ℕ, ◌<◌, List, [], ◌++◌, length, Option, None, refl, sym, ap, ◌∙◌, subst, arith}
+use Rattle.std.specs.Prelude.{◌≢◌}
 use Rattle.std.proofs.lemmas.List.Elements.{All-nil}
 use Rattle.lethe_base.specs.History.{History, Change}
 use Rattle.lethe_base.specs.declared.config.Fields.{Fields}
+use Rattle.lethe_base.specs.declared.name.Kind.TheVariants.{Page}
 use Rattle.lethe_base.specs.declared.name.Name.{Name}
 use Rattle.lethe_disk.specs.Disk.{Seen}
 use Rattle.lethe_disk.specs.Quiet.{IsQuiet}
@@ -19,7 +21,8 @@ use Rattle.lethe_stored.specs.Left.{IsHistoryOr}
 use Rattle.lethe_stored.specs.Levels.{AreRising}
 use Rattle.lethe_stored.specs.Numbers.{IsNextNumber}
 use Rattle.lethe_stored.specs.Stored.{Stored, IsCited, segment_name}
-use Rattle.lethe_advance.specs.Settled.{IsSettled, HasOnly}
+use Rattle.lethe_tile.proofs.Orders.{pairs_nil}
+use Rattle.lethe_advance.specs.Settled.{AreDrawn, AreUncited, IsSettled, HasOnly, names_in}
 use Rattle.lethe_manifest.specs.declared.manifest.Manifest.{Manifest}
 use Rattle.lethe_state.specs.Remembered.{IsCurrent, IsFresh, Remembers}
 use Rattle.lethe_state.specs.Room.{frozen_len}
@@ -27,31 +30,33 @@ use Rattle.lethe_state.specs.Writable.{IsWritable}
 use Rattle.lethe_state.specs.declared.state.State.{State}
 use Rattle.lethe_engine.specs.Opening.{IsResumed, IsUntold}
 use Rattle.lethe_core.specs.Running.{IsRunning, IsSmall}
-use Rattle.lethe_core.specs.View.{View}
+use Rattle.lethe_core.specs.View.{View, beside_at, loose_in}
 use Rattle.lethe_engine.proofs.Onward.{opened_for}
 use Rattle.lethe_core.proofs.Standing.{open_stands}
 
 -- no job is in flight
-abbrev pub fresh_view : Seen → ℕ → ℕ → State → List (List Parts) → View
-fresh_view disk faults begun state levels = record { disk = disk; faults = faults; state = state; levels = levels; flight = None; begun = begun }
+abbrev pub fresh_view : Seen → ℕ → List Name → ℕ → State → List (List Parts) → View
+fresh_view disk faults retired begun state levels = record { disk = disk; faults = faults; state = state; levels = levels; retired = retired; flight = None; begun = begun }
 
-pub opened_running : (disk : Seen) (faults begun : ℕ) (s : Stored) (state : State) (levels : List (List Parts)) → IsSettled disk s → HasOnly s [] disk.directory → AreRising s.files → s.active.records ≡ []
-    → EndsAt disk (segment_name s.active.no) s.active.no [] 11 → state.end ≡ 11 → IsCurrent s state → IsRunning (fresh_view disk faults begun state levels) s
-opened_running disk faults begun s state levels settled only rising none ends end_is current = record {
+pub opened_running : (disk : Seen) (faults : ℕ) (retired : List Name) → retired ≡ [] → (begun : ℕ) (s : Stored) (state : State) (levels : List (List Parts))
+    → IsSettled disk s → HasOnly s [] disk.directory → AreRising s.files → s.active.records ≡ []
+    → EndsAt disk (segment_name s.active.no) s.active.no [] 11 → state.end ≡ 11 → IsCurrent s state → IsRunning (fresh_view disk faults retired begun state levels) s
+opened_running disk faults retired empty begun s state levels settled only rising none ends end_is current = record {
   settled = settled;
-  only = only;
-  uncited = All-nil (λ (named : Name × List ℕ). IsCited s named.0 → ⊥);
+  only = subst (λ retired. HasOnly s (beside_at disk.directory retired None) disk.directory) (sym empty) only;
+  uncited = subst (λ retired. AreUncited s (beside_at disk.directory retired None)) (sym empty) (All-nil (λ (named : Name × List ℕ). IsCited s named.0 → ⊥));
   rising = rising;
   ends = subst (EndsAt disk (segment_name s.active.no) s.active.no s.active.records) (sym end_is) (subst (λ records. EndsAt disk (segment_name s.active.no) s.active.no records 11) (sym none) ends);
   current = current;
   tasked = tt;
 }
 
-pub resumed : (config : Fields) (h g : History) (change : Option Change) (start finish : Seen) (faults begun : ℕ) (s : Stored) (state : State) (levels : List (List Parts)) → IsHistoryOr h change g → IsKept config start.directory g → IsWritable state
-    → IsRunning (fresh_view finish faults begun state levels) s → Remembers s state levels → s.manifest.config ≡ config → IsFor g s
-    → ((next : ℕ) → IsNextNumber start.directory next → state.next + start.moment ≤ next + finish.moment) → IsResumed config h change start (fresh_view finish faults begun state levels)
-resumed config h g change start finish faults begun s state levels either was writable running remembers config_is stands numbers =
-    let view : View = fresh_view finish faults begun state levels in
+pub resumed : (config : Fields) (h g : History) (change : Option Change) (start finish : Seen) (faults : ℕ) (retired : List Name) (begun : ℕ) (s : Stored) (state : State) (levels : List (List Parts))
+    → IsHistoryOr h change g → IsKept config start.directory g → IsWritable state
+    → IsRunning (fresh_view finish faults retired begun state levels) s → Remembers s state levels → s.manifest.config ≡ config → IsFor g s
+    → ((next : ℕ) → IsNextNumber start.directory next → state.next + start.moment ≤ next + finish.moment) → IsResumed config h change start (fresh_view finish faults retired begun state levels)
+resumed config h g change start finish faults retired begun s state levels either was writable running remembers config_is stands numbers =
+    let view : View = fresh_view finish faults retired begun state levels in
     record {
       history = g;
       either = either;
@@ -76,3 +81,8 @@ small_fresh manifest state is = record {
   records = let none = is.records in omega (arith, none);
   frozen = let none : frozen_len state.frozen ≡ 0 = ap frozen_len is.frozen in omega (arith, none);
 }
+
+-- no number was drawn for what lies beside, where nothing does
+pub drawn_none : (next : ℕ) (retired : List Name) → retired ≡ [] → AreDrawn next (retired ++ names_in (loose_in None))
+drawn_none next retired empty =
+    subst (λ retired. AreDrawn next (retired ++ names_in (loose_in None))) (sym empty) (record { each = All-nil (λ (name : Name). (name.kind ≡ Page) × (name.no < next)); once = pairs_nil (λ (a b : Name). a ≢ b) })

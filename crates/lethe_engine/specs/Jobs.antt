@@ -40,9 +40,9 @@ abbrev pub written_face : Face → Name × List ℕ → Result (Unit {0}) Refuse
 written_face face page (Ok done) = record face { flight = option_map (λ flying. with_page flying page) face.flight }
 written_face face page (Err why) = face
 
--- it is in flight no more
+-- it is in flight no more, and no page is retired while nothing needs any
 abbrev pub ended_face : {E : Type 0} → Face → Result (Unit {0}) E → Face
-ended_face face (Ok done) = record face { flight = None }
+ended_face face (Ok done) = record face { flight = None; retired = [] }
 ended_face face (Err why) = face
 
 -- given up it is in flight no more, whether or not the disk failed, but where no place is left for that and no call has failed

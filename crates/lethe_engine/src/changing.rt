@@ -10,7 +10,7 @@ ghost use Rattle.lethe_state.specs.Records.{headers_in};
 ghost use Rattle.lethe_state.specs.Room.{HasRoom};
 ghost use Rattle.lethe_core.specs.Asked.{Makes};
 ghost use Rattle.lethe_core.specs.Changes.{put_over, with_record};
-ghost use Rattle.lethe_core.specs.Merges.{IsRoomMadeBy, Outcome, pages_of};
+ghost use Rattle.lethe_core.specs.Merges.{IsRoomMadeBy, Outcome, pages_of, retired_behind};
 ghost use Rattle.lethe_core.specs.Running.{Holds, IsSound};
 ghost use Rattle.lethe_core.specs.View.{face_of, view_of};
 ghost use Rattle.lethe_engine.specs.Answers.{Answers};
@@ -41,7 +41,7 @@ impl<D: Disk> Engine<D> {
     ) -> Result<u64, Refused>
         // Opening gives this, and each call leaves it so.
         requires { IsSound D.tells (view_of self.old.core) }
-        ensures answers { Answers D.tells (Makes (call.Put key dkey value)) (result_err result) (face_of (view_of self.old.core)) (view_of self.old.core) (view_of self.new.core) }
+        ensures answers { Answers D.tells (Makes (call.Put key dkey value)) (result_err result) (record (face_of (view_of self.old.core)) { retired = (view_of self.new.core).retired }) (view_of self.old.core) (view_of self.new.core) }
         ensures place { IfOk result (λ place. place ≡ self.old.core.state.count + 1) }
 
         // A refusal has its reason, and a store that is stopped or whose places are used up is as it was.
@@ -52,7 +52,8 @@ impl<D: Disk> Engine<D> {
         // Acknowledged: room was made, the port has fetched each page of the merges' inputs once, and the record is behind the others in the active segment.
         ensures written { D.tells → (s : Stored) → Holds (view_of self.old.core) s
             → OnOk result ((t : Stored) × (outcomes : List Outcome) × IsRoomMadeBy (view_of self.old.core).flight s outcomes t
-            × Holds (view_of self.new.core) (appended t (put_over t key dkey value)) × (D.fetches port.new ≡ D.fetches port.old + pages_of outcomes)) }
+            × Holds (view_of self.new.core) (appended t (put_over t key dkey value)) × (D.fetches port.new ≡ D.fetches port.old + pages_of outcomes)
+            × ((view_of self.new.core).retired ≡ retired_behind outcomes (view_of self.old.core).retired)) }
 
         // Where there was room, the active segment is the one object that changes, and nothing is fetched.
         ensures room { D.tells → (s : Stored) → Holds (view_of self.old.core) s → HasRoom s
@@ -77,7 +78,7 @@ impl<D: Disk> Engine<D> {
     pub fn delete(&mut self, alloc: Global, port: &mut D::Port, key: Key) -> Result<u64, Refused>
         // Opening gives this, and each call leaves it so.
         requires { IsSound D.tells (view_of self.old.core) }
-        ensures answers { Answers D.tells (Makes (call.Delete key)) (result_err result) (face_of (view_of self.old.core)) (view_of self.old.core) (view_of self.new.core) }
+        ensures answers { Answers D.tells (Makes (call.Delete key)) (result_err result) (record (face_of (view_of self.old.core)) { retired = (view_of self.new.core).retired }) (view_of self.old.core) (view_of self.new.core) }
         ensures place { IfOk result (λ place. place ≡ self.old.core.state.count + 1) }
 
         // A refusal has its reason, and a store that is stopped or whose places are used up is as it was.
@@ -89,7 +90,8 @@ impl<D: Disk> Engine<D> {
         ensures written { D.tells → (s : Stored) → Holds (view_of self.old.core) s
             → OnOk result ((t : Stored) × (outcomes : List Outcome) × (next : Record) × IsRoomMadeBy (view_of self.old.core).flight s outcomes t
             × IsDeleteOver t (headers_in (view_of self.new.core).levels) key next
-            × Holds (view_of self.new.core) (appended t next) × (D.fetches port.new ≡ D.fetches port.old + pages_of outcomes)) }
+            × Holds (view_of self.new.core) (appended t next) × (D.fetches port.new ≡ D.fetches port.old + pages_of outcomes)
+            × ((view_of self.new.core).retired ≡ retired_behind outcomes (view_of self.old.core).retired)) }
 
         // Where there was room, the active segment is the one object that changes, and nothing is fetched.
         ensures room { D.tells → (s : Stored) → Holds (view_of self.old.core) s → HasRoom s

@@ -92,6 +92,7 @@ impl<D: Disk> Engine<D> {
                         disk,
                         state,
                         version,
+                        retired: Vec::new(alloc),
                         flight: None,
                         begun: BegunJobs::none(),
                     },

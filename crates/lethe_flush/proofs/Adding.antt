@@ -10,6 +10,7 @@ use Rattle.std.proofs.lemmas.List.Sorted.{IsPermutation-append_comm, IsPermutati
 use Rattle.std.proofs.lemmas.List.Sums.{sum_by-cons}
 use Rattle.std.proofs.lemmas.Slice.Zip.{all_zipped_more, length-zip}
 use Rattle.lethe_advance.specs.Settled.{AreDrawn}
+use Rattle.lethe_advance.specs.Steps.{new_header}
 use Rattle.lethe_base.specs.Limits.{max_place}
 use Rattle.lethe_base.specs.declared.name.Kind.TheVariants.{Page}
 use Rattle.lethe_base.specs.declared.name.Name.{Name}
@@ -50,7 +51,7 @@ pub record AreAdded (drafts : List Draft) (level upto : ℕ) (written : List Nam
   pub level_is : All (λ file. file.level ≡ level) files
   pub swept : All (λ file. file.swept ≡ upto) files
   pub spelled : All (λ file. headers.HasSpelling file.header) files
-  pub headers_are : made.headers.items ≡ map (λ file. file.header) files
+  pub headers_are : made.headers.items ≡ map new_header files
   pub cited : made.cited.items ≡ map cited_of files
   pub objects : IsPermutation (objects_of files) (zip written (pages_in drafts) ++ map named_of made.objects.items)
   pub from : first ≤ made.next
@@ -270,7 +271,7 @@ module _ (drafts : List Draft) (draft : Draft) (is : IsDraft draft) (level upto 
       level_is = All-push (λ (file : StoredFile). file.level ≡ level) files next are.level_is refl;
       swept = All-push (λ (file : StoredFile). file.swept ≡ upto) files next are.swept refl;
       spelled = All-push (λ (file : StoredFile). headers.HasSpelling file.header) files next are.spelled added.spelled;
-      headers_are = added.headers_are ∙ ap (λ hs. hs ++ next.header ∷ []) are.headers_are ∙ sym (map-append (λ (file : StoredFile). file.header) files (next ∷ []));
+      headers_are = added.headers_are ∙ ap (λ hs. hs ++ new_header next ∷ []) are.headers_are ∙ sym (map-append new_header files (next ∷ []));
       cited = added.cited ∙ ap (λ cs. cs ++ cited_of next ∷ []) are.cited ∙ sym (map-append cited_of files (next ∷ []));
       objects = subst (λ objects. IsPermutation objects (zip written (pages_in (drafts ++ draft ∷ [])) ++ map named_of new.objects.items)) (sym objects_then)
           (subst (λ both. IsPermutation (objects_of files ++ (file_name next.header.no, header_bytes next.header) ∷ (zip rest draft.pages ++ pages_by old.next draft rest)) both) (sym (λ i. zipped i ++ added.objects i))

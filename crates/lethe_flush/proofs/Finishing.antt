@@ -11,6 +11,8 @@ use Rattle.lethe_base.specs.declared.entry.Entry.{Entry}
 use Rattle.lethe_base.specs.declared.name.Name.{Name}
 use Rattle.lethe_base.specs.declared.pending.Pending.{Pending}
 use Rattle.lethe_base.proofs.LayoutLaws.{none_in}
+use Rattle.lethe_advance.specs.Steps.{new_header}
+use Rattle.lethe_advance.specs.declared.new_header.NewHeader.{NewHeader}
 use Rattle.lethe_build.specs.Drafts.{AreDraftsOf, header_of, with_numbers}
 use Rattle.lethe_build.specs.declared.draft.Draft.{Draft}
 use Rattle.lethe_cover.proofs.Common.{⊎_elim}
@@ -30,7 +32,7 @@ use Rattle.lethe_stored.specs.Files.{StoredFile, cited_of, lines_in}
 use Rattle.lethe_tile.proofs.Orders.{all_left, all_right}
 use Rattle.lethe_flush.specs.Clear.{IsClearOf, range_of}
 use Rattle.lethe_flush.specs.Flushed.{IsFlushOf}
-use Rattle.lethe_flush.specs.Made.{AreFilesOf, IsOfDraft}
+use Rattle.lethe_flush.specs.Made.{AreFilesOf, IsOfDraft, headers_of}
 use Rattle.lethe_flush.specs.declared.made.MadeFiles.{MadeFiles}
 use Rattle.lethe_flush.proofs.Weaving.{are_woven, files_agree}
 
@@ -40,8 +42,11 @@ all_flat P f (x ∷ xs) all = All-cons (λ x. All P (f x)) x xs (all_left P (f x
 
 -- files of drafts
 module _ (drafts : List Draft) (level upto : ℕ) (written : List Name) (first : ℕ) (made : MadeFiles) (files : List StoredFile) (are : AreFilesOf drafts level upto written first made files) where
-  pub headers_spelled : All headers.HasSpelling made.headers.items
-  headers_spelled = subst (All headers.HasSpelling) (sym are.headers_are) (All-map headers.HasSpelling (λ (file : StoredFile). file.header) files are.spelled)
+  pub headers_spelled : All (λ new. headers.HasSpelling new.header) made.headers.items
+  headers_spelled = subst (All (λ (new : NewHeader). headers.HasSpelling new.header)) (sym are.headers_are) (All-map (λ (new : NewHeader). headers.HasSpelling new.header) new_header files are.spelled)
+
+  pub headers_level : All (λ new. new.level ≡ level) made.headers.items
+  headers_level = subst (All (λ (new : NewHeader). new.level ≡ level)) (sym are.headers_are) (All-map (λ (new : NewHeader). new.level ≡ level) new_header files are.level_is)
 
   pub cited_level : All (λ file. file.level ≡ level) made.cited.items
   cited_level = subst (All (λ (file : Cited). file.level ≡ level)) (sym are.cited) (All-map (λ (file : Cited). file.level ≡ level) cited_of files are.level_is)
@@ -119,9 +124,18 @@ clear_back keys (draft ∷ drafts) (file ∷ files) zipped clear =
     (sym (met_same keys draft file zipped.0) ∙ All-head (IsClearOf keys) file.header (map (λ file. file.header) files) clear)
     (clear_back keys drafts files zipped.1 (All-tail (IsClearOf keys) file.header (map (λ file. file.header) files) clear))
 
+-- the headers of new headers are those of the files
+pub plain_headers : (files : List StoredFile) → map (λ (new : NewHeader). new.header) (map new_header files) ≡ map (λ file. file.header) files
+plain_headers [] = refl
+plain_headers (file ∷ files) = ap (λ headers. file.header ∷ headers) (plain_headers files)
+
+-- the headers of files that are made are those of the files
+pub headers_made : (made : MadeFiles) (files : List StoredFile) → made.headers.items ≡ map new_header files → headers_of made ≡ map (λ file. file.header) files
+headers_made made files are = ap (map (λ (new : NewHeader). new.header)) are ∙ plain_headers files
+
 pub headers_clear : (keys : KeyRange) (drafts : List Draft) (level upto : ℕ) (written : List Name) (first : ℕ) (made : MadeFiles) (files : List StoredFile) → AreFilesOf drafts level upto written first made files
-    → All (λ draft. IsClearOf keys (headed draft)) drafts ↔ All (IsClearOf keys) made.headers.items
+    → All (λ draft. IsClearOf keys (headed draft)) drafts ↔ All (IsClearOf keys) (headers_of made)
 headers_clear keys drafts level upto written first made files are = (
-  (λ clear. subst (All (IsClearOf keys)) (sym are.headers_are) (clear_each keys drafts files are.each clear)),
-  (λ clear. clear_back keys drafts files are.each (subst (All (IsClearOf keys)) are.headers_are clear)),
+  (λ clear. subst (All (IsClearOf keys)) (sym (headers_made made files are.headers_are)) (clear_each keys drafts files are.each clear)),
+  (λ clear. clear_back keys drafts files are.each (subst (All (IsClearOf keys)) (headers_made made files are.headers_are) clear)),
 )

@@ -60,7 +60,7 @@ module _ (draft : Draft) (next : ℕ) (written : List Name) (there : ℕ) (is : 
 
   module _ (level upto : ℕ) (numbers : List ℕ) (number : ℕ) (same : numbers ≡ numbers_by next draft written) (number_is : number ≡ next + (length draft.pages - there)) (file : Built) (of : IsNumbered draft numbers number file)
       (old new : MadeFiles)
-      (heads : new.headers.items ≡ old.headers.items ++ file.header ∷ [])
+      (heads : new.headers.items ≡ old.headers.items ++ record { level = level; header = file.header } ∷ [])
       (cites : new.cited.items ≡ old.cited.items ++ record { level = level; no = file.header.no; swept = upto; digest = file.digest } ∷ [])
       (objects : map named_of new.objects.items ≡ (map named_of old.objects.items ++ (file_name file.header.no, file.header_bytes) ∷ []) ++ numbered next (drop there file.pages))
       (then : new.next ≡ file.header.no + 1)
@@ -82,7 +82,7 @@ module _ (draft : Draft) (next : ℕ) (written : List Name) (there : ℕ) (is : 
       pub is_added : IsAdded (file_by level upto next draft written) (pages_by next draft written) old new
       is_added = record {
         spelled = subst headers.HasSpelling header_is of.has_spelling;
-        headers_are = heads ∙ ap (λ (h : Header). old.headers.items ++ h ∷ []) header_is;
+        headers_are = heads ∙ ap (λ (h : Header). old.headers.items ++ record { level = level; header = h } ∷ []) header_is;
         cited = cites ∙ (λ i. old.cited.items ++ record { level = level; no = (header_is i).no; swept = upto; digest = digest_is i } ∷ []);
         objects =
             objects

@@ -8,6 +8,7 @@ use Rattle.lethe_file.specs.Agreement.{page_name}
 use Rattle.lethe_header.specs.Headers as headers
 use Rattle.lethe_header.specs.Headers.{header_bytes}
 use Rattle.lethe_stored.specs.Files.{StoredFile, cited_of, file_name}
+use Rattle.lethe_advance.specs.Steps.{new_header}
 use Rattle.lethe_flush.specs.Made.{named_of}
 use Rattle.lethe_flush.specs.declared.made.MadeFiles.{MadeFiles}
 
@@ -42,7 +43,7 @@ pages_by next draft written = numbered next (drop (length written) draft.pages)
 -- the file comes behind the others, and its header and these pages are written
 pub record IsAdded (file : StoredFile) (pages : List (Name × List ℕ)) (old new : MadeFiles) : Type 0 where
   pub spelled : headers.HasSpelling file.header
-  pub headers_are : new.headers.items ≡ old.headers.items ++ file.header ∷ []
+  pub headers_are : new.headers.items ≡ old.headers.items ++ new_header file ∷ []
   pub cited : new.cited.items ≡ old.cited.items ++ cited_of file ∷ []
   pub objects : map named_of new.objects.items ≡ map named_of old.objects.items ++ (file_name file.header.no, header_bytes file.header) ∷ pages
   pub next : new.next ≡ file.header.no + 1

@@ -7,12 +7,18 @@ use Rattle.lethe_build.specs.declared.draft.Draft.{Draft}
 use Rattle.lethe_commit.specs.declared.objects.Object.{Object}
 use Rattle.lethe_file.specs.Agreement.{page_name}
 use Rattle.lethe_header.specs.Headers as headers
+use Rattle.lethe_header.specs.declared.header.Header.{Header}
 use Rattle.lethe_stored.specs.Files.{StoredFile, cited_of, lines_in, objects_of}
+use Rattle.lethe_advance.specs.Steps.{new_header}
 use Rattle.lethe_flush.specs.declared.made.MadeFiles.{MadeFiles}
 
 -- its name and its bytes
 abbrev pub named_of : Object → Name × List ℕ
 named_of made = (made.name, made.bytes)
+
+-- the headers of files that are made
+abbrev pub headers_of : MadeFiles → List Header
+headers_of made = map (λ new. new.header) made.headers.items
 
 -- the pages of drafts, one draft after another
 abbrev pub pages_in : List Draft → List (List ℕ)
@@ -36,7 +42,7 @@ pub record AreFilesOf (drafts : List Draft) (level upto : ℕ) (written : List N
   pub level_is : All (λ file. file.level ≡ level) files
   pub swept : All (λ file. file.swept ≡ upto) files
   pub spelled : All (λ file. headers.HasSpelling file.header) files
-  pub headers_are : made.headers.items ≡ map (λ file. file.header) files
+  pub headers_are : made.headers.items ≡ map new_header files
   pub cited : made.cited.items ≡ map cited_of files
   pub objects : IsPermutation (objects_of files) (written_pages written drafts ++ map named_of made.objects.items)
   pub once : AllPairs (λ a b. a.name ≢ b.name) made.objects.items

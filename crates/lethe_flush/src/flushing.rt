@@ -14,6 +14,7 @@ ghost use Rattle.lethe_merge.specs.Merge.{merged};
 ghost use Rattle.lethe_stored.specs.Files.{StoredFile};
 ghost use Rattle.lethe_flush.specs.Clear.{IsClearOf};
 ghost use Rattle.lethe_flush.specs.Flushed.{IsFlushOf};
+ghost use Rattle.lethe_flush.specs.Made.{headers_of};
 
 use crate::made::MadeFiles;
 use crate::making::make_files;
@@ -68,10 +69,11 @@ pub fn flush_files(
         → IfOk result (λ made. (files : List StoredFile) × IsFlushOf fields entries erases alone upto first made files) }
 
     // A range of keys has one of a file exactly where it has one of a draft.
-    ensures clear { (keys : KeyRange) → IfOk result (λ made. All (λ draft. IsClearOf keys (header_of 0 draft.tiles)) drafts.items ↔ All (IsClearOf keys) made.headers.items) }
-    ensures headers { IfOk result (λ made. All headers.HasSpelling made.headers.items) }
+    ensures clear { (keys : KeyRange) → IfOk result (λ made. All (λ draft. IsClearOf keys (header_of 0 draft.tiles)) drafts.items ↔ All (IsClearOf keys) (headers_of made)) }
+    ensures headers { IfOk result (λ made. All (λ new. headers.HasSpelling new.header) made.headers.items) }
     ensures cited { IfOk result (λ made. (levels : ℕ) → All (IsFile made.next levels) made.cited.items) }
     ensures level { IfOk result (λ made. All (λ file. file.level ≡ 0) made.cited.items) }
+    ensures levels { IfOk result (λ made. All (λ new. new.level ≡ 0) made.headers.items) }
     ensures next { IfOk result (λ made. made.next ≡ first + sum_by numbers_for drafts.items) }
     ensures objects { IfOk result (λ made. length made.objects.items ≡ sum_by numbers_for drafts.items) }
 {

@@ -7,18 +7,18 @@ ghost use Rattle.lethe_stored.specs.Files.{file_name};
 ghost use Rattle.lethe_flush.specs.Added.{IsAdded, file_by, numbered, pages_by};
 ghost use Rattle.lethe_flush.specs.Made.{named_of};
 
+use lethe_advance::NewHeader;
 use lethe_base::{Kind, List, Name, NoMemory};
 use lethe_build::{Built, Draft};
 use lethe_commit::Object;
-use lethe_header::Header;
 use lethe_manifest::Cited;
 use std::alloc::Global;
 
 /// Files that aren't written yet, taken apart.
 #[derive(Debug, Drop)]
 pub struct MadeFiles {
-    /// Their headers, in the order in which they were cut.
-    pub headers: Vec<Header>,
+    /// Their headers, each with its level, in the order in which they were cut.
+    pub headers: Vec<NewHeader>,
     /// Their objects under their names: of each file its header, and its pages but for those that were written before.
     pub objects: Vec<Object>,
     /// How a manifest cites the files, in the order of the headers.
@@ -73,7 +73,7 @@ impl MadeFiles {
         requires there { there ≤ length file.pages }
         requires room { self.old.next + (length file.pages - there) < 2 ^ 64 }
         requires no { file.header.no ≤ max_place }
-        ensures headers { OnOk result (self.new.headers.items ≡ self.old.headers.items ++ file.header ∷ []) }
+        ensures headers { OnOk result (self.new.headers.items ≡ self.old.headers.items ++ record { level = level; header = file.header } ∷ []) }
         ensures cited { OnOk result (self.new.cited.items ≡ self.old.cited.items ++ record { level = level; no = file.header.no; swept = upto; digest = file.digest } ∷ []) }
         ensures objects { OnOk result (map named_of self.new.objects.items ≡ (map named_of self.old.objects.items ++ (file_name file.header.no, file.header_bytes) ∷ [])
             ++ numbered self.old.next (drop there file.pages)) }
@@ -99,7 +99,7 @@ impl MadeFiles {
         })?;
         let more = pages.into_vec().split_off(there)?;
         add_pages(&mut self.objects, more, self.next)?;
-        self.headers.push(header)?;
+        self.headers.push(NewHeader { level, header })?;
         self.next = no + 1;
         Ok(())
     }

@@ -29,9 +29,10 @@ pub fn make_files(
     requires few { length written.now ≤ length (pages_in drafts.items) }
     requires numbers { first + (sum_by numbers_for drafts.items - length written.now) ≤ max_place + 1 }
     ensures made { IfOk result (λ made. (files : List StoredFile) × AreFilesOf drafts.items level upto written.now first made files) }
-    ensures headers { IfOk result (λ made. All headers.HasSpelling made.headers.items) }
+    ensures headers { IfOk result (λ made. All (λ new. headers.HasSpelling new.header) made.headers.items) }
     ensures cited { (levels : ℕ) → level ≤ levels → IfOk result (λ made. All (IsFile made.next levels) made.cited.items) }
     ensures level { IfOk result (λ made. All (λ file. file.level ≡ level) made.cited.items) }
+    ensures levels { IfOk result (λ made. All (λ new. new.level ≡ level) made.headers.items) }
     ensures next { IfOk result (λ made. made.next ≡ first + (sum_by numbers_for drafts.items - length written.now)) }
     ensures objects { IfOk result (λ made. length made.objects.items ≡ sum_by numbers_for drafts.items - length written.now) }
 {

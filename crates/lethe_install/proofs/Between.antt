@@ -6,12 +6,12 @@ use Rattle.std.proofs.lemmas.List.{map-append}
 use Rattle.std.proofs.lemmas.List.Elements.{All-append, All-contains, All-filter, All-weaker, Contains-append_cases}
 use Rattle.std.proofs.lemmas.List.Kept.{AllPairs-filter}
 use Rattle.lethe_base.specs.Limits.{max_place}
-use Rattle.lethe_advance.specs.declared.step.Step.{Step}
+use Rattle.lethe_base.specs.declared.name.Name.{Name}
+use Rattle.lethe_advance.specs.declared.new_header.NewHeader.{NewHeader}
 use Rattle.lethe_advance.proofs.Lists.{map-filter}
 use Rattle.lethe_cover.proofs.Common.{⊎_elim}
 use Rattle.lethe_cover.proofs.Lists.{Pairs, pairs_append, pairs_from, pairs_to}
 use Rattle.lethe_flush.specs.declared.made.MadeFiles.{MadeFiles}
-use Rattle.lethe_header.specs.declared.header.Header.{Header}
 use Rattle.lethe_manifest.specs.Manifests.{HasSpelling, IsFile}
 use Rattle.lethe_manifest.specs.declared.manifest.Cited.{Cited}
 use Rattle.lethe_manifest.specs.declared.manifest.Manifest.{Manifest}
@@ -24,6 +24,7 @@ use Rattle.lethe_stored.proofs.Leveled.{from_filter}
 use Rattle.lethe_install.specs.Installed.{IsInstallStep, installing_manifest}
 use Rattle.lethe_install.specs.Placed.{is_before, is_behind, stays, with_made}
 use Rattle.lethe_install.specs.declared.inputs.Inputs.{Inputs}
+use Rattle.lethe_install.specs.declared.steps.Installation.{Installation}
 
 pub behind_level : (level : ℕ) (above : List ℕ) (file : Cited) → is_behind level above file ≡ true → level ≤ file.level
 behind_level level above file is = grind (arith, nat_tests)
@@ -133,21 +134,23 @@ module _ (state : State) (is : IsWritable state) (level : ℕ) (inputs : Inputs)
     };
   }
 
-pub install_from : (state : State) (level : ℕ) (inputs : Inputs) (parts : MadeFiles) (headers : List Header) (step : Step) → IsWritable state → level ≤ state.manifest.config.levels
+pub install_from : (state : State) (level : ℕ) (inputs : Inputs) (parts : MadeFiles) (retired needed : List Name) (installing : Installation) → IsWritable state → level ≤ state.manifest.config.levels
     → parts.next < max_place → parts.next ≡ state.next + length parts.objects.items → All (IsFile parts.next state.manifest.config.levels) parts.cited.items
-    → All (λ (file : Cited). file.level ≡ level) parts.cited.items → IsInstallStep state level inputs parts headers step → IsStepFrom (segments_for state.frozen) state step
-install_from state level inputs parts headers step is low fits drawn each same made =
+    → All (λ (file : Cited). file.level ≡ level) parts.cited.items → All (λ (new : NewHeader). new.level ≡ level) parts.headers.items → IsInstallStep state level inputs parts retired needed installing
+    → IsStepFrom (segments_for state.frozen) state installing.headers.items installing.step
+install_from state level inputs parts retired needed installing is low fits drawn each same into made =
     let before = is.drawn in
     let later : state.manifest.next ≤ parts.next = omega (arith, before, drawn) in
     let short = subst (λ (m : Manifest). length m.files < 2 ^ 32) made.manifest made.few in
-    let written : length step.objects.items ≡ length parts.objects.items = ap length made.objects in
-    let number : step.manifest.no ≡ parts.next = ap (λ (m : Manifest). m.no) made.manifest in
-    let last : step.manifest.next ≡ parts.next + 1 = ap (λ (m : Manifest). m.next) made.manifest in
-    let into = made.level_is in record {
+    let written : length installing.step.objects.items ≡ length parts.objects.items = ap length made.objects in
+    let number : installing.step.manifest.no ≡ parts.next = ap (λ (m : Manifest). m.no) made.manifest in
+    let last : installing.step.manifest.next ≡ parts.next + 1 = ap (λ (m : Manifest). m.next) made.manifest in
+    let levels = state.manifest.config.levels in record {
       spelled = subst HasSpelling (sym made.manifest) (installing_spelled state is level inputs parts fits later each same short);
       segments_are = ap (λ (m : Manifest). length m.segments) made.manifest ∙ is.segments;
       config = ap (λ (m : Manifest). m.config) made.manifest;
-      level = omega (arith, into, low);
+      levels = subst (All (λ (new : NewHeader). new.level ≤ levels)) (sym made.headers_are)
+          (All-weaker (λ (new : NewHeader). new.level ≡ level) (λ (new : NewHeader). new.level ≤ levels) (λ new at. omega (arith, at, low)) parts.headers.items into);
       numbers = omega (arith, written, number, drawn);
       next = omega (arith, number, last);
     }

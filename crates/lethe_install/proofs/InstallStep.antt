@@ -1,12 +1,15 @@
 -- The step that installs what a job made of stored files.
 use Rattle.std.proofs.Common.{◌≡◌, ◌≢◌, ◌⊎◌, ◌≤◌, ◌<◌, ◌+◌, inl, inr, ℕ, Bool, true, false, List, [], ◌∷◌, ◌++◌, append_assoc, length, map, get_or, take, All, AllPairs, Contains, IsPermutation, refl, sym, ap, ◌∙◌, subst, arith}
 use Rattle.std.specs.Prelude.{filter, flat_map, not, zip}
-use Rattle.std.proofs.lemmas.List.Elements.{All-contains, All-nil, Contains-append_cases, Contains-append_left, Contains-append_right, Contains-get_or}
+use Rattle.std.proofs.lemmas.List.{map-append}
+use Rattle.std.proofs.lemmas.List.Elements.{All-contains, All-filter, Contains-append_cases, Contains-append_left, Contains-append_right, Contains-get_or}
 use Rattle.std.proofs.lemmas.List.Kept.{AllPairs-filter}
 use Rattle.std.proofs.lemmas.List.Sorted.{Contains-permutation, IsPermutation-append_comm, IsPermutation-append_right, IsPermutation-filter_both, IsPermutation-sym, IsPermutation-trans}
 use Rattle.lethe_advance.specs.Settled.{AreDrawn, AreUncited, names_in}
 use Rattle.lethe_advance.specs.Steps.{IsObjectFrom, IsSegmentFrom, IsSettledBy, IsStep, IsUncited, WasThere, written_in}
+use Rattle.lethe_advance.specs.declared.new_header.NewHeader.{NewHeader}
 use Rattle.lethe_advance.specs.declared.step.Step.{Step}
+use Rattle.lethe_advance.proofs.Lists.{map-filter}
 use Rattle.lethe_base.specs.declared.entry.Entry.{Entry}
 use Rattle.lethe_base.specs.declared.name.Kind.TheVariants as kinds
 use Rattle.lethe_base.specs.declared.name.Name.{Name}
@@ -14,7 +17,7 @@ use Rattle.lethe_build.specs.Drafts.{AreDraftsOf}
 use Rattle.lethe_build.specs.declared.draft.Draft.{Draft}
 use Rattle.lethe_commit.specs.declared.objects.Object.{Object}
 use Rattle.lethe_cover.proofs.Common.{⊎_elim}
-use Rattle.lethe_cover.proofs.Lists.{all_from, flat_from, flat_in, in_map, map_from, pairs_from, pairs_to}
+use Rattle.lethe_cover.proofs.Lists.{Pairs, all_from, flat_from, flat_in, in_map, in_rest, map_from, pairs_append, pairs_from, pairs_parts, pairs_to}
 use Rattle.lethe_file.specs.Agreement.{page_name}
 use Rattle.lethe_flush.specs.Made.{AreFilesOf, named_of, pages_in, written_pages}
 use Rattle.lethe_flush.specs.declared.made.MadeFiles.{MadeFiles}
@@ -22,7 +25,6 @@ use Rattle.lethe_flush.proofs.Weaving.{are_woven, files_agree}
 use Rattle.lethe_follows.specs.Merged.{AreNewIn, IsMerged, IsMergeIn, StoredMerge, entries_in, inputs_of, merging_manifest, others_of}
 use Rattle.lethe_follows.proofs.MergeFiles.{merged_coherent}
 use Rattle.lethe_follows.proofs.Permuted.{pairs_kept}
-use Rattle.lethe_header.specs.declared.header.Header.{Header}
 use Rattle.lethe_header.specs.declared.header.PageLine.{PageLine}
 use Rattle.lethe_job.specs.Tasks.{IsTaskIn, PlainTask, inputs_in}
 use Rattle.lethe_manifest.specs.Manifests.{HasSpelling}
@@ -35,13 +37,15 @@ use Rattle.lethe_state.proofs.Shared.{loose_apart, loose_pages}
 use Rattle.lethe_stored.specs.Files.{Parts, StoredFile, IsFile, cited_of, file_name, lines_in, objects_in, objects_of}
 use Rattle.lethe_stored.specs.Stored.{Stored, IsCited, IsCoherent, pending_of, part_names, segment_name, segment_numbers, segments_of}
 use Rattle.lethe_stored.proofs.Leveled.{from_filter, in_filter}
-use Rattle.lethe_stored.proofs.Parts.{IsNameOf, OfHeader, OfPage, OfSegment, name_cases, object_part, part_below}
+use Rattle.lethe_stored.proofs.Parts.{IsNameOf, OfHeader, OfPage, OfSegment, name_cases, object_part, part_below, part_kind}
 use Rattle.lethe_install.specs.Inputs.{AreInputs, names_of, number_of, numbered}
 use Rattle.lethe_install.specs.Installed.{IsInstallStep}
+use Rattle.lethe_install.specs.Left.{is_needed, left_of, needed_of, unneeded_of}
 use Rattle.lethe_install.specs.Placed.{is_among, is_before, is_behind, with_made}
 use Rattle.lethe_install.specs.declared.inputs.Inputs.{Inputs}
+use Rattle.lethe_install.specs.declared.steps.Installation.{Installation}
 use Rattle.lethe_install.proofs.Beside.{placed, placed_from, placed_into, placed_rest}
-use Rattle.lethe_install.proofs.Named.{file_no_page, line_name, name_in, name_kinds, names_are, names_once, number_in, pages_differ}
+use Rattle.lethe_install.proofs.Named.{Differ, all_names_are, file_no_page, line_name, name_in, name_kinds, names_are, names_once, number_in, pages_differ}
 use Rattle.lethe_install.proofs.Between.{with_made_laid}
 
 -- the names of what was written before
@@ -56,12 +60,22 @@ segment_no_file a b same = let clash : kinds.Segment ≡ kinds.File = ap (λ (n 
 segment_no_page : (a b : ℕ) → segment_name a ≡ page_name b → ⊥
 segment_no_page a b same = let clash : kinds.Segment ≡ kinds.Page = ap (λ (n : Name). n.kind) same in cc
 
+page_no_segment : kinds.Segment ≡ kinds.Page → ⊥
+page_no_segment same = cc
+
+page_no_header : kinds.File ≡ kinds.Page → ⊥
+page_no_header same = cc
+
+page_kind : (name : Name) → name.kind ≡ kinds.Page → (name.kind ≢ kinds.Gate) × (name.kind ≢ kinds.Manifest)
+page_kind name page = subst (λ kind. (kind ≢ kinds.Gate) × (kind ≢ kinds.Manifest)) (sym page) (λ e. cc, λ e. cc)
+
 goes_not : (b : Bool) → not b ≡ true → b ≡ true → ⊥
 goes_not b stays goes = let clash : false ≡ true = ap not (sym goes) ∙ stays in cc
 
 module _ (s : Stored) (state : State) (levels : List (List Parts)) (is : Remembers s state levels) (current : IsCurrent s state) (fits : state.manifest.next ≤ state.next)
-    (m : StoredMerge) (begun : IsMergeIn s m) (alone : Bool) (upto : ℕ) (written : List Name) (drafts : List Draft)
-    (drawn : AreDrawn state.next written) (few : length written ≤ length (pages_in drafts)) (uncited : AreUncited s (written_pages written drafts))
+    (m : StoredMerge) (begun : IsMergeIn s m) (alone : Bool) (upto : ℕ) (retired written : List Name) (drafts : List Draft)
+    (drawn : AreDrawn state.next (retired ++ written)) (few : length written ≤ length (pages_in drafts))
+    (beside : List (Name × List ℕ)) (named : names_in beside ≡ retired) (uncited : AreUncited s (beside ++ written_pages written drafts))
     (of : AreDraftsOf s.manifest.config (merged (entries_in (inputs_of m)) (pending_of s) alone) drafts)
     (parts : MadeFiles) (risen : state.next ≤ parts.next) (made : List StoredFile) (are : AreFilesOf drafts (m.level + 1) upto written state.next parts made)
     (inputs : Inputs) (numbers : inputs.numbers.items ≡ map number_of (inputs_of m)) (found : AreInputs (m.level + 1) m.sources s.files inputs) where
@@ -80,8 +94,11 @@ module _ (s : Stored) (state : State) (levels : List (List Parts)) (is : Remembe
   abbrev t : Stored
   t = record { manifest = merging_manifest s files number; frozen = s.frozen; active = s.active; files = files }
 
+  abbrev pages : List (Name × List ℕ)
+  pages = written_pages written drafts
+
   abbrev loose : List (Name × List ℕ)
-  loose = written_pages written drafts
+  loose = beside ++ pages
 
   next_is : state.manifest.next ≡ s.manifest.next
   next_is = ap (λ (m : Manifest). m.next) is.manifest
@@ -92,11 +109,25 @@ module _ (s : Stored) (state : State) (levels : List (List Parts)) (is : Remembe
   later : s.manifest.next ≤ number
   later = omega (arith, risen, drawn_before)
 
-  loose_names : names_in loose ≡ written
-  loose_names = zip_firsts written (pages_in drafts) few
+  loose_names : names_in loose ≡ retired ++ written
+  loose_names = map-append name_in beside pages ∙ (λ i. named i ++ zip_firsts written (pages_in drafts) few i)
 
   loose_drawn : AreDrawn state.next (names_in loose)
   loose_drawn = subst (AreDrawn state.next) (sym loose_names) drawn
+
+  abbrev IsDrawn : Name → Type 0
+  IsDrawn name = (name.kind ≡ kinds.Page) × (name.no < state.next)
+
+  retired_page : (name : Name) → Contains retired name → IsDrawn name
+  retired_page name there = All-contains IsDrawn (retired ++ written) name drawn.each (Contains-append_left retired written name there)
+
+  drawn_parts : Pairs Differ retired × Pairs Differ written × ((a b : Name) → Contains retired a → Contains written b → a ≢ b)
+  drawn_parts = pairs_parts Differ retired written (pairs_from Differ (retired ++ written) drawn.once)
+
+  name_uncited : (name : Name) → Contains (retired ++ written) name → Contains (part_names s) name → ⊥
+  name_uncited name there cited =
+      let found = map_from name_in loose name (subst (λ l. Contains l name) (sym loose_names) there) in
+      All-contains (λ (named : Name × List ℕ). IsCited s named.0 → ⊥) loose found.0 uncited found.1 (inr (inr (subst (Contains (part_names s)) (sym found.2) cited)))
 
   -- What is stored next
 
@@ -115,7 +146,7 @@ module _ (s : Stored) (state : State) (levels : List (List Parts)) (is : Remembe
       (IsPermutation-append_comm (made ++ high) low)
 
   written_line : (line : PageLine) → Contains written (page_name line.no) → line.no < state.next
-  written_line line there = (All-contains (λ (name : Name). (name.kind ≡ kinds.Page) × (name.no < state.next)) written (page_name line.no) drawn.each there).1
+  written_line line there = (All-contains IsDrawn (retired ++ written) (page_name line.no) drawn.each (Contains-append_right retired written (page_name line.no) there)).1
 
   abbrev IsLine : PageLine → Type 0
   IsLine line = Contains written (page_name line.no) ⊎ ((state.next ≤ line.no) × (line.no < number))
@@ -129,10 +160,13 @@ module _ (s : Stored) (state : State) (levels : List (List Parts)) (is : Remembe
 
   -- a page of a new file isn't cited
   line_uncited : (line : PageLine) → IsLine line → Contains (part_names s) (page_name line.no) → ⊥
-  line_uncited line (inl before) cited =
-      let named = map_from name_in loose (page_name line.no) (subst (λ l. Contains l (page_name line.no)) (sym loose_names) before) in
-      All-contains (λ (named : Name × List ℕ). IsCited s named.0 → ⊥) loose named.0 uncited named.1 (inr (inr (subst (Contains (part_names s)) (sym named.2) cited)))
+  line_uncited line (inl before) cited = name_uncited (page_name line.no) (Contains-append_right retired written (page_name line.no) before) cited
   line_uncited line (inr fresh) cited = let low = part_below s (page_name line.no) is.coherent cited in let high = fresh.0 in omega (arith, low, high, drawn_before)
+
+  -- nor is it a retired one
+  line_unretired : (line : PageLine) → IsLine line → (name : Name) → Contains retired name → page_name line.no ≢ name
+  line_unretired line (inl before) name there same = drawn_parts.2 name (page_name line.no) there before (sym same)
+  line_unretired line (inr fresh) name there same = let low = (retired_page name there).1 in let high = fresh.0 in let number = number_in (page_name line.no) name same in omega (arith, low, high, number)
 
   abbrev left : List Entry
   left = merged (entries_in (inputs_of m)) (pending_of s) alone
@@ -170,7 +204,13 @@ module _ (s : Stored) (state : State) (levels : List (List Parts)) (is : Remembe
 
   -- The step
 
-  module _ (headers : List Header) (step : Step) (stepped : IsInstallStep state (m.level + 1) inputs parts headers step) (spelled : HasSpelling step.manifest) where
+  module _ (needed : List Name) (installing : Installation) (stepped : IsInstallStep state (m.level + 1) inputs parts retired needed installing) (spelled : HasSpelling installing.step.manifest) where
+    abbrev headers : List NewHeader
+    headers = installing.headers.items
+
+    abbrev step : Step
+    step = installing.step
+
     cited_same : with_made (m.level + 1) inputs.numbers.items above parts.cited.items state.manifest.files ≡ map cited_of files
     cited_same =
         (λ i. with_made (m.level + 1) (numbers i) above (are.cited i) ((ap (λ (m : Manifest). m.files) is.manifest ∙ (is.coherent).files) i))
@@ -199,21 +239,21 @@ module _ (s : Stored) (state : State) (levels : List (List Parts)) (is : Remembe
 
     -- what is written before or by the step is an object of a new file, and the other way round
 
-    made_objects : (object : Name × List ℕ) → Contains (objects_of made) object → Contains loose object ⊎ Contains (written_in step) object
+    made_objects : (object : Name × List ℕ) → Contains (objects_of made) object → Contains pages object ⊎ Contains (written_in step) object
     made_objects object there = ⊎_elim (λ before. inl before) (λ more. inr (subst (λ (objects : List Object). Contains (map named_of objects) object) (sym stepped.objects) more))
-        (Contains-append_cases loose (map named_of parts.objects.items) object (Contains-permutation (objects_of made) (loose ++ map named_of parts.objects.items) object are.objects there))
+        (Contains-append_cases pages (map named_of parts.objects.items) object (Contains-permutation (objects_of made) (pages ++ map named_of parts.objects.items) object are.objects there))
 
-    back : (object : Name × List ℕ) → Contains (loose ++ map named_of parts.objects.items) object → Contains (objects_of made) object
-    back object there = Contains-permutation (loose ++ map named_of parts.objects.items) (objects_of made) object (IsPermutation-sym (objects_of made) (loose ++ map named_of parts.objects.items) are.objects) there
+    back : (object : Name × List ℕ) → Contains (pages ++ map named_of parts.objects.items) object → Contains (objects_of made) object
+    back object there = Contains-permutation (pages ++ map named_of parts.objects.items) (objects_of made) object (IsPermutation-sym (objects_of made) (pages ++ map named_of parts.objects.items) are.objects) there
 
-    of_loose : (object : Name × List ℕ) → Contains loose object → Contains (objects_of made) object
-    of_loose object there = back object (Contains-append_left loose (map named_of parts.objects.items) object there)
+    of_page : (object : Name × List ℕ) → Contains pages object → Contains (objects_of made) object
+    of_page object there = back object (Contains-append_left pages (map named_of parts.objects.items) object there)
 
     of_step : (object : Object) → Contains step.objects.items object → Contains parts.objects.items object
     of_step object there = subst (λ (objects : List Object). Contains objects object) stepped.objects there
 
     of_written : (object : Object) → Contains step.objects.items object → Contains (objects_of made) (named_of object)
-    of_written object there = back (named_of object) (Contains-append_right loose (map named_of parts.objects.items) (named_of object) (in_map named_of parts.objects.items object (of_step object there)))
+    of_written object there = back (named_of object) (Contains-append_right pages (map named_of parts.objects.items) (named_of object) (in_map named_of parts.objects.items object (of_step object there)))
 
     fresh_no : (object : Object) → Contains step.objects.items object → state.next ≤ object.name.no
     fresh_no object there = (All-contains (λ (object : Object). (state.next ≤ object.name.no) × (object.name.no < number)) parts.objects.items object are.drawn (of_step object there)).0
@@ -222,22 +262,57 @@ module _ (s : Stored) (state : State) (levels : List (List Parts)) (is : Remembe
     object_from object there =
         let from = flat_from objects_in files object there in
         ⊎_elim
-        (λ new. ⊎_elim (λ before. inr (inl before)) (λ more. inr (inr more)) (made_objects object (flat_in objects_in made from.0 object new from.2)))
+        (λ new. ⊎_elim (λ before. inr (inl (Contains-append_right beside pages object before))) (λ more. inr (inr more)) (made_objects object (flat_in objects_in made from.0 object new from.2)))
         (λ old. inl (flat_in objects_in s.files from.0 object old.0 from.2))
         (from_files from.0 from.1)
 
-    -- what goes
+    -- what goes, and what is left
 
     abbrev lost : List StoredFile
     lost = numbered (map number_of (inputs_of m)) s.files
 
-    gone_is : step.gone.items ≡ flat_map names_of lost
-    gone_is = stepped.gone ∙ found.names ∙ ap (λ gone. flat_map names_of (numbered gone s.files)) numbers
+    abbrev names : List Name
+    names = flat_map names_of lost ++ retired
+
+    abbrev replaced : List (Name × List ℕ)
+    replaced = objects_of lost ++ beside
+
+    abbrev needed_object : Name × List ℕ → Bool
+    needed_object object = is_needed needed object.0
+
+    abbrev unneeded : Name → Bool
+    unneeded name = not (is_needed needed name)
+
+    abbrev remaining : List (Name × List ℕ)
+    remaining = left_of needed lost beside
+
+    names_of_all : inputs.names.items ++ retired ≡ names
+    names_of_all = ap (λ l. l ++ retired) (found.names ∙ ap (λ gone. flat_map names_of (numbered gone s.files)) numbers)
+
+    gone_is : step.gone.items ≡ unneeded_of needed names
+    gone_is = stepped.gone ∙ ap (unneeded_of needed) names_of_all
+
+    replaced_names : map name_in replaced ≡ names
+    replaced_names = map-append name_in (objects_of lost) beside ∙ (λ i. sym (all_names_are s.manifest.next lost (All-filter goes (IsFile s.manifest.next) s.files (is.coherent).each)) i ++ named i)
+
+    left_is : installing.left.items ≡ names_in remaining
+    left_is = stepped.left ∙ ap (needed_of needed) (names_of_all ∙ sym replaced_names) ∙ sym (map-filter name_in (is_needed needed) replaced)
+
+    named_in : (object : Name × List ℕ) → Contains replaced object → Contains names object.0
+    named_in object there = subst (λ l. Contains l object.0) replaced_names (in_map name_in replaced object there)
+
+    -- it is left where it is needed, and goes otherwise
+    settled : (object : Name × List ℕ) → Contains replaced object → IsSettledBy step t remaining object.0
+    settled object there = by (is_needed needed object.0) refl
+      where
+        by : (b : Bool) → is_needed needed object.0 ≡ b → IsSettledBy step t remaining object.0
+        by true at = inr (inr (in_map name_in remaining object (in_filter needed_object replaced object there at)))
+        by false at = inr (inl (subst (λ l. Contains l object.0) (sym gone_is) (in_filter unneeded names object.0 (named_in object there) (ap not at))))
 
     file_is : (file : StoredFile) → Contains s.files file → IsFile s.manifest.next file
     file_is file there = All-contains (IsFile s.manifest.next) s.files file (is.coherent).each there
 
-    stays : (name : Name) → Contains (part_names s) name → IsSettledBy step t [] name
+    stays : (name : Name) → Contains (part_names s) name → IsSettledBy step t remaining name
     stays name there = elim (Contains-append_cases (map segment_name (segment_numbers s)) (map name_in (objects_of s.files)) name there) [
       | inl segment ↦ inl (Contains-append_left (map segment_name (segment_numbers s)) (map name_in (objects_of files)) name segment)
       | inr object ↦
@@ -247,9 +322,9 @@ module _ (s : Stored) (state : State) (levels : List (List Parts)) (is : Remembe
     ]
       where
         by : (name : Name) (named : Name × List ℕ) (file : StoredFile) → Contains s.files file → Contains (objects_in file) named → named.0 ≡ name → (b : Bool) → goes file ≡ b
-            → IsSettledBy step t [] name
-        by name named file there own same true at = inr (inl (subst (λ l. Contains l name) (sym gone_is) (flat_in names_of lost file name (in_filter goes s.files file there at)
-            (subst (λ l. Contains l name) (sym (names_are s.manifest.next file (file_is file there))) (subst (Contains (map name_in (objects_in file))) same (in_map name_in (objects_in file) named own))))))
+            → IsSettledBy step t remaining name
+        by name named file there own same true at = subst (IsSettledBy step t remaining) same
+            (settled named (Contains-append_left (objects_of lost) beside named (flat_in objects_in lost file named (in_filter goes s.files file there at) own)))
         by name named file there own same false at = inl (subst (Contains (part_names t)) same (object_part t named (flat_in objects_in files file named
             (to_files file (Contains-append_right made others file (in_filter (λ (file : StoredFile). not (goes file)) s.files file there (ap not at)))) own)))
 
@@ -290,19 +365,71 @@ module _ (s : Stored) (state : State) (levels : List (List Parts)) (is : Remembe
         (λ page. page_out file there gone page.0 page.1 (subst (Contains (part_names s)) (sym page.2) cited) g among other inside (number_in (page_name other.no) (line_name page.0) (same ∙ sym page.2)))
         (name_kinds file name own)
 
-    gone_uncited : (name : Name) → Contains (flat_map names_of lost) name → IsUncited s loose t name
-    gone_uncited name there =
+    -- nor is a retired page
+    retired_out : (name : Name) → Contains retired name → IsNameOf t name → ⊥
+    retired_out name there (OfSegment k among same) = page_no_segment (ap (λ (n : Name). n.kind) same ∙ (retired_page name there).0)
+    retired_out name there (OfHeader g among same) = page_no_header (ap (λ (n : Name). n.kind) same ∙ (retired_page name there).0)
+    retired_out name there (OfPage g line among inside same) = ⊎_elim
+        (λ new. line_unretired line (made_line line (flat_in lines_in made g line new inside)) name there same)
+        (λ old. name_uncited name (Contains-append_left retired written name there)
+        (page_part g old.0 name (in_rest (file_name g.header.no) (map line_name (lines_in g)) name (subst (Contains (map line_name (lines_in g))) same (in_map line_name (lines_in g) line inside)))))
+        (from_files g among)
+
+    lost_part : (name : Name) → Contains (flat_map names_of lost) name → Contains (part_names s) name
+    lost_part name there = let file = flat_from names_of lost name there in page_part file.0 (from_filter goes s.files file.0 file.1).0 name file.2
+
+    lost_uncited : (name : Name) → Contains (flat_map names_of lost) name → IsUncited s loose t name
+    lost_uncited name there =
         let file = flat_from names_of lost name there in
         let was = from_filter goes s.files file.0 file.1 in
         let cited = page_part file.0 was.0 name file.2 in
         (inl cited, λ still. out file.0 was.0 was.1 name file.2 cited (name_cases t name still))
 
-    gone_once : AllPairs (λ (name other : Name). name ≢ other) (flat_map names_of lost)
-    gone_once = pairs_to (λ (name other : Name). name ≢ other) (flat_map names_of lost) (names_once lost
+    retired_uncited : (name : Name) → Contains retired name → IsUncited s loose t name
+    retired_uncited name there = (inr (subst (λ l. Contains l name) (sym loose_names) (Contains-append_left retired written name there)), λ still. retired_out name there (name_cases t name still))
+
+    uncited_then : (name : Name) → Contains names name → IsUncited s loose t name
+    uncited_then name there = ⊎_elim (lost_uncited name) (retired_uncited name) (Contains-append_cases (flat_map names_of lost) retired name there)
+
+    -- and it is no gate or manifest
+    kind_then : (name : Name) → Contains names name → (name.kind ≢ kinds.Gate) × (name.kind ≢ kinds.Manifest)
+    kind_then name there = ⊎_elim (λ object. part_kind s name (lost_part name object)) (λ page. page_kind name (retired_page name page).0) (Contains-append_cases (flat_map names_of lost) retired name there)
+
+    names_apart : AllPairs Differ names
+    names_apart = pairs_to Differ names (pairs_append Differ (flat_map names_of lost) retired
+        (names_once lost
         (pairs_from (λ (a b : StoredFile). a.header.no ≢ b.header.no) lost (AllPairs-filter (λ (a b : StoredFile). a.header.no ≢ b.header.no) goes s.files (is.coherent).files_once))
         (pairs_kept (λ (a b : PageLine). a.no ≢ b.no) lines_in goes s.files (pairs_from (λ (a b : PageLine). a.no ≢ b.no) (flat_map lines_in s.files) (is.coherent).pages_once)))
+        drawn_parts.0
+        (λ a b object page same. name_uncited b (Contains-append_left retired written b page) (subst (Contains (part_names s)) same (lost_part a object))))
 
-    is_step : IsStep s loose t [] headers step
+    gone_uncited : (name : Name) → Contains (unneeded_of needed names) name → IsUncited s loose t name
+    gone_uncited name there = uncited_then name (from_filter unneeded names name there).0
+
+    left_in : (object : Name × List ℕ) → Contains remaining object → Contains replaced object × (is_needed needed object.0 ≡ true)
+    left_in object there = from_filter needed_object replaced object there
+
+    left_there : (object : Name × List ℕ) → Contains remaining object → WasThere s loose object
+    left_there object there = ⊎_elim
+        (λ own. let file = flat_from objects_in lost object own in inr (flat_in objects_in s.files file.0 object (from_filter goes s.files file.0 file.1).0 file.2))
+        (λ page. inl (Contains-append_left beside pages object page))
+        (Contains-append_cases (objects_of lost) beside object (left_in object there).0)
+
+    left_stays : (object : Name × List ℕ) → Contains remaining object → Contains step.gone.items object.0 → ⊥
+    left_stays object there lose = goes_not (is_needed needed object.0) (from_filter unneeded names object.0 (subst (λ l. Contains l object.0) gone_is lose)).1 (left_in object there).1
+
+    left_uncited : (object : Name × List ℕ) → Contains remaining object → IsCited t object.0 → ⊥
+    left_uncited object there (inl gate) = (kind_then object.0 (named_in object (left_in object there).0)).0 (ap (λ (n : Name). n.kind) gate)
+    left_uncited object there (inr (inl manifest)) = (kind_then object.0 (named_in object (left_in object there).0)).1 (ap (λ (n : Name). n.kind) manifest)
+    left_uncited object there (inr (inr part)) = (uncited_then object.0 (named_in object (left_in object there).0)).1 part
+
+    taken : (object : Name × List ℕ) → Contains loose object → IsSettledBy step t remaining object.0
+    taken object there = ⊎_elim
+        (λ page. settled object (Contains-append_right (objects_of lost) beside object page))
+        (λ own. inl (object_part t object (new_object object (of_page object own))))
+        (Contains-append_cases beside pages object there)
+
+    is_step : IsStep s loose t remaining headers step
     is_step = record {
       coherent = coherent_then;
       config = refl;
@@ -317,33 +444,41 @@ module _ (s : Stored) (state : State) (levels : List (List Parts)) (is : Remembe
       segments = all_from (IsSegmentFrom s step) (segments_of s) (λ segment there. inl there);
       objects = all_from (IsObjectFrom s loose step) (objects_of files) object_from;
       cited = all_from (λ (object : Object). Contains (part_names t) object.name) step.objects.items (λ object there. object_part t (named_of object) (new_object (named_of object) (of_written object there)));
-      stays = all_from (IsSettledBy step t []) (part_names s) stays;
-      taken = all_from (λ (named : Name × List ℕ). IsSettledBy step t [] named.0) loose (λ named there. inl (object_part t named (new_object named (of_loose named there))));
-      gone = subst (All (IsUncited s loose t)) (sym gone_is) (all_from (IsUncited s loose t) (flat_map names_of lost) gone_uncited);
-      gone_once = subst (AllPairs (λ (name other : Name). name ≢ other)) (sym gone_is) gone_once;
-      left_there = All-nil (WasThere s loose);
-      left_stays = All-nil (λ (named : Name × List ℕ). Contains step.gone.items named.0 → ⊥);
-      left_uncited = All-nil (λ (named : Name × List ℕ). IsCited t named.0 → ⊥);
+      stays = all_from (IsSettledBy step t remaining) (part_names s) stays;
+      taken = all_from (λ (object : Name × List ℕ). IsSettledBy step t remaining object.0) loose taken;
+      gone = subst (All (IsUncited s loose t)) (sym gone_is) (all_from (IsUncited s loose t) (unneeded_of needed names) gone_uncited);
+      gone_once = subst (AllPairs Differ) (sym gone_is) (AllPairs-filter Differ unneeded names names_apart);
+      left_there = all_from (WasThere s loose) remaining left_there;
+      left_stays = all_from (λ (object : Name × List ℕ). Contains step.gone.items object.0 → ⊥) remaining left_stays;
+      left_uncited = all_from (λ (object : Name × List ℕ). IsCited t object.0 → ⊥) remaining left_uncited;
       added = made;
       headers_are = stepped.headers_are ∙ are.headers_are;
-      level = subst (λ level. All (λ (file : StoredFile). file.level ≡ level) made) (sym stepped.level_is) are.level_is;
       files = subst (λ gone. IsPermutation (made ++ filter (λ (file : StoredFile). not (is_among gone file.header.no)) s.files) files) (sym (stepped.merged ∙ numbers)) permuted;
     }
 
+    step_and_left : IsStep s loose t (left_of needed (numbered step.merged.items s.files) beside) headers step × (installing.left.items ≡ names_in (left_of needed (numbered step.merged.items s.files) beside))
+    step_and_left = subst (λ gone. IsStep s loose t (left_of needed (numbered gone s.files) beside) headers step × (installing.left.items ≡ names_in (left_of needed (numbered gone s.files) beside)))
+        (sym (stepped.merged ∙ numbers)) (is_step, left_is)
+
 -- as a task has it
 pub install_steps : (s : Stored) (m : StoredMerge) (state : State) (levels : List (List Parts)) (task : PlainTask) → Remembers s state levels → IsCurrent s state → state.manifest.next ≤ state.next
-    → IsTaskIn s m task → (written : List Name) (drafts : List Draft) → AreDrawn state.next written → length written ≤ length (pages_in drafts) → AreUncited s (written_pages written drafts)
+    → IsTaskIn s m task → (retired written : List Name) (drafts : List Draft) → AreDrawn state.next (retired ++ written) → length written ≤ length (pages_in drafts)
+    → (beside : List (Name × List ℕ)) → names_in beside ≡ retired → AreUncited s (beside ++ written_pages written drafts)
     → AreDraftsOf s.manifest.config (merged (entries_in (inputs_of m)) (pending_of s) task.alone) drafts
     → (parts : MadeFiles) → state.next ≤ parts.next → (made : List StoredFile) → AreFilesOf drafts (task.level + 1) task.upto written state.next parts made
     → (inputs : Inputs) → inputs.numbers.items ≡ map number_of (inputs_in task) → AreInputs (task.level + 1) task.sources s.files inputs
-    → (headers : List Header) (step : Step) → IsInstallStep state (task.level + 1) inputs parts headers step → HasSpelling step.manifest
-    → (t : Stored) × IsMerged s m (pending_of s) task.alone task.upto t × IsStep s (written_pages written drafts) t [] headers step
-install_steps s m state levels task is current fits begun written drafts drawn few uncited of parts risen made are inputs numbers found headers step stepped spelled =
+    → (needed : List Name) (installing : Installation) → IsInstallStep state (task.level + 1) inputs parts retired needed installing → HasSpelling installing.step.manifest
+    → (t : Stored) × IsMerged s m (pending_of s) task.alone task.upto t
+    × IsStep s (beside ++ written_pages written drafts) t (left_of needed (numbered installing.step.merged.items s.files) beside) installing.headers.items installing.step
+    × (installing.left.items ≡ names_in (left_of needed (numbered installing.step.merged.items s.files) beside))
+install_steps s m state levels task is current fits begun retired written drafts drawn few beside named uncited of parts risen made are inputs numbers found needed installing stepped spelled =
     let numbers_are = numbers ∙ (λ i. map number_of (begun.sources i ++ begun.met i)) in
     let of_level = subst (λ l. AreFilesOf drafts (l + 1) task.upto written state.next parts made) begun.level are in
-    let beside = subst (λ l. AreInputs (l + 1) m.sources s.files inputs) begun.level (subst (λ sources. AreInputs (task.level + 1) sources s.files inputs) begun.sources found) in
-    let made_step = subst (λ l. IsInstallStep state (l + 1) inputs parts headers step) begun.level stepped in (
-      t s state levels is current fits m begun.merge task.alone task.upto written drafts drawn few uncited of parts risen made of_level inputs numbers_are beside,
-      is_merged s state levels is current fits m begun.merge task.alone task.upto written drafts drawn few uncited of parts risen made of_level inputs numbers_are beside,
-      is_step s state levels is current fits m begun.merge task.alone task.upto written drafts drawn few uncited of parts risen made of_level inputs numbers_are beside headers step made_step spelled,
+    let inputs_are = subst (λ l. AreInputs (l + 1) m.sources s.files inputs) begun.level (subst (λ sources. AreInputs (task.level + 1) sources s.files inputs) begun.sources found) in
+    let made_step = subst (λ l. IsInstallStep state (l + 1) inputs parts retired needed installing) begun.level stepped in
+    let settled = step_and_left s state levels is current fits m begun.merge task.alone task.upto retired written drafts drawn few beside named uncited of parts risen made of_level inputs numbers_are inputs_are needed installing made_step spelled in (
+      t s state levels is current fits m begun.merge task.alone task.upto retired written drafts drawn few beside named uncited of parts risen made of_level inputs numbers_are inputs_are,
+      is_merged s state levels is current fits m begun.merge task.alone task.upto retired written drafts drawn few beside named uncited of parts risen made of_level inputs numbers_are inputs_are,
+      settled.0,
+      settled.1,
     )

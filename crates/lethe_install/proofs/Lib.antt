@@ -1,6 +1,7 @@
 pub mod Between
 pub mod Beside
 pub mod Named
+pub mod Parted
 pub mod InstallStep
 pub mod Stepped
 pub mod Remembering

@@ -1,13 +1,16 @@
 -- The names of the files that go.
-use Rattle.std.proofs.Common.{◌≡◌, ◌≢◌, ◌⊎◌, inl, inr, ℕ, Bool, List, [], ◌∷◌, length, map, Contains, refl, sym, ap, ◌∙◌, subst, arith}
+use Rattle.std.proofs.Common.{◌≡◌, ◌≢◌, ◌<◌, ◌⊎◌, inl, inr, ℕ, Bool, List, [], ◌∷◌, ◌++◌, length, map, All, Contains, refl, sym, ap, ◌∙◌, subst, arith}
 use Rattle.std.specs.Prelude.{flat_map, zip}
+use Rattle.std.proofs.lemmas.List.{map-append}
+use Rattle.std.proofs.lemmas.List.Elements.{All-contains, All-head, All-tail, Contains-append_right}
+use Rattle.lethe_advance.specs.Settled.{AreDrawn}
 use Rattle.lethe_base.specs.declared.name.Kind.TheVariants as kinds
 use Rattle.lethe_base.specs.declared.name.Name.{Name}
 use Rattle.lethe_cover.proofs.Common.{⊎_elim, none_in, first_or_rest}
-use Rattle.lethe_cover.proofs.Lists.{Pairs, flat_from, flat_in, map_from, pairs_append, pairs_map, pairs_parts}
+use Rattle.lethe_cover.proofs.Lists.{Pairs, all_from, flat_from, flat_in, map_from, pairs_append, pairs_from, pairs_map, pairs_parts, pairs_to}
 use Rattle.lethe_file.specs.Agreement.{page_name}
 use Rattle.lethe_header.specs.declared.header.PageLine.{PageLine}
-use Rattle.lethe_stored.specs.Files.{StoredFile, IsFile, file_name, lines_in, objects_in}
+use Rattle.lethe_stored.specs.Files.{StoredFile, IsFile, file_name, lines_in, objects_in, objects_of}
 use Rattle.lethe_stored.proofs.FileFacts.{as_many}
 use Rattle.lethe_install.specs.Inputs.{names_of}
 
@@ -28,6 +31,11 @@ zip_names (line ∷ lines) (page ∷ pages) same = ap (λ l. line_name line ∷ 
 pub names_are : (next : ℕ) (file : StoredFile) → IsFile next file → names_of file ≡ map name_in (objects_in file)
 names_are next file is = ap (λ l. file_name file.header.no ∷ l) (zip_names (lines_in file) file.pages (as_many (lines_in file) file.pages is.agrees.pages))
 
+pub all_names_are : (next : ℕ) (files : List StoredFile) → All (IsFile next) files → flat_map names_of files ≡ map name_in (objects_of files)
+all_names_are next [] all = refl
+all_names_are next (file ∷ files) all =
+    (λ i. names_are next file (All-head (IsFile next) file files all) i ++ all_names_are next files (All-tail (IsFile next) file files all) i) ∙ sym (map-append name_in (objects_in file) (objects_of files))
+
 -- a header's or a page's
 pub name_kinds : (file : StoredFile) (name : Name) → Contains (names_of file) name → (file_name file.header.no ≡ name) ⊎ ((line : PageLine) × Contains (lines_in file) line × (line_name line ≡ name))
 name_kinds file name there = ⊎_elim (λ header. inl header) (λ page. inr (map_from line_name (lines_in file) name page)) (first_or_rest (file_name file.header.no) (map line_name (lines_in file)) name there)
@@ -46,8 +54,16 @@ Apart a b = a.header.no ≢ b.header.no
 abbrev AreApart : PageLine → PageLine → Type 0
 AreApart a b = a.no ≢ b.no
 
-abbrev Differ : Name → Name → Type 0
+abbrev pub Differ : Name → Name → Type 0
 Differ a b = a ≢ b
+
+-- of drawn names, those behind others
+pub drawn_behind : (next : ℕ) (before names : List Name) → AreDrawn next (before ++ names) → AreDrawn next names
+drawn_behind next before names drawn = record {
+  each = all_from (λ (name : Name). (name.kind ≡ kinds.Page) × (name.no < next)) names (λ name there.
+      All-contains (λ (name : Name). (name.kind ≡ kinds.Page) × (name.no < next)) (before ++ names) name drawn.each (Contains-append_right before names name there));
+  once = pairs_to Differ names (pairs_parts Differ before names (pairs_from Differ (before ++ names) drawn.once)).1;
+}
 
 lines_differ : (lines : List PageLine) → Pairs AreApart lines → Pairs (λ a b. line_name a ≢ line_name b) lines
 lines_differ [] pairs = tt

@@ -1,13 +1,14 @@
 -- The step that installs files.
-use Rattle.std.specs.Prelude.{◌≡◌, ◌<◌, ◌^◌, ℕ, ◌+◌, List, length}
-use Rattle.lethe_header.specs.declared.header.Header.{Header}
+use Rattle.std.specs.Prelude.{◌≡◌, ◌<◌, ◌^◌, ℕ, ◌+◌, List, ◌++◌, length}
+use Rattle.lethe_base.specs.declared.name.Name.{Name}
 use Rattle.lethe_manifest.specs.declared.manifest.Cited.{Cited}
 use Rattle.lethe_manifest.specs.declared.manifest.Manifest.{Manifest}
-use Rattle.lethe_advance.specs.declared.step.Step.{Step}
 use Rattle.lethe_flush.specs.declared.made.MadeFiles.{MadeFiles}
 use Rattle.lethe_state.specs.declared.state.State.{State}
 use Rattle.lethe_install.specs.Placed.{with_made}
+use Rattle.lethe_install.specs.Left.{needed_of, unneeded_of}
 use Rattle.lethe_install.specs.declared.inputs.Inputs.{Inputs}
+use Rattle.lethe_install.specs.declared.steps.Installation.{Installation}
 
 -- the manifest of this number, which cites these files and has the pending erases
 abbrev pub installing_manifest : State → List Cited → ℕ → Manifest
@@ -19,13 +20,13 @@ installing_manifest state files number = record state.manifest {
   files = files;
 }
 
--- the step writes the objects and cites the files in the level, and the inputs go
-pub record IsInstallStep (state : State) (level : ℕ) (inputs : Inputs) (made : MadeFiles) (headers : List Header) (step : Step) : Type 0 where
-  pub headers_are : headers ≡ made.headers.items
-  pub objects : step.objects.items ≡ made.objects.items
-  pub level_is : step.level ≡ level
-  pub merged : step.merged.items ≡ inputs.numbers.items
-  pub gone : step.gone.items ≡ inputs.names.items
-  pub older : step.older ≡ state.manifest.no
-  pub manifest : step.manifest ≡ installing_manifest state (with_made level inputs.numbers.items inputs.above.items made.cited.items state.manifest.files) made.next
-  pub few : length step.manifest.files < 2 ^ 32
+-- The step writes the objects and cites the files in the level. Of the inputs' objects and the retired pages those go that aren't needed, and the others are left.
+pub record IsInstallStep (state : State) (level : ℕ) (inputs : Inputs) (made : MadeFiles) (retired needed : List Name) (installing : Installation) : Type 0 where
+  pub headers_are : installing.headers.items ≡ made.headers.items
+  pub objects : installing.step.objects.items ≡ made.objects.items
+  pub merged : installing.step.merged.items ≡ inputs.numbers.items
+  pub gone : installing.step.gone.items ≡ unneeded_of needed (inputs.names.items ++ retired)
+  pub left : installing.left.items ≡ needed_of needed (inputs.names.items ++ retired)
+  pub older : installing.step.older ≡ state.manifest.no
+  pub manifest : installing.step.manifest ≡ installing_manifest state (with_made level inputs.numbers.items inputs.above.items made.cited.items state.manifest.files) made.next
+  pub few : length installing.step.manifest.files < 2 ^ 32

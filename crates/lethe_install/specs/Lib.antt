@@ -1,3 +1,4 @@
 pub mod Placed
 pub mod Inputs
+pub mod Left
 pub mod Installed

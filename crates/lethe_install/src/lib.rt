@@ -3,8 +3,9 @@
 
 mod inputs;
 mod laws;
+mod left;
 mod placing;
 mod steps;
 
 pub use laws::install_is_remembered;
-pub use steps::installing;
+pub use steps::{Installation, installing};

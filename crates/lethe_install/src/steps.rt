@@ -1,16 +1,20 @@
 //! Installing the outputs of a job.
 ghost use Rattle.std.specs.Prelude as prelude;
-ghost use Rattle.std.specs.Prelude.{◌≡◌, ◌⊎◌, ◌↔◌, ◌+◌, ◌-◌, ◌<◌, ◌≤◌, ◌^◌, [], All, IfErr, IfOk, IsErrOf, IsTrue, length, sum_by};
+ghost use Rattle.std.specs.Prelude.{◌≡◌, ◌⊎◌, ◌↔◌, ◌+◌, ◌-◌, ◌<◌, ◌≤◌, ◌^◌, ◌++◌, [], ℕ, All, IfErr, IfOk, IsErrOf, IsTrue, length, sum_by};
 ghost use Rattle.lethe_base.specs.Limits.{max_place};
+ghost use Rattle.lethe_base.specs.declared.name.Kind.TheVariants.{Page};
+ghost use Rattle.lethe_base.specs.declared.name.Name as name;
 ghost use Rattle.lethe_base.specs.declared.refused.Refused.TheVariants as refused;
-ghost use Rattle.lethe_advance.specs.Settled.{AreDrawn, AreUncited};
+ghost use Rattle.lethe_advance.specs.Settled.{AreDrawn, AreUncited, names_in};
 ghost use Rattle.lethe_advance.specs.Shown.{parts_by_level};
 ghost use Rattle.lethe_advance.specs.Steps.{IsStep};
 ghost use Rattle.lethe_build.specs.Drafts.{AreDraftsOf, IsDraft, numbers_for};
 ghost use Rattle.lethe_flush.specs.Made.{pages_in, written_pages};
 ghost use Rattle.lethe_follows.specs.Merged.{IsMerged, StoredMerge, entries_in, inputs_of};
 ghost use Rattle.lethe_header.specs.Headers as headers;
+ghost use Rattle.lethe_install.specs.Inputs.{numbered};
 ghost use Rattle.lethe_install.specs.Installed.{IsInstallStep, installing_manifest};
+ghost use Rattle.lethe_install.specs.Left.{left_of};
 ghost use Rattle.lethe_job.specs.Tasks.{IsTaskIn, plain_task};
 ghost use Rattle.lethe_merge.specs.Merge.{merged};
 ghost use Rattle.lethe_state.specs.Remembered.{IsCurrent, Remembers};
@@ -20,13 +24,13 @@ ghost use Rattle.lethe_stored.specs.Levels.{AreRising};
 ghost use Rattle.lethe_stored.specs.Stored.{Stored, pending_of};
 
 use crate::inputs::{Inputs, inputs_of};
+use crate::left::{Parted, part};
 use crate::placing::with_made;
-use lethe_advance::Step;
+use lethe_advance::{NewHeader, Step};
 use lethe_base::{List, MAX_PLACE, Name, NoMemory, Refused};
 use lethe_build::{Draft, numbers_for};
 use lethe_disk::Disk;
 use lethe_flush::{MadeFiles, make_files};
-use lethe_header::Header;
 use lethe_job::Task;
 use lethe_manifest::{Cited, Manifest};
 use lethe_state::State;
@@ -36,8 +40,19 @@ use std::alloc::Global;
 /// The most files of a manifest.
 const MAX_FILES: usize = 0xffff_ffff;
 
-/// The headers of a job's outputs, and the step that installs them: it writes what isn't written of them yet, cites them in the place of the inputs and removes
-/// these. The first of the outputs' pages were written before, under these names; for the other pages, the headers and the manifest numbers are drawn.
+/// What installs the outputs of a job.
+#[derive(Debug, Drop)]
+pub struct Installation {
+    /// The headers of the files that come, each with its level.
+    pub headers: Vec<NewHeader>,
+    pub step: Step,
+    /// The pages that no manifest cites any more and that are still needed.
+    pub left: Vec<Name>,
+}
+
+/// What installs a job's outputs: the step writes what isn't written of them yet, cites them in the place of the inputs, and removes what isn't needed of these and of the
+/// pages that were retired before. The first of the outputs' pages were written before, under these names; for the other pages, the headers and the manifest numbers are
+/// drawn.
 ///
 /// # Errors
 ///
@@ -49,32 +64,42 @@ pub fn installing<D: Disk>(
     task: &Task<D>,
     drafts: Vec<Draft>,
     written: &[Name],
-) -> Result<(Vec<Header>, Step), Refused>
+    retired: &[Name],
+    needed: &[Name],
+) -> Result<Installation, Refused>
     requires writable { IsWritable state.now }
     requires level { task.now.level < state.now.manifest.config.levels }
     requires upto { task.now.upto ≤ max_place }
     requires drafts { All IsDraft drafts.items }
     requires few { sum_by numbers_for drafts.items < 2 ^ 63 }
-    requires written { AreDrawn state.now.next written.now }
+    requires drawn { AreDrawn state.now.next (retired.now ++ written.now) }
     requires some { length written.now ≤ length (pages_in drafts.items) }
+
+    // Headers are never needed.
+    requires pages { All (λ name. name.kind ≡ Page) needed.now }
     ensures exhausted { IsErrOf result (refused.Exhausted max_place) → max_place ≤ state.now.next + (sum_by numbers_for drafts.items - length written.now) }
     ensures refused { IfErr result (λ why. (why ≡ refused.Exhausted max_place) ⊎ (why ≡ refused.NoMemory)) }
-    ensures headers { IfOk result (λ made. All headers.HasSpelling made.0.items) }
-    ensures step { IfOk result (λ made. IsStepFrom (segments_for state.now.frozen) state.now made.1) }
-    ensures level { IfOk result (λ made. made.1.level ≡ task.now.level + 1) }
-    ensures objects { IfOk result (λ made. length made.1.objects.items ≡ sum_by numbers_for drafts.items - length written.now) }
+    ensures headers { IfOk result (λ made. All (λ new. headers.HasSpelling new.header) made.headers.items) }
+    ensures step { IfOk result (λ made. IsStepFrom (segments_for state.now.frozen) state.now made.headers.items made.step) }
+    ensures level { IfOk result (λ made. All (λ new. new.level ≡ task.now.level + 1) made.headers.items) }
+    ensures objects { IfOk result (λ made. length made.step.objects.items ≡ sum_by numbers_for drafts.items - length written.now) }
+    ensures none { needed.now ≡ [] → IfOk result (λ made. made.left.items ≡ []) }
+    ensures pages { IfOk result (λ made. All (λ name. name.kind ≡ Page) made.left.items) }
 
-    // What is stored next is the merge's outcome, and none of the pages that were written before is left loose.
-    ensures installs { (s : Stored) (m : StoredMerge) → Remembers s state.now (parts_by_level version.now) → IsCurrent s state.now → AreRising s.files → IsTaskIn s m (plain_task task.now)
-        → AreUncited s (written_pages written.now drafts.items)
+    // What is stored next is the merge's outcome. Of the pages that were written before none is left loose, and of the inputs' and the retired ones just those that are needed.
+    ensures installs { (s : Stored) (m : StoredMerge) (beside : prelude.List (name.Name × prelude.List ℕ)) → Remembers s state.now (parts_by_level version.now) → IsCurrent s state.now
+        → AreRising s.files → IsTaskIn s m (plain_task task.now) → names_in beside ≡ retired.now → AreUncited s (beside ++ written_pages written.now drafts.items)
         → AreDraftsOf s.manifest.config (merged (entries_in (inputs_of m)) (pending_of s) task.now.alone) drafts.items
         → IfOk result (λ made. (t : Stored) × IsMerged s m (pending_of s) task.now.alone task.now.upto t
-        × IsStep s (written_pages written.now drafts.items) t [] made.0.items made.1) }
+        × IsStep s (beside ++ written_pages written.now drafts.items) t (left_of needed.now (numbered made.step.merged.items s.files) beside) made.headers.items made.step
+        × (made.left.items ≡ names_in (left_of needed.now (numbered made.step.merged.items s.files) beside))) }
 {
     if is_short_for(state, &drafts, written) {
         return Err(Refused::Exhausted { last: MAX_PLACE });
     }
-    match install(alloc, state, version, task, drafts, written) {
+    match install(
+        alloc, state, version, task, drafts, written, retired, needed,
+    ) {
         Ok(made) => Ok(made),
         Err(NoMemory) => Err(Refused::NoMemory),
     }
@@ -90,7 +115,7 @@ fn is_short_for(state: &State, drafts: &[Draft], written: &[Name]) -> bool
     MAX_PLACE <= state.next + (numbers_for(drafts) - written.len() as u64)
 }
 
-/// The headers of the drafts' files, and the step that installs them.
+/// What installs the drafts' files.
 fn install<D: Disk>(
     alloc: Global,
     state: &State,
@@ -98,28 +123,34 @@ fn install<D: Disk>(
     task: &Task<D>,
     drafts: Vec<Draft>,
     written: &[Name],
-) -> Result<(Vec<Header>, Step), NoMemory>
+    retired: &[Name],
+    needed: &[Name],
+) -> Result<Installation, NoMemory>
     requires writable { IsWritable state.now }
     requires level { task.now.level < state.now.manifest.config.levels }
     requires upto { task.now.upto ≤ max_place }
     requires drafts { All IsDraft drafts.items }
-    requires written { AreDrawn state.now.next written.now }
+    requires drawn { AreDrawn state.now.next (retired.now ++ written.now) }
     requires some { length written.now ≤ length (pages_in drafts.items) }
+    requires pages { All (λ name. name.kind ≡ Page) needed.now }
     requires numbers { state.now.next + (sum_by numbers_for drafts.items - length written.now) < max_place }
-    ensures headers { IfOk result (λ made. All headers.HasSpelling made.0.items) }
-    ensures step { IfOk result (λ made. IsStepFrom (segments_for state.now.frozen) state.now made.1) }
-    ensures level { IfOk result (λ made. made.1.level ≡ task.now.level + 1) }
-    ensures objects { IfOk result (λ made. length made.1.objects.items ≡ sum_by numbers_for drafts.items - length written.now) }
-    ensures installs { (s : Stored) (m : StoredMerge) → Remembers s state.now (parts_by_level version.now) → IsCurrent s state.now → AreRising s.files → IsTaskIn s m (plain_task task.now)
-        → AreUncited s (written_pages written.now drafts.items)
+    ensures headers { IfOk result (λ made. All (λ new. headers.HasSpelling new.header) made.headers.items) }
+    ensures step { IfOk result (λ made. IsStepFrom (segments_for state.now.frozen) state.now made.headers.items made.step) }
+    ensures level { IfOk result (λ made. All (λ new. new.level ≡ task.now.level + 1) made.headers.items) }
+    ensures objects { IfOk result (λ made. length made.step.objects.items ≡ sum_by numbers_for drafts.items - length written.now) }
+    ensures none { needed.now ≡ [] → IfOk result (λ made. made.left.items ≡ []) }
+    ensures pages { IfOk result (λ made. All (λ name. name.kind ≡ Page) made.left.items) }
+    ensures installs { (s : Stored) (m : StoredMerge) (beside : prelude.List (name.Name × prelude.List ℕ)) → Remembers s state.now (parts_by_level version.now) → IsCurrent s state.now
+        → AreRising s.files → IsTaskIn s m (plain_task task.now) → names_in beside ≡ retired.now → AreUncited s (beside ++ written_pages written.now drafts.items)
         → AreDraftsOf s.manifest.config (merged (entries_in (inputs_of m)) (pending_of s) task.now.alone) drafts.items
         → IfOk result (λ made. (t : Stored) × IsMerged s m (pending_of s) task.now.alone task.now.upto t
-        × IsStep s (written_pages written.now drafts.items) t [] made.0.items made.1) }
+        × IsStep s (beside ++ written_pages written.now drafts.items) t (left_of needed.now (numbered made.step.merged.items s.files) beside) made.headers.items made.step
+        × (made.left.items ≡ names_in (left_of needed.now (numbered made.step.merged.items s.files) beside))) }
 {
     let level = task.level + 1;
     let made = make_files(alloc, drafts, level, task.upto, written, state.next)?;
     let inputs = inputs_of(alloc, version, task, level, state.manifest.files.items())?;
-    step_of(alloc, state, level, inputs, made)
+    step_of(alloc, state, level, inputs, made, retired, needed)
 }
 
 /// The step that writes what a job made, and cites it in the level in the place of the inputs.
@@ -129,9 +160,11 @@ fn step_of(
     level: u64,
     inputs: Inputs,
     made: MadeFiles,
-) -> Result<(Vec<Header>, Step), NoMemory>
+    retired: &[Name],
+    needed: &[Name],
+) -> Result<Installation, NoMemory>
     requires numbers { made.next < max_place }
-    ensures { IfOk result (λ step. IsInstallStep state.now level inputs made step.0.items step.1) }
+    ensures { IfOk result (IsInstallStep state.now level inputs made retired.now needed.now) }
 {
     let MadeFiles {
         headers,
@@ -142,20 +175,25 @@ fn step_of(
     let Inputs {
         numbers,
         above,
-        names,
+        mut names,
     } = inputs;
+    names.extend_from_slice(retired)?;
+    let Parted { gone, left } = part(alloc, names, needed)?;
     let old = state.manifest.files.items();
     let files = with_made(alloc, old, cited, level, &numbers, &above)?;
     let manifest = installing_manifest(alloc, state, files, next)?;
     let step = Step {
         objects,
-        level,
         merged: numbers,
         older: state.manifest.no,
         manifest,
-        gone: names,
+        gone,
     };
-    Ok((headers, step))
+    Ok(Installation {
+        headers,
+        step,
+        left,
+    })
 }
 
 /// The manifest of this number, which cites these files and has the pending erases.

@@ -4,7 +4,7 @@ use Rattle.std.specs.Prelude.{◌↔◌}
 use Rattle.std.specs.List.Sorted.{IsPermutation}
 use Rattle.std.proofs.lemmas.List.{map-append}
 use Rattle.std.proofs.lemmas.List.Concat.{flat_map-append}
-use Rattle.std.proofs.lemmas.List.Elements.{All-append, All-contains, All-cons, All-nil, All-weaker, Contains-append_left, Contains-append_right, Contains-append_cases, Contains-push}
+use Rattle.std.proofs.lemmas.List.Elements.{All-append, All-contains, All-cons, All-nil, Contains-append_left, Contains-append_right, Contains-append_cases, Contains-push}
 use Rattle.std.proofs.lemmas.List.Sorted.{IsPermutation-refl}
 use Rattle.lethe_base.specs.History.{History}
 use Rattle.lethe_base.specs.Layout.{File, Layout, files_of}
@@ -34,10 +34,11 @@ use Rattle.lethe_follows.specs.Filed.{AreNewFiles, reopened}
 use Rattle.lethe_follows.proofs.Stepping.{reopened_coherent, reopened_for}
 use Rattle.lethe_flush.specs.Clear as clear
 use Rattle.lethe_flush.specs.Flushed.{IsFlushOf}
-use Rattle.lethe_flush.specs.Made.{named_of}
+use Rattle.lethe_flush.specs.Made.{headers_of, named_of}
 use Rattle.lethe_advance.specs.Settled.{names_in}
-use Rattle.lethe_advance.specs.Steps.{IsSettledBy, IsStep, IsSegmentFrom, IsObjectFrom, IsUncited, WasThere, kept_files, written_in}
+use Rattle.lethe_advance.specs.Steps.{IsSettledBy, IsStep, IsSegmentFrom, IsObjectFrom, IsUncited, WasThere, kept_files, new_header, written_in}
 use Rattle.lethe_advance.proofs.Lists.{filter_all}
+use Rattle.lethe_flush.proofs.Finishing.{headers_made}
 use Rattle.lethe_recover.specs.Flushing.{AreFlushesOf, IsWritable}
 use Rattle.lethe_recover.specs.Journals.{IsJournalOf}
 use Rattle.lethe_recover.specs.Reopening.{AreFiled, AreHeadersOf, IsReopenedAs, IsStepOf, Reopens, empty_segment, successor}
@@ -258,12 +259,14 @@ module _ (s : Stored) (coherent : IsCoherent s) (m : Manifest) (same : s.manifes
     left_stays = All-nil (λ (named : Name × List ℕ). Contains made.step.gone.items named.0 → ⊥);
     left_uncited = All-nil (λ (named : Name × List ℕ). IsCited t named.0 → ⊥);
     added = files;
-    headers_are = is.headers ∙ (λ i. newer_is.headers i ++ older_is.headers i) ∙ sym (map-append (λ (file : StoredFile). file.header) newer older);
-    level = All-weaker (λ (file : StoredFile). file.level ≡ 0) (λ (file : StoredFile). file.level ≡ made.step.level) (λ file zeroth. zeroth ∙ sym is.level) files new_files.level;
+    headers_are = is.headers ∙ (λ i. newer_is.headers i ++ older_is.headers i) ∙ sym (map-append new_header newer older);
     files = subst (λ l. IsPermutation (files ++ l) (files ++ s.files)) (sym kept_is) (IsPermutation-refl (files ++ s.files));
   }
 
   -- The history
+
+  headers_older : headers_of flushes.older ≡ map (λ (file : StoredFile). file.header) older
+  headers_older = headers_made flushes.older older older_is.headers
 
   abbrev first : Layout
   first = layouts.flushed (layout_of s) (map file_of older)
@@ -285,10 +288,10 @@ module _ (s : Stored) (coherent : IsCoherent s) (m : Manifest) (same : s.manifes
       subst (λ (file : File). file.no < flushes.older.next) found.2 lt))
       (stored_below s coherent flushes.older.next (omega (arith, next_is, low)))) in
       let flushes_newer : Flushes h (frozen first) (map file_of newer) =
-      flushes_of h (frozen first) journal.newer erases count flushes.older.next (heads ++ flushes.older.headers.items) m.config flushes.newer are.newer (ap (map plain) (sym is_journal.newer)) erases_are upto
+      flushes_of h (frozen first) journal.newer erases count flushes.older.next (heads ++ headers_of flushes.older) m.config flushes.newer are.newer (ap (map plain) (sym is_journal.newer)) erases_are upto
       (λ keys free. subst (All (moves.IsClearOf keys)) (sym files_are) (All-append (moves.IsClearOf keys) (map file_of older) (files_of (layout_of s))
-      (new_clear keys older (subst (All (clear.IsClearOf keys)) older_is.headers (all_right (clear.IsClearOf keys) heads flushes.older.headers.items free)))
-      (stored_clear s coherent heads heads_are.each keys (all_left (clear.IsClearOf keys) heads flushes.older.headers.items free)))) below in
+      (new_clear keys older (subst (All (clear.IsClearOf keys)) headers_older (all_right (clear.IsClearOf keys) heads (headers_of flushes.older) free)))
+      (stored_clear s coherent heads heads_are.each keys (all_left (clear.IsClearOf keys) heads (headers_of flushes.older) free)))) below in
       reopened_for s older newer segment (segment + 1) h coherent for older_is.new.level newer_is.new.level flushes_older flushes_newer
 
   -- What is stored next
@@ -305,8 +308,8 @@ module _ (s : Stored) (coherent : IsCoherent s) (m : Manifest) (same : s.manifes
         newer = newer;
         segment = segment;
         of_newer =
-            filed_of s journal.newer s.active.records erases count flushes.older.next (heads ++ flushes.older.headers.items) (older ++ s.files) m.config flushes.newer are.newer config_is is_journal.newer erases_are count_is
-            (λ keys. heads_more (clear.IsClearOf keys) heads flushes.older.headers.items older s.files older_is.headers (there keys));
+            filed_of s journal.newer s.active.records erases count flushes.older.next (heads ++ headers_of flushes.older) (older ++ s.files) m.config flushes.newer are.newer config_is is_journal.newer erases_are count_is
+            (λ keys. heads_more (clear.IsClearOf keys) heads (headers_of flushes.older) older s.files headers_older (there keys));
         is = refl;
       }
 

@@ -19,6 +19,7 @@ use Rattle.lethe_stored.specs.Files.{StoredFile}
 use Rattle.lethe_stored.specs.Replayed.{AreNewestOf}
 use Rattle.lethe_flush.specs.Clear.{IsClearOf}
 use Rattle.lethe_flush.specs.Flushed.{IsFlushOf}
+use Rattle.lethe_flush.specs.Made.{headers_of}
 use Rattle.lethe_flush.specs.declared.made.MadeFiles.{MadeFiles}
 use Rattle.lethe_recover.specs.declared.flushing.Drafts.{Drafts}
 use Rattle.lethe_recover.specs.declared.flushing.Flushes.{Flushes}
@@ -68,11 +69,12 @@ pub record IsFlushOfRecords (fields : Fields) (records : List Record) (erases : 
 -- those of the older records, and those of the newer ones where the former are there
 pub record AreFlushesOf (fields : Fields) (journal : Journal) (erases : List Pending) (upto first : ℕ) (headers : List Header) (flushes : Flushes) : Type 0 where
   pub older : IsFlushOfRecords fields journal.older erases upto first headers flushes.older
-  pub newer : IsFlushOfRecords fields journal.newer erases upto flushes.older.next (headers ++ flushes.older.headers.items) flushes.newer
+  pub newer : IsFlushOfRecords fields journal.newer erases upto flushes.older.next (headers ++ headers_of flushes.older) flushes.newer
 
 -- on any disk: the files can be cited, and their objects have the numbers from the first on
 pub record IsWritable (first : ℕ) (made : MadeFiles) : Type 0 where
-  pub headers : All headers.HasSpelling made.headers.items
+  pub headers : All (λ new. headers.HasSpelling new.header) made.headers.items
+  pub levels : All (λ new. new.level ≡ 0) made.headers.items
   pub cited : (levels : ℕ) → All (IsFile made.next levels) made.cited.items
   pub level : All (λ file. file.level ≡ 0) made.cited.items
   pub next : made.next ≡ first + length made.objects.items

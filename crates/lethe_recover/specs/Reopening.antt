@@ -47,7 +47,6 @@ empty_segment segment = record { name = segment_name segment; bytes = segment_by
 pub record IsStepOf (m : Manifest) (count : ℕ) (erases : List Pending) (flushes : Flushes) (made : Reopening) : Type 0 where
   pub headers : made.headers.items ≡ flushes.newer.headers.items ++ flushes.older.headers.items
   pub objects : made.step.objects.items ≡ flushes.older.objects.items ++ flushes.newer.objects.items ++ empty_segment flushes.newer.next ∷ []
-  pub level : made.step.level ≡ 0
   pub merged : made.step.merged.items ≡ []
   pub older : made.step.older ≡ m.no
   pub manifest : made.step.manifest ≡ successor m count erases (flushes.newer.cited.items ++ flushes.older.cited.items ++ m.files) flushes.newer.next

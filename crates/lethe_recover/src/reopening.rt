@@ -14,10 +14,9 @@ ghost use Rattle.lethe_recover.specs.Reopening.{AreHeadersOf, IsStepOf, Reopens,
 
 use crate::cited::push_segments;
 use crate::flushing::{Drafts, Flushes, flush_journal};
-use lethe_advance::Step;
+use lethe_advance::{NewHeader, Step};
 use lethe_base::{Kind, List, Name, NoMemory, Pending};
 use lethe_commit::Object;
-use lethe_header::Header;
 use lethe_manifest::{Cited, Manifest};
 use lethe_segment::new_segment;
 use std::alloc::Global;
@@ -28,8 +27,8 @@ const MAX_LISTED: usize = u32::MAX as usize;
 /// The step of an opening.
 #[derive(Drop)]
 pub struct Reopening {
-    /// The headers of the files that come.
-    pub headers: Vec<Header>,
+    /// The headers of the files that come, each with its level.
+    pub headers: Vec<NewHeader>,
     pub step: Step,
 }
 
@@ -53,8 +52,8 @@ pub fn reopening_of(
     ensures spelled { IfOk result (λ made. HasSpelling made.step.manifest) }
     ensures config { IfOk result (λ made. made.step.manifest.config ≡ manifest.now.config) }
     ensures segments { IfOk result (λ made. length made.step.manifest.segments ≡ 1) }
-    ensures headers { IfOk result (λ made. All headers.HasSpelling made.headers.items) }
-    ensures level { IfOk result (λ made. made.step.level ≡ 0) }
+    ensures headers { IfOk result (λ made. All (λ new. headers.HasSpelling new.header) made.headers.items) }
+    ensures levels { IfOk result (λ made. All (λ new. new.level ≡ 0) made.headers.items) }
     ensures next { IfOk result (λ made. made.step.manifest.next ≡ manifest.now.next + length made.step.objects.items + 1) }
 {
     let flushes = flush_journal(alloc, drafts, count, manifest.next)?;
@@ -93,7 +92,6 @@ fn step_of(
     push_segments(&mut gone, manifest.segments.items())?;
     let step = Step {
         objects,
-        level: 0,
         merged: Vec::new(alloc),
         older: manifest.no,
         manifest: next,

@@ -42,7 +42,7 @@ none_of (Some at) never = absurd (never at refl)
 module _ (Told Ports : Type 0) (act : Act) (call : Call) (is : call_of act ≡ Some call) (old new : View) where
   -- what it says of itself
   abbrev Says : Option Refused → Type 0
-  Says why = engine.Answers Told (Makes call) why (face_of old) old new
+  Says why = engine.Answers Told (Makes call) why (record (face_of old) { retired = new.retired }) old new
 
   -- it isn't made
   still : new.state.count ≡ old.state.count → new.state.stopped ≡ old.state.stopped → standing_of new ≡ standing_of old

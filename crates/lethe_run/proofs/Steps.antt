@@ -53,7 +53,7 @@ module _ (Tells Ports : Type 0) (told : Tells) (begin : Start) (from : Point) (h
 
   -- what the change says of itself
   abbrev Says : Option Refused → Type 0
-  Says why = engine.Answers Tells (Makes call) why (face_of old) old new
+  Says why = engine.Answers Tells (Makes call) why (record (face_of old) { retired = new.retired }) old new
 
   -- it is answered so
   abbrev Replied : Reply → Type 0

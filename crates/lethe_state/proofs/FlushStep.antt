@@ -27,7 +27,6 @@ use Rattle.lethe_follows.specs.Filed.{AreNewFiles, flushed}
 use Rattle.lethe_follows.specs.Woven.{AreWovenOf}
 use Rattle.lethe_follows.proofs.Following.{file_from, file_in}
 use Rattle.lethe_follows.proofs.Stepping.{flushed_coherent}
-use Rattle.lethe_header.specs.declared.header.Header.{Header}
 use Rattle.lethe_header.specs.declared.header.PageLine.{PageLine}
 use Rattle.lethe_manifest.specs.Manifests.{HasSpelling, IsFile}
 use Rattle.lethe_manifest.specs.declared.manifest.Cited.{Cited}
@@ -46,6 +45,7 @@ use Rattle.lethe_stored.proofs.Meanings.{frozen_are}
 use Rattle.lethe_stored.proofs.Parts.{active_part, frozen_part, object_apart, object_part}
 use Rattle.lethe_advance.specs.Settled.{AreDrawn, AreUncited, names_in}
 use Rattle.lethe_advance.specs.Steps.{IsObjectFrom, IsSegmentFrom, IsSettledBy, IsStep, IsUncited, written_in}
+use Rattle.lethe_advance.specs.declared.new_header.NewHeader.{NewHeader}
 use Rattle.lethe_advance.specs.declared.step.Step.{Step}
 use Rattle.lethe_state.specs.Made.{IsFlushStep, flushing_manifest}
 use Rattle.lethe_state.specs.Records.{headers_in}
@@ -108,21 +108,21 @@ module _ (state : State) (cited : List Cited) (number : ℕ) (is : IsWritable st
     };
   }
 
-pub flush_from : (state : State) (parts : MadeFiles) (headers : List Header) (step : Step) → IsWritable state → length state.manifest.segments ≡ 2 → parts.next < max_place
+pub flush_from : (state : State) (parts : MadeFiles) (headers : List NewHeader) (step : Step) → IsWritable state → length state.manifest.segments ≡ 2 → parts.next < max_place
     → parts.next ≡ state.next + length parts.objects.items → ((levels : ℕ) → All (IsFile parts.next levels) parts.cited.items) → All (λ (file : Cited). file.level ≡ 0) parts.cited.items
-    → IsFlushStep state parts headers step → length step.manifest.files < 2 ^ 32 → IsStepFrom 1 state step
-flush_from state parts headers step is two fits drawn each level made few =
+    → All (λ (new : NewHeader). new.level ≡ 0) parts.headers.items → IsFlushStep state parts headers step → length step.manifest.files < 2 ^ 32 → IsStepFrom 1 state headers step
+flush_from state parts headers step is two fits drawn each level new_level made few =
     let before = is.drawn in
     let later : state.manifest.next ≤ parts.next = omega (arith, before, drawn) in
     let short = subst (λ (m : Manifest). length m.files < 2 ^ 32) made.manifest few in
     let written : length step.objects.items ≡ length parts.objects.items = ap length made.objects in
     let number : step.manifest.no ≡ parts.next = ap (λ (m : Manifest). m.no) made.manifest in
-    let last : step.manifest.next ≡ parts.next + 1 = ap (λ (m : Manifest). m.next) made.manifest in
-    let zeroth = made.level in record {
+    let last : step.manifest.next ≡ parts.next + 1 = ap (λ (m : Manifest). m.next) made.manifest in record {
       spelled = subst HasSpelling (sym made.manifest) (flushing_spelled state parts.cited.items parts.next is two later fits each level short);
       segments_are = ap (λ (m : Manifest). length m.segments) made.manifest ∙ one state parts.cited.items parts.next is two later fits each level short;
       config = ap (λ (m : Manifest). m.config) made.manifest;
-      level = omega (arith, zeroth);
+      levels = subst (All (λ (new : NewHeader). new.level ≤ state.manifest.config.levels)) (sym made.headers_are)
+          (All-weaker (λ (new : NewHeader). new.level ≡ 0) (λ (new : NewHeader). new.level ≤ state.manifest.config.levels) (λ new zero. omega (arith, zero)) parts.headers.items new_level);
       numbers = omega (arith, written, number, drawn);
       next = omega (arith, number, last);
     }
@@ -246,7 +246,7 @@ module _ (s : Stored) (state : State) (levels : List (List Parts)) (is : Remembe
     files = files_made;
   }
 
-  module _ (headers : List Header) (step : Step) (stepped : IsFlushStep state made headers step) (spelled : HasSpelling step.manifest)
+  module _ (headers : List NewHeader) (step : Step) (stepped : IsFlushStep state made headers step) (spelled : HasSpelling step.manifest)
       (loose : List (Name × List ℕ)) (drawn : AreDrawn state.next (names_in loose)) (uncited_before : AreUncited s loose) where
     abbrev named : List Name
     named = map (λ named. named.0) (objects_of s.files)
@@ -360,14 +360,13 @@ module _ (s : Stored) (state : State) (levels : List (List Parts)) (is : Remembe
       left_uncited = still_uncited state.next loose drawn s t old_or_fresh uncited_before;
       added = files;
       headers_are = stepped.headers_are ∙ flush.headers;
-      level = subst (λ level. All (λ (file : StoredFile). file.level ≡ level) files) (sym stepped.level) (flush.new).level;
       files = subst (λ kept. IsPermutation (files ++ kept) (files ++ s.files)) (sym (all_kept s step stepped.merged)) (IsPermutation-refl (files ++ s.files));
     }
 
 pub flush_steps : (s : Stored) (state : State) (levels : List (List Parts)) → Remembers s state levels → IsCurrent s state → state.manifest.next ≤ state.next
     → (buffer : Buffered) → state.frozen ≡ Some buffer → (alone : Bool) → (IsTrue alone ↔ ((0 < length buffer.entries) × All (clear.IsClearOf (span_of buffer.entries)) (headers_in levels)))
     → (made : MadeFiles) (files : List StoredFile) → IsFlushOf state.manifest.config buffer.entries state.pending alone state.count state.next made files → state.next ≤ made.next
-    → (headers : List Header) (step : Step) → IsFlushStep state made headers step → HasSpelling step.manifest
+    → (headers : List NewHeader) (step : Step) → IsFlushStep state made headers step → HasSpelling step.manifest
     → (loose : List (Name × List ℕ)) → AreDrawn state.next (names_in loose) → AreUncited s loose → (t : Stored) × IsFlushed s t × IsStep s loose t loose headers step
 flush_steps s state levels is current fits buffer some alone clear_of made files flush risen headers step stepped spelled loose drawn uncited_before =
     let frozen = older_of s.frozen buffer (subst (IsFrozenIn s.frozen) some is.frozen) in (

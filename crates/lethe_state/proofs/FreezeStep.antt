@@ -15,12 +15,13 @@ use Rattle.lethe_manifest.specs.Manifests.{HasSpelling, IsFile}
 use Rattle.lethe_manifest.specs.declared.manifest.Cited.{Cited}
 use Rattle.lethe_manifest.specs.declared.manifest.Manifest.{Manifest}
 use Rattle.lethe_segment.specs.Segments.{segment_bytes}
-use Rattle.lethe_stored.specs.Files.{Parts, StoredFile, objects_of}
+use Rattle.lethe_stored.specs.Files.{Parts, objects_of}
 use Rattle.lethe_stored.specs.Stored.{Stored, froze, number_of, part_names, segment_name, segment_numbers}
 use Rattle.lethe_stored.proofs.Freezing.{froze_coherent}
 use Rattle.lethe_stored.proofs.Parts.{active_part, frozen_part, object_part}
 use Rattle.lethe_advance.specs.Settled.{AreDrawn, AreUncited, names_in}
 use Rattle.lethe_advance.specs.Steps.{IsObjectFrom, IsSegmentFrom, IsSettledBy, IsStep, IsUncited, written_in}
+use Rattle.lethe_advance.specs.declared.new_header.NewHeader.{NewHeader}
 use Rattle.lethe_advance.specs.declared.step.Step.{Step}
 use Rattle.lethe_state.specs.Made.{empty_segment, freezing_manifest}
 use Rattle.lethe_state.specs.Remembered.{IsCurrent, Remembers}
@@ -66,8 +67,8 @@ freezing_spelled state is none fits =
     }
 
 pub freeze_from : (state : State) (step : Step) → IsWritable state → state.frozen ≡ None → state.next + 1 < max_place → step.objects.items ≡ empty_segment state.next ∷ []
-    → step.level ≡ 0 → step.manifest ≡ freezing_manifest state → IsStepFrom 2 state step
-freeze_from state step is none fits objects level manifest =
+    → step.manifest ≡ freezing_manifest state → IsStepFrom 2 state [] step
+freeze_from state step is none fits objects manifest =
     let one : length state.manifest.segments ≡ 1 = is.segments ∙ ap segments_for none in
     let longer = length_push state.manifest.segments state.next in
     let written : length step.objects.items ≡ 1 = ap length objects in
@@ -76,7 +77,7 @@ freeze_from state step is none fits objects level manifest =
       spelled = subst HasSpelling (sym manifest) (freezing_spelled state is none fits);
       segments_are = ap (λ (m : Manifest). length m.segments) manifest ∙ omega (arith, one, longer);
       config = ap (λ (m : Manifest). m.config) manifest;
-      level = omega (arith, level);
+      levels = All-nil (λ (new : NewHeader). new.level ≤ state.manifest.config.levels);
       numbers = omega (arith, written, number);
       next = omega (arith, number, last);
     }
@@ -152,6 +153,5 @@ module _ (s : Stored) (state : State) (levels : List (List Parts)) (is : Remembe
     left_uncited = still_uncited n loose drawn s t (λ object there. inl (object_part s object there)) uncited;
     added = [];
     headers_are = refl;
-    level = All-nil (λ (file : StoredFile). file.level ≡ step.level);
     files = subst (λ files. IsPermutation files s.files) (sym (all_kept s step merged)) (IsPermutation-refl s.files);
   }

@@ -1,11 +1,11 @@
 -- What the steps are made of.
 use Rattle.std.specs.Prelude.{◌≡◌, ℕ, ◌+◌, List, [], ◌∷◌, ◌++◌, drop, slice_index}
-use Rattle.lethe_header.specs.declared.header.Header.{Header}
 use Rattle.lethe_manifest.specs.declared.manifest.Cited.{Cited}
 use Rattle.lethe_manifest.specs.declared.manifest.Manifest.{Manifest}
 use Rattle.lethe_segment.specs.Segments.{segment_bytes}
 use Rattle.lethe_commit.specs.declared.objects.Object.{Object}
 use Rattle.lethe_stored.specs.Stored.{segment_name}
+use Rattle.lethe_advance.specs.declared.new_header.NewHeader.{NewHeader}
 use Rattle.lethe_advance.specs.declared.step.Step.{Step}
 use Rattle.lethe_flush.specs.declared.made.MadeFiles.{MadeFiles}
 use Rattle.lethe_state.specs.declared.state.State.{State}
@@ -35,10 +35,9 @@ flushing_manifest state cited number = record state.manifest {
 }
 
 -- the step writes the objects and cites the files, and the first segment goes
-pub record IsFlushStep (state : State) (made : MadeFiles) (headers : List Header) (step : Step) : Type 0 where
+pub record IsFlushStep (state : State) (made : MadeFiles) (headers : List NewHeader) (step : Step) : Type 0 where
   pub headers_are : headers ≡ made.headers.items
   pub objects : step.objects.items ≡ made.objects.items
-  pub level : step.level ≡ 0
   pub merged : step.merged.items ≡ []
   pub older : step.older ≡ state.manifest.no
   pub manifest : step.manifest ≡ flushing_manifest state made.cited.items made.next

@@ -16,6 +16,7 @@ use Rattle.lethe_follows.specs.Filed.{flushed, AreInOrder, AreNewFiles}
 use Rattle.lethe_follows.specs.Woven.{AreWovenOf}
 use Rattle.lethe_stored.specs.Files.{StoredFile, file_of}
 use Rattle.lethe_stored.specs.Stored.{Stored, pending_of, count_of, layout_of, froze}
+use Rattle.lethe_advance.specs.declared.new_header.NewHeader.{NewHeader}
 use Rattle.lethe_advance.specs.declared.step.Step.{Step}
 use Rattle.lethe_state.specs.declared.state.State.{State}
 
@@ -80,12 +81,12 @@ abbrev pub IsShortToFlush : State → Type 0
 IsShortToFlush state = IsShortBy 0 state
 
 -- On any disk: the step's manifest has a spelling, cites so many segments and keeps the configuration. Each number that was drawn is one of an
--- object or the manifest's, which is the last, and files come in a level that there is.
-pub record IsStepFrom (segments : ℕ) (state : State) (step : Step) : Type 0 where
+-- object or the manifest's, which is the last, and files come in levels that there are.
+pub record IsStepFrom (segments : ℕ) (state : State) (headers : List NewHeader) (step : Step) : Type 0 where
   pub spelled : HasSpelling step.manifest
   pub segments_are : length step.manifest.segments ≡ segments
   pub config : step.manifest.config ≡ state.manifest.config
-  pub level : step.level ≤ state.manifest.config.levels
+  pub levels : All (λ new. new.level ≤ state.manifest.config.levels) headers
   pub numbers : step.manifest.no ≡ state.next + length step.objects.items
   pub next : step.manifest.next ≡ step.manifest.no + 1
 

@@ -25,12 +25,11 @@ ghost use Rattle.lethe_state.specs.Room.{AreDrafted, IsFlushed, IsShortToFlush, 
 ghost use Rattle.lethe_state.specs.Writable.{IsWritable};
 
 use crate::State;
-use lethe_advance::Step;
+use lethe_advance::{NewHeader, Step};
 use lethe_base::{Kind, List, MAX_PLACE, Name, NoMemory, Refused};
 use lethe_build::Draft;
 use lethe_disk::Disk;
 use lethe_flush::{MadeFiles, flush_drafts, flush_files, is_clear};
-use lethe_header::Header;
 use lethe_manifest::{Cited, Manifest};
 use lethe_mem::{Buffer, VecBuffer};
 use lethe_version::Version;
@@ -49,15 +48,15 @@ impl State {
         &self,
         alloc: Global,
         version: &Version<D>,
-    ) -> Result<(Vec<Header>, Step), Refused>
+    ) -> Result<(Vec<NewHeader>, Step), Refused>
         requires writable { IsWritable self.now }
         requires frozen { IsSome self.now.frozen }
         ensures exhausted { IsErrOf result (refused.Exhausted max_place) → IsShortToFlush self.now }
         ensures refused { IfErr result (λ why. (why ≡ refused.Exhausted max_place) ⊎ (why ≡ refused.NoMemory)) }
-        ensures headers { IfOk result (λ made. All headers.HasSpelling made.0.items) }
+        ensures headers { IfOk result (λ made. All (λ new. headers.HasSpelling new.header) made.0.items) }
 
         // The numbers of all objects and of the manifest were drawn.
-        ensures step { IfOk result (λ made. IsStepFrom 1 self.now made.1) }
+        ensures step { IfOk result (λ made. IsStepFrom 1 self.now made.0.items made.1) }
         ensures drafted { IfOk result (λ made. (drafts : prelude.List draft.Draft) × AreDrafted self.now drafts × (length made.1.objects.items ≡ sum_by numbers_for drafts)) }
         ensures flushes { (s : Stored) → Remembers s self.now (parts_by_level version.now) → IsCurrent s self.now
             → (loose : prelude.List (name.Name × prelude.List ℕ)) → AreDrawn self.now.next (names_in loose) → AreUncited s loose
@@ -113,7 +112,7 @@ impl State {
         &self,
         alloc: Global,
         drafts: Vec<Draft>,
-    ) -> Result<(Vec<Header>, Step), NoMemory>
+    ) -> Result<(Vec<NewHeader>, Step), NoMemory>
         requires writable { IsWritable self.now }
         requires segments { length self.now.manifest.segments ≡ 2 }
         requires drafts { All IsDraft drafts.items }
@@ -122,8 +121,8 @@ impl State {
             → IfOk result (λ made. (parts : MadeFiles) × (files : prelude.List StoredFile)
             × IsFlushOf self.now.manifest.config entries self.now.pending alone self.now.count self.now.next parts files
             × (self.now.next ≤ parts.next) × IsFlushStep self.now parts made.0.items made.1) }
-        ensures headers { IfOk result (λ made. All headers.HasSpelling made.0.items) }
-        ensures step { IfOk result (λ made. IsStepFrom 1 self.now made.1) }
+        ensures headers { IfOk result (λ made. All (λ new. headers.HasSpelling new.header) made.0.items) }
+        ensures step { IfOk result (λ made. IsStepFrom 1 self.now made.0.items made.1) }
         ensures few { IfOk result (λ made. length made.1.objects.items ≡ sum_by numbers_for drafts.items) }
     {
         let made = flush_files(alloc, drafts, self.count, self.next)?;
@@ -131,7 +130,7 @@ impl State {
     }
 
     /// The step that writes what a flush made.
-    fn flush_step(&self, alloc: Global, made: MadeFiles) -> Result<(Vec<Header>, Step), NoMemory>
+    fn flush_step(&self, alloc: Global, made: MadeFiles) -> Result<(Vec<NewHeader>, Step), NoMemory>
         requires segments { length self.now.manifest.segments ≡ 2 }
         requires numbers { made.next < max_place }
         ensures is { IfOk result (λ step. IsFlushStep self.now made step.0.items step.1) }
@@ -151,7 +150,6 @@ impl State {
         })?;
         let step = Step {
             objects,
-            level: 0,
             merged: Vec::new(alloc),
             older: self.manifest.no,
             manifest,

@@ -35,7 +35,7 @@ impl State {
         requires unfrozen { self.now.frozen ≡ None }
         ensures exhausted { IsErrOf result (refused.Exhausted max_place) ↔ IsShortToFreeze self.now }
         ensures refused { IfErr result (λ why. (why ≡ refused.Exhausted max_place) ⊎ (why ≡ refused.NoMemory)) }
-        ensures step { IfOk result (IsStepFrom 2 self.now) }
+        ensures step { IfOk result (IsStepFrom 2 self.now []) }
         ensures freezes { (s : Stored) (levels : prelude.List (prelude.List Parts)) → Remembers s self.now levels → IsCurrent s self.now
             → (loose : prelude.List (name.Name × prelude.List ℕ)) → AreDrawn self.now.next (names_in loose) → AreUncited s loose
             → IfOk result (λ step. IsStep s loose (froze s self.now.next (self.now.next + 1)) loose [] step) }
@@ -52,7 +52,6 @@ impl State {
     fn freeze_step(&self, alloc: Global) -> Result<Step, NoMemory>
         requires { self.now.next + 1 < max_place }
         ensures objects { IfOk result (λ step. step.objects.items ≡ empty_segment self.now.next ∷ []) }
-        ensures level { IfOk result (λ step. step.level ≡ 0) }
         ensures merged { IfOk result (λ step. step.merged.items ≡ []) }
         ensures older { IfOk result (λ step. step.older ≡ self.now.manifest.no) }
         ensures manifest { IfOk result (λ step. step.manifest ≡ freezing_manifest self.now) }
@@ -62,7 +61,6 @@ impl State {
         objects.push(segment_object(alloc, self.next)?)?;
         Ok(Step {
             objects,
-            level: 0,
             merged: Vec::new(alloc),
             older: self.manifest.no,
             manifest: self.freezing_manifest(alloc)?,

@@ -1,5 +1,7 @@
 //! What a store remembers while it is changed, and how its buffers are frozen and flushed.
-ghost use Rattle.std.specs.Prelude.{◌≡◌, ◌<◌, None, IfOk, OnOk, IsSome};
+ghost use Rattle.std.specs.Prelude as prelude;
+ghost use Rattle.std.specs.Prelude.{◌≡◌, ◌<◌, [], None, IfOk, OnOk, IsSome};
+ghost use Rattle.lethe_advance.specs.declared.new_header.NewHeader.{NewHeader};
 ghost use Rattle.lethe_base.specs.Limits.{max_place};
 ghost use Rattle.lethe_segment.specs.Records.{RecordHasSpelling};
 ghost use Rattle.lethe_state.specs.Room.{IsStepFrom};
@@ -102,7 +104,7 @@ fn draw(state: &mut State) -> Result<(), Fail>
 fn freezing(alloc: Global, state: &State) -> Result<Step, Fail>
     requires { IsWritable state.now }
     ensures unfrozen { OnOk result (state.now.frozen ≡ None) }
-    ensures step { IfOk result (IsStepFrom 2 state.now) }
+    ensures step { IfOk result (IsStepFrom 2 state.now []) }
 {
     match state.frozen {
         None => Ok(state.freezing(alloc)?),
@@ -114,7 +116,7 @@ fn freezing(alloc: Global, state: &State) -> Result<Step, Fail>
 fn flushing(alloc: Global, state: &State) -> Result<(usize, Step), Fail>
     requires writable { IsWritable state.now }
     requires frozen { IsSome state.now.frozen }
-    ensures { IfOk result (λ made. IsStepFrom 1 state.now made.1) }
+    ensures { IfOk result (λ made. (headers : prelude.List NewHeader) × IsStepFrom 1 state.now headers made.1) }
 {
     let version: Version<MemDisk> = Version::of(alloc, Vec::new(alloc))?;
     let (headers, step) = state.flushing(alloc, &version)?;

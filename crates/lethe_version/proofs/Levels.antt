@@ -2,8 +2,9 @@
 use Rattle.std.proofs.Common.{◌≡◌, ℕ, ◌+◌, ◌<◌, ◌≤◌, Bool, true, false, cond, eqb, List, [], ◌∷◌, ◌++◌, length, get_or, take, drop, map, Option, Some, None, inl, inr, refl, sym, ap, subst, ◌∙◌, arith}
 use Rattle.std.specs.Prelude.{◌≢◌, filter, find}
 use Rattle.std.specs.Option.{option_or}
-use Rattle.std.proofs.lemmas.Bool.{cases_eq, cases_lt, cond-false, cond-true}
+use Rattle.std.proofs.lemmas.Bool.{cases_lt, cond-false, cond-true}
 use Rattle.std.proofs.lemmas.List.{map-append, map_more, take-append-drop, drop_more, get_or-map, get_or_default, get_or_push, get_or_append_left, length-map, length_push}
+use Rattle.std.proofs.lemmas.Simd.{map-map}
 use Rattle.std.proofs.lemmas.List.Folds.{find-append}
 use Rattle.std.specs.List.Sorted.{IsSortedBy, ties}
 use Rattle.std.proofs.lemmas.List.Kept.{IsSortedBy-filter}
@@ -126,27 +127,26 @@ ordered_from {S = S} {F = F} view lt given shared sorted made given_is made_is o
 
 -- ---- what a level becomes
 
-abbrev pub IsNext : {F : Type 0} → (F → Header) → List ℕ → List F → ℕ → ℕ → List F → List F → Type 0
-IsNext header gone added level k old new =
-    (k ≢ level → new ≡ filter (λ one. is_kept gone (header one)) old)
-    × (k ≡ level → IsOrderedBy (λ a b. comes_before k (header a) (header b)) (filter (λ one. is_kept gone (header one)) old ++ added) new)
+-- of the files that come into the level, `added`, and its old and new files
+abbrev pub IsNext : {F : Type 0} → (F → Header) → List ℕ → List F → ℕ → List F → List F → Type 0
+IsNext header gone added level old new =
+    (added ≡ [] → new ≡ filter (λ one. is_kept gone (header one)) old)
+    × (added ≢ [] → IsOrderedBy (λ a b. comes_before level (header a) (header b)) (filter (λ one. is_kept gone (header one)) old ++ added) new)
 
-none_gone : {F : Type 0} (header : F → Header) (files : List F) → filter (λ one. is_kept [] (header one)) files ≡ files
-none_gone header [] = refl
-none_gone {F = F} header (file ∷ files) = ap (λ (l : List F). file ∷ l) (none_gone header files)
-
--- the files that weren't gone and the added ones, put in their order
-pub placed : {S F : Type 0} (view : S → F) (header : F → Header) (level : ℕ) (gone : List ℕ) (start old seen added kept both sorted made : List S) → start ≡ [] → seen ≡ old → map view kept ≡ map view start ++ filter (λ one. is_kept gone (header one)) (map view seen)
-    → map view both ≡ map view kept ++ filter (λ one. is_kept [] (header one)) (map view added) → made ≡ sorted → IsOrderedBy (λ a b. comes_before level (header (view a)) (header (view b))) both sorted
-    → IsOrderedBy (λ a b. comes_before level (header a) (header b)) (filter (λ one. is_kept gone (header one)) (map view old) ++ map view added) (map view made)
-placed {S = S} {F = F} view header level gone start old seen added kept both sorted made start_is seen_is kept_is both_is made_is order =
+-- the files that weren't gone and those that come, put in their order
+pub placed : {S F : Type 0} (view : S → F) (header : F → Header) (level : ℕ) (gone : List ℕ) (start old seen kept both sorted made : List S) (came : List F) → start ≡ [] → seen ≡ old → map view kept ≡ map view start ++ filter (λ one. is_kept gone (header one)) (map view seen)
+    → map view both ≡ map view kept ++ came → made ≡ sorted → IsOrderedBy (λ a b. comes_before level (header (view a)) (header (view b))) both sorted
+    → IsOrderedBy (λ a b. comes_before level (header a) (header b)) (filter (λ one. is_kept gone (header one)) (map view old) ++ came) (map view made)
+placed {S = S} {F = F} view header level gone start old seen kept both sorted made came start_is seen_is kept_is both_is made_is order =
     let first : map view kept ≡ filter (λ one. is_kept gone (header one)) (map view old) =
     kept_is ∙ ap (λ (l : List S). map view l ++ filter (λ one. is_kept gone (header one)) (map view seen)) start_is ∙ ap (λ (l : List S). filter (λ one. is_kept gone (header one)) (map view l)) seen_is in
-    let given : map view both ≡ filter (λ one. is_kept gone (header one)) (map view old) ++ map view added =
-    both_is
-    ∙ ap (λ (l : List F). l ++ filter (λ one. is_kept [] (header one)) (map view added)) first
-    ∙ ap (λ (l : List F). filter (λ one. is_kept gone (header one)) (map view old) ++ l) (none_gone header (map view added)) in
-    ordered_from view (λ a b. comes_before level (header a) (header b)) (filter (λ one. is_kept gone (header one)) (map view old) ++ map view added) both sorted made given made_is order
+    let given : map view both ≡ filter (λ one. is_kept gone (header one)) (map view old) ++ came = both_is ∙ ap (λ (l : List F). l ++ came) first in
+    ordered_from view (λ a b. comes_before level (header a) (header b)) (filter (λ one. is_kept gone (header one)) (map view old) ++ came) both sorted made given made_is order
+
+-- files that come into a level, by what they stand for
+pub came_as : {S N F : Type 0} (of : S → N) (comes : N → Bool) (file : N → F) (shared : List S) (added : List N) → map of shared ≡ added → map (λ s. file (of s)) (filter (λ s. comes (of s)) shared) ≡ map file (filter comes added)
+came_as {N = N} of comes file shared added same =
+    sym (map-map file of (filter (λ s. comes (of s)) shared)) ∙ ap (map file) (sym (filter-map of comes shared)) ∙ ap (λ (l : List N). map file (filter comes l)) same
 
 -- a step of a loop over a list that was read
 pub each_more_at : {A B : Type 0} (P : ℕ → A → B → Type 0) (items seen : List A) → seen ≡ items → (i : ℕ) (item : A) → i < length seen → item ≡ get_or seen i item → (ys ys' : List B) (y : B) → ys' ≡ ys ++ y ∷ [] → (number : ℕ) → number ≡ length ys
@@ -166,12 +166,9 @@ pub all_viewed : {A B C : Type 0} (R : ℕ → A → C → Type 0) (v : B → C)
 all_viewed {A = A} R v xs items ys same each k a c lt =
     subst (λ (l : List A). R k (get_or l k a) (get_or (map v ys) k c)) same (each_viewed R v (length xs) xs ys each k a c (omega (arith, lt, ap length same)))
 
-pub with_added : {S F : Type 0} (view : S → F) (header : F → Header) (gone : List ℕ) (seen added : List S) → seen ≡ added → (level k : ℕ) (old new : List F) → IsNext header gone (map view seen) level k old new → IsNext header gone (map view added) level k old new
-with_added {S = S} view header gone seen added same level k old new next = subst (λ (l : List S). IsNext header gone (map view l) level k old new) same next
-
-pub there_with : {F : Type 0} (header : F → Header) (gone : List ℕ) (added given : List F) → added ≡ given → (level : ℕ) (old new : List F) → IsNext header gone added level level old new
-    → IsOrderedBy (λ a b. comes_before level (header a) (header b)) (filter (λ one. is_kept gone (header one)) old ++ given) new
-there_with {F = F} header gone added given same level old new next = subst (λ (l : List F). IsOrderedBy (λ a b. comes_before level (header a) (header b)) (filter (λ one. is_kept gone (header one)) old ++ l) new) same (next.1 refl)
+-- the files that come may be written otherwise
+pub next_with : {F : Type 0} (header : F → Header) (gone : List ℕ) (added given : List F) → added ≡ given → (level : ℕ) (old new : List F) → IsNext header gone added level old new → IsNext header gone given level old new
+next_with {F = F} header gone added given same level old new next = subst (λ (l : List F). IsNext header gone l level old new) same next
 
 -- ---- levels stay in order
 
@@ -183,11 +180,9 @@ module _ {F : Type 0} (header : F → Header) where
   kept_order : (level : ℕ) (gone : List ℕ) (files : List F) → IsSortedBy (λ a b. comes_before level (header a) (header b)) files → IsSortedBy (λ a b. comes_before level (header a) (header b)) (filter (λ one. is_kept gone (header one)) files)
   kept_order level gone files sorted = IsSortedBy-filter (λ a b. comes_before level (header a) (header b)) (weak (eqb level 0)) (λ one. is_kept gone (header one)) files sorted
 
-  pub next_order : (gone : List ℕ) (added : List F) (level k : ℕ) (old new : List F) → IsNext header gone added level k old new → IsSortedBy (λ a b. comes_before k (header a) (header b)) old → IsSortedBy (λ a b. comes_before k (header a) (header b)) new
-  next_order gone added level k old new next sorted = elim (cases_eq k level) [
-    | inl same ↦ (next.1 same).sorted
-    | inr differs ↦ subst (λ (l : List F). IsSortedBy (λ a b. comes_before k (header a) (header b)) l) (sym (next.0 differs)) (kept_order k gone old sorted)
-  ]
+  pub next_order : (gone : List ℕ) (added : List F) (level : ℕ) (old new : List F) → IsNext header gone added level old new → IsSortedBy (λ a b. comes_before level (header a) (header b)) old → IsSortedBy (λ a b. comes_before level (header a) (header b)) new
+  next_order gone [] level old new next sorted = subst (λ (l : List F). IsSortedBy (λ a b. comes_before level (header a) (header b)) l) (sym (next.0 refl)) (kept_order level gone old sorted)
+  next_order gone (file ∷ files) level old new next sorted = (next.1 (λ is. omega (arith, ap length is))).sorted
 
 -- what follows for each item that was made
 pub each_then : {A B C : Type 0} (R : ℕ → A → C → Type 0) (Q : ℕ → C → Type 0) (v : B → C) (xs : List A) (ys : List B) → ((k : ℕ) (a : A) (c : C) → R k a c → Q k c) → Each (λ k a b. R k a (v b)) (length xs) xs ys → (k : ℕ) (c : C) → k < length (map v ys) → Q k (get_or (map v ys) k c)

@@ -1,3 +1,4 @@
+pub mod NewFiles
 pub mod Newest
 pub mod Order
 pub mod Probing

@@ -1,5 +1,5 @@
 -- A version to its readers: its files by level, and what a file stands for.
-use Rattle.std.specs.Prelude.{◌<◌, ℕ, List, length, slice_index_or, map, filter, flat_map, Some}
+use Rattle.std.specs.Prelude.{◌<◌, ◌==◌, ℕ, List, length, slice_index_or, map, filter, flat_map, Some}
 use Rattle.std.specs.List.Sorted.{IsSortedBy}
 use Rattle.lethe_base.specs.Keys.{Bytes}
 use Rattle.lethe_base.specs.declared.entry.Entry.{Entry}
@@ -8,6 +8,7 @@ use Rattle.lethe_file.specs.Agreement.{FileAgrees, entries_in}
 use Rattle.lethe_file.specs.Finding.{IsEntryOf}
 use Rattle.lethe_file.specs.declared.view.FileView.{FileView}
 use Rattle.lethe_version.specs.Order.{IsOrderedBy, comes_before, is_kept}
+use Rattle.lethe_version.specs.declared.new_file.NewFile.{NewFile}
 use Rattle.lethe_version.specs.declared.version.Version.{Version}
 
 -- its files by level
@@ -37,6 +38,10 @@ HasKey key file = (entry : Entry) × IsEntryOf key (entries_of file) (Some entry
 -- the files whose numbers aren't gone, in their order
 abbrev pub without : {D Page Port : Type 0} {disk : Ghosts D Page Port} → List ℕ → List (FileView D Page Port disk) → List (FileView D Page Port disk)
 without gone files = filter (λ file. is_kept gone file.header) files
+
+-- of files that are added, those that come into the level
+abbrev pub in_level : {D Page Port : Type 0} {disk : Ghosts D Page Port} → ℕ → List (NewFile D Page Port disk) → List (FileView D Page Port disk)
+in_level level added = map (λ new. new.file) (filter (λ new. new.level == level) added)
 
 -- exactly these files, in the order of the level
 abbrev pub AreInOrder : {D Page Port : Type 0} {disk : Ghosts D Page Port} → ℕ → List (FileView D Page Port disk) → List (FileView D Page Port disk) → Type 0

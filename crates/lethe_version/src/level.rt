@@ -1,14 +1,15 @@
 //! The files of one level.
-ghost use Rattle.std.specs.Prelude.{◌≡◌, ◌≢◌, ◌==◌, ◌++◌, map, filter, find, IsTrue, IfOk};
+ghost use Rattle.std.specs.Prelude.{◌≡◌, ◌≢◌, ◌==◌, [], ◌++◌, map, filter, find, IsTrue, IfOk};
 ghost use Rattle.std.specs.Option.{option_copied};
 ghost use Rattle.std.specs.Ordering.{is_lt};
 ghost use Rattle.lethe_base.specs.Keys.{key_cmp};
 ghost use Rattle.lethe_header.specs.Facts.{least_key, greatest_key};
+ghost use Rattle.lethe_version.specs.NewFiles.{shared_in};
 ghost use Rattle.lethe_version.specs.Order.{IsOrderedBy, Rise, comes_before, is_kept};
 ghost use Rattle.lethe_version.specs.Probing.{IsNarrowed};
 
 use crate::Shared;
-use crate::sorting::{add_others, ordered, shared};
+use crate::sorting::{SharedIn, add_new, add_others, ordered, shared};
 use lethe_base::{Key, NoMemory};
 use lethe_disk::Disk;
 use lethe_file::FileView;
@@ -91,25 +92,26 @@ pub fn level_of<D: Disk>(
     Ok(Level::of(files))
 }
 
-/// What the level of a number becomes where files are gone, and others are added in a level.
+/// What the level of a number becomes where files are gone, and others are added in their levels.
 pub fn level_with<D: Disk>(
     alloc: Global,
     old: &Level<D>,
     gone: &[u64],
-    added: &[Shared<D>],
+    added: &[SharedIn<D>],
     number: usize,
-    level: u64,
 ) -> Result<Level<D>, NoMemory>
-    ensures others { number ≢ level → IfOk result (λ new. map (λ one. one.file.value) new.files.items ≡ filter (λ one. is_kept gone.now one.header) (map (λ one. one.file.value) old.now.files.items)) }
-    ensures there { number ≡ level → IfOk result (λ new. IsOrderedBy (λ a b. comes_before number a.header b.header)
-        (filter (λ one. is_kept gone.now one.header) (map (λ one. one.file.value) old.now.files.items) ++ map (λ one. one.file.value) added.now)
+    ensures others { shared_in number added.now ≡ []
+        → IfOk result (λ new. map (λ one. one.file.value) new.files.items ≡ filter (λ one. is_kept gone.now one.header) (map (λ one. one.file.value) old.now.files.items)) }
+    ensures there { shared_in number added.now ≢ [] → IfOk result (λ new. IsOrderedBy (λ a b. comes_before number a.header b.header)
+        (filter (λ one. is_kept gone.now one.header) (map (λ one. one.file.value) old.now.files.items) ++ shared_in number added.now)
         (map (λ one. one.file.value) new.files.items)) }
 {
     let mut files = Vec::new(alloc);
     add_others(&mut files, &old.files, gone)?;
-    if number as u64 != level {
+    let stay = files.len();
+    add_new(&mut files, added, number)?;
+    if files.len() == stay {
         return Ok(Level::of(files));
     }
-    add_others(&mut files, added, &[])?;
     Ok(Level::of(ordered(files, number)?))
 }

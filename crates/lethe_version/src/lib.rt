@@ -3,6 +3,7 @@
 
 mod laws;
 mod level;
+mod new_file;
 mod opening;
 mod probing;
 mod searching;
@@ -11,6 +12,7 @@ mod sorting;
 mod version;
 
 pub use laws::one_newest;
+pub use new_file::NewFile;
 pub use opening::open_file;
 pub use shared::Shared;
 pub use version::Version;

@@ -3,9 +3,10 @@ ghost use Rattle.std.specs.Prelude.{◌≡◌, ◌++◌, ◌∷◌, [], map, fil
 ghost use Rattle.std.specs.Ordering.{is_lt, nat_cmp};
 ghost use Rattle.lethe_base.specs.Keys.{key_cmp};
 ghost use Rattle.lethe_header.specs.Facts.{least_key};
+ghost use Rattle.lethe_version.specs.NewFiles.{shared_in};
 ghost use Rattle.lethe_version.specs.Order.{IsOrderedBy, comes_before, greatest_place, is_kept};
 
-use crate::Shared;
+use crate::{NewFile, Shared};
 use lethe_base::NoMemory;
 use lethe_disk::Disk;
 use lethe_file::FileView;
@@ -20,6 +21,45 @@ pub fn shared<D: Disk>(alloc: Global, files: Vec<FileView<D>>) -> Result<Vec<Sha
         shared.push(Shared::new(alloc, file)?)?;
     }
     Ok(shared)
+}
+
+/// A file that comes into a level, to be shared.
+#[derive(Drop)]
+pub struct SharedIn<D: Disk> {
+    level: u64,
+    file: Shared<D>,
+}
+
+/// The files, to be shared, with their levels.
+pub fn shared_in_levels<D: Disk>(
+    alloc: Global,
+    files: Vec<NewFile<D>>,
+) -> Result<Vec<SharedIn<D>>, NoMemory>
+    ensures { IfOk result (λ shared. map (λ one. record { level = one.level; file = one.file.file.value }) shared.items ≡ files.items) }
+{
+    let mut shared = Vec::new(alloc);
+    for new in files {
+        let NewFile { level, file } = new;
+        let file = Shared::new(alloc, file)?;
+        shared.push(SharedIn { level, file })?;
+    }
+    Ok(shared)
+}
+
+/// Adds those of the files that come into the level.
+pub fn add_new<D: Disk>(
+    files: &mut Vec<Shared<D>>,
+    added: &[SharedIn<D>],
+    level: usize,
+) -> Result<(), NoMemory>
+    ensures { IfOk result (λ _. map (λ one. one.file.value) files.new.items ≡ map (λ one. one.file.value) files.old.items ++ shared_in level added.now) }
+{
+    for new in added {
+        if new.level == level as u64 {
+            files.push(new.file.share()?)?;
+        }
+    }
+    Ok(())
 }
 
 /// Adds the file, but where its number is gone.

@@ -1,5 +1,5 @@
 //! The files of a store by level.
-ghost use Rattle.std.specs.Prelude.{◌≡◌, ◌≢◌, ◌↔◌, ◌+◌, ◌<◌, ◌≤◌, ◌++◌, ◌==◌, ℕ, IsTrue, map, find, length, slice_index_or, sum_by, All, Any, IfOk, IsErrOf};
+ghost use Rattle.std.specs.Prelude.{◌≡◌, ◌≢◌, ◌↔◌, ◌+◌, ◌<◌, ◌≤◌, [], ◌++◌, ◌==◌, ℕ, IsTrue, map, find, length, slice_index_or, sum_by, All, Any, IfOk, IsErrOf};
 ghost use Rattle.std.specs.Option.{option_copied};
 ghost use Rattle.lethe_base.specs.declared.name.Name.{Name};
 ghost use Rattle.lethe_disk.specs.Reads.{HasReadCause, IsFault};
@@ -7,13 +7,13 @@ ghost use Rattle.lethe_disk.specs.declared.cursor.ReadRefused.TheVariants.{Damag
 ghost use Rattle.lethe_version.specs.Newest.{IsNewestIn};
 ghost use Rattle.lethe_version.specs.Probing.{bound};
 ghost use Rattle.lethe_version.specs.Search.{NamesPage};
-ghost use Rattle.lethe_version.specs.Versions.{AreInOrder, HasKey, IsInOrder, IsSound, entries_of, files_of, levels_of, without};
+ghost use Rattle.lethe_version.specs.Versions.{AreInOrder, HasKey, IsInOrder, IsSound, entries_of, files_of, in_level, levels_of, without};
 
-use crate::Shared;
 use crate::level::{Level, level_of, level_with};
 use crate::probing::any_may_hold;
 use crate::searching::find_in;
-use crate::sorting::shared;
+use crate::sorting::shared_in_levels;
+use crate::{NewFile, Shared};
 use lethe_base::{Entry, Key, NoMemory};
 use lethe_disk::{Disk, ReadRefused};
 use lethe_file::FileView;
@@ -41,27 +41,28 @@ impl<D: Disk> Version<D> {
         Ok(Version { levels: made })
     }
 
-    /// The version without the files whose numbers are gone, and with those added in a level, which are put in its order. The other
-    /// files are shared, not copied.
+    /// The version without the files whose numbers are gone, and with those added in their levels, each of which is put in its order. The
+    /// other files are shared, not copied.
     pub fn with(
         &self,
         alloc: Global,
         gone: &[u64],
-        added: Vec<FileView<D>>,
-        level: u64,
+        added: Vec<NewFile<D>>,
     ) -> Result<Version<D>, NoMemory>
-        requires { level < length (levels_of self.now) }
+        requires { All (λ new. new.level < length (levels_of self.now)) added.items }
         ensures count { IfOk result (λ version. length (levels_of version) ≡ length (levels_of self.now)) }
-        ensures others { IfOk result (λ version. (other : ℕ) (files : _) → other < length (levels_of self.now) → other ≢ level
-            → slice_index_or (levels_of version) other files ≡ without gone.now (slice_index_or (levels_of self.now) other files)) }
-        ensures files { IfOk result (λ version. (files : _)
-            → AreInOrder level (without gone.now (slice_index_or (levels_of self.now) level files) ++ added.items) (slice_index_or (levels_of version) level files)) }
+
+        // A level that takes no file stands as it stood, without those that are gone.
+        ensures others { IfOk result (λ version. (level : ℕ) (files : _) → level < length (levels_of self.now) → in_level level added.items ≡ []
+            → slice_index_or (levels_of version) level files ≡ without gone.now (slice_index_or (levels_of self.now) level files)) }
+        ensures files { IfOk result (λ version. (level : ℕ) (files : _) → level < length (levels_of self.now) → in_level level added.items ≢ []
+            → AreInOrder level (without gone.now (slice_index_or (levels_of self.now) level files) ++ in_level level added.items) (slice_index_or (levels_of version) level files)) }
         ensures order { IsInOrder self.now → IfOk result IsInOrder }
     {
-        let added = shared(alloc, added)?;
+        let added = shared_in_levels(alloc, added)?;
         let mut made = Vec::new(alloc);
         for old in &self.levels {
-            made.push(level_with(alloc, old, gone, &added, made.len(), level)?)?;
+            made.push(level_with(alloc, old, gone, &added, made.len())?)?;
         }
         Ok(Version { levels: made })
     }

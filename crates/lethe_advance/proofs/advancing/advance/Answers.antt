@@ -254,7 +254,7 @@ returns-in_ok-clear-in-Ok-clause-files g c = λ told s t loose left may has.
     let done = c.in_ok-place_all.ensures.done told in
     let old = parts_by_level c.args.version.now in
     let new = parts_by_level c.in-Ok.next in
-    let made = subst (λ added. AreLevelsWith step.merged.items step.level added old new) (opened_placed s t loose left headers step s0 may objects same s1 placing synced done) (c.in-Ok.ensures.files told) in
+    let made = subst (λ added. AreLevelsWith step.merged.items added old new) (opened_placed s t loose left headers step s0 may objects same s1 placing synced done) (c.in-Ok.ensures.files told) in
     files_next s t loose left headers step may.step_is old new has made
 
 pub returns-in-Err-Failed-clause-any_moment : goal.returns-in-Err-Failed-clause-any_moment

@@ -1,9 +1,10 @@
-use Rattle.std.proofs.Common.{Some, map, ap, ◌∙◌, subst}
+use Rattle.std.proofs.Common.{Some, length, map, ap, ◌∙◌, subst}
 use Rattle.lethe_manifest.specs.Manifests.{manifest_bytes}
 use Rattle.lethe_commit.specs.Switch.{switched}
 use Rattle.lethe_version.specs.Versions.{levels_of}
-use Rattle.lethe_advance.specs.Shown.{AreLevelsWith, parts_in}
-use Rattle.lethe_advance.proofs.Opened.{levels_with}
+use Rattle.lethe_advance.specs.declared.new_header.NewHeader.{NewHeader}
+use Rattle.lethe_advance.specs.Shown.{AreLevelsWith, new_parts, parts_in}
+use Rattle.lethe_advance.proofs.Opened.{levels_below, levels_with}
 use Rattle.lethe_advance.proofs.Quiet.{free_still, older_still, quiet_switched, switched_then}
 use Rattle.lethe_advance.proofs.exchanging.exchange.Goals as goal
 
@@ -38,11 +39,17 @@ returns-clause-done g c = λ told.
     let m = c.args.step.now.manifest in
     c.in_ok-switch_from.ensures.done told ∙ ap (switched m.no (manifest_bytes m) (Some c.args.step.now.older)) (c.open_files.ensures.quiet told).directory
 
+pub with-requires-after_bounds : goal.with-requires-after_bounds
+with-requires-after_bounds g c κs within =
+    levels_below (λ (new : NewHeader). new.level) (λ new. new.level) c.args.headers.items c.in_ok-files.files.items c.in_ok-files.ensures.levels (length (levels_of c.args.version.now)) c.requires.levels
+
 pub returns-clause-files : goal.returns-clause-files
 returns-clause-files g c = λ told.
     let step = c.args.step.now in
+    let files = c.in_ok-files.files.items in
     let old = levels_of c.args.version.now in
     let new = levels_of c.in_ok-next.next in
-    let made = levels_with parts_in c.deref.result.now step.level c.in_ok-files.files.items old new c.requires.level c.in_ok-next.ensures.count c.in_ok-next.ensures.others (λ files. (c.in_ok-next.ensures.files files).same) in
-    let here = subst (λ merged. AreLevelsWith merged step.level (map parts_in c.in_ok-files.files.items) (map (map parts_in) old) (map (map parts_in) new)) c.deref.ensures.value made in
-    subst (λ added. AreLevelsWith step.merged.items step.level added (map (map parts_in) old) (map (map parts_in) new)) (c.in_ok-files.ensures.opened told) here
+    let made = levels_with (λ new. new.level) (λ new. new.file) parts_in c.deref.result.now files old new c.in_ok-next.ensures.count c.in_ok-next.ensures.others
+    (λ level given lt some. (c.in_ok-next.ensures.files level given lt some).same) in
+    let here = subst (λ merged. AreLevelsWith merged (map new_parts files) (map (map parts_in) old) (map (map parts_in) new)) c.deref.ensures.value made in
+    subst (λ added. AreLevelsWith step.merged.items added (map (map parts_in) old) (map (map parts_in) new)) (c.in_ok-files.ensures.opened told) here

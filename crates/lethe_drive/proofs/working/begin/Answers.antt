@@ -33,7 +33,8 @@ returns-in-Ok-clause-step g c = λ told config opened h stands s known fetches f
     let job = c.in-Ok.job in
     let is = c.in-Ok.ensures in
     let runs : old.state.stopped ≡ None = not_stopped old.state.stopped (λ at e. ok_or_err job (Stopped at) (is.stopped at e).0) in
-    let begun = is.begun told s (known.held runs) in (
+    let begun = is.begun told s (known.held runs) in
+    let retired : new.retired ≡ old.retired = ap (λ (face : Face). face.retired) is.answers.face_is in (
       h,
       s,
       known_held config opened h new (is.answers.stands told config opened h stands 0) s begun.1,
@@ -41,7 +42,7 @@ returns-in-Ok-clause-step g c = λ told config opened h stands s known fetches f
       (
         Ok jobs.begun,
         refl,
-        has_begun config h old new s fetches faults jobs.begun (there_of jobs) is.same.0 (λ i. parts_by_level (is.same.1 i)) (is.idle told) g.D.Disk.tells job runs
+        has_begun config h old new s fetches faults jobs.begun (there_of jobs) is.same.0 (λ i. parts_by_level (is.same.1 i)) retired (is.idle told) g.D.Disk.tells job runs
             (λ busy. ok_or_err job NothingDue (is.busy runs (some_mapped flying_of c.args.engine.now.core.flight busy)).0) begun.0 is.works is.unmade.0 is.unmade.2,
       ),
     )
@@ -58,15 +59,16 @@ returns-in-Err-clause-step g c = λ told config opened h stands s known fetches 
     let why = c.in-Err.why in
     let is = c.in-Err.ensures in
     let flight : new.flight ≡ old.flight = ap (λ (face : Face). face.flight) is.answers.face_is in
+    let retired : new.retired ≡ old.retired = ap (λ (face : Face). face.retired) is.answers.face_is in
     let levels : new.levels ≡ old.levels = λ i. parts_by_level (is.same.1 i) in (
       h,
       s,
-      known_idle config h old new s (is.idle told) is.same.0 levels flight (ap (λ (face : Face). face.begun) is.answers.face_is) known,
+      known_idle config h old new s (is.idle told) is.same.0 levels is.answers.face_is known,
       subst (λ (g : History). StandsFor config opened g new) (refused_none h 0 Work why (no_failure_of_begin g.D.Disk.tells old why is.why)) (is.answers.stands told config opened h stands 0),
       (
         Err why,
         refl,
-        has_not_begun config h old new s fetches faults jobs.begun (there_of jobs) is.same.0 levels (is.idle told) g.D.Disk.tells told known why is.why flight
+        has_not_begun config h old new s fetches faults jobs.begun (there_of jobs) is.same.0 levels retired (is.idle told) g.D.Disk.tells told known why is.why flight
             (λ at e. refused_as c.begin.result why (Stopped at) c.in-Err.is (c.begin.ensures.stopped at e).0)
             (λ runs busy. refused_as c.begin.result why NothingDue c.in-Err.is (c.begin.ensures.busy runs (some_mapped flying_of c.args.engine.now.core.flight busy)).0),
       ),

@@ -6,7 +6,7 @@ use Rattle.lethe_core.specs.View.{Face, face_of, view_of}
 use Rattle.lethe_engine.proofs.Faces.{given_up_free}
 use Rattle.lethe_drive.specs.Moments.{going_of, moment_of, there_of}
 use Rattle.lethe_drive.specs.Steps.{IsThere}
-use Rattle.lethe_drive.proofs.Giving.{given, given_up, theirs_back, theirs_flies, theirs_none}
+use Rattle.lethe_drive.proofs.Giving.{given, given_up, given_up_retired, theirs_back, theirs_flies, theirs_none}
 use Rattle.lethe_drive.proofs.Naming.{no_such, none_there, other_there, put_back, there_is, there_none}
 use Rattle.lethe_drive.proofs.working.cancel.Goals as goal
 
@@ -64,7 +64,8 @@ returns-clause-step g c = λ told config opened h stands s known fetches faults.
     let is = c.cancel.ensures in
     let is_given =
     given_up g.D.Disk.tells told config opened h old new s known fetches faults jobs.begun (there_of jobs) (there_of gone) (there_none gone c.take.ensures.after) c.cancel.result
-    (is.answers.stands told config opened h stands 0) is.answers.still is.answers.refused (is.held told s) (λ may. ap (λ (face : Face). face.flight) (is.answers.face_is ∙ given_up_free (face_of old) old.state may)) is.why is.no_memory is.exhausted (λ at e. (is.stopped at e).0)
+    (is.answers.stands told config opened h stands 0) is.answers.still is.answers.refused (is.held told s) (λ may. ap (λ (face : Face). face.flight) (is.answers.face_is ∙ given_up_free (face_of old) old.state may))
+    (ap (λ (face : Face). face.retired) is.answers.face_is ∙ given_up_retired (face_of old) old.state) is.why is.no_memory is.exhausted (λ at e. (is.stopped at e).0)
     (λ runs full. let last = is.last runs full in (given c.cancel.result last.0, (let same = last.1 in λ i. view_of (same i).core))) in (
       behind h 0 (Serves Work) (result_err c.cancel.result),
       is_given.0,

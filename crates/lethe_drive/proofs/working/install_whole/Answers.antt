@@ -23,7 +23,8 @@ returns-in-Ok-clause-step g c = λ told config opened h stands s known fetches f
     let stood = c.in-Ok.ensures.answers.stands told config opened h step.2 0 in
     let made = installed_whole g.D.Disk.tells g.D.Disk.ports_fail h (view_of c.args.engine.now.core) s numbered.number fetches faults c.args.jobs.now.begun numbered.job config opened tt
     (view_of c.write_rest.new.engine.core) (view_of c.install.new.self.core) stood c.write_rest.new.job step.0 (there_of c.args.jobs.now) c.write_rest.ensures.task step.1 step.3.done
-    (λ at is. (c.in-Ok.ensures.stopped at is).1) (c.in-Ok.ensures.done told step.0) (ap (λ (face : Face). face.flight) c.in-Ok.ensures.answers.face_is) (there_none c.args.jobs.now c.requires.none) in
+    (λ at is. (c.in-Ok.ensures.stopped at is).1) (c.in-Ok.ensures.done told step.0) (ap (λ (face : Face). face.flight) c.in-Ok.ensures.answers.face_is)
+    (ap (λ (face : Face). face.retired) c.in-Ok.ensures.answers.face_is) (there_none c.args.jobs.now c.requires.none) in
     (made.0, made.1, stood, made.2)
 
 pub returns-in-Err-install-clause-jobs : goal.returns-in-Err-install-clause-jobs
@@ -42,6 +43,6 @@ returns-in-Err-install-clause-step g c = λ told config opened h stands s known 
     let not_made =
     install_refused g.D.Disk.tells g.D.Disk.ports_fail h (view_of c.args.engine.now.core) s numbered.number fetches faults c.args.jobs.now.begun numbered.job told (c.requires.reads told)
     (view_of c.write_rest.new.engine.core) c.write_rest.new.job c.write_rest.ensures.task c.in_default.ensures.works c.in_default.ensures.whole config opened stands step.2 c.write_rest.ensures.faults
-    step.0 step.1 step.3.done step.3.flight (view_of c.install.new.self.core) c.in-Err-install.job c.in-Err-install.why after is.answers.still is.answers.refused is.answers.face_is
+    step.0 step.1 step.3.done step.3.flight step.3.retired (view_of c.install.new.self.core) c.in-Err-install.job c.in-Err-install.why after is.answers.still is.answers.refused is.answers.face_is
     (task_back numbered.job c.write_rest.new.job c.in-Err-install.job c.write_rest.ensures.task is.handed) is.back.1 is.why is.drawn in
     (not_made.0, not_made.1, after, not_made.2)

@@ -4,7 +4,7 @@ use Rattle.lethe_build.specs.declared.draft.Draft.{Draft}
 use Rattle.lethe_stored.specs.Files.{StoredFile}
 use Rattle.lethe_flush.specs.Made.{AreFilesOf}
 use Rattle.lethe_flush.proofs.Adding.{IsSoFar, begun, ended, has_room, left_low, one_more, pages_few}
-use Rattle.lethe_flush.proofs.Finishing.{cited_level, cited_spelled, headers_spelled}
+use Rattle.lethe_flush.proofs.Finishing.{cited_level, cited_spelled, headers_level, headers_spelled}
 use Rattle.lethe_flush.proofs.making.make_files.Goals as goal
 use Rattle.lethe_flush.proofs.making.make_files.Goals.{After-drop-draft-iterator-2}
 
@@ -54,3 +54,6 @@ returns-clause-cited c = λ levels fits. let found = files_of c in cited_spelled
 
 pub returns-clause-level : goal.returns-clause-level
 returns-clause-level c = let found = files_of c in cited_level c.args.drafts.items c.args.level c.args.upto c.args.written.now c.args.first c.loop-draft.made found.0 found.1
+
+pub returns-clause-levels : goal.returns-clause-levels
+returns-clause-levels c = let found = files_of c in headers_level c.args.drafts.items c.args.level c.args.upto c.args.written.now c.args.first c.loop-draft.made found.0 found.1

@@ -1,11 +1,23 @@
-use Rattle.std.proofs.Common.{◌+◌, arith, ap, sym, ◌∙◌}
+use Rattle.std.proofs.Common.{◌≡◌, ◌+◌, ◌++◌, All, arith, ap, sym, ◌∙◌, subst}
+use Rattle.lethe_base.specs.declared.name.Kind.TheVariants.{Page}
+use Rattle.lethe_base.specs.declared.name.Name.{Name}
 use Rattle.lethe_manifest.specs.declared.manifest.Manifest.{Manifest}
 use Rattle.lethe_flush.proofs.Results.{ok_both, ok_weaker}
 use Rattle.lethe_advance.specs.Shown.{parts_by_level}
+use Rattle.lethe_advance.specs.declared.new_header.NewHeader.{NewHeader}
 use Rattle.lethe_job.specs.Tasks.{plain_task}
 use Rattle.lethe_install.proofs.InstallStep.{install_steps}
 use Rattle.lethe_install.proofs.Between.{install_from}
+use Rattle.lethe_install.proofs.Named.{drawn_behind}
+use Rattle.lethe_install.proofs.Parted.{left_are, none_left}
 use Rattle.lethe_install.proofs.steps.install.Goals as goal
+
+-- it names a page
+abbrev IsPage : Name → Type 0
+IsPage name = name.kind ≡ Page
+
+pub make_files-requires-clause-written : goal.make_files-requires-clause-written
+make_files-requires-clause-written g c = drawn_behind c.args.state.now.next c.args.retired.now c.args.written.now c.requires.drawn
 
 pub returns-clause-step : goal.returns-clause-step
 returns-clause-step g c =
@@ -14,14 +26,25 @@ returns-clause-step g c =
     let next = c.in_ok-made.ensures.next in
     let objects = c.in_ok-made.ensures.objects in
     let numbers = c.requires.numbers in
-    ok_weaker c.step_of.result _ _ c.step_of.ensures (λ step is. install_from state (c.args.task.now.level + 1) c.in_ok-inputs.inputs c.in_ok-made.made step.0.items step.1 c.requires.writable (omega (arith, low))
-    (omega (arith, next, numbers)) (omega (arith, next, objects)) (c.in_ok-made.ensures.cited state.manifest.config.levels (omega (arith, low))) c.in_ok-made.ensures.level is)
+    ok_weaker c.step_of.result _ _ c.step_of.ensures (λ made is. install_from state (c.args.task.now.level + 1) c.in_ok-inputs.inputs c.in_ok-made.made c.args.retired.now c.args.needed.now made c.requires.writable
+    (omega (arith, low)) (omega (arith, next, numbers)) (omega (arith, next, objects)) (c.in_ok-made.ensures.cited state.manifest.config.levels (omega (arith, low))) c.in_ok-made.ensures.level
+    c.in_ok-made.ensures.levels is)
+
+pub returns-clause-level : goal.returns-clause-level
+returns-clause-level g c = ok_weaker c.step_of.result _ _ c.step_of.ensures (λ made is. subst (All (λ (new : NewHeader). new.level ≡ c.args.task.now.level + 1)) (sym is.headers_are) c.in_ok-made.ensures.levels)
+
+pub returns-clause-none : goal.returns-clause-none
+returns-clause-none g c = λ none. ok_weaker c.step_of.result _ _ c.step_of.ensures (λ made is. is.left ∙ none_left c.args.needed.now (c.in_ok-inputs.inputs.names.items ++ c.args.retired.now) none)
+
+pub returns-clause-pages : goal.returns-clause-pages
+returns-clause-pages g c = ok_weaker c.step_of.result _ _ c.step_of.ensures (λ made is.
+    subst (All IsPage) (sym is.left) (left_are IsPage c.args.needed.now (c.in_ok-inputs.inputs.names.items ++ c.args.retired.now) c.requires.pages))
 
 pub returns-clause-installs : goal.returns-clause-installs
-returns-clause-installs g c = λ s m is current rising begun uncited of.
+returns-clause-installs g c = λ s m beside is current rising begun named uncited of.
     let files = c.in_ok-made.ensures.made in
     let next = c.in_ok-made.ensures.next in
     let found = c.in_ok-inputs.ensures.stored s is.coherent (sym (ap (λ (m : Manifest). m.files) is.manifest) ∙ sym c.items.ensures) is.files in
-    ok_both c.step_of.result _ _ _ c.step_of.ensures (returns-clause-step g c) (λ step stepped from.
-    install_steps s m c.args.state.now (parts_by_level c.args.version.now) (plain_task c.args.task.now) is current c.requires.writable.drawn begun c.args.written.now c.args.drafts.items c.requires.written c.requires.some
-    uncited of c.in_ok-made.made (omega (arith, next)) files.0 files.1 c.in_ok-inputs.inputs c.in_ok-inputs.ensures.numbers found step.0.items step.1 stepped from.spelled)
+    ok_both c.step_of.result _ _ _ c.step_of.ensures (returns-clause-step g c) (λ made stepped from.
+    install_steps s m c.args.state.now (parts_by_level c.args.version.now) (plain_task c.args.task.now) is current c.requires.writable.drawn begun c.args.retired.now c.args.written.now c.args.drafts.items
+    c.requires.drawn c.requires.some beside named uncited of c.in_ok-made.made (omega (arith, next)) files.0 files.1 c.in_ok-inputs.inputs c.in_ok-inputs.ensures.numbers found c.args.needed.now made stepped from.spelled)

@@ -6,6 +6,7 @@ use Rattle.lethe_manifest.specs.Manifests.{HasSpelling}
 use Rattle.lethe_manifest.specs.declared.manifest.Manifest.{Manifest}
 use Rattle.lethe_header.specs.declared.header.Header.{Header}
 use Rattle.lethe_stored.specs.Stored.{Stored, IsCoherent, count_of, pending_of}
+use Rattle.lethe_advance.specs.declared.new_header.NewHeader.{NewHeader}
 use Rattle.lethe_recover.specs.Flushing.{AreDraftsOfJournal}
 use Rattle.lethe_recover.specs.Journals.{IsJournalOf}
 use Rattle.lethe_recover.specs.declared.journal.Journal.{Journal}
@@ -28,11 +29,23 @@ returns-clause-reopens c =
     reopens s coherent m same count counted erases pending heads has journal journal_is flushes (c.in_ok-flushes.ensures.made m.config journal erases heads drafts)
     c.in_ok-flushes.ensures.older c.in_ok-flushes.ensures.newer made is spelled)
 
+abbrev IsSpelled : NewHeader → Type 0
+IsSpelled new = headers.HasSpelling new.header
+
+abbrev IsZeroth : NewHeader → Type 0
+IsZeroth new = new.level ≡ 0
+
 pub returns-clause-headers : goal.returns-clause-headers
 returns-clause-headers c =
     let flushes = c.in_ok-flushes.flushes in
-    ok_weaker c.step_of.result (IsStepOf c.args.manifest.now c.args.count c.args.erases.items flushes) (λ made. All headers.HasSpelling made.headers.items) c.step_of.ensures.is (λ made is.
-    subst (All headers.HasSpelling) (sym is.headers) (All-append headers.HasSpelling flushes.newer.headers.items flushes.older.headers.items c.in_ok-flushes.ensures.newer.headers c.in_ok-flushes.ensures.older.headers))
+    ok_weaker c.step_of.result (IsStepOf c.args.manifest.now c.args.count c.args.erases.items flushes) (λ made. All IsSpelled made.headers.items) c.step_of.ensures.is (λ made is.
+    subst (All IsSpelled) (sym is.headers) (All-append IsSpelled flushes.newer.headers.items flushes.older.headers.items c.in_ok-flushes.ensures.newer.headers c.in_ok-flushes.ensures.older.headers))
+
+pub returns-clause-levels : goal.returns-clause-levels
+returns-clause-levels c =
+    let flushes = c.in_ok-flushes.flushes in
+    ok_weaker c.step_of.result (IsStepOf c.args.manifest.now c.args.count c.args.erases.items flushes) (λ made. All IsZeroth made.headers.items) c.step_of.ensures.is (λ made is.
+    subst (All IsZeroth) (sym is.headers) (All-append IsZeroth flushes.newer.headers.items flushes.older.headers.items c.in_ok-flushes.ensures.newer.levels c.in_ok-flushes.ensures.older.levels))
 
 pub returns-clause-next : goal.returns-clause-next
 returns-clause-next c =

@@ -1,8 +1,11 @@
-use Rattle.std.proofs.Common.{◌⊎◌, [], ◌∙◌, arith}
+use Rattle.std.proofs.Common.{◌≡◌, ◌+◌, ◌<◌, ◌⊎◌, [], length, ◌∙◌, arith}
+use Rattle.std.proofs.lemmas.List.Elements.{All-weaker}
 use Rattle.lethe_base.specs.History.{History}
 use Rattle.lethe_disk.proofs.Going.{goes_then, goes_weaker}
 use Rattle.lethe_stored.specs.Encodes.{Encodes}
 use Rattle.lethe_stored.specs.Kept.{IsFor, IsKept}
+use Rattle.lethe_version.specs.Versions.{levels_of}
+use Rattle.lethe_advance.specs.declared.new_header.NewHeader.{NewHeader}
 use Rattle.lethe_advance.specs.Steps.{MayAdvance}
 use Rattle.lethe_recover.proofs.Resumed.{next_stored, old_kept, either_kept, encoded_pace, reopened_pace, reopened_of}
 use Rattle.lethe_recover.proofs.Readied.{reopens_of}
@@ -19,8 +22,11 @@ pub returns-in_err-made-clause-any_moment : goal.returns-in_err-made-clause-any_
 returns-in_err-made-clause-any_moment g c = λ told s settled ready.
     goes_weaker (λ x. Encodes x s) (λ x. (h : History) → IsFor h s → IsKept s.manifest.config x h) (g.D.Disk.seen c.args.disk.now) (g.D.Disk.seen c.tidy.new.disk) (old_kept s settled.coherent) (c.tidy.ensures.any_moment told s settled)
 
-pub advance-requires-clause-level : goal.advance-requires-clause-level
-advance-requires-clause-level g c κs within = omega (arith, c.in_ok-made.ensures.level, c.requires.ready.levels)
+pub advance-requires-clause-levels : goal.advance-requires-clause-levels
+advance-requires-clause-levels g c κs within =
+    let levels = length (levels_of c.args.made.version) in
+    let some : levels ≡ c.args.manifest.now.config.levels + 1 = c.requires.ready.levels in
+    All-weaker (λ (new : NewHeader). new.level ≡ 0) (λ (new : NewHeader). new.level < levels) (λ new zeroth. omega (arith, zeroth, some)) c.in_ok-made.made.headers.items c.in_ok-made.ensures.levels
 
 pub advance-requires-clause-step : goal.advance-requires-clause-step
 advance-requires-clause-step g c κs within = λ told.

@@ -50,7 +50,8 @@ returns-clause-sound g c =
     let flying : Flying = record { number = old.begun; task = task; written = [] } in
     let value : c.in_ok-shared.shared.value ≡ c.in-Some.task = c.in_ok-shared.ensures.cases ∙ c.in_ok-task-2.ensures.ok in
     let same : flying_of (record { number = c.of.result; task = c.in_ok-shared.shared; written = c.new-2.result }) ≡ flying = λ i. record { number = (c.of.ensures i).count; task = plain_task (value i); written = c.new-2.ensures i } in
-    let now : record { begun = c.more-self.result.count; flight = Some (flying_of (record { number = c.of.result; task = c.in_ok-shared.shared; written = c.new-2.result })) } ≡ with_begun (face_of old) task = λ i. record { begun = c.more-self.ensures i; flight = Some (same i) } in
+    let now : record { begun = c.more-self.result.count; flight = Some (flying_of (record { number = c.of.result; task = c.in_ok-shared.shared; written = c.new-2.result })); retired = old.retired } ≡ with_begun (face_of old) task =
+    λ i. record { begun = c.more-self.ensures i; flight = Some (same i); retired = old.retired } in
     let begun : (s : Stored) → Holds old s → IsBegunIn s task = λ s holds. subst (λ found. IfSome found (λ task. IsBegunIn s (plain_task task))) c.in-Some.is (c.in_ok-task.ensures.some s holds) in
     let level = subst (λ found. IfSome found (λ task. task.level < old.state.manifest.config.levels)) c.in-Some.is c.in_ok-task.ensures.level in
     let upto = subst (λ found. IfSome found (λ task. task.upto ≡ old.state.count)) c.in-Some.is c.in_ok-task.ensures.upto in
@@ -68,7 +69,8 @@ returns-clause-stands g c = λ told config h stands.
     let flying : Flying = record { number = old.begun; task = task; written = [] } in
     let value : c.in_ok-shared.shared.value ≡ c.in-Some.task = c.in_ok-shared.ensures.cases ∙ c.in_ok-task-2.ensures.ok in
     let same : flying_of (record { number = c.of.result; task = c.in_ok-shared.shared; written = c.new-2.result }) ≡ flying = λ i. record { number = (c.of.ensures i).count; task = plain_task (value i); written = c.new-2.ensures i } in
-    let now : record { begun = c.more-self.result.count; flight = Some (flying_of (record { number = c.of.result; task = c.in_ok-shared.shared; written = c.new-2.result })) } ≡ with_begun (face_of old) task = λ i. record { begun = c.more-self.ensures i; flight = Some (same i) } in
+    let now : record { begun = c.more-self.result.count; flight = Some (flying_of (record { number = c.of.result; task = c.in_ok-shared.shared; written = c.new-2.result })); retired = old.retired } ≡ with_begun (face_of old) task =
+    λ i. record { begun = c.more-self.ensures i; flight = Some (same i); retired = old.retired } in
     let begun : (s : Stored) → Holds old s → IsBegunIn s task = λ s holds. subst (λ found. IfSome found (λ task. IsBegunIn s (plain_task task))) c.in-Some.is (c.in_ok-task.ensures.some s holds) in
     subst (λ (face : Face). StandsNow config h (record old { disk = seen; faults = faults; flight = face.flight; begun = face.begun })) (sym now)
     (idle_stands (record old { flight = Some flying; begun = old.begun + 1 }) seen faults (c.port.ensures.idle told) config h
@@ -83,7 +85,8 @@ returns-clause-held g c = λ told s holds.
     let flying : Flying = record { number = old.begun; task = task; written = [] } in
     let value : c.in_ok-shared.shared.value ≡ c.in-Some.task = c.in_ok-shared.ensures.cases ∙ c.in_ok-task-2.ensures.ok in
     let same : flying_of (record { number = c.of.result; task = c.in_ok-shared.shared; written = c.new-2.result }) ≡ flying = λ i. record { number = (c.of.ensures i).count; task = plain_task (value i); written = c.new-2.ensures i } in
-    let now : record { begun = c.more-self.result.count; flight = Some (flying_of (record { number = c.of.result; task = c.in_ok-shared.shared; written = c.new-2.result })) } ≡ with_begun (face_of old) task = λ i. record { begun = c.more-self.ensures i; flight = Some (same i) } in
+    let now : record { begun = c.more-self.result.count; flight = Some (flying_of (record { number = c.of.result; task = c.in_ok-shared.shared; written = c.new-2.result })); retired = old.retired } ≡ with_begun (face_of old) task =
+    λ i. record { begun = c.more-self.ensures i; flight = Some (same i); retired = old.retired } in
     let begun : (s : Stored) → Holds old s → IsBegunIn s task = λ s holds. subst (λ found. IfSome found (λ task. IsBegunIn s (plain_task task))) c.in-Some.is (c.in_ok-task.ensures.some s holds) in
     subst (λ (face : Face). Holds (record old { disk = seen; faults = faults; flight = face.flight; begun = face.begun }) s) (sym now)
     (idle_holds (record old { flight = Some flying; begun = old.begun + 1 }) seen faults (c.port.ensures.idle told) s
@@ -100,6 +103,7 @@ returns-clause-works g c = record {
 
 pub returns-clause-face : goal.returns-clause-face
 returns-clause-face g c = λ i. record {
+  retired = c.args.self.now.retired.items;
   begun = c.more-self.ensures i;
   flight = Some (record { number = (c.of.ensures i).count; task = plain_task (c.in_ok-shared.ensures.cases i); written = c.new-2.ensures i });
 }

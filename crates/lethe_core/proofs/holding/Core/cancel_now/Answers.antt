@@ -1,4 +1,4 @@
-use Rattle.std.proofs.Common.{◌+◌, [], Some, None, refl, sym, ap, ◌∙◌, subst, arith}
+use Rattle.std.proofs.Common.{◌+◌, Some, None, refl, sym, ap, ◌∙◌, subst, arith}
 use Rattle.lethe_base.specs.Counts.{Rose}
 use Rattle.lethe_base.specs.declared.refused.Refused.TheVariants.{Fault}
 use Rattle.lethe_state.specs.declared.state.State.{State}
@@ -7,18 +7,18 @@ use Rattle.lethe_core.specs.Running.{Holds}
 use Rattle.lethe_core.specs.View.{flying_of, view_of}
 use Rattle.lethe_core.proofs.Asked.{not_none}
 use Rattle.lethe_core.proofs.Hindered.{keeps_itself}
-use Rattle.lethe_core.proofs.Pages.{flying_is, held_now, may_remove, refused_keeps}
+use Rattle.lethe_core.proofs.Pages.{flying_is, held_now, may_remove, refused_keeps, stays}
 use Rattle.lethe_core.proofs.Removed.{grounded_keeps, only_failed, removed_holds, removed_keeps}
 use Rattle.lethe_core.proofs.holding.Core.cancel_now.Goals as goal
 
--- no page lies there but the job's
+-- beside what is stored the retired pages and the job's lie there
 pub remove_pages-requires-clause-there : goal.remove_pages-requires-clause-there
 remove_pages-requires-clause-there g c κs within = λ told.
     let self = c.args.self.now in
     let may = c.requires.may in
     let is = flying_is self c.take.result c.in-Some.flight c.take.ensures.value c.in-Some.is in
     let held = held_now g.D.Disk.tells (view_of self) may.sound told may.runs in
-    (held.0, [], may_remove g.D.Disk.tells (view_of self) (flying_of c.in-Some.flight) is may.sound held.0 held.1)
+    (held.0, stays g.D.Disk.tells (view_of self) (flying_of c.in-Some.flight) is may.sound, may_remove g.D.Disk.tells (view_of self) (flying_of c.in-Some.flight) is may.sound held.0 held.1)
 
 pub returns-in_default-clause-keeps : goal.returns-in_default-clause-keeps
 returns-in_default-clause-keeps g c =
@@ -34,19 +34,22 @@ returns-in-Ok-clause-keeps g c =
     let may = c.requires.may in
     let laws = g.met.D.Disk g.world.𝓛 g.world.𝓜 g.world.𝓡 ((λ s x. x), (λ x. x), (λ x. x), λ x. x) in
     let is = flying_is self c.take.result c.in-Some.flight c.take.ensures.value c.in-Some.is in
+    let left = stays g.D.Disk.tells (view_of self) (flying_of c.in-Some.flight) is may.sound in
     subst (λ f. Keeps g.D.Disk.tells (view_of self) (view_of (record self { disk = disk; flight = f })) None) (sym c.take.ensures.after)
     (removed_keeps g.D.Disk.tells (view_of self) (flying_of c.in-Some.flight) is may.sound (g.D.Disk.seen disk) (g.D.Disk.faults disk) (λ told. laws.itself told self.disk)
-    (λ told s. c.in-Ok.ensures.done told s []) c.in-Ok.ensures.others may.runs (λ told s. c.in-Ok.ensures.any_moment told s []) c.in-Ok.ensures.cause.later)
+    (λ told s. c.in-Ok.ensures.done told s left) c.in-Ok.ensures.others may.runs (λ told s. c.in-Ok.ensures.any_moment told s left) c.in-Ok.ensures.cause.later)
 
 pub returns-in-Ok-clause-held : goal.returns-in-Ok-clause-held
 returns-in-Ok-clause-held g c = λ told s holds.
     let self = c.args.self.now in
     let disk = c.remove_pages.new.disk in
+    let may = c.requires.may in
     let laws = g.met.D.Disk g.world.𝓛 g.world.𝓜 g.world.𝓡 ((λ s x. x), (λ x. x), (λ x. x), λ x. x) in
     let is = flying_is self c.take.result c.in-Some.flight c.take.ensures.value c.in-Some.is in
+    let left = stays g.D.Disk.tells (view_of self) (flying_of c.in-Some.flight) is may.sound in
     subst (λ f. Holds (view_of (record self { disk = disk; flight = f })) s) (sym c.take.ensures.after)
     (removed_holds g.D.Disk.tells (view_of self) (flying_of c.in-Some.flight) is c.requires.may.sound (g.D.Disk.seen disk) (g.D.Disk.faults disk) (λ told. laws.itself told self.disk)
-    (λ told s. c.in-Ok.ensures.done told s []) c.in-Ok.ensures.others told s holds)
+    (λ told s. c.in-Ok.ensures.done told s left) c.in-Ok.ensures.others told s holds)
 
 pub returns-clause-keeps : goal.returns-clause-keeps
 returns-clause-keeps g c =
@@ -64,9 +67,9 @@ returns-clause-keeps g c =
     subst (λ f. Keeps g.D.Disk.tells old (view_of (record self { disk = disk; state = state; flight = f })) (Some why)) (sym c.take.ensures.after)
     (grounded_keeps g.D.Disk.tells old (record old { disk = g.D.Disk.seen disk; faults = g.D.Disk.faults disk; state = state }) (Some why) (self.state.count + 1) (ap (λ (s : State). s.stopped) c.stop-place.ensures.is)
     (refused_keeps g.D.Disk.tells old may.sound (record old { disk = g.D.Disk.seen disk; faults = g.D.Disk.faults disk; state = state }) c.args.before may
-    (λ told s holds. c.remove_pages.ensures.any_moment told s [] (may_remove g.D.Disk.tells old (flying_of c.in-Some.flight) is may.sound s holds))
+    (λ told s holds. c.remove_pages.ensures.any_moment told s (stays g.D.Disk.tells old (flying_of c.in-Some.flight) is may.sound) (may_remove g.D.Disk.tells old (flying_of c.in-Some.flight) is may.sound s holds))
     (λ told. laws.itself told disk) c.remove_pages.ensures.cause.later why
-    (c.stop-place.ensures.place, refl, c.faults.ensures, told, c.stop-place.ensures.is, record { levels = refl; flight = refl; begun = refl })))
+    (c.stop-place.ensures.place, refl, c.faults.ensures, told, c.stop-place.ensures.is, record { levels = refl; retired = refl; flight = refl; begun = refl })))
 
 pub returns-clause-undone : goal.returns-clause-undone
 returns-clause-undone g c = λ none. absurd (not_none (record { place = c.stop-place.result; before = c.args.before; after = c.faults.result }) none)

@@ -7,7 +7,7 @@ use Rattle.lethe_disk.proofs.Quieting.{on_ok}
 use Rattle.lethe_stored.specs.Stored.{Stored}
 use Rattle.lethe_state.specs.Room.{HasRoom, IsShortToFreeze}
 use Rattle.lethe_core.specs.Keeps.{Keeps}
-use Rattle.lethe_core.specs.Merges.{IsMergedInPart, IsRoomBegun, IsRoomMadeBy, IsShortToMerge, IsUncrowded, Outcome, pages_of}
+use Rattle.lethe_core.specs.Merges.{IsMergedInPart, IsRoomBegun, IsRoomMadeBy, IsShortToMerge, IsUncrowded, Outcome, pages_of, retired_behind}
 use Rattle.lethe_core.specs.Reasons.{HasReason, IsShort, IsShortOfRoom, IsUnreadable}
 use Rattle.lethe_core.specs.Running.{Holds}
 use Rattle.lethe_core.specs.Steps.{IsDoneInPart, IsReady, IsSteady}
@@ -26,7 +26,7 @@ returns-then-has_room-clause-keeps g c = keeps_itself g.D.Disk.tells (view_of c.
 pub returns-then-has_room-clause-done : goal.returns-then-has_room-clause-done
 returns-then-has_room-clause-done g c = λ told s holds.
     let room = c.has_room.ensures.0 c.if-has_room.true in
-    (s, [], inl (has_room (view_of c.args.self.now) s holds room, refl, refl), holds, omega arith)
+    (s, [], inl (has_room (view_of c.args.self.now) s holds room, refl, refl), holds, omega arith, refl)
 
 -- The calls
 
@@ -55,7 +55,8 @@ returns-in_err-unfreeze-clause-partly g c =
     let why = c.in_err-unfreeze.field-0.0 in
     let refusal : c.from_residual.result ≡ Err why = search rules in
     subst (λ (r : Result (Unit {0}) Refused). IfErr r (IsDoneInPart g.D.Disk.tells (IsRoomBegun (view_of old).flight) (view_of old) (view_of new))) (sym refusal)
-    (λ none told s holds. (s, inl refl, before_holds g.D.Disk.tells told (view_of old) (view_of new) s (jobs_same old new c.unfreeze.ensures.begun c.unfreeze.ensures.flight) (c.in_err-unfreeze.ensures.undone none) holds))
+    (λ none told s holds.
+    (s, inl refl, before_holds g.D.Disk.tells told (view_of old) (view_of new) s (jobs_same old new c.unfreeze.ensures.begun c.unfreeze.ensures.flight (λ i. (c.unfreeze.ensures.retired i).items)) (c.in_err-unfreeze.ensures.undone none) holds))
 
 pub returns-in_err-unfreeze-clause-why : goal.returns-in_err-unfreeze-clause-why
 returns-in_err-unfreeze-clause-why g c =
@@ -92,7 +93,7 @@ returns-in_err-freeze_now-clause-partly g c =
     let middle = c.in_ok-unfreeze.ensures.done told s holds in (
       middle.0,
       inr (full, record { middle = middle.0; unfrozen = middle.1; rest = inl refl }),
-      before_holds g.D.Disk.tells told (view_of mid) (view_of new) middle.0 (jobs_same mid new c.freeze_now.ensures.begun c.freeze_now.ensures.flight) (c.in_err-freeze_now.ensures.undone none) middle.2,
+      before_holds g.D.Disk.tells told (view_of mid) (view_of new) middle.0 (jobs_same mid new c.freeze_now.ensures.begun c.freeze_now.ensures.flight (λ i. (c.freeze_now.ensures.retired i).items)) (c.in_err-freeze_now.ensures.undone none) middle.2,
     ))
 
 pub returns-in_err-freeze_now-clause-why : goal.returns-in_err-freeze_now-clause-why
@@ -143,13 +144,15 @@ returns-clause-done g c = λ told s holds.
     let start = g.D.Disk.fetches c.args.port.now in
     let now = g.D.Disk.fetches c.merge_due.new.port in
     let flight = ap (option_map flying_of) (c.freeze_now.ensures.flight ∙ c.unfreeze.ensures.flight) in
-    let P : Option Flying → Type 0 = λ flight. (t : Stored) × (outcomes : List Outcome) × IsUncrowded flight cleared.0 outcomes t × Holds new t × (now ≡ start + pages_of outcomes) in
+    let retired : (view_of c.freeze_now.new.self).retired ≡ old.retired = (λ i. (c.freeze_now.ensures.retired i).items) ∙ λ i. (c.unfreeze.ensures.retired i).items in
+    let P : Option Flying → Type 0 = λ flight. (t : Stored) × (outcomes : List Outcome) × IsUncrowded flight cleared.0 outcomes t × Holds new t × (now ≡ start + pages_of outcomes)
+    × (new.retired ≡ retired_behind outcomes (view_of c.freeze_now.new.self).retired) in
     on_ok c.merge_due.result (P (view_of c.freeze_now.new.self).flight)
-    ((t : Stored) × (outcomes : List Outcome) × IsRoomMadeBy old.flight s outcomes t × Holds new t × (now ≡ start + pages_of outcomes))
+    ((t : Stored) × (outcomes : List Outcome) × IsRoomMadeBy old.flight s outcomes t × Holds new t × (now ≡ start + pages_of outcomes) × (new.retired ≡ retired_behind outcomes old.retired))
     (c.merge_due.ensures.done told cleared.0 cleared.2)
     (λ done.
     let merges = subst (λ flight. IsUncrowded flight cleared.0 done.1 done.0) flight done.2 in
-    (done.0, done.1, inr (full, record { middle = middle.0; unfrozen = middle.1; cleared = cleared.0; frozen = cleared.1; merges = merges }), done.3, done.4))
+    (done.0, done.1, inr (full, record { middle = middle.0; unfrozen = middle.1; cleared = cleared.0; frozen = cleared.1; merges = merges }), done.3, done.4, done.5 ∙ ap (retired_behind done.1) retired))
 
 pub returns-clause-why : goal.returns-clause-why
 returns-clause-why g c =

@@ -43,7 +43,7 @@ loop-preserved g c =
           (g.D.Disk.port_faults c.args.port.now) (g.D.Disk.port_faults c.loop.port) c.loop.invariant.merged
           (view_of c.merge_next.new.self) (g.D.Disk.fetches c.merge_next.new.port) (g.D.Disk.port_faults c.merge_next.new.port)
           (subst (λ (r : Result Bool Refused). Keeps g.D.Disk.tells (view_of c.loop.self) (view_of c.merge_next.new.self) (result_err r)) ok c.merge_next.ensures.keeps) c.in-Ok-true.ensures.steady
-          (λ told t holds. c.merge_next.ensures.done told t holds ok) c.merge_next.ensures.port_faults;
+          (λ told t holds. c.merge_next.ensures.done told t holds ok) (c.merge_next.ensures.retired ok) c.merge_next.ensures.port_faults;
       free = c.merge_next.ensures.free;
       begun = c.merge_next.ensures.begun ∙ c.loop.invariant.begun;
     }
@@ -61,7 +61,7 @@ returns-in-Ok-false-clause-done g c = λ told s holds.
     let ended = c.merge_next.ensures.ended (c.in-Ok-false.is ∙ ap Ok c.in-Ok-false.field-0-test) in
     let done = no_more g.D.Disk.tells (view_of c.args.self.now) (view_of c.loop.self) c.args.before c.loop.counter (g.D.Disk.fetches c.args.port.now) (g.D.Disk.fetches c.loop.port)
     (g.D.Disk.port_faults c.args.port.now) (g.D.Disk.port_faults c.loop.port) c.loop.invariant.merged told s holds ended.2 in
-    (done.0, done.1, done.2, subst (λ core. Holds (view_of core) done.0) (sym ended.0) done.3, ended.1 ∙ done.4)
+    (done.0, done.1, done.2, subst (λ core. Holds (view_of core) done.0) (sym ended.0) done.3, ended.1 ∙ done.4, (λ i. (ended.0 i).retired.items) ∙ done.5)
 
 pub returns-in-Err-clause-keeps : goal.returns-in-Err-clause-keeps
 returns-in-Err-clause-keeps g c =
@@ -82,7 +82,8 @@ returns-in-Err-clause-partly g c = λ none told s holds.
     let why = c.in-Err.why in
     let earlier = c.port_faults-earlier.result in
     let not : failure_of why ≡ None = since_failed earlier why (ap failure_of (sym c.told_since.ensures) ∙ none) in
-    (some.0, some.1, before_holds g.D.Disk.tells told mid new some.0 (jobs_same c.loop.self c.merge_next.new.self c.merge_next.ensures.begun (c.merge_next.ensures.free ∙ sym c.loop.invariant.free)) (c.in-Err.ensures.undone not) some.2)
+    let same = jobs_same c.loop.self c.merge_next.new.self c.merge_next.ensures.begun (c.merge_next.ensures.free ∙ sym c.loop.invariant.free) (c.in-Err.ensures.undone not).retired in
+    (some.0, some.1, before_holds g.D.Disk.tells told mid new some.0 same (c.in-Err.ensures.undone not) some.2)
 
 pub returns-in-Err-clause-why : goal.returns-in-Err-clause-why
 returns-in-Err-clause-why g c =

@@ -1,4 +1,4 @@
-use Rattle.std.proofs.Common.{rules, ◌≡◌, ◌⊎◌, inl, Some, None, Result, Err, refl, sym, ap, ◌∙◌, subst, arith}
+use Rattle.std.proofs.Common.{rules, ◌≡◌, ◌⊎◌, inl, [], Some, None, Result, Err, refl, sym, ap, ◌∙◌, subst, arith}
 use Rattle.std.specs.Prelude.{Bool, IfErr, IfSome, option_map}
 use Rattle.std.specs.Result.{result_err}
 use Rattle.lethe_base.specs.declared.refused.Refused.{Refused}
@@ -50,39 +50,39 @@ returns-in-Err-outcome-clause-why g c =
     let holds : Holds view held.0 = record { remembers = held.1; running = held.2 c.requires.may.runs } in
     c.in-Err-outcome.ensures.undamaged told (begun_sound view task begins held.0 holds) name (ap Err is)))
 
-pub returns-in_err-headers-clause-keeps : goal.returns-in_err-headers-clause-keeps
-returns-in_err-headers-clause-keeps g c =
+pub returns-in_err-made-clause-keeps : goal.returns-in_err-made-clause-keeps
+returns-in_err-made-clause-keeps g c =
     let view = view_of c.args.self.now in
-    let why = c.in_err-headers.field-0.0 in
+    let why = c.in_err-made.field-0.0 in
     let refusal : c.from_residual.result ≡ Err why = search rules in
     subst (λ (r : Result Bool Refused). Keeps g.D.Disk.tells view view (result_err r)) (sym refusal)
-    (keeps_itself g.D.Disk.tells view c.requires.may.sound c.requires.may.runs (Some why) (not_failed why c.in_err-headers.ensures.refused))
+    (keeps_itself g.D.Disk.tells view c.requires.may.sound c.requires.may.runs (Some why) (not_failed why c.in_err-made.ensures.refused))
 
-pub returns-in_err-headers-clause-undone : goal.returns-in_err-headers-clause-undone
-returns-in_err-headers-clause-undone g c =
+pub returns-in_err-made-clause-undone : goal.returns-in_err-made-clause-undone
+returns-in_err-made-clause-undone g c =
     let view = view_of c.args.self.now in
-    let why = c.in_err-headers.field-0.0 in
+    let why = c.in_err-made.field-0.0 in
     let refusal : c.from_residual.result ≡ Err why = search rules in
     subst (λ (r : Result Bool Refused). IfErr r (IsUndone g.D.Disk.tells view view)) (sym refusal) (λ none. as_itself g.D.Disk.tells view)
 
-pub returns-in_err-headers-clause-why : goal.returns-in_err-headers-clause-why
-returns-in_err-headers-clause-why g c =
+pub returns-in_err-made-clause-why : goal.returns-in_err-made-clause-why
+returns-in_err-made-clause-why g c =
     let view = view_of c.args.self.now in
     let Short = IsShortToMerge g.D.Disk.tells view in
     let task = plain_task c.in-Ok-Some.task in
     let found : c.in-Ok-Some.field-0 ≡ Some c.in-Ok-Some.task = cc in
     let begins : (s : Stored) → Holds view s → IsBegunIn s task = λ s holds. subst (λ found. IfSome found (λ task. IsBegunIn s (plain_task task))) found (c.in-Ok-Some.ensures.some s holds) in
-    let why = c.in_err-headers.field-0.0 in
+    let why = c.in_err-made.field-0.0 in
     let refusal : c.from_residual.result ≡ Err why = search rules in
     let earlier = g.D.Disk.port_faults c.args.port.now in
     let later = g.D.Disk.port_faults c.outcome.new.port in
     subst (λ result. IfErr result (λ why. HasReason Short view.state c.args.before view.faults why ⊎ IsUnreadable g.D.Disk.tells g.D.Disk.ports_fail earlier later why)) (sym refusal)
-    (inl (short_reason Short view.state c.args.before view.faults c.requires.may.runs why c.in_err-headers.ensures.refused (λ is. record {
+    (inl (short_reason Short view.state c.args.before view.faults c.requires.may.runs why c.in_err-made.ensures.refused (λ is. record {
       task = task;
       of = subst (λ found. IfSome found (λ task. IsTaskOf view (plain_task task))) found c.in-Ok-Some.ensures.of;
       drafts = c.in-Ok.drafts.items;
       bounded = c.in-Ok.ensures.bounded;
-      short = let short = c.in_err-headers.ensures.exhausted (ap Err is) in omega (arith, short);
+      short = let short = c.in_err-made.ensures.exhausted (ap Err is) in omega (arith, short);
       are = λ told s holds. (begins s holds, c.in-Ok.ensures.drafts told (begun_sound view task begins s holds));
     })))
 
@@ -92,7 +92,7 @@ merge_now-requires-clause-merges g c κs within = λ told s holds.
     let task = plain_task c.in-Ok-Some.task in
     let found : c.in-Ok-Some.field-0 ≡ Some c.in-Ok-Some.task = cc in
     let begins : (s : Stored) → Holds view s → IsBegunIn s task = λ s holds. subst (λ found. IfSome found (λ task. IsBegunIn s (plain_task task))) found (c.in-Ok-Some.ensures.some s holds) in
-    let next = next_outcome view task begins (ap (option_map flying_of) c.requires.free) g.D.Disk.tells c.in-Ok.drafts.items c.in_ok-headers.headers.items c.in_ok-headers.step c.in_ok-headers.ensures.installs c.in-Ok.ensures.drafts told s holds in
+    let next = next_outcome view task begins (ap (option_map flying_of) c.requires.free) g.D.Disk.tells c.in-Ok.drafts.items c.deref.result.now [] c.in_ok-made.made c.in_ok-made.ensures.installs (sym c.deref.ensures.value) c.in-Ok.ensures.drafts told s holds in
     (task, next.0, next.2, begun_counted view task begins c.requires.may.runs)
 
 pub returns-in_err-merge_now-clause-keeps : goal.returns-in_err-merge_now-clause-keeps
@@ -115,7 +115,7 @@ returns-clause-done g c = λ told s holds is.
     let task = plain_task c.in-Ok-Some.task in
     let found : c.in-Ok-Some.field-0 ≡ Some c.in-Ok-Some.task = cc in
     let begins : (s : Stored) → Holds view s → IsBegunIn s task = λ s holds. subst (λ found. IfSome found (λ task. IsBegunIn s (plain_task task))) found (c.in-Ok-Some.ensures.some s holds) in
-    let next = next_outcome view task begins (ap (option_map flying_of) c.requires.free) g.D.Disk.tells c.in-Ok.drafts.items c.in_ok-headers.headers.items c.in_ok-headers.step c.in_ok-headers.ensures.installs c.in-Ok.ensures.drafts told s holds in (
+    let next = next_outcome view task begins (ap (option_map flying_of) c.requires.free) g.D.Disk.tells c.in-Ok.drafts.items c.deref.result.now [] c.in_ok-made.made c.in_ok-made.ensures.installs (sym c.deref.ensures.value) c.in-Ok.ensures.drafts told s holds in (
       record { task = task; to = next.0 },
       record { begun = begins s holds; merged_is = next.1 },
       c.in_ok-merge_now.ensures.done told s task next.0 holds next.2,

@@ -1,4 +1,4 @@
-use Rattle.std.proofs.Common.{rules, ◌≡◌, [], None, Result, Err, sym, subst}
+use Rattle.std.proofs.Common.{rules, ◌≡◌, None, Result, Err, sym, subst}
 use Rattle.std.specs.Prelude.{IfErr, OnErr}
 use Rattle.std.specs.Result.{result_err}
 use Rattle.lethe_base.specs.declared.refused.Refused.{Refused}
@@ -10,11 +10,18 @@ use Rattle.lethe_core.specs.Keeps.{Keeps}
 use Rattle.lethe_core.specs.Merges.{MayMerge}
 use Rattle.lethe_core.specs.Running.{Holds}
 use Rattle.lethe_core.specs.Steps.{IsUndone}
-use Rattle.lethe_core.specs.View.{loose_in, view_of}
+use Rattle.lethe_core.specs.View.{beside_in, view_of}
 use Rattle.lethe_core.proofs.Carried.{active_ends}
 use Rattle.lethe_core.proofs.Hindered.{hindered_keeps, hindered_next, hindered_undone}
 use Rattle.lethe_core.proofs.Merged.{merge_keeps, merge_moments, merged_holds, merged_view}
 use Rattle.lethe_core.proofs.holding.Core.merge_now.Goals as goal
+
+pub carry_out-requires-clause-step : goal.carry_out-requires-clause-step
+carry_out-requires-clause-step g c κs within = λ told.
+    let held = c.requires.may.sound.held told in
+    let running = held.2 c.requires.may.runs in
+    let next = c.requires.merges told held.0 (record { remembers = held.1; running = running }) in
+    (held.0, next.1, next.2.left, running, next.2.step_is)
 
 pub returns-in_err-carry_out-clause-keeps : goal.returns-in_err-carry_out-clause-keeps
 returns-in_err-carry_out-clause-keeps g c =
@@ -24,7 +31,7 @@ returns-in_err-carry_out-clause-keeps g c =
     let why = c.in_err-carry_out.field-0.0 in
     let refusal : c.from_residual.result ≡ Err why = search rules in
     subst (λ (r : Result (Unit {0}) Refused). Keeps g.D.Disk.tells old new (result_err r)) (sym refusal) (hindered_keeps g.D.Disk.tells old new c.args.before c.requires.may why c.in_err-carry_out.ensures.refused
-    (merge_moments old new.disk new.faults new.levels new.begun c.args.headers.items c.args.step g.D.Disk.tells c.args.before c.requires.may c.requires.from c.requires.merges c.carry_out.ensures.moments)
+    (merge_moments old new.disk new.faults new.levels new.begun c.args.made g.D.Disk.tells c.args.before c.requires.may c.requires.from c.requires.merges c.carry_out.ensures.moments)
     (λ told. laws.itself told c.carry_out.new.self.disk) c.carry_out.ensures.later c.carry_out.ensures.faults)
 
 pub returns-in_err-carry_out-clause-undone : goal.returns-in_err-carry_out-clause-undone
@@ -47,28 +54,26 @@ pub returns-clause-done : goal.returns-clause-done
 returns-clause-done g c = λ told s task t holds may.
     let old = view_of c.args.self.now in
     let mid = view_of c.carry_out.new.self in
-    let step = c.args.step in
-    let headers = c.args.headers.items in
+    let made = c.args.made in
     let laws = g.met.D.Disk g.world.𝓛 g.world.𝓜 g.world.𝓡 ((λ s x. x), (λ x. x), (λ x. x), λ x. x) in
-    let loose = loose_in old.flight in
     let running = holds.running in
     let is = may.step_is in
-    let done = c.in_ok-carry_out.ensures.done told s t [] running is in
-    let kept = c.in_ok-carry_out.ensures.kept told s t [] running is in
-    let files = c.in_ok-carry_out.ensures.files told s t [] running is holds.remembers.files in
-    let ends = active_ends s t loose [] headers step is holds.remembers.coherent old.disk mid.disk done.0 kept old.state.end may.installed.merged_is.active (laws.itself told c.args.self.now.disk) running.ends in
-    subst (λ (state : State). Holds (record (merged_view old mid.disk mid.faults mid.levels mid.begun step) { state = under step.manifest state }) t) (sym c.in_ok-carry_out.ensures.state)
-    (merged_holds old mid.disk mid.faults mid.levels mid.begun headers step s t task holds may files done.0 done.1 ends)
+    let done = c.in_ok-carry_out.ensures.done told s t may.left running is in
+    let kept = c.in_ok-carry_out.ensures.kept told s t may.left running is in
+    let files = c.in_ok-carry_out.ensures.files told s t may.left running is holds.remembers.files in
+    let ends = active_ends s t (beside_in old) may.left made.headers.items made.step is holds.remembers.coherent old.disk mid.disk done.0 kept old.state.end may.installed.merged_is.active (laws.itself told c.args.self.now.disk) running.ends in
+    subst (λ (state : State). Holds (record (merged_view old mid.disk mid.faults mid.levels mid.begun made) { state = under made.step.manifest state }) t) (sym c.in_ok-carry_out.ensures.state)
+    (merged_holds old mid.disk mid.faults mid.levels mid.begun made s t task holds may files done.0 done.1 ends)
 
 pub returns-clause-keeps : goal.returns-clause-keeps
 returns-clause-keeps g c =
     let old = view_of c.args.self.now in
     let mid = view_of c.carry_out.new.self in
-    let step = c.args.step in
-    let headers = c.args.headers.items in
-    let moments = merge_moments old mid.disk mid.faults mid.levels mid.begun headers step g.D.Disk.tells c.args.before c.requires.may c.requires.from c.requires.merges c.carry_out.ensures.moments in
-    let P : State → Type 0 = λ state. (g.D.Disk.tells → (s : Stored) (task : PlainTask) (t : Stored) → Holds old s → MayMerge old s task t headers step → Holds (record (merged_view old mid.disk mid.faults mid.levels mid.begun step) { state = under step.manifest state }) t)
-    → Keeps g.D.Disk.tells old (record (merged_view old mid.disk mid.faults mid.levels mid.begun step) { state = under step.manifest state }) None in
+    let made = c.args.made in
+    let moments = merge_moments old mid.disk mid.faults mid.levels mid.begun made g.D.Disk.tells c.args.before c.requires.may c.requires.from c.requires.merges c.carry_out.ensures.moments in
+    let P : State → Type 0 = λ state. (g.D.Disk.tells → (s : Stored) (task : PlainTask) (t : Stored) → Holds old s → MayMerge old s task t made → Holds (record (merged_view old mid.disk mid.faults mid.levels mid.begun made) { state = under made.step.manifest state }) t)
+    → Keeps g.D.Disk.tells old (record (merged_view old mid.disk mid.faults mid.levels mid.begun made) { state = under made.step.manifest state }) None in
     subst P (sym c.in_ok-carry_out.ensures.state)
-    (λ behind. merge_keeps old mid.disk mid.faults mid.levels mid.begun headers step g.D.Disk.tells c.args.before c.requires.may c.requires.from c.requires.merges behind c.carry_out.ensures.levels moments c.in_ok-carry_out.ensures.calls c.carry_out.ensures.faults)
+    (λ behind. merge_keeps old mid.disk mid.faults mid.levels mid.begun made g.D.Disk.tells c.args.before c.requires.may c.requires.from c.requires.merges behind c.requires.drawn c.carry_out.ensures.levels moments
+    c.in_ok-carry_out.ensures.calls c.carry_out.ensures.faults)
     (returns-clause-done g c)

@@ -12,8 +12,8 @@ use Rattle.lethe_state.specs.declared.state.State.{State}
 use Rattle.lethe_core.specs.Asked.{done_by}
 use Rattle.lethe_core.specs.Running.{Holds, IsSound}
 use Rattle.lethe_core.specs.StandsNow.{StandsNow}
-use Rattle.lethe_core.specs.View.{view_of}
-use Rattle.lethe_core.proofs.Hindered.{flies_on, sound_halted}
+use Rattle.lethe_core.specs.View.{names_beside, view_of}
+use Rattle.lethe_core.proofs.Hindered.{drawn_on, flies_on, sound_halted}
 use Rattle.lethe_core.proofs.Likes.{like_holds, like_small, like_sound, like_stands, next_small, with_state}
 use Rattle.lethe_core.proofs.Recorded.{failed_stands, holds_longer, inserted, moments, moved, ready, untouched_moments}
 use Rattle.lethe_core.proofs.Standing.{moments_or, open_stands, sound_back, stands_back, stands_for, stands_holds, stands_moments}
@@ -78,7 +78,8 @@ returns-in-Ok-append-clause-sound g c =
       writable = c.enter.ensures.writable;
       small = next_small c.args.next c.in-Ok.end c.prepare.new.self c.enter.new.self c.enter.ensures.is room (like_small c.args.self.now.state c.prepare.new.self like sound.small);
       count = sound.count ∙ ap (λ (m : Manifest). m.config.levels + 1) (sym manifest);
-      flies = flies_on old.state c.enter.new.self (ap (λ (m : Manifest). m.config.levels) manifest) (omega (arith, drawn)) old.flight sound.flies;
+      flies = flies_on old.state c.enter.new.self (ap (λ (m : Manifest). m.config.levels) manifest) old.flight sound.flies;
+      drawn = drawn_on old.state.next c.enter.new.self.next (names_beside old) (omega (arith, drawn)) sound.drawn;
       held = λ told.
           let held = sound.held told in
           let both = returns-in-Ok-append-clause-written g c told held.0 (record { remembers = held.1; running = held.2 c.requires.may.runs }) in
@@ -163,14 +164,14 @@ returns-clause-sound g c =
     let mid = with_state (view_of c.args.self.now) c.prepare.new.self in
     let disk = g.D.Disk.seen c.append.new.disk in
     sound_back g.D.Disk.tells mid (moved mid disk (g.D.Disk.faults c.append.new.disk) c.prepare.new.self) (λ told. refused_at_once mid.disk disk (c.in-Err-NoMemory.ensures.no_memory told (ap Err c.in-Err-NoMemory.field-0-is))) refl
-    (record { levels = refl; flight = refl; begun = refl }) (like_sound (view_of c.args.self.now) c.prepare.new.self c.prepare.ensures.same g.D.Disk.tells c.prepare.ensures.writable c.requires.may.sound)
+    (record { levels = refl; retired = refl; flight = refl; begun = refl }) (like_sound (view_of c.args.self.now) c.prepare.new.self c.prepare.ensures.same g.D.Disk.tells c.prepare.ensures.writable c.requires.may.sound)
 
 pub returns-clause-stands : goal.returns-clause-stands
 returns-clause-stands g c = λ told config h caller call change stands with.
     let mid = with_state (view_of c.args.self.now) c.prepare.new.self in
     let disk = g.D.Disk.seen c.append.new.disk in
     stands_back mid (moved mid disk (g.D.Disk.faults c.append.new.disk) c.prepare.new.self) (refused_at_once mid.disk disk (c.in-Err-NoMemory.ensures.no_memory told (ap Err c.in-Err-NoMemory.field-0-is))) config h refl
-    (record { levels = refl; flight = refl; begun = refl }) (like_stands (view_of c.args.self.now) c.prepare.new.self c.prepare.ensures.same config h stands c.requires.may.runs)
+    (record { levels = refl; retired = refl; flight = refl; begun = refl }) (like_stands (view_of c.args.self.now) c.prepare.new.self c.prepare.ensures.same config h stands c.requires.may.runs)
 
 pub returns-clause-any_moment : goal.returns-clause-any_moment
 returns-clause-any_moment g c = λ told config h caller call stands with.

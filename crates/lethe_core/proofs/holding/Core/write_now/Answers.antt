@@ -1,4 +1,4 @@
-use Rattle.std.proofs.Common.{◌≡◌, ◌≤◌, ◌+◌, [], Some, Err, refl, ap, ◌∙◌, arith}
+use Rattle.std.proofs.Common.{◌≡◌, ◌≤◌, ◌+◌, Some, Err, refl, ap, ◌∙◌, arith}
 use Rattle.lethe_base.specs.Counts.{Rose}
 use Rattle.lethe_base.specs.Limits.{max_place}
 use Rattle.lethe_base.specs.declared.refused.Refused.TheVariants as refused
@@ -7,7 +7,7 @@ use Rattle.lethe_commit.proofs.Placing.{refused_at_once}
 use Rattle.lethe_state.specs.declared.state.State.{State}
 use Rattle.lethe_core.specs.View.{flying_of, view_of}
 use Rattle.lethe_core.proofs.Hindered.{as_itself, keeps_itself, like_of}
-use Rattle.lethe_core.proofs.Pages.{as_written, flying_is, may_write, on_err, refused_keeps, written_holds, written_keeps}
+use Rattle.lethe_core.proofs.Pages.{as_written, flying_is, held_now, may_write, on_err, refused_keeps, stays, written_holds, written_keeps}
 use Rattle.lethe_core.proofs.holding.Core.write_now.Goals as goal
 
 pub returns-then-number-ge-MAX_PLACE-clause-keeps : goal.returns-then-number-ge-MAX_PLACE-clause-keeps
@@ -16,17 +16,30 @@ returns-then-number-ge-MAX_PLACE-clause-keeps g c = keeps_itself g.D.Disk.tells 
 pub returns-then-number-ge-MAX_PLACE-clause-undone : goal.returns-then-number-ge-MAX_PLACE-clause-undone
 returns-then-number-ge-MAX_PLACE-clause-undone g c = λ none. as_itself g.D.Disk.tells (view_of c.args.self.now)
 
+-- the page is written beside the retired ones and those that were written
+pub write_page-placed-requires-clause-fresh : goal.write_page-placed-requires-clause-fresh
+write_page-placed-requires-clause-fresh g c κs within = λ told.
+    let self = c.args.self.now in
+    let may = c.requires.may in
+    let is = flying_is self c.take.result c.in-Some.flight c.take.ensures.value c.in-Some.is in
+    let held = held_now g.D.Disk.tells (view_of self) may.sound told may.runs in (
+      held.0,
+      stays g.D.Disk.tells (view_of self) (flying_of c.in-Some.flight) is may.sound,
+      may_write g.D.Disk.tells (view_of self) (flying_of c.in-Some.flight) is may.sound held.0 held.1,
+    )
+
 pub returns-in-Ok-clause-keeps : goal.returns-in-Ok-clause-keeps
 returns-in-Ok-clause-keeps g c =
     let self = c.args.self.now in
     let laws = g.met.D.Disk g.world.𝓛 g.world.𝓜 g.world.𝓡 ((λ s x. x), (λ x. x), (λ x. x), λ x. x) in
     let disk = c.write_page-placed.new.disk in
     let is = flying_is self c.take.result c.in-Some.flight c.take.ensures.value c.in-Some.is in
+    let left = stays g.D.Disk.tells (view_of self) (flying_of c.in-Some.flight) is c.requires.may.sound in
     let low = c.if-number-ge-MAX_PLACE.false in
     let fits : self.state.next + 1 ≤ max_place = omega (arith, low) in
     written_keeps g.D.Disk.tells (view_of self) (flying_of c.in-Some.flight) is c.requires.may.sound (g.D.Disk.seen disk) (g.D.Disk.faults disk) c.write_page-placed.new.written c.args.bytes.now
-    (λ told. laws.itself told self.disk) fits (λ told s. c.in-Ok.ensures.done told s []) (λ s. c.in-Ok.ensures.loose s []) (c.in-Ok.ensures.drawn []) c.in-Ok.ensures.others
-    c.requires.may.runs (λ told s. c.in-Ok.ensures.any_moment told s []) c.in-Ok.ensures.calls c.in-Ok.ensures.cause.later
+    (λ told. laws.itself told self.disk) fits (λ told s. c.in-Ok.ensures.done told s left) (λ s. c.in-Ok.ensures.loose s left) (c.in-Ok.ensures.drawn left) c.in-Ok.ensures.others
+    c.requires.may.runs (λ told s. c.in-Ok.ensures.any_moment told s left) c.in-Ok.ensures.calls c.in-Ok.ensures.cause.later
 
 pub returns-in-Ok-clause-held : goal.returns-in-Ok-clause-held
 returns-in-Ok-clause-held g c =
@@ -34,10 +47,11 @@ returns-in-Ok-clause-held g c =
     let laws = g.met.D.Disk g.world.𝓛 g.world.𝓜 g.world.𝓡 ((λ s x. x), (λ x. x), (λ x. x), λ x. x) in
     let disk = c.write_page-placed.new.disk in
     let is = flying_is self c.take.result c.in-Some.flight c.take.ensures.value c.in-Some.is in
+    let left = stays g.D.Disk.tells (view_of self) (flying_of c.in-Some.flight) is c.requires.may.sound in
     let low = c.if-number-ge-MAX_PLACE.false in
     let fits : self.state.next + 1 ≤ max_place = omega (arith, low) in
     written_holds g.D.Disk.tells (view_of self) (flying_of c.in-Some.flight) is c.requires.may.sound (g.D.Disk.seen disk) (g.D.Disk.faults disk) c.write_page-placed.new.written c.args.bytes.now
-    (λ told. laws.itself told self.disk) fits (λ told s. c.in-Ok.ensures.done told s []) (λ s. c.in-Ok.ensures.loose s []) (c.in-Ok.ensures.drawn []) c.in-Ok.ensures.others
+    (λ told. laws.itself told self.disk) fits (λ told s. c.in-Ok.ensures.done told s left) (λ s. c.in-Ok.ensures.loose s left) (c.in-Ok.ensures.drawn left) c.in-Ok.ensures.others
 
 pub returns-in-Err-Failed-clause-keeps : goal.returns-in-Err-Failed-clause-keeps
 returns-in-Err-Failed-clause-keeps g c =
@@ -54,9 +68,9 @@ returns-in-Err-Failed-clause-keeps g c =
     let from = may.told_from in
     let told : Rose c.args.before (g.D.Disk.faults c.write_page-placed.new.disk) = omega (arith, rose, from) in
     refused_keeps g.D.Disk.tells (view_of self) may.sound _ c.args.before may
-    (λ told s holds. c.write_page-placed.ensures.any_moment told s [] (may_write g.D.Disk.tells (view_of self) flying is may.sound s holds))
+    (λ told s holds. c.write_page-placed.ensures.any_moment told s (stays g.D.Disk.tells (view_of self) flying is may.sound) (may_write g.D.Disk.tells (view_of self) flying is may.sound s holds))
     (λ told. laws.itself told c.write_page-placed.new.disk) c.write_page-placed.ensures.cause.later (refused.Fault c.stop-place.result c.args.before c.faults.result)
-    (c.stop-place.ensures.place, refl, c.faults.ensures, told, c.stop-place.ensures.is, record { levels = refl; flight = as_written g.D.Disk.tells (view_of self) flying is may.sound written kept; begun = refl })
+    (c.stop-place.ensures.place, refl, c.faults.ensures, told, c.stop-place.ensures.is, record { levels = refl; retired = refl; flight = as_written g.D.Disk.tells (view_of self) flying is may.sound written kept; begun = refl })
 
 pub returns-in-Err-Failed-clause-drawn : goal.returns-in-Err-Failed-clause-drawn
 returns-in-Err-Failed-clause-drawn g c = ap (λ (state : State). state.next) c.stop-place.ensures.is
@@ -73,10 +87,10 @@ returns-in-Err-NoMemory-clause-keeps g c =
     let failed : c.write_page-placed.result ≡ Err NoMemory = c.in-Err-NoMemory.is ∙ ap (λ e. Err e) why in
     let kept = on_err c.write_page-placed.result NoMemory (written ≡ c.in-Some.flight.written) failed c.write_page-placed.ensures.kept in
     refused_keeps g.D.Disk.tells (view_of self) may.sound _ c.args.before may
-    (λ told s holds. c.write_page-placed.ensures.any_moment told s [] (may_write g.D.Disk.tells (view_of self) flying is may.sound s holds))
+    (λ told s holds. c.write_page-placed.ensures.any_moment told s (stays g.D.Disk.tells (view_of self) flying is may.sound) (may_write g.D.Disk.tells (view_of self) flying is may.sound s holds))
     (λ told. laws.itself told c.write_page-placed.new.disk) c.write_page-placed.ensures.cause.later refused.NoMemory (
       refl,
-      record { levels = refl; flight = as_written g.D.Disk.tells (view_of self) flying is may.sound written kept; begun = refl },
+      record { levels = refl; retired = refl; flight = as_written g.D.Disk.tells (view_of self) flying is may.sound written kept; begun = refl },
       λ told. refused_at_once (g.D.Disk.seen self.disk) (g.D.Disk.seen c.write_page-placed.new.disk) (c.write_page-placed.ensures.no_memory told failed),
     )
 
@@ -88,5 +102,6 @@ returns-in-Err-NoMemory-clause-undone g c = λ none.
     record {
       state = like_of self.state self.state refl;
       levels = refl;
+      retired = refl;
       disk = λ told. refused_at_once (g.D.Disk.seen self.disk) (g.D.Disk.seen c.write_page-placed.new.disk) (c.write_page-placed.ensures.no_memory told failed);
     }

@@ -25,7 +25,7 @@ returns-in-Ok-Some-clause-answers g c =
     let found : c.in-Ok-Some.field-0 ≡ Some c.in-Ok-Some.job = cc in
     let face = subst (λ found. IfSome found (λ job. face_of new ≡ with_begun (face_of old) (plain_task job.task.value))) found c.in-Ok-Some.ensures.face in
     subst (λ face. Answers g.D.Disk.tells (Serves Work) None face old new) face
-    (idle_answers g.D.Disk.tells None old new is.sound is.state (ap parts_by_level is.version) is.faults is.idle is.stands (served_is_none Work))
+    (idle_answers g.D.Disk.tells None old new is.sound is.state (ap parts_by_level is.version) (ap (λ names. names.items) is.retired) is.faults is.idle is.stands (served_is_none Work))
 
 pub returns-in-Ok-None-clause-answers : goal.returns-in-Ok-None-clause-answers
 returns-in-Ok-None-clause-answers g c =
@@ -34,7 +34,7 @@ returns-in-Ok-None-clause-answers g c =
     let is = c.begin_now.ensures in
     let none : c.in-Ok-None.field-0 ≡ None = cc in
     subst (λ face. Answers g.D.Disk.tells (Serves Work) (Some NothingDue) face old new) (c.in-Ok-None.ensures.none_begun (ap Ok none))
-    (idle_answers g.D.Disk.tells (Some NothingDue) old new is.sound is.state (ap parts_by_level is.version) is.faults is.idle is.stands (refused_is_none (Serves Work) NothingDue refl))
+    (idle_answers g.D.Disk.tells (Some NothingDue) old new is.sound is.state (ap parts_by_level is.version) (ap (λ names. names.items) is.retired) is.faults is.idle is.stands (refused_is_none (Serves Work) NothingDue refl))
 
 pub returns-in-Err-clause-answers : goal.returns-in-Err-clause-answers
 returns-in-Err-clause-answers g c =
@@ -42,4 +42,4 @@ returns-in-Err-clause-answers g c =
     let new = view_of c.begin_now.new.self in
     let is = c.begin_now.ensures in
     subst (λ face. Answers g.D.Disk.tells (Serves Work) (Some NoMemory) face old new) c.in-Err.ensures.kept
-    (idle_answers g.D.Disk.tells (Some NoMemory) old new is.sound is.state (ap parts_by_level is.version) is.faults is.idle is.stands (refused_is_none (Serves Work) NoMemory refl))
+    (idle_answers g.D.Disk.tells (Some NoMemory) old new is.sound is.state (ap parts_by_level is.version) (ap (λ names. names.items) is.retired) is.faults is.idle is.stands (refused_is_none (Serves Work) NoMemory refl))

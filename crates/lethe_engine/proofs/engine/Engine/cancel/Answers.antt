@@ -19,7 +19,7 @@ returns-in-Some-clause-answers g c =
     let new = record old { flight = None } in
     let at = c.in-Some.at in
     subst (λ face. Answers g.D.Disk.tells (Serves Work) (Some (Stopped at)) face old new) (sym (given_up_stopped (face_of old) old.state at c.in-Some.is))
-    (idle_answers g.D.Disk.tells (Some (Stopped at)) old new (forgets_sound old at c.in-Some.is g.D.Disk.tells c.requires.sound) refl refl refl (λ told. idle_itself old)
+    (idle_answers g.D.Disk.tells (Some (Stopped at)) old new (forgets_sound old at c.in-Some.is g.D.Disk.tells c.requires.sound) refl refl refl refl (λ told. idle_itself old)
     (λ told config h stands. forgets_now old at c.in-Some.is config h stands) (refused_is_none (Serves Work) (Stopped at) refl))
 
 pub returns-then-self-ge-MAX_PLACE-clause-answers : goal.returns-then-self-ge-MAX_PLACE-clause-answers
@@ -35,7 +35,10 @@ returns-clause-answers g c =
     let new = view_of c.cancel_now.new.self in
     let result = c.cancel_now.result in
     let left = c.if-self-ge-MAX_PLACE.false in
-    let now : face_of new ≡ record (face_of old) { flight = None } = λ i. record { begun = (c.cancel_now.ensures.begun i).count; flight = option_map flying_of (c.cancel_now.ensures.free i) } in
+    let begun = c.cancel_now.ensures.begun in
+    let free = c.cancel_now.ensures.free in
+    let retired = c.cancel_now.ensures.retired in
+    let now : face_of new ≡ record (face_of old) { flight = None } = λ i. record { begun = (begun i).count; flight = option_map flying_of (free i); retired = (retired i).items } in
     subst (λ face. Answers g.D.Disk.tells (Serves Work) (result_err result) face old new) (now ∙ sym (given_up_now (face_of old) old.state c.in_default.is (omega (arith, left))))
     (step_answers g.D.Disk.tells ⊥ (result_err result) old new c.faults-before.result c.in_default.is c.faults-before.ensures c.cancel_now.ensures.keeps
     (if_refused result (HasReason ⊥ old.state c.faults-before.result new.faults) c.cancel_now.ensures.why) (if_refused result (IsUndone g.D.Disk.tells old new) c.cancel_now.ensures.undone))

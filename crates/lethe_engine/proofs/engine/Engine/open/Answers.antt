@@ -3,7 +3,7 @@ use Rattle.std.proofs.lemmas.List.{length-map}
 use Rattle.lethe_manifest.specs.declared.manifest.Manifest.{Manifest}
 use Rattle.lethe_version.specs.Versions.{levels_of}
 use Rattle.lethe_advance.specs.Shown.{parts_by_level}
-use Rattle.lethe_engine.proofs.Opened.{opened_running, resumed, small_fresh, untouched_by}
+use Rattle.lethe_engine.proofs.Opened.{drawn_none, opened_running, resumed, small_fresh, untouched_by}
 use Rattle.lethe_engine.proofs.engine.Engine.open.Goals as goal
 
 pub returns-in-Ok-opened-clause-sound : goal.returns-in-Ok-opened-clause-sound
@@ -17,24 +17,33 @@ returns-in-Ok-opened-clause-sound g c =
       small = small_fresh c.in-Ok.field-0.manifest c.in-Ok-opened.state fresh;
       count = length-map (levels_of version) _ ∙ told.levels ∙ ap (λ fields. fields.levels + 1) (sym told.config_is ∙ ap (λ (m : Manifest). m.config) (sym fresh.manifest_is));
       flies = tt;
+      drawn = drawn_none c.in-Ok-opened.state.next c.new.result.items c.new.ensures.items;
       held = λ tells.
           let is = c.in-Ok.ensures.opened tells in
           let remembers = c.in-Ok-opened.ensures.remembers is.s (parts_by_level version) is.settled.coherent is.told.files (sym is.told.manifest) is.told.frozen is.told.active is.told.erases in
-          (is.s, remembers.0, λ runs. opened_running (g.D.Disk.seen disk) (g.D.Disk.faults disk) c.none.result.count is.s c.in-Ok-opened.state (parts_by_level version) is.settled is.only is.rising is.told.active is.ends c.in-Ok-opened.ensures.end remembers.1);
+          let state = c.in-Ok-opened.state in
+          let levels = parts_by_level version in (
+            is.s,
+            remembers.0,
+            λ runs. opened_running (g.D.Disk.seen disk) (g.D.Disk.faults disk) c.new.result.items c.new.ensures.items c.none.result.count is.s state levels
+                is.settled is.only is.rising is.told.active is.ends c.in-Ok-opened.ensures.end remembers.1,
+          );
     }
 
 pub returns-in-Ok-opened-clause-runs : goal.returns-in-Ok-opened-clause-runs
 returns-in-Ok-opened-clause-runs g c = c.in-Ok-opened.ensures.fresh.stopped
 
 pub returns-in-Ok-opened-clause-face : goal.returns-in-Ok-opened-clause-face
-returns-in-Ok-opened-clause-face g c = λ i. record { begun = c.none.ensures i; flight = None }
+returns-in-Ok-opened-clause-face g c = λ i. record { begun = c.none.ensures i; flight = None; retired = c.new.ensures.items i }
 
 pub returns-in-Ok-opened-clause-opened : goal.returns-in-Ok-opened-clause-opened
 returns-in-Ok-opened-clause-opened g c = λ tells.
     let levels = parts_by_level c.in-Ok.field-0.version in
     let is = c.in-Ok.ensures.opened tells in
     let remembers = c.in-Ok-opened.ensures.remembers is.s levels is.settled.coherent is.told.files (sym is.told.manifest) is.told.frozen is.told.active is.told.erases in
-    let running = opened_running (g.D.Disk.seen c.open.new.disk) (g.D.Disk.faults c.open.new.disk) c.none.result.count is.s c.in-Ok-opened.state levels is.settled is.only is.rising is.told.active is.ends c.in-Ok-opened.ensures.end remembers.1 in
+    let disk = c.open.new.disk in
+    let running = opened_running (g.D.Disk.seen disk) (g.D.Disk.faults disk) c.new.result.items c.new.ensures.items c.none.result.count is.s c.in-Ok-opened.state levels
+    is.settled is.only is.rising is.told.active is.ends c.in-Ok-opened.ensures.end remembers.1 in
     (is.s, record { remembers = remembers.0; running = running }, is.opened_as)
 
 pub returns-in-Ok-opened-clause-numbers : goal.returns-in-Ok-opened-clause-numbers
@@ -50,7 +59,11 @@ returns-in-Ok-opened-clause-resumed g c = λ tells kept h change left.
     let again = c.in-Ok.ensures.resumed tells kept h change left in
     let is = again.is in
     let remembers = c.in-Ok-opened.ensures.remembers is.s levels is.settled.coherent is.told.files (sym is.told.manifest) is.told.frozen is.told.active is.told.erases in
-    resumed c.args.config.now h again.history change (g.D.Disk.seen c.args.disk) seen (g.D.Disk.faults c.open.new.disk) c.none.result.count is.s state levels again.either again.was c.in-Ok-opened.ensures.writable (opened_running seen (g.D.Disk.faults c.open.new.disk) c.none.result.count is.s state levels is.settled is.only is.rising is.told.active is.ends c.in-Ok-opened.ensures.end remembers.1) remembers.0 is.config_is again.stands
+    let faults = g.D.Disk.faults c.open.new.disk in
+    let running = opened_running seen faults c.new.result.items c.new.ensures.items c.none.result.count is.s state levels
+    is.settled is.only is.rising is.told.active is.ends c.in-Ok-opened.ensures.end remembers.1 in
+    resumed c.args.config.now h again.history change (g.D.Disk.seen c.args.disk) seen faults c.new.result.items c.none.result.count is.s state levels again.either again.was
+    c.in-Ok-opened.ensures.writable running remembers.0 is.config_is again.stands
     (λ next from. returns-in-Ok-opened-clause-numbers g c tells next from)
 
 pub returns-in-Err-clause-untouched : goal.returns-in-Err-clause-untouched

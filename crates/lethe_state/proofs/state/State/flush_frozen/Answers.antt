@@ -16,7 +16,7 @@ returns-clause-step c =
     let numbers = c.requires.numbers in
     ok_both c.flush_step.result _ _ _ c.flush_step.ensures.is c.flush_step.ensures.few
     (λ step is few. flush_from c.args.self.now c.in_ok-made.made step.0.items step.1 c.requires.writable c.requires.segments (omega (arith, next, numbers)) (omega (arith, next, objects))
-    c.in_ok-made.ensures.cited c.in_ok-made.ensures.level is few)
+    c.in_ok-made.ensures.cited c.in_ok-made.ensures.level c.in_ok-made.ensures.levels is few)
 
 pub returns-clause-few : goal.returns-clause-few
 returns-clause-few c = ok_weaker c.flush_step.result _ _ c.flush_step.ensures.is (λ step is. ap length is.objects ∙ c.in_ok-made.ensures.objects)

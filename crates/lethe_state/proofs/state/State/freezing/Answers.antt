@@ -11,9 +11,9 @@ none_in (Some segment) is = absurd is
 pub returns-in-Ok-clause-freezes : goal.returns-in-Ok-clause-freezes
 returns-in-Ok-clause-freezes c = λ s levels is current loose drawn uncited.
     let none = none_in s.frozen (subst (IsFrozenIn s.frozen) c.requires.unfrozen is.frozen) in
-    let from = freeze_from c.args.self.now c.in-Ok.step c.requires.writable c.requires.unfrozen (omega (arith, c.if-self-ge-MAX_PLACE.false)) c.in-Ok.ensures.objects c.in-Ok.ensures.level c.in-Ok.ensures.manifest in
+    let from = freeze_from c.args.self.now c.in-Ok.step c.requires.writable c.requires.unfrozen (omega (arith, c.if-self-ge-MAX_PLACE.false)) c.in-Ok.ensures.objects c.in-Ok.ensures.manifest in
     freeze_is_step s c.args.self.now levels is current none c.in-Ok.step c.in-Ok.ensures.objects c.in-Ok.ensures.merged c.in-Ok.ensures.older c.in-Ok.ensures.manifest c.in-Ok.ensures.gone from.spelled c.requires.writable.drawn loose drawn uncited
 
 pub returns-in-Ok-clause-step : goal.returns-in-Ok-clause-step
 returns-in-Ok-clause-step c =
-    freeze_from c.args.self.now c.in-Ok.step c.requires.writable c.requires.unfrozen (omega (arith, c.if-self-ge-MAX_PLACE.false)) c.in-Ok.ensures.objects c.in-Ok.ensures.level c.in-Ok.ensures.manifest
+    freeze_from c.args.self.now c.in-Ok.step c.requires.writable c.requires.unfrozen (omega (arith, c.if-self-ge-MAX_PLACE.false)) c.in-Ok.ensures.objects c.in-Ok.ensures.manifest
