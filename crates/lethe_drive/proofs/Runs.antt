@@ -48,61 +48,7 @@ never_stopped h (Some at) done is =
 rose_within : (first before now last : ℕ) → first ≤ before → now ≤ last → Rose before now → Rose first last
 rose_within first before now last begins ends rose = omega (arith, begins, ends, rose)
 
-module _ (PortsFail : Type 0) (config : Fields) (h : History) (old : Moment) (is : IsMomentOf config h old) (done : AreDone h) (few : length h + 1 ≤ max_place)
-    (room : length old.stored.active.records + 1 ≤ config.buffer) where
-  runs : old.state.stopped ≡ None
-  runs = never_stopped h old.state.stopped done is.stopped
-
-  sees : SeesRoom old.state
-  sees =
-      let records = is.remembers.records in
-      let buffer : old.state.manifest.config.buffer ≡ config.buffer = ap (λ (m : Manifest). m.config.buffer) is.remembers.manifest ∙ ap (λ (c : Fields). c.buffer) is.config_is in
-      omega (arith, records, buffer, room)
-
-  has : HasRoom old.stored
-  has = room_in old.stored old.state old.levels is.remembers sees
-
-  cleared_is : {outcomes : List _} (cleared : Stored) → IsRoomMadeBy old.flight old.stored outcomes cleared → cleared ≡ old.stored
-  cleared_is cleared (inl made) = made.2
-  cleared_is cleared (inr made) = absurd (made.0 has)
-
-  module _ (call : Call) (IsNext : Stored → List Header → Record → Type 0) (g : History) (new : Moment) where
-    one_record : (place : ℕ) → IsChanged call IsNext h old place g new → length new.stored.active.records ≡ length old.stored.active.records + 1
-    one_record place made =
-        ap (λ (s : Stored). length s.active.records) made.stored ∙ length_push made.cleared.active.records made.next
-        ∙ ap (λ (s : Stored). length s.active.records + 1) (cleared_is made.cleared made.room)
-
-    no_reason : (why : Refused) → HasReason (IsFull old × (IsShort old.state ⊎ IsShortToMerge new)) old.state old.faults new.faults why → (Rose old.faults new.faults → ⊥) → (why ≡ NoMemory → ⊥) → ⊥
-    no_reason (Fault place before behind) reason calm memory = calm reason.4
-    no_reason (Stopped at) reason calm memory = none-some at (sym runs ∙ reason)
-    no_reason (Exhausted last) reason calm memory = enough reason.2
-      where
-        enough : (old.state.count ≡ max_place) ⊎ (IsFull old × (IsShort old.state ⊎ IsShortToMerge new)) → ⊥
-        enough (inl full) = let count = is.count in absurd (omega (arith, full, count, few))
-        enough (inr short) = short.0 sees
-    no_reason NoMemory reason calm memory = memory refl
-    no_reason (Backwards clock) reason calm memory = reason
-    no_reason (Pinned pin limit) reason calm memory = reason
-    no_reason NothingDue reason calm memory = reason
-    no_reason (Cancelled begun other) reason calm memory = reason
-    no_reason (ReadFault before behind) reason calm memory = reason
-    no_reason (Damaged name) reason calm memory = reason
-
-    never_refused : (why : Refused) → IsUnchanged PortsFail call h old why g new → (Rose old.faults new.faults → ⊥) → (why ≡ NoMemory → ⊥) → ⊥
-    never_refused why refused calm memory = by refused.reason
-      where
-        by : HasReason (IsFull old × (IsShort old.state ⊎ IsShortToMerge new)) old.state old.faults new.faults why
-            ⊎ (IsFull old × (old.state.stopped ≡ None) × IsUnreadable (Unit {0}) PortsFail old.port_faults new.port_faults why) → ⊥
-        by (inl reason) = no_reason why reason calm memory
-        by (inr unread) = unread.0 sees
-
-    put_done : (result : Result ℕ Refused) → IsChange PortsFail call IsNext h old result g new → (Rose old.faults new.faults → ⊥) → (result ≡ Err NoMemory → ⊥)
-        → (result ≡ Ok (length h + 1)) × (g ≡ with_done h 0 call) × (length new.stored.active.records ≡ length old.stored.active.records + 1)
-    put_done (Ok place) made calm memory = let changed = made.answers in (λ i. Ok (changed.place_is i), changed.history, one_record place changed)
-    put_done (Err why) made calm memory = absurd (never_refused why made.answers calm (λ e. memory (λ i. Err (e i))))
-
--- A get that is answered
-
+-- a read whose fetches are fine is not refused
 never_unread : (PortsFail : Type 0) (before now : ℕ) (why : Refused) → (Rose before now → ⊥) → IsUnreadable (Unit {0}) PortsFail before now why → ⊥
 never_unread PortsFail before now (ReadFault b a) calm is = calm is.3
 never_unread PortsFail before now (Damaged name) calm is = is tt
@@ -114,6 +60,75 @@ never_unread PortsFail before now (Backwards clock) calm is = is
 never_unread PortsFail before now (Pinned pin limit) calm is = is
 never_unread PortsFail before now NothingDue calm is = is
 never_unread PortsFail before now (Cancelled begun other) calm is = is
+
+module _ (PortsFail : Type 0) (config : Fields) (h : History) (old : Moment) (is : IsMomentOf config h old) (done : AreDone h) (few : length h + 1 ≤ max_place) where
+  runs : old.state.stopped ≡ None
+  runs = never_stopped h old.state.stopped done is.stopped
+
+  abbrev HasRoomForOne : Type 0
+  HasRoomForOne = length old.stored.active.records + 1 ≤ config.buffer
+
+  sees : HasRoomForOne → SeesRoom old.state
+  sees room =
+      let records = is.remembers.records in
+      let buffer : old.state.manifest.config.buffer ≡ config.buffer = ap (λ (m : Manifest). m.config.buffer) is.remembers.manifest ∙ ap (λ (c : Fields). c.buffer) is.config_is in
+      omega (arith, records, buffer, room)
+
+  has : HasRoomForOne → HasRoom old.stored
+  has room = room_in old.stored old.state old.levels is.remembers (sees room)
+
+  cleared_is : HasRoomForOne → {outcomes : List _} (cleared : Stored) → IsRoomMadeBy old.flight old.stored outcomes cleared → cleared ≡ old.stored
+  cleared_is room cleared (inl made) = made.2
+  cleared_is room cleared (inr made) = absurd (made.0 (has room))
+
+  module _ (call : Call) (IsNext : Stored → List Header → Record → Type 0) (g : History) (new : Moment) where
+    one_record : HasRoomForOne → (place : ℕ) → IsChanged call IsNext h old place g new → length new.stored.active.records ≡ length old.stored.active.records + 1
+    one_record room place made =
+        ap (λ (s : Stored). length s.active.records) made.stored ∙ length_push made.cleared.active.records made.next
+        ∙ ap (λ (s : Stored). length s.active.records + 1) (cleared_is room made.cleared made.room)
+
+    module _ (why : Refused) (numbers : why ≡ Exhausted max_place → IsFull old → ⊥) (calm : Rose old.faults new.faults → ⊥) (memory : why ≡ NoMemory → ⊥) where
+      no_reason : HasReason (IsFull old × (IsShort old.state ⊎ IsShortToMerge new)) old.state old.faults new.faults why → ⊥
+      no_reason = by why refl
+        where
+          by : (told : Refused) → told ≡ why → HasReason (IsFull old × (IsShort old.state ⊎ IsShortToMerge new)) old.state old.faults new.faults told → ⊥
+          by (Fault place before behind) same reason = calm reason.4
+          by (Stopped at) same reason = none-some at (sym runs ∙ reason)
+          by (Exhausted last) same reason = enough reason.2
+            where
+              enough : (old.state.count ≡ max_place) ⊎ (IsFull old × (IsShort old.state ⊎ IsShortToMerge new)) → ⊥
+              enough (inl full) = let count = is.count in absurd (omega (arith, full, count, few))
+              enough (inr short) = numbers (sym same ∙ (λ i. Exhausted (reason.1 i))) short.0
+          by NoMemory same reason = memory (sym same)
+          by (Backwards clock) same reason = reason
+          by (Pinned pin limit) same reason = reason
+          by NothingDue same reason = reason
+          by (Cancelled begun other) same reason = reason
+          by (ReadFault before behind) same reason = reason
+          by (Damaged name) same reason = reason
+
+      never_refused : (Rose old.port_faults new.port_faults → ⊥) → IsUnchanged PortsFail call h old why g new → ⊥
+      never_refused quiet refused = by refused.reason
+        where
+          by : HasReason (IsFull old × (IsShort old.state ⊎ IsShortToMerge new)) old.state old.faults new.faults why
+              ⊎ (IsFull old × (old.state.stopped ≡ None) × IsUnreadable (Unit {0}) PortsFail old.port_faults new.port_faults why) → ⊥
+          by (inl reason) = no_reason reason
+          by (inr unread) = never_unread PortsFail old.port_faults new.port_faults why quiet unread.2
+
+    -- there is room, or it isn't said that numbers ran out
+    abbrev HasWay : Result ℕ Refused → Type 0
+    HasWay result = HasRoomForOne ⊎ (result ≢ Err (Exhausted max_place))
+
+    put_done : (result : Result ℕ Refused) → IsChange PortsFail call IsNext h old result g new → HasWay result → (Rose old.faults new.faults → ⊥) → (Rose old.port_faults new.port_faults → ⊥) → (result ≡ Err NoMemory → ⊥)
+        → (result ≡ Ok (length h + 1)) × (g ≡ with_done h 0 call) × (HasRoomForOne → length new.stored.active.records ≡ length old.stored.active.records + 1)
+    put_done (Ok place) made way calm quiet memory = let changed = made.answers in (λ i. Ok (changed.place_is i), changed.history, λ room. one_record room place changed)
+    put_done (Err why) made way calm quiet memory = absurd (never_refused why (numbers way) calm (λ e. memory (λ i. Err (e i))) quiet made.answers)
+      where
+        numbers : HasWay (Err why) → why ≡ Exhausted max_place → IsFull old → ⊥
+        numbers (inl room) same full = full (sees room)
+        numbers (inr other) same full = other (λ i. Err (same i))
+
+-- A get that is answered
 
 get_done : (PortsFail : Type 0) (asked : Bytes) (h : History) (old : Moment) (result : Result (Option (ℕ × Bytes)) Refused) (g : History) (new : Moment) → IsRead PortsFail (reads.Get asked) reads.Found h old result g new
     → (Rose old.port_faults new.port_faults → ⊥) → (result ≡ Err NoMemory → ⊥) → (held : Option (ℕ × Bytes)) × (result ≡ Ok held) × (reads.answer (after h) (reads.Get asked) ≡ reads.Found held)
@@ -143,10 +158,15 @@ module _ (PortsFail : Type 0) (config : Fields) (h g : History) (start finish : 
   abbrev pub Remembers : List Reply → Type 0
   Remembers replies = All (λ (given : Reply). given ≢ reply.Refused NoMemory) replies
 
-  module _ (is : IsMomentOf config h start) (done : AreDone h) (few : length h + 2 ≤ max_place) (room : length start.stored.active.records + 2 ≤ config.buffer)
+  -- there is room for both records, or no reply says that numbers ran out
+  abbrev pub IsWithin : List Reply → Type 0
+  IsWithin replies = (length start.stored.active.records + 2 ≤ config.buffer) ⊎ All (λ (given : Reply). given ≢ reply.Refused (Exhausted max_place)) replies
+
+  module _ (is : IsMomentOf config h start) (done : AreDone h) (few : length h + 2 ≤ max_place)
       (calm : Rose start.faults finish.faults → ⊥) (quiet : Rose start.port_faults finish.port_faults → ⊥) where
-    three : (a b c : Reply) → Goes (a ∷ b ∷ c ∷ []) → Remembers (a ∷ b ∷ c ∷ []) → Answered (a ∷ b ∷ c ∷ [])
-    three a b c steps memory =
+    three : (a b c : Reply) → IsWithin (a ∷ b ∷ c ∷ []) → Goes (a ∷ b ∷ c ∷ []) → Remembers (a ∷ b ∷ c ∷ []) → Answered (a ∷ b ∷ c ∷ [])
+    three a b c within steps memory =
+        let enough : Reply → Type 0 = λ (given : Reply). given ≢ reply.Refused (Exhausted max_place) in
         let given : Reply → Type 0 = λ (given : Reply). given ≢ reply.Refused NoMemory in
         let others = steps.5 in
         let last = others.5 in
@@ -157,16 +177,28 @@ module _ (PortsFail : Type 0) (config : Fields) (h g : History) (start finish : 
         let put = steps.4 in
         let put_next = others.4 in
         let get = last.4 in
+        let first_way : (length start.stored.active.records + 1 ≤ config.buffer) ⊎ (put.0 ≢ Err (Exhausted max_place)) =
+        elim within [
+          | inl room ↦ inl (omega (arith, room))
+          | inr told ↦ inr (λ none. All-head enough a (b ∷ c ∷ []) told (put.1 ∙ (λ i. placed (none i))))
+        ] in
         let a_done =
-        put_done PortsFail config h start is done (omega (arith, few)) (omega (arith, room)) one (λ s headers next_record. next_record ≡ put_over s first dkey value) steps.0 steps.1 put.0 put.2
+        put_done PortsFail config h start is done (omega (arith, few)) one (λ s headers next_record. next_record ≡ put_over s first dkey value) steps.0 steps.1 put.0 put.2 first_way
         (λ rose. calm (rose_within start.faults start.faults steps.1.faults finish.faults (omega arith) (omega (arith, others.3.faults, last.3.faults, faults)) rose))
+        (λ rose. quiet (rose_within start.port_faults start.port_faults steps.1.port_faults finish.port_faults (omega arith) (omega (arith, others.3.port_faults, last.3.port_faults, port_faults)) rose))
         (λ none. All-head given a (b ∷ c ∷ []) memory (put.1 ∙ (λ i. placed (none i)))) in
         let count : length steps.0 ≡ length h + 1 = ap length a_done.1 ∙ length_push h (record { caller = 0; call = one; did = Done }) in
         let done_one : AreDone steps.0 = subst AreDone (sym a_done.1) (done_push h (record { caller = 0; call = one; did = Done }) done refl) in
+        let second_way : (length steps.1.stored.active.records + 1 ≤ config.buffer) ⊎ (put_next.0 ≢ Err (Exhausted max_place)) =
+        elim within [
+          | inl room ↦ inl (omega (arith, room, a_done.2 (omega (arith, room))))
+          | inr told ↦ inr (λ none. All-head enough b (c ∷ []) (All-tail enough a (b ∷ c ∷ []) told) (put_next.1 ∙ (λ i. placed (none i))))
+        ] in
         let b_done =
-        put_done PortsFail config steps.0 steps.1 steps.2 done_one (omega (arith, few, count)) (omega (arith, room, a_done.2)) two (λ s headers next_record. next_record ≡ put_over s second other next)
-        others.0 others.1 put_next.0 put_next.2
+        put_done PortsFail config steps.0 steps.1 steps.2 done_one (omega (arith, few, count)) two (λ s headers next_record. next_record ≡ put_over s second other next)
+        others.0 others.1 put_next.0 put_next.2 second_way
         (λ rose. calm (rose_within start.faults steps.1.faults others.1.faults finish.faults steps.3.faults (omega (arith, last.3.faults, faults)) rose))
+        (λ rose. quiet (rose_within start.port_faults steps.1.port_faults others.1.port_faults finish.port_faults steps.3.port_faults (omega (arith, last.3.port_faults, port_faults)) rose))
         (λ none. All-head given b (c ∷ []) behind (put_next.1 ∙ (λ i. placed (none i)))) in
         let got_it =
         get_done PortsFail asked others.0 others.1 get.0 last.0 last.1 get.2
@@ -180,12 +212,12 @@ module _ (PortsFail : Type 0) (config : Fields) (h g : History) (start finish : 
           (got_it.0, (λ i. a_is i ∷ b_is i ∷ c_is i ∷ []), subst (λ (g : History). reads.answer (after g) (reads.Get asked) ≡ reads.Found got_it.0) (sym same) got_it.2),
         )
 
-    pub puts_read : (replies : List Reply) → Goes replies → Remembers replies → Answered replies
-    puts_read [] steps memory = absurd steps
-    puts_read (a ∷ []) steps memory = absurd steps.5
-    puts_read (a ∷ b ∷ []) steps memory = let others = steps.5 in absurd others.5
-    puts_read (a ∷ b ∷ c ∷ []) steps memory = three a b c steps memory
-    puts_read (a ∷ b ∷ c ∷ d ∷ more) steps memory = let others = steps.5 in let last = others.5 in absurd last.5
+    pub puts_read : (replies : List Reply) → IsWithin replies → Goes replies → Remembers replies → Answered replies
+    puts_read [] within steps memory = absurd steps
+    puts_read (a ∷ []) within steps memory = absurd steps.5
+    puts_read (a ∷ b ∷ []) within steps memory = let others = steps.5 in absurd others.5
+    puts_read (a ∷ b ∷ c ∷ []) within steps memory = three a b c within steps memory
+    puts_read (a ∷ b ∷ c ∷ d ∷ more) within steps memory = let others = steps.5 in let last = others.5 in absurd last.5
 
 -- A job from its begin to its end
 

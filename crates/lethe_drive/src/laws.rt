@@ -1,5 +1,5 @@
 //! What runs of events come to. The functions do nothing: their contracts are the laws.
-ghost use Rattle.std.specs.Prelude.{◌≡◌, ◌≢◌, ◌≤◌, ◌+◌, ℕ, Bool, List, [], ◌∷◌, length, All, Option, None};
+ghost use Rattle.std.specs.Prelude.{◌≡◌, ◌≢◌, ◌⊎◌, ◌≤◌, ◌+◌, ℕ, Bool, List, [], ◌∷◌, length, All, Option, None};
 ghost use Rattle.lethe_base.specs.Counts.{Rose};
 ghost use Rattle.lethe_base.specs.History.{AreDone, History, after};
 ghost use Rattle.lethe_base.specs.Keys.{Bytes};
@@ -7,7 +7,7 @@ ghost use Rattle.lethe_base.specs.Limits.{max_place};
 ghost use Rattle.lethe_base.specs.Read as reads;
 ghost use Rattle.lethe_base.specs.declared.call.Call.TheVariants as call;
 ghost use Rattle.lethe_base.specs.declared.config.Fields.{Fields};
-ghost use Rattle.lethe_base.specs.declared.refused.Refused.TheVariants.{NoMemory};
+ghost use Rattle.lethe_base.specs.declared.refused.Refused.TheVariants.{Exhausted, NoMemory};
 ghost use Rattle.lethe_cover.specs.Steps.{with_done};
 ghost use Rattle.lethe_job.specs.Tasks.{PlainTask, IsBegunIn};
 ghost use Rattle.lethe_core.specs.Merges.{IsInstalled};
@@ -19,11 +19,13 @@ ghost use Rattle.lethe_drive.specs.declared.event.Reply.TheVariants as reply;
 
 use lethe_disk::Disk;
 
-/// Two puts and a get over a store on which nothing has failed, with room and places for two changes: where no count of faults rises and there is memory, the puts take
-/// the next places and the get answers what the map has behind them, whatever moments the store goes through.
+/// Two puts and a get over a store on which nothing has failed, with places for two changes: where no count of faults rises and there is memory, the puts take the next
+/// places and the get answers what the map has behind them, whatever moments the store goes through. Where the buffer has no room for both records, room is made, and
+/// numbers for its objects are asked too.
 pub fn puts_are_read<D: Disk>()
     ensures { (config : Fields) (h g : History) (start finish : Moment) (first second asked : Bytes) (dkey other : ℕ) (value next : Bytes) (replies : List plain.Reply)
-        → IsMomentOf config h start → AreDone h → length h + 2 ≤ max_place → length start.stored.active.records + 2 ≤ config.buffer
+        → IsMomentOf config h start → AreDone h → length h + 2 ≤ max_place
+        → (length start.stored.active.records + 2 ≤ config.buffer) ⊎ All (λ given. given ≢ reply.Refused (Exhausted max_place)) replies
         → Steps D.ports_fail config h start (event.Put first dkey value ∷ event.Put second other next ∷ event.Get asked ∷ []) replies g finish
         → (Rose start.faults finish.faults → ⊥) → (Rose start.port_faults finish.port_faults → ⊥) → All (λ given. given ≢ reply.Refused NoMemory) replies
         → (g ≡ with_done (with_done h 0 (call.Put first dkey value)) 0 (call.Put second other next))
