@@ -1,0 +1,25 @@
+-- Pages that have no put but those of stored files.
+use Rattle.std.specs.Prelude.{◌≡◌, ℕ, List, All}
+use Rattle.lethe_base.specs.Held.{InFiles}
+use Rattle.lethe_base.specs.Layout.{File, files_of}
+use Rattle.lethe_base.specs.Matching.{IsPut}
+use Rattle.lethe_base.specs.declared.entry.Entry.{Entry}
+use Rattle.lethe_base.specs.declared.name.Kind.TheVariants.{Page}
+use Rattle.lethe_base.specs.declared.name.Name.{Name}
+use Rattle.lethe_stored.specs.Clean.{SpellsPage}
+use Rattle.lethe_stored.specs.Stored.{Stored, layout_of}
+
+-- one of the files has the entry, perhaps with another time
+pub record IsOriginal (files : List File) (entry : Entry) : Type 0 where
+  pub original : Entry
+  pub filed : InFiles files original
+  pub seq : original.seq ≡ entry.seq
+  pub key : original.key ≡ entry.key
+  pub body : original.body ≡ entry.body
+
+-- it is a page, and each put that it spells is a stored file's
+pub record IsCopied (s : Stored) (named : Name × List ℕ) : Type 0 where
+  pub page : named.0.kind ≡ Page
+  pub entries : List Entry
+  pub spelled : SpellsPage named.1 entries
+  pub copies : All (λ entry. IsPut entry.body → IsOriginal (files_of (layout_of s)) entry) entries

@@ -1,0 +1,2 @@
+pub mod Untorn
+pub mod Copied

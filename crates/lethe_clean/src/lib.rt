@@ -1,0 +1,6 @@
+//! When a store's directory is clean, and what keeps it so: laws on directories. The functions do nothing: their contracts are the laws.
+#![tactic(auto)]
+
+mod laws;
+
+pub use laws::{outputs_are_copied, stored_is_clean, untorn_stays};

@@ -1,0 +1,5 @@
+pub mod Searched
+pub mod Placed
+pub mod Without
+pub mod Walked
+pub mod Relinked

@@ -1,0 +1,5 @@
+//! Tests of the pins of a store.
+#![tactic(auto)]
+
+#[cfg(test)]
+mod pins;
