@@ -1,0 +1,13 @@
+use Rattle.std.specs.Option.{option_copied}
+use Rattle.lethe_flush.proofs.Results.{ok_weaker}
+use Rattle.lethe_snapshot.proofs.Answering.{files_sound, found}
+use Rattle.lethe_snapshot.proofs.snapshot.Snapshot.get.Goals as goal
+
+pub returns-clause-answer : goal.returns-clause-answer
+returns-clause-answer g c = λ told h is.
+    let snapshot = c.args.self.now in
+    ok_weaker c.get.result _ _ (c.get.ensures.answer told (files_sound snapshot h is)) (λ held given.
+    found snapshot h is (option_copied c.as_ref.result) c.items-erases.result.now c.as_ref.ensures.value c.items-erases.ensures c.args.key.now held given)
+
+pub returns-clause-undamaged : goal.returns-clause-undamaged
+returns-clause-undamaged g c = λ told h is name damaged. c.get.ensures.undamaged told (files_sound c.args.self.now h is) name damaged

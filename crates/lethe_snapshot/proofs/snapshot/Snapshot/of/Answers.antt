@@ -1,0 +1,18 @@
+use Rattle.std.proofs.Common.{rules, ◌≡◌, sym, ◌∙◌, subst}
+use Rattle.lethe_stored.specs.Replayed.{AreNewestOf}
+use Rattle.lethe_snapshot.proofs.snapshot.Snapshot.of.Goals as goal
+
+pub returns-clause-of : goal.returns-clause-of
+returns-clause-of g c = λ s h remembers stands.
+    let same : c.of.result ≡ c.args.state.now.pending = search rules in
+    record {
+      stored = s;
+      shows = record {
+        coherent = remembers.coherent;
+        pending = same ∙ remembers.pending;
+        active = subst (AreNewestOf s.active.records) (sym c.in_ok-copy.ensures) remembers.active;
+        frozen = c.in_ok-copy_of.ensures s.frozen remembers.frozen;
+        files = c.in_ok-share.ensures.files s remembers.files;
+      };
+      stands = stands;
+    }

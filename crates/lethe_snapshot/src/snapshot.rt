@@ -1,0 +1,178 @@
+//! What a store held at a point.
+ghost use Rattle.std.specs.Prelude.{◌≡◌, ◌≤◌, ◌+◌, false, sum_by, Any, Option, IfOk, IsErrOf, if◌then◌else◌};
+ghost use Rattle.std.specs.Ordering.{is_lt};
+ghost use Rattle.lethe_base.specs.Keys.{key_cmp};
+ghost use Rattle.lethe_base.specs.History.{History, after};
+ghost use Rattle.lethe_base.specs.Read.{Get, Scan, Found, Listed, answer};
+ghost use Rattle.lethe_base.specs.declared.name.Name.{Name};
+ghost use Rattle.lethe_disk.specs.Reads.{HasReadCause, IsFault};
+ghost use Rattle.lethe_disk.specs.declared.cursor.ReadRefused.TheVariants.{Damaged};
+ghost use Rattle.lethe_advance.specs.Shown.{parts_by_level};
+ghost use Rattle.lethe_read.specs.Between.{by_keys};
+ghost use Rattle.lethe_read.specs.Found.{frozen_entries, is_buffered};
+ghost use Rattle.lethe_state.specs.Remembered.{IsFrozenIn, Remembers};
+ghost use Rattle.lethe_stored.specs.Kept.{IsFor};
+ghost use Rattle.lethe_stored.specs.Stored.{Segment, Stored};
+ghost use Rattle.lethe_version.specs.Probing.{bound};
+ghost use Rattle.lethe_version.specs.Search.{NamesPage};
+ghost use Rattle.lethe_version.specs.Versions.{files_of};
+ghost use Rattle.lethe_snapshot.specs.Points.{IsOf};
+
+use crate::sharing::share;
+use lethe_base::{Key, List, NoMemory, Pending, Value};
+use lethe_disk::{Disk, ReadRefused};
+use lethe_mem::{Buffer, VecBuffer};
+use lethe_read::{get, scan};
+use lethe_state::State;
+use lethe_version::Version;
+use std::alloc::Global;
+
+/// What a store held at a point: its files, which are shared, and copies of its buffers and pending erases. It never changes.
+/// It can't be dropped: `release` takes it apart.
+pub struct Snapshot<D: Disk> {
+    active: VecBuffer,
+    frozen: Option<VecBuffer>,
+    version: Version<D>,
+    pending: List<Pending>,
+    point: u64,
+    number: u64,
+    limit: u64,
+}
+
+impl<D: Disk> Snapshot<D> {
+    /// What the store holds now. It makes no device call.
+    pub fn of(
+        alloc: Global,
+        state: &State,
+        version: &Version<D>,
+        number: u64,
+        limit: u64,
+    ) -> Result<Snapshot<D>, NoMemory>
+        ensures of { (s : Stored) (h : History) → Remembers s state.now (parts_by_level version.now) → IsFor h s → IfOk result (IsOf h) }
+        ensures point { IfOk result (λ snapshot. snapshot.point ≡ state.now.count) }
+        ensures number { IfOk result (λ snapshot. snapshot.number ≡ number) }
+        ensures limit { IfOk result (λ snapshot. snapshot.limit ≡ limit) }
+    {
+        Ok(Snapshot {
+            active: state.active.copy()?,
+            frozen: copy_of(&state.frozen)?,
+            version: share(alloc, version)?,
+            pending: List::of(state.pending.items().to_vec(alloc)?),
+            point: state.count,
+            number,
+            limit,
+        })
+    }
+
+    /// What the key had at the point, whatever was called since.
+    ///
+    /// # Errors
+    ///
+    /// As for a get of the store.
+    pub fn get(
+        &self,
+        alloc: Global,
+        port: &mut D::Port,
+        key: &Key,
+    ) -> Result<Option<(u64, Value)>, ReadRefused>
+        ensures answer { D.tells → (h : History) → IsOf h self.now → IfOk result (λ held. answer (after h) (Get key.now) ≡ Found held) }
+        ensures damaged { (name : Name) → IsErrOf result (Damaged name) → Any (λ file. NamesPage name file.header) (files_of self.now.version) }
+        ensures undamaged { D.tells → (h : History) → IsOf h self.now → (name : Name) → IsErrOf result (Damaged name) → ⊥ }
+        ensures cause { HasReadCause (D.port_faults port.old) (D.port_faults port.new) result }
+        ensures can_fail { IsFault result → D.ports_fail }
+
+        // Nothing is fetched where a buffer has the key.
+        ensures fetches { D.fetches port.new ≤ D.fetches port.old
+            + (if is_buffered key.now self.now.active.entries (frozen_entries (λ buffer. buffer.entries) self.now.frozen) then 0 else sum_by (λ file. bound key.now file.header) (files_of self.now.version)) }
+        ensures later { D.fetches port.old ≤ D.fetches port.new }
+    {
+        let erases = self.pending.items();
+        get(
+            alloc,
+            &self.active,
+            self.frozen.as_ref(),
+            &self.version,
+            erases,
+            port,
+            key,
+        )
+    }
+
+    /// The pairs that the keys from `lo` up to `hi` excluded had at the point, ascending.
+    ///
+    /// # Errors
+    ///
+    /// As for `get`.
+    pub fn scan(
+        &self,
+        alloc: Global,
+        port: &mut D::Port,
+        lo: &Key,
+        hi: &Key,
+    ) -> Result<Vec<(Key, u64, Value)>, ReadRefused>
+        ensures answer { D.tells → (h : History) → IsOf h self.now → IfOk result (λ pairs. answer (after h) (Scan lo.now hi.now) ≡ Listed (by_keys pairs.items)) }
+        ensures undamaged { D.tells → (h : History) → IsOf h self.now → (name : Name) → IsErrOf result (Damaged name) → ⊥ }
+        ensures cause { HasReadCause (D.port_faults port.old) (D.port_faults port.new) result }
+        ensures can_fail { IsFault result → D.ports_fail }
+        ensures unasked { is_lt (key_cmp lo.now hi.now) ≡ false → D.fetches port.new ≡ D.fetches port.old }
+        ensures later { D.fetches port.old ≤ D.fetches port.new }
+    {
+        let frozen = self.frozen.as_ref();
+        scan(
+            alloc,
+            &self.active,
+            frozen,
+            &self.version,
+            self.pending.items(),
+            port,
+            lo,
+            hi,
+        )
+    }
+
+    /// How many changes the store had had.
+    pub fn point(&self) -> u64
+        ensures { result ≡ self.now.point }
+    {
+        self.point
+    }
+
+    pub fn number(&self) -> u64
+        ensures { result ≡ self.now.number }
+    {
+        self.number
+    }
+
+    /// The time from which on a tick is refused while it is held.
+    pub fn limit(&self) -> u64
+        ensures { result ≡ self.now.limit }
+    {
+        self.limit
+    }
+
+    /// Lets go of the copies and of its share of the files. The number is answered: its pin is still to be taken back.
+    pub fn release(self) -> u64
+        ensures { result ≡ self.number }
+    {
+        let Snapshot {
+            active: _,
+            frozen: _,
+            version: _,
+            pending: _,
+            point: _,
+            number,
+            limit: _,
+        } = self;
+        number
+    }
+}
+
+/// A copy of the frozen buffer, if there is one.
+fn copy_of(frozen: &Option<VecBuffer>) -> Result<Option<VecBuffer>, NoMemory>
+    ensures { (o : Option Segment) → IsFrozenIn o frozen.now → IfOk result (IsFrozenIn o) }
+{
+    match frozen {
+        Some(buffer) => Ok(Some(buffer.copy()?)),
+        None => Ok(None),
+    }
+}

@@ -1,0 +1,5 @@
+//! Tests of what a store held at a point.
+#![tactic(auto)]
+
+#[cfg(test)]
+mod points;

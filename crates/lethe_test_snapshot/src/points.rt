@@ -1,0 +1,189 @@
+//! Snapshots that are read once the state has changed.
+ghost use Rattle.std.specs.Prelude.{◌≡◌, ◌<◌, [], None, IfOk, OnOk};
+ghost use Rattle.lethe_base.specs.Limits.{max_place};
+ghost use Rattle.lethe_segment.specs.Records.{RecordHasSpelling};
+ghost use Rattle.lethe_state.specs.Writable.{IsWritable};
+
+use lethe_base::{Key, List, Pending, Range, Value};
+use lethe_manifest::read_manifest;
+use lethe_memdisk::{MemDisk, MemPort};
+use lethe_segment::Record;
+use lethe_snapshot::Snapshot;
+use lethe_state::State;
+use lethe_version::Version;
+use std::alloc::Global;
+use std::test::Fail;
+
+/// The manifest of a new store: manifest 2, which cites segment 1, with 3 as the next number.
+const MANIFEST: [u8; 71] =
+    *b"LM\x01\0\0\0\0\0\0\0\x02\0\0\0\0\0\0\0d\x02\x02\0\x02\x02\0\x02\0\x04\0\0\0\0\0\0\0\0\0\0\0\0\0\0\0\0\0\0\0\0\0\0\0\0\x03\0\0\0\0\0\x01\0\0\0\0\0\0\0\x01\0\0\0\0";
+
+fn key_of(alloc: Global, text: &str) -> Result<Key, Fail> {
+    Ok(Key::new(text.as_bytes().to_vec(alloc)?)?)
+}
+
+fn enter(alloc: Global, state: &mut State, next: Record) -> Result<(), Fail>
+    requires writable { IsWritable state.old }
+    requires fits { state.old.count < max_place }
+    requires spelled { RecordHasSpelling next }
+    ensures { OnOk result (IsWritable state.new) }
+{
+    let (_, end) = state.prepare(alloc, &next)?;
+    state.enter(next, end);
+    Ok(())
+}
+
+/// A put of the key, with the delete key 5 and itself as its value.
+fn put(alloc: Global, state: &mut State, text: &str) -> Result<(), Fail>
+    requires { IsWritable state.old }
+    ensures { OnOk result (IsWritable state.new) }
+{
+    state.may_change()?;
+    let value = Value::new(text.as_bytes().to_vec(alloc)?)?;
+    let next = state.put_record(key_of(alloc, text)?, 5, value);
+    enter(alloc, state, next)
+}
+
+fn delete(
+    alloc: Global,
+    state: &mut State,
+    version: &Version<MemDisk>,
+    text: &str,
+) -> Result<(), Fail>
+    requires { IsWritable state.old }
+    ensures { OnOk result (IsWritable state.new) }
+{
+    state.may_change()?;
+    let next = state.delete_record(version, key_of(alloc, text)?);
+    enter(alloc, state, next)
+}
+
+fn freeze(alloc: Global, state: &mut State) -> Result<(), Fail>
+    requires { IsWritable state.old }
+    ensures { OnOk result (IsWritable state.new) }
+{
+    match state.frozen {
+        None => {
+            let step = state.freezing(alloc)?;
+            state.freeze(alloc, step);
+            Ok(())
+        }
+        Some(_) => Err(Fail::new("no frozen buffer")),
+    }
+}
+
+fn new_state(alloc: Global) -> Result<State, Fail>
+    ensures { IfOk result IsWritable }
+{
+    let manifest = read_manifest(alloc, &MANIFEST).ok().ok_or("a manifest")?;
+    if manifest.segments.items().len() != 1 {
+        return Err(Fail::new("one segment"));
+    }
+    Ok(State::opened(alloc, manifest)?)
+}
+
+/// The put of `a` is in the frozen buffer, that of `b` in the active one.
+fn filled(alloc: Global) -> Result<State, Fail>
+    ensures { IfOk result IsWritable }
+{
+    let mut state = new_state(alloc)?;
+    put(alloc, &mut state, "a")?;
+    freeze(alloc, &mut state)?;
+    put(alloc, &mut state, "b")?;
+    Ok(state)
+}
+
+/// Both are deleted, and `c` is put.
+fn change(alloc: Global, state: &mut State, version: &Version<MemDisk>) -> Result<(), Fail>
+    requires { IsWritable state.old }
+{
+    delete(alloc, state, version, "a")?;
+    delete(alloc, state, version, "b")?;
+    put(alloc, state, "c")
+}
+
+/// What the keys `a`, `b` and `c` have, one value behind the other.
+fn got(alloc: Global, snapshot: &Snapshot<MemDisk>) -> Result<Vec<u8>, Fail> {
+    let mut port = MemPort::new();
+    let mut values = Vec::new(alloc);
+    for text in ["a", "b", "c"] {
+        if let Some((_, value)) = snapshot.get(alloc, &mut port, &key_of(alloc, text)?)? {
+            values.extend_from_slice(value.bytes())?;
+        }
+    }
+    Ok(values)
+}
+
+/// What a scan of these keys gives.
+fn listed(alloc: Global, snapshot: &Snapshot<MemDisk>) -> Result<Vec<u8>, Fail> {
+    let mut port = MemPort::new();
+    let mut values = Vec::new(alloc);
+    let (lo, hi) = (key_of(alloc, "a")?, key_of(alloc, "d")?);
+    for (_, _, value) in &snapshot.scan(alloc, &mut port, &lo, &hi)? {
+        values.extend_from_slice(value.bytes())?;
+    }
+    Ok(values)
+}
+
+/// Whether its reads show these pairs.
+fn shows(alloc: Global, snapshot: &Snapshot<MemDisk>, wanted: &str) -> Result<bool, Fail> {
+    let wanted = wanted.as_bytes();
+    Ok(got(alloc, snapshot)?.as_slice() == wanted && listed(alloc, snapshot)?.as_slice() == wanted)
+}
+
+/// Whether a snapshot that is made now shows these pairs.
+fn shows_now(
+    alloc: Global,
+    state: &State,
+    version: &Version<MemDisk>,
+    wanted: &str,
+) -> Result<bool, Fail> {
+    let snapshot = Snapshot::of(alloc, state, version, 8, 100)?;
+    let shown = shows(alloc, &snapshot, wanted);
+    snapshot.release();
+    shown
+}
+
+/// Whether a snapshot shows what the state had before it is changed.
+fn shows_past(
+    alloc: Global,
+    state: &mut State,
+    version: &Version<MemDisk>,
+    snapshot: &Snapshot<MemDisk>,
+) -> Result<bool, Fail>
+    requires { IsWritable state.old }
+{
+    change(alloc, state, version)?;
+    shows(alloc, snapshot, "ab")
+}
+
+#[test]
+fn a_snapshot_shows_what_was_there_at_its_point(rt: HostRuntime) -> Result<(), Fail> {
+    let alloc = rt.alloc();
+    let version = Version::of(alloc, Vec::new(alloc))?;
+    let mut state = filled(alloc)?;
+    let snapshot = Snapshot::of(alloc, &state, &version, 7, 90)?;
+    let shown = shows_past(alloc, &mut state, &version, &snapshot);
+    let (point, limit) = (snapshot.point(), snapshot.limit());
+    let number = snapshot.release();
+    assert!(rt; shown?);
+    assert_eq!(rt; (point, number, limit), (2, 7, 90));
+    assert!(rt; shows_now(alloc, &state, &version, "c")?);
+    Ok(())
+}
+
+#[test]
+fn a_snapshot_has_the_erases_that_are_pending(rt: HostRuntime) -> Result<(), Fail> {
+    let alloc = rt.alloc();
+    let version = Version::of(alloc, Vec::new(alloc))?;
+    let mut state = filled(alloc)?;
+    let range = Range::new(5, 6).ok_or("a range")?;
+    let erase = Pending {
+        seq: 2,
+        time: 0,
+        range,
+    };
+    state.pending = List::of([erase].as_slice().to_vec(alloc)?);
+    assert!(rt; shows_now(alloc, &state, &version, "b")?);
+    Ok(())
+}
