@@ -1,11 +1,11 @@
 //! Snapshots that are read once the state has changed.
-ghost use Rattle.std.specs.Prelude.{◌≡◌, ◌<◌, [], None, IfOk, OnOk};
+ghost use Rattle.std.specs.Prelude.{◌<◌, IfOk, OnOk};
 ghost use Rattle.lethe_base.specs.Limits.{max_place};
 ghost use Rattle.lethe_segment.specs.Records.{RecordHasSpelling};
 ghost use Rattle.lethe_state.specs.Writable.{IsWritable};
 
-use lethe_base::{Key, List, Pending, Range, Value};
-use lethe_manifest::read_manifest;
+use crate::common::{key_of, new_state};
+use lethe_base::{List, Pending, Range, Value};
 use lethe_memdisk::{MemDisk, MemPort};
 use lethe_segment::Record;
 use lethe_snapshot::Snapshot;
@@ -13,14 +13,6 @@ use lethe_state::State;
 use lethe_version::Version;
 use std::alloc::Global;
 use std::test::Fail;
-
-/// The manifest of a new store: manifest 2, which cites segment 1, with 3 as the next number.
-const MANIFEST: [u8; 71] =
-    *b"LM\x01\0\0\0\0\0\0\0\x02\0\0\0\0\0\0\0d\x02\x02\0\x02\x02\0\x02\0\x04\0\0\0\0\0\0\0\0\0\0\0\0\0\0\0\0\0\0\0\0\0\0\0\0\x03\0\0\0\0\0\x01\0\0\0\0\0\0\0\x01\0\0\0\0";
-
-fn key_of(alloc: Global, text: &str) -> Result<Key, Fail> {
-    Ok(Key::new(text.as_bytes().to_vec(alloc)?)?)
-}
 
 fn enter(alloc: Global, state: &mut State, next: Record) -> Result<(), Fail>
     requires writable { IsWritable state.old }
@@ -70,16 +62,6 @@ fn freeze(alloc: Global, state: &mut State) -> Result<(), Fail>
         }
         Some(_) => Err(Fail::new("no frozen buffer")),
     }
-}
-
-fn new_state(alloc: Global) -> Result<State, Fail>
-    ensures { IfOk result IsWritable }
-{
-    let manifest = read_manifest(alloc, &MANIFEST).ok().ok_or("a manifest")?;
-    if manifest.segments.items().len() != 1 {
-        return Err(Fail::new("one segment"));
-    }
-    Ok(State::opened(alloc, manifest)?)
 }
 
 /// The put of `a` is in the frozen buffer, that of `b` in the active one.
