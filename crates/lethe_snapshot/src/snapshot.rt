@@ -137,6 +137,7 @@ impl<D: Disk> Snapshot<D> {
         self.point
     }
 
+    /// The number of its pin, counted from 1.
     pub fn number(&self) -> u64
         ensures { result ≡ self.now.number }
     {
