@@ -20,8 +20,8 @@ ghost use Rattle.lethe_drive.specs.declared.event.Reply.TheVariants as reply;
 use lethe_disk::Disk;
 
 /// Two puts and a get over a store on which nothing has failed, with places for two changes: where no count of faults rises and there is memory, the puts take the next
-/// places and the get answers what the map has behind them, whatever moments the store goes through. Where the buffer has no room for both records, room is made, and
-/// numbers for its objects are asked too.
+/// places and the get answers what the map has behind them, whatever moments the store goes through. Where the buffer has no room for both records, room is made, which
+/// takes numbers of objects: then it is asked that no reply says that these ran out.
 pub fn puts_are_read<D: Disk>()
     ensures { (config : Fields) (h g : History) (start finish : Moment) (first second asked : Bytes) (dkey other : ℕ) (value next : Bytes) (replies : List plain.Reply)
         → IsMomentOf config h start → AreDone h → length h + 2 ≤ max_place
