@@ -43,6 +43,14 @@ module _ (old mid : Seen) (quiet : IsQuiet old mid) where
       pub quiet_switched : Leads (IsSwitched number bytes greatest) old mid
       quiet_switched = leads_weaker IsStill (IsSwitched number bytes greatest) old mid still_run (λ d c here still. inl still.1)
 
+      -- where the gate never came
+      pub quiet_unswitched : Leads (IsUnswitched number) old mid
+      quiet_unswitched = leads_weaker IsStill (IsUnswitched number) old mid still_run (λ d c here still. still.1)
+
+      pub unswitched_then : (new : Seen) → Leads (IsUnswitched number) mid new → Leads (IsUnswitched number) old new
+      unswitched_then new more = leads_leads IsStill (IsUnswitched number) (IsUnswitched number) old mid new still_run more (λ d c still. still.1)
+          (λ d e c here still left. subst (λ x. IsUnswitched number x c) still.0 left)
+
       pub switched_then : (new : Seen) → Leads (IsSwitched number bytes greatest) mid new → Leads (IsSwitched number bytes greatest) old new
       switched_then new switching = leads_leads IsStill (IsSwitched number bytes greatest) (IsSwitched number bytes greatest) old mid new still_run switching (λ d c still. inl still.1)
           (λ d e c here still left. subst (λ x. IsSwitched number bytes greatest x c) still.0 left)

@@ -1,5 +1,5 @@
 -- The images of a disk through a step.
-use Rattle.std.proofs.Common.{◌≡◌, ◌≤◌, ◌+◌, ◌⊎◌, ℕ, inl, inr, List, length, map, take, Some, refl, sym, ap, ◌∙◌, subst, arith}
+use Rattle.std.proofs.Common.{◌≡◌, ◌≤◌, ◌+◌, ◌⊎◌, ℕ, inl, inr, List, [], length, map, take, Some, refl, sym, ap, ◌∙◌, subst, arith}
 use Rattle.std.specs.Prelude.{All, Contains, IsSome, is_some}
 use Rattle.std.proofs.lemmas.List.{take_all}
 use Rattle.lethe_base.specs.declared.name.Name.{Name}
@@ -7,13 +7,14 @@ use Rattle.lethe_disk.specs.Directory.{Directory, object, SameBeside}
 use Rattle.lethe_disk.specs.Disk.{Seen, Image, IsSynced}
 use Rattle.lethe_disk.specs.Goes.{Goes}
 use Rattle.lethe_disk.specs.Runs.{Leads}
-use Rattle.lethe_disk.proofs.Going.{goes_leads, goes_then}
+use Rattle.lethe_disk.proofs.Going.{goes_leads, goes_then, goes_weaker}
 use Rattle.lethe_manifest.specs.Manifests.{manifest_bytes}
 use Rattle.lethe_manifest.specs.declared.manifest.Manifest.{Manifest}
 use Rattle.lethe_commit.specs.declared.objects.Object.{Object}
 use Rattle.lethe_commit.specs.Clear.{ArePresent, IsCleared, remove_all}
 use Rattle.lethe_commit.specs.Place.{AreAbsent, name_of, insert_all}
-use Rattle.lethe_commit.specs.Switch.{IsFree, IsSwitched, HasNew, IsTakenBack, manifest_name, switched}
+use Rattle.lethe_commit.specs.Gates.{gate_name}
+use Rattle.lethe_commit.specs.Switch.{IsFree, IsSwitched, IsUnswitched, HasNew, IsTakenBack, manifest_name, switched}
 use Rattle.lethe_commit.proofs.Creations.{all_present, taken_back}
 use Rattle.lethe_commit.proofs.Removals.{cleared_others}
 use Rattle.lethe_stored.specs.Stored.{Stored, part_names}
@@ -26,11 +27,14 @@ use Rattle.lethe_advance.specs.Shown.{HasPages, new_parts_at}
 use Rattle.lethe_advance.specs.Steps.{MayAdvance}
 use Rattle.lethe_advance.proofs.Opened.{new_stored, headers_present, headers_opened}
 use Rattle.lethe_advance.proofs.Placed.{written_spare, written_absent, still, next_there, is_free}
-use Rattle.lethe_advance.proofs.Switched.{gone_spare, switch_left, switch_new, gone_present, part_kept, only_next}
+use Rattle.lethe_advance.proofs.Switched.{gone_spare, switch_left, switch_new, switch_old, gone_present, gate_kept, part_kept, only_next}
 
 module _ (s t : Stored) (loose left : List (Name × List ℕ)) (headers : List NewHeader) (step : Step) (s0 : Seen) (may : MayAdvance s0 s loose t left headers step) where
   abbrev pub Either : Directory → Type 0
   Either c = Encodes c s ⊎ Encodes c t
+
+  abbrev pub Before : Directory → Type 0
+  Before c = Encodes c s
 
   -- by the manifest of the step, and by the one that is stored next
   abbrev Exchanges : Directory → Directory → Type 0
@@ -57,8 +61,11 @@ module _ (s t : Stored) (loose left : List (Name × List ℕ)) (headers : List N
     beside_spare d c e others = besides s d c (map name_of step.objects.items) e (written_spare s t loose left headers step may.settled.coherent may.step_is) (subst (λ l. SameBeside (map name_of l) d c) same others)
 
     module _ (s1 : Seen) (placing : Leads (SameBeside (map name_of objects)) s0 s1) where
+      pub place_still : Goes Before s0 s1
+      place_still = goes_leads Before (SameBeside (map name_of objects)) s0 s1 placing (λ d c here others. beside_spare d c (subst (λ x. Encodes x s) (sym (may.settled.synced d here)) may.settled.encodes) others)
+
       pub place_moments : Goes Either s0 s1
-      place_moments = goes_leads Either (SameBeside (map name_of objects)) s0 s1 placing (λ d c here others. inl (beside_spare d c (subst (λ x. Encodes x s) (sym (may.settled.synced d here)) may.settled.encodes) others))
+      place_moments = goes_weaker Before Either s0 s1 (λ c e. inl e) place_still
 
       -- up to the end of the writing, it leaves what was stored
       pub early_placed : (moment : ℕ) (c : Directory) → s0.moment ≤ moment → moment ≤ s1.moment → s1.left moment c → Encodes c s
@@ -105,6 +112,14 @@ module _ (s t : Stored) (loose left : List (Name × List ℕ)) (headers : List N
         image_left : (d c : Directory) → Image s1 d → Exchanges d c → Switches (insert_all step.objects.items s0.directory) c
         image_left d c here came = as_next (insert_all step.objects.items s0.directory) c (subst (λ x. Exchanges x c) (synced d here ∙ placed) came)
 
+        -- where the new gate never came, it leaves what was stored
+        image_old : (d c : Directory) → Image s1 d → IsUnswitched step.manifest.no d c → Encodes c s
+        image_old d c here un = switch_old s t loose left headers step may.settled.coherent may.step_is s0.directory may.only may.settled.encodes c
+            (subst (λ (m : Manifest). IsUnswitched m.no (insert_all step.objects.items s0.directory) c) may.step_is.manifest (subst (λ x. IsUnswitched step.manifest.no x c) (synced d here ∙ placed) un))
+
+        pub exchange_still : (s2 : Seen) → Leads (IsUnswitched step.manifest.no) s1 s2 → Goes Before s0 s2
+        exchange_still s2 unswitched = goes_then Before s0 s1 s2 place_still (goes_leads Before (IsUnswitched step.manifest.no) s1 s2 unswitched image_old)
+
         module _ (s2 : Seen) (exchanging : Leads Exchanges s1 s2) where
           pub exchange_moments : Goes Either s0 s2
           exchange_moments = goes_then Either s0 s1 s2 place_moments (goes_leads Either Exchanges s1 s2 exchanging (λ d c here came.
@@ -119,9 +134,15 @@ module _ (s t : Stored) (loose left : List (Name × List ℕ)) (headers : List N
             pub present_again : ArePresent (map name_of objects) s2.directory
             present_again = subst (λ l. ArePresent (map name_of l) s2.directory) (take_all (length objects) objects (omega arith)) (all_present objects (length objects) s0 s2 absent_before all)
 
+            removing_still : (s3 : Seen) → Leads (IsCleared (map name_of objects)) s2 s3 → Goes Before s2 s3
+            removing_still s3 removing = goes_leads Before (IsCleared (map name_of objects)) s2 s3 removing (λ d c here came.
+                beside_spare d c (subst (λ x. Encodes x s) (sym (synced d (back.images d here))) still_placed) came.others)
+
             pub removal_moments : (s3 : Seen) → Leads (IsCleared (map name_of objects)) s2 s3 → Goes Either s0 s3
-            removal_moments s3 removing = goes_then Either s0 s2 s3 exchange_moments (goes_leads Either (IsCleared (map name_of objects)) s2 s3 removing (λ d c here came.
-                inl (beside_spare d c (subst (λ x. Encodes x s) (sym (synced d (back.images d here))) still_placed) came.others)))
+            removal_moments s3 removing = goes_then Either s0 s2 s3 exchange_moments (goes_weaker Before Either s2 s3 (λ c e. inl e) (removing_still s3 removing))
+
+            pub removal_still : (s3 : Seen) → Leads (IsCleared (map name_of objects)) s2 s3 → Leads (IsUnswitched step.manifest.no) s1 s2 → Goes Before s0 s3
+            removal_still s3 removing unswitched = goes_then Before s0 s2 s3 (exchange_still s2 unswitched) (removing_still s3 removing)
 
             pub back_again : (s3 : Seen) → Image s0 s0.directory → s3.directory ≡ remove_all (map name_of objects) s2.directory → IsSynced s3 → IsTakenBack s0 s3
             back_again s3 here removed synced_again = taken_back objects (length objects) s0 s2 absent_before all s3 s3 here
@@ -166,3 +187,6 @@ module _ (s t : Stored) (loose left : List (Name × List ℕ)) (headers : List N
 
                 pub kept_next : (name : Name) → Contains (part_names t) name → object s3.directory name ≡ object (insert_all step.objects.items s0.directory) name
                 kept_next name part = ap (λ x. object x name) clear_is ∙ part_kept s t loose left headers step may.settled.coherent may.step_is s0.directory may.only may.settled.encodes s2.directory from_placed name part
+
+                pub gate_next : object s3.directory (gate_name t.manifest.no) ≡ Some []
+                gate_next = ap (λ x. object x (gate_name t.manifest.no)) clear_is ∙ gate_kept s t loose left headers step may.settled.coherent may.step_is s0.directory may.only may.settled.encodes s2.directory from_placed

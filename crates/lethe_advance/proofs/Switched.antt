@@ -1,5 +1,5 @@
 -- A directory in which a step is done: the objects are written, the manifest is switched, and what isn't cited any more is removed.
-use Rattle.std.proofs.Common.{◌≡◌, ◌≢◌, ◌⊎◌, inl, inr, ℕ, List, Some, None, true, false, sym, ap, ◌∙◌, subst}
+use Rattle.std.proofs.Common.{◌≡◌, ◌≢◌, ◌⊎◌, inl, inr, ℕ, List, [], Some, None, true, false, refl, sym, ap, ◌∙◌, subst, arith}
 use Rattle.std.specs.Prelude.{Contains, IsSome, is_some}
 use Rattle.std.proofs.lemmas.List.Elements.{All-contains}
 use Rattle.lethe_base.specs.declared.name.Kind.TheVariants as kinds
@@ -10,10 +10,10 @@ use Rattle.lethe_manifest.specs.Manifests.{manifest_bytes}
 use Rattle.lethe_commit.specs.Clear.{ArePresent, remove_all}
 use Rattle.lethe_commit.specs.Gates.{gate_name}
 use Rattle.lethe_commit.specs.Place.{name_of}
-use Rattle.lethe_commit.specs.Switch.{manifest_name, IsSwitched, HasNew, placed, switched}
+use Rattle.lethe_commit.specs.Switch.{manifest_name, IsSwitched, IsUnswitched, HasNew, placed, switched}
 use Rattle.lethe_commit.proofs.Creations.{object_beside_all}
-use Rattle.lethe_commit.proofs.Exchange.{beside_placed}
-use Rattle.lethe_commit.proofs.Placing.{gate≢manifest}
+use Rattle.lethe_commit.proofs.Exchange.{beside_placed, placed_gate}
+use Rattle.lethe_commit.proofs.Placing.{gate≢manifest, gate≢gate}
 use Rattle.lethe_commit.proofs.Removals.{cleared_absent, cleared_others}
 use Rattle.lethe_stored.specs.Stored.{Stored, IsCoherent, IsCited, part_names}
 use Rattle.lethe_stored.specs.Encodes.{Encodes, AreSpare, HasObject}
@@ -90,6 +90,13 @@ module _ (s t : Stored) (loose left : List (Name × List ℕ)) (headers : List N
       | inr next ↦ next
     ]
 
+    -- and what it leaves where the new gate never came
+    pub switch_old : (c : Directory) → IsUnswitched t.manifest.no made c → Encodes c s
+    switch_old c un = elim (switch_left c (inl un)) [
+      | inl old ↦ old
+      | inr next ↦ absurd (true≢false (sym next.greatest.0 ∙ ap is_some un.no_gate))
+    ]
+
     module _ (now : Directory) (done : now ≡ switched t.manifest.no (manifest_bytes t.manifest) (Some s.manifest.no) made) where
       -- an object beside all that was switched
       beside_all : (name : Name) → name ≢ manifest_name t.manifest.no → name ≢ gate_name t.manifest.no → name ≢ gate_name s.manifest.no → name ≢ manifest_name s.manifest.no → object now name ≡ object made name
@@ -122,6 +129,15 @@ module _ (s t : Stored) (loose left : List (Name × List ℕ)) (headers : List N
 
       pub part_kept : (name : Name) → Contains (part_names t) name → object cleared name ≡ object made name
       part_kept name part = cleared_others gone now name (none_of gone name (λ there. (uncited_at name there).1 part)) ∙ other_kind name (part_kind t name part)
+
+      -- the new gate is empty, and nothing that goes is the gate
+      pub gate_kept : object cleared (gate_name t.manifest.no) ≡ Some []
+      gate_kept =
+          let below = older_below s t loose left headers step coherent is in
+          cleared_others gone now (gate_name t.manifest.no) (none_of gone (gate_name t.manifest.no) (λ there. (gone_spare (gate_name t.manifest.no) there).uncited (inl refl)))
+          ∙ ap (λ z. object z (gate_name t.manifest.no)) done ∙ object_beside_remove _ (manifest_name s.manifest.no) (gate_name t.manifest.no) (gate≢manifest t.manifest.no s.manifest.no)
+          ∙ object_beside_remove (placed t.manifest.no (manifest_bytes t.manifest) made) (gate_name s.manifest.no) (gate_name t.manifest.no) (gate≢gate t.manifest.no s.manifest.no (λ e. omega (arith, e, below)))
+          ∙ placed_gate t.manifest.no (manifest_bytes t.manifest) made
 
       abbrev IsCitedOrLeft : Name → Type 0
       IsCitedOrLeft name = IsCited t name ⊎ Contains (names_in left) name

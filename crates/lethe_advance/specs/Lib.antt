@@ -1,3 +1,4 @@
 pub mod Settled
 pub mod Shown
 pub mod Steps
+pub mod Untorn

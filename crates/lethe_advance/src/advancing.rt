@@ -1,5 +1,5 @@
 //! Going from what is stored to what is stored next.
-ghost use Rattle.std.specs.Prelude.{◌≡◌, ◌⊎◌, ℕ, ◌+◌, ◌<◌, ◌≤◌, List, length, map, All, Contains, IfOk, OnOk, IsErrOf};
+ghost use Rattle.std.specs.Prelude.{◌≡◌, ◌⊎◌, ℕ, ◌+◌, ◌<◌, ◌≤◌, List, [], Some, length, map, All, Contains, IfOk, OnOk, IsErrOf};
 ghost use Rattle.lethe_base.specs.declared.name.Name.{Name};
 ghost use Rattle.lethe_disk.specs.Directory.{Directory, object};
 ghost use Rattle.lethe_disk.specs.Disk.{HasCause, IsSynced};
@@ -9,6 +9,7 @@ ghost use Rattle.lethe_disk.specs.declared.disk.DiskRefused.TheVariants.{NoMemor
 ghost use Rattle.lethe_header.specs.Headers as header;
 ghost use Rattle.lethe_manifest.specs.Manifests.{HasSpelling};
 ghost use Rattle.lethe_commit.specs.Clear.{ArePresent, IsCleared, remove_all};
+ghost use Rattle.lethe_commit.specs.Gates.{gate_name};
 ghost use Rattle.lethe_commit.specs.Place.{insert_all, name_of};
 ghost use Rattle.lethe_commit.specs.Switch.{IsTakenBack};
 ghost use Rattle.lethe_stored.specs.Stored.{Stored, part_names};
@@ -62,6 +63,14 @@ pub fn advance<D: Disk>(
     ensures kept { D.tells → (s t : Stored) (loose left : List (Name × List ℕ)) → MayAdvance (D.seen disk.old) s loose t left headers.items step.now
         → OnOk result ((name : Name) → Contains (part_names t) name
         → object (D.seen disk.new).directory name ≡ object (insert_all step.now.objects.items (D.seen disk.old).directory) name) }
+
+    // The new gate is empty.
+    ensures gate { D.tells → (s t : Stored) (loose left : List (Name × List ℕ)) → MayAdvance (D.seen disk.old) s loose t left headers.items step.now
+        → OnOk result (object (D.seen disk.new).directory (gate_name t.manifest.no) ≡ Some []) }
+
+    // Where there was no memory, a crash at any moment of the call leaves what was stored.
+    ensures unmoved { D.tells → (s t : Stored) (loose left : List (Name × List ℕ)) → MayAdvance (D.seen disk.old) s loose t left headers.items step.now
+        → IsErrOf result NoMemory → Goes (λ c. Encodes c s) (D.seen disk.old) (D.seen disk.new) }
 
     ensures files { D.tells → (s t : Stored) (loose left : List (Name × List ℕ)) → MayAdvance (D.seen disk.old) s loose t left headers.items step.now
         → HasFiles s (parts_by_level version.now) → IfOk result (λ next. HasFiles t (parts_by_level next)) }

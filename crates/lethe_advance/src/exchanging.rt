@@ -7,7 +7,7 @@ ghost use Rattle.lethe_disk.specs.Runs.{Leads};
 ghost use Rattle.lethe_disk.specs.declared.disk.DiskRefused.TheVariants.{NoMemory};
 ghost use Rattle.lethe_header.specs.Headers as header;
 ghost use Rattle.lethe_manifest.specs.Manifests.{manifest_bytes, HasSpelling};
-ghost use Rattle.lethe_commit.specs.Switch.{IsFree, IsSwitched, HasNew, IsTakenBack, manifest_name, switched};
+ghost use Rattle.lethe_commit.specs.Switch.{IsFree, IsSwitched, IsUnswitched, HasNew, IsTakenBack, manifest_name, switched};
 ghost use Rattle.lethe_version.specs.Versions.{levels_of};
 ghost use Rattle.lethe_advance.specs.Shown.{HasPages, AreLevelsWith, new_parts, new_parts_at, parts_by_level};
 
@@ -48,6 +48,7 @@ pub fn exchange<D: Disk>(
     ensures levels { IfOk result (λ next. length (levels_of next) ≡ length (levels_of version.now)) }
     ensures calls { D.tells → OnOk result ((D.seen disk.old).moment + 4 ≤ (D.seen disk.new).moment) }
     ensures no_memory { D.tells → IsErrOf result NoMemory → IsTakenBack (D.seen disk.old) (D.seen disk.new) }
+    ensures unswitched { D.tells → IsErrOf result NoMemory → Leads (IsUnswitched step.now.manifest.no) (D.seen disk.old) (D.seen disk.new) }
     ensures cause { HasCause (D.faults disk.old) (D.faults disk.new) result }
 {
     let files = open_files(alloc, disk, headers)?;

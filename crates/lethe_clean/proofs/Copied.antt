@@ -1,9 +1,9 @@
--- The pages of a merge's outputs have no puts but those of its inputs.
-use Rattle.std.proofs.Common.{◌≡◌, ℕ, ◌+◌, Bool, true, false, cond, List, [], ◌∷◌, Contains, All, IsPermutation, None, refl, sym, subst}
+-- The pages of a merge's outputs have no puts but those of its inputs, and copied pages stay so while the files that were stored are stored.
+use Rattle.std.proofs.Common.{◌≡◌, ℕ, ◌+◌, Bool, true, false, cond, List, [], ◌∷◌, Contains, All, IsPermutation, None, refl, sym, subst, arith}
 use Rattle.std.specs.Prelude.{flat_map}
 use Rattle.std.specs.List.{AllZip, list_any}
 use Rattle.std.proofs.Math.Logic.{⊎_elim}
-use Rattle.std.proofs.lemmas.List.Elements.{Contains-append_cases}
+use Rattle.std.proofs.lemmas.List.Elements.{All-weaker, Contains-append_cases}
 use Rattle.std.proofs.lemmas.List.Sorted.{Contains-permutation, IsPermutation-append, IsPermutation-refl, IsPermutation-sym}
 use Rattle.lethe_base.specs.Entries.{pair_of}
 use Rattle.lethe_base.specs.Held.{InFiles}
@@ -13,6 +13,7 @@ use Rattle.lethe_base.specs.Matching.{IsPut, matches, pair_under}
 use Rattle.lethe_base.specs.declared.entry.Body.{Body}
 use Rattle.lethe_base.specs.declared.entry.Body.TheVariants.{Put, Tomb}
 use Rattle.lethe_base.specs.declared.entry.Entry.{Entry}
+use Rattle.lethe_base.specs.declared.name.Name.{Name}
 use Rattle.lethe_base.specs.declared.pending.Pending.{Pending}
 use Rattle.lethe_base.proofs.LayoutLaws.{none_in}
 use Rattle.lethe_base.proofs.Newest.{first_is, first_or_rest}
@@ -25,7 +26,7 @@ use Rattle.lethe_file.specs.Agreement.{Agrees, page_name}
 use Rattle.lethe_file.specs.Agreement as agreement
 use Rattle.lethe_flush.specs.Made.{pages_in}
 use Rattle.lethe_follows.specs.Merged.{IsMergeIn, StoredMerge, entries_in, inputs_of}
-use Rattle.lethe_follows.proofs.Following.{file_in}
+use Rattle.lethe_follows.proofs.Following.{file_from, file_in}
 use Rattle.lethe_header.specs.Facts.{lines_of}
 use Rattle.lethe_merge.specs.Merge.{merged}
 use Rattle.lethe_merge.proofs.Merges.{merged_is}
@@ -129,3 +130,31 @@ module _ (s : Stored) (m : StoredMerge) (coherent : IsCoherent s) (begun : IsMer
         all_of : (entries : List Entry) → ((entry : Entry) → Contains entries entry → IsPut entry.body → IsOriginal (files_of (layout_of s)) entry)
             → All (λ entry. IsPut entry.body → IsOriginal (files_of (layout_of s)) entry) entries
         all_of entries each = all_from (λ entry. IsPut entry.body → IsOriginal (files_of (layout_of s)) entry) entries each
+
+-- What is stored next has the files that were stored
+
+module _ (s t : Stored) (levels : t.manifest.config.levels ≡ s.manifest.config.levels) (stay : (file : StoredFile) → Contains s.files file → Contains t.files file) where
+  original_stays : (entry : Entry) → IsOriginal (files_of (layout_of s)) entry → IsOriginal (files_of (layout_of t)) entry
+  original_stays entry is =
+      let found = file_from s.manifest.config.levels s.files is.filed.file is.filed.there in
+      let low = found.2 in
+      let there = file_in t.manifest.config.levels t.files found.0 (stay found.0 found.1) (omega (arith, low, levels)) in
+      record {
+        original = is.original;
+        filed = record { file = is.filed.file; there = subst (Contains (files_of (layout_of t))) found.3 there; spelled = is.filed.spelled };
+        seq = is.seq;
+        key = is.key;
+        body = is.body;
+      }
+
+  pub copied_stays : (named : Name × List ℕ) → IsCopied s named → IsCopied t named
+  copied_stays named is = record {
+    page = is.page;
+    entries = is.entries;
+    spelled = is.spelled;
+    copies = All-weaker (λ (entry : Entry). IsPut entry.body → IsOriginal (files_of (layout_of s)) entry) (λ (entry : Entry). IsPut entry.body → IsOriginal (files_of (layout_of t)) entry)
+        (λ entry from put. original_stays entry (from put)) is.entries is.copies;
+  }
+
+  pub all_copied : (loose : List (Name × List ℕ)) → All (IsCopied s) loose → All (IsCopied t) loose
+  all_copied loose copied = All-weaker (IsCopied s) (IsCopied t) (λ named is. copied_stays named is) loose copied

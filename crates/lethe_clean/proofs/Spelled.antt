@@ -44,8 +44,8 @@ use Rattle.lethe_stored.proofs.Lists.{in_flat}
 use Rattle.lethe_stored.proofs.Meanings.{frozen_are}
 use Rattle.lethe_follows.proofs.Following.{file_in}
 use Rattle.lethe_advance.specs.Settled.{HasOnly}
+use Rattle.lethe_advance.specs.Untorn.{IsPlain, IsUntorn}
 use Rattle.lethe_clean.specs.Copied.{IsCopied, IsOriginal}
-use Rattle.lethe_clean.specs.Untorn.{IsPlain, IsUntorn}
 
 -- The entry was put at its place in the history, and isn't overdue at the clock.
 pub record IsTold (threshold : ℕ) (h : History) (entry : Entry) : Type 0 where

@@ -1,5 +1,5 @@
--- What is stored stays untorn by a step and by a record.
-use Rattle.std.proofs.Common.{◌≡◌, ◌≢◌, ℕ, ◌<◌, ◌≤◌, List, [], ◌∷◌, ◌++◌, map, Contains, AllPairs, Some, refl, sym, ap, ◌∙◌, subst, arith}
+-- What is stored stays untorn by a step, by a record, and where what is cited is as it was.
+use Rattle.std.proofs.Common.{◌≡◌, ◌≢◌, inl, inr, ℕ, ◌<◌, ◌≤◌, List, [], ◌∷◌, ◌++◌, map, Contains, AllPairs, Some, refl, sym, ap, ◌∙◌, subst, arith}
 use Rattle.std.specs.Prelude.{option_to_list}
 use Rattle.std.specs.FinMap.{insert}
 use Rattle.std.proofs.Math.Logic.{⊎_elim}
@@ -14,7 +14,7 @@ use Rattle.lethe_commit.specs.Gates.{gate_name}
 use Rattle.lethe_commit.specs.Place.{insert_all, name_of}
 use Rattle.lethe_commit.proofs.Creations.{object_beside_all, object_contained}
 use Rattle.lethe_cover.proofs.Lists.{all_from, in_map, map_from, only_in, pairs_from, pairs_parts}
-use Rattle.lethe_stored.specs.Stored.{Stored, Segment, IsCoherent, appended, number_of, part_names, segment_name, segment_numbers, segments_of}
+use Rattle.lethe_stored.specs.Stored.{Stored, Segment, IsCited, IsCoherent, appended, number_of, part_names, segment_name, segment_numbers, segments_of}
 use Rattle.lethe_stored.proofs.Frame.{none_of, same_no, gate≢segment}
 use Rattle.lethe_stored.proofs.Parts.{part_below}
 use Rattle.lethe_advance.specs.Settled.{HasOnly}
@@ -22,7 +22,7 @@ use Rattle.lethe_advance.specs.Steps.{IsSegmentFrom, IsStep, written_in}
 use Rattle.lethe_advance.specs.declared.new_header.NewHeader.{NewHeader}
 use Rattle.lethe_advance.specs.declared.step.Step.{Step}
 use Rattle.lethe_advance.proofs.Placed.{written_absent}
-use Rattle.lethe_clean.specs.Untorn.{IsPlain, IsUntorn}
+use Rattle.lethe_advance.specs.Untorn.{IsPlain, IsUntorn}
 
 -- the name of a stored segment is cited
 segment_part : (s : Stored) (segment : Segment) → Contains (segments_of s) segment → Contains (part_names s) (segment_name segment.no)
@@ -95,3 +95,12 @@ module _ (s : Stored) (d : Directory) (next : Record) (coherent : IsCoherent s) 
         (λ last. subst (IsPlain (insert d name bytes)) (only_in (record s.active { records = s.active.records ++ next ∷ [] }) segment last) (object_inserted d name bytes))
         (Contains-append_cases (option_to_list s.frozen) (record s.active { records = s.active.records ++ next ∷ [] } ∷ []) segment there));
   }
+
+-- Whatever leaves what is cited as it was
+
+pub beside_untorn : (s : Stored) (d c : Directory) → IsUntorn s d → ((name : Name) → IsCited s name → object c name ≡ object d name) → IsUntorn s c
+beside_untorn s d c untorn kept = record {
+  gate = kept (gate_name s.manifest.no) (inl refl) ∙ untorn.gate;
+  segments = all_from (IsPlain c) (segments_of s) (λ segment there.
+      kept (segment_name segment.no) (inr (inr (segment_part s segment there))) ∙ All-contains (IsPlain d) (segments_of s) segment untorn.segments there);
+}

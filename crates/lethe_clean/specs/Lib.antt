@@ -1,2 +1,1 @@
-pub mod Untorn
 pub mod Copied

@@ -17,14 +17,15 @@ ghost use Rattle.lethe_segment.specs.declared.record.Record.{Record};
 ghost use Rattle.lethe_segment.specs.Segments.{segment_bytes};
 ghost use Rattle.lethe_stored.specs.Clean.{IsClean};
 ghost use Rattle.lethe_stored.specs.Encodes.{Encodes};
+ghost use Rattle.lethe_stored.specs.Files.{StoredFile};
 ghost use Rattle.lethe_stored.specs.Kept.{IsFor};
-ghost use Rattle.lethe_stored.specs.Stored.{Stored, IsCoherent, appended, part_names, segment_name};
+ghost use Rattle.lethe_stored.specs.Stored.{Stored, IsCited, IsCoherent, appended, part_names, segment_name};
 ghost use Rattle.lethe_advance.specs.Settled.{HasOnly};
 ghost use Rattle.lethe_advance.specs.Steps.{IsStep};
+ghost use Rattle.lethe_advance.specs.Untorn.{IsUntorn};
 ghost use Rattle.lethe_advance.specs.declared.new_header.NewHeader.{NewHeader};
 ghost use Rattle.lethe_advance.specs.declared.step.Step.{Step};
 ghost use Rattle.lethe_clean.specs.Copied.{IsCopied};
-ghost use Rattle.lethe_clean.specs.Untorn.{IsUntorn};
 
 /// A directory that has what is stored, untorn, and beside it only pages of which each put is a stored file's, is clean at the history's clock.
 pub fn stored_is_clean()
@@ -39,7 +40,14 @@ pub fn outputs_are_copied()
         → (number : ℕ) (bytes : List ℕ) → Contains (pages_in drafts) bytes → IsCopied s (page_name number, bytes) }
 {}
 
-/// What is stored stays untorn by a step whose new gate is empty, where what is cited next stays as the step found or wrote it, and by a record.
+/// Copied pages stay so where what is stored next has the files that were stored, in as many levels.
+pub fn copied_stay()
+    ensures { (s t : Stored) (loose : List (Name × List ℕ)) → t.manifest.config.levels ≡ s.manifest.config.levels
+        → ((file : StoredFile) → Contains s.files file → Contains t.files file) → All (IsCopied s) loose → All (IsCopied t) loose }
+{}
+
+/// What is stored stays untorn by a step whose new gate is empty, where what is cited next stays as the step found or wrote it, by a record, and by whatever leaves
+/// what is cited as it was.
 pub fn untorn_stays()
     ensures step { (s t : Stored) (loose left : List (Name × List ℕ)) (headers : List NewHeader) (step : Step) (d c : Directory)
         → IsCoherent s → IsStep s loose t left headers step → HasOnly s loose d → IsUntorn s d
@@ -47,4 +55,5 @@ pub fn untorn_stays()
         → object c (gate_name t.manifest.no) ≡ Some [] → IsUntorn t c }
     ensures written { (s : Stored) (d : Directory) (next : Record) → IsCoherent s → IsUntorn s d
         → IsUntorn (appended s next) (insert d (segment_name s.active.no) (segment_bytes s.active.no (s.active.records ++ next ∷ []))) }
+    ensures beside { (s : Stored) (d c : Directory) → IsUntorn s d → ((name : Name) → IsCited s name → object c name ≡ object d name) → IsUntorn s c }
 {}

@@ -96,6 +96,11 @@ module _ (number : ℕ) (bytes : List ℕ) (greatest : Option ℕ) (s0 : Seen) (
     listing_moments = leads_weaker (IsUnswitched number) (IsSwitched number bytes greatest) s0 s1 same_run (λ d c here un. inl un)
 
   module _ (s1 : Seen) (quiet : Leads (IsUnswitched number) s0 s1) where
+    -- where the gate never came
+    pub still_unswitched : (s2 : Seen) → Leads (IsUnswitched number) s1 s2 → Leads (IsUnswitched number) s0 s2
+    still_unswitched s2 more = leads_leads (IsUnswitched number) (IsUnswitched number) (IsUnswitched number) s0 s1 s2 quiet more (λ d c un. un)
+        (λ d e c here un next. record { others = λ other none. next.others other none ∙ un.others other none; no_gate = next.no_gate })
+
     module _ (s2 : Seen) (placing : Leads (IsPlaced number bytes) s1 s2) where
       placed_switched : (d e c : Directory) → IsUnswitched number d e → IsPlaced number bytes e c → IsSwitched number bytes greatest d c
       placed_switched d e c un made = by_gate (object c (gate_name number)) refl

@@ -13,7 +13,7 @@ use Rattle.lethe_disk.proofs.Moments.{leads_start, leads_weaker, leads_leads, af
 use Rattle.lethe_commit.specs.Append.{IsUntouched}
 use Rattle.lethe_commit.specs.Clear.{ArePresent, IsCleared}
 use Rattle.lethe_commit.specs.Gates.{gate_name}
-use Rattle.lethe_commit.specs.Switch.{manifest_name, IsFree, IsPlaced, IsTakenBack}
+use Rattle.lethe_commit.specs.Switch.{manifest_name, IsFree, IsPlaced, IsTakenBack, IsUnswitched}
 
 -- Names
 
@@ -74,6 +74,10 @@ module _ (number : ℕ) (bytes : List ℕ) (greatest : Option ℕ) (old : Seen) 
     made_placed : (d c : Directory) → Made d c → IsPlaced number bytes d c
     made_placed d c made = record { others = λ other none. made.others other none.0; either = inl made.no_gate }
 
+    -- until the gate is created there is none
+    pub no_gate_yet : Leads (IsUnswitched number) old mid
+    no_gate_yet = leads_weaker Made (IsUnswitched number) old mid made (λ d c here made. record { others = λ other none. made.others other none.0; no_gate = made.no_gate })
+
     pub after_manifest : Leads (IsPlaced number bytes) old mid
     after_manifest = leads_weaker Made (IsPlaced number bytes) old mid made (λ d c here made. made_placed d c made)
 
@@ -120,6 +124,22 @@ module _ (number : ℕ) (bytes : List ℕ) (greatest : Option ℕ) (old : Seen) 
             leads_leads (IsPlaced number bytes) Undone (IsPlaced number bytes) old refused new so_far undone (λ d c placed. placed) (λ d e c there placed undone. record {
               others = λ other none. undone.cleared.others other (none.0, tt) ∙ placed.others other none;
               either = inl (undone.cleared.others (gate_name number) (gate≢manifest number number, tt) ∙ undone.no_gate);
+            })
+
+        -- no image ever had the gate
+        pub never_gated : (new : Seen) → Leads (IsCreated (gate_name number)) mid refused → Leads (IsCleared (manifest_name number ∷ [])) refused new → Leads (IsUnswitched number) old new
+        never_gated new second last =
+            let still : Leads (IsUnswitched number) old refused = record {
+              later = omega (arith, no_gate_yet.later, second.later);
+              past = λ m c le.
+                  let here = second.past m c (omega (arith, le, no_gate_yet.later)) in
+                  let before = no_gate_yet.past m c le in
+                  (λ left. before.0 (here.0 left), λ left. here.1 (before.1 left));
+              each = λ m c low high left. no_gate_yet.each m c low (omega (arith, high, same.moment)) ((second.past m c (omega (arith, high, same.moment))).0 left);
+            } in
+            leads_leads (IsUnswitched number) (IsCleared (manifest_name number ∷ [])) (IsUnswitched number) old refused new still last (λ d c is. is) (λ d e c there is cleared. record {
+              others = λ other none. cleared.others other (none.0, tt) ∙ is.others other none;
+              no_gate = cleared.others (gate_name number) (gate≢manifest number number, tt) ∙ is.no_gate;
             })
 
         pub taken_back : (new : Seen) → new.directory ≡ remove refused.directory (manifest_name number) → IsSynced new → IsTakenBack old new

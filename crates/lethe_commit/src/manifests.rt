@@ -6,7 +6,7 @@ ghost use Rattle.lethe_disk.specs.Disk.{Image, IsSynced, HasCause};
 ghost use Rattle.lethe_disk.specs.Runs.{Leads, Throughout};
 ghost use Rattle.lethe_manifest.specs.Manifests.{manifest_bytes, HasSpelling};
 ghost use Rattle.lethe_commit.specs.Clear.{ArePresent, IsCleared, remove_all};
-ghost use Rattle.lethe_commit.specs.Switch.{IsFree, IsPlaced, IsSwitched, HasNew, HasOldOrNew, IsTakenBack, TellsOlder, manifest_name, older_names, placed, switched};
+ghost use Rattle.lethe_commit.specs.Switch.{IsFree, IsPlaced, IsSwitched, IsUnswitched, HasNew, HasOldOrNew, IsTakenBack, TellsOlder, manifest_name, older_names, placed, switched};
 
 use crate::clearing::{clear, remove_each};
 use crate::gates::choose;
@@ -45,6 +45,9 @@ pub fn switch<D: Disk>(alloc: Global, disk: &mut D, manifest: &Manifest) -> Resu
     ensures calls { D.tells → OnOk result ((D.seen disk.old).moment + 5 ≤ (D.seen disk.new).moment) }
     ensures soon { D.tells → (D.seen disk.new).moment ≤ (D.seen disk.old).moment + 7 }
     ensures no_memory { D.tells → IsErrOf result NoMemory → IsTakenBack (D.seen disk.old) (D.seen disk.new) }
+
+    // Where there was no memory, no crash at any moment of the call leaves the new gate.
+    ensures unswitched { D.tells → IsErrOf result NoMemory → Leads (IsUnswitched manifest.now.no) (D.seen disk.old) (D.seen disk.new) }
     ensures cause { HasCause (D.faults disk.old) (D.faults disk.new) result }
 {
     let bytes = write_manifest(alloc, manifest)?;
@@ -74,6 +77,7 @@ pub fn switch_from<D: Disk>(
     ensures calls { D.tells → OnOk result ((D.seen disk.old).moment + 4 ≤ (D.seen disk.new).moment) }
     ensures soon { D.tells → (D.seen disk.new).moment ≤ (D.seen disk.old).moment + 6 }
     ensures no_memory { D.tells → IsErrOf result NoMemory → IsTakenBack (D.seen disk.old) (D.seen disk.new) }
+    ensures unswitched { D.tells → IsErrOf result NoMemory → Leads (IsUnswitched manifest.now.no) (D.seen disk.old) (D.seen disk.new) }
     ensures cause { HasCause (D.faults disk.old) (D.faults disk.new) result }
 {
     let bytes = write_manifest(alloc, manifest)?;
@@ -95,6 +99,7 @@ fn exchange_from<D: Disk>(
     ensures calls { D.tells → OnOk result ((D.seen disk.old).moment + 4 ≤ (D.seen disk.new).moment) }
     ensures soon { D.tells → (D.seen disk.new).moment ≤ (D.seen disk.old).moment + 6 }
     ensures no_memory { D.tells → IsErrOf result NoMemory → IsTakenBack (D.seen disk.old) (D.seen disk.new) }
+    ensures unswitched { D.tells → IsErrOf result NoMemory → Leads (IsUnswitched number) (D.seen disk.old) (D.seen disk.new) }
     ensures cause { HasCause (D.faults disk.old) (D.faults disk.new) result }
 {
     place_with_gate(disk, number, bytes)?;
@@ -141,6 +146,7 @@ fn exchange<D: Disk>(
     ensures calls { D.tells → OnOk result ((D.seen disk.old).moment + 5 ≤ (D.seen disk.new).moment) }
     ensures soon { D.tells → (D.seen disk.new).moment ≤ (D.seen disk.old).moment + 7 }
     ensures no_memory { D.tells → IsErrOf result NoMemory → IsTakenBack (D.seen disk.old) (D.seen disk.new) }
+    ensures unswitched { D.tells → IsErrOf result NoMemory → Leads (IsUnswitched number) (D.seen disk.old) (D.seen disk.new) }
     ensures cause { HasCause (D.faults disk.old) (D.faults disk.new) result }
 {
     let names = disk.names(alloc)?;
@@ -187,6 +193,7 @@ fn place_with_gate<D: Disk>(disk: &mut D, number: u64, bytes: &[u8]) -> Result<(
     ensures calls { D.tells → OnOk result ((D.seen disk.new).moment ≡ (D.seen disk.old).moment + 4) }
     ensures soon { D.tells → (D.seen disk.new).moment ≤ (D.seen disk.old).moment + 4 }
     ensures no_memory { D.tells → IsErrOf result NoMemory → IsTakenBack (D.seen disk.old) (D.seen disk.new) }
+    ensures unswitched { D.tells → IsErrOf result NoMemory → Leads (IsUnswitched number) (D.seen disk.old) (D.seen disk.new) }
     ensures cause { HasCause (D.faults disk.old) (D.faults disk.new) result }
 {
     let manifest = Name {

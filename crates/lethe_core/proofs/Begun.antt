@@ -15,6 +15,7 @@ use Rattle.lethe_stored.specs.Kept.{IsFor}
 use Rattle.lethe_stored.specs.Stored.{IsCoherent, Stored, count_of}
 use Rattle.lethe_stored.proofs.Lists.{all_from, from_flat, in_flat}
 use Rattle.lethe_advance.specs.Settled.{AreDrawn, AreUncited, HasOnly, names_in}
+use Rattle.lethe_clean.specs.Copied.{IsCopied}
 use Rattle.lethe_follows.specs.Merged.{entries_in, inputs_of}
 use Rattle.lethe_follows.proofs.Merging.{all_counted}
 use Rattle.lethe_install.proofs.Beside.{input_in}
@@ -51,6 +52,8 @@ module _ (Tells : Type 0) (old : View) (task : PlainTask) (free : old.flight ≡
         settled = running.settled;
         only = subst (λ flight. HasOnly s (beside_at old.disk.directory old.retired flight) old.disk.directory) free running.only;
         uncited = subst (λ flight. AreUncited s (beside_at old.disk.directory old.retired flight)) free running.uncited;
+        untorn = running.untorn;
+        copied = subst (λ flight. All (IsCopied s) (beside_at old.disk.directory old.retired flight)) free running.copied;
         rising = running.rising;
         ends = running.ends;
         current = running.current;

@@ -1,15 +1,16 @@
 -- What lies beside what is stored, and the bytes that it has in a directory.
-use Rattle.std.proofs.Common.{◌≡◌, ◌≢◌, ◌<◌, ℕ, List, [], ◌∷◌, ◌++◌, Option, refl, sym, ap, ◌∙◌}
-use Rattle.std.specs.Prelude.{All, unwrap_or}
+use Rattle.std.proofs.Common.{◌≡◌, ◌≢◌, ◌<◌, ℕ, List, [], ◌∷◌, ◌++◌, Option, refl, sym, ap, ◌∙◌, subst}
+use Rattle.std.specs.Prelude.{All, Contains, unwrap_or}
 use Rattle.std.proofs.lemmas.List.{map-append}
-use Rattle.std.proofs.lemmas.List.Elements.{All-head, All-tail}
+use Rattle.std.proofs.lemmas.List.Elements.{All-contains, All-head, All-tail}
 use Rattle.lethe_base.specs.declared.name.Kind.TheVariants.{Page}
 use Rattle.lethe_base.specs.declared.name.Name.{Name}
 use Rattle.lethe_disk.specs.Directory.{Directory, content}
 use Rattle.lethe_stored.specs.Encodes.{HasObject}
-use Rattle.lethe_stored.proofs.Lists.{all_left}
+use Rattle.lethe_stored.specs.Stored.{IsCited, Stored}
+use Rattle.lethe_stored.proofs.Lists.{all_left, from_map}
 use Rattle.lethe_tile.proofs.Orders.{pairs_append}
-use Rattle.lethe_advance.specs.Settled.{AreDrawn, names_in}
+use Rattle.lethe_advance.specs.Settled.{AreDrawn, AreUncited, names_in}
 use Rattle.lethe_core.specs.View.{Flying, beside_at, loose_in, named_in}
 
 -- the names of objects that are read under these names are these names
@@ -40,6 +41,12 @@ named_stays d c retired there = named_left c retired (named_in d retired) there 
 -- and so does all that lies beside what is stored
 pub beside_stays : (d c : Directory) (retired : List Name) (flight : Option Flying) → All (HasObject c) (beside_at d retired flight) → beside_at c retired flight ≡ beside_at d retired flight
 beside_stays d c retired flight there = ap (λ l. l ++ loose_in flight) (named_stays d c retired (all_left (HasObject c) (named_in d retired) (loose_in flight) there))
+
+-- what is cited isn't among what isn't
+pub cited_apart : (s : Stored) (objects : List (Name × List ℕ)) → AreUncited s objects → (name : Name) → IsCited s name → Contains (names_in objects) name → ⊥
+cited_apart s objects uncited name cited there =
+    let named = from_map (λ (named : Name × List ℕ). named.0) objects name there in
+    All-contains (λ (named : Name × List ℕ). IsCited s named.0 → ⊥) objects named.0 uncited named.1 (subst (IsCited s) (sym named.2) cited)
 
 -- Numbers that were drawn
 

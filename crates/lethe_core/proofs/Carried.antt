@@ -3,6 +3,7 @@ use Rattle.std.proofs.Common.{◌≡◌, ◌<◌, ◌≤◌, ◌⊎◌, inl, inr
 use Rattle.std.specs.Prelude.{Contains, option_to_list}
 use Rattle.std.proofs.lemmas.List.Elements.{All-contains, Contains-append_left, Contains-append_right, Contains-append_cases, Contains-push}
 use Rattle.lethe_base.specs.History.{History}
+use Rattle.lethe_base.specs.declared.config.Fields.{Fields}
 use Rattle.lethe_base.specs.declared.name.Name.{Name}
 use Rattle.lethe_disk.specs.Directory.{Directory, object, IsNoneOf}
 use Rattle.lethe_disk.specs.Disk.{Seen, Image}
@@ -11,6 +12,7 @@ use Rattle.lethe_disk.proofs.Going.{goes_weaker}
 use Rattle.lethe_segment.specs.Segments.{segment_bytes}
 use Rattle.lethe_commit.specs.declared.objects.Object.{Object}
 use Rattle.lethe_commit.specs.Append.{EndsAt}
+use Rattle.lethe_commit.specs.Gates.{gate_name}
 use Rattle.lethe_commit.specs.Place.{name_of, insert_all}
 use Rattle.lethe_commit.proofs.Creations.{object_beside_all, object_contained}
 use Rattle.lethe_stored.specs.Encodes.{Encodes}
@@ -20,7 +22,7 @@ use Rattle.lethe_stored.specs.Numbers.{GoesFrom}
 use Rattle.lethe_stored.specs.Stored.{Stored, Segment, IsCoherent, number_of, segments_of, segment_numbers, segment_name, part_names}
 use Rattle.lethe_stored.proofs.Frame.{none_of, same_no}
 use Rattle.lethe_stored.proofs.Lists.{from_map, in_map}
-use Rattle.lethe_stored.proofs.Numbers.{pace_stepped}
+use Rattle.lethe_stored.proofs.Numbers.{goes_from_encoded, goes_from_weaker, pace_stepped}
 use Rattle.lethe_stored.proofs.Parts.{active_part, part_below}
 use Rattle.lethe_advance.specs.Settled.{IsSettled, HasOnly}
 use Rattle.lethe_advance.specs.Steps.{IsStep, IsSegmentFrom, MayAdvance}
@@ -32,19 +34,28 @@ use Rattle.lethe_state.specs.Room.{IsFrozen}
 use Rattle.lethe_core.specs.Running.{IsRunning}
 use Rattle.lethe_core.specs.View.{View, beside_in}
 
--- a crash leaves what was stored or what is stored next, and both stand for the history
-pub step_moments : (h : History) (s t : Stored) (first count : ℕ) (old new : Seen) → IsCoherent s → IsCoherent t → t.manifest.config ≡ s.manifest.config → IsFor h s → IsFor h t → s.manifest.next ≤ first → t.manifest.next ≤ first + count + 1
+-- a crash leaves what was stored or what is stored next, of which one stands for the first history and the other for the second
+pub step_moments : (h g : History) (s t : Stored) (first count : ℕ) (old new : Seen) → IsCoherent s → IsCoherent t → t.manifest.config ≡ s.manifest.config → IsFor h s → IsFor g t → s.manifest.next ≤ first → t.manifest.next ≤ first + count + 1
     → Goes (λ c. Encodes c s ⊎ Encodes c t) old new
     → ((moment : ℕ) (c : Directory) → old.moment ≤ moment → moment ≤ new.moment → moment ≤ old.moment + count → new.left moment c → Encodes c s)
-    → GoesFrom first (λ c. IsKept s.manifest.config c h) old new
-step_moments h s t first count old new coherent next same stands after below above goes early = record {
-  goes = goes_weaker (λ c. Encodes c s ⊎ Encodes c t) (λ c. IsKept s.manifest.config c h) old new
+    → GoesFrom first (λ c. IsKept s.manifest.config c h ⊎ IsKept s.manifest.config c g) old new
+step_moments h g s t first count old new coherent next same stands after below above goes early = record {
+  goes = goes_weaker (λ c. Encodes c s ⊎ Encodes c t) (λ c. IsKept s.manifest.config c h ⊎ IsKept s.manifest.config c g) old new
       (λ c either. elim either [
-        | inl was ↦ inr (record { s = s; config_is = refl; coherent = coherent; encodes = was; stands = stands })
-        | inr is ↦ inr (record { s = t; config_is = same; coherent = next; encodes = is; stands = after })
+        | inl was ↦ inl (inr (record { s = s; config_is = refl; coherent = coherent; encodes = was; stands = stands }))
+        | inr is ↦ inr (inr (record { s = t; config_is = same; coherent = next; encodes = is; stands = after }))
       ]) goes;
   pace = pace_stepped s t first count old new coherent next below above goes early;
 }
+
+-- where only what was stored can be left, the first is kept
+pub unmoved_moments : (h : History) (s : Stored) (first : ℕ) (old new : Seen) → IsCoherent s → IsFor h s → s.manifest.next ≤ first → Goes (λ c. Encodes c s) old new → GoesFrom first (λ c. IsKept s.manifest.config c h) old new
+unmoved_moments h s first old new coherent stands below goes =
+    goes_from_encoded (λ c. IsKept s.manifest.config c h) s first old new coherent below goes (λ c is. inr (record { s = s; config_is = refl; coherent = coherent; encodes = is; stands = stands }))
+
+-- one of two that are one
+pub one_kept : (config : Fields) (h : History) (first : ℕ) (old new : Seen) → GoesFrom first (λ c. IsKept config c h ⊎ IsKept config c h) old new → GoesFrom first (λ c. IsKept config c h) old new
+one_kept config h first old new goes = goes_from_weaker (λ c. IsKept config c h ⊎ IsKept config c h) (λ c. IsKept config c h) first old new (λ c either. elim either [ inl kept ↦ kept | inr kept ↦ kept ]) goes
 
 -- a step goes on from what is stored
 pub may_advance : (view : View) (s t : Stored) (left : List (Name × List ℕ)) (headers : List NewHeader) (step : Step) → IsRunning view s → IsStep s (beside_in view) t left headers step
@@ -53,11 +64,13 @@ may_advance view s t left headers step running is = record { settled = running.s
 
 -- What is known of a step once it is carried out. The new view may have another state.
 pub record IsCarried (Tells : Type 0) (old new : View) (headers : List NewHeader) (step : Step) : Type 0 where
-  pub moments : Tells → (s t : Stored) (left : List (Name × List ℕ)) → IsRunning old s → IsStep s (beside_in old) t left headers step → (h : History) → IsFor h s → IsFor h t
-      → s.manifest.next ≤ old.state.next → t.manifest.next ≤ old.state.next + length step.objects.items + 1 → GoesFrom old.state.next (λ c. IsKept s.manifest.config c h) old.disk new.disk
+  pub moments : Tells → (s t : Stored) (left : List (Name × List ℕ)) → IsRunning old s → IsStep s (beside_in old) t left headers step → (h g : History) → IsFor h s → IsFor g t
+      → s.manifest.next ≤ old.state.next → t.manifest.next ≤ old.state.next + length step.objects.items + 1
+      → GoesFrom old.state.next (λ c. IsKept s.manifest.config c h ⊎ IsKept s.manifest.config c g) old.disk new.disk
   pub done : Tells → (s t : Stored) (left : List (Name × List ℕ)) → IsRunning old s → IsStep s (beside_in old) t left headers step → IsSettled new.disk t × HasOnly t left new.disk.directory
   pub kept : Tells → (s t : Stored) (left : List (Name × List ℕ)) → IsRunning old s → IsStep s (beside_in old) t left headers step
       → (name : Name) → Contains (part_names t) name → object new.disk.directory name ≡ object (insert_all step.objects.items old.disk.directory) name
+  pub gate : Tells → (s t : Stored) (left : List (Name × List ℕ)) → IsRunning old s → IsStep s (beside_in old) t left headers step → object new.disk.directory (gate_name t.manifest.no) ≡ Some []
   pub files : Tells → (s t : Stored) (left : List (Name × List ℕ)) → IsRunning old s → IsStep s (beside_in old) t left headers step → HasFiles s old.levels → HasFiles t new.levels
   pub levels : length new.levels ≡ length old.levels
   pub retired : new.retired ≡ old.retired

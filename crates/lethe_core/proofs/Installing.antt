@@ -1,7 +1,7 @@
 -- From the drafts of a task's outputs to the step that installs them.
-use Rattle.std.proofs.Common.{◌≡◌, ◌≤◌, ℕ, List, [], ◌++◌, Contains, Some, None, sym, ap, ◌∙◌, subst, arith}
-use Rattle.std.specs.Prelude.{IfSome}
-use Rattle.std.proofs.lemmas.List.Elements.{All-contains}
+use Rattle.std.proofs.Common.{◌≡◌, ◌≤◌, ℕ, List, [], ◌++◌, Contains, Some, None, refl, sym, ap, ◌∙◌, subst, arith}
+use Rattle.std.specs.Prelude.{All, IfSome, false}
+use Rattle.std.proofs.lemmas.List.Elements.{All-contains, All-nil}
 use Rattle.lethe_base.specs.History.{History}
 use Rattle.lethe_base.specs.Layout.{entries_of}
 use Rattle.lethe_base.specs.declared.config.Fields.{Fields}
@@ -11,17 +11,19 @@ use Rattle.lethe_base.specs.declared.pending.Pending.{Pending}
 use Rattle.lethe_build.specs.Drafts.{AreDraftsOf}
 use Rattle.lethe_build.specs.declared.draft.Draft.{Draft}
 use Rattle.lethe_cover.proofs.Lists.{all_from, flat_from, flat_in}
+use Rattle.lethe_clean.specs.Copied.{IsCopied}
 use Rattle.lethe_file.specs.Agreement.{FileAgrees}
+use Rattle.lethe_file.proofs.Joined.{filter_none}
 use Rattle.lethe_flush.specs.Made.{written_pages}
 use Rattle.lethe_follows.specs.Merged.{IsMerged, StoredMerge, entries_in, inputs_of}
 use Rattle.lethe_follows.proofs.Merging.{all_counted}
 use Rattle.lethe_install.specs.Inputs.{numbered}
-use Rattle.lethe_install.specs.Left.{left_of}
+use Rattle.lethe_install.specs.Left.{is_needed, left_of}
 use Rattle.lethe_install.specs.declared.steps.Installation.{Installation}
 use Rattle.lethe_install.proofs.Beside.{input_in}
 use Rattle.lethe_job.specs.Tasks.{AreSound, IsBegunIn, IsTaskIn, PlainTask, inputs_in}
 use Rattle.lethe_merge.specs.Merge.{merged}
-use Rattle.lethe_stored.specs.Files.{IsFile, Parts, StoredFile, file_of}
+use Rattle.lethe_stored.specs.Files.{IsFile, Parts, StoredFile, file_of, objects_of}
 use Rattle.lethe_stored.specs.Kept.{IsFor}
 use Rattle.lethe_stored.specs.Levels.{AreRising}
 use Rattle.lethe_stored.specs.Stored.{IsCoherent, Stored, count_of, pending_of}
@@ -68,17 +70,22 @@ Installs state levels task drafts written retired needed made = (s : Stored) (m 
     × IsStep s (beside ++ written_pages written drafts) t (left_of needed (numbered made.step.merged.items s.files) beside) made.headers.items made.step
     × (made.left.items ≡ names_in (left_of needed (numbered made.step.merged.items s.files) beside))
 
+-- while nothing needs any page none is left
+none_left : (files : List StoredFile) (retired : List (Name × List ℕ)) → left_of [] files retired ≡ []
+none_left files retired = filter_none (λ (named : Name × List ℕ). is_needed [] named.0) (objects_of files ++ retired)
+    (all_from (λ (named : Name × List ℕ). is_needed [] named.0 ≡ false) (objects_of files ++ retired) (λ named there. refl))
+
 -- where these pages are those of the job in flight, and the retired ones those of the store, it is a step that may be carried out
-pub next_merge : (view : View) (task : PlainTask) (drafts : List Draft) (written retired needed : List Name) (made : Installation) → Installs view.state view.levels task drafts written retired needed made
+pub next_merge : (view : View) (task : PlainTask) (drafts : List Draft) (written retired : List Name) (made : Installation) → Installs view.state view.levels task drafts written retired [] made
     → view.retired ≡ retired → loose_in view.flight ≡ written_pages written drafts → AreDraftsOf task.config (merged (entries_in (inputs_in task)) task.erases task.alone) drafts
     → (s : Stored) (m : StoredMerge) → Holds view s → IsTaskIn s m task → (t : Stored) × IsMerged s m (pending_of s) task.alone task.upto t × MayMerge view s task t made
-next_merge view task drafts written retired needed made installs there loose of s m holds is =
+next_merge view task drafts written retired made installs there loose of s m holds is =
     let Are : Fields → List StoredFile → List Pending → Type 0 = λ config files erases. AreDraftsOf config (merged (entries_in files) erases task.alone) drafts in
     let erased : Are task.config (inputs_in task) (pending_of s) = subst (Are task.config (inputs_in task)) is.erases of in
     let filed : Are task.config (inputs_of m) (pending_of s) = subst (λ files. Are task.config files (pending_of s)) (inputs_same s m task is) erased in
     let all : Are s.manifest.config (inputs_of m) (pending_of s) = subst (λ config. Are config (inputs_of m) (pending_of s)) is.config filed in
     let beside = named_in view.disk.directory view.retired in
-    let left = left_of needed (numbered made.step.merged.items s.files) beside in
+    let left = left_of [] (numbered made.step.merged.items s.files) beside in
     let next = installs s m beside holds.remembers holds.running.current holds.running.rising is (names_named view.disk.directory view.retired ∙ there)
     (subst (λ pages. AreUncited s (beside ++ pages)) loose holds.running.uncited) all in (
       next.0,
@@ -88,19 +95,20 @@ next_merge view task drafts written retired needed made installs there loose of 
         left = left;
         step_is = subst (λ pages. IsStep s (beside ++ pages) next.0 left made.headers.items made.step) (sym loose) next.2;
         left_is = next.3;
+        copied = subst (All (IsCopied next.0)) (sym (none_left (numbered made.step.merged.items s.files) beside)) (All-nil (IsCopied next.0));
       },
     )
 
 -- for the job in flight
 module _ (view : View) (flying : Flying) (flies : view.flight ≡ Some flying) (Tells : Type 0) (drafts : List Draft) (made : Installation) (outputs : AreOutputsOf Tells flying drafts) where
-  pub next_install : (task : PlainTask) (written retired needed : List Name) → Installs view.state view.levels task drafts written retired needed made → task ≡ flying.task → written ≡ names_in flying.written
+  pub next_install : (task : PlainTask) (written retired : List Name) → Installs view.state view.levels task drafts written retired [] made → task ≡ flying.task → written ≡ names_in flying.written
       → view.retired ≡ retired → Tells → (s : Stored) → Holds view s → (t : Stored) × MayMerge view s flying.task t made
-  next_install task written retired needed installs same names there told s holds =
+  next_install task written retired installs same names there told s holds =
       let tasked = subst (λ flight. IfSome flight (IsTasked s)) flies holds.running.tasked in
       let of = outputs.outputs.told told (sound_inputs s holds.remembers.coherent tasked.0 flying.task tasked.1) in
-      let its = subst (λ names. Installs view.state view.levels flying.task drafts names retired needed made) names
-      (subst (λ task. Installs view.state view.levels task drafts written retired needed made) same installs) in
-      let next = next_merge view flying.task drafts (names_in flying.written) retired needed made its there (ap loose_in flies ∙ outputs.pages) of s tasked.0 holds tasked.1 in
+      let its = subst (λ names. Installs view.state view.levels flying.task drafts names retired [] made) names
+      (subst (λ task. Installs view.state view.levels task drafts written retired [] made) same installs) in
+      let next = next_merge view flying.task drafts (names_in flying.written) retired made its there (ap loose_in flies ∙ outputs.pages) of s tasked.0 holds tasked.1 in
       (next.0, next.2)
 
 -- for the merge that is due, where no job is in flight
@@ -114,10 +122,10 @@ module _ (view : View) (task : PlainTask) (begins : (s : Stored) → Holds view 
       let begun = begins stands.stored holds in
       counted_inputs stands.stored holds.remembers.coherent begun.m task begun.is h (stands_for config h view stands runs) begun.counted
 
-  module _ (free : view.flight ≡ None) (Tells : Type 0) (drafts : List Draft) (retired needed : List Name) (made : Installation)
-      (installs : Installs view.state view.levels task drafts [] retired needed made) (there : view.retired ≡ retired)
+  module _ (free : view.flight ≡ None) (Tells : Type 0) (drafts : List Draft) (retired : List Name) (made : Installation)
+      (installs : Installs view.state view.levels task drafts [] retired [] made) (there : view.retired ≡ retired)
       (of : Tells → AreSound (inputs_in task) → AreDraftsOf task.config (merged (entries_in (inputs_in task)) task.erases task.alone) drafts) where
     pub next_outcome : Tells → (s : Stored) (holds : Holds view s) → (t : Stored) × IsMerged s (begins s holds).m (pending_of s) task.alone task.upto t × MayMerge view s task t made
     next_outcome told s holds =
         let begun = begins s holds in
-        next_merge view task drafts [] retired needed made installs there (ap loose_in free) (of told (begun_sound s holds)) s begun.m holds begun.is
+        next_merge view task drafts [] retired made installs there (ap loose_in free) (of told (begun_sound s holds)) s begun.m holds begun.is

@@ -59,6 +59,8 @@ module _ (view : View) (new : State) (like : IsLike view.state new) where
     settled = is.settled;
     only = is.only;
     uncited = is.uncited;
+    untorn = is.untorn;
+    copied = is.copied;
     rising = is.rising;
     ends = subst (EndsAt view.disk (segment_name s.active.no) s.active.no s.active.records) (sym like.end_is) is.ends;
     current = record { runs = like.stopped ∙ is.current.runs; count = like.count ∙ is.current.count };

@@ -1,5 +1,5 @@
 -- The step of a merge that was carried out.
-use Rattle.std.proofs.Common.{◌≡◌, ◌≤◌, ℕ, ◌+◌, List, ◌++◌, append-nil, length, All, None, refl, sym, ap, ◌∙◌, subst, arith}
+use Rattle.std.proofs.Common.{◌≡◌, ◌≤◌, ◌⊎◌, ℕ, ◌+◌, List, ◌++◌, append-nil, length, All, None, refl, sym, ap, ◌∙◌, subst, arith}
 use Rattle.lethe_base.specs.History.{History}
 use Rattle.lethe_base.specs.declared.config.Fields.{Fields}
 use Rattle.lethe_base.specs.declared.entry.Entry.{Entry}
@@ -17,6 +17,8 @@ use Rattle.lethe_stored.specs.Levels.{HasFiles}
 use Rattle.lethe_stored.specs.Stored.{IsCoherent, Stored, pending_of, segment_name}
 use Rattle.lethe_advance.specs.Settled.{AreDrawn, AreUncited, HasOnly, IsSettled}
 use Rattle.lethe_advance.specs.Steps.{IsStep}
+use Rattle.lethe_advance.specs.Untorn.{IsUntorn}
+use Rattle.lethe_clean.specs.Copied.{IsCopied}
 use Rattle.lethe_advance.specs.declared.new_header.NewHeader.{NewHeader}
 use Rattle.lethe_advance.specs.declared.step.Step.{Step}
 use Rattle.lethe_state.specs.Remembered.{IsCurrent, Remembers}
@@ -32,6 +34,7 @@ use Rattle.lethe_core.specs.Running.{Holds, IsRunning, IsSmall}
 use Rattle.lethe_core.specs.StandsNow.{IsCounted, StandsNow}
 use Rattle.lethe_core.specs.View.{View, beside_in}
 use Rattle.lethe_core.proofs.Beside.{named_left}
+use Rattle.lethe_core.proofs.Carried.{one_kept}
 use Rattle.lethe_core.proofs.Standing.{next_drawn, next_stands_now, stands_for, stands_holds}
 
 -- Its outcome stands for the same history
@@ -86,8 +89,8 @@ module _ (old : View) (disk : Seen) (faults : ℕ) (levels : List (List Parts)) 
         (install_remembered s t may.installed.m (pending_of s) task.alone task.upto old.state old.levels levels holds.remembers holds.running.current may.installed.merged_is refl
         may.step_is.coherent.spelled may.step_is.coherent files)
 
-    pub merged_holds : IsSettled disk t → HasOnly t may.left disk.directory → EndsAt disk (segment_name t.active.no) t.active.no t.active.records old.state.end → Holds new t
-    merged_holds settled only ends =
+    pub merged_holds : IsSettled disk t → HasOnly t may.left disk.directory → IsUntorn t disk.directory → EndsAt disk (segment_name t.active.no) t.active.no t.active.records old.state.end → Holds new t
+    merged_holds settled only untorn ends =
         let m = may.installed.m in
         let coherent = holds.remembers.coherent in
         let merge = may.installed.tasked.merge in
@@ -98,6 +101,8 @@ module _ (old : View) (disk : Seen) (faults : ℕ) (levels : List (List Parts)) 
             settled = settled;
             only = subst (λ l. HasOnly t l disk.directory) (sym same) only;
             uncited = subst (AreUncited t) (sym same) may.step_is.left_uncited;
+            untorn = untorn;
+            copied = subst (All (IsCopied t)) (sym same) may.copied;
             rising = merged_rises s coherent holds.running.rising m merge (pending_of s) task.alone task.upto t may.installed.merged_is;
             ends = ends;
             current = merged_both.1;
@@ -109,8 +114,9 @@ module _ (old : View) (disk : Seen) (faults : ℕ) (levels : List (List Parts)) 
 
   module _ (Tells : Type 0) (before : ℕ) (can : MayStep Tells old before) (from : IsStepFrom (segments_for old.state.frozen) old.state made.headers.items step)
       (merges : Tells → (s : Stored) → Holds old s → (task : PlainTask) × (t : Stored) × MayMerge old s task t made × ((config : Fields) (h : History) → StandsNow config h old → IsCounted task)) where
-    pub merge_moments : (Tells → (s t : Stored) (left : List (Name × List ℕ)) → IsRunning old s → IsStep s (beside_in old) t left made.headers.items step → (h : History) → IsFor h s → IsFor h t
-        → s.manifest.next ≤ old.state.next → t.manifest.next ≤ old.state.next + length step.objects.items + 1 → GoesFrom old.state.next (λ c. IsKept s.manifest.config c h) old.disk disk)
+    pub merge_moments : (Tells → (s t : Stored) (left : List (Name × List ℕ)) → IsRunning old s → IsStep s (beside_in old) t left made.headers.items step → (h g : History) → IsFor h s → IsFor g t
+        → s.manifest.next ≤ old.state.next → t.manifest.next ≤ old.state.next + length step.objects.items + 1
+        → GoesFrom old.state.next (λ c. IsKept s.manifest.config c h ⊎ IsKept s.manifest.config c g) old.disk disk)
         → Tells → (config : Fields) (h : History) → StandsNow config h old → GoesFrom old.state.next (λ c. IsKept config c h) old.disk disk
     merge_moments moments told config h stands =
         let s = stands.stored in
@@ -121,8 +127,9 @@ module _ (old : View) (disk : Seen) (faults : ℕ) (levels : List (List Parts)) 
         let above = from.next in
         let number_is = ap (λ (m : Manifest). m.next) next.2.step_is.manifest in
         subst (λ (fields : Fields). GoesFrom old.state.next (λ c. IsKept fields c h) old.disk disk) stands.config_is
-        (moments told s next.1 next.2.left holds.running next.2.step_is h for (installed_for h s next.0 next.1 holds.remembers.coherent for (next.3 config h stands) next.2.installed)
-        (next_drawn old s can.sound.writable stands.remembers) (omega (arith, number, above, number_is)))
+        (one_kept s.manifest.config h old.state.next old.disk disk
+        (moments told s next.1 next.2.left holds.running next.2.step_is h h for (installed_for h s next.0 next.1 holds.remembers.coherent for (next.3 config h stands) next.2.installed)
+        (next_drawn old s can.sound.writable stands.remembers) (omega (arith, number, above, number_is))))
 
     module _ (behind : Tells → (s : Stored) (task : PlainTask) (t : Stored) → Holds old s → MayMerge old s task t made → Holds new t) where
       merge_stands : Tells → (config : Fields) (h : History) → StandsNow config h old → StandsNow config h new

@@ -1,5 +1,5 @@
 -- What a step of a store comes to whose job in flight stays.
-use Rattle.std.proofs.Common.{◌≡◌, ◌≤◌, ℕ, ◌+◌, List, [], ◌++◌, length, None, refl, sym, ap, ◌∙◌, subst, arith}
+use Rattle.std.proofs.Common.{◌≡◌, ◌≤◌, ◌⊎◌, ℕ, ◌+◌, List, [], ◌++◌, length, None, refl, sym, ap, ◌∙◌, subst, arith}
 use Rattle.std.specs.Prelude.{IfSome}
 use Rattle.lethe_base.specs.History.{History}
 use Rattle.lethe_base.specs.declared.config.Fields.{Fields}
@@ -23,7 +23,7 @@ use Rattle.lethe_core.specs.Running.{Holds, IsFlying, IsRunning, IsSmall}
 use Rattle.lethe_core.specs.StandsNow.{IsCounted, StandsNow}
 use Rattle.lethe_core.specs.View.{Flying, View, beside_in, loose_in, names_beside}
 use Rattle.lethe_core.proofs.Beside.{names_beside_at}
-use Rattle.lethe_core.proofs.Carried.{IsCarried}
+use Rattle.lethe_core.proofs.Carried.{IsCarried, one_kept}
 use Rattle.lethe_core.proofs.Hindered.{drawn_on, flies_on}
 use Rattle.lethe_core.proofs.Standing.{next_drawn, next_stands_now, stands_for, stands_holds}
 
@@ -70,8 +70,9 @@ module _ (P : Stored → Stored → Type 0) (Tells : Type 0) (old : View) (heade
   module _ (new : View) (stays : (h : History) (s t : Stored) → Holds old s → IsFor h s → P s t → IsFor h t) where
     -- a crash at any moment leaves what stands for the history
     pub next_moments : (segments : ℕ) → IsStepFrom segments old.state headers step
-        → (Tells → (s t : Stored) (left : List (Name × List ℕ)) → IsRunning old s → IsStep s (beside_in old) t left headers step → (h : History) → IsFor h s → IsFor h t
-        → s.manifest.next ≤ old.state.next → t.manifest.next ≤ old.state.next + length step.objects.items + 1 → GoesFrom old.state.next (λ c. IsKept s.manifest.config c h) old.disk new.disk)
+        → (Tells → (s t : Stored) (left : List (Name × List ℕ)) → IsRunning old s → IsStep s (beside_in old) t left headers step → (h g : History) → IsFor h s → IsFor g t
+        → s.manifest.next ≤ old.state.next → t.manifest.next ≤ old.state.next + length step.objects.items + 1
+        → GoesFrom old.state.next (λ c. IsKept s.manifest.config c h ⊎ IsKept s.manifest.config c g) old.disk new.disk)
         → Tells → (config : Fields) (h : History) → StandsNow config h old → GoesFrom old.state.next (λ c. IsKept config c h) old.disk new.disk
     next_moments segments from moments told config h stands =
         let s = stands.stored in
@@ -82,7 +83,8 @@ module _ (P : Stored → Stored → Type 0) (Tells : Type 0) (old : View) (heade
         let next = from.next in
         let made = ap (λ (m : Manifest). m.next) t.2.manifest in
         subst (λ (fields : Fields). GoesFrom old.state.next (λ c. IsKept fields c h) old.disk new.disk) stands.config_is
-        (moments told s t.0 (beside_in old) holds.running t.2 h for (stays h s t.0 holds for t.1) (next_drawn old s may.sound.writable stands.remembers) (omega (arith, number, next, made)))
+        (one_kept s.manifest.config h old.state.next old.disk new.disk
+        (moments told s t.0 (beside_in old) holds.running t.2 h h for (stays h s t.0 holds for t.1) (next_drawn old s may.sound.writable stands.remembers) (omega (arith, number, next, made))))
 
     module _ (carried : IsCarried Tells old new headers step)
         (behind : Tells → (s t : Stored) → Holds old s → P s t → IsStep s (beside_in old) t (beside_in old) headers step → Holds new t) where

@@ -1,6 +1,7 @@
 -- A page of the job in flight is written beside what is stored.
-use Rattle.std.proofs.Common.{◌≡◌, ◌≤◌, ◌+◌, ℕ, List, ◌++◌, Option, Some, None, Result, Err, refl, sym, ap, ◌∙◌, subst, arith}
-use Rattle.std.specs.Prelude.{IfSome, OnErr, option_map}
+use Rattle.std.proofs.Common.{◌≡◌, ◌≤◌, ◌+◌, inl, inr, ℕ, List, [], ◌∷◌, ◌++◌, Option, Some, None, Result, Err, refl, sym, ap, ◌∙◌, subst, append_assoc, arith}
+use Rattle.std.specs.Prelude.{All, IfSome, OnErr, option_map}
+use Rattle.std.proofs.lemmas.List.Elements.{All-push}
 use Rattle.std.specs.FinMap.{insert}
 use Rattle.lethe_base.specs.History.{History}
 use Rattle.lethe_base.specs.Limits.{max_place}
@@ -20,8 +21,11 @@ use Rattle.lethe_stored.specs.Encodes.{Encodes}
 use Rattle.lethe_stored.specs.Files.{Parts}
 use Rattle.lethe_stored.specs.Kept.{IsKept}
 use Rattle.lethe_stored.specs.Numbers.{GoesFrom}
-use Rattle.lethe_stored.specs.Stored.{IsCoherent, Stored, segment_name}
+use Rattle.lethe_stored.specs.Stored.{IsCited, IsCoherent, Stored, segment_name}
+use Rattle.lethe_stored.proofs.Parts.{part_below}
 use Rattle.lethe_advance.specs.Settled.{AreDrawn, AreUncited, HasOnly, IsSettled, names_in}
+use Rattle.lethe_clean.specs.Copied.{IsCopied}
+use Rattle.lethe_clean.proofs.Stays.{beside_untorn}
 use Rattle.lethe_loose.specs.Loose.{MayRemove, MayWrite}
 use Rattle.lethe_state.specs.Remembered.{Remembers}
 use Rattle.lethe_state.specs.Writable.{IsWritable}
@@ -140,13 +144,30 @@ module _ (Tells : Type 0) (old : View) (flying : Flying) (is : old.flight ≡ So
       (done : Tells → (s : Stored) → MayWrite old.disk s (stays ++ flying.written) old.state.next → IsSettled disk s × HasOnly s (stays ++ written) disk.directory)
       (loose : (s : Stored) → IsCoherent s → s.manifest.next ≤ old.state.next → AreUncited s (stays ++ flying.written) → AreUncited s (stays ++ written))
       (more : AreDrawn old.state.next (names_in (stays ++ flying.written)) → AreDrawn (old.state.next + 1) (names_in (stays ++ written)))
-      (page : Tells → disk.directory ≡ insert old.disk.directory (page_name old.state.next) bytes) where
+      (page : Tells → disk.directory ≡ insert old.disk.directory (page_name old.state.next) bytes) (longer : written ≡ flying.written ++ (page_name old.state.next, bytes) ∷ [])
+      (copied : Tells → (s : Stored) → Holds old s → IsCopied s (page_name old.state.next, bytes)) where
     abbrev now : View
     now = record old { disk = disk; faults = faults; state = drawn old.state; flight = Some (record flying { written = written }) }
 
     segment_stays : Tells → (number : ℕ) → object disk.directory (segment_name number) ≡ object old.disk.directory (segment_name number)
     segment_stays told number = ap (λ d. object d (segment_name number)) (page told) ∙ object_beside_insert old.disk.directory (page_name old.state.next) bytes (segment_name number)
         (λ e. let clash : kinds.Segment ≡ kinds.Page = ap (λ (n : Name). n.kind) e in cc)
+
+    -- what is cited has a number that was drawn before
+    cited_unwritten : (s : Stored) → Holds old s → (name : Name) → IsCited s name → name ≡ page_name old.state.next → ⊥
+    cited_unwritten s holds name (inl gate) same = let clash : kinds.Gate ≡ kinds.Page = ap (λ (n : Name). n.kind) (sym gate ∙ same) in cc
+    cited_unwritten s holds name (inr (inl manifest)) same = let clash : kinds.Manifest ≡ kinds.Page = ap (λ (n : Name). n.kind) (sym manifest ∙ same) in cc
+    cited_unwritten s holds name (inr (inr part)) same =
+        let below = part_below s name holds.remembers.coherent part in
+        let number : name.no ≡ old.state.next = ap (λ (n : Name). n.no) same in
+        let drawn = later s holds in
+        omega (arith, below, number, drawn)
+
+    all_written : (s : Stored) → Holds old s → IsCopied s (page_name old.state.next, bytes) → All (IsCopied s) (stays ++ written)
+    all_written s holds page =
+        let before : All (IsCopied s) (stays ++ flying.written) = subst (λ f. All (IsCopied s) (stays ++ loose_in f)) is holds.running.copied in
+        let all = All-push (IsCopied s) (stays ++ flying.written) (page_name old.state.next, bytes) before page in
+        subst (λ l. All (IsCopied s) l) (append_assoc stays flying.written ((page_name old.state.next, bytes) ∷ []) ∙ ap (λ l. stays ++ l) (sym longer)) all
 
     written_running : Tells → (s : Stored) → Holds old s → IsRunning now s
     written_running told s holds =
@@ -156,6 +177,9 @@ module _ (Tells : Type 0) (old : View) (flying : Flying) (is : old.flight ≡ So
           settled = after.0;
           only = subst (λ l. HasOnly s l disk.directory) (sym same) after.1;
           uncited = subst (AreUncited s) (sym same) (loose s holds.remembers.coherent (later s holds) (uncited_written s holds));
+          untorn = beside_untorn s old.disk.directory disk.directory holds.running.untorn (λ name cited. ap (λ d. object d name) (page told)
+              ∙ object_beside_insert old.disk.directory (page_name old.state.next) bytes name (cited_unwritten s holds name cited));
+          copied = subst (All (IsCopied s)) (sym same) (all_written s holds (copied told s holds));
           rising = holds.running.rising;
           ends = ends_stay old.disk disk s old.state.end after.0 (segment_stays told s.active.no) (here told) holds.running.ends;
           current = record { runs = holds.running.current.runs; count = holds.running.current.count };

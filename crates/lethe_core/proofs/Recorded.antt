@@ -31,6 +31,10 @@ use Rattle.lethe_stored.proofs.Numbers.{goes_from_encoded, next_of}
 use Rattle.lethe_stored.proofs.Parts.{active_part}
 use Rattle.lethe_stored.proofs.Steps.{append_encodes, append_keeps, active_changed, stored_appended}
 use Rattle.lethe_advance.specs.Settled.{AreUncited, HasOnly, names_in}
+use Rattle.lethe_advance.specs.Untorn.{IsUntorn}
+use Rattle.lethe_clean.specs.Copied.{IsCopied}
+use Rattle.lethe_clean.proofs.Copied.{all_copied}
+use Rattle.lethe_clean.proofs.Stays.{record_untorn}
 use Rattle.lethe_manifest.specs.declared.manifest.Manifest.{Manifest}
 use Rattle.lethe_state.proofs.Recording.{entered_remembered}
 use Rattle.lethe_state.specs.Records.{IsNext, halted}
@@ -178,6 +182,8 @@ module _ (view : View) (s : Stored) (holds : Holds view s) (next : Record) (spel
             };
             only = subst (λ l. HasOnly (appended s next) l disk'.directory) (sym same_beside) (record { only = within; there = beside_there });
             uncited = subst (AreUncited (appended s next)) (sym same_beside) running.uncited;
+            untorn = subst (IsUntorn (appended s next)) (sym inserted) (record_untorn s view.disk.directory next coherent running.untorn);
+            copied = subst (All (IsCopied (appended s next))) (sym same_beside) (all_copied s (appended s next) refl (λ file there. there) (beside_in view) running.copied);
             rising = running.rising;
             ends = subst (EndsAt disk' (segment_name s.active.no) s.active.no (longer (addition s next))) (sym is.end_is) (subst (λ n. EndsAt disk' n s.active.no (longer (addition s next)) end) name_is ends);
             current = both.1;

@@ -1,6 +1,6 @@
 -- The pages of the job in flight are removed.
 use Rattle.std.proofs.Common.{◌≡◌, ◌≤◌, ◌<◌, ℕ, List, ◌++◌, append-nil, Option, Some, None, Result, Err, refl, sym, ◌∙◌, subst, arith}
-use Rattle.std.specs.Prelude.{Contains, IsErrOf}
+use Rattle.std.specs.Prelude.{All, Contains, IsErrOf}
 use Rattle.std.proofs.lemmas.List.{map-append}
 use Rattle.std.proofs.lemmas.List.Elements.{All-contains, Contains-append_right}
 use Rattle.lethe_base.specs.History.{History}
@@ -18,13 +18,15 @@ use Rattle.lethe_stored.specs.Stored.{IsCited, Stored, segment_name}
 use Rattle.lethe_stored.proofs.Frame.{none_of}
 use Rattle.lethe_stored.proofs.Lists.{all_left}
 use Rattle.lethe_advance.specs.Settled.{AreDrawn, AreUncited, HasOnly, IsSettled, names_in}
+use Rattle.lethe_clean.specs.Copied.{IsCopied}
+use Rattle.lethe_clean.proofs.Stays.{beside_untorn}
 use Rattle.lethe_loose.specs.Loose.{MayRemove}
 use Rattle.lethe_core.specs.Asked.{Serves, behind}
 use Rattle.lethe_core.specs.Keeps.{Keeps}
 use Rattle.lethe_core.specs.Running.{Holds, IsRunning, IsSound}
 use Rattle.lethe_core.specs.StandsNow.{IsOpenOrStopped, StandsNow}
 use Rattle.lethe_core.specs.View.{Flying, View, loose_in, named_in}
-use Rattle.lethe_core.proofs.Beside.{drawn_front, named_stays}
+use Rattle.lethe_core.proofs.Beside.{cited_apart, drawn_front, named_stays}
 use Rattle.lethe_core.proofs.Pages.{drawn_written, ends_stay, held_now, kept_moments, may_remove}
 use Rattle.lethe_core.proofs.Standing.{next_stands_now, stands_for, stands_holds}
 
@@ -63,6 +65,9 @@ module _ (Tells : Type 0) (old : View) (flying : Flying) (is : old.flight ≡ So
         settled = after.0;
         only = subst (λ l. HasOnly s l disk.directory) (sym same) after.1;
         uncited = subst (AreUncited s) (sym same) (all_left (λ (named : Name × List ℕ). IsCited s named.0 → ⊥) left flying.written may.uncited);
+        untorn = beside_untorn s old.disk.directory disk.directory holds.running.untorn (λ name cited. others told name (none_of (names_in flying.written) name (λ there. cited_apart s (left ++ flying.written) may.uncited name cited
+            (subst (λ l. Contains l name) (sym (map-append (λ (named : Name × List ℕ). named.0) left flying.written)) (Contains-append_right (names_in left) (names_in flying.written) name there)))));
+        copied = subst (All (IsCopied s)) (sym same) (all_left (IsCopied s) left flying.written (subst (λ flight. All (IsCopied s) (left ++ loose_in flight)) is holds.running.copied));
         rising = holds.running.rising;
         ends = ends_stay old.disk disk s old.state.end after.0 (segment_stays told s.active.no) (here told) holds.running.ends;
         current = holds.running.current;

@@ -1,6 +1,6 @@
 -- What stands where the disk is in the store's hands.
 use Rattle.std.proofs.Common.{◌≡◌, ◌<◌, ◌≤◌, inl, inr, ℕ, ◌+◌, [], ◌∷◌, ◌++◌, length, Option, Some, None, refl, sym, ◌∙◌, subst, arith}
-use Rattle.std.specs.Prelude.{IfSome}
+use Rattle.std.specs.Prelude.{All, IfSome}
 use Rattle.std.proofs.lemmas.List.{length_push}
 use Rattle.lethe_base.specs.History.{History, Change, AreDone, IsLegal}
 use Rattle.lethe_base.specs.Limits.{max_place}
@@ -20,7 +20,9 @@ use Rattle.lethe_stored.specs.Numbers.{GoesFrom}
 use Rattle.lethe_stored.specs.Stored.{Stored}
 use Rattle.lethe_stored.proofs.Numbers.{goes_from_encoded, goes_from_weaker}
 use Rattle.lethe_advance.specs.Settled.{AreUncited, HasOnly}
+use Rattle.lethe_advance.specs.Untorn.{IsUntorn}
 use Rattle.lethe_advance.proofs.Standing.{settled_back}
+use Rattle.lethe_clean.specs.Copied.{IsCopied}
 use Rattle.lethe_state.specs.Remembered.{Remembers}
 use Rattle.lethe_state.specs.Writable.{IsWritable}
 use Rattle.lethe_state.specs.declared.state.State.{State}
@@ -150,6 +152,8 @@ module _ (old new : View) (back : IsTakenBack old.disk new.disk) where
     settled = settled_back old.disk new.disk s back running.settled;
     only = subst (λ d. HasOnly s (beside_at d old.retired old.flight) d) (sym back.directory) running.only;
     uncited = subst (λ d. AreUncited s (beside_at d old.retired old.flight)) (sym back.directory) running.uncited;
+    untorn = subst (IsUntorn s) (sym back.directory) running.untorn;
+    copied = subst (λ d. All (IsCopied s) (beside_at d old.retired old.flight)) (sym back.directory) running.copied;
     rising = running.rising;
     ends = record {
       ascends = running.ends.ascends;

@@ -1,11 +1,12 @@
 -- A freeze and a flush that were carried out: what is stored next is held.
-use Rattle.std.proofs.Common.{◌≡◌, ◌+◌, false, List, ◌++◌, length, All, AllPairs, Option, Some, None, refl, sym, ap, ◌∙◌, subst, arith}
-use Rattle.std.specs.Prelude.{◌==◌, IfSome, IsSome, filter}
+use Rattle.std.proofs.Common.{◌≡◌, ◌+◌, ℕ, false, List, ◌++◌, length, All, AllPairs, Option, Some, None, refl, sym, ap, ◌∙◌, subst, arith}
+use Rattle.std.specs.Prelude.{◌==◌, Contains, IfSome, IsSome, filter}
 use Rattle.std.specs.declared.cmp.Ordering.TheVariants.{Less}
 use Rattle.std.proofs.lemmas.Bool.{ne_eqb}
-use Rattle.std.proofs.lemmas.List.Elements.{All-weaker, filter-append}
+use Rattle.std.proofs.lemmas.List.Elements.{All-weaker, Contains-append_right, filter-append}
 use Rattle.lethe_base.specs.Keys.{key_cmp}
 use Rattle.lethe_base.specs.declared.config.Fields.{Fields}
+use Rattle.lethe_base.specs.declared.name.Name.{Name}
 use Rattle.lethe_disk.specs.Disk.{Image}
 use Rattle.lethe_file.proofs.Joined.{filter_none}
 use Rattle.lethe_header.specs.Facts.{least_key, greatest_key}
@@ -19,8 +20,12 @@ use Rattle.lethe_stored.specs.Levels.{AreRising, HasFiles}
 use Rattle.lethe_stored.specs.Stored.{Stored, Segment, segment_name}
 use Rattle.lethe_advance.specs.Settled.{AreUncited, HasOnly, IsSettled}
 use Rattle.lethe_advance.specs.Steps.{IsStep}
+use Rattle.lethe_advance.specs.Untorn.{IsUntorn}
 use Rattle.lethe_advance.specs.declared.new_header.NewHeader.{NewHeader}
 use Rattle.lethe_advance.specs.declared.step.Step.{Step}
+use Rattle.lethe_clean.specs.Copied.{IsCopied}
+use Rattle.lethe_clean.proofs.Copied.{all_copied}
+use Rattle.lethe_clean.proofs.Stays.{step_untorn}
 use Rattle.lethe_state.specs.Remembered.{IsCurrent, IsFrozenIn, Remembers}
 use Rattle.lethe_state.specs.Room.{IsFlushed, IsFrozen, IsFrozenWith, frozen_len, unfrozen}
 use Rattle.lethe_state.specs.declared.state.State.{State}
@@ -89,6 +94,14 @@ flushed_tasked s t is flying tasked = subst (λ x. IsTasked x flying) (sym is.is
 frozen_tasked : (s t : Stored) → s.frozen ≡ None → IsFrozen s t → (flying : Flying) → IsTasked s flying → IsTasked t flying
 frozen_tasked s t none is flying tasked = subst (λ x. IsTasked x flying) (sym is.is) (tasked.0, task_frozen s tasked.0 flying.task tasked.1 none is.segment (is.segment + 1))
 
+-- copied pages stay so
+flushed_copied : (s t : Stored) → IsFlushed s t → (loose : List (Name × List ℕ)) → All (IsCopied s) loose → All (IsCopied t) loose
+flushed_copied s t is loose copied = all_copied s t (ap (λ (x : Stored). x.manifest.config.levels) is.is) (λ file there.
+    subst (λ (x : Stored). Contains x.files file) (sym is.is) (Contains-append_right is.made s.files file there)) loose copied
+
+frozen_copied : (s t : Stored) → IsFrozen s t → (loose : List (Name × List ℕ)) → All (IsCopied s) loose → All (IsCopied t) loose
+frozen_copied s t is loose copied = all_copied s t (ap (λ (x : Stored). x.manifest.config.levels) is.is) (λ file there. subst (λ (x : Stored). Contains x.files file) (sym is.is) there) loose copied
+
 if_tasked : (s t : Stored) (flight : Option Flying) → ((flying : Flying) → IsTasked s flying → IsTasked t flying) → IfSome flight (IsTasked s) → IfSome flight (IsTasked t)
 if_tasked s t None stays is = tt
 if_tasked s t (Some flying) stays is = stays flying is
@@ -120,11 +133,17 @@ module _ (Tells : Type 0) (s t : Stored) (old new : View) (headers : List NewHea
   same_beside : beside_in new ≡ beside_in old
   same_beside = (λ i. beside_at new.disk.directory (carried.retired i) (carried.flight i)) ∙ beside_stays old.disk.directory new.disk.directory old.retired old.flight done.1.there
 
-  next_running : IsCurrent t new.state → EndsAt new.disk (segment_name t.active.no) t.active.no t.active.records new.state.end → AreRising t.files → ((flying : Flying) → IsTasked s flying → IsTasked t flying) → IsRunning new t
-  next_running current ends rising stays = record {
+  next_untorn : IsUntorn t new.disk.directory
+  next_untorn = step_untorn s t (beside_in old) (beside_in old) headers step old.disk.directory new.disk.directory holds.remembers.coherent is holds.running.only holds.running.untorn
+      (carried.kept told s t (beside_in old) holds.running is) (carried.gate told s t (beside_in old) holds.running is)
+
+  next_running : IsCurrent t new.state → EndsAt new.disk (segment_name t.active.no) t.active.no t.active.records new.state.end → AreRising t.files → ((flying : Flying) → IsTasked s flying → IsTasked t flying) → All (IsCopied t) (beside_in old) → IsRunning new t
+  next_running current ends rising stays copied = record {
     settled = done.0;
     only = subst (λ l. HasOnly t l new.disk.directory) (sym same_beside) done.1;
     uncited = subst (AreUncited t) (sym same_beside) is.left_uncited;
+    untorn = next_untorn;
+    copied = subst (All (IsCopied t)) (sym same_beside) copied;
     rising = rising;
     ends = ends;
     current = current;
@@ -140,7 +159,7 @@ module _ (Tells : Type 0) (s t : Stored) (old new : View) (headers : List NewHea
       record {
         remembers = both.0;
         running = next_running both.1 (subst (EndsAt new.disk (segment_name t.active.no) t.active.no t.active.records) (sym (ap (λ (state : State). state.end) state_is)) ends)
-            (flushed_rising s t flushed holds.running.rising) (flushed_tasked s t flushed);
+            (flushed_rising s t flushed holds.running.rising) (flushed_tasked s t flushed) (flushed_copied s t flushed (beside_in old) holds.running.copied);
       }
 
   pub frozen_holds : IsFrozen s t → old.state.frozen ≡ None → IsFrozenWith step.manifest old.state new.state → Holds new t
@@ -152,5 +171,5 @@ module _ (Tells : Type 0) (s t : Stored) (old new : View) (headers : List NewHea
       record {
         remembers = other_files t new.state old.levels new.levels files both.0;
         running = next_running both.1 (subst (EndsAt new.disk (segment_name t.active.no) t.active.no t.active.records) (sym with.end_is) ends)
-            (frozen_rising s t frozen holds.running.rising) (frozen_tasked s t without frozen);
+            (frozen_rising s t frozen holds.running.rising) (frozen_tasked s t without frozen) (frozen_copied s t frozen (beside_in old) holds.running.copied);
       }

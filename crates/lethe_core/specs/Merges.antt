@@ -1,5 +1,5 @@
 -- The merges that a store carries out itself, one after another, where a caller makes room.
-use Rattle.std.specs.Prelude.{◌≡◌, ◌⊎◌, ◌≤◌, ℕ, ◌+◌, ◌*◌, List, [], ◌∷◌, length, sum_by, Option, Some, None}
+use Rattle.std.specs.Prelude.{◌≡◌, ◌⊎◌, ◌≤◌, ℕ, ◌+◌, ◌*◌, List, [], ◌∷◌, length, sum_by, All, Option, Some, None}
 use Rattle.std.specs.List.{AllZip}
 use Rattle.lethe_base.specs.Limits.{max_place}
 use Rattle.lethe_base.specs.declared.name.Name.{Name}
@@ -14,6 +14,7 @@ use Rattle.lethe_stored.specs.Files.{StoredFile}
 use Rattle.lethe_stored.specs.Stored.{Stored, layout_of, pending_of}
 use Rattle.lethe_advance.specs.Settled.{names_in}
 use Rattle.lethe_advance.specs.Steps.{IsStep}
+use Rattle.lethe_clean.specs.Copied.{IsCopied}
 use Rattle.lethe_install.specs.declared.steps.Installation.{Installation}
 use Rattle.lethe_state.specs.Room.{HasRoom, IsFrozen, IsUnfrozen}
 use Rattle.lethe_job.specs.Tasks.{PlainTask, IsBegunIn, IsCitedAs, IsTaskIn, counted_in, inputs_in, pages_in}
@@ -35,12 +36,13 @@ pub record IsInstalled (s : Stored) (task : PlainTask) (t : Stored) : Type 0 whe
   pub tasked : IsTaskIn s m task
   pub merged_is : IsMerged s m (pending_of s) task.alone task.upto t
 
--- The step from what is stored to the outcome of a task, behind which no page of a job is loose.
+-- The step from what is stored to the outcome of a task, behind which no page of a job is loose, and what is left has no put but those of stored files.
 pub record MayMerge (view : View) (s : Stored) (task : PlainTask) (t : Stored) (made : Installation) : Type 0 where
   pub installed : IsInstalled s task t
   pub left : List (Name × List ℕ)
   pub step_is : IsStep s (beside_in view) t left made.headers.items made.step
   pub left_is : made.left.items ≡ names_in left
+  pub copied : All (IsCopied t) left
 
 -- the merge that is due, with its outcome
 pub record IsOutcome (s : Stored) (outcome : Outcome) : Type 0 where

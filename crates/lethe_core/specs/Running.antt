@@ -6,6 +6,8 @@ use Rattle.lethe_follows.specs.Merged.{StoredMerge}
 use Rattle.lethe_stored.specs.Levels.{AreRising}
 use Rattle.lethe_stored.specs.Stored.{Stored, segment_name}
 use Rattle.lethe_advance.specs.Settled.{IsSettled, HasOnly, AreDrawn, AreUncited}
+use Rattle.lethe_advance.specs.Untorn.{IsUntorn}
+use Rattle.lethe_clean.specs.Copied.{IsCopied}
 use Rattle.lethe_state.specs.Remembered.{Remembers, IsCurrent}
 use Rattle.lethe_state.specs.Room.{frozen_len}
 use Rattle.lethe_state.specs.Writable.{IsWritable}
@@ -17,12 +19,14 @@ use Rattle.lethe_core.specs.View.{Flying, View, beside_in, names_beside}
 abbrev pub IsTasked : Stored → Flying → Type 0
 IsTasked s flying = (m : StoredMerge) × IsTaskIn s m flying.task
 
--- The disk is in the store's hands: its one image is what is stored, and beside it the retired pages and those of the job in flight, and nothing else. The next record goes
--- behind the end of the active segment, and nothing has failed since.
+-- The disk is in the store's hands: its one image is what is stored, untorn, and beside it the retired pages and those of the job in flight, which have no put but those of
+-- stored files, and nothing else. The next record goes behind the end of the active segment, and nothing has failed since.
 pub record IsRunning (view : View) (s : Stored) : Type 0 where
   pub settled : IsSettled view.disk s
   pub only : HasOnly s (beside_in view) view.disk.directory
   pub uncited : AreUncited s (beside_in view)
+  pub untorn : IsUntorn s view.disk.directory
+  pub copied : All (IsCopied s) (beside_in view)
   pub rising : AreRising s.files
   pub ends : EndsAt view.disk (segment_name s.active.no) s.active.no s.active.records view.state.end
   pub current : IsCurrent s view.state

@@ -1,11 +1,13 @@
 //! Freezing, flushing and making room, as steps of a call.
-ghost use Rattle.std.specs.Prelude.{◌≡◌, ◌≤◌, ◌<◌, ◌+◌, ◌⊎◌, ℕ, List, None, length, Contains, All, IfErr, IsOk, IsSome, OnOk};
+ghost use Rattle.std.specs.Prelude.{◌≡◌, ◌≤◌, ◌<◌, ◌+◌, ◌⊎◌, ℕ, List, [], None, Some, length, Contains, All, IfErr, IsErrOf, IsOk, IsSome, OnOk};
 ghost use Rattle.std.specs.Result.{result_err};
 ghost use Rattle.lethe_base.specs.declared.name.Name.{Name};
 ghost use Rattle.lethe_base.specs.History.{History};
+ghost use Rattle.lethe_base.specs.declared.refused.Refused.TheVariants as refused;
 ghost use Rattle.lethe_disk.specs.Directory.{object};
 ghost use Rattle.lethe_header.specs.Headers as header;
 ghost use Rattle.lethe_manifest.specs.Manifests.{HasSpelling};
+ghost use Rattle.lethe_commit.specs.Gates.{gate_name};
 ghost use Rattle.lethe_commit.specs.Place.{insert_all};
 ghost use Rattle.lethe_stored.specs.Kept.{IsFor, IsKept};
 ghost use Rattle.lethe_stored.specs.Levels.{HasFiles};
@@ -129,14 +131,24 @@ impl<D: Disk> Core<D> {
         requires headers { All (λ new. header.HasSpelling new.header) headers.items }
         requires levels { All (λ new. new.level ≤ self.old.state.manifest.config.levels) headers.items }
         requires step { D.tells → (s t : Stored) × (left : List (Name × List ℕ)) × IsRunning (view_of self.old) s × IsStep s (beside_in (view_of self.old)) t left headers.items step.now }
+
+        // What was stored may stand for one history, and what is stored next for another: then each crash leaves what is kept for one of the two.
         ensures moments { D.tells → (s t : Stored) (left : List (Name × List ℕ)) → IsRunning (view_of self.old) s → IsStep s (beside_in (view_of self.old)) t left headers.items step.now
-            → (h : History) → IsFor h s → IsFor h t → s.manifest.next ≤ self.old.state.next → t.manifest.next ≤ self.old.state.next + length step.now.objects.items + 1
+            → (h g : History) → IsFor h s → IsFor g t → s.manifest.next ≤ self.old.state.next → t.manifest.next ≤ self.old.state.next + length step.now.objects.items + 1
+            → GoesFrom self.old.state.next (λ c. IsKept s.manifest.config c h ⊎ IsKept s.manifest.config c g) (D.seen self.old.disk) (D.seen self.new.disk) }
+
+        // Where there was no memory it is what is kept for the first.
+        ensures unmoved { D.tells → (s t : Stored) (left : List (Name × List ℕ)) → IsRunning (view_of self.old) s → IsStep s (beside_in (view_of self.old)) t left headers.items step.now
+            → (h : History) → IsFor h s → s.manifest.next ≤ self.old.state.next → IsErrOf result refused.NoMemory
             → GoesFrom self.old.state.next (λ c. IsKept s.manifest.config c h) (D.seen self.old.disk) (D.seen self.new.disk) }
+
         ensures done { D.tells → (s t : Stored) (left : List (Name × List ℕ)) → IsRunning (view_of self.old) s → IsStep s (beside_in (view_of self.old)) t left headers.items step.now
             → OnOk result (IsSettled (D.seen self.new.disk) t × HasOnly t left (D.seen self.new.disk).directory) }
         ensures kept { D.tells → (s t : Stored) (left : List (Name × List ℕ)) → IsRunning (view_of self.old) s → IsStep s (beside_in (view_of self.old)) t left headers.items step.now
             → OnOk result ((name : Name) → Contains (part_names t) name
             → object (D.seen self.new.disk).directory name ≡ object (insert_all step.now.objects.items (D.seen self.old.disk).directory) name) }
+        ensures gate { D.tells → (s t : Stored) (left : List (Name × List ℕ)) → IsRunning (view_of self.old) s → IsStep s (beside_in (view_of self.old)) t left headers.items step.now
+            → OnOk result (object (D.seen self.new.disk).directory (gate_name t.manifest.no) ≡ Some []) }
         ensures files { D.tells → (s t : Stored) (left : List (Name × List ℕ)) → IsRunning (view_of self.old) s → IsStep s (beside_in (view_of self.old)) t left headers.items step.now
             → HasFiles s (parts_by_level self.old.version) → OnOk result (HasFiles t (parts_by_level self.new.version)) }
         ensures state { OnOk result (self.new.state ≡ self.old.state) }

@@ -7,6 +7,7 @@ ghost use Rattle.lethe_base.specs.Limits.{max_place};
 ghost use Rattle.lethe_base.specs.declared.config.Fields.{Fields};
 ghost use Rattle.lethe_base.specs.declared.refused.Refused.TheVariants as refused;
 ghost use Rattle.lethe_build.specs.Drafts.{numbers_for};
+ghost use Rattle.lethe_clean.specs.Copied.{IsCopied};
 ghost use Rattle.lethe_disk.specs.Disk.{IsIdle};
 ghost use Rattle.lethe_file.specs.Agreement.{page_name};
 ghost use Rattle.lethe_stored.specs.Stored.{Stored};
@@ -77,10 +78,11 @@ impl<D: Disk> Core<D> {
         }))
     }
 
-    /// Writes the next page of the job in flight, under the next number, and syncs.
+    /// Writes the next page of the job in flight, under the next number, and syncs. The page has no put but those of stored files.
     pub fn write_now(&mut self, before: u64, bytes: &[u8]) -> Result<(), Refused>
         requires may { MayStep D.tells (view_of self.old) before }
         requires flies { IsSome self.old.flight }
+        requires copied { D.tells → (s : Stored) → Holds (view_of self.old) s → IsCopied s (page_name self.old.state.next, bytes.now) }
         ensures keeps { Keeps D.tells (view_of self.old) (view_of self.new) (result_err result) }
         ensures undone { IfErr result (IsUndone D.tells (view_of self.old) (view_of self.new)) }
         ensures held { D.tells → (s : Stored) → Holds (view_of self.old) s → OnOk result (Holds (view_of self.new) s) }

@@ -30,12 +30,12 @@ use Rattle.lethe_core.proofs.Beside.{drawn_front}
 use Rattle.lethe_engine.specs.Jobs.{IsNextPage, next_bytes, written_face}
 
 -- the value, where there is one
-some_there : {X : Type 0} (P : X → Type 0) (o : Option X) → IsSome o → IfSome o P → (x : X) × (o ≡ Some x) × P x
+pub some_there : {X : Type 0} (P : X → Type 0) (o : Option X) → IsSome o → IfSome o P → (x : X) × (o ≡ Some x) × P x
 some_there P None some is = absurd cc
 some_there P (Some x) some is = (x, refl, is)
 
 -- what is said of it
-some_at : {X : Type 0} (P : X → Type 0) (o : Option X) (x : X) → o ≡ Some x → IfSome o P → P x
+pub some_at : {X : Type 0} (P : X → Type 0) (o : Option X) (x : X) → o ≡ Some x → IfSome o P → P x
 some_at P o x is = subst (λ o. IfSome o P) is
 
 -- the first pages with one more are the first pages

@@ -8,3 +8,5 @@ pub mod Onward
 pub mod AtWork
 pub mod Calls
 pub mod Faces
+pub mod Copying
+pub mod Clean

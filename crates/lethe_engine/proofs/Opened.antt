@@ -1,6 +1,6 @@
 -- A store that was opened.
 use Rattle.std.proofs.Common.{◌≡◌, ◌≤◌, ◌+◌, ◌⊎◌, inl, inr, ℕ, ◌<◌, List, [], ◌++◌, length, Option, None, refl, sym, ap, ◌∙◌, subst, arith}
-use Rattle.std.specs.Prelude.{◌≢◌}
+use Rattle.std.specs.Prelude.{◌≢◌, All}
 use Rattle.std.proofs.lemmas.List.Elements.{All-nil}
 use Rattle.lethe_base.specs.History.{History, Change}
 use Rattle.lethe_base.specs.declared.config.Fields.{Fields}
@@ -23,6 +23,8 @@ use Rattle.lethe_stored.specs.Numbers.{IsNextNumber}
 use Rattle.lethe_stored.specs.Stored.{Stored, IsCited, segment_name}
 use Rattle.lethe_tile.proofs.Orders.{pairs_nil}
 use Rattle.lethe_advance.specs.Settled.{AreDrawn, AreUncited, IsSettled, HasOnly, names_in}
+use Rattle.lethe_advance.specs.Untorn.{IsUntorn}
+use Rattle.lethe_clean.specs.Copied.{IsCopied}
 use Rattle.lethe_manifest.specs.declared.manifest.Manifest.{Manifest}
 use Rattle.lethe_state.specs.Remembered.{IsCurrent, IsFresh, Remembers}
 use Rattle.lethe_state.specs.Room.{frozen_len}
@@ -39,12 +41,14 @@ abbrev pub fresh_view : Seen → ℕ → List Name → ℕ → State → List (L
 fresh_view disk faults retired begun state levels = record { disk = disk; faults = faults; state = state; levels = levels; retired = retired; flight = None; begun = begun }
 
 pub opened_running : (disk : Seen) (faults : ℕ) (retired : List Name) → retired ≡ [] → (begun : ℕ) (s : Stored) (state : State) (levels : List (List Parts))
-    → IsSettled disk s → HasOnly s [] disk.directory → AreRising s.files → s.active.records ≡ []
+    → IsSettled disk s → HasOnly s [] disk.directory → IsUntorn s disk.directory → AreRising s.files → s.active.records ≡ []
     → EndsAt disk (segment_name s.active.no) s.active.no [] 11 → state.end ≡ 11 → IsCurrent s state → IsRunning (fresh_view disk faults retired begun state levels) s
-opened_running disk faults retired empty begun s state levels settled only rising none ends end_is current = record {
+opened_running disk faults retired empty begun s state levels settled only untorn rising none ends end_is current = record {
   settled = settled;
   only = subst (λ retired. HasOnly s (beside_at disk.directory retired None) disk.directory) (sym empty) only;
   uncited = subst (λ retired. AreUncited s (beside_at disk.directory retired None)) (sym empty) (All-nil (λ (named : Name × List ℕ). IsCited s named.0 → ⊥));
+  untorn = untorn;
+  copied = subst (λ retired. All (IsCopied s) (beside_at disk.directory retired None)) (sym empty) (All-nil (IsCopied s));
   rising = rising;
   ends = subst (EndsAt disk (segment_name s.active.no) s.active.no s.active.records) (sym end_is) (subst (λ records. EndsAt disk (segment_name s.active.no) s.active.no records 11) (sym none) ends);
   current = current;

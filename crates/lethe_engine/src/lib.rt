@@ -4,9 +4,11 @@
 mod changing;
 mod engine;
 mod jobs;
+mod laws;
 mod reading;
 mod telling;
 mod working;
 
 pub use engine::{Engine, OpenRefused};
+pub use laws::standing_is_clean;
 pub use telling::Stat;

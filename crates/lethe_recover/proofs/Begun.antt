@@ -15,14 +15,14 @@ use Rattle.lethe_manifest.specs.Manifests.{HasSpelling, manifest_bytes}
 use Rattle.lethe_commit.specs.Clear.{ArePresent, IsCleared, remove_all}
 use Rattle.lethe_commit.specs.Gates.{gate_name}
 use Rattle.lethe_commit.specs.Switch.{manifest_name, HasGreatest, IsFree, HasNew, IsSwitched, switched}
-use Rattle.lethe_commit.proofs.Exchange.{beside_placed}
+use Rattle.lethe_commit.proofs.Exchange.{beside_placed, placed_gate}
 use Rattle.lethe_commit.proofs.Listed.{listed}
 use Rattle.lethe_commit.proofs.Removals.{all_absent, cleared_absent}
 use Rattle.lethe_stored.specs.Stored.{Stored, IsCited, IsCoherent, segment_name, part_names}
 use Rattle.lethe_stored.specs.Encodes.{Encodes, HasParts, HasObject}
 use Rattle.lethe_disk.specs.Goes.{Goes}
 use Rattle.lethe_advance.specs.Settled.{IsSettled, HasOnly}
-use Rattle.lethe_recover.specs.There.{IsWhole}
+use Rattle.lethe_advance.specs.Untorn.{IsUntorn}
 use Rattle.lethe_recover.specs.New.{first_manifest, new_stored}
 use Rattle.lethe_stored.proofs.Frame.{gate≢segment, manifest≢segment}
 use Rattle.std.proofs.lemmas.List.Elements.{All-nil}
@@ -30,6 +30,7 @@ use Rattle.lethe_stored.proofs.Parts.{active_part}
 use Rattle.lethe_stored.proofs.Firsts.{empty_is_stored}
 use Rattle.lethe_stored.proofs.Steps.{first_switch_encodes}
 use Rattle.lethe_recover.proofs.Uncited.{all_present, apart_keys}
+use Rattle.lethe_recover.proofs.Untorn.{one_untorn}
 use Rattle.lethe_disk.proofs.Going.{goes_leads}
 
 true≢false : true ≡ false → ⊥
@@ -122,14 +123,20 @@ module _ (config : Fields) (limits : IsConfig config) where
                 same_all : (e c : Directory) → IsCleared [] e c → e ≡ c
                 same_all e c cleared = sym (same_directory c e (λ name. cleared.others name tt))
 
-            pub settled_new : Image s3 s3.directory → s3.directory ≡ switched 2 (manifest_bytes (first_manifest config)) None s2.directory → s4.directory ≡ s3.directory → IsSynced s4 → IsSettled s4 t × HasOnly t [] s4.directory × IsWhole t s4.directory
+            pub settled_new : Image s3 s3.directory → s3.directory ≡ switched 2 (manifest_bytes (first_manifest config)) None s2.directory → s4.directory ≡ s3.directory → IsSynced s4
+                → IsSettled s4 t × HasOnly t [] s4.directory × IsUntorn t s4.directory
             settled_new here switched_is cleared_is synced_now = (
               record { synced = synced_now; coherent = new_is_coherent; encodes = subst (λ x. Encodes x t) (sym cleared_is) (image_new s3.directory here) },
               subst (HasOnly t []) (sym cleared_is) (record { only = λ name there. inl (only name there); there = All-nil (HasObject s3.directory) }),
-              ap (λ x. object x (segment_name 1)) (cleared_is ∙ switched_is) ∙ beside_placed 2 (manifest_bytes (first_manifest config)) s2.directory (segment_name 1) ((λ k. manifest≢segment 2 1 (sym k)), ((λ k. gate≢segment 2 1 (sym k)), tt))
-                  ∙ ap (λ x. object x (segment_name 1)) done ∙ object_inserted s1.directory (segment_name 1) (segment_bytes 1 []),
+              one_untorn t s4.directory refl (ap (λ x. object x (gate_name 2)) (cleared_is ∙ switched_is) ∙ placed_gate 2 (manifest_bytes (first_manifest config)) s2.directory) plain,
             )
               where
+                plain : object s4.directory (segment_name 1) ≡ Some (segment_bytes 1 [])
+                plain =
+                    ap (λ x. object x (segment_name 1)) (cleared_is ∙ switched_is)
+                    ∙ beside_placed 2 (manifest_bytes (first_manifest config)) s2.directory (segment_name 1) ((λ k. manifest≢segment 2 1 (sym k)), ((λ k. gate≢segment 2 1 (sym k)), tt))
+                    ∙ ap (λ x. object x (segment_name 1)) done ∙ object_inserted s1.directory (segment_name 1) (segment_bytes 1 [])
+
                 only : (name : Name) → IsSome (object s3.directory name) → IsCited t name
                 only name there = elim (name_cases name (gate_name 2)) [
                   | inl is_gate ↦ inl is_gate

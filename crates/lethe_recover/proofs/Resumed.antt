@@ -26,6 +26,7 @@ use Rattle.lethe_manifest.specs.declared.manifest.Cited.{Cited}
 use Rattle.lethe_manifest.specs.declared.manifest.Manifest.{Manifest}
 use Rattle.lethe_commit.specs.declared.objects.Object.{Object}
 use Rattle.lethe_commit.specs.Append.{EndsAt}
+use Rattle.lethe_commit.specs.Gates.{gate_name}
 use Rattle.lethe_commit.specs.Place.{insert_all}
 use Rattle.lethe_commit.specs.Switch.{HasGreatest}
 use Rattle.lethe_commit.proofs.Creations.{object_contained}
@@ -63,6 +64,7 @@ use Rattle.lethe_recover.specs.declared.opening.OpenWhy.{OpenWhy}
 use Rattle.lethe_recover.specs.declared.opening.OpenWhy.TheVariants.{Damaged, OtherConfig, Fault, Exhausted, NoMemory}
 use Rattle.lethe_recover.specs.declared.reopening.Reopening.{Reopening}
 use Rattle.lethe_recover.proofs.Pending.{pending_is}
+use Rattle.lethe_recover.proofs.Untorn.{one_untorn, active_plain}
 
 pub quiet_synced : (old new : Seen) → IsQuiet old new → IsSynced old → IsSynced new
 quiet_synced old new quiet synced c here =
@@ -150,12 +152,12 @@ module _ {D Page Port : Type 0} {kind : Ghosts D Page Port} (config : Fields) (d
   pub ends_of : (s : Stored) (opened : Opened D Page Port kind) → IsThere disk s opened → EndsAt disk (segment_name s.active.no) s.active.no [] 11
   ends_of s opened there = record {
     ascends = tt;
-    spelled = λ c here. ap (λ x. object x (segment_name s.active.no)) (there.settled.synced c here) ∙ there.whole ∙ ap (λ l. Some (segment_bytes s.active.no l)) there.told.active;
+    spelled = λ c here. ap (λ x. object x (segment_name s.active.no)) (there.settled.synced c here) ∙ active_plain s disk.directory there.untorn ∙ ap (λ l. Some (segment_bytes s.active.no l)) there.told.active;
     place = empty_long s.active.no;
   }
 
   abbrev pub opened_of : (start : Directory) (s : Stored) (opened : Opened D Page Port kind) → IsOpenedAs config start s → s.manifest.config ≡ config → IsThere disk s opened → IsOpened config start disk opened
-  opened_of start s opened same config_is there = record { s = s; opened_as = same; settled = there.settled; only = there.only; rising = there.rising; config_is = config_is; told = there.told; ends = ends_of s opened there }
+  opened_of start s opened same config_is there = record { s = s; opened_as = same; settled = there.settled; only = there.only; untorn = there.untorn; rising = there.rising; config_is = config_is; told = there.told; ends = ends_of s opened there }
 
   abbrev pub new_opened : (start : Directory) → HasGreatest None start → (opened : Opened D Page Port kind) → IsThere disk (new_stored config) opened → IsOpened config start disk opened
   new_opened start none opened there = opened_of start (new_stored config) opened (inl (none, refl)) refl there
@@ -298,17 +300,19 @@ module _ {D Page Port : Type 0} {kind : Ghosts D Page Port} (s : Stored) (made :
   told_next version files = record { manifest = is.step.manifest; files = files; frozen = refl; active = refl; erases = sym (pending_again s [] (λ erase none. absurd (none_in erase none))) }
 
   pub reopened_of : (d : Directory) → HasOnly s [] d → AreRising s.files → (disk : Seen) (version : Version D Page Port kind) → IsSettled disk (next_stored s made is) → HasOnly (next_stored s made is) [] disk.directory
-      → ((name : Name) → Contains (part_names (next_stored s made is)) name → object disk.directory name ≡ object (insert_all made.step.objects.items d) name) → HasFiles (next_stored s made is) (parts_by_level version)
-      → IsReopened s disk (record { manifest = made.step.manifest; version = version })
-  reopened_of d only rising disk version settled alone kept files =
+      → ((name : Name) → Contains (part_names (next_stored s made is)) name → object disk.directory name ≡ object (insert_all made.step.objects.items d) name) → object disk.directory (gate_name (next_stored s made is).manifest.no) ≡ Some []
+      → HasFiles (next_stored s made is) (parts_by_level version) → IsReopened s disk (record { manifest = made.step.manifest; version = version })
+  reopened_of d only rising disk version settled alone kept gate files =
+      let t = next_stored s made is in
       let found = from_map (λ (object : Object). (object.name, object.bytes)) made.step.objects.items (segment_name is.segment, segment_bytes is.segment []) is.segment_is in
-      let written = object_contained made.step.objects.items d found.0 found.1 (written_absent s (next_stored s made is) [] [] made.headers.items made.step coherent is.step d only) in
+      let written = object_contained made.step.objects.items d found.0 found.1 (written_absent s t [] [] made.headers.items made.step coherent is.step d only) in
       let whole : object (insert_all made.step.objects.items d) (segment_name is.segment) ≡ Some (segment_bytes is.segment []) =
       sym (ap (λ (named : Name × List ℕ). object (insert_all made.step.objects.items d) named.0) found.2) ∙ written ∙ ap (λ (named : Name × List ℕ). Some named.1) found.2 in
+      let untorn = one_untorn t disk.directory refl gate (kept (segment_name is.segment) (active_part t) ∙ whole) in
       record {
-        t = next_stored s made is;
+        t = t;
         reopened_as = is.reopened_as;
-        there = record { settled = settled; only = alone; rising = still_rising is.files s.files is.level rising; whole = kept (segment_name is.segment) (active_part (next_stored s made is)) ∙ whole; told = told_next version files };
+        there = record { settled = settled; only = alone; rising = still_rising is.files s.files is.level rising; untorn = untorn; told = told_next version files };
         config_is = refl;
         stands = is.stands;
       }

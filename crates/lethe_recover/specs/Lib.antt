@@ -1,5 +1,4 @@
 pub mod New
-pub mod There
 pub mod Cited
 pub mod Leveled
 pub mod Journals

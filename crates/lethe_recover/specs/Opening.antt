@@ -17,6 +17,7 @@ use Rattle.lethe_stored.specs.Kept.{IsFor, IsKept}
 use Rattle.lethe_stored.specs.Left.{IsHistoryOr, IsKeptOr}
 use Rattle.lethe_stored.specs.Levels.{AreRising, HasFiles}
 use Rattle.lethe_advance.specs.Settled.{IsSettled, HasOnly}
+use Rattle.lethe_advance.specs.Untorn.{IsUntorn}
 use Rattle.lethe_advance.specs.Shown.{parts_by_level}
 use Rattle.lethe_load.specs.Damaged.{IsDamaged}
 use Rattle.lethe_load.specs.Refused.{HasOtherConfig}
@@ -44,13 +45,14 @@ pub record IsSpellable {D Page Port : Type 0} {kind : Ghosts D Page Port} (confi
   pub segments : length opened.manifest.segments ≡ 1
   pub levels : length (levels_of opened.version) ≡ config.levels + 1
 
--- The disk has one store of the configuration and nothing else, as it is told. Behind level 0 the files of a level ascend.
+-- The disk has one store of the configuration, untorn, and nothing else, as it is told. Behind level 0 the files of a level ascend.
 pub record IsOpened {D Page Port : Type 0} {kind : Ghosts D Page Port} (config : Fields) (start : Directory) (disk : Seen) (opened : Opened D Page Port kind) : Type 0 where
   pub s : Stored
   -- it is what was stored at the start, reopened, or new
   pub opened_as : IsOpenedAs config start s
   pub settled : IsSettled disk s
   pub only : HasOnly s [] disk.directory
+  pub untorn : IsUntorn s disk.directory
   pub rising : AreRising s.files
   pub config_is : s.manifest.config ≡ config
   pub told : IsTold opened s

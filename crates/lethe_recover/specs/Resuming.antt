@@ -9,10 +9,10 @@ use Rattle.lethe_stored.specs.Kept.{IsFor}
 use Rattle.lethe_stored.specs.Levels.{AreRising}
 use Rattle.lethe_stored.specs.Stored.{Stored}
 use Rattle.lethe_advance.specs.Settled.{IsSettled, HasOnly}
+use Rattle.lethe_advance.specs.Untorn.{IsUntorn}
 use Rattle.lethe_recover.specs.Journals.{IsJournalOf}
 use Rattle.lethe_recover.specs.Opening.{IsTold}
 use Rattle.lethe_recover.specs.Reopening.{IsReopenedAs}
-use Rattle.lethe_recover.specs.There.{IsWhole}
 use Rattle.lethe_recover.specs.declared.journal.Journal.{Journal}
 use Rattle.lethe_recover.specs.declared.opened.Opened.{Opened}
 
@@ -23,12 +23,12 @@ pub record IsLoadedAs (s : Stored) (m : Manifest) (records : Journal) (parts : L
   pub files : parts ≡ map parts_of s.files
   pub rising : AreRising s.files
 
--- a store is there, alone, as it is told, and behind level 0 the files of a level ascend
+-- a store is there, untorn and alone, as it is told, and behind level 0 the files of a level ascend
 pub record IsThere {D Page Port : Type 0} {kind : Ghosts D Page Port} (disk : Seen) (s : Stored) (opened : Opened D Page Port kind) : Type 0 where
   pub settled : IsSettled disk s
   pub only : HasOnly s [] disk.directory
   pub rising : AreRising s.files
-  pub whole : IsWhole s disk.directory
+  pub untorn : IsUntorn s disk.directory
   pub told : IsTold opened s
 
 -- so is one of the same configuration that stands for the same history

@@ -10,8 +10,8 @@ ghost use Rattle.lethe_stored.specs.Stored.{IsCoherent};
 ghost use Rattle.lethe_stored.specs.Encodes.{Encodes};
 ghost use Rattle.lethe_disk.specs.Goes.{Goes};
 ghost use Rattle.lethe_advance.specs.Settled.{IsSettled, HasOnly};
+ghost use Rattle.lethe_advance.specs.Untorn.{IsUntorn};
 ghost use Rattle.lethe_recover.specs.New.{first_manifest, new_stored};
-ghost use Rattle.lethe_recover.specs.There.{IsWhole};
 
 use lethe_base::{Config, Kind, List, Name, NoMemory};
 use lethe_commit::{clear, place, switch};
@@ -31,9 +31,9 @@ pub fn begin<D: Disk>(alloc: Global, disk: &mut D, config: &Config) -> Result<Ma
     // A crash at any moment of the call leaves no gate, or the new store.
     ensures any_moment { D.tells → Goes (λ c. HasGreatest None c ⊎ Encodes c (new_stored config.now)) (D.seen disk.old) (D.seen disk.new) }
 
-    // Acknowledged: each crash leaves the new store, and nothing else.
+    // Acknowledged: each crash leaves the new store, untorn, and nothing else.
     ensures done { D.tells → OnOk result (IsSettled (D.seen disk.new) (new_stored config.now) × HasOnly (new_stored config.now) [] (D.seen disk.new).directory
-        × IsWhole (new_stored config.now) (D.seen disk.new).directory) }
+        × IsUntorn (new_stored config.now) (D.seen disk.new).directory) }
     ensures is { IfOk result (λ manifest. manifest ≡ first_manifest config.now) }
     ensures cause { HasCause (D.faults disk.old) (D.faults disk.new) result }
 

@@ -175,6 +175,7 @@ module _ (run : Run) (config : Fields) (asks : Asks run config) (phases : List (
     lasting = c.lasting;
     leaves = c.leaves;
     config_is = c.config_is;
+    clean = c.clean;
     pace = λ first before m d low high left most at. elim (cases_lt mid.disk.moment m) [
       | inr early ↦ opened_pace told first before m d low early ((c.calls.past m d early).0 left) most at
       | inl late ↦

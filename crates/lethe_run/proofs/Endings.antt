@@ -154,6 +154,7 @@ module _ (Tells Ports : Type 0) (start mid : View) (idle : Tells → IsIdle star
           lasting = c.lasting;
           leaves = c.leaves;
           config_is = c.config_is;
+          clean = c.clean;
           pace = c.pace;
         }
 

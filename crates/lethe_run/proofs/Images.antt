@@ -3,7 +3,7 @@ use Rattle.std.proofs.Common.{◌≡◌, ◌⊎◌, inl, inr, ℕ, suc, Bool, tr
 use Rattle.std.specs.Prelude.{Contains}
 use Rattle.std.proofs.lemmas.List.{length-append}
 use Rattle.std.proofs.lemmas.List.Elements.{All-contains, Contains-push}
-use Rattle.lethe_base.specs.History.{History, Change, change_at, AreDone}
+use Rattle.lethe_base.specs.History.{History, Change, after, change_at, AreDone}
 use Rattle.lethe_base.specs.declared.call.Call.TheVariants.{Work}
 use Rattle.lethe_base.specs.declared.config.Fields.{Fields}
 use Rattle.lethe_base.specs.declared.call.Did.TheVariants.{Done, Failed}
@@ -15,6 +15,8 @@ use Rattle.lethe_core.specs.StandsNow.{IsOpenOrStopped, IsStopped, StandsNow, re
 use Rattle.lethe_core.specs.View.{View}
 use Rattle.lethe_core.proofs.Histories.{all_done, last_failed}
 use Rattle.lethe_engine.specs.StandsFor.{HasCounts}
+use Rattle.lethe_engine.proofs.Clean.{now_clean}
+use Rattle.lethe_stored.specs.Clean.{IsClean}
 use Rattle.lethe_stored.specs.Encodes.{Encodes}
 use Rattle.lethe_stored.specs.Kept.{IsFor, IsKept}
 use Rattle.lethe_stored.specs.Left.{IsLeft, IsHistoryOr, IsKeptOr, as_done, is_work, without_failed}
@@ -155,3 +157,13 @@ module _ (begin : Start) (from : Point) (h : History) (view : View) (on : IsOn b
 
   pub has_config : failed_in h ≡ None → HasConfig begin.config view.disk.directory
   has_config = config_by view.state.stopped on.stands.now.held
+
+  -- and it takes changes, so that it is clean
+  runs_by : (stopped : Option ℕ) → IsOpenOrStopped begin.config view h on.stands.now.stored stopped → failed_in h ≡ None → stopped ≡ None
+  runs_by None now none = refl
+  runs_by (Some at) now none =
+      let last = one_failed now.before now.change now.faults_before now.faults now.done now.failed in
+      let clash : None ≡ Some now.change = sym none ∙ ap failed_in now.history ∙ last in cc
+
+  pub is_clean : failed_in h ≡ None → IsClean begin.config.threshold view.disk.directory h (after h).clock
+  is_clean none = now_clean begin.config h view on.stands.now (runs_by view.state.stopped on.stands.now.held none)

@@ -18,7 +18,7 @@ use Rattle.lethe_run.specs.Printed.{lines_text}
 use Rattle.lethe_run.specs.Carried.{IsLasting}
 use Rattle.lethe_run.specs.Serving.{Advances, IsOn, IsPhase, IsCarried, Point}
 use Rattle.lethe_run.specs.Transcript.{Course, Start, course, IsServed, AreServed, text_of, is_refusal, has_refusal}
-use Rattle.lethe_run.proofs.Images.{still, leaves, has_config}
+use Rattle.lethe_run.proofs.Images.{still, leaves, has_config, is_clean}
 use Rattle.lethe_run.proofs.Lasting.{Stays, begins_now, bound_now, done_within, here, seen_now, stays_lasting, stays_later}
 use Rattle.lethe_run.proofs.Serving.{advances_then, served_later}
 
@@ -114,5 +114,6 @@ carried Ports begin from phases lines start now itself so_far = record {
   lasting = All-weaker (Stays begin from.history so_far.history now) (IsLasting begin.config from.history so_far.history now.disk) (λ ls is. stays_lasting begin from.history so_far.history now ls is) lines so_far.lasting;
   leaves = leaves begin from so_far.history now so_far.on itself;
   config_is = has_config begin from so_far.history now so_far.on;
+  clean = is_clean begin from so_far.history now so_far.on;
   pace = so_far.on.stands.pace;
 }

@@ -1,9 +1,10 @@
 -- What a script that was carried out leaves on the disk.
 use Rattle.std.specs.Prelude.{◌≡◌, ◌≤◌, ◌↔◌, ℕ, not, List, filter, filter_map, slice_get, All, Option, None}
-use Rattle.lethe_base.specs.History.{History, Change, change_at}
+use Rattle.lethe_base.specs.History.{History, Change, after, change_at}
 use Rattle.lethe_base.specs.declared.config.Fields.{Fields}
 use Rattle.lethe_disk.specs.Directory.{Directory}
 use Rattle.lethe_disk.specs.Disk.{Seen}
+use Rattle.lethe_stored.specs.Clean.{IsClean}
 use Rattle.lethe_stored.specs.Kept.{IsKept}
 use Rattle.lethe_stored.specs.Left.{IsLeft, IsHistoryOr, is_done, without_failed}
 use Rattle.lethe_stored.specs.Numbers.{KeepsPace}
@@ -46,7 +47,8 @@ pub record IsLasting (config : Fields) (opened h : History) (finish : Seen) (lin
 -- On a disk that was left for a history and a change in one configuration, the lines answer the phases over a store of another, which may be the same. The history
 -- that was opened is the first, or that with the change carried out, whichever the directory is kept for. Up to the moment at which the store was opened a crash
 -- leaves what the disk was left for, or a new store where there was no gate, and from it on what is kept for a prefix of what a crash may make of the last history that
--- is not shorter than the opened one. At the end the disk is left for the last history, and unless a change failed it is of the configuration.
+-- is not shorter than the opened one. At the end the disk is left for the last history, and unless a change failed it is of the configuration and clean: each object
+-- is a spelling, and none spells a value that was never put or was erased a threshold ago.
 pub record IsCarriedOut (config : Fields) (course : Course) (start finish : Seen) (kept : Fields) (left : History) (change : Option Change) (phases : List (List Order)) (lines : List (List Line)) : Type 0 where
   pub opened : History
   pub either : IsHistoryOr left change opened
@@ -59,4 +61,5 @@ pub record IsCarriedOut (config : Fields) (course : Course) (start finish : Seen
   pub lasting : All (IsLasting config opened history finish) lines
   pub leaves : IsLeft config finish (without_failed history) (failed_in history)
   pub config_is : failed_in history ≡ None → HasConfig config finish.directory
+  pub clean : failed_in history ≡ None → IsClean config.threshold finish.directory history (after history).clock
   pub pace : (first : ℕ) → KeepsPace first start.moment start.moment start → KeepsPace first start.moment start.moment finish

@@ -1,9 +1,10 @@
 -- What carrying out orders over a store comes to.
 use Rattle.std.specs.Prelude.{◌≡◌, ◌≤◌, ◌↔◌, ℕ, List, ◌++◌, length, All, None}
-use Rattle.lethe_base.specs.History.{History, AreDone}
+use Rattle.lethe_base.specs.History.{History, AreDone, after}
 use Rattle.lethe_disk.specs.Directory.{Directory}
 use Rattle.lethe_disk.specs.Disk.{Seen}
 use Rattle.lethe_engine.specs.StandsFor.{IsKeptFor, Opened, StandsFor}
+use Rattle.lethe_stored.specs.Clean.{IsClean}
 use Rattle.lethe_stored.specs.Left.{IsLeft, without_failed}
 use Rattle.lethe_stored.specs.Numbers.{KeepsPace}
 use Rattle.lethe_core.specs.View.{View}
@@ -63,4 +64,5 @@ pub record IsCarried (course : Course) (begin : Start) (from : Point) (phases : 
   pub lasting : All (IsLasting begin.config from.history history finish) lines
   pub leaves : IsLeft begin.config finish (without_failed history) (failed_in history)
   pub config_is : failed_in history ≡ None → HasConfig begin.config finish.directory
+  pub clean : failed_in history ≡ None → IsClean begin.config.threshold finish.directory history (after history).clock
   pub pace : KeepsPace begin.next begin.moment from.moment finish

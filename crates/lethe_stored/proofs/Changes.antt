@@ -14,7 +14,8 @@ use Rattle.lethe_base.specs.Held.{Shows}
 use Rattle.lethe_base.specs.Shapes.{IsValidShape, shape_of}
 use Rattle.lethe_base.specs.Covers.{Covers}
 use Rattle.lethe_base.specs.declared.call.Call.{Call}
-use Rattle.lethe_base.specs.declared.call.Call.TheVariants.{Put, Delete, Tick, Work}
+use Rattle.lethe_base.specs.Ranges.{Ends}
+use Rattle.lethe_base.specs.declared.call.Call.TheVariants.{Put, Delete, Erase, Tick, Work}
 use Rattle.lethe_base.specs.declared.call.Did.TheVariants.{Done}
 use Rattle.lethe_base.specs.declared.entry.Entry.{Entry}
 use Rattle.lethe_base.specs.declared.pending.Pending.{Pending}
@@ -129,9 +130,9 @@ certificates_push threshold h change no_more = fold-append count 0 h (change ∷
 -- A change that doesn't move the clock
 
 module _ (h : History) (s : Stored) (coherent : IsCoherent s) (stands : IsFor h s) (caller : ℕ) (call : Call) (r : Record) where
-  pub recorded_for : length h < max_place → erase_of r ≡ None → record_seq r ≡ next_place h → (done call (after h)).clock ≡ (after h).clock → ((to : ℕ) → call ≡ Tick to → ⊥) → (call ≡ Work → ⊥) → certifies s.manifest.config.threshold Done call ≡ false
+  pub recorded_for : length h < max_place → erase_of r ≡ None → record_seq r ≡ next_place h → (done call (after h)).clock ≡ (after h).clock → ((to : ℕ) → call ≡ Tick to → ⊥) → (call ≡ Work → ⊥) → ((range : Ends) → call ≡ Erase range → ⊥) → certifies s.manifest.config.threshold Done call ≡ false
       → Covers s.manifest.config.threshold (with_done h caller call) (recorded (layout_of s) (plain r)) → IsFor (with_done h caller call) (appended s r)
-  recorded_for few none place clock ticks works certified covers =
+  recorded_for few none place clock ticks works erases certified covers =
       let change : Change = record { caller = caller; call = call; did = Done } in
       let is = layout_appended s r none in
       let more : last_seq 0 (s.active.records ++ r ∷ []) ≡ length h + 1 = last_push 0 s.active.records r ∙ place in
@@ -139,7 +140,7 @@ module _ (h : History) (s : Stored) (coherent : IsCoherent s) (stands : IsFor h 
       let older = frozen_within h s coherent stands in
       let count_more : count_of (appended s r) ≡ length (h ++ change ∷ []) = omega (arith, more, within, older, length_push h change) in
       record {
-        legal = legal_push h change stands.legal stands.done few works (λ to is. absurd (ticks to is));
+        legal = legal_push h change stands.legal stands.done few works (λ to is. absurd (ticks to is)) erases;
         done = done_push h change stands.done refl;
         covers = subst (Covers s.manifest.config.threshold (with_done h caller call)) (sym is) (covers_numbered s.manifest.config.threshold (with_done h caller call) (recorded (layout_of s) (plain r)) (count_of (appended s r)) s.manifest.next covers);
         shape = subst (λ x. IsValidShape (shape_of x)) (sym is) stands.shape;
@@ -162,7 +163,7 @@ module _ (h : History) (s : Stored) (coherent : IsCoherent s) (stands : IsFor h 
       (record { front = record { place = (omega arith, omega (arith, few)); marked = tt; time = time_fits h s coherent stands key; named = named }; body = (fits, short) }) above
 
   pub put_for : (key : Bytes) (dkey : ℕ) (value : Bytes) → IsFor (with_done h caller (Put key dkey value)) (appended s (of.Entry (put_entry h (layout_of s) key dkey value)))
-  put_for key dkey value = recorded_for h s coherent stands caller (Put key dkey value) (of.Entry (put_entry h (layout_of s) key dkey value)) few refl refl refl (λ to e. cc) (λ e. cc) refl
+  put_for key dkey value = recorded_for h s coherent stands caller (Put key dkey value) (of.Entry (put_entry h (layout_of s) key dkey value)) few refl refl refl (λ to e. cc) (λ e. cc) (λ range e. cc) refl
       (put_covers threshold caller h (layout_of s) stands.covers (counted h s coherent stands) key dkey value).0
 
   tomb_time : (key : Bytes) → min s.manifest.clock (unwrap_or (time_of key (layout_of s)) s.manifest.clock) ≤ max_time
@@ -173,12 +174,12 @@ module _ (h : History) (s : Stored) (coherent : IsCoherent s) (stands : IsFor h 
       (record { front = record { place = (omega arith, omega (arith, few)); marked = refl; time = tomb_time key; named = named }; body = tt }) above
 
   pub delete_for : (key : Bytes) → IsFor (with_done h caller (Delete key)) (appended s (of.Entry (tomb_entry h (layout_of s) key)))
-  delete_for key = recorded_for h s coherent stands caller (Delete key) (of.Entry (tomb_entry h (layout_of s) key)) few refl refl refl (λ to e. cc) (λ e. cc) refl
+  delete_for key = recorded_for h s coherent stands caller (Delete key) (of.Entry (tomb_entry h (layout_of s) key)) few refl refl refl (λ to e. cc) (λ e. cc) (λ range e. cc) refl
       (delete_covers threshold caller h (layout_of s) stands.covers (counted h s coherent stands) key (coherent.spelled.config.threshold.0) stands.clock).0
 
   pub blind_stored : IsCoherent (appended s (of.Blind (next_place h)))
   blind_stored = stored_appended s (of.Blind (next_place h)) coherent (omega arith, omega (arith, few)) above
 
   pub blind_for : (key : Bytes) → ((entry : Entry) → Shows (layout_of s) entry → entry.key ≡ key → ⊥) → IsFor (with_done h caller (Delete key)) (appended s (of.Blind (next_place h)))
-  blind_for key none = recorded_for h s coherent stands caller (Delete key) (of.Blind (next_place h)) few refl refl refl (λ to e. cc) (λ e. cc) refl
+  blind_for key none = recorded_for h s coherent stands caller (Delete key) (of.Blind (next_place h)) few refl refl refl (λ to e. cc) (λ e. cc) (λ range e. cc) refl
       (blind_covers threshold caller h (layout_of s) stands.covers (counted h s coherent stands) key none).0

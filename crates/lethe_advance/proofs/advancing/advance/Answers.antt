@@ -4,7 +4,8 @@ use Rattle.lethe_commit.specs.Clear.{ArePresent, IsCleared, remove_all}
 use Rattle.lethe_commit.specs.Place.{name_of}
 use Rattle.lethe_advance.specs.Shown.{AreLevelsWith, parts_by_level}
 use Rattle.lethe_advance.proofs.Leveled.{files_next}
-use Rattle.lethe_advance.proofs.Running.{absent_before, early_placed, early_exchanged, early_behind, exchanges_from, switched_from, place_moments, free_placed, older_placed, pages_placed, opened_placed, exchange_moments, present_again, removal_moments, back_again, present_placed, clear_moments, settled_next, kept_next}
+use Rattle.lethe_advance.proofs.Running.{absent_before, early_placed, early_exchanged, early_behind, exchanges_from, switched_from, place_still, place_moments, free_placed, older_placed, pages_placed, opened_placed}
+use Rattle.lethe_advance.proofs.Running.{exchange_moments, present_again, removal_moments, removal_still, back_again, present_placed, clear_moments, settled_next, kept_next, gate_next}
 use Rattle.lethe_advance.proofs.advancing.advance.Goals as goal
 
 pub place_all-requires-after_bounds : goal.place_all-requires-after_bounds
@@ -380,3 +381,75 @@ returns-in_ok-take_back-in-Err-NoMemory-clause-early g c = λ told s t loose lef
     let s2 = g.D.Disk.seen c.exchange.new.disk in
     let calls = c.in_ok-place_all.ensures.calls told in
     early_behind s t loose left headers step s0 may c.deref.result.now c.deref.ensures.value s1 placing calls _ s2 (c.exchange.ensures.any_moment told) _ (g.D.Disk.seen c.take_back.new.disk) (c.take_back.ensures.any_moment told) moment d low few there
+
+pub returns-in_err-place_all-clause-unmoved : goal.returns-in_err-place_all-clause-unmoved
+returns-in_err-place_all-clause-unmoved g c = λ told s t loose left may refused.
+    let s0 = g.D.Disk.seen c.args.disk.now in
+    let headers = c.args.headers.items in
+    let step = c.args.step.now in
+    let objects = c.deref.result.now in
+    let same = c.deref.ensures.value in
+    let s1 = g.D.Disk.seen c.place_all.new.disk in
+    let placing = c.place_all.ensures.any_moment told in
+    place_still s t loose left headers step s0 may objects same s1 placing
+
+pub returns-in_err-take_back-in-Err-NoMemory-clause-unmoved : goal.returns-in_err-take_back-in-Err-NoMemory-clause-unmoved
+returns-in_err-take_back-in-Err-NoMemory-clause-unmoved g c = λ told s t loose left may refused.
+    let s0 = g.D.Disk.seen c.args.disk.now in
+    let headers = c.args.headers.items in
+    let step = c.args.step.now in
+    let objects = c.deref.result.now in
+    let same = c.deref.ensures.value in
+    let s1 = g.D.Disk.seen c.place_all.new.disk in
+    let placing = c.place_all.ensures.any_moment told in
+    let synced = c.in_ok-place_all.ensures.synced told in
+    let done = c.in_ok-place_all.ensures.done told in
+    let s2 = g.D.Disk.seen c.exchange.new.disk in
+    let exchanging = exchanges_from s t loose left headers step s0 may s1 s2 (c.exchange.ensures.any_moment told) in
+    let is = c.in-Err-NoMemory.is ∙ ap (λ e. Err e) c.in-Err-NoMemory.field-0-is in
+    let back = c.exchange.ensures.no_memory told is in
+    let s3 = g.D.Disk.seen c.take_back.new.disk in
+    let as_placed = c.deref-in-Err-NoMemory.ensures.value ∙ sym same in
+    let removing = subst (λ l. Leads (IsCleared (map name_of l)) s2 s3) as_placed (c.take_back.ensures.any_moment told) in
+    removal_still s t loose left headers step s0 may objects same s1 placing synced done s2 exchanging back s3 removing (c.exchange.ensures.unswitched told is)
+
+pub returns-in_ok-take_back-in-Err-NoMemory-clause-unmoved : goal.returns-in_ok-take_back-in-Err-NoMemory-clause-unmoved
+returns-in_ok-take_back-in-Err-NoMemory-clause-unmoved g c = λ told s t loose left may refused.
+    let s0 = g.D.Disk.seen c.args.disk.now in
+    let headers = c.args.headers.items in
+    let step = c.args.step.now in
+    let objects = c.deref.result.now in
+    let same = c.deref.ensures.value in
+    let s1 = g.D.Disk.seen c.place_all.new.disk in
+    let placing = c.place_all.ensures.any_moment told in
+    let synced = c.in_ok-place_all.ensures.synced told in
+    let done = c.in_ok-place_all.ensures.done told in
+    let s2 = g.D.Disk.seen c.exchange.new.disk in
+    let exchanging = exchanges_from s t loose left headers step s0 may s1 s2 (c.exchange.ensures.any_moment told) in
+    let is = c.in-Err-NoMemory.is ∙ ap (λ e. Err e) c.in-Err-NoMemory.field-0-is in
+    let back = c.exchange.ensures.no_memory told is in
+    let s3 = g.D.Disk.seen c.take_back.new.disk in
+    let as_placed = c.deref-in-Err-NoMemory.ensures.value ∙ sym same in
+    let removing = subst (λ l. Leads (IsCleared (map name_of l)) s2 s3) as_placed (c.take_back.ensures.any_moment told) in
+    removal_still s t loose left headers step s0 may objects same s1 placing synced done s2 exchanging back s3 removing (c.exchange.ensures.unswitched told is)
+
+pub returns-in_ok-clear-in-Ok-clause-gate : goal.returns-in_ok-clear-in-Ok-clause-gate
+returns-in_ok-clear-in-Ok-clause-gate g c = λ told s t loose left may.
+    let s0 = g.D.Disk.seen c.args.disk.now in
+    let headers = c.args.headers.items in
+    let step = c.args.step.now in
+    let objects = c.deref.result.now in
+    let same = c.deref.ensures.value in
+    let s1 = g.D.Disk.seen c.place_all.new.disk in
+    let placing = c.place_all.ensures.any_moment told in
+    let synced = c.in_ok-place_all.ensures.synced told in
+    let done = c.in_ok-place_all.ensures.done told in
+    let s2 = g.D.Disk.seen c.exchange.new.disk in
+    let exchanging = exchanges_from s t loose left headers step s0 may s1 s2 (c.exchange.ensures.any_moment told) in
+    let new = c.in-Ok.ensures.new told in
+    let switched_is = switched_from s t loose left headers step s0 may s1.directory s2.directory (c.in-Ok.ensures.done told) in
+    let gone = c.deref-in-Ok.result.now in
+    let gone_is = c.deref-in-Ok.ensures.value in
+    let s3 = g.D.Disk.seen c.clear.new.disk in
+    let clearing = c.clear.ensures.any_moment told in
+    gate_next s t loose left headers step s0 may objects same s1 placing synced done s2 exchanging new switched_is gone gone_is s3 clearing (c.in_ok-clear-in-Ok.ensures.done told)

@@ -1,11 +1,11 @@
-use Rattle.std.proofs.Common.{Some, length, map, ap, ◌∙◌, subst}
+use Rattle.std.proofs.Common.{Some, length, map, ap, ◌∙◌, subst, rules}
 use Rattle.lethe_manifest.specs.Manifests.{manifest_bytes}
 use Rattle.lethe_commit.specs.Switch.{switched}
 use Rattle.lethe_version.specs.Versions.{levels_of}
 use Rattle.lethe_advance.specs.declared.new_header.NewHeader.{NewHeader}
 use Rattle.lethe_advance.specs.Shown.{AreLevelsWith, new_parts, parts_in}
 use Rattle.lethe_advance.proofs.Opened.{levels_below, levels_with}
-use Rattle.lethe_advance.proofs.Quiet.{free_still, older_still, quiet_switched, switched_then}
+use Rattle.lethe_advance.proofs.Quiet.{back_then, free_still, older_still, quiet_switched, quiet_unswitched, switched_then, unswitched_then}
 use Rattle.lethe_advance.proofs.exchanging.exchange.Goals as goal
 
 pub switch_from-requires-clause-free : goal.switch_from-requires-clause-free
@@ -53,3 +53,23 @@ returns-clause-files g c = λ told.
     (λ level given lt some. (c.in_ok-next.ensures.files level given lt some).same) in
     let here = subst (λ merged. AreLevelsWith merged (map new_parts files) (map (map parts_in) old) (map (map parts_in) new)) c.deref.ensures.value made in
     subst (λ added. AreLevelsWith step.merged.items added (map (map parts_in) old) (map (map parts_in) new)) (c.in_ok-files.ensures.opened told) here
+
+pub returns-in_err-files-clause-unswitched : goal.returns-in_err-files-clause-unswitched
+returns-in_err-files-clause-unswitched g c = λ told refused.
+    let m = c.args.step.now.manifest in
+    quiet_unswitched (g.D.Disk.seen c.args.disk.now) (g.D.Disk.seen c.open_files.new.disk) (c.open_files.ensures.quiet told) m.no (Some c.args.step.now.older) (c.requires.free told) (manifest_bytes m)
+
+pub returns-in_err-next-clause-unswitched : goal.returns-in_err-next-clause-unswitched
+returns-in_err-next-clause-unswitched g c = λ told refused.
+    let m = c.args.step.now.manifest in
+    quiet_unswitched (g.D.Disk.seen c.args.disk.now) (g.D.Disk.seen c.open_files.new.disk) (c.open_files.ensures.quiet told) m.no (Some c.args.step.now.older) (c.requires.free told) (manifest_bytes m)
+
+pub returns-in_err-switch_from-clause-unswitched : goal.returns-in_err-switch_from-clause-unswitched
+returns-in_err-switch_from-clause-unswitched g c = λ told refused.
+    let m = c.args.step.now.manifest in
+    unswitched_then (g.D.Disk.seen c.args.disk.now) (g.D.Disk.seen c.open_files.new.disk) (c.open_files.ensures.quiet told) m.no (Some c.args.step.now.older) (c.requires.free told) (manifest_bytes m)
+    (g.D.Disk.seen c.switch_from.new.disk) (c.switch_from.ensures.unswitched told (search rules))
+
+pub returns-in_err-switch_from-clause-no_memory : goal.returns-in_err-switch_from-clause-no_memory
+returns-in_err-switch_from-clause-no_memory g c = λ told refused.
+    back_then (g.D.Disk.seen c.args.disk.now) (g.D.Disk.seen c.open_files.new.disk) (c.open_files.ensures.quiet told) (g.D.Disk.seen c.switch_from.new.disk) (c.switch_from.ensures.no_memory told (search rules))

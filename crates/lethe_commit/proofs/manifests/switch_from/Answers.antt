@@ -1,7 +1,7 @@
 use Rattle.std.proofs.Common.{◌≡◌, ℕ, List, inl, subst, rules}
 use Rattle.lethe_disk.specs.Runs.{Leads}
 use Rattle.lethe_disk.proofs.Moments.{leads_start}
-use Rattle.lethe_commit.specs.Switch.{IsSwitched}
+use Rattle.lethe_commit.specs.Switch.{IsSwitched, IsUnswitched}
 use Rattle.lethe_commit.proofs.Exchange.{itself, greatest_throughout}
 use Rattle.lethe_commit.proofs.manifests.switch_from.Goals as goal
 use Rattle.lethe_manifest.specs.Manifests.{manifest_bytes}
@@ -27,3 +27,8 @@ returns-clause-greatest g c = λ told.
     let bytes : c.deref.result.now ≡ manifest_bytes m = search rules in
     greatest_throughout m.no (manifest_bytes m) c.args.older s0 s1 (c.requires.free told)
     (subst (λ (l : List ℕ). Leads (IsSwitched m.no l c.args.older) s0 s1) bytes (c.exchange_from.ensures.any_moment told))
+
+pub returns-in_err-bytes-clause-unswitched : goal.returns-in_err-bytes-clause-unswitched
+returns-in_err-bytes-clause-unswitched g c = λ told refused.
+    let m = c.args.manifest.now in
+    leads_start (IsUnswitched m.no) (g.D.Disk.seen c.args.disk.now) (itself m.no (manifest_bytes m) c.args.older (g.D.Disk.seen c.args.disk.now) (c.requires.free told))

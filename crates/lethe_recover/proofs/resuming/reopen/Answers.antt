@@ -74,7 +74,7 @@ returns-clause-there g c = λ told s settled ready.
     let may : MayAdvance (g.D.Disk.seen c.tidy.new.disk) s [] t [] c.in_ok-made.made.headers.items c.in_ok-made.made.step = record { settled = tidied.0; only = tidied.1; step_is = is.step } in
     let done = c.in_ok-reopened.ensures.done told s t [] [] may in
     reopened_of s c.in_ok-made.made is settled.coherent s1.directory tidied.1 ready.rising s2 c.in_ok-reopened.reopened done.0 done.1
-    (c.in_ok-reopened.ensures.kept told s t [] [] may) (c.in_ok-reopened.ensures.files told s t [] [] may ready.files)
+    (c.in_ok-reopened.ensures.kept told s t [] [] may) (c.in_ok-reopened.ensures.gate told s t [] [] may) (c.in_ok-reopened.ensures.files told s t [] [] may ready.files)
 
 pub returns-clause-spelled : goal.returns-clause-spelled
 returns-clause-spelled g c = record {

@@ -1,4 +1,4 @@
-use Rattle.std.proofs.Common.{rules, ◌≡◌, ◌⊎◌, inl, [], Some, None, Result, Err, refl, sym, ap, ◌∙◌, subst, arith}
+use Rattle.std.proofs.Common.{rules, ◌≡◌, ◌⊎◌, inl, Some, None, Result, Err, refl, sym, ap, ◌∙◌, subst, arith}
 use Rattle.std.specs.Prelude.{Bool, IfErr, IfSome, option_map}
 use Rattle.std.specs.Result.{result_err}
 use Rattle.lethe_base.specs.declared.refused.Refused.{Refused}
@@ -92,7 +92,7 @@ merge_now-requires-clause-merges g c κs within = λ told s holds.
     let task = plain_task c.in-Ok-Some.task in
     let found : c.in-Ok-Some.field-0 ≡ Some c.in-Ok-Some.task = cc in
     let begins : (s : Stored) → Holds view s → IsBegunIn s task = λ s holds. subst (λ found. IfSome found (λ task. IsBegunIn s (plain_task task))) found (c.in-Ok-Some.ensures.some s holds) in
-    let next = next_outcome view task begins (ap (option_map flying_of) c.requires.free) g.D.Disk.tells c.in-Ok.drafts.items c.deref.result.now [] c.in_ok-made.made c.in_ok-made.ensures.installs (sym c.deref.ensures.value) c.in-Ok.ensures.drafts told s holds in
+    let next = next_outcome view task begins (ap (option_map flying_of) c.requires.free) g.D.Disk.tells c.in-Ok.drafts.items c.deref.result.now c.in_ok-made.made c.in_ok-made.ensures.installs (sym c.deref.ensures.value) c.in-Ok.ensures.drafts told s holds in
     (task, next.0, next.2, begun_counted view task begins c.requires.may.runs)
 
 pub returns-in_err-merge_now-clause-keeps : goal.returns-in_err-merge_now-clause-keeps
@@ -115,7 +115,7 @@ returns-clause-done g c = λ told s holds is.
     let task = plain_task c.in-Ok-Some.task in
     let found : c.in-Ok-Some.field-0 ≡ Some c.in-Ok-Some.task = cc in
     let begins : (s : Stored) → Holds view s → IsBegunIn s task = λ s holds. subst (λ found. IfSome found (λ task. IsBegunIn s (plain_task task))) found (c.in-Ok-Some.ensures.some s holds) in
-    let next = next_outcome view task begins (ap (option_map flying_of) c.requires.free) g.D.Disk.tells c.in-Ok.drafts.items c.deref.result.now [] c.in_ok-made.made c.in_ok-made.ensures.installs (sym c.deref.ensures.value) c.in-Ok.ensures.drafts told s holds in (
+    let next = next_outcome view task begins (ap (option_map flying_of) c.requires.free) g.D.Disk.tells c.in-Ok.drafts.items c.deref.result.now c.in_ok-made.made c.in_ok-made.ensures.installs (sym c.deref.ensures.value) c.in-Ok.ensures.drafts told s holds in (
       record { task = task; to = next.0 },
       record { begun = begins s holds; merged_is = next.1 },
       c.in_ok-merge_now.ensures.done told s task next.0 holds next.2,

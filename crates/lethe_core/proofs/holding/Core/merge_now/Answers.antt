@@ -6,6 +6,7 @@ use Rattle.lethe_stored.specs.Stored.{Stored}
 use Rattle.lethe_state.specs.Room.{under}
 use Rattle.lethe_state.specs.declared.state.State.{State}
 use Rattle.lethe_job.specs.Tasks.{PlainTask}
+use Rattle.lethe_clean.proofs.Stays.{step_untorn}
 use Rattle.lethe_core.specs.Keeps.{Keeps}
 use Rattle.lethe_core.specs.Merges.{MayMerge}
 use Rattle.lethe_core.specs.Running.{Holds}
@@ -61,9 +62,11 @@ returns-clause-done g c = λ told s task t holds may.
     let done = c.in_ok-carry_out.ensures.done told s t may.left running is in
     let kept = c.in_ok-carry_out.ensures.kept told s t may.left running is in
     let files = c.in_ok-carry_out.ensures.files told s t may.left running is holds.remembers.files in
+    let gate = c.in_ok-carry_out.ensures.gate told s t may.left running is in
+    let untorn = step_untorn s t (beside_in old) may.left made.headers.items made.step old.disk.directory mid.disk.directory holds.remembers.coherent is running.only running.untorn kept gate in
     let ends = active_ends s t (beside_in old) may.left made.headers.items made.step is holds.remembers.coherent old.disk mid.disk done.0 kept old.state.end may.installed.merged_is.active (laws.itself told c.args.self.now.disk) running.ends in
     subst (λ (state : State). Holds (record (merged_view old mid.disk mid.faults mid.levels mid.begun made) { state = under made.step.manifest state }) t) (sym c.in_ok-carry_out.ensures.state)
-    (merged_holds old mid.disk mid.faults mid.levels mid.begun made s t task holds may files done.0 done.1 ends)
+    (merged_holds old mid.disk mid.faults mid.levels mid.begun made s t task holds may files done.0 done.1 untorn ends)
 
 pub returns-clause-keeps : goal.returns-clause-keeps
 returns-clause-keeps g c =

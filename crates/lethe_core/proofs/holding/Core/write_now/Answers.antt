@@ -39,6 +39,7 @@ returns-in-Ok-clause-keeps g c =
     let fits : self.state.next + 1 ≤ max_place = omega (arith, low) in
     written_keeps g.D.Disk.tells (view_of self) (flying_of c.in-Some.flight) is c.requires.may.sound (g.D.Disk.seen disk) (g.D.Disk.faults disk) c.write_page-placed.new.written c.args.bytes.now
     (λ told. laws.itself told self.disk) fits (λ told s. c.in-Ok.ensures.done told s left) (λ s. c.in-Ok.ensures.loose s left) (c.in-Ok.ensures.drawn left) c.in-Ok.ensures.others
+    c.in-Ok.ensures.written c.requires.copied
     c.requires.may.runs (λ told s. c.in-Ok.ensures.any_moment told s left) c.in-Ok.ensures.calls c.in-Ok.ensures.cause.later
 
 pub returns-in-Ok-clause-held : goal.returns-in-Ok-clause-held
@@ -52,6 +53,7 @@ returns-in-Ok-clause-held g c =
     let fits : self.state.next + 1 ≤ max_place = omega (arith, low) in
     written_holds g.D.Disk.tells (view_of self) (flying_of c.in-Some.flight) is c.requires.may.sound (g.D.Disk.seen disk) (g.D.Disk.faults disk) c.write_page-placed.new.written c.args.bytes.now
     (λ told. laws.itself told self.disk) fits (λ told s. c.in-Ok.ensures.done told s left) (λ s. c.in-Ok.ensures.loose s left) (c.in-Ok.ensures.drawn left) c.in-Ok.ensures.others
+    c.in-Ok.ensures.written c.requires.copied
 
 pub returns-in-Err-Failed-clause-keeps : goal.returns-in-Err-Failed-clause-keeps
 returns-in-Err-Failed-clause-keeps g c =

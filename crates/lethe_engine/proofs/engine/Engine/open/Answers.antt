@@ -26,7 +26,7 @@ returns-in-Ok-opened-clause-sound g c =
             is.s,
             remembers.0,
             λ runs. opened_running (g.D.Disk.seen disk) (g.D.Disk.faults disk) c.new.result.items c.new.ensures.items c.none.result.count is.s state levels
-                is.settled is.only is.rising is.told.active is.ends c.in-Ok-opened.ensures.end remembers.1,
+                is.settled is.only is.untorn is.rising is.told.active is.ends c.in-Ok-opened.ensures.end remembers.1,
           );
     }
 
@@ -43,7 +43,7 @@ returns-in-Ok-opened-clause-opened g c = λ tells.
     let remembers = c.in-Ok-opened.ensures.remembers is.s levels is.settled.coherent is.told.files (sym is.told.manifest) is.told.frozen is.told.active is.told.erases in
     let disk = c.open.new.disk in
     let running = opened_running (g.D.Disk.seen disk) (g.D.Disk.faults disk) c.new.result.items c.new.ensures.items c.none.result.count is.s c.in-Ok-opened.state levels
-    is.settled is.only is.rising is.told.active is.ends c.in-Ok-opened.ensures.end remembers.1 in
+    is.settled is.only is.untorn is.rising is.told.active is.ends c.in-Ok-opened.ensures.end remembers.1 in
     (is.s, record { remembers = remembers.0; running = running }, is.opened_as)
 
 pub returns-in-Ok-opened-clause-numbers : goal.returns-in-Ok-opened-clause-numbers
@@ -61,7 +61,7 @@ returns-in-Ok-opened-clause-resumed g c = λ tells kept h change left.
     let remembers = c.in-Ok-opened.ensures.remembers is.s levels is.settled.coherent is.told.files (sym is.told.manifest) is.told.frozen is.told.active is.told.erases in
     let faults = g.D.Disk.faults c.open.new.disk in
     let running = opened_running seen faults c.new.result.items c.new.ensures.items c.none.result.count is.s state levels
-    is.settled is.only is.rising is.told.active is.ends c.in-Ok-opened.ensures.end remembers.1 in
+    is.settled is.only is.untorn is.rising is.told.active is.ends c.in-Ok-opened.ensures.end remembers.1 in
     resumed c.args.config.now h again.history change (g.D.Disk.seen c.args.disk) seen faults c.new.result.items c.none.result.count is.s state levels again.either again.was
     c.in-Ok-opened.ensures.writable running remembers.0 is.config_is again.stands
     (λ next from. returns-in-Ok-opened-clause-numbers g c tells next from)

@@ -1,11 +1,15 @@
-use Rattle.std.proofs.Common.{rules, ◌≡◌, ◌≤◌, Option, Some, Result, Err, List, ℕ, refl, sym, ap, subst}
+use Rattle.std.proofs.Common.{rules, ◌≡◌, ◌≤◌, ◌<◌, Option, Some, Vec, Result, Err, List, [], ℕ, length, get_or, refl, sym, ap, subst}
+use Rattle.std.specs.declared.alloc.Global.{Global}
 use Rattle.std.specs.Prelude.{IfSome, IsSome, OnOk}
 use Rattle.std.specs.Result.{result_err}
 use Rattle.lethe_base.specs.Limits.{max_place}
 use Rattle.lethe_base.specs.declared.call.Call.TheVariants.{Work}
 use Rattle.lethe_base.specs.declared.name.Name.{Name}
 use Rattle.lethe_base.specs.declared.refused.Refused.{Refused}
+use Rattle.lethe_build.specs.declared.draft.Draft.{Draft}
+use Rattle.lethe_clean.specs.Copied.{IsCopied}
 use Rattle.lethe_file.specs.Agreement.{page_name}
+use Rattle.lethe_flush.specs.Made.{pages_in}
 use Rattle.lethe_core.specs.Asked.{Serves}
 use Rattle.lethe_core.specs.Jobs.{with_page}
 use Rattle.lethe_core.specs.Reasons.{HasReason}
@@ -13,6 +17,8 @@ use Rattle.lethe_core.specs.Steps.{IsUndone}
 use Rattle.lethe_core.specs.View.{Flying, face_of, view_of}
 use Rattle.lethe_engine.specs.Answers.{Answers}
 use Rattle.lethe_engine.specs.Jobs.{next_bytes, written_face}
+use Rattle.lethe_engine.proofs.AtWork.{some_there}
+use Rattle.lethe_engine.proofs.Copying.{next_copied}
 use Rattle.lethe_engine.proofs.Calls.{if_refused, itself_answers, refused_is_none, step_answers}
 use Rattle.lethe_engine.proofs.Faces.{written_by}
 use Rattle.lethe_engine.proofs.Reasons.{not_begun}
@@ -39,3 +45,12 @@ returns-clause-answers g c =
     (written_by old new (page_name old.state.next, next_bytes c.args.job.now) result (ap (λ begun. begun.count) c.write_now.ensures.begun) (ap (λ names. names.items) c.write_now.ensures.retired) there written c.write_now.ensures.kept)
     (step_answers g.D.Disk.tells (max_place ≤ old.state.next) (result_err result) old new c.faults-before.result c.in_ok-may_change.ensures.fits.0 c.faults-before.ensures c.write_now.ensures.keeps
     (if_refused result (HasReason (max_place ≤ old.state.next) old.state c.faults-before.result new.faults) c.write_now.ensures.why) (if_refused result (IsUndone g.D.Disk.tells old new) c.write_now.ensures.undone))
+
+pub write_now-requires-clause-copied : goal.write_now-requires-clause-copied
+write_now-requires-clause-copied g c κs within = λ told s holds.
+    let view = view_of c.args.self.now.core in
+    let job = c.args.job.now in
+    let there = some_there (λ (drafts : Vec Draft Global). job.written < length (pages_in drafts.items)) job.drafts c.requires.made c.requires.left in
+    let bytes : c.page_at.result.now ≡ get_or (pages_in (there.0).items) job.written [] = search rules in
+    subst (λ (bytes : List ℕ). IsCopied s (page_name view.state.next, bytes)) (sym bytes)
+    (next_copied g.D.Disk.tells view job c.requires.works s holds told view.state.next there.0 there.1 there.2)

@@ -1,0 +1,127 @@
+//! Each object of a disk, read back as a whole.
+
+use lethe_base::{Body, Entry, Kind, Name};
+use lethe_disk::Disk;
+use lethe_header::read_header;
+use lethe_manifest::read_manifest;
+use lethe_memdisk::MemDisk;
+use lethe_page::read_page;
+use lethe_segment::{Record, replay, segment_number, write_segment};
+use std::alloc::Global;
+use std::test::Fail;
+
+/// How many objects there are of each kind, and the places of all puts that they hold.
+#[derive(Drop)]
+pub struct Held {
+    pub gates: usize,
+    pub manifests: usize,
+    pub segments: usize,
+    pub files: usize,
+    pub pages: usize,
+    pub puts: Vec<u64>,
+}
+
+impl Held {
+    fn new(alloc: Global) -> Held {
+        Held {
+            gates: 0,
+            manifests: 0,
+            segments: 0,
+            files: 0,
+            pages: 0,
+            puts: Vec::new(alloc),
+        }
+    }
+
+    fn add(&mut self, entry: &Entry) -> Result<(), Fail> {
+        if let Body::Put { .. } = entry.body {
+            self.puts.push(entry.seq)?;
+        }
+        Ok(())
+    }
+
+    fn add_segment(&mut self, alloc: Global, no: u64, bytes: &[u8]) -> Result<(), Fail> {
+        let records = replay(alloc, bytes).ok().ok_or("a segment")?;
+        if segment_number(bytes) != Some(no) {
+            return Err(Fail::new("another segment"));
+        }
+        // No byte is left over, so nothing is torn.
+        if write_segment(alloc, no, &records)?.as_slice() != bytes {
+            return Err(Fail::new("a torn end"));
+        }
+        for record in &records {
+            if let Record::Entry(entry) = record {
+                self.add(entry)?;
+            }
+        }
+        self.segments = self.segments.saturating_add(1);
+        Ok(())
+    }
+
+    fn add_page(&mut self, alloc: Global, bytes: &[u8]) -> Result<(), Fail> {
+        let (_, entries) = read_page(alloc, bytes).ok().ok_or("a page")?;
+        for entry in &entries {
+            self.add(entry)?;
+        }
+        self.pages = self.pages.saturating_add(1);
+        Ok(())
+    }
+
+    // Adds the object of that name, whose bytes are its spelling, each of them.
+    fn add_object(&mut self, alloc: Global, name: Name, bytes: &[u8]) -> Result<(), Fail> {
+        let own = match name.kind {
+            Kind::Gate => {
+                self.gates = self.gates.saturating_add(1);
+                bytes.is_empty()
+            }
+            Kind::Manifest => {
+                self.manifests = self.manifests.saturating_add(1);
+                read_manifest(alloc, bytes).ok().ok_or("a manifest")?.no == name.no
+            }
+            Kind::Segment => {
+                self.add_segment(alloc, name.no, bytes)?;
+                true
+            }
+            Kind::File => {
+                self.files = self.files.saturating_add(1);
+                read_header(alloc, bytes).ok().ok_or("a header")?.no == name.no
+            }
+            Kind::Page => {
+                self.add_page(alloc, bytes)?;
+                true
+            }
+        };
+        if own {
+            Ok(())
+        } else {
+            Err(Fail::new("an object of another number"))
+        }
+    }
+}
+
+// The bytes of the object of that name.
+fn bytes_of(alloc: Global, disk: &mut MemDisk, name: Name) -> Result<Vec<u8>, Fail> {
+    let Ok(names) = disk.names(alloc) else {
+        return Err(Fail::new("names"));
+    };
+    if !names.contains(&name) {
+        return Err(Fail::new("an object"));
+    }
+    match disk.read(alloc, name) {
+        Ok(bytes) => Ok(bytes),
+        Err(_) => Err(Fail::new("bytes")),
+    }
+}
+
+/// Reads each object back. It fails where one isn't its spelling, whole and with nothing behind it.
+pub fn held_by(alloc: Global, disk: &mut MemDisk) -> Result<Held, Fail> {
+    let Ok(names) = disk.names(alloc) else {
+        return Err(Fail::new("names"));
+    };
+    let mut held = Held::new(alloc);
+    for name in names {
+        let bytes = bytes_of(alloc, disk, name)?;
+        held.add_object(alloc, name, &bytes)?;
+    }
+    Ok(held)
+}
