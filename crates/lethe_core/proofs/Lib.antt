@@ -23,4 +23,5 @@ pub mod Outcomes
 pub mod Behind
 pub mod Installing
 pub mod Unread
+pub mod Fetched
 pub mod Roomed

@@ -1,8 +1,9 @@
 //! Merges that a store carries out itself, and the step of a merge.
-ghost use Rattle.std.specs.Prelude.{◌≡◌, ◌≤◌, ◌+◌, ◌⊎◌, ◌↔◌, [], true, false, IsTrue, List, Ok, None, All, IfOk, IfErr, OnErr, OnOk};
+ghost use Rattle.std.specs.Prelude.{◌≡◌, ◌≤◌, ◌+◌, ◌⊎◌, ◌↔◌, [], true, false, IsTrue, List, Ok, None, All, IfOk, IfErr, OnErr, OnOk, ◌<◌, IsErrOf};
 ghost use Rattle.std.specs.Result.{result_err};
 ghost use Rattle.lethe_base.specs.History.{History};
 ghost use Rattle.lethe_base.specs.declared.config.Fields.{Fields};
+ghost use Rattle.lethe_base.specs.declared.name.Name.{Name};
 ghost use Rattle.lethe_base.specs.declared.refused.Refused.TheVariants as refused;
 ghost use Rattle.lethe_advance.specs.Settled.{AreDrawn};
 ghost use Rattle.lethe_header.specs.Headers as header;
@@ -48,6 +49,9 @@ impl<D: Disk> Core<D> {
         ensures flight { self.new.flight ≡ self.old.flight }
         ensures begun { self.new.begun ≡ self.old.begun }
         ensures port_faults { D.port_faults port.old ≤ D.port_faults port.new }
+        // A page that is told as damaged was fetched in this call, on any disk.
+        ensures fetched { (name : Name) → IsErrOf result (refused.Damaged name) → D.fetches port.old < D.fetches port.new }
+        ensures fetches { D.fetches port.old ≤ D.fetches port.new }
     {
         if self.flight.is_some() || !self.is_crowded() {
             return Ok(());
@@ -79,6 +83,9 @@ impl<D: Disk> Core<D> {
         ensures free { self.new.flight ≡ None }
         ensures begun { self.new.begun ≡ self.old.begun }
         ensures port_faults { D.port_faults port.old ≤ D.port_faults port.new }
+        // A page that is told as damaged was fetched in this call, on any disk.
+        ensures fetched { (name : Name) → IsErrOf result (refused.Damaged name) → D.fetches port.old < D.fetches port.new }
+        ensures fetches { D.fetches port.old ≤ D.fetches port.new }
     {
         let earlier = D::port_faults(port);
 
@@ -128,6 +135,9 @@ impl<D: Disk> Core<D> {
         ensures free { self.new.flight ≡ None }
         ensures begun { self.new.begun ≡ self.old.begun }
         ensures port_faults { D.port_faults port.old ≤ D.port_faults port.new }
+        // A page that is told as damaged was fetched in this call, on any disk.
+        ensures fetched { (name : Name) → IsErrOf result (refused.Damaged name) → D.fetches port.old < D.fetches port.new }
+        ensures fetches { D.fetches port.old ≤ D.fetches port.new }
     {
         let task = match self.next_task(alloc) {
             Ok(Some(task)) => task,

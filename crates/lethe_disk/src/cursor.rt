@@ -1,5 +1,5 @@
 //! Reading entries one after another, and why that is refused.
-ghost use Rattle.std.specs.Prelude.{◌≡◌, ◌≤◌, List, IfOk, OnOk, IsErrOf};
+ghost use Rattle.std.specs.Prelude.{◌≡◌, ◌≤◌, ◌<◌, ◌+◌, ℕ, List, None, Ok, IfOk, OnOk, IsErrOf};
 ghost use Rattle.lethe_base.specs.Entries.{IsAscending};
 ghost use Rattle.lethe_base.specs.declared.entry.Entry.{Entry};
 ghost use Rattle.lethe_base.specs.declared.name.Name.{Name};
@@ -75,12 +75,27 @@ pub trait Cursor<D: Disk> {
     /// The entries that it has still to give.
     ghost left: { Self → List Entry };
 
+    /// How many fetches it has still to make, up to its end.
+    ghost awaits: { Self → ℕ };
+
+    /// The names that it may tell as damaged: those of pages that are still to be fetched and whose bytes are another page's.
+    ghost damages: { Self → Name → Type 0 };
+
     /// The next entry, and None at the end.
     fn next(&mut self, alloc: Global, port: &mut D::Port) -> Result<Option<Entry>, ReadRefused>
         requires { may_ask self.old }
         ensures given { D.tells → sound self.old → IfOk result (λ next. IsNext next (left self.old) (left self.new)) }
         ensures again { OnOk result (may_ask self.new) }
         ensures still_sound { sound self.old → OnOk result (sound self.new) }
+        // It makes the fetches that were awaited, each once.
+        ensures once { OnOk result (D.fetches port.new + awaits self.new ≡ D.fetches port.old + awaits self.old) }
+        ensures at_most { D.fetches port.new ≤ D.fetches port.old + awaits self.old }
+
+        ensures ended { result ≡ Ok None → awaits self.new ≡ 0 }
+
+        // A page that is told as damaged was fetched in this call.
+        ensures damaged { (name : Name) → IsErrOf result (Damaged name) → damages self.old name × (D.fetches port.old < D.fetches port.new) }
+        ensures fewer { OnOk result ((name : Name) → damages self.new name → damages self.old name) }
         ensures undamaged { D.tells → sound self.old → (name : Name) → IsErrOf result (Damaged name) → ⊥ }
         ensures cause { HasReadCause (D.port_faults port.old) (D.port_faults port.new) result }
         ensures can_fail { IsFault result → D.ports_fail }

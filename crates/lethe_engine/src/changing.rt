@@ -1,9 +1,10 @@
 //! Changes of a store.
-ghost use Rattle.std.specs.Prelude.{◌≡◌, ◌≤◌, ◌+◌, ℕ, List, Some, None, IfOk, IfErr, OnOk, IsErrOf};
+ghost use Rattle.std.specs.Prelude.{◌≡◌, ◌<◌, ◌≤◌, ◌+◌, ℕ, List, Some, None, IfOk, IfErr, OnOk, IsErrOf};
 ghost use Rattle.std.specs.Result.{result_err};
 ghost use Rattle.lethe_base.specs.Limits.{max_place};
 ghost use Rattle.lethe_base.specs.declared.call.Call.TheVariants as call;
-ghost use Rattle.lethe_base.specs.declared.refused.Refused.TheVariants.{Stopped, Exhausted};
+ghost use Rattle.lethe_base.specs.declared.name.Name.{Name};
+ghost use Rattle.lethe_base.specs.declared.refused.Refused.TheVariants.{Stopped, Exhausted, Damaged};
 ghost use Rattle.lethe_segment.specs.declared.record.Record.{Record};
 ghost use Rattle.lethe_stored.specs.Stored.{Stored, appended};
 ghost use Rattle.lethe_state.specs.Records.{headers_in};
@@ -61,6 +62,10 @@ impl<D: Disk> Engine<D> {
             × ((D.seen self.new.core.disk).moment ≡ (D.seen self.old.core.disk).moment + 4) × (port.new ≡ port.old)) }
 
         ensures port_faults { D.port_faults port.old ≤ D.port_faults port.new }
+
+        // A page that is told as damaged was fetched in this call, on any disk.
+        ensures fetched { (name : Name) → IsErrOf result (Damaged name) → D.fetches port.old < D.fetches port.new }
+        ensures fetches { D.fetches port.old ≤ D.fetches port.new }
     {
         self.core.state.may_change()?;
         let before = self.core.disk.faults();
@@ -99,6 +104,10 @@ impl<D: Disk> Engine<D> {
             × ((D.seen self.new.core.disk).directory ≡ with_record (D.seen self.old.core.disk).directory s next) × ((D.seen self.new.core.disk).moment ≡ (D.seen self.old.core.disk).moment + 4) × (port.new ≡ port.old)) }
 
         ensures port_faults { D.port_faults port.old ≤ D.port_faults port.new }
+
+        // A page that is told as damaged was fetched in this call, on any disk.
+        ensures fetched { (name : Name) → IsErrOf result (Damaged name) → D.fetches port.old < D.fetches port.new }
+        ensures fetches { D.fetches port.old ≤ D.fetches port.new }
     {
         self.core.state.may_change()?;
         let before = self.core.disk.faults();

@@ -1,15 +1,18 @@
 //! Reads of a store.
-ghost use Rattle.std.specs.Prelude.{◌≡◌, ◌≤◌, ◌+◌, ℕ, IfOk, IfErr, IsErrOf, sum_by, if◌then◌else◌};
+ghost use Rattle.std.specs.Prelude.{◌≡◌, ◌<◌, ◌≤◌, ◌+◌, ℕ, true, false, IfOk, IfErr, IfSome, IsErrOf, OnOk, sum_by, if◌then◌else◌};
+ghost use Rattle.std.specs.Ordering.{is_lt};
 ghost use Rattle.std.specs.Result.{result_err};
 ghost use Rattle.lethe_base.specs.Counts.{Rose};
 ghost use Rattle.lethe_base.specs.History.{History, after};
+ghost use Rattle.lethe_base.specs.Keys.{key_cmp};
 ghost use Rattle.lethe_base.specs.Read.{Get, Scan, Found, answer};
 ghost use Rattle.lethe_base.specs.declared.call.Call.TheVariants.{Work};
 ghost use Rattle.lethe_base.specs.declared.config.Fields.{Fields};
 ghost use Rattle.lethe_base.specs.declared.name.Name.{Name};
 ghost use Rattle.lethe_base.specs.declared.refused.Refused.TheVariants.{ReadFault, Damaged};
 ghost use Rattle.lethe_version.specs.Probing.{bound};
-ghost use Rattle.lethe_version.specs.Versions.{files_of};
+ghost use Rattle.lethe_read.specs.Found.{IsBacked, frozen_entries};
+ghost use Rattle.lethe_version.specs.Versions.{IsDamagedInAny, IsDamagedOf, IsVouchedBy, files_of, pages_between};
 ghost use Rattle.lethe_engine.specs.Reads.{IsReadRefusal, is_in_memory, listed, told_as};
 ghost use Rattle.lethe_core.specs.Running.{IsSound};
 ghost use Rattle.lethe_core.specs.StandsNow.{StandsNow};
@@ -47,6 +50,13 @@ impl<D: Disk> Engine<D> {
             + (if is_in_memory key.now self.now.core.state then 0 else sum_by (λ file. bound key.now file.header) (files_of self.now.core.version)) }
         ensures later { D.fetches port.old ≤ D.fetches port.new }
         ensures why { IfErr result IsReadRefusal }
+
+        // On any disk what the key has stands in an entry of the key that a buffer has, or for which a line of one of the files vouches by its digest.
+        ensures backed { IfOk result (λ held. IfSome held (IsBacked key.now self.now.core.state.active.entries (frozen_entries (λ buffer. buffer.entries) self.now.core.state.frozen)
+            (IsVouchedBy self.now.core.version))) }
+
+        // A page that is told as damaged was fetched in this call, since the key may be there, and is another page.
+        ensures damaged { (name : Name) → IsErrOf result (Damaged name) → IsDamagedOf key.now self.now.core.version name × (D.fetches port.old < D.fetches port.new) }
         ensures undamaged { D.tells → IsSound D.tells (view_of self.now.core)
             → (name : Name) → IsErrOf result (Damaged name) → ⊥ }
         ensures fault { (before after : ℕ) → IsErrOf result (ReadFault before after)
@@ -86,6 +96,14 @@ impl<D: Disk> Engine<D> {
             → Answers D.tells (Serves Work) (result_err result) (face_of (view_of self.now.core)) (view_of self.now.core) (view_of self.now.core) }
         ensures answer { D.tells → (config : Fields) (h : History) → StandsNow config h (view_of self.now.core)
             → IfOk result (λ pairs. answer (after h) (Scan lo.now hi.now) ≡ listed pairs.items) }
+
+        // Each page of a tile that meets the range is fetched once, and no other page; nothing is fetched where `lo` isn't below `hi`.
+        ensures fetches { is_lt (key_cmp lo.now hi.now) ≡ true → OnOk result (D.fetches port.new ≡ D.fetches port.old + pages_between lo.now hi.now self.now.core.version) }
+        ensures at_most { is_lt (key_cmp lo.now hi.now) ≡ true → D.fetches port.new ≤ D.fetches port.old + pages_between lo.now hi.now self.now.core.version }
+        ensures unasked { is_lt (key_cmp lo.now hi.now) ≡ false → D.fetches port.new ≡ D.fetches port.old }
+
+        // A page that is told as damaged was fetched in this call, and is another page.
+        ensures damaged { (name : Name) → IsErrOf result (Damaged name) → IsDamagedInAny self.now.core.version name × (D.fetches port.old < D.fetches port.new) }
         ensures later { D.fetches port.old ≤ D.fetches port.new }
         ensures why { IfErr result IsReadRefusal }
         ensures undamaged { D.tells → IsSound D.tells (view_of self.now.core)

@@ -1,21 +1,24 @@
 -- A cursor that fetches its next tile, and one that is made.
-use Rattle.std.proofs.Common.{◌≡◌, ℕ, ◌+◌, ◌-◌, ◌<◌, ◌≤◌, List, [], ◌∷◌, ◌++◌, length, get_or, take, map, All, Option, Some, reverse, refl, sym, ap, subst, ◌∙◌, arith, append_assoc, length-append}
+use Rattle.std.proofs.Common.{◌≡◌, ℕ, ◌+◌, ◌-◌, ◌<◌, ◌≤◌, List, [], ◌∷◌, ◌++◌, length, take, map, All, Option, Some, reverse, refl, sym, ap, subst, ◌∙◌, arith, append_assoc, length-append}
 use Rattle.std.specs.Prelude.{Any, flat_map, slice_get}
-use Rattle.std.proofs.lemmas.List.{get_or-append-add, get_or-map, get_or_append_left, length-map, map-append, reverse-append, reverse-reverse, take_all, take_more}
+use Rattle.std.proofs.lemmas.List.{append-nil, length-map, map-append, reverse-append, reverse-reverse, take_all, take_more}
 use Rattle.std.proofs.lemmas.Option.{get_or_from_slice_get, slice_get_within}
 use Rattle.std.proofs.lemmas.List.Elements.{All-head}
 use Rattle.std.proofs.lemmas.List.Sorted.{All-permutation, IsPermutation-reverse}
 use Rattle.lethe_base.specs.Entries.{IsAscending}
 use Rattle.lethe_base.specs.Keys.{Bytes}
 use Rattle.lethe_base.specs.declared.entry.Entry.{Entry}
+use Rattle.lethe_base.specs.declared.name.Name.{Name}
 use Rattle.lethe_header.specs.Facts.{lines_of}
 use Rattle.lethe_header.specs.Headers.{EachFollows, TileFollows}
 use Rattle.lethe_header.specs.declared.header.TileLine.{TileLine}
 use Rattle.lethe_tile.proofs.Orders.{HasLowerKey, all_left, all_right, ascending_from_pairs, pairs_append, pairs_from_ascending}
 use Rattle.lethe_file.specs.Agreement.{FileAgrees, entries_in}
 use Rattle.lethe_file.specs.Between.{AreBetween, numbers_between}
+use Rattle.lethe_file.specs.Damage.{IsDamagedAmong, IsDamagedIn}
 use Rattle.lethe_file.specs.Waiting.{IsSound, IsWritten, Waiting, awaited, left_of, of_waiting, tiles_between, waiting, waits_in}
 use Rattle.lethe_file.specs.declared.holding.HeldPage.{HeldPage}
+use Rattle.lethe_file.proofs.Damaged.{any_first, any_left, any_right, between_damage, any_reverse}
 use Rattle.lethe_file.proofs.Ranges.{are_between, between_numbers, between_written}
 
 -- ---- a cursor that is made
@@ -38,6 +41,10 @@ module _ (lo : Bytes) (hi : Option Bytes) (tiles : List TileLine) (pages : List 
   pub made_numbers : length pages ≡ length (lines_of tiles) → awaited waits ≡ numbers_between lo hi tiles
   made_numbers len = ap (flat_map (λ (tile : List Waiting). map (λ (page : Waiting). page.check.no) tile)) waits_are ∙ between_numbers lo hi tiles pages len
 
+  pub made_damage : (tells : Type 0) (name : Name) → Any (Any (IsDamagedIn tells name)) waits → IsDamagedAmong tells (lines_of tiles) pages name
+  made_damage tells name some =
+      between_damage tells name lo hi tiles pages (subst (λ (ts : List (List Waiting)). Any (Any (IsDamagedIn tells name)) ts) waits_are (any_reverse (Any (IsDamagedIn tells name)) waits some))
+
 -- ---- a cursor that fetches
 
 -- the pages of these numbers were fetched since, and what is left is the same
@@ -48,9 +55,12 @@ pub record IsFilling (tells : Type 0) (lo : Bytes) (hi : Option Bytes) (old : Li
   pub counted : fetches ≡ old_fetches + length fetched
   pub left : IsSound tells lo hi old old_entries → left_of lo hi tiles entries ≡ left_of lo hi old old_entries
   pub sound : IsSound tells lo hi old old_entries → IsSound tells lo hi tiles entries
+  pub done : List (List Waiting)
+  pub parts : tiles ++ done ≡ old
 
-pub filling_none : (tells : Type 0) (lo : Bytes) (hi : Option Bytes) (tiles : List (List Waiting)) (entries : List Entry) (fetches faults : ℕ) → IsFilling tells lo hi tiles entries tiles entries fetches fetches faults faults
-filling_none tells lo hi tiles entries fetches faults = record { risen = omega arith; fetched = []; names = refl; counted = omega arith; left = λ s. refl; sound = λ s. s }
+pub filling_none : (tells : Type 0) (lo : Bytes) (hi : Option Bytes) (tiles : List (List Waiting)) (entries : List Entry) (fetches faults : ℕ)
+    → IsFilling tells lo hi tiles entries tiles entries fetches fetches faults faults
+filling_none tells lo hi tiles entries fetches faults = record { risen = omega arith; fetched = []; names = refl; counted = omega arith; left = λ s. refl; sound = λ s. s; done = []; parts = append-nil tiles }
 
 numbers : List Waiting → List ℕ
 numbers tile = map (λ (page : Waiting). page.check.no) tile
@@ -91,18 +101,14 @@ filling_more tells lo hi old old_entries tiles rest entries new tile f0 f1 f2 p0
         pages = all_left (All IsWritten) rest (tile ∷ []) (subst (All (All IsWritten)) tiles_are (before.sound s).pages);
         ascending = subst IsAscending (sym (same s)) (before.sound s).ascending;
       };
+      done = tile ∷ before.done;
+      parts = sym (append_assoc rest (tile ∷ []) before.done) ∙ ap (λ (ts : List (List Waiting)). ts ++ before.done) (sym tiles_are) ∙ before.parts;
     }
 
 -- a page that is still waited for was waited for at first
-pub any_awaited : (P : ℕ → Type 0) (fetched now old : List ℕ) → fetched ++ now ≡ old → Any P now → Any P old
-any_awaited P fetched now old is (k, x, lt, at, holds) =
-    let inside : length fetched + k < length (fetched ++ now) = omega (arith, lt, length-append fetched now) in
-    subst (λ (l : List ℕ). Any P l) is (length fetched + k, x, inside, get_or-append-add fetched now k x ∙ at, holds)
-
-any_first : (P : ℕ → Type 0) (first rest : List ℕ) → Any P first → Any P (first ++ rest)
-any_first P first rest (k, x, lt, at, holds) =
-    let inside : k < length (first ++ rest) = omega (arith, lt, length-append first rest) in
-    (k, x, inside, get_or_append_left first rest x k lt ∙ at, holds)
+pub filling_fewer : {tells : Type 0} {lo : Bytes} {hi : Option Bytes} {old : List (List Waiting)} {old_entries : List Entry} {tiles : List (List Waiting)} {entries : List Entry} {f0 f1 p0 p1 : ℕ}
+    → IsFilling tells lo hi old old_entries tiles entries f0 f1 p0 p1 → (Q : List Waiting → Type 0) → Any Q tiles → Any Q old
+filling_fewer {tiles = tiles} now Q some = subst (λ (ts : List (List Waiting)). Any Q ts) now.parts (any_left Q tiles now.done some)
 
 -- the last of the tiles that are held
 pub last_tile : {P : Type 0} (bytes_of : P → List ℕ) (tiles : List (List (HeldPage P))) (tile : List (HeldPage P)) → slice_get tiles (length tiles - 1) ≡ Some tile → waiting bytes_of tiles ≡ waiting bytes_of (take (length tiles - 1) tiles) ++ waits_in bytes_of tile ∷ []
@@ -112,16 +118,6 @@ last_tile {P} bytes_of tiles tile at =
     let all : tiles ≡ take n tiles ++ tile ∷ [] =
     sym (take_all (n + 1) tiles (omega (arith, lt))) ∙ take_more tiles n tile lt ∙ ap (λ (t : List (HeldPage P)). take n tiles ++ t ∷ []) (get_or_from_slice_get tiles n tile tile at) in
     ap (waiting bytes_of) all ∙ map-append (waits_in bytes_of) (take n tiles) (tile ∷ [])
-
-pub last_numbers : {P : Type 0} (bytes_of : P → List ℕ) (Q : ℕ → Type 0) (pages : List (HeldPage P)) → Any (λ held. Q held.check.no) pages → Any Q (map (λ (page : Waiting). page.check.no) (waits_in bytes_of pages))
-last_numbers {P} bytes_of Q pages (k, held, lt, at, holds) =
-    let wait : HeldPage P → Waiting = λ h. record { check = h.check; bytes = bytes_of h.page.value } in
-    let number : Waiting → ℕ = λ page. page.check.no in
-    let inside : k < length (waits_in bytes_of pages) = omega (arith, lt, length-map pages wait) in
-    let inside' : k < length (map number (waits_in bytes_of pages)) = omega (arith, inside, length-map (waits_in bytes_of pages) number) in
-    let is : get_or (map number (waits_in bytes_of pages)) k held.check.no ≡ held.check.no =
-    get_or-map number (waits_in bytes_of pages) k (wait held) held.check.no inside ∙ ap number (get_or-map wait pages k held (wait held) lt) ∙ ap (λ (h : HeldPage P). h.check.no) at in
-    (k, held.check.no, inside', is, holds)
 
 -- one turn of the loop, over what is held
 module _ {P : Type 0} (bytes_of : P → List ℕ) (tells : Type 0) (lo : Bytes) (hi : Option Bytes) (old : List (List Waiting)) (old_entries : List Entry) (tiles : List (List (HeldPage P))) (entries : List Entry) (f0 f1 p0 p1 : ℕ)
@@ -146,9 +142,11 @@ module _ {P : Type 0} (bytes_of : P → List ℕ) (tells : Type 0) (lo : Bytes) 
       let here = sym (ap length parted_names) ∙ length-append ns (awaited (waiting bytes_of (take (length tiles - 1) tiles))) in
       omega (arith, few, before.counted, all, here, length-map (waits_in bytes_of tile) (λ (page : Waiting). page.check.no), length-map tile wait)
 
-  pub refused_names : (Q : ℕ → Type 0) → Any (λ held. Q held.check.no) tile → Any Q (awaited old)
-  refused_names Q some =
-      any_awaited Q before.fetched (awaited (waiting bytes_of tiles)) (awaited old) before.names (subst (λ (l : List ℕ). Any Q l) parted_names (any_first Q (map (λ (page : Waiting). page.check.no) (waits_in bytes_of tile)) (awaited (waiting bytes_of (take (length tiles - 1) tiles))) (last_numbers bytes_of Q tile some)))
+  pub refused_damage : (Q : Waiting → Type 0) → Any Q (waits_in bytes_of tile) → Any (Any Q) old
+  refused_damage Q some =
+      let rest = waiting bytes_of (take (length tiles - 1) tiles) in
+      let last = any_right (Any Q) rest (waits_in bytes_of tile ∷ []) (any_first (Any Q) (waits_in bytes_of tile) [] some) in
+      filling_fewer before (Any Q) (subst (λ (ts : List (List Waiting)). Any (Any Q) ts) (sym (last_tile bytes_of tiles tile (sym at))) last)
 
   pub refused_written : IsSound tells lo hi old old_entries → All IsWritten (waits_in bytes_of tile)
   refused_written sound =

@@ -2,6 +2,8 @@ pub mod Orders
 pub mod Allowed
 pub mod Pages
 pub mod Tiles
+pub mod Starts
+pub mod Damaged
 pub mod Unique
 pub mod Sorting
 pub mod Joined

@@ -1,8 +1,6 @@
 -- The pages of a file by its tiles.
 use Rattle.std.proofs.Common.{◌≡◌, ℕ, zero, suc, ◌+◌, ◌<◌, ◌≤◌, Bool, true, cond, List, [], ◌∷◌, ◌++◌, length, get_or, take, drop, map, All, Vec, Result, Ok, Err, Option, Some, None, refl, sym, ap, subst, ◌∙◌, arith, length-append}
-use Rattle.std.proofs.Math.ListN.{get_or-append}
-use Rattle.std.proofs.lemmas.List.{get_or-append-add}
-use Rattle.std.specs.Prelude.{Any, IfOk, slice_get}
+use Rattle.std.specs.Prelude.{IfOk, slice_get}
 use Rattle.std.specs.declared.alloc.Global.{Global}
 use Rattle.std.proofs.lemmas.List.Folds.{length-flat_map-take}
 use Rattle.std.proofs.lemmas.List.Concat.{get_or-flat_map}
@@ -152,14 +150,3 @@ told_at {P = P} bytes_of pages place page bytes line (Ok entries) page_is bytes_
     slice_get-get_or (map entries_in (map bytes_of pages)) place entries.items within
     ∙ ap Some (ap (λ (l : List (List Entry)). get_or l place entries.items) all ∙ at ∙ ap (λ (p : P). entries_in (bytes_of p)) (sym page_is) ∙ ap entries_in (sym bytes_are) ∙ entries_are line entries.items bytes is spelled)
 told_at bytes_of pages place page bytes line (Err why) page_is bytes_are lt is spelled = tt
-
--- ---- what some line of a tile has
-
-any_within : {A : Type 0} (P : A → Type 0) (before items behind : List A) → Any P items → Any P (before ++ (items ++ behind))
-any_within P before items behind (k, x, lt, is, holds) =
-    let inside : length before + k < length (before ++ (items ++ behind)) = omega (arith, lt, length-append before (items ++ behind), length-append items behind) in
-    let at : get_or (before ++ (items ++ behind)) (length before + k) x ≡ x = get_or-append-add before (items ++ behind) k x ∙ get_or-append items behind x k lt ∙ is in
-    (length before + k, x, inside, at, holds)
-
-pub any_there : (P : PageLine → Type 0) (tiles : List TileLine) (t : ℕ) (d : TileLine) → t < length tiles → Any P (get_or tiles t d).pages → Any P (lines_of tiles)
-any_there P tiles t d lt some = subst (λ (l : List PageLine). Any P l) (sym (tile_lines tiles t d lt)) (any_within P (lines_of (take t tiles)) (get_or tiles t d).pages (lines_of (drop (t + 1) tiles)) some)

@@ -45,3 +45,7 @@ IsTileOf key tiles place = (place ≤ length tiles) × ((k : ℕ) (d : TileLine)
 -- of what the lines of these tiles have, one for each, what those of one tile have
 abbrev pub of_tile : {A : Type 0} → List TileLine → ℕ → TileLine → List A → List A
 of_tile tiles place other items = take (length (slice_index_or tiles place other).pages) (drop (length (lines_of (take place tiles))) items)
+
+-- of each tile, how many pages stand in the tiles in front of it
+abbrev pub AreStarts : List TileLine → List ℕ → Type 0
+AreStarts tiles starts = (length starts ≡ length tiles) × ((k : ℕ) → k < length tiles → slice_index starts k ≡ length (lines_of (take k tiles)))

@@ -1,13 +1,14 @@
 //! The entries of a tile in the order of their keys.
-ghost use Rattle.std.specs.Prelude.{◌≡◌, ◌+◌, ◌≤◌, ◌++◌, map, filter, flat_map, length, reverse, All, AllPairs, Any, IfOk, OnOk, IsErrOf, IsPermutation};
+ghost use Rattle.std.specs.Prelude.{◌≡◌, ◌+◌, ◌<◌, ◌≤◌, ◌++◌, map, filter, flat_map, length, reverse, All, AllPairs, Any, IfOk, OnOk, IsErrOf, IsPermutation};
 ghost use Rattle.lethe_base.specs.Entries.{IsAscending};
 ghost use Rattle.lethe_base.specs.declared.entry.Entry.{Entry};
 ghost use Rattle.lethe_base.specs.declared.name.Name.{Name};
 ghost use Rattle.lethe_disk.specs.Reads.{HasReadCause, IsFault};
 ghost use Rattle.lethe_disk.specs.declared.cursor.ReadRefused.TheVariants.{Damaged};
 ghost use Rattle.lethe_tile.specs.Woven.{HaveDistinctKeys};
-ghost use Rattle.lethe_file.specs.Agreement.{entries_in, page_name};
+ghost use Rattle.lethe_file.specs.Agreement.{entries_in};
 ghost use Rattle.lethe_file.specs.Between.{is_in};
+ghost use Rattle.lethe_file.specs.Damage.{IsDamagedIn};
 ghost use Rattle.lethe_file.specs.Waiting.{IsWritten, of_waiting, waits_in};
 
 use crate::fetching::fetch_checked;
@@ -45,7 +46,7 @@ fn collect<S: PageSource>(
     ensures fetches { OnOk result (S.fetches port.new ≡ S.fetches port.old + length pages.now) }
     ensures later { S.fetches port.old ≤ S.fetches port.new }
     ensures at_most { S.fetches port.new ≤ S.fetches port.old + length pages.now }
-    ensures damaged { (name : Name) → IsErrOf result (Damaged name) → Any (λ held. name ≡ page_name held.check.no) pages.now }
+    ensures damaged { (name : Name) → IsErrOf result (Damaged name) → Any (IsDamagedIn S.tells name) (waits_in S.page_bytes pages.now) × (S.fetches port.old < S.fetches port.new) }
     ensures undamaged { S.tells → All IsWritten (waits_in S.page_bytes pages.now) → (name : Name) → IsErrOf result (Damaged name) → ⊥ }
     ensures cause { HasReadCause (S.port_faults port.old) (S.port_faults port.new) result }
     ensures can_fail { IsFault result → S.ports_fail }
@@ -76,7 +77,7 @@ pub fn fetch_tile<S: PageSource>(
     ensures fetches { OnOk result (S.fetches port.new ≡ S.fetches port.old + length pages.now) }
     ensures later { S.fetches port.old ≤ S.fetches port.new }
     ensures at_most { S.fetches port.new ≤ S.fetches port.old + length pages.now }
-    ensures damaged { (name : Name) → IsErrOf result (Damaged name) → Any (λ held. name ≡ page_name held.check.no) pages.now }
+    ensures damaged { (name : Name) → IsErrOf result (Damaged name) → Any (IsDamagedIn S.tells name) (waits_in S.page_bytes pages.now) × (S.fetches port.old < S.fetches port.new) }
     ensures undamaged { S.tells → All IsWritten (waits_in S.page_bytes pages.now) → (name : Name) → IsErrOf result (Damaged name) → ⊥ }
     ensures cause { HasReadCause (S.port_faults port.old) (S.port_faults port.new) result }
     ensures can_fail { IsFault result → S.ports_fail }

@@ -1,9 +1,9 @@
 //! Reading the entries of a file one after another.
-ghost use Rattle.std.specs.Prelude.{◌≡◌, ◌+◌, ◌≤◌, [], length, Any, IfOk, OnOk, OnErr, IsErrOf};
+ghost use Rattle.std.specs.Prelude.{◌≡◌, ◌+◌, ◌<◌, ◌≤◌, [], length, None, Ok, IfOk, OnOk, OnErr, IsErrOf};
 ghost use Rattle.lethe_base.specs.declared.name.Name.{Name};
 ghost use Rattle.lethe_disk.specs.Reads.{HasReadCause, IsFault, IsNext};
 ghost use Rattle.lethe_disk.specs.declared.cursor.ReadRefused.TheVariants.{Damaged};
-ghost use Rattle.lethe_file.specs.Agreement.{page_name};
+ghost use Rattle.lethe_file.specs.Damage.{damages_in};
 ghost use Rattle.lethe_file.specs.Waiting.{IsSoundIn, awaited_in, left_in};
 
 use crate::unread::{Unread, fill};
@@ -25,6 +25,10 @@ impl<D: Disk> Cursor<D> for FileCursor<D> {
 
     ghost left = { λ c. left_in D.page_bytes c.unread };
 
+    ghost awaits = { λ c. length (awaited_in D.page_bytes c.unread) };
+
+    ghost damages = { λ c. damages_in D.tells D.page_bytes c.unread };
+
     fn next(&mut self, alloc: Global, port: &mut D::Port) -> Result<Option<Entry>, ReadRefused>
         ensures given { D.tells → IsSoundIn D.tells D.page_bytes self.old.unread → IfOk result (λ next. IsNext next (left_in D.page_bytes self.old.unread) (left_in D.page_bytes self.new.unread)) }
 
@@ -36,7 +40,9 @@ impl<D: Disk> Cursor<D> for FileCursor<D> {
         ensures once { OnOk result (D.fetches port.new + length (awaited_in D.page_bytes self.new.unread) ≡ D.fetches port.old + length (awaited_in D.page_bytes self.old.unread)) }
         ensures at_most { D.fetches port.new ≤ D.fetches port.old + length (awaited_in D.page_bytes self.old.unread) }
         ensures fetches { D.fetches port.old ≤ D.fetches port.new }
-        ensures damaged { (name : Name) → IsErrOf result (Damaged name) → Any (λ number. name ≡ page_name number) (awaited_in D.page_bytes self.old.unread) }
+        ensures ended { result ≡ Ok None → length (awaited_in D.page_bytes self.new.unread) ≡ 0 }
+        ensures damaged { (name : Name) → IsErrOf result (Damaged name) → damages_in D.tells D.page_bytes self.old.unread name × (D.fetches port.old < D.fetches port.new) }
+        ensures fewer { (name : Name) → damages_in D.tells D.page_bytes self.new.unread name → damages_in D.tells D.page_bytes self.old.unread name }
         ensures undamaged { D.tells → IsSoundIn D.tells D.page_bytes self.old.unread → (name : Name) → IsErrOf result (Damaged name) → ⊥ }
         ensures cause { HasReadCause (D.port_faults port.old) (D.port_faults port.new) result }
         ensures can_fail { IsFault result → D.ports_fail }

@@ -6,6 +6,7 @@ ghost use Rattle.lethe_disk.specs.Reads.{HasReadCause, IsFault};
 ghost use Rattle.lethe_disk.specs.declared.cursor.ReadRefused.TheVariants.{Damaged};
 ghost use Rattle.lethe_page.specs.Pages.{page_bytes};
 ghost use Rattle.lethe_file.specs.Agreement.{IsChecked, IsPage, page_name};
+ghost use Rattle.lethe_file.specs.Damage.{IsDamagedAs, IsOther};
 
 use crate::page::{PageCheck, PageFault, check_of, page_of};
 use crate::source::PageSource;
@@ -23,7 +24,9 @@ pub fn fetch_line<D: Disk>(
 ) -> Result<Vec<Entry>, ReadRefused>
     ensures page { IfOk result (λ entries. IsPage line.now entries.items) }
     ensures told { D.tells → IfOk result (λ entries. D.page_bytes page.now ≡ page_bytes line.now.class entries.items) }
-    ensures damaged { (name : Name) → IsErrOf result (Damaged name) → name ≡ page_name line.now.no }
+
+    // A page is told as damaged only where the bytes that were fetched are another page's.
+    ensures damaged { (name : Name) → IsErrOf result (Damaged name) → IsDamagedAs D.tells name line.now (D.page_bytes page.now) }
     ensures undamaged { D.tells → (entries : List Entry) → IsPage line.now entries → D.page_bytes page.now ≡ page_bytes line.now.class entries
         → (name : Name) → IsErrOf result (Damaged name) → ⊥ }
     ensures fetches { D.fetches port.new ≡ D.fetches port.old + 1 }
@@ -42,7 +45,7 @@ pub fn fetch_checked<S: PageSource>(
 ) -> Result<Vec<Entry>, ReadRefused>
     ensures page { IfOk result (λ entries. IsChecked check.now entries.items) }
     ensures told { S.tells → IfOk result (λ entries. S.page_bytes page.now ≡ page_bytes check.now.class entries.items) }
-    ensures damaged { (name : Name) → IsErrOf result (Damaged name) → name ≡ page_name check.now.no }
+    ensures damaged { (name : Name) → IsErrOf result (Damaged name) → (name ≡ page_name check.now.no) × IsOther S.tells check.now (S.page_bytes page.now) }
     ensures undamaged { S.tells → (entries : List Entry) → IsChecked check.now entries → S.page_bytes page.now ≡ page_bytes check.now.class entries
         → (name : Name) → IsErrOf result (Damaged name) → ⊥ }
     ensures fetches { S.fetches port.new ≡ S.fetches port.old + 1 }

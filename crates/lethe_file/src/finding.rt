@@ -1,5 +1,5 @@
 //! Finding the entry of a key.
-ghost use Rattle.std.specs.Prelude.{◌≡◌, ◌≢◌, ◌+◌, ◌<◌, ◌≤◌, ◌^◌, ◌∷◌, [], List, ℕ, map, length, take, drop, slice_index_or, slice_get, Some, sum_by, ◌↔◌, HoldsAt, IfNone, IfSome, Any, IfOk, IsErrOf, IsTrue};
+ghost use Rattle.std.specs.Prelude.{◌≡◌, ◌≢◌, ◌+◌, ◌<◌, ◌≤◌, ◌^◌, ◌∷◌, [], List, ℕ, map, length, take, drop, slice_index_or, slice_get, Some, sum_by, zip, ◌↔◌, HoldsAt, IfNone, IfSome, Any, IfOk, IsErrOf, IsTrue};
 ghost use Rattle.std.specs.List.{AllZip};
 ghost use Rattle.std.specs.Ordering.{is_lt, is_le};
 ghost use Rattle.lethe_base.specs.Keys.{key_cmp};
@@ -10,11 +10,12 @@ ghost use Rattle.lethe_disk.specs.declared.cursor.ReadRefused.TheVariants.{Damag
 ghost use Rattle.lethe_header.specs.Facts.{lines_of};
 ghost use Rattle.lethe_header.specs.Headers.{EachFollows, TileFollows};
 ghost use Rattle.lethe_header.specs.declared.header.TileLine.{TileLine};
-ghost use Rattle.lethe_file.specs.Agreement.{Agrees, entries_in, page_name};
-ghost use Rattle.lethe_file.specs.Finding.{Lacks, IsEntryOf, IsTileOf, allowed_in, allows, of_tile};
+ghost use Rattle.lethe_file.specs.Agreement.{Agrees, entries_in};
+ghost use Rattle.lethe_file.specs.Damage.{IsDamagedAs, IsVouched};
+ghost use Rattle.lethe_file.specs.Finding.{AreStarts, Lacks, IsEntryOf, IsTileOf, allowed_in, allows, of_tile};
 
 use crate::fetching::fetch_line;
-use lethe_base::{Entry, Key};
+use lethe_base::{Entry, Key, NoMemory};
 use lethe_disk::{Disk, ReadRefused};
 use lethe_header::{PageLine, TileLine};
 use lethe_tile::Filter;
@@ -88,45 +89,47 @@ pub fn tile_of(tiles: &[TileLine], key: &Key) -> usize
     }
 }
 
-/// How many pages the tiles have.
-pub fn count_pages(tiles: &[TileLine]) -> usize
+/// Of each tile, how many pages stand in the tiles in front of it.
+pub fn starts_of(alloc: Global, tiles: &[TileLine]) -> Result<Vec<usize>, NoMemory>
     requires { length (lines_of tiles.now) < 2 ^ 64 }
-    ensures { result ≡ length (lines_of tiles.now) }
+    ensures { IfOk result (λ starts. AreStarts tiles.now starts.items) }
 {
-    let mut count = 0;
+    let mut starts = Vec::with_capacity(alloc, tiles.len())?;
+    let mut start = 0;
     for tile in tiles {
-        count += tile.pages.items().len();
+        starts.push(start)?;
+        start += tile.pages.items().len();
     }
-    count
+    Ok(starts)
 }
 
-/// Of what the lines of these tiles have, one for each, what those of one tile have.
-pub fn part_of_tile<'a, P>(tiles: &[TileLine], place: usize, items: &'a [P]) -> &'a [P]
+/// Of what the lines of these tiles have, one for each, what those of one tile have, which begin at `start`.
+pub fn part_of_tile<'a, P>(
+    tiles: &[TileLine],
+    place: usize,
+    start: usize,
+    items: &'a [P],
+) -> &'a [P]
     requires tile { place < length tiles.now }
+    requires start { start ≡ length (lines_of (take place tiles.now)) }
     requires items { length items.now ≡ length (lines_of tiles.now) }
     ensures part { (other : TileLine) → result.now ≡ of_tile tiles.now place other items.now }
     ensures len { (other : TileLine) → length result.now ≡ length (slice_index_or tiles.now place other).pages }
 {
-    let (before, from) = tiles.split_at(place);
-    let (_, items) = items.split_at(count_pages(before));
-    let (part, _) = items.split_at(from[0].pages.items().len());
+    let (_, items) = items.split_at(start);
+    let (part, _) = items.split_at(tiles[place].pages.items().len());
     part
 }
 
-/// The line at a place in the order of all lines, from 0.
-pub fn line_at(tiles: &[TileLine], place: usize) -> &PageLine
-    requires { place < length (lines_of tiles.now) }
+/// The line at a place in the order of all lines, from 0, by a binary search for its tile.
+pub fn line_at<'a>(tiles: &'a [TileLine], starts: &[usize], place: usize) -> &'a PageLine
+    requires starts { AreStarts tiles.now starts.now }
+    requires place { place < length (lines_of tiles.now) }
     ensures { slice_get (lines_of tiles.now) place ≡ Some result.now }
 {
-    let mut at = place;
-    for tile in tiles {
-        let lines = tile.pages.items();
-        if at < lines.len() {
-            return &lines[at];
-        }
-        at -= lines.len();
-    }
-    unreachable!()
+    let tile = starts.partition_point(|start| *start <= place) - 1;
+    let lines = tiles[tile].pages.items();
+    &lines[place - starts[tile]]
 }
 
 /// The entry of the key in a page, which is fetched where the filter of its line allows the key.
@@ -140,7 +143,11 @@ fn look<D: Disk>(
     ensures found { D.tells → Agrees line.now (D.page_bytes page.now) → IfOk result (IsEntryOf key.now (entries_in (D.page_bytes page.now) ∷ [])) }
     ensures fetches { D.fetches port.new ≤ D.fetches port.old + allowed_in key.now (line.now ∷ []) }
     ensures later { D.fetches port.old ≤ D.fetches port.new }
-    ensures damaged { (name : Name) → IsErrOf result (Damaged name) → name ≡ page_name line.now.no }
+    ensures damaged { (name : Name) → IsErrOf result (Damaged name)
+        → IsDamagedAs D.tells name line.now (D.page_bytes page.now) × IsTrue (allows key.now line.now.filter) × (D.fetches port.old < D.fetches port.new) }
+
+    // On any disk.
+    ensures vouched { IfOk result (λ found. IfSome found (λ entry. (entry.key ≡ key.now) × IsVouched (line.now ∷ []) entry)) }
     ensures undamaged { D.tells → Agrees line.now (D.page_bytes page.now) → (name : Name) → IsErrOf result (Damaged name) → ⊥ }
     ensures cause { HasReadCause (D.port_faults port.old) (D.port_faults port.new) result }
     ensures can_fail { IsFault result → D.ports_fail }
@@ -168,7 +175,11 @@ pub fn find_in<D: Disk>(
         → IfOk result (IsEntryOf key.now (map (λ page. entries_in (D.page_bytes page.value)) pages.now)) }
     ensures fetches { D.fetches port.new ≤ D.fetches port.old + allowed_in key.now lines.now }
     ensures later { D.fetches port.old ≤ D.fetches port.new }
-    ensures damaged { (name : Name) → IsErrOf result (Damaged name) → Any (λ line. name ≡ page_name line.no) lines.now }
+    ensures damaged { (name : Name) → IsErrOf result (Damaged name)
+        → Any (λ of. IsDamagedAs D.tells name of.0 of.1 × IsTrue (allows key.now of.0.filter)) (zip lines.now (map (λ page. D.page_bytes page.value) pages.now)) × (D.fetches port.old < D.fetches port.new) }
+
+    // On any disk.
+    ensures vouched { IfOk result (λ found. IfSome found (λ entry. (entry.key ≡ key.now) × IsVouched lines.now entry)) }
     ensures undamaged { D.tells → AllZip Agrees lines.now (map (λ page. D.page_bytes page.value) pages.now)
         → (name : Name) → IsErrOf result (Damaged name) → ⊥ }
     ensures cause { HasReadCause (D.port_faults port.old) (D.port_faults port.new) result }

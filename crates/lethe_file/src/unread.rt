@@ -1,9 +1,9 @@
 //! What a cursor has still to give.
-ghost use Rattle.std.specs.Prelude.{◌≡◌, ◌+◌, ◌≤◌, [], length, Any, OnOk, IsErrOf};
+ghost use Rattle.std.specs.Prelude.{◌≡◌, ◌+◌, ◌<◌, ◌≤◌, [], length, OnOk, IsErrOf};
 ghost use Rattle.lethe_base.specs.declared.name.Name.{Name};
 ghost use Rattle.lethe_disk.specs.Reads.{HasReadCause, IsFault};
 ghost use Rattle.lethe_disk.specs.declared.cursor.ReadRefused.TheVariants.{Damaged};
-ghost use Rattle.lethe_file.specs.Agreement.{page_name};
+ghost use Rattle.lethe_file.specs.Damage.{damages_in};
 ghost use Rattle.lethe_file.specs.Waiting.{IsSoundIn, awaited_in, left_in};
 
 use crate::collecting::fetch_tile;
@@ -36,7 +36,8 @@ pub fn fill<S: PageSource>(
     ensures once { OnOk result (S.fetches port.new + length (awaited_in S.page_bytes unread.new) ≡ S.fetches port.old + length (awaited_in S.page_bytes unread.old)) }
     ensures at_most { S.fetches port.new ≤ S.fetches port.old + length (awaited_in S.page_bytes unread.old) }
     ensures fetches { S.fetches port.old ≤ S.fetches port.new }
-    ensures damaged { (name : Name) → IsErrOf result (Damaged name) → Any (λ number. name ≡ page_name number) (awaited_in S.page_bytes unread.old) }
+    ensures damaged { (name : Name) → IsErrOf result (Damaged name) → damages_in S.tells S.page_bytes unread.old name × (S.fetches port.old < S.fetches port.new) }
+    ensures fewer { (name : Name) → damages_in S.tells S.page_bytes unread.new name → damages_in S.tells S.page_bytes unread.old name }
     ensures undamaged { IsSoundIn S.tells S.page_bytes unread.old → (name : Name) → IsErrOf result (Damaged name) → ⊥ }
     ensures cause { HasReadCause (S.port_faults port.old) (S.port_faults port.new) result }
     ensures can_fail { IsFault result → S.ports_fail }

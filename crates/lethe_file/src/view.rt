@@ -1,13 +1,14 @@
 //! A file as its readers see it.
-ghost use Rattle.std.specs.Prelude.{◌≡◌, ◌+◌, ◌<◌, ◌≤◌, map, length, slice_get, Some, Any, IfOk, IsErrOf};
+ghost use Rattle.std.specs.Prelude.{◌≡◌, ◌+◌, ◌<◌, ◌≤◌, ℕ, List, map, length, slice_get, Some, IfOk, IfSome, IsErrOf};
 ghost use Rattle.std.specs.Option.{option_copied};
 ghost use Rattle.lethe_base.specs.declared.name.Name.{Name};
 ghost use Rattle.lethe_disk.specs.Reads.{HasReadCause, IsFault};
 ghost use Rattle.lethe_disk.specs.declared.cursor.ReadRefused.TheVariants.{Damaged};
 ghost use Rattle.lethe_header.specs.declared.header.PageLine.{PageLine};
-ghost use Rattle.lethe_file.specs.Agreement.{FileAgrees, IsPage, entries_in, page_name};
+ghost use Rattle.lethe_file.specs.Agreement.{FileAgrees, IsPage, entries_in};
 ghost use Rattle.lethe_file.specs.Between.{AreBetween, numbers_between};
-ghost use Rattle.lethe_file.specs.Finding.{IsEntryOf, allowed_pages};
+ghost use Rattle.lethe_file.specs.Damage.{IsDamagedAmong, IsDamagedAs, IsDamagedFor, IsVouched};
+ghost use Rattle.lethe_file.specs.Finding.{AreStarts, IsEntryOf, allowed_pages};
 ghost use Rattle.lethe_file.specs.Waiting.{awaited_in};
 ghost use Rattle.lethe_header.proofs.Props.{HasSpelling-prop};
 ghost use Rattle.lethe_header.specs.Headers.{HasSpelling};
@@ -15,7 +16,7 @@ ghost use Rattle.lethe_header.specs.Facts.{lines_of, facts_of};
 
 use crate::cursor::FileCursor;
 use crate::fetching::fetch_line;
-use crate::finding::{find_in, line_at, part_of_tile, tile_of};
+use crate::finding::{find_in, line_at, part_of_tile, starts_of, tile_of};
 use crate::holding::hold_tiles;
 use crate::range::KeyRange;
 use crate::unread::Unread;
@@ -30,19 +31,32 @@ use std::sync::Arc;
 pub struct FileView<D: Disk> {
     pub(crate) header: Header,
     pub(crate) pages: Vec<Arc<D::Page>>,
+
+    // Of each tile, how many pages stand in the tiles in front of it.
+    starts: Vec<usize>,
     ghost spelled: { HasSpelling header } by { HasSpelling-prop header },
     ghost paged: { length pages.items ≡ length (lines_of header.tiles) },
+    ghost starting: { AreStarts header.tiles starts.items },
 }
 
 impl<D: Disk> FileView<D> {
     /// The file of this header, which has a spelling, and these pages, one for each page line, in their order.
-    pub fn new(header: Header, pages: Vec<Arc<D::Page>>) -> FileView<D>
+    pub fn new(
+        alloc: Global,
+        header: Header,
+        pages: Vec<Arc<D::Page>>,
+    ) -> Result<FileView<D>, NoMemory>
         requires spelled { HasSpelling header }
         requires paged { length pages.items ≡ length (lines_of header.tiles) }
-        ensures header { result.header ≡ header }
-        ensures pages { result.pages ≡ pages }
+        ensures header { IfOk result (λ file. file.header ≡ header) }
+        ensures pages { IfOk result (λ file. file.pages ≡ pages) }
     {
-        FileView { header, pages }
+        let starts = starts_of(alloc, header.tiles.items())?;
+        Ok(FileView {
+            header,
+            pages,
+            starts,
+        })
     }
 
     /// Its header.
@@ -78,15 +92,18 @@ impl<D: Disk> FileView<D> {
         // On any disk the entries are those of a page of the digest, the class and the number of entries that the line tells of.
         ensures page { (line : PageLine) → slice_get (lines_of self.now.header.tiles) place ≡ Some line → IfOk result (λ entries. IsPage line entries.items) }
         ensures told { D.tells → IfOk result (λ entries. slice_get (map entries_in (map (λ page. D.page_bytes page.value) self.now.pages.items)) place ≡ Some entries.items) }
-        ensures damaged { (line : PageLine) → slice_get (lines_of self.now.header.tiles) place ≡ Some line
-            → (name : Name) → IsErrOf result (Damaged name) → name ≡ page_name line.no }
+
+        // A page is told as damaged only where the bytes that were fetched are another page's.
+        ensures damaged { (line : PageLine) (bytes : List ℕ) → slice_get (lines_of self.now.header.tiles) place ≡ Some line
+            → slice_get (map (λ page. D.page_bytes page.value) self.now.pages.items) place ≡ Some bytes
+            → (name : Name) → IsErrOf result (Damaged name) → IsDamagedAs D.tells name line bytes }
         ensures undamaged { D.tells → FileAgrees self.now.header.tiles (map (λ page. D.page_bytes page.value) self.now.pages.items)
             → (name : Name) → IsErrOf result (Damaged name) → ⊥ }
         ensures fetches { D.fetches port.new ≡ D.fetches port.old + 1 }
         ensures cause { HasReadCause (D.port_faults port.old) (D.port_faults port.new) result }
         ensures can_fail { IsFault result → D.ports_fail }
     {
-        let line = line_at(self.header.tiles.items(), place);
+        let line = line_at(self.header.tiles.items(), &self.starts, place);
         fetch_line::<D>(alloc, port, line, &self.pages[place])
     }
 
@@ -103,7 +120,13 @@ impl<D: Disk> FileView<D> {
         // None where no tile has the key.
         ensures fetches { D.fetches port.new ≤ D.fetches port.old + allowed_pages key.now self.now.header.tiles }
         ensures later { D.fetches port.old ≤ D.fetches port.new }
-        ensures damaged { (name : Name) → IsErrOf result (Damaged name) → Any (λ line. name ≡ page_name line.no) (lines_of self.now.header.tiles) }
+
+        // A page that is told as damaged was fetched in this call, since the key may be there, and is another page.
+        ensures damaged { (name : Name) → IsErrOf result (Damaged name)
+            → IsDamagedFor D.tells key.now self.now.header.tiles (map (λ page. D.page_bytes page.value) self.now.pages.items) name × (D.fetches port.old < D.fetches port.new) }
+
+        // On any disk the entry has the key, and a line of the file vouches for it.
+        ensures vouched { IfOk result (λ found. IfSome found (λ entry. (entry.key ≡ key.now) × IsVouched (lines_of self.now.header.tiles) entry)) }
         ensures undamaged { D.tells → FileAgrees self.now.header.tiles (map (λ page. D.page_bytes page.value) self.now.pages.items)
             → (name : Name) → IsErrOf result (Damaged name) → ⊥ }
         ensures cause { HasReadCause (D.port_faults port.old) (D.port_faults port.new) result }
@@ -114,7 +137,7 @@ impl<D: Disk> FileView<D> {
         if tile == tiles.len() {
             return Ok(None);
         }
-        let pages = part_of_tile(tiles, tile, &self.pages);
+        let pages = part_of_tile(tiles, tile, self.starts[tile], &self.pages);
         find_in::<D>(alloc, port, key, tiles[tile].pages.items(), pages)
     }
 
@@ -132,6 +155,8 @@ impl<D: Disk> FileView<D> {
             → IfOk result (λ cursor. AreBetween lo.now (option_copied hi.entry) (map entries_in (map (λ page. D.page_bytes page.value) self.now.pages.items)) (⟦<FileCursor<D> as Cursor<D>>⟧.left cursor)) }
 
         // Each page of a tile that meets the range is fetched once, and no other page.
+        ensures damages { IfOk result (λ cursor. (name : Name) → ⟦<FileCursor<D> as Cursor<D>>⟧.damages cursor name
+            → IsDamagedAmong D.tells (lines_of self.now.header.tiles) (map (λ page. D.page_bytes page.value) self.now.pages.items) name) }
         ensures pages { IfOk result (λ cursor. awaited_in D.page_bytes cursor.unread ≡ numbers_between lo.now (option_copied hi.entry) self.now.header.tiles) }
     {
         let range = KeyRange::of(lo, hi)?;

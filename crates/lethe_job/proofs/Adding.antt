@@ -1,18 +1,19 @@
 -- The entries of files, read page by page and file by file.
 use Rattle.std.proofs.Common.{◌≡◌, ℕ, ◌+◌, ◌<◌, ◌≤◌, List, [], ◌∷◌, ◌++◌, length, get_or, take, map, All, sym, ap, subst, ◌∙◌, arith, append_assoc, length-append}
-use Rattle.std.specs.Prelude.{Any, Some, flat_map, slice_get, sum_by}
+use Rattle.std.specs.Prelude.{Any, Some, flat_map, slice_get, sum_by, zip}
 use Rattle.std.proofs.lemmas.List.{append-nil, get_or-append-add, get_or-map, length-map, take_more, take_all}
 use Rattle.std.proofs.Math.ListN.{get_or-append}
 use Rattle.std.proofs.lemmas.List.Concat.{flat_map-append}
 use Rattle.std.proofs.lemmas.List.Elements.{All-append}
 use Rattle.std.proofs.lemmas.List.Sums.{sum_by_push, sum_by-take-le}
 use Rattle.std.proofs.lemmas.Option.{get_or_from_slice_get, slice_get-get_or}
+use Rattle.std.proofs.lemmas.Slice.Zip.{get_or-zip, length-zip}
 use Rattle.lethe_base.specs.Layout as layout
 use Rattle.lethe_base.specs.Spelling.{HasSpelling}
 use Rattle.lethe_base.specs.declared.entry.Entry.{Entry}
 use Rattle.lethe_header.specs.Headers as headers
 use Rattle.lethe_header.specs.declared.header.PageLine.{PageLine}
-use Rattle.lethe_file.specs.Agreement.{IsPage, page_name}
+use Rattle.lethe_file.specs.Agreement.{IsPage}
 use Rattle.lethe_file.specs.Agreement as pages
 use Rattle.lethe_follows.specs.Merged.{entries_in}
 use Rattle.lethe_stored.specs.Files.{StoredFile, file_of, lines_in}
@@ -85,15 +86,25 @@ file_many Tells file before all place f0 f1 p0 p1 read past =
     read.many ∙ ap (λ (lines : List PageLine). length before + headers.entries_in lines) (take_all place (lines_in file) past)
 
 -- the refused page is one of the file's
-pub page_named : (file : StoredFile) (place : ℕ) (P : PageLine → Type 0) → place < length (lines_in file) → ((line : PageLine) → slice_get (lines_in file) place ≡ Some line → P line) → Any P (lines_in file)
-page_named file place P inside named = by (lines_in file) inside named
+pub page_damaged : (file : StoredFile) (place : ℕ) (P : PageLine × List ℕ → Type 0) → place < length (lines_in file) → length file.pages ≡ length (lines_in file)
+    → ((line : PageLine) (bytes : List ℕ) → slice_get (lines_in file) place ≡ Some line → slice_get file.pages place ≡ Some bytes → P (line, bytes)) → Any P (zip (lines_in file) file.pages)
+page_damaged file place P inside paged damaged = by (lines_in file) file.pages inside paged damaged
   where
-    by : (lines : List PageLine) → place < length lines → ((line : PageLine) → slice_get lines place ≡ Some line → P line) → Any P lines
-    by [] inside named = absurd (omega arith)
-    by (line ∷ lines) inside named =
-        let at : PageLine = get_or (line ∷ lines) place line in
-        let there : slice_get (line ∷ lines) place ≡ Some at = slice_get-get_or (line ∷ lines) place line inside in
-        (place, at, inside, get_or_from_slice_get (line ∷ lines) place at at there, named at there)
+    by : (lines : List PageLine) (pages : List (List ℕ)) → place < length lines → length pages ≡ length lines
+        → ((line : PageLine) (bytes : List ℕ) → slice_get lines place ≡ Some line → slice_get pages place ≡ Some bytes → P (line, bytes)) → Any P (zip lines pages)
+    by [] pages inside paged damaged = absurd (omega arith)
+    by (first ∷ rest) pages inside paged damaged =
+        let lines : List PageLine = first ∷ rest in
+        let line : PageLine = get_or lines place first in
+        let bytes : List ℕ = get_or pages place [] in
+        let lt : place < length pages = omega (arith, inside, paged) in
+        let at : slice_get lines place ≡ Some line = slice_get-get_or lines place first inside in
+        let there : slice_get pages place ≡ Some bytes = slice_get-get_or pages place [] lt in
+        let both : place < length (zip lines pages) = omega (arith, inside, lt, length-zip lines pages) in
+        let is : get_or (zip lines pages) place (line, bytes) ≡ (line, bytes) =
+        get_or-zip lines pages place (line, bytes) inside lt ∙ ap (λ (l : PageLine). let pair : PageLine × List ℕ = (l, get_or pages place bytes) in pair) (get_or_from_slice_get lines place line line at)
+        ∙ ap (λ (b : List ℕ). let pair : PageLine × List ℕ = (line, b) in pair) (get_or_from_slice_get pages place bytes bytes there) in
+        (place, (line, bytes), both, is, damaged line bytes at there)
 
 -- so many files were read
 pub record AreAdded (Tells : Type 0) (files : List StoredFile) (before all : List Entry) (place f0 f1 p0 p1 : ℕ) : Type 0 where

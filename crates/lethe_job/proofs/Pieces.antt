@@ -14,7 +14,7 @@ use Rattle.lethe_disk.proofs.Causes.{cause_as}
 use Rattle.lethe_flush.specs.Made.{pages_in}
 use Rattle.lethe_stored.specs.Files.{StoredFile}
 use Rattle.lethe_job.specs.Jobs.{IsUnread, told_as}
-use Rattle.lethe_job.specs.Tasks.{AreSound, HasPage}
+use Rattle.lethe_job.specs.Tasks.{AreSound, HasDamaged}
 
 -- a draft takes one number more than it has pages
 pub numbers_are : (drafts : List Draft) → length (pages_in drafts) + length drafts ≡ sum_by numbers_for drafts
@@ -34,7 +34,7 @@ refused why = Err why
 
 -- the refusal of the reads that make the drafts
 pub unread : (Tells PortsFail : Type 0) (files : List StoredFile) (old new : ℕ) (told : ReadRefused) (why : Refused) → why ≡ told_as told → HasReadCause {T = Vec Draft Global} old new (Err told)
-    → (IsFault {T = Vec Draft Global} (Err told) → PortsFail) → ((name : Name) → IsErrOf {T = Vec Draft Global} (Err told) (Damaged name) → Any (HasPage name) files)
+    → (IsFault {T = Vec Draft Global} (Err told) → PortsFail) → ((name : Name) → IsErrOf {T = Vec Draft Global} (Err told) (Damaged name) → Any (HasDamaged Tells name) files)
     → (Tells → AreSound files → (name : Name) → IsErrOf {T = Vec Draft Global} (Err told) (Damaged name) → ⊥) → IsUnread Tells PortsFail files old new why
 unread Tells PortsFail files old new told why is cause can_fail damaged undamaged = record {
   told = told;

@@ -14,7 +14,7 @@ use Rattle.lethe_flush.specs.Made.{pages_in}
 use Rattle.lethe_follows.specs.Merged.{entries_in}
 use Rattle.lethe_merge.specs.Merge.{merged}
 use Rattle.lethe_stored.specs.Files.{StoredFile}
-use Rattle.lethe_job.specs.Tasks.{PlainTask, AreSound, HasPage, counted_in, inputs_in, plain_task}
+use Rattle.lethe_job.specs.Tasks.{PlainTask, AreSound, HasDamaged, counted_in, inputs_in, plain_task}
 use Rattle.lethe_job.specs.declared.job.Job.{Job}
 
 -- The drafts are those of the task's outputs. On any disk they have no more numbers than as many entries take as the headers of the inputs count.
@@ -36,11 +36,11 @@ told_as (reads.ReadFault before after) = ReadFault before after
 told_as (reads.Damaged name) = Damaged name
 told_as reads.NoMemory = NoMemory
 
--- The files could not be read: a fetch failed, a page of theirs isn't the one that was written, or there was no memory.
+-- The files could not be read: a fetch failed, a page of theirs is another one than was written, or there was no memory.
 pub record IsUnread (Tells PortsFail : Type 0) (files : List StoredFile) (old new : ℕ) (why : Refused) : Type 0 where
   pub told : read.ReadRefused
   pub is : why ≡ told_as told
   pub cause : HasReadCause {T = Unit {0}} old new (Err told)
   pub can_fail : IsFault {T = Unit {0}} (Err told) → PortsFail
-  pub damaged : (name : Name) → told ≡ reads.Damaged name → Any (HasPage name) files
+  pub damaged : (name : Name) → told ≡ reads.Damaged name → Any (HasDamaged Tells name) files
   pub undamaged : Tells → AreSound files → (name : Name) → told ≡ reads.Damaged name → ⊥

@@ -7,7 +7,8 @@ use Rattle.lethe_base.specs.declared.pending.Pending.{Pending}
 use Rattle.lethe_disk.specs.declared.disk.Disk.{Ghosts}
 use Rattle.lethe_fade.specs.Choice.{choice}
 use Rattle.lethe_fade.specs.declared.plan.Plan.{Plan}
-use Rattle.lethe_file.specs.Agreement.{FileAgrees, page_name}
+use Rattle.lethe_file.specs.Agreement.{FileAgrees}
+use Rattle.lethe_file.specs.Damage.{IsDamagedAmong}
 use Rattle.lethe_follows.specs.Merged.{StoredMerge, IsAlone, IsMergeIn, hull_of, inputs_of}
 use Rattle.lethe_header.specs.Headers.{entries_in}
 use Rattle.lethe_manifest.specs.declared.manifest.Cited.{Cited}
@@ -67,9 +68,9 @@ pub record IsCitedAs (levels : List (List Parts)) (cited : Cited) (file : Stored
 abbrev pub AreSound : List StoredFile → Type 0
 AreSound files = All (λ file. FileAgrees file.header.tiles file.pages) files
 
--- the name is one of the file's pages'
-abbrev pub HasPage : Name → StoredFile → Type 0
-HasPage name file = Any (λ line. name ≡ page_name line.no) (lines_in file)
+-- the name is that of a page of the file whose bytes are another page's
+abbrev pub HasDamaged : Type 0 → Name → StoredFile → Type 0
+HasDamaged tells name file = IsDamagedAmong tells (lines_in file) file.pages name
 
 -- It merges files that are stored. Outputs that are alone have no file below them, as those of the last level always have; the erases are those
 -- that are pending, and the outputs don't count as swept further than there are changes.

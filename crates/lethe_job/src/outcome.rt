@@ -9,7 +9,7 @@ ghost use Rattle.lethe_disk.specs.Reads.{HasReadCause, IsFault};
 ghost use Rattle.lethe_disk.specs.declared.cursor.ReadRefused.TheVariants.{Damaged};
 ghost use Rattle.lethe_merge.specs.Merge.{merged};
 ghost use Rattle.lethe_follows.specs.Merged.{entries_in};
-ghost use Rattle.lethe_job.specs.Tasks.{AreSound, HasPage, counted_in, inputs_in, pages_in, plain_task};
+ghost use Rattle.lethe_job.specs.Tasks.{AreSound, HasDamaged, counted_in, inputs_in, pages_in, plain_task};
 
 use crate::reading::add_files;
 use crate::task::Task;
@@ -30,7 +30,8 @@ impl<D: Disk> Task<D> {
         ensures counted { IfOk result (λ entries. length entries.items ≡ counted_in (inputs_in (plain_task self.now))) }
         ensures fetches { OnOk result (D.fetches port.new ≡ D.fetches port.old + pages_in (inputs_in (plain_task self.now))) }
         ensures at_most { D.fetches port.new ≤ D.fetches port.old + pages_in (inputs_in (plain_task self.now)) }
-        ensures damaged { (name : Name) → IsErrOf result (Damaged name) → Any (HasPage name) (inputs_in (plain_task self.now)) }
+        ensures damaged { (name : Name) → IsErrOf result (Damaged name) → Any (HasDamaged D.tells name) (inputs_in (plain_task self.now)) × (D.fetches port.old < D.fetches port.new) }
+        ensures later { D.fetches port.old ≤ D.fetches port.new }
         ensures undamaged { D.tells → AreSound (inputs_in (plain_task self.now)) → (name : Name) → IsErrOf result (Damaged name) → ⊥ }
         ensures cause { HasReadCause (D.port_faults port.old) (D.port_faults port.new) result }
         ensures can_fail { IsFault result → D.ports_fail }
@@ -60,7 +61,8 @@ impl<D: Disk> Task<D> {
         ensures bounded { IfOk result (λ drafts. sum_by numbers_for drafts.items ≤ most_numbers (counted_in (inputs_in (plain_task self.now)))) }
         ensures fetches { OnOk result (D.fetches port.new ≡ D.fetches port.old + pages_in (inputs_in (plain_task self.now))) }
         ensures at_most { D.fetches port.new ≤ D.fetches port.old + pages_in (inputs_in (plain_task self.now)) }
-        ensures damaged { (name : Name) → IsErrOf result (Damaged name) → Any (HasPage name) (inputs_in (plain_task self.now)) }
+        ensures damaged { (name : Name) → IsErrOf result (Damaged name) → Any (HasDamaged D.tells name) (inputs_in (plain_task self.now)) × (D.fetches port.old < D.fetches port.new) }
+        ensures later { D.fetches port.old ≤ D.fetches port.new }
         ensures undamaged { D.tells → AreSound (inputs_in (plain_task self.now)) → (name : Name) → IsErrOf result (Damaged name) → ⊥ }
         ensures cause { HasReadCause (D.port_faults port.old) (D.port_faults port.new) result }
         ensures can_fail { IsFault result → D.ports_fail }

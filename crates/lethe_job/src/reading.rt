@@ -9,7 +9,7 @@ ghost use Rattle.lethe_file.specs.Agreement.{FileAgrees};
 ghost use Rattle.lethe_follows.specs.Merged as merged;
 ghost use Rattle.lethe_header.specs.Headers.{entries_in};
 ghost use Rattle.lethe_stored.specs.Files.{file_of, lines_in};
-ghost use Rattle.lethe_job.specs.Tasks.{AreSound, HasPage, counted_in, pages_in, plain_file};
+ghost use Rattle.lethe_job.specs.Tasks.{AreSound, HasDamaged, counted_in, pages_in, plain_file};
 
 use crate::filed::Filed;
 use lethe_base::Entry;
@@ -41,7 +41,8 @@ fn add_file<D: Disk>(
     ensures counted { OnOk result (length entries.new.items ≡ length entries.old.items + entries_in (lines_in (plain_file filed.now))) }
     ensures fetches { OnOk result (D.fetches port.new ≡ D.fetches port.old + length (lines_in (plain_file filed.now))) }
     ensures at_most { D.fetches port.new ≤ D.fetches port.old + length (lines_in (plain_file filed.now)) }
-    ensures damaged { (name : Name) → IsErrOf result (Damaged name) → HasPage name (plain_file filed.now) }
+    ensures damaged { (name : Name) → IsErrOf result (Damaged name) → HasDamaged D.tells name (plain_file filed.now) × (D.fetches port.old < D.fetches port.new) }
+    ensures later { D.fetches port.old ≤ D.fetches port.new }
     ensures undamaged { D.tells → FileAgrees (plain_file filed.now).header.tiles (plain_file filed.now).pages → (name : Name) → IsErrOf result (Damaged name) → ⊥ }
     ensures cause { HasReadCause (D.port_faults port.old) (D.port_faults port.new) result }
     ensures can_fail { IsFault result → D.ports_fail }
@@ -69,7 +70,8 @@ pub fn add_files<D: Disk>(
     ensures counted { OnOk result (length entries.new.items ≡ length entries.old.items + counted_in (map plain_file files.now)) }
     ensures fetches { OnOk result (D.fetches port.new ≡ D.fetches port.old + pages_in (map plain_file files.now)) }
     ensures at_most { D.fetches port.new ≤ D.fetches port.old + pages_in (map plain_file files.now) }
-    ensures damaged { (name : Name) → IsErrOf result (Damaged name) → Any (HasPage name) (map plain_file files.now) }
+    ensures damaged { (name : Name) → IsErrOf result (Damaged name) → Any (HasDamaged D.tells name) (map plain_file files.now) × (D.fetches port.old < D.fetches port.new) }
+    ensures later { D.fetches port.old ≤ D.fetches port.new }
     ensures undamaged { D.tells → AreSound (map plain_file files.now) → (name : Name) → IsErrOf result (Damaged name) → ⊥ }
     ensures cause { HasReadCause (D.port_faults port.old) (D.port_faults port.new) result }
     ensures can_fail { IsFault result → D.ports_fail }

@@ -6,6 +6,7 @@ pub mod Fills
 pub mod Steps
 pub mod Skips
 pub mod Begins
+pub mod Awaits
 pub mod Settles
 pub mod Adds
 pub mod Gathers

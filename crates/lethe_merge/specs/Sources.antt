@@ -1,5 +1,5 @@
 -- Cursors side by side, each with its next entry where that is known.
-use Rattle.std.specs.Prelude.{◌≡◌, ◌≢◌, ⊤, Bool, true, false, List, [], ◌∷◌, ◌++◌, map, filter_map, All, Option, Some, None, if◌then◌else◌}
+use Rattle.std.specs.Prelude.{◌≡◌, ◌≢◌, ⊤, ℕ, Bool, true, false, List, [], ◌∷◌, ◌++◌, map, filter_map, All, Option, Some, None, if◌then◌else◌}
 use Rattle.std.specs.List.{flat_map}
 use Rattle.std.specs.Ordering.{is_lt}
 use Rattle.std.specs.declared.cmp.Ordering.TheVariants.{Greater}
@@ -22,6 +22,15 @@ entries_at Ended = []
 -- what a source has still to give, by what its cursor has
 abbrev pub left_in : {C : Type 0} → (C → List Entry) → Source C → List Entry
 left_in left source = entries_at source.head ++ left source.cursor
+
+-- how many fetches a source has still to make: none once its cursor ended
+abbrev pub awaits_at : ℕ → Head → ℕ
+awaits_at most Unasked = most
+awaits_at most (Here entry) = most
+awaits_at most Ended = 0
+
+abbrev pub awaits_in : {C : Type 0} → (C → ℕ) → Source C → ℕ
+awaits_in awaits source = awaits_at (awaits source.cursor) source.head
 
 -- The cursor is sound; and on a disk that tells what it holds the entries ascend, and none is left where the cursor ended.
 pub record IsSound {C : Type 0} (tells : Type 0) (sound : C → Type 0) (left : C → List Entry) (source : Source C) : Type 0 where

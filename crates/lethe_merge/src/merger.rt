@@ -1,8 +1,9 @@
 //! Cursors given out as one.
-ghost use Rattle.std.specs.Prelude.{◌≡◌, All, IfOk};
+ghost use Rattle.std.specs.Prelude.{◌≡◌, sum_by, All, Any, IfOk};
 ghost use Rattle.std.specs.List.{flat_map};
+ghost use Rattle.lethe_base.specs.declared.name.Name.{Name};
 ghost use Rattle.lethe_merge.specs.Merge.{merged};
-ghost use Rattle.lethe_merge.specs.Sources.{AreSound, left_merged};
+ghost use Rattle.lethe_merge.specs.Sources.{AreSound, awaits_in, left_merged};
 
 use crate::joining::bare;
 use crate::least::take_least;
@@ -35,6 +36,8 @@ impl<D: Disk, C: Cursor<D> + Drop> Merger<D, C> {
         requires { All C.may_ask cursors.items }
         ensures again { IfOk result (λ merger. ⟦<Merger<D, C> as Cursor<D>>⟧.may_ask merger) }
         ensures sound { All C.sound cursors.items → IfOk result (λ merger. ⟦<Merger<D, C> as Cursor<D>>⟧.sound merger) }
+        ensures awaits { IfOk result (λ merger. ⟦<Merger<D, C> as Cursor<D>>⟧.awaits merger ≡ sum_by C.awaits cursors.items) }
+        ensures damages { IfOk result (λ merger. (name : Name) → ⟦<Merger<D, C> as Cursor<D>>⟧.damages merger name → Any (λ cursor. C.damages cursor name) cursors.items) }
         ensures left { IfOk result (λ merger. ⟦<Merger<D, C> as Cursor<D>>⟧.left merger ≡ merged (flat_map C.left cursors.items) erases.items alone) }
     {
         let mut sources = Vec::with_capacity(alloc, cursors.len())?;
@@ -59,6 +62,10 @@ impl<D: Disk, C: Cursor<D>> Cursor<D> for Merger<D, C> {
     ghost sound = { λ m. AreSound D.tells C.sound C.left m.sources.items m.erases.items m.alone };
 
     ghost left = { λ m. left_merged C.left m.sources.items m.erases.items m.alone };
+
+    ghost awaits = { λ m. sum_by (awaits_in C.awaits) m.sources.items };
+
+    ghost damages = { λ m name. Any (λ source. C.damages source.cursor name) m.sources.items };
 
     ghost ascends = { λ m asked sound. sound.ascending };
 

@@ -1,6 +1,6 @@
 -- Parts for files, one file after another.
-use Rattle.std.proofs.Common.{◌≡◌, ℕ, zero, suc, ◌+◌, ◌-◌, ◌<◌, ◌≤◌, List, [], ◌∷◌, ◌++◌, length, get_or, take, map, All, Contains, IsTrue, Some, ⊎_elim, inl, inr, refl, sym, ap, subst, ◌∙◌, arith}
-use Rattle.std.specs.Prelude.{Any, ◌⊎◌, ◌↔◌, filter, flat_map}
+use Rattle.std.proofs.Common.{◌≡◌, ℕ, zero, suc, ◌+◌, ◌-◌, ◌<◌, ◌≤◌, List, [], ◌∷◌, ◌++◌, length, get_or, take, map, All, Contains, Some, ⊎_elim, inl, inr, refl, sym, ap, subst, ◌∙◌, arith}
+use Rattle.std.specs.Prelude.{Any, ◌⊎◌, flat_map}
 use Rattle.std.proofs.lemmas.Bool.{cases_lt}
 use Rattle.std.proofs.lemmas.Grind.{flat_map-append}
 use Rattle.std.proofs.lemmas.List.{append-nil, get_or-append-add, get_or_append_left, length-append, map-append, take_all, take_more}
@@ -15,23 +15,23 @@ use Rattle.lethe_read.specs.Between.{AreReadBetween}
 use Rattle.lethe_read.specs.Parts.{Adds}
 use Rattle.lethe_read.proofs.Ranges.{entries_between}
 
-Any-left : {X : Type 0} (P : X → Type 0) (xs ys : List X) → Any P xs → Any P (xs ++ ys)
+pub Any-left : {X : Type 0} (P : X → Type 0) (xs ys : List X) → Any P xs → Any P (xs ++ ys)
 Any-left P xs ys (k, x, lt, is, holds) = (k, x, omega (arith, length-append xs ys, lt), get_or_append_left xs ys x k lt ∙ is, holds)
 
-Any-right : {X : Type 0} (P : X → Type 0) (xs ys : List X) → Any P ys → Any P (xs ++ ys)
+pub Any-right : {X : Type 0} (P : X → Type 0) (xs ys : List X) → Any P ys → Any P (xs ++ ys)
 Any-right P xs ys (k, x, lt, is, holds) = (length xs + k, x, omega (arith, length-append xs ys, lt), get_or-append-add xs ys k x ∙ is, holds)
 
-Any-cases : {X : Type 0} (P : X → Type 0) (xs ys : List X) → Any P (xs ++ ys) → Any P xs ⊎ Any P ys
+pub Any-cases : {X : Type 0} (P : X → Type 0) (xs ys : List X) → Any P (xs ++ ys) → Any P xs ⊎ Any P ys
 Any-cases P xs ys (k, x, lt, is, holds) =
     ⊎_elim (λ inside. inl (k, x, inside, sym (get_or_append_left xs ys x k inside) ∙ is, holds))
     (λ past. let back : length xs + (k - length xs) ≡ k = omega (arith, past) in
     inr (k - length xs, x, omega (arith, length-append xs ys, lt, past), sym (get_or-append-add xs ys (k - length xs) x) ∙ ap (λ n. get_or (xs ++ ys) n x) back ∙ is, holds))
     (cases_lt k (length xs))
 
-none_of : {X : Type 0} (P : X → Type 0) → Any P [] → ⊥
+pub none_of : {X : Type 0} (P : X → Type 0) → Any P [] → ⊥
 none_of P (k, x, lt, is, holds) = omega (arith, lt)
 
-only_of : {X : Type 0} (P : X → Type 0) (x : X) → Any P (x ∷ []) → P x
+pub only_of : {X : Type 0} (P : X → Type 0) (x : X) → Any P (x ∷ []) → P x
 only_of P x (zero, y, lt, is, holds) = subst P (sym is) holds
 only_of P x (suc k, y, lt, is, holds) = absurd (omega (arith, lt))
 

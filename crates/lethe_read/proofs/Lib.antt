@@ -1,4 +1,6 @@
 pub mod Adding
+pub mod Awaiting
+pub mod Backed
 pub mod Buffered
 pub mod Filed
 pub mod Nothing

@@ -1,8 +1,9 @@
 -- The entry of a key in two buffers and the files below them.
-use Rattle.std.specs.Prelude.{◌≡◌, Bool, false, List, [], Option, Some, None, is_some}
+use Rattle.std.specs.Prelude.{◌≡◌, ◌⊎◌, ℕ, Bool, false, List, [], Contains, Option, Some, None, is_some}
 use Rattle.std.specs.Option.{option_or}
 use Rattle.lethe_base.specs.Entries.{entry_of}
 use Rattle.lethe_base.specs.Keys.{Bytes}
+use Rattle.lethe_base.specs.declared.entry.Body.TheVariants.{Put}
 use Rattle.lethe_base.specs.declared.entry.Entry.{Entry}
 use Rattle.lethe_version.specs.Newest.{IsNewestIn}
 
@@ -22,3 +23,10 @@ IsNewestBelow key active frozen files filed = is_buffered key active frozen ≡ 
 abbrev pub frozen_entries : {B : Type 0} → (B → List Entry) → Option B → List Entry
 frozen_entries entries_of None = []
 frozen_entries entries_of (Some buffer) = entries_of buffer
+
+-- On any disk: what a key has stands in an entry of the key that a buffer has, or for which one of the files vouches.
+pub record IsBacked (key : Bytes) (active frozen : List Entry) (IsFiled : Entry → Type 0) (held : ℕ × Bytes) : Type 0 where
+  pub entry : Entry
+  pub of_key : entry.key ≡ key
+  pub is : entry.body ≡ Put held.0 held.1
+  pub stands : (Contains active entry ⊎ Contains frozen entry) ⊎ IsFiled entry

@@ -1,5 +1,5 @@
 //! The pair of a key.
-ghost use Rattle.std.specs.Prelude.{◌≡◌, ◌≤◌, ◌+◌, map, option_and_then, sum_by, All, Any, Option, IfOk, IsErrOf, if◌then◌else◌};
+ghost use Rattle.std.specs.Prelude.{◌≡◌, ◌<◌, ◌≤◌, ◌+◌, map, option_and_then, sum_by, All, Option, IfOk, IfSome, IsErrOf, if◌then◌else◌};
 ghost use Rattle.std.specs.List.{list_any};
 ghost use Rattle.std.specs.Option.{option_copied, option_or};
 ghost use Rattle.lethe_base.specs.Entries.{entry_of};
@@ -9,9 +9,8 @@ ghost use Rattle.lethe_base.specs.declared.name.Name.{Name};
 ghost use Rattle.lethe_disk.specs.Reads.{HasReadCause, IsFault};
 ghost use Rattle.lethe_disk.specs.declared.cursor.ReadRefused.TheVariants.{Damaged};
 ghost use Rattle.lethe_version.specs.Probing.{bound};
-ghost use Rattle.lethe_version.specs.Search.{NamesPage};
-ghost use Rattle.lethe_version.specs.Versions.{IsSound, entries_of, files_of};
-ghost use Rattle.lethe_read.specs.Found.{IsNewestBelow, first_found, frozen_entries, is_buffered};
+ghost use Rattle.lethe_version.specs.Versions.{IsDamagedOf, IsSound, IsVouchedBy, entries_of, files_of};
+ghost use Rattle.lethe_read.specs.Found.{IsBacked, IsNewestBelow, first_found, frozen_entries, is_buffered};
 
 use lethe_base::{Body, Entry, Key, Pending, Value};
 use lethe_disk::{Disk, ReadRefused};
@@ -37,7 +36,12 @@ pub fn get<D: Disk, B: Buffer>(
     ensures fetches { D.fetches port.new ≤ D.fetches port.old
         + (if is_buffered key.now (B.entries active.now) (frozen_entries B.entries (option_copied frozen.entry)) then 0 else sum_by (λ file. bound key.now file.header) (files_of version.now)) }
     ensures later { D.fetches port.old ≤ D.fetches port.new }
-    ensures damaged { (name : Name) → IsErrOf result (Damaged name) → Any (λ file. NamesPage name file.header) (files_of version.now) }
+
+    // A page that is told as damaged was fetched in this call, since the key may be there, and is another page.
+    ensures damaged { (name : Name) → IsErrOf result (Damaged name) → IsDamagedOf key.now version.now name × (D.fetches port.old < D.fetches port.new) }
+
+    // On any disk.
+    ensures backed { IfOk result (λ held. IfSome held (IsBacked key.now (B.entries active.now) (frozen_entries B.entries (option_copied frozen.entry)) (IsVouchedBy version.now))) }
     ensures undamaged { D.tells → All IsSound (files_of version.now) → (name : Name) → IsErrOf result (Damaged name) → ⊥ }
     ensures cause { HasReadCause (D.port_faults port.old) (D.port_faults port.new) result }
     ensures can_fail { IsFault result → D.ports_fail }

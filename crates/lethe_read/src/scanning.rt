@@ -1,5 +1,5 @@
 //! The pairs of the keys between two.
-ghost use Rattle.std.specs.Prelude.{◌≡◌, ◌≤◌, ◌∷◌, [], ◌++◌, true, false, map, flat_map, List, All, IfOk, OnOk, IsErrOf};
+ghost use Rattle.std.specs.Prelude.{◌≡◌, ◌+◌, ◌<◌, ◌≤◌, ◌∷◌, [], ◌++◌, Some, true, false, length, map, flat_map, sum_by, List, All, Any, IfOk, OnOk, IsErrOf};
 ghost use Rattle.std.specs.Option.{option_copied};
 ghost use Rattle.std.specs.Ordering.{is_lt};
 ghost use Rattle.lethe_base.specs.Keys.{key_cmp};
@@ -7,12 +7,15 @@ ghost use Rattle.lethe_base.specs.declared.entry.Entry.{Entry};
 ghost use Rattle.lethe_base.specs.declared.name.Name.{Name};
 ghost use Rattle.lethe_disk.specs.Reads.{HasReadCause, IsFault};
 ghost use Rattle.lethe_disk.specs.declared.cursor.ReadRefused.TheVariants.{Damaged};
+ghost use Rattle.lethe_file.specs.Between.{numbers_between};
+ghost use Rattle.lethe_file.specs.Damage.{IsDamagedAmong};
+ghost use Rattle.lethe_header.specs.Facts.{lines_of};
 ghost use Rattle.lethe_mem.specs.Pairs.{pairs_of};
 ghost use Rattle.lethe_merge.specs.Merge.{merged};
-ghost use Rattle.lethe_version.specs.Versions.{IsSound, entries_of, files_of};
+ghost use Rattle.lethe_version.specs.Versions.{IsDamagedInAny, IsSound, bytes_of, entries_of, files_of, pages_between};
 ghost use Rattle.lethe_read.specs.Between.{AreReadBetween, by_keys};
 ghost use Rattle.lethe_read.specs.Found.{frozen_entries};
-ghost use Rattle.lethe_read.specs.Parts.{Adds};
+ghost use Rattle.lethe_read.specs.Parts.{Adds, Awaits};
 
 use crate::part::{Part, copies_between};
 use lethe_base::{Body, Entry, Key, NoMemory, Pending, Value};
@@ -39,8 +42,13 @@ pub fn scan<D: Disk, B: Buffer>(
         × AreReadBetween lo.now hi.now (B.entries active.now) (frozen_entries B.entries (option_copied frozen.entry)) (map entries_of (files_of version.now)) entries
         × (by_keys pairs.items ≡ pairs_of (merged entries erases.now true))) }
 
-    // Nothing is fetched where `lo` isn't below `hi`.
+    // Each page of a tile that meets the range is fetched once, and no other page; nothing is fetched where `lo` isn't below `hi`.
+    ensures fetches { is_lt (key_cmp lo.now hi.now) ≡ true → OnOk result (D.fetches port.new ≡ D.fetches port.old + pages_between lo.now hi.now version.now) }
+    ensures at_most { is_lt (key_cmp lo.now hi.now) ≡ true → D.fetches port.new ≤ D.fetches port.old + pages_between lo.now hi.now version.now }
     ensures unasked { is_lt (key_cmp lo.now hi.now) ≡ false → D.fetches port.new ≡ D.fetches port.old }
+
+    // A page that is told as damaged was fetched in this call, and is another page.
+    ensures damaged { (name : Name) → IsErrOf result (Damaged name) → IsDamagedInAny version.now name × (D.fetches port.old < D.fetches port.new) }
     ensures later { D.fetches port.old ≤ D.fetches port.new }
     ensures undamaged { D.tells → All IsSound (files_of version.now) → (name : Name) → IsErrOf result (Damaged name) → ⊥ }
     ensures cause { HasReadCause (D.port_faults port.old) (D.port_faults port.new) result }
@@ -68,6 +76,8 @@ fn parts_of<D: Disk, B: Buffer>(
     ensures sound { D.tells → All IsSound (files_of version.now) → IfOk result (λ parts. All ⟦<Part<FileCursor<D>> as Cursor<D>>⟧.sound parts.items) }
     ensures left { All IsSound (files_of version.now) → IfOk result (λ parts.
         AreReadBetween lo.now hi.now (B.entries active.now) (frozen_entries B.entries (option_copied frozen.entry)) (map entries_of (files_of version.now)) (flat_map ⟦<Part<FileCursor<D>> as Cursor<D>>⟧.left parts.items)) }
+    ensures awaits { IfOk result (λ parts. sum_by ⟦<Part<FileCursor<D>> as Cursor<D>>⟧.awaits parts.items ≡ pages_between lo.now hi.now version.now) }
+    ensures damages { IfOk result (λ parts. (name : Name) → Any (λ part. ⟦<Part<FileCursor<D>> as Cursor<D>>⟧.damages part name) parts.items → IsDamagedInAny version.now name) }
 {
     let mut parts = buffered_parts::<D, B>(alloc, active, frozen, lo, hi)?;
     for level in 0..version.levels() {
@@ -87,6 +97,8 @@ fn buffered_parts<D: Disk, B: Buffer>(
     ensures sound { IfOk result (λ parts. All ⟦<Part<FileCursor<D>> as Cursor<D>>⟧.sound parts.items) }
     ensures left { IfOk result (λ parts.
         AreReadBetween lo.now hi.now (B.entries active.now) (frozen_entries B.entries (option_copied frozen.entry)) [] (flat_map ⟦<Part<FileCursor<D>> as Cursor<D>>⟧.left parts.items)) }
+    ensures awaits { IfOk result (λ parts. sum_by ⟦<Part<FileCursor<D>> as Cursor<D>>⟧.awaits parts.items ≡ 0) }
+    ensures damages { IfOk result (λ parts. (name : Name) → Any (λ part. ⟦<Part<FileCursor<D>> as Cursor<D>>⟧.damages part name) parts.items → ⊥) }
 {
     let mut parts = Vec::new(alloc);
     parts.push(Part::Buffered(copies_between(alloc, active, lo, hi)?))?;
@@ -104,7 +116,10 @@ fn push_files<D: Disk>(
     lo: &Key,
     hi: &Key,
 ) -> Result<(), NoMemory>
-    ensures { OnOk result (Adds D.tells ⟦<Part<FileCursor<D>> as Cursor<D>>⟧.sound ⟦<Part<FileCursor<D>> as Cursor<D>>⟧.left IsSound entries_of lo.now hi.now
+    ensures awaits { OnOk result (Awaits ⟦<Part<FileCursor<D>> as Cursor<D>>⟧.awaits ⟦<Part<FileCursor<D>> as Cursor<D>>⟧.damages
+        (λ file. length (numbers_between lo.now (Some hi.now) file.header.tiles)) (λ file. IsDamagedAmong D.tells (lines_of file.header.tiles) (bytes_of file))
+        (map (λ shared. shared.file.value) files.now) parts.old.items parts.new.items) }
+    ensures adds { OnOk result (Adds D.tells ⟦<Part<FileCursor<D>> as Cursor<D>>⟧.sound ⟦<Part<FileCursor<D>> as Cursor<D>>⟧.left IsSound entries_of lo.now hi.now
         (map (λ shared. shared.file.value) files.now) parts.old.items parts.new.items) }
 {
     for file in files {
@@ -121,6 +136,9 @@ fn pairs_from<D: Disk, C: Cursor<D>>(
 ) -> Result<Vec<(Key, u64, Value)>, ReadRefused>
     requires { C.may_ask cursor.old }
     ensures listed { D.tells → C.sound cursor.old → IfOk result (λ pairs. by_keys pairs.items ≡ pairs_of (C.left cursor.old)) }
+    ensures once { OnOk result (D.fetches port.new ≡ D.fetches port.old + C.awaits cursor.old) }
+    ensures at_most { D.fetches port.new ≤ D.fetches port.old + C.awaits cursor.old }
+    ensures damaged { (name : Name) → IsErrOf result (Damaged name) → C.damages cursor.old name × (D.fetches port.old < D.fetches port.new) }
     ensures later { D.fetches port.old ≤ D.fetches port.new }
     ensures undamaged { D.tells → C.sound cursor.old → (name : Name) → IsErrOf result (Damaged name) → ⊥ }
     ensures cause { HasReadCause (D.port_faults port.old) (D.port_faults port.new) result }

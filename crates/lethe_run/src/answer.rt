@@ -1,10 +1,11 @@
 //! Answering one order.
-ghost use Rattle.std.specs.Prelude.{◌≡◌, ◌≤◌, ℕ, IfErr, MatchResult};
+ghost use Rattle.std.specs.Prelude.{◌≡◌, ◌<◌, ◌≤◌, ℕ, IfErr, MatchResult, Ok};
 ghost use Rattle.lethe_base.specs.History.{History};
 ghost use Rattle.lethe_engine.specs.Reads.{IsReadRefusal};
 ghost use Rattle.lethe_core.specs.Running.{IsSound};
 ghost use Rattle.lethe_core.specs.View.{view_of};
 ghost use Rattle.lethe_run.specs.Anywhere.{IsTold, standing_of};
+ghost use Rattle.lethe_run.specs.declared.reply.Reply.TheVariants as reply;
 ghost use Rattle.lethe_run.specs.Replies.{IsOfChange, reply_of, unread_of};
 ghost use Rattle.lethe_run.specs.Serving.{IsOn, IsAnswered, Advances, Point};
 ghost use Rattle.lethe_run.specs.Transcript.{Start};
@@ -35,6 +36,8 @@ pub(crate) fn answer<D: Disk>(
         (λ reply. (g : History) × IsAnswered D.ports_fail begin h g caller act reply (view_of engine.old.core) (view_of engine.new.core))
         (λ why. Advances begin h h (view_of engine.old.core) (view_of engine.new.core)) }
     ensures faults { D.faults engine.old.core.disk ≤ D.faults engine.new.core.disk }
+    // On any disk a page is told as damaged only where a fetch was made.
+    ensures fetched { (no : ℕ) → result ≡ Ok (reply.Damaged no) → D.fetches port.old < D.fetches port.new }
 {
     match act {
         Act::Put { key, dkey, value } => changed(engine.put(alloc, port, key, dkey, value)),

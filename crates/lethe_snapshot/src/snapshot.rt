@@ -1,5 +1,5 @@
 //! What a store held at a point.
-ghost use Rattle.std.specs.Prelude.{◌≡◌, ◌≤◌, ◌+◌, false, sum_by, Any, Option, IfOk, IsErrOf, if◌then◌else◌};
+ghost use Rattle.std.specs.Prelude.{◌≡◌, ◌<◌, ◌≤◌, ◌+◌, true, false, sum_by, Option, IfOk, IfSome, OnOk, IsErrOf, if◌then◌else◌};
 ghost use Rattle.std.specs.Ordering.{is_lt};
 ghost use Rattle.lethe_base.specs.Keys.{key_cmp};
 ghost use Rattle.lethe_base.specs.History.{History, after};
@@ -9,13 +9,12 @@ ghost use Rattle.lethe_disk.specs.Reads.{HasReadCause, IsFault};
 ghost use Rattle.lethe_disk.specs.declared.cursor.ReadRefused.TheVariants.{Damaged};
 ghost use Rattle.lethe_advance.specs.Shown.{parts_by_level};
 ghost use Rattle.lethe_read.specs.Between.{by_keys};
-ghost use Rattle.lethe_read.specs.Found.{frozen_entries, is_buffered};
+ghost use Rattle.lethe_read.specs.Found.{IsBacked, frozen_entries, is_buffered};
 ghost use Rattle.lethe_state.specs.Remembered.{IsFrozenIn, Remembers};
 ghost use Rattle.lethe_stored.specs.Kept.{IsFor};
 ghost use Rattle.lethe_stored.specs.Stored.{Segment, Stored};
 ghost use Rattle.lethe_version.specs.Probing.{bound};
-ghost use Rattle.lethe_version.specs.Search.{NamesPage};
-ghost use Rattle.lethe_version.specs.Versions.{files_of};
+ghost use Rattle.lethe_version.specs.Versions.{IsDamagedInAny, IsDamagedOf, IsVouchedBy, files_of, pages_between};
 ghost use Rattle.lethe_snapshot.specs.Points.{IsOf};
 
 use crate::sharing::share;
@@ -76,7 +75,12 @@ impl<D: Disk> Snapshot<D> {
         key: &Key,
     ) -> Result<Option<(u64, Value)>, ReadRefused>
         ensures answer { D.tells → (h : History) → IsOf h self.now → IfOk result (λ held. answer (after h) (Get key.now) ≡ Found held) }
-        ensures damaged { (name : Name) → IsErrOf result (Damaged name) → Any (λ file. NamesPage name file.header) (files_of self.now.version) }
+
+        // A page that is told as damaged was fetched in this call, since the key may be there, and is another page.
+        ensures damaged { (name : Name) → IsErrOf result (Damaged name) → IsDamagedOf key.now self.now.version name × (D.fetches port.old < D.fetches port.new) }
+
+        // On any disk.
+        ensures backed { IfOk result (λ held. IfSome held (IsBacked key.now self.now.active.entries (frozen_entries (λ buffer. buffer.entries) self.now.frozen) (IsVouchedBy self.now.version))) }
         ensures undamaged { D.tells → (h : History) → IsOf h self.now → (name : Name) → IsErrOf result (Damaged name) → ⊥ }
         ensures cause { HasReadCause (D.port_faults port.old) (D.port_faults port.new) result }
         ensures can_fail { IsFault result → D.ports_fail }
@@ -114,7 +118,14 @@ impl<D: Disk> Snapshot<D> {
         ensures undamaged { D.tells → (h : History) → IsOf h self.now → (name : Name) → IsErrOf result (Damaged name) → ⊥ }
         ensures cause { HasReadCause (D.port_faults port.old) (D.port_faults port.new) result }
         ensures can_fail { IsFault result → D.ports_fail }
+
+        // Each page of a tile that meets the range is fetched once, and no other page; nothing is fetched where `lo` isn't below `hi`.
+        ensures fetches { is_lt (key_cmp lo.now hi.now) ≡ true → OnOk result (D.fetches port.new ≡ D.fetches port.old + pages_between lo.now hi.now self.now.version) }
+        ensures at_most { is_lt (key_cmp lo.now hi.now) ≡ true → D.fetches port.new ≤ D.fetches port.old + pages_between lo.now hi.now self.now.version }
         ensures unasked { is_lt (key_cmp lo.now hi.now) ≡ false → D.fetches port.new ≡ D.fetches port.old }
+
+        // A page that is told as damaged was fetched in this call, and is another page.
+        ensures damaged { (name : Name) → IsErrOf result (Damaged name) → IsDamagedInAny self.now.version name × (D.fetches port.old < D.fetches port.new) }
         ensures later { D.fetches port.old ≤ D.fetches port.new }
     {
         let frozen = self.frozen.as_ref();

@@ -25,6 +25,10 @@ impl<D: Disk> Cursor<D> for Listed {
 
     ghost left = { λ c. reverse c.entries.items };
 
+    ghost awaits = { λ _. 0 };
+
+    ghost damages = { λ _ _. ⊥ };
+
     ghost ascends = { λ c asked sound. sound };
 
     fn next(&mut self, _alloc: Global, _port: &mut D::Port) -> Result<Option<Entry>, ReadRefused> {

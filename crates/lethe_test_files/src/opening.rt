@@ -109,7 +109,7 @@ pub fn add_file(
             &mut opened,
         )?;
     }
-    Ok(FileView::new(header, opened))
+    Ok(FileView::new(alloc, header, opened)?)
 }
 
 /// The file on a disk of its own, and a port of the disk.

@@ -48,7 +48,7 @@ fn file(alloc: Global) -> Result<FileView<FlakyDisk>, Fail> {
         return Err(Fail::new("two pages"));
     }
     let pages = vec![in alloc; page_of(alloc, PAGE_AC)?, page_of(alloc, PAGE_BD)?]?;
-    Ok(FileView::new(header, pages))
+    Ok(FileView::new(alloc, header, pages)?)
 }
 
 /// A snapshot of a store that has the file alone.

@@ -1,6 +1,7 @@
 pub mod Newer
 pub mod Probed
 pub mod Places
+pub mod Vouched
 pub mod Searched
 pub mod Rising
 pub mod Levels

@@ -1,6 +1,7 @@
 -- Looking through files, one after another.
-use Rattle.std.proofs.Common.{◌≡◌, ℕ, ◌+◌, ◌<◌, ◌≤◌, List, [], ◌∷◌, ◌++◌, length, get_or, take, drop, map, sum_by, All, Option, Some, None, Result, Ok, Err, refl, sym, ap, subst, ◌∙◌, arith, append_assoc}
-use Rattle.std.specs.Prelude.{Any, IfOk, IsErrOf, IsSomeAnd}
+use Rattle.std.proofs.Common.{◌≡◌, ◌⊎◌, ⊎_elim, inl, inr, ℕ, ◌+◌, ◌<◌, ◌≤◌, List, [], ◌∷◌, ◌++◌, length, get_or, take, drop, map, sum_by}
+use Rattle.std.proofs.Common.{All, Option, Some, None, Result, Ok, Err, refl, sym, ap, subst, ◌∙◌, arith, append_assoc}
+use Rattle.std.specs.Prelude.{Any, IfOk, IfSome, IsErrOf, IsSomeAnd}
 use Rattle.std.proofs.lemmas.List.{map-append}
 use Rattle.std.proofs.lemmas.List.{append-nil, take_more, take_all, take-append-drop, get_or-append-add, get_or_append_left, length-append}
 use Rattle.std.proofs.lemmas.List.Elements.{All-head, All-tail, All-map}
@@ -16,16 +17,18 @@ use Rattle.lethe_header.specs.Facts.{lines_of, max_seq_in}
 use Rattle.lethe_header.specs.Headers.{HasSpelling}
 use Rattle.lethe_header.specs.declared.header.Header.{Header}
 use Rattle.lethe_file.specs.Agreement.{FileAgrees, entries_in}
+use Rattle.lethe_file.specs.Damage.{IsDamagedFor, IsVouched}
 use Rattle.lethe_file.specs.Finding.{IsEntryOf}
 use Rattle.lethe_disk.specs.Reads.{refused_since}
 use Rattle.lethe_disk.proofs.Causes.{cause_since, damage_since, fault_since}
 use Rattle.lethe_file.proofs.Unique.{one_found}
 use Rattle.lethe_version.specs.Newest.{IsNewestIn, newer_of}
 use Rattle.lethe_version.specs.Probing.{bound, IsNarrowed}
-use Rattle.lethe_version.specs.Search.{IsSearch, NamesPage}
+use Rattle.lethe_version.specs.Search.{IsSearch}
 use Rattle.lethe_version.proofs.Newer.{newest_kept, newest_lack, newest_next}
 use Rattle.lethe_version.proofs.Places.{up_to_header}
 use Rattle.lethe_version.proofs.Probed.{none_allowed}
+use Rattle.lethe_version.proofs.Vouched.{AreVouching, IsVouchedAt, newer_vouched, wider}
 
 All-left : {X : Type 0} (P : X → Type 0) (xs ys : List X) → All P (xs ++ ys) → All P xs
 All-left P xs ys all k d lt = subst P (get_or_append_left xs ys d k lt) (all k d (omega (arith, length-append xs ys, lt)))
@@ -52,6 +55,9 @@ module _ {F : Type 0} (header : F → Header) (bytes : F → List (List ℕ)) (t
   abbrev pages_for : F → ℕ
   pages_for file = bound key (header file)
 
+  abbrev IsDamagedAt : Name → F → Type 0
+  IsDamagedAt name file = IsDamagedFor tells key (header file).tiles (bytes file) name
+
   lack_all : (files : List F) → All IsSound files → All (λ file. pages_for file ≡ 0) files → All (λ file. IsEntryOf key file None) (map entries_of files)
   lack_all files sound none = All-map (λ file. IsEntryOf key file None) entries_of files (λ k d lt. none_allowed key (header (get_or files k d)).tiles (bytes (get_or files k d)) (sound k d lt).pages (sound k d lt).tiles (none k d lt))
 
@@ -66,6 +72,7 @@ module _ {F : Type 0} (header : F → Header) (bytes : F → List (List ℕ)) (t
     few = omega arith;
     later = omega arith;
     damaged = λ name e. absurd cc;
+    vouched = inl refl;
     undamaged = λ told sound name e. absurd cc;
     cause = no_cause faults newest;
     fault = λ (before, after, e). absurd cc;
@@ -80,6 +87,7 @@ module _ {F : Type 0} (header : F → Header) (bytes : F → List (List ℕ)) (t
     few = omega arith;
     later = omega arith;
     damaged = λ name e. absurd cc;
+    vouched = inl refl;
     undamaged = λ told sound name e. absurd cc;
     cause = no_cause faults (Some entry);
     fault = λ (before, after, e). absurd cc;
@@ -87,8 +95,9 @@ module _ {F : Type 0} (header : F → Header) (bytes : F → List (List ℕ)) (t
 
   -- a file was asked, and answered
   pub answered : (file : F) (newest found : Option Entry) (f0 f1 p0 p1 : ℕ) → HasSpelling (header file) → (tells → FileAgrees (header file).tiles (bytes file) → IsEntryOf key (entries_of file) found)
+      → IfSome found (λ entry. (entry.key ≡ key) × IsVouched (lines_of (header file).tiles) entry)
       → f1 ≤ f0 + pages_for file → f0 ≤ f1 → p0 ≤ p1 → IsSearch header bytes tells can_fail key (file ∷ []) newest f0 f1 p0 p1 (Ok (newer_of newest found))
-  answered file newest found f0 f1 p0 p1 spelled is few later risen = record {
+  answered file newest found f0 f1 p0 p1 spelled is vouched few later risen = record {
     found = λ told sound earlier before.
         let agrees = All-head IsSound file [] sound in
         newest_next key earlier (entries_of file) newest found before (is told agrees)
@@ -99,6 +108,7 @@ module _ {F : Type 0} (header : F → Header) (bytes : F → List (List ℕ)) (t
     few = omega (arith, few);
     later = later;
     damaged = λ name e. absurd cc;
+    vouched = newer_vouched header key file newest found vouched;
     undamaged = λ told sound name e. absurd cc;
     cause = record { later = risen; fault = λ before after e. absurd cc };
     fault = λ (before, after, e). absurd cc;
@@ -111,14 +121,15 @@ module _ {F : Type 0} (header : F → Header) (bytes : F → List (List ℕ)) (t
 
   -- a file was asked, and refused
   pub refused : (file : F) (newest : Option Entry) (f0 f1 p0 p1 : ℕ) (why : ReadRefused) → f1 ≤ f0 + pages_for file → f0 ≤ f1
-      → ((name : Name) → IsErrOf {T = Option Entry} (Err why) (Damaged name) → NamesPage name (header file))
+      → ((name : Name) → IsErrOf {T = Option Entry} (Err why) (Damaged name) → IsDamagedFor tells key (header file).tiles (bytes file) name × (f0 < f1))
       → (tells → FileAgrees (header file).tiles (bytes file) → (name : Name) → IsErrOf {T = Option Entry} (Err why) (Damaged name) → ⊥)
       → HasReadCause {T = Option Entry} p0 p1 (Err why) → (IsFault {T = Option Entry} (Err why) → can_fail) → IsSearch header bytes tells can_fail key (file ∷ []) newest f0 f1 p0 p1 (Err why)
   refused file newest f0 f1 p0 p1 why few later damaged undamaged cause fault = record {
     found = λ told sound earlier before. tt;
     few = omega (arith, few);
     later = later;
-    damaged = λ name e. (0, file, omega arith, refl, damaged name e);
+    damaged = λ name e. let told = damaged name e in ((0, file, omega arith, refl, told.0), told.1);
+    vouched = tt;
     undamaged = λ told sound name e. undamaged told (All-head IsSound file [] sound) name e;
     cause = cause;
     fault = fault;
@@ -141,6 +152,10 @@ module _ {F : Type 0} (header : F → Header) (bytes : F → List (List ℕ)) (t
       few = omega (arith, first.few, next.few, sum_by-append pages_for xs ys);
       later = omega (arith, first.later, next.later);
       damaged = λ name e. absurd cc;
+      vouched = ⊎_elim
+          (λ same. ⊎_elim (λ was. inl (same ∙ was))
+          (λ known. inr (subst (AreVouching header key (xs ++ ys)) (sym same) (wider header key xs (xs ++ ys) (λ entry any. Any-left (IsVouchedAt header entry) xs ys any) mid known))) first.vouched)
+          (λ known. inr (wider header key ys (xs ++ ys) (λ entry any. Any-right (IsVouchedAt header entry) xs ys any) out known)) next.vouched;
       undamaged = λ told sound name e. absurd cc;
       cause = record { later = omega (arith, first.cause.later, next.cause.later); fault = λ before after e. absurd cc };
       fault = λ (before, after, e). absurd cc;
@@ -151,7 +166,8 @@ module _ {F : Type 0} (header : F → Header) (bytes : F → List (List ℕ)) (t
       found = λ told sound earlier is. tt;
       few = omega (arith, first.few, next.few, sum_by-append pages_for xs ys);
       later = omega (arith, first.later, next.later);
-      damaged = λ name e. Any-right (λ file. NamesPage name (header file)) xs ys (next.damaged name (damage_since {T = Option Entry} {U = Option Entry} p0 why name e));
+      damaged = λ name e. let told = next.damaged name (damage_since {T = Option Entry} {U = Option Entry} p0 why name e) in (Any-right (IsDamagedAt name) xs ys told.0, omega (arith, told.1, first.later));
+      vouched = tt;
       undamaged = λ told sound name e. next.undamaged told (All-right IsSound xs ys sound) name (damage_since {T = Option Entry} {U = Option Entry} p0 why name e);
       cause = cause_since {T = Option Entry} {U = Option Entry} p0 p1 p2 why first.cause.later next.cause;
       fault = λ e. next.fault (fault_since {T = Option Entry} {U = Option Entry} p0 why e);
@@ -163,7 +179,8 @@ module _ {F : Type 0} (header : F → Header) (bytes : F → List (List ℕ)) (t
     found = λ told sound earlier is. tt;
     few = omega (arith, first.few, sum_by-append pages_for xs ys);
     later = first.later;
-    damaged = λ name e. Any-left (λ file. NamesPage name (header file)) xs ys (first.damaged name e);
+    damaged = λ name e. let told = first.damaged name e in (Any-left (IsDamagedAt name) xs ys told.0, told.1);
+    vouched = tt;
     undamaged = λ told sound name e. first.undamaged told (All-left IsSound xs ys sound) name e;
     cause = first.cause;
     fault = first.fault;
@@ -197,7 +214,10 @@ module _ {F : Type 0} (header : F → Header) (bytes : F → List (List ℕ)) (t
         found = wide_found;
         few = omega (arith, s.few, sum_by-append pages_for before (some ++ behind), sum_by-append pages_for some behind);
         later = s.later;
-        damaged = λ name e. Any-right (λ file. NamesPage name (header file)) before (some ++ behind) (Any-left (λ file. NamesPage name (header file)) some behind (s.damaged name e));
+        damaged = λ name e. let told = s.damaged name e in (Any-right (IsDamagedAt name) before (some ++ behind) (Any-left (IsDamagedAt name) some behind told.0), told.1);
+        vouched = IfOk-weaker result (λ found. (found ≡ newest) ⊎ AreVouching header key some found) (λ found. (found ≡ newest) ⊎ AreVouching header key (before ++ (some ++ behind)) found)
+            (λ found either. ⊎_elim (λ same. inl same)
+            (λ known. inr (wider header key some (before ++ (some ++ behind)) (λ entry any. Any-right (IsVouchedAt header entry) before (some ++ behind) (Any-left (IsVouchedAt header entry) some behind any)) found known)) either) s.vouched;
         undamaged = λ told sound name e. s.undamaged told (All-left IsSound some behind (All-right IsSound before (some ++ behind) sound)) name e;
         cause = s.cause;
         fault = s.fault;
@@ -210,13 +230,14 @@ module _ {F : Type 0} (header : F → Header) (bytes : F → List (List ℕ)) (t
   not_asked_of file (Some entry) fetches faults old = not_asked file entry fetches faults old
 
   pub answered_at : (file seen : F) → seen ≡ file → (newest found out : Option Entry) → out ≡ newer_of newest found → (f0 f1 p0 p1 : ℕ) → HasSpelling (header seen) → (tells → FileAgrees (header seen).tiles (bytes seen) → IsEntryOf key (entries_of seen) found)
+      → IfSome found (λ entry. (entry.key ≡ key) × IsVouched (lines_of (header seen).tiles) entry)
       → f1 ≤ f0 + pages_for seen → f0 ≤ f1 → p0 ≤ p1 → IsSearch header bytes tells can_fail key (file ∷ []) newest f0 f1 p0 p1 (Ok out)
-  answered_at file seen same newest found out out_is f0 f1 p0 p1 spelled is few later risen =
+  answered_at file seen same newest found out out_is f0 f1 p0 p1 spelled is vouched few later risen =
       subst (λ (o : Option Entry). IsSearch header bytes tells can_fail key (file ∷ []) newest f0 f1 p0 p1 (Ok o)) (sym out_is)
-      (subst (λ (f : F). IsSearch header bytes tells can_fail key (f ∷ []) newest f0 f1 p0 p1 (Ok (newer_of newest found))) same (answered seen newest found f0 f1 p0 p1 spelled is few later risen))
+      (subst (λ (f : F). IsSearch header bytes tells can_fail key (f ∷ []) newest f0 f1 p0 p1 (Ok (newer_of newest found))) same (answered seen newest found f0 f1 p0 p1 spelled is vouched few later risen))
 
   pub refused_at : (file seen : F) → seen ≡ file → (newest : Option Entry) (f0 f1 p0 p1 : ℕ) (why : ReadRefused) → f1 ≤ f0 + pages_for seen → f0 ≤ f1
-      → ((name : Name) → IsErrOf {T = Option Entry} (Err why) (Damaged name) → NamesPage name (header seen))
+      → ((name : Name) → IsErrOf {T = Option Entry} (Err why) (Damaged name) → IsDamagedFor tells key (header seen).tiles (bytes seen) name × (f0 < f1))
       → (tells → FileAgrees (header seen).tiles (bytes seen) → (name : Name) → IsErrOf {T = Option Entry} (Err why) (Damaged name) → ⊥)
       → HasReadCause {T = Option Entry} p0 p1 (Err why) → (IsFault {T = Option Entry} (Err why) → can_fail) → IsSearch header bytes tells can_fail key (file ∷ []) newest f0 f1 p0 p1 (Err why)
   refused_at file seen same newest f0 f1 p0 p1 why few later damaged undamaged cause fault =

@@ -1,20 +1,17 @@
 -- What looking for a newer entry of a key gives, and what it may do.
-use Rattle.std.specs.Prelude.{◌≡◌, ◌+◌, ◌≤◌, ℕ, List, ◌++◌, map, sum_by, All, Any, Option, Result, IfOk, IsErrOf}
+use Rattle.std.specs.Prelude.{◌≡◌, ◌⊎◌, ◌+◌, ◌<◌, ◌≤◌, ℕ, List, ◌++◌, map, sum_by, All, Any, Option, Result, IfOk, IfSome, IsErrOf}
 use Rattle.lethe_base.specs.Keys.{Bytes}
 use Rattle.lethe_base.specs.declared.entry.Entry.{Entry}
 use Rattle.lethe_base.specs.declared.name.Name.{Name}
 use Rattle.lethe_disk.specs.Reads.{HasReadCause, IsFault}
 use Rattle.lethe_disk.specs.declared.cursor.ReadRefused.{ReadRefused}
 use Rattle.lethe_disk.specs.declared.cursor.ReadRefused.TheVariants.{Damaged}
-use Rattle.lethe_file.specs.Agreement.{FileAgrees, entries_in, page_name}
+use Rattle.lethe_file.specs.Agreement.{FileAgrees, entries_in}
+use Rattle.lethe_file.specs.Damage.{IsDamagedFor, IsVouched}
 use Rattle.lethe_header.specs.Facts.{lines_of}
 use Rattle.lethe_header.specs.declared.header.Header.{Header}
 use Rattle.lethe_version.specs.Newest.{IsNewestIn}
 use Rattle.lethe_version.specs.Probing.{bound}
-
--- the name is one of the file's pages'
-abbrev pub NamesPage : Name → Header → Type 0
-NamesPage name header = Any (λ line. name ≡ page_name line.no) (lines_of header.tiles)
 
 -- What was answered where files, given by their headers and their pages' bytes, were looked through for an entry newer than one that is
 -- known, with the port's fetches and faults before and after.
@@ -24,7 +21,9 @@ pub record IsSearch {F : Type 0} (header : F → Header) (bytes : F → List (Li
       → IfOk result (IsNewestIn key (earlier ++ map (λ file. map entries_in (bytes file)) files))
   pub few : fetches ≤ old_fetches + sum_by (λ file. bound key (header file)) files
   pub later : old_fetches ≤ fetches
-  pub damaged : (name : Name) → IsErrOf result (Damaged name) → Any (λ file. NamesPage name (header file)) files
+  pub damaged : (name : Name) → IsErrOf result (Damaged name) → Any (λ file. IsDamagedFor tells key (header file).tiles (bytes file) name) files × (old_fetches < fetches)
+  -- on any disk it is what was known, or has the key and is vouched for by a line of one of the files
+  pub vouched : IfOk result (λ found. (found ≡ newest) ⊎ IfSome found (λ entry. (entry.key ≡ key) × Any (λ file. IsVouched (lines_of (header file).tiles) entry) files))
   pub undamaged : tells → All (λ file. FileAgrees (header file).tiles (bytes file)) files → (name : Name) → IsErrOf result (Damaged name) → ⊥
   pub cause : HasReadCause old_faults faults result
   pub fault : IsFault result → can_fail

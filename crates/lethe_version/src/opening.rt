@@ -71,5 +71,5 @@ pub fn open_file<D: Disk>(
     for tile in header.tiles.items() {
         open_pages(alloc, disk, tile.pages.items(), &mut pages)?;
     }
-    Ok(FileView::new(header, pages))
+    Ok(FileView::new(alloc, header, pages)?)
 }

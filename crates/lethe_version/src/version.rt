@@ -1,13 +1,12 @@
 //! The files of a store by level.
-ghost use Rattle.std.specs.Prelude.{◌≡◌, ◌≢◌, ◌↔◌, ◌+◌, ◌<◌, ◌≤◌, [], ◌++◌, ◌==◌, ℕ, IsTrue, map, find, length, slice_index_or, sum_by, All, Any, IfOk, IsErrOf};
+ghost use Rattle.std.specs.Prelude.{◌≡◌, ◌≢◌, ◌↔◌, ◌+◌, ◌<◌, ◌≤◌, [], ◌++◌, ◌==◌, ℕ, IsTrue, map, find, length, slice_index_or, sum_by, All, Any, IfOk, IfSome, IsErrOf};
 ghost use Rattle.std.specs.Option.{option_copied};
 ghost use Rattle.lethe_base.specs.declared.name.Name.{Name};
 ghost use Rattle.lethe_disk.specs.Reads.{HasReadCause, IsFault};
 ghost use Rattle.lethe_disk.specs.declared.cursor.ReadRefused.TheVariants.{Damaged};
 ghost use Rattle.lethe_version.specs.Newest.{IsNewestIn};
 ghost use Rattle.lethe_version.specs.Probing.{bound};
-ghost use Rattle.lethe_version.specs.Search.{NamesPage};
-ghost use Rattle.lethe_version.specs.Versions.{AreInOrder, HasKey, IsInOrder, IsSound, entries_of, files_of, in_level, levels_of, without};
+ghost use Rattle.lethe_version.specs.Versions.{AreInOrder, HasKey, IsDamagedOf, IsInOrder, IsSound, IsVouchedBy, entries_of, files_of, in_level, levels_of, without};
 
 use crate::level::{Level, level_of, level_with};
 use crate::probing::any_may_hold;
@@ -80,7 +79,12 @@ impl<D: Disk> Version<D> {
         // None where no file's fences and filters allow the key.
         ensures fetches { D.fetches port.new ≤ D.fetches port.old + sum_by (λ file. bound key.now file.header) (files_of self.now) }
         ensures later { D.fetches port.old ≤ D.fetches port.new }
-        ensures damaged { (name : Name) → IsErrOf result (Damaged name) → Any (λ file. NamesPage name file.header) (files_of self.now) }
+
+        // A page that is told as damaged was fetched in this call, since the key may be there, and is another page.
+        ensures damaged { (name : Name) → IsErrOf result (Damaged name) → IsDamagedOf key.now self.now name × (D.fetches port.old < D.fetches port.new) }
+
+        // On any disk the entry has the key, and a line of one of the files vouches for it.
+        ensures vouched { IfOk result (λ found. IfSome found (λ entry. (entry.key ≡ key.now) × IsVouchedBy self.now entry)) }
         ensures undamaged { D.tells → All IsSound (files_of self.now) → (name : Name) → IsErrOf result (Damaged name) → ⊥ }
         ensures cause { HasReadCause (D.port_faults port.old) (D.port_faults port.new) result }
         ensures can_fail { IsFault result → D.ports_fail }

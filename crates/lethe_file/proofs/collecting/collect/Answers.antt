@@ -1,10 +1,11 @@
-use Rattle.std.proofs.Common.{◌≡◌, ◌+◌, ◌++◌, List, Vec, Result, Err, ap, sym, subst, ◌∙◌}
+use Rattle.std.proofs.Common.{◌≡◌, ◌+◌, ◌++◌, List, Vec, Result, Err, arith, ap, sym, subst, ◌∙◌}
 use Rattle.std.specs.declared.alloc.Global.{Global}
 use Rattle.lethe_base.specs.declared.entry.Entry.{Entry}
 use Rattle.lethe_disk.specs.Reads.{HasReadCause, IsFault}
 use Rattle.lethe_disk.specs.declared.cursor.ReadRefused.{ReadRefused}
 use Rattle.lethe_file.specs.Agreement.{entries_in}
 use Rattle.lethe_disk.specs.Reads.{refused_since}
+use Rattle.lethe_file.proofs.Damaged.{held_damage}
 use Rattle.lethe_file.proofs.Held.{IsCollected, collected_more, written_at}
 use Rattle.lethe_disk.proofs.Causes.{cause_since, damage_since, fault_since}
 use Rattle.lethe_file.proofs.collecting.collect.Goals as goal
@@ -26,7 +27,9 @@ loop-held-preserved g c =
 pub returns-in-Err-clause-damaged : goal.returns-in-Err-clause-damaged
 returns-in-Err-clause-damaged g c = λ name e.
     let named = c.in-Err.ensures.damaged name (damage_since {T = Vec Entry Global} {U = Vec Entry Global} c.count_faults-before.result c.in-Err.why name (ap refused (sym c.since.ensures) ∙ e)) in
-    (c.loop-held.held-index, c.held-item.result, c.loop-held-test.true, sym c.held-item.is, named)
+    let damage = held_damage g.S.PageSource.page_bytes g.S.PageSource.tells name c.args.pages.now c.loop-held.held-index c.held-item.result (g.S.PageSource.page_bytes c.deref.result.now)
+    c.loop-held-test.true c.held-item.is (ap g.S.PageSource.page_bytes c.deref.ensures) named in
+    (damage, omega (arith, c.loop-held.invariant.counted, c.fetch_checked.ensures.fetches))
 
 pub returns-in-Err-clause-undamaged : goal.returns-in-Err-clause-undamaged
 returns-in-Err-clause-undamaged g c = λ told each name e.

@@ -1,4 +1,4 @@
-use Rattle.std.proofs.Common.{◌+◌, ◌≤◌, ◌∷◌, [], ℕ, get_or, Option, Result, Err, arith, ap, sym, subst, ◌∙◌}
+use Rattle.std.proofs.Common.{◌≡◌, ◌+◌, ◌≤◌, ◌∷◌, [], ℕ, get_or, Option, Result, Err, arith, ap, sym, subst, ◌∙◌}
 use Rattle.lethe_base.specs.declared.entry.Entry.{Entry}
 use Rattle.lethe_disk.specs.Reads.{HasReadCause}
 use Rattle.lethe_disk.specs.declared.cursor.ReadRefused.{ReadRefused}
@@ -6,7 +6,10 @@ use Rattle.lethe_header.specs.declared.header.PageLine.{PageLine}
 use Rattle.lethe_file.specs.Agreement.{entries_in}
 use Rattle.lethe_disk.specs.Reads.{refused_since}
 use Rattle.lethe_disk.proofs.Causes.{cause_since, damage_since}
-use Rattle.lethe_file.specs.Finding.{IsEntryOf, allowed_in}
+use Rattle.std.specs.Prelude.{IfSome, IsTrue}
+use Rattle.lethe_file.specs.Damage.{IsDamagedAs, IsVouched}
+use Rattle.lethe_file.specs.Finding.{IsEntryOf, allowed_in, allows}
+use Rattle.lethe_file.proofs.Damaged.{vouched_here, zip_here}
 use Rattle.lethe_file.proofs.Pages.{agrees_here, all_lack, allowed_more, allowed_upto, found_here, lacks_here, searched_more}
 use Rattle.lethe_file.proofs.finding.find_in.Goals as goal
 
@@ -64,5 +67,14 @@ returns-clause-found g c = λ told agree.
 
 pub returns-in-Err-clause-damaged : goal.returns-in-Err-clause-damaged
 returns-in-Err-clause-damaged g c = λ name e.
-    let named = c.in-Err.ensures.damaged name (damage_since {T = Option Entry} {U = Option Entry} c.port_faults-before.result c.in-Err.why name (ap (λ (why : ReadRefused). let r : Result (Option Entry) ReadRefused = Err why in r) (sym c.since.ensures) ∙ e)) in
-    (c.loop-place.place, c.index-lines-place.result, c.loop-place-test.true, sym c.index-lines-place.is, named)
+    let named = c.in-Err.ensures.damaged name (damage_since {T = Option Entry} {U = Option Entry} c.port_faults-before.result c.in-Err.why name
+    (ap (λ (why : ReadRefused). let r : Result (Option Entry) ReadRefused = Err why in r) (sym c.since.ensures) ∙ e)) in
+    let page = zip_here (λ page. g.D.Disk.page_bytes page.value) (λ line bytes. IsDamagedAs g.D.Disk.tells name line bytes × IsTrue (allows c.args.key.now line.filter)) c.args.lines.now c.args.pages.now
+    c.loop-place.place c.index-lines-place.result c.index-pages-place.result (g.D.Disk.page_bytes c.deref.result.now)
+    c.index-lines-place.is c.index-pages-place.is (ap g.D.Disk.page_bytes c.deref.ensures) c.loop-place-test.true c.requires (named.0, named.1) in
+    (page, omega (arith, c.loop-place.invariant.later, named.2))
+
+pub returns-in-Ok-Some-clause-vouched : goal.returns-in-Ok-Some-clause-vouched
+returns-in-Ok-Some-clause-vouched g c =
+    let has = subst (λ found. IfSome found (λ entry. (entry.key ≡ c.args.key.now) × IsVouched (c.index-lines-place.result ∷ []) entry)) c.in-Ok-Some.field-0-is c.in-Ok-Some.ensures.vouched in
+    (has.0, vouched_here c.args.lines.now c.loop-place.place c.index-lines-place.result c.in-Ok-Some.entry c.index-lines-place.is c.loop-place-test.true has.1)

@@ -1,6 +1,7 @@
-use Rattle.std.proofs.Common.{sym, ◌∙◌}
+use Rattle.std.proofs.Common.{arith, sym, ◌∙◌}
 use Rattle.lethe_file.specs.Agreement.{entries_in}
 use Rattle.lethe_disk.proofs.Causes.{cause_as, damage_as}
+use Rattle.lethe_file.proofs.Damaged.{vouched_in}
 use Rattle.lethe_file.proofs.Pages.{found_in, not_allowed, one_lacks}
 use Rattle.lethe_file.proofs.finding.look.Goals as goal
 
@@ -21,4 +22,8 @@ returns-else-is_allowed-clause-found g c = λ told agrees.
     one_lacks c.args.key.now (entries_in bytes) (not_allowed c.args.key.now c.args.line.now bytes agrees (sym c.is_allowed.ensures ∙ c.if-is_allowed.false))
 
 pub returns-in-Err-clause-damaged : goal.returns-in-Err-clause-damaged
-returns-in-Err-clause-damaged g c = λ name e. c.in-Err.ensures.damaged name (damage_as c.in-Err.why name e)
+returns-in-Err-clause-damaged g c = λ name e.
+    (c.in-Err.ensures.damaged name (damage_as c.in-Err.why name e), sym c.is_allowed.ensures ∙ c.if-is_allowed.true, omega (arith, c.fetch_line.ensures.fetches))
+
+pub returns-in-Ok-clause-vouched : goal.returns-in-Ok-clause-vouched
+returns-in-Ok-clause-vouched g c = vouched_in c.args.key.now c.args.line.now c.in-Ok.entries.items c.entry_of.result c.in-Ok.ensures.page c.entry_of.ensures

@@ -1,5 +1,5 @@
-use Rattle.std.proofs.Common.{◌≡◌, ◌-◌, ℕ, [], Vec, Result, Err, Some, length, take, reverse, ap, refl, sym, subst, ◌∙◌}
-use Rattle.std.specs.Prelude.{slice_get}
+use Rattle.std.proofs.Common.{◌≡◌, ◌-◌, ℕ, arith, [], Vec, Result, Err, Some, length, take, reverse, ap, refl, sym, subst, ◌∙◌}
+use Rattle.std.specs.Prelude.{Any, slice_get}
 use Rattle.std.proofs.lemmas.Bool.{eqb-true}
 use Rattle.std.specs.declared.alloc.Global.{Global}
 use Rattle.lethe_base.specs.Entries.{IsAscending}
@@ -7,11 +7,11 @@ use Rattle.lethe_base.specs.declared.entry.Entry.{Entry}
 use Rattle.lethe_disk.specs.Reads.{HasReadCause}
 use Rattle.lethe_disk.specs.declared.cursor.ReadRefused.{ReadRefused}
 use Rattle.lethe_tile.proofs.Parts.{empty_is}
-use Rattle.lethe_file.specs.Agreement.{page_name}
+use Rattle.lethe_file.specs.Damage.{IsDamagedIn}
 use Rattle.lethe_disk.specs.Reads.{refused_since}
 use Rattle.lethe_file.specs.Waiting.{of_waiting, waiting, waits_in}
 use Rattle.lethe_file.specs.declared.range.KeyRange.{KeyRange}
-use Rattle.lethe_file.proofs.Filling.{filling_none, refused_at_most, refused_names, refused_written, turn}
+use Rattle.lethe_file.proofs.Filling.{filling_fewer, filling_none, refused_at_most, refused_damage, refused_written, turn}
 use Rattle.lethe_disk.proofs.Causes.{cause_since, damage_since}
 use Rattle.lethe_file.proofs.unread.fill.Goals as goal
 
@@ -66,9 +66,17 @@ pub returns-in-Err-clause-damaged : goal.returns-in-Err-clause-damaged
 returns-in-Err-clause-damaged g c = λ name e.
     let at = ap Some c.items.ensures ∙ c.in-Some.ensures.value ∙ ap (λ l. slice_get l (length l - 1)) c.deref.ensures.value in
     let named = c.in-Err.ensures.damaged name (damage_since {T = Vec Entry Global} {U = Unit {0}} c.count_faults-before.result c.in-Err.why name (ap refused (sym c.since.ensures) ∙ e)) in
-    refused_names g.S.PageSource.page_bytes g.S.PageSource.tells c.args.unread.now.range.lo c.args.unread.now.range.hi (waiting g.S.PageSource.page_bytes c.args.unread.now.tiles.items) c.args.unread.now.entries.items c.loop-alloc.unread.tiles.items c.loop-alloc.unread.entries.items
-    (g.S.PageSource.fetches c.args.port.now) (g.S.PageSource.fetches c.loop-alloc.port) (g.S.PageSource.port_faults c.args.port.now) (g.S.PageSource.port_faults c.loop-alloc.port) c.loop-alloc.invariant.1 c.items.result.now at
-    (λ number. name ≡ page_name number) named
+    let page = refused_damage g.S.PageSource.page_bytes g.S.PageSource.tells c.args.unread.now.range.lo c.args.unread.now.range.hi
+    (waiting g.S.PageSource.page_bytes c.args.unread.now.tiles.items) c.args.unread.now.entries.items c.loop-alloc.unread.tiles.items c.loop-alloc.unread.entries.items
+    (g.S.PageSource.fetches c.args.port.now) (g.S.PageSource.fetches c.loop-alloc.port) (g.S.PageSource.port_faults c.args.port.now) (g.S.PageSource.port_faults c.loop-alloc.port)
+    c.loop-alloc.invariant.1 c.items.result.now at (IsDamagedIn g.S.PageSource.tells name) named.0 in
+    (page, omega (arith, c.loop-alloc.invariant.1.counted, named.1))
+
+pub returns-in-Err-clause-fewer : goal.returns-in-Err-clause-fewer
+returns-in-Err-clause-fewer g c = λ name some. filling_fewer c.loop-alloc.invariant.1 (Any (IsDamagedIn g.S.PageSource.tells name)) some
+
+pub returns-clause-fewer : goal.returns-clause-fewer
+returns-clause-fewer g c = λ name some. filling_fewer c.loop-alloc.invariant.1 (Any (IsDamagedIn g.S.PageSource.tells name)) some
 
 pub returns-in-Err-clause-undamaged : goal.returns-in-Err-clause-undamaged
 returns-in-Err-clause-undamaged g c = λ sound name e.

@@ -8,11 +8,12 @@ use Rattle.lethe_disk.specs.declared.cursor.ReadRefused.{ReadRefused}
 use Rattle.lethe_disk.proofs.Causes.{cause_since, damage_since, fault_since}
 use Rattle.lethe_header.specs.Facts.{lines_of}
 use Rattle.lethe_header.specs.declared.header.PageLine.{PageLine}
-use Rattle.lethe_file.specs.Agreement.{entries_in, page_name}
+use Rattle.lethe_file.specs.Agreement.{entries_in}
+use Rattle.lethe_file.specs.Damage.{IsDamagedAs}
 use Rattle.lethe_file.specs.declared.view.FileView.{FileView}
 use Rattle.lethe_version.specs.Versions.{bytes_of}
 use Rattle.lethe_job.specs.Tasks.{plain_file}
-use Rattle.lethe_job.proofs.Adding.{file_many, file_read, page_named, page_read}
+use Rattle.lethe_job.proofs.Adding.{file_many, file_read, page_damaged, page_read}
 use Rattle.lethe_job.proofs.reading.add_file.Goals as goal
 
 abbrev refused : ReadRefused → Result (Unit {0}) ReadRefused
@@ -55,12 +56,16 @@ returns-clause-counted g c =
 pub returns-in-Err-clause-damaged : goal.returns-in-Err-clause-damaged
 returns-in-Err-clause-damaged g c = λ name e.
     let file = c.args.filed.now.file.file.value in
-    let lines : lines_of c.file-file.result.now.header.tiles ≡ lines_of file.header.tiles = ap (λ (f : FileView g.row.D.Denot g.row.D-Page.Denot g.row.D-Port.Denot g.D.Disk). lines_of f.header.tiles) c.file-file.ensures in
-    let many : length c.file-file.result.now.pages.items ≡ length file.pages.items = ap (λ (f : FileView g.row.D.Denot g.row.D-Page.Denot g.row.D-Port.Denot g.D.Disk). length f.pages.items) c.file-file.ensures in
+    let same = c.file-file.ensures in
+    let lines : lines_of c.file-file.result.now.header.tiles ≡ lines_of file.header.tiles = ap (λ (f : FileView g.row.D.Denot g.row.D-Page.Denot g.row.D-Port.Denot g.D.Disk). lines_of f.header.tiles) same in
+    let many : length c.file-file.result.now.pages.items ≡ length file.pages.items = ap (λ (f : FileView g.row.D.Denot g.row.D-Page.Denot g.row.D-Port.Denot g.D.Disk). length f.pages.items) same in
     let inside : c.loop-place.place < length (lines_of file.header.tiles) = omega (arith, c.loop-place-test.true, c.count_pages-place-end.ensures, many, file.paged) in
-    page_named (plain_file c.args.filed.now) c.loop-place.place (λ line. name ≡ page_name line.no) inside
-    (λ line there. c.in-Err.ensures.damaged line (ap (λ (ls : List PageLine). slice_get ls c.loop-place.place) lines ∙ there) name
-    (damage_since {T = Vec Entry Global} {U = Unit {0}} c.port_faults-before.result c.in-Err.why name (ap refused (sym c.since.ensures) ∙ e)))
+    let paged : length (bytes_of file) ≡ length (lines_of file.header.tiles) = length-map file.pages.items (λ page. g.D.Disk.page_bytes page.value) ∙ file.paged in
+    let damaged = page_damaged (plain_file c.args.filed.now) c.loop-place.place (λ (of : PageLine × List ℕ). IsDamagedAs g.D.Disk.tells name of.0 of.1) inside paged
+    (λ line bytes there at. c.in-Err.ensures.damaged line bytes (ap (λ (ls : List PageLine). slice_get ls c.loop-place.place) lines ∙ there)
+    (ap (λ (f : FileView g.row.D.Denot g.row.D-Page.Denot g.row.D-Port.Denot g.D.Disk). slice_get (bytes_of f) c.loop-place.place) same ∙ at) name
+    (damage_since {T = Vec Entry Global} {U = Unit {0}} c.port_faults-before.result c.in-Err.why name (ap refused (sym c.since.ensures) ∙ e))) in
+    (damaged, omega (arith, c.loop-place.invariant.counted, c.fetch_page.ensures.fetches))
 
 pub returns-in-Err-clause-cause : goal.returns-in-Err-clause-cause
 returns-in-Err-clause-cause g c =

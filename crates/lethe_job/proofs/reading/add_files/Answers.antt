@@ -29,7 +29,7 @@ pub returns-in-Err-clause-damaged : goal.returns-in-Err-clause-damaged
 returns-in-Err-clause-damaged g c = λ name e.
     let at = at_place c.args.files.now c.loop-filed.filed-index c.filed-item.result c.loop-filed-test.true c.filed-item.is in
     let named = c.in-Err.ensures.damaged name (damage_since {T = Unit {0}} {U = Unit {0}} c.port_faults-before.result c.in-Err.why name (ap refused (sym c.since.ensures) ∙ e)) in
-    (c.loop-filed.filed-index, plain_file c.filed-item.result, at.0, sym at.1, named)
+    ((c.loop-filed.filed-index, plain_file c.filed-item.result, at.0, sym at.1, named.0), omega (arith, named.1, c.loop-filed.invariant.counted))
 
 pub returns-in-Err-clause-undamaged : goal.returns-in-Err-clause-undamaged
 returns-in-Err-clause-undamaged g c = λ told sound name e.

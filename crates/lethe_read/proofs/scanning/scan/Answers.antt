@@ -63,3 +63,8 @@ returns-in_err-erases-clause-cause g c = no_cause _ c.from_residual-in_err-erase
 
 pub returns-in_err-merger-clause-cause : goal.returns-in_err-merger-clause-cause
 returns-in_err-merger-clause-cause g c = no_cause _ c.from_residual-in_err-merger.result c.from_residual-in_err-merger.ensures.1
+
+pub returns-clause-damaged : goal.returns-clause-damaged
+returns-clause-damaged g c = λ name e.
+    let told = c.pairs_from.ensures.damaged name e in
+    (c.in_ok-parts.ensures.damages name (c.in_ok-merger.ensures.damages name told.0), told.1)

@@ -53,7 +53,7 @@ new-requires-clause-paged g c κs within =
 pub returns-clause-pages : goal.returns-clause-pages
 returns-clause-pages g c = λ told.
     let d = (g.D.Disk.seen c.args.disk.now).directory in
-    ap (λ pages. map Some (map (λ page. g.D.Disk.page_bytes page.value) pages.items)) c.new.ensures.pages
+    ap (λ pages. map Some (map (λ page. g.D.Disk.page_bytes page.value) pages.items)) c.in_ok-new.ensures.pages
     ∙ map-map Some (λ page. g.D.Disk.page_bytes page.value) c.loop-tile.pages.items ∙ c.loop-tile.invariant.pages told
     ∙ ap (λ tiles. map (λ (line : PageLine). object d (page_name line.no)) (lines_of tiles)) (take_all c.loop-tile.tile-index c.items-tile-items.result.now (omega (arith, c.loop-tile-test.false)) ∙ c.items-tile-items.ensures)
 

@@ -13,6 +13,7 @@ use Rattle.lethe_core.specs.Running.{Holds}
 use Rattle.lethe_core.specs.Steps.{IsDoneInPart, IsReady, IsSteady}
 use Rattle.lethe_core.specs.View.{Flying, flying_of, view_of}
 use Rattle.lethe_core.proofs.Behind.{next_may, reason_behind}
+use Rattle.lethe_core.proofs.Fetched.{not_damaged}
 use Rattle.lethe_core.proofs.Hindered.{keeps_itself, keeps_then}
 use Rattle.lethe_core.proofs.Likes.{before_holds, jobs_same}
 use Rattle.lethe_core.proofs.Roomed.{clash, has_room, room_ready, sees_room}
@@ -186,3 +187,23 @@ returns-in_err-freeze_now-clause-room g c = λ room. absurd (clash c.has_room.re
 
 pub returns-clause-room : goal.returns-clause-room
 returns-clause-room g c = λ room. absurd (clash c.has_room.result (c.has_room.ensures.1 room) c.if-has_room.false)
+
+-- Neither of the first two steps tells of a page
+
+pub returns-in_err-unfreeze-clause-fetched : goal.returns-in_err-unfreeze-clause-fetched
+returns-in_err-unfreeze-clause-fetched g c = λ name e.
+    let old = c.args.self.now.state in
+    let now = g.D.Disk.faults c.unfreeze.new.self.disk in
+    let why = c.in_err-unfreeze.field-0.0 in
+    let refusal : c.from_residual.result ≡ Err why = search rules in
+    absurd (not_damaged (IsShort old) old c.args.before now c.from_residual.result
+    (subst (λ (r : Result (Unit {0}) Refused). IfErr r (HasReason (IsShort old) old c.args.before now)) (sym refusal) c.in_err-unfreeze.ensures.why) name e)
+
+pub returns-in_err-freeze_now-clause-fetched : goal.returns-in_err-freeze_now-clause-fetched
+returns-in_err-freeze_now-clause-fetched g c = λ name e.
+    let old = c.unfreeze.new.self.state in
+    let now = g.D.Disk.faults c.freeze_now.new.self.disk in
+    let why = c.in_err-freeze_now.field-0.0 in
+    let refusal : c.from_residual-in_err-freeze_now.result ≡ Err why = search rules in
+    absurd (not_damaged (IsShortToFreeze old) old c.args.before now c.from_residual-in_err-freeze_now.result
+    (subst (λ (r : Result (Unit {0}) Refused). IfErr r (HasReason (IsShortToFreeze old) old c.args.before now)) (sym refusal) c.in_err-freeze_now.ensures.why) name e)

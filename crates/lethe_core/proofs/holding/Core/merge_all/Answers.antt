@@ -2,6 +2,7 @@ use Rattle.std.proofs.Common.{rules, ◌≡◌, ◌⊎◌, inr, List, [], Some, 
 use Rattle.std.specs.Prelude.{Bool, IfErr, true}
 use Rattle.std.specs.Result.{result_err}
 use Rattle.lethe_base.specs.declared.refused.Refused.{Refused}
+use Rattle.lethe_base.specs.declared.refused.Refused.TheVariants.{Damaged}
 use Rattle.lethe_core.specs.Asked.{failure_of}
 use Rattle.lethe_core.specs.Keeps.{Keeps}
 use Rattle.lethe_core.specs.Merges.{AreSomeOutcomes, IsShortToMerge, Outcome}
@@ -10,6 +11,7 @@ use Rattle.lethe_core.specs.Running.{Holds}
 use Rattle.lethe_core.specs.Steps.{IsDoneInPart}
 use Rattle.lethe_core.specs.View.{view_of}
 use Rattle.lethe_core.proofs.Asked.{not_failed}
+use Rattle.lethe_core.proofs.Fetched.{damaged_since, not_short}
 use Rattle.lethe_core.proofs.Hindered.{keeps_itself}
 use Rattle.lethe_core.proofs.Outcomes.{merged_may, no_more, none_merged, once_more, some_merged, too_many}
 use Rattle.lethe_core.proofs.Behind.{either_since, keeps_since, since_failed}
@@ -33,7 +35,12 @@ returns-in_err-most_merges-clause-partly g c =
     (λ none told s holds. (s, ([], refl), holds))
 
 pub loop-init : goal.loop-init
-loop-init g c = record { merged = none_merged g.D.Disk.tells (view_of c.args.self.now) c.args.before (g.D.Disk.fetches c.args.port.now) (g.D.Disk.port_faults c.args.port.now) c.requires.may; free = c.requires.free; begun = refl }
+loop-init g c = record {
+  merged = none_merged g.D.Disk.tells (view_of c.args.self.now) c.args.before (g.D.Disk.fetches c.args.port.now) (g.D.Disk.port_faults c.args.port.now) c.requires.may;
+  free = c.requires.free;
+  begun = refl;
+  fetches = omega arith;
+}
 
 pub loop-preserved : goal.loop-preserved
 loop-preserved g c =
@@ -46,6 +53,7 @@ loop-preserved g c =
           (λ told t holds. c.merge_next.ensures.done told t holds ok) (c.merge_next.ensures.retired ok) c.merge_next.ensures.port_faults;
       free = c.merge_next.ensures.free;
       begun = c.merge_next.ensures.begun ∙ c.loop.invariant.begun;
+      fetches = omega (arith, c.loop.invariant.fetches, c.merge_next.ensures.fetches);
     }
 
 pub merge_next-requires-clause-may : goal.merge_next-requires-clause-may
@@ -95,6 +103,20 @@ returns-in-Err-clause-why g c =
     c.loop.invariant.merged.steady c.loop.invariant.merged.port_faults c.in-Err.why c.in-Err.ensures.why in
     subst (λ (why : Refused). HasReason Short c.args.self.now.state c.args.before now why ⊎ IsUnreadable g.D.Disk.tells g.D.Disk.ports_fail (g.D.Disk.port_faults c.args.port.now) later why)
     (sym (c.told_since.ensures ∙ ap (λ earlier. told_since earlier c.in-Err.why) c.port_faults-earlier.ensures)) either
+
+pub returns-in-Err-clause-fetched : goal.returns-in-Err-clause-fetched
+returns-in-Err-clause-fetched g c = λ name e.
+    let told : c.told_since.result ≡ Damaged name = cc in
+    let last : c.in-Err.why ≡ Damaged name = damaged_since c.port_faults-earlier.result c.in-Err.why name (sym c.told_since.ensures ∙ told) in
+    let fetched = c.in-Err.ensures.fetched name (ap (λ (why : Refused). let r : Result Bool Refused = Err why in r) last) in
+    omega (arith, fetched, c.loop.invariant.fetches)
+
+pub returns-in_err-most_merges-clause-fetched : goal.returns-in_err-most_merges-clause-fetched
+returns-in_err-most_merges-clause-fetched g c = λ name e.
+    let why = c.in_err-most_merges.field-0.0 in
+    let refusal : c.from_residual.result ≡ Err why = search rules in
+    let told : why ≡ Damaged name = cc in
+    absurd (not_short why (inr c.in_err-most_merges.ensures.refused) name told)
 
 pub returns-clause-done : goal.returns-clause-done
 returns-clause-done g c = λ told s holds.

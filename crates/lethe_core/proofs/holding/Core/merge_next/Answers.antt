@@ -2,7 +2,7 @@ use Rattle.std.proofs.Common.{rules, ◌≡◌, ◌⊎◌, inl, Some, None, Resu
 use Rattle.std.specs.Prelude.{Bool, IfErr, IfSome, option_map}
 use Rattle.std.specs.Result.{result_err}
 use Rattle.lethe_base.specs.declared.refused.Refused.{Refused}
-use Rattle.lethe_base.specs.declared.refused.Refused.TheVariants.{NoMemory}
+use Rattle.lethe_base.specs.declared.refused.Refused.TheVariants.{Damaged, NoMemory}
 use Rattle.lethe_stored.specs.Stored.{Stored}
 use Rattle.lethe_job.specs.Tasks.{IsBegunIn, plain_task}
 use Rattle.lethe_core.specs.Asked.{failure_of}
@@ -13,6 +13,7 @@ use Rattle.lethe_core.specs.Running.{Holds}
 use Rattle.lethe_core.specs.Steps.{IsUndone}
 use Rattle.lethe_core.specs.View.{flying_of, view_of}
 use Rattle.lethe_core.proofs.Asked.{not_failed}
+use Rattle.lethe_core.proofs.Fetched.{damaged_as, not_damaged, not_short}
 use Rattle.lethe_core.proofs.Hindered.{as_itself, keeps_itself}
 use Rattle.lethe_core.proofs.Installing.{begun_counted, begun_sound, next_outcome}
 use Rattle.lethe_core.proofs.Unread.{not_failed_read, short_reason, told_reason}
@@ -49,6 +50,28 @@ returns-in-Err-outcome-clause-why g c =
     let held = c.requires.may.sound.held told in
     let holds : Holds view held.0 = record { remembers = held.1; running = held.2 c.requires.may.runs } in
     c.in-Err-outcome.ensures.undamaged told (begun_sound view task begins held.0 holds) name (ap Err is)))
+
+pub returns-in-Err-outcome-clause-fetched : goal.returns-in-Err-outcome-clause-fetched
+returns-in-Err-outcome-clause-fetched g c = λ name e.
+    let told : c.told_as.result ≡ Damaged name = cc in
+    let read = damaged_as c.in-Err-outcome.why name (sym c.told_as.ensures ∙ told) in
+    (c.in-Err-outcome.ensures.damaged name (ap Err read)).1
+
+pub returns-in_err-made-clause-fetched : goal.returns-in_err-made-clause-fetched
+returns-in_err-made-clause-fetched g c = λ name e.
+    let why = c.in_err-made.field-0.0 in
+    let refusal : c.from_residual.result ≡ Err why = search rules in
+    let told : why ≡ Damaged name = cc in
+    absurd (not_short why c.in_err-made.ensures.refused name told)
+
+pub returns-in_err-merge_now-clause-fetched : goal.returns-in_err-merge_now-clause-fetched
+returns-in_err-merge_now-clause-fetched g c = λ name e.
+    let old = c.args.self.now.state in
+    let now = g.D.Disk.faults c.merge_now.new.self.disk in
+    let why = c.in_err-merge_now.field-0.0 in
+    let refusal : c.from_residual-in_err-merge_now.result ≡ Err why = search rules in
+    absurd (not_damaged ⊥ old c.args.before now c.from_residual-in_err-merge_now.result
+    (subst (λ (r : Result Bool Refused). IfErr r (HasReason ⊥ old c.args.before now)) (sym refusal) c.in_err-merge_now.ensures.why) name e)
 
 pub returns-in_err-made-clause-keeps : goal.returns-in_err-made-clause-keeps
 returns-in_err-made-clause-keeps g c =

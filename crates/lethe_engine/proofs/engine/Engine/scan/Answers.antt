@@ -20,6 +20,9 @@ returns-in-Err-clause-undamaged g c = λ told sound name is.
     c.in-Err.ensures.undamaged told (files_sound c.args.self.now.core.version held.0 c.args.self.now.core.state held.1) name
     (ap Err (damage_told c.in-Err.why name (sym c.told_as.ensures ∙ err_told is)))
 
+pub returns-in-Err-clause-damaged : goal.returns-in-Err-clause-damaged
+returns-in-Err-clause-damaged g c = λ name is. c.in-Err.ensures.damaged name (ap Err (damage_told c.in-Err.why name (sym c.told_as.ensures ∙ err_told is)))
+
 pub returns-in-Err-clause-fault : goal.returns-in-Err-clause-fault
 returns-in-Err-clause-fault g c = λ before after is.
     c.in-Err.ensures.cause.fault before after (ap Err (fault_told c.in-Err.why before after (sym c.told_as.ensures ∙ err_told is)))

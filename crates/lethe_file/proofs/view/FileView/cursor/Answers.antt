@@ -9,7 +9,7 @@ use Rattle.lethe_header.specs.declared.header.TileLine.{TileLine}
 use Rattle.lethe_file.specs.Agreement.{entries_in}
 use Rattle.lethe_file.specs.Between.{AreBetween, numbers_between}
 use Rattle.lethe_file.specs.Waiting.{left_of, tiles_between, waiting}
-use Rattle.lethe_file.proofs.Filling.{made_between, made_numbers, made_sound}
+use Rattle.lethe_file.proofs.Filling.{made_between, made_damage, made_numbers, made_sound}
 use Rattle.lethe_file.proofs.view.FileView.cursor.Goals as goal
 
 pub returns-clause-left : goal.returns-clause-left
@@ -54,3 +54,15 @@ returns-clause-pages g c =
     made_numbers lo hi file.header.tiles pages waits c.new.result.items c.new.ensures.items waits_are len
     ∙ ap (λ (k : Bytes). numbers_between k hi file.header.tiles) c.in_ok-range.ensures.0
     ∙ ap (λ (k : Option Bytes). numbers_between c.args.lo.now k file.header.tiles) c.in_ok-range.ensures.1
+
+pub returns-clause-damages : goal.returns-clause-damages
+returns-clause-damages g c = λ name some.
+    let file = c.args.self.now in
+    let bytes_of = λ (page : Arc g.row.D-Page.Denot Global). g.D.Disk.page_bytes page.value in
+    let pages = map bytes_of file.pages.items in
+    let lo = c.in_ok-range.range.lo in
+    let hi = c.in_ok-range.range.hi in
+    let waits = waiting g.D.Disk.page_bytes c.in_ok-tiles.tiles.items in
+    let waits_are : reverse waits ≡ tiles_between lo hi file.header.tiles pages =
+    c.in_ok-tiles.ensures ∙ ap (λ (tiles : List TileLine). tiles_between lo hi tiles (map bytes_of c.deref.result.now)) c.items.ensures ∙ ap (λ ps. tiles_between lo hi file.header.tiles (map bytes_of ps)) c.deref.ensures.value in
+    made_damage lo hi file.header.tiles pages waits c.new.result.items c.new.ensures.items waits_are g.D.Disk.tells name some

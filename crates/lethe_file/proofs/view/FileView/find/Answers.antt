@@ -1,10 +1,10 @@
-use Rattle.std.proofs.Common.{◌≡◌, ◌<◌, List, length, get_or, ap, subst, arith, ◌∙◌}
-use Rattle.std.specs.Prelude.{Any}
-use Rattle.lethe_header.specs.declared.header.PageLine.{PageLine}
+use Rattle.std.proofs.Common.{◌≡◌, ◌<◌, List, length, get_or, map, ap, sym, subst, arith, ◌∙◌}
+use Rattle.std.specs.declared.alloc.Global.{Global}
+use Rattle.std.specs.declared.sync.Arc.{Arc}
 use Rattle.lethe_header.specs.declared.header.TileLine.{TileLine}
-use Rattle.lethe_file.specs.Agreement.{page_name}
 use Rattle.lethe_file.specs.Finding.{IsTileOf, allowed_in, of_tile}
-use Rattle.lethe_file.proofs.Tiles.{allowed_there, any_there, none_found, found_ok, zip_there}
+use Rattle.lethe_file.proofs.Damaged.{found_damage, vouched_ok}
+use Rattle.lethe_file.proofs.Tiles.{allowed_there, none_found, found_ok, of_tile-map, zip_there}
 use Rattle.lethe_file.proofs.view.FileView.find.Goals as goal
 
 pub returns-then-tile-tiles-clause-found : goal.returns-then-tile-tiles-clause-found
@@ -55,10 +55,26 @@ returns-clause-fetches g c =
 
 pub returns-clause-damaged : goal.returns-clause-damaged
 returns-clause-damaged g c = λ name e.
+    let bytes_of = λ (page : Arc g.row.D-Page.Denot Global). g.D.Disk.page_bytes page.value in
+    let tiles = c.args.self.now.header.tiles in
+    let pages = c.args.self.now.pages.items in
+    let key = c.args.key.now in
+    let t = c.tile_of-tile.result in
+    let tile = c.index-tiles-tile.result in
+    let place : IsTileOf key tiles t = rw c.items-tiles.ensures at c.tile_of-tile.ensures in
+    let inside : t < length tiles = omega (arith, place.0, c.if-tile-tiles.false, ap length c.items-tiles.ensures) in
+    let lines = c.items.ensures ∙ ap (λ (ts : List TileLine). (get_or ts t tile).pages) c.items-tiles.ensures in
+    let slice = c.part_of_tile-pages.ensures.part tile ∙ ap (λ (ts : List TileLine). of_tile ts t tile c.deref.result.now) c.items-tiles.ensures ∙ ap (of_tile tiles t tile) c.deref.ensures.value in
+    let bytes = ap (map bytes_of) slice ∙ sym (of_tile-map bytes_of tiles t tile pages) in
+    let told = c.find_in.ensures.damaged name e in
+    (found_damage g.D.Disk.tells name key tiles (map bytes_of pages) t tile place inside (rw (lines, bytes) at told.0), told.1)
+
+pub returns-clause-vouched : goal.returns-clause-vouched
+returns-clause-vouched g c =
     let tiles = c.args.self.now.header.tiles in
     let t = c.tile_of-tile.result in
     let tile = c.index-tiles-tile.result in
     let place : IsTileOf c.args.key.now tiles t = rw c.items-tiles.ensures at c.tile_of-tile.ensures in
     let inside : t < length tiles = omega (arith, place.0, c.if-tile-tiles.false, ap length c.items-tiles.ensures) in
     let lines = c.items.ensures ∙ ap (λ (ts : List TileLine). (get_or ts t tile).pages) c.items-tiles.ensures in
-    any_there (λ line. name ≡ page_name line.no) tiles t tile inside (subst (λ (l : List PageLine). Any (λ line. name ≡ page_name line.no) l) lines (c.find_in.ensures.damaged name e))
+    vouched_ok c.args.key.now tiles t tile c.items.result.now c.find_in.result inside lines c.find_in.ensures.vouched

@@ -1,4 +1,4 @@
-use Rattle.std.proofs.Common.{◌≡◌, ℕ, List, [], ◌++◌, Vec, Result, Err, map, ap, sym, subst, ◌∙◌}
+use Rattle.std.proofs.Common.{◌≡◌, ℕ, List, [], ◌++◌, Vec, Result, Err, map, ap, sym, subst, ◌∙◌, arith}
 use Rattle.std.specs.Prelude.{Any}
 use Rattle.std.proofs.lemmas.List.{append-nil}
 use Rattle.std.specs.declared.alloc.Global.{Global}
@@ -9,7 +9,7 @@ use Rattle.lethe_disk.proofs.Causes.{cause_as, cause_since, damage_as, damage_si
 use Rattle.lethe_file.specs.Agreement.{FileAgrees}
 use Rattle.lethe_stored.specs.Files.{StoredFile}
 use Rattle.lethe_stored.proofs.Lists.{all_left, all_right}
-use Rattle.lethe_job.specs.Tasks.{AreSound, HasPage, plain_file}
+use Rattle.lethe_job.specs.Tasks.{AreSound, HasDamaged, plain_file}
 use Rattle.lethe_job.proofs.Adding.{any_within}
 use Rattle.lethe_job.proofs.task.Task.entries.Goals as goal
 
@@ -22,8 +22,8 @@ Agrees file = FileAgrees file.header.tiles file.pages
 pub returns-in-Err-clause-damaged : goal.returns-in-Err-clause-damaged
 returns-in-Err-clause-damaged g c = λ name e.
     let same : map plain_file c.deref.result.now ≡ map plain_file c.args.self.now.sources.items = ap (map plain_file) c.deref.ensures.value in
-    any_within (HasPage name) [] (map plain_file c.args.self.now.sources.items) (map plain_file c.args.self.now.met.items)
-    (subst (Any (HasPage name)) same (c.in-Err.ensures.damaged name (damage_as {T = Unit {0}} {U = Vec Entry Global} c.in-Err.why name e)))
+    let named = c.in-Err.ensures.damaged name (damage_as {T = Unit {0}} {U = Vec Entry Global} c.in-Err.why name e) in
+    (any_within (HasDamaged g.D.Disk.tells name) [] (map plain_file c.args.self.now.sources.items) (map plain_file c.args.self.now.met.items) (subst (Any (HasDamaged g.D.Disk.tells name)) same named.0), named.1)
 
 pub returns-in-Err-clause-undamaged : goal.returns-in-Err-clause-undamaged
 returns-in-Err-clause-undamaged g c = λ told sound name e.
@@ -39,9 +39,11 @@ pub returns-in-Err-add_files-clause-damaged : goal.returns-in-Err-add_files-clau
 returns-in-Err-add_files-clause-damaged g c = λ name e.
     let met : List StoredFile = map plain_file c.args.self.now.met.items in
     let same : map plain_file c.deref-2.result.now ≡ met = ap (map plain_file) c.deref-2.ensures.value in
-    let named = c.in-Err-add_files.ensures.damaged name (damage_since {T = Unit {0}} {U = Vec Entry Global} c.port_faults-before.result c.in-Err-add_files.why name (ap refused (sym c.since.ensures) ∙ e)) in
-    subst (λ (files : List StoredFile). Any (HasPage name) (map plain_file c.args.self.now.sources.items ++ files)) (append-nil met)
-    (any_within (HasPage name) (map plain_file c.args.self.now.sources.items) met [] (subst (Any (HasPage name)) same named))
+    let named = c.in-Err-add_files.ensures.damaged name (damage_since {T = Unit {0}} {U = Vec Entry Global} c.port_faults-before.result c.in-Err-add_files.why name (ap refused (sym c.since.ensures) ∙ e)) in (
+      subst (λ (files : List StoredFile). Any (HasDamaged g.D.Disk.tells name) (map plain_file c.args.self.now.sources.items ++ files)) (append-nil met)
+          (any_within (HasDamaged g.D.Disk.tells name) (map plain_file c.args.self.now.sources.items) met [] (subst (Any (HasDamaged g.D.Disk.tells name)) same named.0)),
+      omega (arith, named.1, c.add_files.ensures.later),
+    )
 
 pub returns-in-Err-add_files-clause-undamaged : goal.returns-in-Err-add_files-clause-undamaged
 returns-in-Err-add_files-clause-undamaged g c = λ told sound name e.

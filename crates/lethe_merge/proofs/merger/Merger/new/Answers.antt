@@ -1,11 +1,13 @@
 use Rattle.std.proofs.Common.{◌≡◌, map, All, sym, ap, ◌∙◌, subst}
 use Rattle.std.specs.List.{flat_map}
+use Rattle.std.specs.Prelude.{Any, sum_by}
 use Rattle.std.proofs.lemmas.List.{map-id}
 use Rattle.std.proofs.lemmas.Iterator.Adapters.{YieldsList-from_vec}
 use Rattle.std.proofs.lemmas.Iterator.Consumers.{YieldsList-end}
 use Rattle.lethe_merge.specs.Merge.{merged}
-use Rattle.lethe_merge.specs.Sources.{IsSound, left_in}
+use Rattle.lethe_merge.specs.Sources.{IsSound, awaits_in, left_in}
 use Rattle.lethe_merge.specs.declared.source.Source.{Source}
+use Rattle.lethe_merge.proofs.Awaits.{begins-awaits, begins-damages}
 use Rattle.lethe_merge.proofs.Begins.{unasked, begins-again, begins-sound, begins-left}
 use Rattle.lethe_merge.proofs.Merges.{merged_ascends}
 use Rattle.lethe_merge.proofs.merger.Merger.new.Goals as goal
@@ -33,3 +35,11 @@ pub returns-clause-left : goal.returns-clause-left
 returns-clause-left g c =
     ap (λ sources. merged (flat_map (left_in g.C.Cursor.left) sources) c.args.erases.items c.args.alone) (all_made g c)
     ∙ ap (λ entries. merged entries c.args.erases.items c.args.alone) (begins-left g.C.Cursor.left c.args.cursors.items)
+
+pub returns-clause-awaits : goal.returns-clause-awaits
+returns-clause-awaits g c = ap (sum_by (awaits_in g.C.Cursor.awaits)) (all_made g c) ∙ begins-awaits g.C.Cursor.awaits g.C.Cursor.damages c.args.cursors.items
+
+pub returns-clause-damages : goal.returns-clause-damages
+returns-clause-damages g c = λ name any.
+    begins-damages g.C.Cursor.awaits g.C.Cursor.damages c.args.cursors.items name
+    (subst (λ sources. Any (λ (source : Source g.row.C.Denot). g.C.Cursor.damages source.cursor name) sources) (all_made g c) any)

@@ -1,5 +1,10 @@
+use Rattle.std.proofs.Common.{Option, subst}
+use Rattle.std.specs.Prelude.{IfOk, IfSome}
 use Rattle.std.specs.Option.{option_copied}
 use Rattle.lethe_flush.proofs.Results.{ok_weaker}
+use Rattle.lethe_mem.specs.Buffered.{Buffered}
+use Rattle.lethe_read.specs.Found.{IsBacked, frozen_entries}
+use Rattle.lethe_version.specs.Versions.{IsVouchedBy}
 use Rattle.lethe_snapshot.proofs.Answering.{files_sound, found}
 use Rattle.lethe_snapshot.proofs.snapshot.Snapshot.get.Goals as goal
 
@@ -11,3 +16,9 @@ returns-clause-answer g c = λ told h is.
 
 pub returns-clause-undamaged : goal.returns-clause-undamaged
 returns-clause-undamaged g c = λ told h is name damaged. c.get.ensures.undamaged told (files_sound c.args.self.now h is) name damaged
+
+pub returns-clause-backed : goal.returns-clause-backed
+returns-clause-backed g c =
+    let snapshot = c.args.self.now in
+    subst (λ (frozen : Option Buffered). IfOk c.get.result (λ held. IfSome held (IsBacked c.args.key.now snapshot.active.entries (frozen_entries (λ (buffer : Buffered). buffer.entries) frozen) (IsVouchedBy snapshot.version))))
+    c.as_ref.ensures.value c.get.ensures.backed
