@@ -61,7 +61,7 @@ fn count_told<D: Disk>(alloc: Global, engine: &mut Engine<D>, no: u64) -> Result
 #[test]
 fn reads_that_meet_a_page_of_other_bytes_tell_its_name(rt: HostRuntime) -> Result<(), Fail> {
     let alloc = rt.alloc();
-    let mut damaged = 0;
+    let mut damaged: usize = 0;
     for no in 0..60 {
         let mut engine = three_files(alloc, LyingDisk::new(alloc, no))?;
         let told = count_told(alloc, &mut engine, no)?;
@@ -69,7 +69,7 @@ fn reads_that_meet_a_page_of_other_bytes_tell_its_name(rt: HostRuntime) -> Resul
         assert!(rt; told == 0 || (2 <= told && told <= 4));
         assert_eq!(rt; scan_is_told(alloc, &mut engine, no)?, told > 0);
         if told > 0 {
-            damaged += 1;
+            damaged = damaged.saturating_add(1);
         }
     }
     // Six pages in three files.

@@ -104,12 +104,13 @@ fn bytes_of(alloc: Global, disk: &mut MemDisk, name: Name) -> Result<Vec<u8>, Fa
     let Ok(names) = disk.names(alloc) else {
         return Err(Fail::new("names"));
     };
-    if !names.contains(&name) {
-        return Err(Fail::new("an object"));
-    }
-    match disk.read(alloc, name) {
-        Ok(bytes) => Ok(bytes),
-        Err(_) => Err(Fail::new("bytes")),
+    if names.contains(&name) {
+        match disk.read(alloc, name) {
+            Ok(bytes) => Ok(bytes),
+            Err(_) => Err(Fail::new("bytes")),
+        }
+    } else {
+        Err(Fail::new("an object"))
     }
 }
 
