@@ -77,8 +77,7 @@ fn in_flight<D: Disk>(alloc: Global, disk: D, pages: usize) -> Result<D, Fail> {
     put_all(alloc, &mut engine)?;
     engine.flush(alloc)?;
     let mut job = engine.begin(alloc)?;
-    for page in 0..pages {
-        let _ = page;
+    for _ in 0..pages {
         write_one(alloc, &mut engine, &mut job)?;
     }
     Ok(engine.into_disk())
