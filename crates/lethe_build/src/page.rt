@@ -29,15 +29,8 @@ fn filter_of(alloc: Global, keys: &[Key]) -> Result<Filter, NoMemory>
     requires { 0 < length keys.now }
     ensures { IfOk result (IsFilterOf keys.now) }
 {
-    let filter = Filter::build(alloc, keys)?;
-    are_words(filter.words());
-    Ok(filter)
+    Filter::build(alloc, keys)
 }
-
-/// Each of the words has 64 bits: this does nothing, and its contract says so of the numbers that contracts see.
-fn are_words(words: &[u64])
-    ensures { All (λ word. word < 2 ^ 64) words.now }
-{}
 
 /// The line of the page of these entries, with this number, which is spelled by these bytes; and the keys, taken from the entries.
 pub fn line_of(

@@ -1,4 +1,4 @@
--- A page that is told as damaged was fetched: only a read tells of one.
+-- Where a page is told as damaged, a fetch was made: only a read tells of one.
 use Rattle.std.proofs.Common.{◌≡◌, ◌⊎◌, inl, inr, ℕ, Result, Ok, Err, ap, subst}
 use Rattle.std.specs.Prelude.{IfErr, IsErrOf}
 use Rattle.lethe_base.specs.Limits.{max_place}

@@ -53,7 +53,7 @@ impl<D: Disk> Core<D> {
         ensures flight { self.new.flight ≡ self.old.flight }
         ensures begun { self.new.begun ≡ self.old.begun }
         ensures port_faults { D.port_faults port.old ≤ D.port_faults port.new }
-        // A page that is told as damaged was fetched in this call, on any disk.
+        // Where a page is told as damaged, a fetch was made in this call, on any disk.
         ensures fetched { (name : Name) → IsErrOf result (refused.Damaged name) → D.fetches port.old < D.fetches port.new }
         ensures fetches { D.fetches port.old ≤ D.fetches port.new }
     {

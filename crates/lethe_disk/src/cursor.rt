@@ -87,13 +87,14 @@ pub trait Cursor<D: Disk> {
         ensures given { D.tells → sound self.old → IfOk result (λ next. IsNext next (left self.old) (left self.new)) }
         ensures again { OnOk result (may_ask self.new) }
         ensures still_sound { sound self.old → OnOk result (sound self.new) }
+
         // It makes the fetches that were awaited, each once.
         ensures once { OnOk result (D.fetches port.new + awaits self.new ≡ D.fetches port.old + awaits self.old) }
         ensures at_most { D.fetches port.new ≤ D.fetches port.old + awaits self.old }
 
         ensures ended { result ≡ Ok None → awaits self.new ≡ 0 }
 
-        // A page that is told as damaged was fetched in this call.
+        // Where a page is told as damaged, a fetch was made in this call.
         ensures damaged { (name : Name) → IsErrOf result (Damaged name) → damages self.old name × (D.fetches port.old < D.fetches port.new) }
         ensures fewer { OnOk result ((name : Name) → damages self.new name → damages self.old name) }
         ensures undamaged { D.tells → sound self.old → (name : Name) → IsErrOf result (Damaged name) → ⊥ }

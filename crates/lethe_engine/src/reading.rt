@@ -55,7 +55,7 @@ impl<D: Disk> Engine<D> {
         ensures backed { IfOk result (λ held. IfSome held (IsBacked key.now self.now.core.state.active.entries (frozen_entries (λ buffer. buffer.entries) self.now.core.state.frozen)
             (IsVouchedBy self.now.core.version))) }
 
-        // A page that is told as damaged was fetched in this call, since the key may be there, and is another page.
+        // Where a page is told as damaged, a fetch was made in this call, since the key may be there, and it is another page.
         ensures damaged { (name : Name) → IsErrOf result (Damaged name) → IsDamagedOf key.now self.now.core.version name × (D.fetches port.old < D.fetches port.new) }
         ensures undamaged { D.tells → IsSound D.tells (view_of self.now.core)
             → (name : Name) → IsErrOf result (Damaged name) → ⊥ }
@@ -102,7 +102,7 @@ impl<D: Disk> Engine<D> {
         ensures at_most { is_lt (key_cmp lo.now hi.now) ≡ true → D.fetches port.new ≤ D.fetches port.old + pages_between lo.now hi.now self.now.core.version }
         ensures unasked { is_lt (key_cmp lo.now hi.now) ≡ false → D.fetches port.new ≡ D.fetches port.old }
 
-        // A page that is told as damaged was fetched in this call, and is another page.
+        // Where a page is told as damaged, a fetch was made in this call, and it is another page.
         ensures damaged { (name : Name) → IsErrOf result (Damaged name) → IsDamagedInAny self.now.core.version name × (D.fetches port.old < D.fetches port.new) }
         ensures later { D.fetches port.old ≤ D.fetches port.new }
         ensures why { IfErr result IsReadRefusal }

@@ -121,7 +121,7 @@ impl<D: Disk> FileView<D> {
         ensures fetches { D.fetches port.new ≤ D.fetches port.old + allowed_pages key.now self.now.header.tiles }
         ensures later { D.fetches port.old ≤ D.fetches port.new }
 
-        // A page that is told as damaged was fetched in this call, since the key may be there, and is another page.
+        // Where a page is told as damaged, a fetch was made in this call, since the key may be there, and it is another page.
         ensures damaged { (name : Name) → IsErrOf result (Damaged name)
             → IsDamagedFor D.tells key.now self.now.header.tiles (map (λ page. D.page_bytes page.value) self.now.pages.items) name × (D.fetches port.old < D.fetches port.new) }
 
@@ -154,9 +154,11 @@ impl<D: Disk> FileView<D> {
         ensures left { FileAgrees self.now.header.tiles (map (λ page. D.page_bytes page.value) self.now.pages.items)
             → IfOk result (λ cursor. AreBetween lo.now (option_copied hi.entry) (map entries_in (map (λ page. D.page_bytes page.value) self.now.pages.items)) (⟦<FileCursor<D> as Cursor<D>>⟧.left cursor)) }
 
-        // Each page of a tile that meets the range is fetched once, and no other page.
+        // A page that it may tell as damaged is one of the file's, whose bytes are another page's.
         ensures damages { IfOk result (λ cursor. (name : Name) → ⟦<FileCursor<D> as Cursor<D>>⟧.damages cursor name
             → IsDamagedAmong D.tells (lines_of self.now.header.tiles) (map (λ page. D.page_bytes page.value) self.now.pages.items) name) }
+
+        // Each page of a tile that meets the range is fetched once, and no other page.
         ensures pages { IfOk result (λ cursor. awaited_in D.page_bytes cursor.unread ≡ numbers_between lo.now (option_copied hi.entry) self.now.header.tiles) }
     {
         let range = KeyRange::of(lo, hi)?;

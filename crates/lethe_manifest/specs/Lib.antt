@@ -2,3 +2,4 @@ pub mod Manifests
 pub mod Numbers
 pub mod Parts
 pub mod Reading
+pub mod Followers

@@ -37,7 +37,7 @@ pub fn get<D: Disk, B: Buffer>(
         + (if is_buffered key.now (B.entries active.now) (frozen_entries B.entries (option_copied frozen.entry)) then 0 else sum_by (λ file. bound key.now file.header) (files_of version.now)) }
     ensures later { D.fetches port.old ≤ D.fetches port.new }
 
-    // A page that is told as damaged was fetched in this call, since the key may be there, and is another page.
+    // Where a page is told as damaged, a fetch was made in this call, since the key may be there, and it is another page.
     ensures damaged { (name : Name) → IsErrOf result (Damaged name) → IsDamagedOf key.now version.now name × (D.fetches port.old < D.fetches port.new) }
 
     // On any disk.

@@ -47,7 +47,7 @@ pub fn scan<D: Disk, B: Buffer>(
     ensures at_most { is_lt (key_cmp lo.now hi.now) ≡ true → D.fetches port.new ≤ D.fetches port.old + pages_between lo.now hi.now version.now }
     ensures unasked { is_lt (key_cmp lo.now hi.now) ≡ false → D.fetches port.new ≡ D.fetches port.old }
 
-    // A page that is told as damaged was fetched in this call, and is another page.
+    // Where a page is told as damaged, a fetch was made in this call, and it is another page.
     ensures damaged { (name : Name) → IsErrOf result (Damaged name) → IsDamagedInAny version.now name × (D.fetches port.old < D.fetches port.new) }
     ensures later { D.fetches port.old ≤ D.fetches port.new }
     ensures undamaged { D.tells → All IsSound (files_of version.now) → (name : Name) → IsErrOf result (Damaged name) → ⊥ }

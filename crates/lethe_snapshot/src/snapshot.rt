@@ -76,7 +76,7 @@ impl<D: Disk> Snapshot<D> {
     ) -> Result<Option<(u64, Value)>, ReadRefused>
         ensures answer { D.tells → (h : History) → IsOf h self.now → IfOk result (λ held. answer (after h) (Get key.now) ≡ Found held) }
 
-        // A page that is told as damaged was fetched in this call, since the key may be there, and is another page.
+        // Where a page is told as damaged, a fetch was made in this call, since the key may be there, and it is another page.
         ensures damaged { (name : Name) → IsErrOf result (Damaged name) → IsDamagedOf key.now self.now.version name × (D.fetches port.old < D.fetches port.new) }
 
         // On any disk.
@@ -124,7 +124,7 @@ impl<D: Disk> Snapshot<D> {
         ensures at_most { is_lt (key_cmp lo.now hi.now) ≡ true → D.fetches port.new ≤ D.fetches port.old + pages_between lo.now hi.now self.now.version }
         ensures unasked { is_lt (key_cmp lo.now hi.now) ≡ false → D.fetches port.new ≡ D.fetches port.old }
 
-        // A page that is told as damaged was fetched in this call, and is another page.
+        // Where a page is told as damaged, a fetch was made in this call, and it is another page.
         ensures damaged { (name : Name) → IsErrOf result (Damaged name) → IsDamagedInAny self.now.version name × (D.fetches port.old < D.fetches port.new) }
         ensures later { D.fetches port.old ≤ D.fetches port.new }
     {

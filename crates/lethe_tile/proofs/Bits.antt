@@ -1,5 +1,7 @@
 -- The bits of words, and places past the last bit, which are counted on from the first one.
 use Rattle.std.proofs.Common.{◌≡◌, ℕ, ◌+◌, ◌*◌, ◌/◌, ◌%◌, ◌^◌, ◌<◌, ◌≤◌, ◌⊎◌, ◌↔◌, true, List, [], length, replicate, get_or, set, All, below_more, bit_and, bit_or, eqb, refl, sym, ap, ◌∙◌, subst, inl, inr, arith}
+use Rattle.std.proofs.Math.Facts.{Fits-lt-pow, Fits-of_lt, Fits-or}
+use Rattle.std.proofs.lemmas.List.Elements.{All-set}
 use Rattle.std.proofs.lemmas.Bool.{eqb-true, eq-eqb, cases_eq, cases_lt}
 use Rattle.std.proofs.lemmas.Nat.{div-add-mod', mod-mul-add, div-mul-add, mod_below}
 use Rattle.std.proofs.lemmas.Nat.Bits.{shr_and_one, bit_at_set_same, bit_at_set_other, bit_at-zero}
@@ -71,6 +73,14 @@ set_bit words place bit some =
           let kept = set_elsewhere words _ _ bit within (low place) (λ e. away (e ∙ sym at)) in
           (λ is. inl (sym kept ∙ is), λ either. elim either [ inl is ↦ kept ∙ is | inr here ↦ absurd (away here) ])
     ]
+
+-- words of 64 bits stay so where a bit is set
+pub words_fit : (words : List ℕ) (place : ℕ) → 0 < length words → All (λ word. word < 2 ^ 64) words
+    → All (λ word. word < 2 ^ 64) (set words (place / 64 % length words) (with_bit (get_or words (place / 64 % length words) 0) (place % 64)))
+words_fit words place some all =
+    let old : get_or words (place / 64 % length words) 0 < 2 ^ 64 = all _ 0 (mod_below (place / 64) (length words) some) in
+    let bit : 1 * 2 ^ (place % 64) % 2 ^ 64 < 2 ^ 64 = mod_below (1 * 2 ^ (place % 64)) (2 ^ 64) (omega arith) in
+    All-set (λ word. word < 2 ^ 64) words _ _ (Fits-lt-pow {w = w64} (Fits-or (Fits-of_lt old) (Fits-of_lt bit))) all
 
 -- one of the first n bits of a hash
 abbrev pub IsPlaceBelow : ℕ → ℕ → ℕ → ℕ → Type 0

@@ -1,5 +1,5 @@
 //! Filters of keys.
-ghost use Rattle.std.specs.Prelude.{◌≡◌, ℕ, [], ◌*◌, ◌%◌, ◌<◌, ◌↔◌, ◌⊎◌, length, All, IfOk, IfSome, IsNone, IsTrue};
+ghost use Rattle.std.specs.Prelude.{◌≡◌, ℕ, [], ◌*◌, ◌%◌, ◌^◌, ◌<◌, ◌↔◌, ◌⊎◌, length, All, IfOk, IfSome, IsNone, IsTrue};
 ghost use Rattle.lethe_tile.specs.Filters.{IsProbe, IsPlace, IsSet, MayHold, filter_bits, filter_len};
 
 use crate::hash::{PROBES, hash_key, place};
@@ -31,6 +31,7 @@ impl Filter {
         ensures len { IfOk result (λ filter. 64 * length filter ≡ filter_len (length keys.now)) }
         ensures exact { IfOk result (λ filter. (bit : ℕ) → IsSet filter bit ↔ filter_bits keys.now bit) }
         ensures keys { IfOk result (λ filter. All (MayHold filter) keys.now) }
+        ensures words { IfOk result (λ filter. All (λ word. word < 2 ^ 64) filter) }
     {
         let mut words = vec![in alloc; 0; (10 * keys.len()).div_ceil(64)]?;
         for key in keys {
@@ -84,7 +85,8 @@ fn is_set(words: &[u64], place: u64) -> bool
 /// Sets the bit at a place, counted as by `is_set`.
 fn set(words: &mut [u64], place: u64)
     requires { 0 < length words.old }
-    ensures { (bit : ℕ) → IsSet words.new bit ↔ (IsSet words.old bit ⊎ (bit ≡ place % (64 * length words.old))) }
+    ensures set { (bit : ℕ) → IsSet words.new bit ↔ (IsSet words.old bit ⊎ (bit ≡ place % (64 * length words.old))) }
+    ensures words { All (λ word. word < 2 ^ 64) words.old → All (λ word. word < 2 ^ 64) words.new }
 {
     let word = (place / 64) as usize % words.len();
     words[word] |= 1 << (place % 64);
@@ -93,7 +95,8 @@ fn set(words: &mut [u64], place: u64)
 /// Sets the bits of a key with this hash.
 fn set_all(words: &mut [u64], hash: u64)
     requires { 0 < length words.old }
-    ensures { (bit : ℕ) → IsSet words.new bit ↔ (IsSet words.old bit ⊎ IsPlace (64 * length words.old) hash bit) }
+    ensures set { (bit : ℕ) → IsSet words.new bit ↔ (IsSet words.old bit ⊎ IsPlace (64 * length words.old) hash bit) }
+    ensures words { All (λ word. word < 2 ^ 64) words.old → All (λ word. word < 2 ^ 64) words.new }
 {
     for probe in 0..PROBES {
         set(words, place(hash, probe));

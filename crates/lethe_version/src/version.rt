@@ -80,7 +80,7 @@ impl<D: Disk> Version<D> {
         ensures fetches { D.fetches port.new ≤ D.fetches port.old + sum_by (λ file. bound key.now file.header) (files_of self.now) }
         ensures later { D.fetches port.old ≤ D.fetches port.new }
 
-        // A page that is told as damaged was fetched in this call, since the key may be there, and is another page.
+        // Where a page is told as damaged, a fetch was made in this call, since the key may be there, and it is another page.
         ensures damaged { (name : Name) → IsErrOf result (Damaged name) → IsDamagedOf key.now self.now name × (D.fetches port.old < D.fetches port.new) }
 
         // On any disk the entry has the key, and a line of one of the files vouches for it.

@@ -1,4 +1,4 @@
-use Rattle.std.proofs.Common.{◌≡◌, ◌+◌, ◌*◌, [], length, sym, ap, ◌∙◌, subst, arith}
+use Rattle.std.proofs.Common.{◌≡◌, ◌+◌, ◌*◌, ◌<◌, ◌^◌, [], All, length, sym, ap, ◌∙◌, subst, arith}
 use Rattle.std.proofs.lemmas.List.{with_items_is, get_or_default}
 use Rattle.std.specs.Vec.{with_items}
 use Rattle.lethe_tile.specs.Filters.{hash_of}
@@ -13,9 +13,10 @@ loop-key-preserved c =
     let long : length written ≡ length words.items = c.set_all.auto.words ∙ ap length c.deref_mut.ensures.value in
     let back : (with_items words written).items ≡ written = with_items_is words written (omega arith) in
     let read : c.key-item.result ≡ _ = c.key-item.is ∙ get_or_default keys c.loop-key.key-index _ [] c.loop-key-test.true in
-    let sets = keys_more words.items written keys c.hash_key.result c.loop-key.key-index c.loop-key.invariant.0 c.loop-key.invariant.1 (λ bit. rw c.deref_mut.ensures.value at (c.set_all.ensures bit)) (c.hash_key.ensures ∙ ap hash_of read) in (
+    let sets = keys_more words.items written keys c.hash_key.result c.loop-key.key-index c.loop-key.invariant.0 c.loop-key.invariant.1 (λ bit. rw c.deref_mut.ensures.value at (c.set_all.ensures.set bit)) (c.hash_key.ensures ∙ ap hash_of read) in (
       ap (λ ws. 64 * length ws) back ∙ ap (λ n. 64 * n) long ∙ c.loop-key.invariant.0,
       subst (λ ws. SetsKeys ws keys (c.loop-key.key-index + 1)) (sym back) sets,
+      subst (All (λ word. word < 2 ^ 64)) (sym back) (c.set_all.ensures.words (subst (All (λ word. word < 2 ^ 64)) (sym c.deref_mut.ensures.value) c.loop-key.invariant.2)),
     )
 
 pub returns-clause-exact : goal.returns-clause-exact
