@@ -1,5 +1,5 @@
 //! A file that has no numbers yet.
-ghost use Rattle.std.specs.Prelude.{◌≡◌, ◌≤◌, ◌<◌, ◌^◌, length, map, sum_by, zip, All, IfOk};
+ghost use Rattle.std.specs.Prelude.{◌≡◌, ◌≤◌, ◌-◌, ◌^◌, min, length, map, sum_by, zip, All, IfOk};
 ghost use Rattle.lethe_base.specs.Limits.{max_place};
 ghost use Rattle.lethe_header.specs.Facts.{lines_of};
 ghost use Rattle.lethe_build.specs.Drafts.{IsDraft, IsNumbered, numbers_for, with_number, with_numbers};
@@ -73,14 +73,13 @@ fn number_lines(lines: List<PageLine>, numbers: &[u64]) -> List<PageLine>
     List::of(lines)
 }
 
-/// How many numbers the files take: one for each page and one for each header.
+/// How many numbers the files take, one for each page and one for each header, or 2^64 - 1 where they take more.
 pub fn numbers_for(drafts: &[Draft]) -> u64
-    requires { sum_by numbers_for drafts.now < 2 ^ 64 }
-    ensures { result ≡ sum_by numbers_for drafts.now }
+    ensures { result ≡ min (2 ^ 64 - 1) (sum_by numbers_for drafts.now) }
 {
-    let mut numbers = 0;
+    let mut numbers = 0u64;
     for draft in drafts {
-        numbers += draft.pages.items().len() as u64 + 1;
+        numbers = numbers.saturating_add(draft.pages.items().len() as u64 + 1);
     }
     numbers
 }
