@@ -4,8 +4,10 @@
 mod advancing;
 mod exchanging;
 mod new_header;
+mod numbers;
 mod step;
 
 pub use advancing::advance;
 pub use new_header::NewHeader;
+pub use numbers::number_behind;
 pub use step::Step;
