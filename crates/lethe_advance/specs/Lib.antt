@@ -2,3 +2,4 @@ pub mod Settled
 pub mod Shown
 pub mod Steps
 pub mod Untorn
+pub mod Segment

@@ -5,9 +5,11 @@ mod advancing;
 mod exchanging;
 mod new_header;
 mod numbers;
+mod segment;
 mod step;
 
 pub use advancing::advance;
 pub use new_header::NewHeader;
 pub use numbers::number_behind;
+pub use segment::empty_segment;
 pub use step::Step;

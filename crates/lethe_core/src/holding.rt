@@ -43,15 +43,15 @@ impl<D: Disk> Core<D> {
         ensures config { IfOk result (λ found. IfSome found (λ task. task.config ≡ self.now.state.manifest.config)) }
         ensures of { IfOk result (λ found. IfSome found (λ task. IsTaskOf (view_of self.now) (plain_task task))) }
     {
-        let manifest = &self.state.manifest;
+        let manifest = self.state.manifest();
         let files = cited_files(alloc, &self.version, manifest.files.items())?;
         next_task(
             alloc,
             files,
             &manifest.config,
             manifest.clock,
-            self.state.pending.items(),
-            self.state.count,
+            self.state.pending(),
+            self.state.count(),
         )
     }
 
@@ -60,7 +60,7 @@ impl<D: Disk> Core<D> {
         requires { IsWritable self.now.state }
         ensures { result ≡ slice_index self.now.state.manifest.segments (length self.now.state.manifest.segments - 1) }
     {
-        let segments = self.state.manifest.segments.items();
+        let segments = self.state.manifest().segments.items();
         segments[segments.len() - 1]
     }
 }

@@ -64,7 +64,7 @@ impl<D: Disk> Core<D> {
         requires { IsSound D.tells (view_of self.now) }
         ensures { D.tells → (s : Stored) → Holds (view_of self.now) s → IsTrue result ↔ IsCrowded s }
     {
-        let ratio = self.state.manifest.config.fields().ratio;
+        let ratio = self.state.manifest().config.fields().ratio;
         self.version.files(0).len() as u64 >= 2 * ratio
     }
 
@@ -106,7 +106,7 @@ impl<D: Disk> Core<D> {
         ensures most { (s : Stored) → Holds (view_of self.now) s → IfOk result (λ most. most ≡ steps_down s.manifest.config.levels s.files) }
         ensures refused { IfErr result (λ why. why ≡ refused.NoMemory) }
     {
-        let manifest = &self.state.manifest;
+        let manifest = self.state.manifest();
         match cited_files(alloc, &self.version, manifest.files.items()) {
             Ok(files) => Ok(steps_down(&files, manifest.config.fields().levels)),
             Err(NoMemory) => Err(Refused::NoMemory),
@@ -193,8 +193,7 @@ impl<D: Disk> Core<D> {
             left,
         } = made;
         self.carry_out(alloc, before, headers, &step)?;
-        self.state.next = step.manifest.next;
-        self.state.manifest = step.manifest;
+        self.state.install(step);
         self.retired = left;
         self.flight = None;
         Ok(())

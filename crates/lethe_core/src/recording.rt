@@ -65,10 +65,10 @@ impl<D: Disk> Core<D> {
             kind: Kind::Segment,
             no,
         };
-        match append(alloc, &mut self.disk, segment, self.state.end, &body) {
+        match append(alloc, &mut self.disk, segment, self.state.end(), &body) {
             Ok(()) => {
                 self.state.enter(next, end);
-                Ok(self.state.count)
+                Ok(self.state.count())
             }
             Err(DiskRefused::Failed) => {
                 let place = self.state.stop();

@@ -77,7 +77,7 @@ impl<D: Disk> Core<D> {
         ensures flight { self.new.flight ≡ self.old.flight }
         ensures begun { self.new.begun ≡ self.old.begun }
     {
-        if self.state.frozen.is_none() {
+        if self.state.frozen().is_none() {
             return Ok(());
         }
         self.flush_now(alloc, before)

@@ -98,10 +98,9 @@ impl<D: Disk> Core<D> {
         ensures page { D.tells → OnOk result ((D.seen self.new.disk).directory ≡ insert (D.seen self.old.disk).directory (page_name self.old.state.next) bytes.now) }
         ensures calls { D.tells → OnOk result ((D.seen self.new.disk).moment ≡ (D.seen self.old.disk).moment + 2) }
     {
-        let number = self.state.next;
-        if MAX_PLACE <= number {
+        let Some(number) = self.state.free_number() else {
             return Err(Refused::Exhausted { last: MAX_PLACE });
-        }
+        };
         let Some(mut flight) = self.flight.take() else {
             unreachable!()
         };
@@ -109,7 +108,7 @@ impl<D: Disk> Core<D> {
         self.flight = Some(flight);
         match placed {
             Ok(()) => {
-                self.state.next = number + 1;
+                self.state.draw();
                 Ok(())
             }
             Err(DiskRefused::Failed) => {

@@ -122,7 +122,7 @@ impl<D: Disk> Engine<D> {
     pub fn count(&self) -> u64
         ensures { result ≡ self.now.core.state.count }
     {
-        self.core.state.count
+        self.core.state.count()
     }
 
     /// Gives the disk back.

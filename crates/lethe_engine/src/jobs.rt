@@ -55,7 +55,7 @@ impl<D: Disk> Engine<D> {
         ensures idle { D.tells → IsIdle (D.seen self.old.core.disk) (D.seen self.new.core.disk) }
         ensures faults { D.faults self.new.core.disk ≡ D.faults self.old.core.disk }
     {
-        if let Some(at) = self.core.state.stopped {
+        if let Some(at) = self.core.state.stopped() {
             return Err(Refused::Stopped { at });
         }
         if self.core.flight.is_some() {
@@ -209,11 +209,11 @@ impl<D: Disk> Engine<D> {
         ensures stopped { (at : ℕ) → self.old.core.state.stopped ≡ Some at → IsErrOf result (refused.Stopped at) × (self.new.core.state ≡ self.old.core.state) }
     {
         drop(job);
-        if let Some(at) = self.core.state.stopped {
+        if let Some(at) = self.core.state.stopped() {
             self.core.flight = None;
             return Err(Refused::Stopped { at });
         }
-        if self.core.state.count >= MAX_PLACE {
+        if self.core.state.count() >= MAX_PLACE {
             return Ok(());
         }
         let before = self.core.disk.faults();

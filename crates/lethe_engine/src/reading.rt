@@ -66,10 +66,10 @@ impl<D: Disk> Engine<D> {
     {
         match get(
             alloc,
-            &self.core.state.active,
-            self.core.state.frozen.as_ref(),
+            self.core.state.active(),
+            self.core.state.frozen(),
             &self.core.version,
-            self.core.state.pending.items(),
+            self.core.state.pending(),
             port,
             key,
         ) {
@@ -115,10 +115,10 @@ impl<D: Disk> Engine<D> {
     {
         match scan(
             alloc,
-            &self.core.state.active,
-            self.core.state.frozen.as_ref(),
+            self.core.state.active(),
+            self.core.state.frozen(),
             &self.core.version,
-            self.core.state.pending.items(),
+            self.core.state.pending(),
             port,
             lo,
             hi,

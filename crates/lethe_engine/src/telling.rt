@@ -49,9 +49,9 @@ impl<D: Disk> Engine<D> {
             tombs = tombs.saturating_add(dead);
         }
         Stat {
-            clock: self.core.state.manifest.clock,
+            clock: self.core.state.manifest().clock,
             pins: 0,
-            pending: self.core.state.pending.items().len() as u64,
+            pending: self.core.state.pending().len() as u64,
             files,
             tombs,
         }

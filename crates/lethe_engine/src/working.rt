@@ -41,10 +41,10 @@ impl<D: Disk> Engine<D> {
         ensures stopped { (at : ℕ) → self.old.core.state.stopped ≡ Some at → IsErrOf result (Stopped at) × (self.new ≡ self.old) }
         ensures exhausted { self.old.core.state.stopped ≡ None → (HasNoFreeze self.old.core.state → ⊥) → self.old.core.state.count ≡ max_place → IsErrOf result (Exhausted max_place) × (self.new ≡ self.old) }
     {
-        if let Some(at) = self.core.state.stopped {
+        if let Some(at) = self.core.state.stopped() {
             return Err(Refused::Stopped { at });
         }
-        if self.core.state.frozen.is_some() || self.core.state.records == 0 {
+        if self.core.state.frozen().is_some() || self.core.state.records() == 0 {
             return Ok(false);
         }
         self.core.state.may_change()?;
@@ -77,10 +77,10 @@ impl<D: Disk> Engine<D> {
         ensures stopped { (at : ℕ) → self.old.core.state.stopped ≡ Some at → IsErrOf result (Stopped at) × (self.new ≡ self.old) }
         ensures exhausted { self.old.core.state.stopped ≡ None → (HasNoFlush self.old.core.state → ⊥) → self.old.core.state.count ≡ max_place → IsErrOf result (Exhausted max_place) × (self.new ≡ self.old) }
     {
-        if let Some(at) = self.core.state.stopped {
+        if let Some(at) = self.core.state.stopped() {
             return Err(Refused::Stopped { at });
         }
-        if self.core.state.frozen.is_none() {
+        if self.core.state.frozen().is_none() {
             return Ok(false);
         }
         self.core.state.may_change()?;

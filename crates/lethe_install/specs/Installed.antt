@@ -1,6 +1,7 @@
 -- The step that installs files.
 use Rattle.std.specs.Prelude.{◌≡◌, ◌<◌, ◌^◌, ℕ, ◌+◌, List, ◌++◌, length}
 use Rattle.lethe_base.specs.declared.name.Name.{Name}
+use Rattle.lethe_manifest.specs.Followers.{follower}
 use Rattle.lethe_manifest.specs.declared.manifest.Cited.{Cited}
 use Rattle.lethe_manifest.specs.declared.manifest.Manifest.{Manifest}
 use Rattle.lethe_flush.specs.declared.made.MadeFiles.{MadeFiles}
@@ -10,15 +11,15 @@ use Rattle.lethe_install.specs.Left.{needed_of, unneeded_of}
 use Rattle.lethe_install.specs.declared.inputs.Inputs.{Inputs}
 use Rattle.lethe_install.specs.declared.steps.Installation.{Installation}
 
--- the manifest of this number, which cites these files and has the pending erases
+-- it cites these files and has the pending erases
 abbrev pub installing_manifest : State → List Cited → ℕ → Manifest
-installing_manifest state files number = record state.manifest {
+installing_manifest state files number = follower state.manifest (record {
   no = number;
   count = state.count;
-  next = number + 1;
   erases = state.pending;
+  segments = state.manifest.segments;
   files = files;
-}
+})
 
 -- The step writes the objects and cites the files in the level. Of the inputs' objects and the retired pages those go that aren't needed, and the others are left.
 pub record IsInstallStep (state : State) (level : ℕ) (inputs : Inputs) (made : MadeFiles) (retired needed : List Name) (installing : Installation) : Type 0 where

@@ -13,7 +13,7 @@ ghost use Rattle.lethe_flush.specs.Made.{pages_in, written_pages};
 ghost use Rattle.lethe_follows.specs.Merged.{IsMerged, StoredMerge, entries_in, inputs_of};
 ghost use Rattle.lethe_header.specs.Headers as headers;
 ghost use Rattle.lethe_install.specs.Inputs.{numbered};
-ghost use Rattle.lethe_install.specs.Installed.{IsInstallStep, installing_manifest};
+ghost use Rattle.lethe_install.specs.Installed.{IsInstallStep};
 ghost use Rattle.lethe_install.specs.Left.{left_of};
 ghost use Rattle.lethe_job.specs.Tasks.{IsTaskIn, plain_task};
 ghost use Rattle.lethe_merge.specs.Merge.{merged};
@@ -26,19 +26,16 @@ ghost use Rattle.lethe_stored.specs.Stored.{Stored, pending_of};
 use crate::inputs::{Inputs, inputs_of};
 use crate::left::{Parted, part};
 use crate::placing::with_made;
-use lethe_advance::{NewHeader, Step};
+use lethe_advance::{NewHeader, Step, number_behind};
 use lethe_base::{List, MAX_PLACE, Name, NoMemory, Refused};
 use lethe_build::{Draft, numbers_for};
 use lethe_disk::Disk;
 use lethe_flush::{MadeFiles, make_files};
 use lethe_job::Task;
-use lethe_manifest::{Cited, Manifest};
+use lethe_manifest::Change;
 use lethe_state::State;
 use lethe_version::Version;
 use std::alloc::Global;
-
-/// The most files of a manifest.
-const MAX_FILES: usize = 0xffff_ffff;
 
 /// What installs the outputs of a job.
 #[derive(Debug, Drop)]
@@ -94,7 +91,8 @@ pub fn installing<D: Disk>(
         × IsStep s (beside ++ written_pages written.now drafts.items) t (left_of needed.now (numbered made.step.merged.items s.files) beside) made.headers.items made.step
         × (made.left.items ≡ names_in (left_of needed.now (numbered made.step.merged.items s.files) beside))) }
 {
-    if is_short_for(state, &drafts, written) {
+    let objects = numbers_for(&drafts) - written.len() as u64;
+    if number_behind(state.next(), objects).is_none() {
         return Err(Refused::Exhausted { last: MAX_PLACE });
     }
     match install(
@@ -105,17 +103,7 @@ pub fn installing<D: Disk>(
     }
 }
 
-/// Whether the numbers of the objects that aren't written yet, and a manifest's, can't be drawn.
-fn is_short_for(state: &State, drafts: &[Draft], written: &[Name]) -> bool
-    requires next { state.now.next ≤ max_place }
-    requires few { sum_by numbers_for drafts.now < 2 ^ 63 }
-    requires some { length written.now ≤ length (pages_in drafts.now) }
-    ensures { IsTrue result ↔ (max_place ≤ state.now.next + (sum_by numbers_for drafts.now - length written.now)) }
-{
-    MAX_PLACE <= state.next + (numbers_for(drafts) - written.len() as u64)
-}
-
-/// What installs the drafts' files.
+/// What installs the drafts' files. The manifest has the number behind those of the objects.
 fn install<D: Disk>(
     alloc: Global,
     state: &State,
@@ -148,8 +136,9 @@ fn install<D: Disk>(
         × (made.left.items ≡ names_in (left_of needed.now (numbered made.step.merged.items s.files) beside))) }
 {
     let level = task.level + 1;
-    let made = make_files(alloc, drafts, level, task.upto, written, state.next)?;
-    let inputs = inputs_of(alloc, version, task, level, state.manifest.files.items())?;
+    let made = make_files(alloc, drafts, level, task.upto, written, state.next())?;
+    let cited = state.manifest().files.items();
+    let inputs = inputs_of(alloc, version, task, level, cited)?;
     step_of(alloc, state, level, inputs, made, retired, needed)
 }
 
@@ -179,46 +168,19 @@ fn step_of(
     } = inputs;
     names.extend_from_slice(retired)?;
     let Parted { gone, left } = part(alloc, names, needed)?;
-    let old = state.manifest.files.items();
-    let files = with_made(alloc, old, cited, level, &numbers, &above)?;
-    let manifest = installing_manifest(alloc, state, files, next)?;
-    let step = Step {
-        objects,
-        merged: numbers,
-        older: state.manifest.no,
-        manifest,
-        gone,
+    let old = state.manifest();
+    let files = with_made(alloc, old.files.items(), cited, level, &numbers, &above)?;
+    let change = Change {
+        no: next,
+        count: state.count(),
+        erases: List::of(state.pending().to_vec(alloc)?),
+        segments: List::of(old.segments.items().to_vec(alloc)?),
+        files: List::of(files),
     };
+    let step = Step::to(old, change, objects, numbers, gone)?;
     Ok(Installation {
         headers,
         step,
         left,
-    })
-}
-
-/// The manifest of this number, which cites these files and has the pending erases.
-fn installing_manifest(
-    alloc: Global,
-    state: &State,
-    files: Vec<Cited>,
-    number: u64,
-) -> Result<Manifest, NoMemory>
-    requires numbers { number < max_place }
-    ensures is { IfOk result (λ manifest. manifest ≡ installing_manifest state.now files.items number) }
-    ensures few { IfOk result (λ manifest. length manifest.files < 2 ^ 32) }
-{
-    if files.len() > MAX_FILES {
-        return Err(NoMemory);
-    }
-    Ok(Manifest {
-        no: number,
-        config: state.manifest.config,
-        clock: state.manifest.clock,
-        count: state.count,
-        next: number + 1,
-        certificate: state.manifest.certificate,
-        erases: List::of(state.pending.items().to_vec(alloc)?),
-        segments: List::of(state.manifest.segments.items().to_vec(alloc)?),
-        files: List::of(files),
     })
 }

@@ -53,11 +53,11 @@ impl<D: Disk> Snapshot<D> {
         ensures limit { IfOk result (λ snapshot. snapshot.limit ≡ limit) }
     {
         Ok(Snapshot {
-            active: state.active.copy()?,
-            frozen: copy_of(&state.frozen)?,
+            active: state.active().copy()?,
+            frozen: copy_of(state.frozen())?,
             version: share(alloc, version)?,
-            pending: List::of(state.pending.items().to_vec(alloc)?),
-            point: state.count,
+            pending: List::of(state.pending().to_vec(alloc)?),
+            point: state.count(),
             number,
             limit,
         })
@@ -180,8 +180,8 @@ impl<D: Disk> Snapshot<D> {
 }
 
 /// A copy of the frozen buffer, if there is one.
-fn copy_of(frozen: &Option<VecBuffer>) -> Result<Option<VecBuffer>, NoMemory>
-    ensures { (o : Option Segment) → IsFrozenIn o frozen.now → IfOk result (IsFrozenIn o) }
+fn copy_of(frozen: Option<&VecBuffer>) -> Result<Option<VecBuffer>, NoMemory>
+    ensures { (o : Option Segment) → IsFrozenIn o (option_copied frozen) → IfOk result (IsFrozenIn o) }
 {
     match frozen {
         Some(buffer) => Ok(Some(buffer.copy()?)),

@@ -2,37 +2,32 @@
 use Rattle.std.specs.Prelude.{◌≡◌, ℕ, ◌+◌, List, [], ◌∷◌, ◌++◌, drop, slice_index}
 use Rattle.lethe_manifest.specs.declared.manifest.Cited.{Cited}
 use Rattle.lethe_manifest.specs.declared.manifest.Manifest.{Manifest}
-use Rattle.lethe_segment.specs.Segments.{segment_bytes}
-use Rattle.lethe_commit.specs.declared.objects.Object.{Object}
+use Rattle.lethe_manifest.specs.Followers.{follower}
 use Rattle.lethe_stored.specs.Stored.{segment_name}
 use Rattle.lethe_advance.specs.declared.new_header.NewHeader.{NewHeader}
 use Rattle.lethe_advance.specs.declared.step.Step.{Step}
 use Rattle.lethe_flush.specs.declared.made.MadeFiles.{MadeFiles}
 use Rattle.lethe_state.specs.declared.state.State.{State}
 
--- a segment without a record
-abbrev pub empty_segment : ℕ → Object
-empty_segment number = record { name = segment_name number; bytes = segment_bytes number [] }
-
--- the manifest that cites an empty segment behind the others
+-- it cites an empty segment behind the others
 abbrev pub freezing_manifest : State → Manifest
-freezing_manifest state = record state.manifest {
+freezing_manifest state = follower state.manifest (record {
   no = state.next + 1;
   count = state.count;
-  next = state.next + 1 + 1;
+  erases = state.manifest.erases;
   segments = state.manifest.segments ++ state.next ∷ [];
-}
+  files = state.manifest.files;
+})
 
--- the manifest of this number without the first segment, which cites these files in front of the others and has the pending erases
+-- it lacks the first segment, cites these files in front of the others and has the pending erases
 abbrev pub flushing_manifest : State → List Cited → ℕ → Manifest
-flushing_manifest state cited number = record state.manifest {
+flushing_manifest state cited number = follower state.manifest (record {
   no = number;
   count = state.count;
-  next = number + 1;
   erases = state.pending;
   segments = drop 1 state.manifest.segments;
   files = cited ++ state.manifest.files;
-}
+})
 
 -- the step writes the objects and cites the files, and the first segment goes
 pub record IsFlushStep (state : State) (made : MadeFiles) (headers : List NewHeader) (step : Step) : Type 0 where

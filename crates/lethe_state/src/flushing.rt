@@ -19,24 +19,21 @@ ghost use Rattle.lethe_advance.specs.Steps.{IsStep};
 ghost use Rattle.lethe_flush.specs.Flushed.{IsFlushOf};
 ghost use Rattle.lethe_flush.specs.declared.made.MadeFiles.{MadeFiles};
 ghost use Rattle.lethe_merge.specs.Merge.{merged};
-ghost use Rattle.lethe_state.specs.Made.{IsFlushStep, flushing_manifest};
+ghost use Rattle.lethe_state.specs.Made.{IsFlushStep};
 ghost use Rattle.lethe_state.specs.Remembered.{Remembers, IsCurrent};
 ghost use Rattle.lethe_state.specs.Room.{AreDrafted, IsFlushed, IsShortToFlush, IsStepFrom, unfrozen};
 ghost use Rattle.lethe_state.specs.Writable.{IsWritable};
 
 use crate::State;
-use lethe_advance::{NewHeader, Step};
+use lethe_advance::{NewHeader, Step, number_behind};
 use lethe_base::{Kind, List, MAX_PLACE, Name, NoMemory, Refused};
-use lethe_build::Draft;
+use lethe_build::{Draft, numbers_for};
 use lethe_disk::Disk;
 use lethe_flush::{MadeFiles, flush_drafts, flush_files, is_clear};
-use lethe_manifest::{Cited, Manifest};
+use lethe_manifest::Change;
 use lethe_mem::{Buffer, VecBuffer};
 use lethe_version::Version;
 use std::alloc::Global;
-
-/// The most files of a manifest.
-const MAX_FILES: usize = 0xffff_ffff;
 
 impl State {
     /// The headers of the files that the frozen buffer becomes, and the step that flushes it.
@@ -65,10 +62,10 @@ impl State {
         let frozen = self.frozen.as_ref().unwrap();
         let alone = is_clear(frozen, version, &[]);
         let drafts = self.draft_frozen(alloc, frozen, alone)?;
-        if self.is_short_for(&drafts) {
+        let Some(number) = number_behind(self.next, numbers_for(&drafts)) else {
             return Err(Refused::Exhausted { last: MAX_PLACE });
-        }
-        match self.flush_frozen(alloc, drafts) {
+        };
+        match self.flush_frozen(alloc, drafts, number) {
             Ok(made) => Ok(made),
             Err(NoMemory) => Err(Refused::NoMemory),
         }
@@ -95,28 +92,18 @@ impl State {
         }
     }
 
-    /// Whether the numbers of the drafts' objects, and a manifest's, can't be drawn.
-    fn is_short_for(&self, drafts: &[Draft]) -> bool
-        ensures { IsTrue result ↔ (max_place ≤ self.now.next + sum_by numbers_for drafts.now) }
-    {
-        // A sum past 2^64 is past the last number too.
-        let mut next = self.next;
-        for draft in drafts {
-            next = next.saturating_add(draft.pages.items().len() as u64 + 1);
-        }
-        MAX_PLACE <= next
-    }
-
-    /// The headers of the drafts' files, and the step that writes them and removes the frozen segment.
+    /// The headers of the drafts' files, and the step that writes them and removes the frozen segment, to the manifest of this number.
     fn flush_frozen(
         &self,
         alloc: Global,
         drafts: Vec<Draft>,
+        number: u64,
     ) -> Result<(Vec<NewHeader>, Step), NoMemory>
         requires writable { IsWritable self.now }
         requires segments { length self.now.manifest.segments ≡ 2 }
         requires drafts { All IsDraft drafts.items }
-        requires numbers { self.now.next + sum_by numbers_for drafts.items < max_place }
+        requires number { number ≡ self.now.next + sum_by numbers_for drafts.items }
+        requires free { number < max_place }
         ensures made { (entries : prelude.List entry.Entry) (alone : Bool) → AreDraftsOf self.now.manifest.config (merged entries self.now.pending alone) drafts.items
             → IfOk result (λ made. (parts : MadeFiles) × (files : prelude.List StoredFile)
             × IsFlushOf self.now.manifest.config entries self.now.pending alone self.now.count self.now.next parts files
@@ -126,13 +113,19 @@ impl State {
         ensures few { IfOk result (λ made. length made.1.objects.items ≡ sum_by numbers_for drafts.items) }
     {
         let made = flush_files(alloc, drafts, self.count, self.next)?;
-        self.flush_step(alloc, made)
+        self.flush_step(alloc, made, number)
     }
 
-    /// The step that writes what a flush made.
-    fn flush_step(&self, alloc: Global, made: MadeFiles) -> Result<(Vec<NewHeader>, Step), NoMemory>
+    /// The step that writes what a flush made, to the manifest of this number, which cites the files and no frozen segment.
+    fn flush_step(
+        &self,
+        alloc: Global,
+        made: MadeFiles,
+        number: u64,
+    ) -> Result<(Vec<NewHeader>, Step), NoMemory>
         requires segments { length self.now.manifest.segments ≡ 2 }
-        requires numbers { made.next < max_place }
+        requires number { number ≡ made.next }
+        requires free { number < max_place }
         ensures is { IfOk result (λ step. IsFlushStep self.now made step.0.items step.1) }
         ensures few { IfOk result (λ step. length step.1.manifest.files < 2 ^ 32) }
     {
@@ -140,53 +133,25 @@ impl State {
             headers,
             objects,
             cited,
-            next,
+            ..
         } = made;
-        let manifest = self.flushing_manifest(alloc, cited, next)?;
+        let segments = self.manifest.segments.items();
+        let mut files = cited;
+        files.extend_from_slice(self.manifest.files.items())?;
+        let change = Change {
+            no: number,
+            count: self.count,
+            erases: List::of(self.pending.items().to_vec(alloc)?),
+            segments: List::of(segments[1..].to_vec(alloc)?),
+            files: List::of(files),
+        };
         let mut gone = Vec::new(alloc);
         gone.push(Name {
             kind: Kind::Segment,
-            no: self.manifest.segments.items()[0],
+            no: segments[0],
         })?;
-        let step = Step {
-            objects,
-            merged: Vec::new(alloc),
-            older: self.manifest.no,
-            manifest,
-            gone,
-        };
+        let step = Step::to(&self.manifest, change, objects, Vec::new(alloc), gone)?;
         Ok((headers, step))
-    }
-
-    /// The manifest of this number that cites these files and no frozen segment.
-    fn flushing_manifest(
-        &self,
-        alloc: Global,
-        cited: Vec<Cited>,
-        number: u64,
-    ) -> Result<Manifest, NoMemory>
-        requires segments { length self.now.manifest.segments ≡ 2 }
-        requires numbers { number < max_place }
-        ensures is { IfOk result (λ manifest. manifest ≡ flushing_manifest self.now cited.items number) }
-        ensures few { IfOk result (λ manifest. length manifest.files < 2 ^ 32) }
-    {
-        let mut files = cited;
-        files.extend_from_slice(self.manifest.files.items())?;
-        if files.len() > MAX_FILES {
-            return Err(NoMemory);
-        }
-        let segments = &self.manifest.segments.items()[1..];
-        Ok(Manifest {
-            no: number,
-            config: self.manifest.config,
-            clock: self.manifest.clock,
-            count: self.count,
-            next: number + 1,
-            certificate: self.manifest.certificate,
-            erases: List::of(self.pending.items().to_vec(alloc)?),
-            segments: List::of(segments.to_vec(alloc)?),
-            files: List::of(files),
-        })
     }
 
     /// Forgets the frozen buffer, under the step's manifest.

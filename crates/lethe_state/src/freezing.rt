@@ -9,19 +9,18 @@ ghost use Rattle.lethe_stored.specs.Stored.{Stored, froze};
 ghost use Rattle.lethe_base.specs.declared.name.Name as name;
 ghost use Rattle.lethe_advance.specs.Settled.{AreDrawn, AreUncited, names_in};
 ghost use Rattle.lethe_advance.specs.Steps.{IsStep};
-ghost use Rattle.lethe_state.specs.Made.{empty_segment, freezing_manifest};
+ghost use Rattle.lethe_advance.specs.Segment.{empty_segment};
+ghost use Rattle.lethe_state.specs.Made.{freezing_manifest};
 ghost use Rattle.lethe_state.specs.Remembered.{Remembers, IsCurrent};
 ghost use Rattle.lethe_state.specs.Room.{IsFrozenWith, IsShortToFreeze, IsStepFrom};
 ghost use Rattle.lethe_state.specs.Writable.{IsWritable};
 
 use crate::State;
 use crate::state::FIRST_GATE;
-use lethe_advance::Step;
-use lethe_base::{Kind, List, MAX_PLACE, Name, NoMemory, Refused};
-use lethe_commit::Object;
-use lethe_manifest::Manifest;
+use lethe_advance::{Step, empty_segment, number_behind};
+use lethe_base::{List, MAX_PLACE, NoMemory, Refused};
+use lethe_manifest::Change;
 use lethe_mem::VecBuffer;
-use lethe_segment::new_segment;
 use std::alloc::Global;
 
 impl State {
@@ -40,17 +39,19 @@ impl State {
             → (loose : prelude.List (name.Name × prelude.List ℕ)) → AreDrawn self.now.next (names_in loose) → AreUncited s loose
             → IfOk result (λ step. IsStep s loose (froze s self.now.next (self.now.next + 1)) loose [] step) }
     {
-        if MAX_PLACE <= self.next + 1 {
+        let Some(number) = number_behind(self.next, 1) else {
             return Err(Refused::Exhausted { last: MAX_PLACE });
-        }
-        match self.freeze_step(alloc) {
+        };
+        match self.freeze_step(alloc, number) {
             Ok(step) => Ok(step),
             Err(NoMemory) => Err(Refused::NoMemory),
         }
     }
 
-    fn freeze_step(&self, alloc: Global) -> Result<Step, NoMemory>
-        requires { self.now.next + 1 < max_place }
+    /// The step to the manifest of this number, which cites an empty segment behind the active one.
+    fn freeze_step(&self, alloc: Global, number: u64) -> Result<Step, NoMemory>
+        requires number { number ≡ self.now.next + 1 }
+        requires free { number < max_place }
         ensures objects { IfOk result (λ step. step.objects.items ≡ empty_segment self.now.next ∷ []) }
         ensures merged { IfOk result (λ step. step.merged.items ≡ []) }
         ensures older { IfOk result (λ step. step.older ≡ self.now.manifest.no) }
@@ -58,35 +59,18 @@ impl State {
         ensures gone { IfOk result (λ step. step.gone.items ≡ []) }
     {
         let mut objects = Vec::new(alloc);
-        objects.push(segment_object(alloc, self.next)?)?;
-        Ok(Step {
-            objects,
-            merged: Vec::new(alloc),
-            older: self.manifest.no,
-            manifest: self.freezing_manifest(alloc)?,
-            gone: Vec::new(alloc),
-        })
-    }
-
-    /// The manifest that cites an empty segment behind the active one.
-    fn freezing_manifest(&self, alloc: Global) -> Result<Manifest, NoMemory>
-        requires { self.now.next + 1 < max_place }
-        ensures { IfOk result (λ manifest. manifest ≡ freezing_manifest self.now) }
-    {
-        let segment = self.next;
+        objects.push(empty_segment(alloc, self.next)?)?;
         let mut segments = self.manifest.segments.items().to_vec(alloc)?;
-        segments.push(segment)?;
-        Ok(Manifest {
-            no: segment + 1,
-            config: self.manifest.config,
-            clock: self.manifest.clock,
+        segments.push(self.next)?;
+        let change = Change {
+            no: number,
             count: self.count,
-            next: segment + 2,
-            certificate: self.manifest.certificate,
             erases: List::of(self.manifest.erases.items().to_vec(alloc)?),
             segments: List::of(segments),
             files: List::of(self.manifest.files.items().to_vec(alloc)?),
-        })
+        };
+        let merged = Vec::new(alloc);
+        Step::to(&self.manifest, change, objects, merged, Vec::new(alloc))
     }
 
     /// Freezes the active buffer, under the step's manifest. It takes no memory.
@@ -105,18 +89,4 @@ impl State {
         self.records = 0;
         self.end = FIRST_GATE;
     }
-}
-
-/// A segment of that number without a record.
-fn segment_object(alloc: Global, number: u64) -> Result<Object, NoMemory>
-    ensures { IfOk result (λ made. made ≡ empty_segment number) }
-{
-    let bytes = new_segment(number).to_vec(alloc)?;
-    Ok(Object {
-        name: Name {
-            kind: Kind::Segment,
-            no: number,
-        },
-        bytes: List::of(bytes),
-    })
 }

@@ -5,7 +5,9 @@ mod changing;
 mod flushing;
 mod freezing;
 mod laws;
+mod numbering;
 mod state;
+mod told;
 
 pub use laws::{
     delete_is_recorded, entered_is_remembered, files_are_remembered, flush_is_remembered,

@@ -22,23 +22,23 @@ pub(crate) const FIRST_GATE: u64 = 11;
 #[derive(Debug, Drop)]
 pub struct State {
     /// The manifest that counts.
-    pub manifest: Manifest,
+    pub(crate) manifest: Manifest,
     /// The first object number that hasn't been drawn since. A job draws numbers before a manifest tells of them.
-    pub next: u64,
+    pub(crate) next: u64,
     /// How many changes there were. One that failed counts.
-    pub count: u64,
+    pub(crate) count: u64,
     /// The erases that are still to be carried out, by their places.
-    pub pending: List<Pending>,
+    pub(crate) pending: List<Pending>,
     /// The newest entry of each key that the active segment has.
-    pub active: VecBuffer,
+    pub(crate) active: VecBuffer,
     /// How many records the active segment has.
-    pub records: u64,
+    pub(crate) records: u64,
     /// The place of the closed gate byte that ends the active segment.
-    pub end: u64,
+    pub(crate) end: u64,
     /// The newest entry of each key of the frozen segment, where there is one.
-    pub frozen: Option<VecBuffer>,
+    pub(crate) frozen: Option<VecBuffer>,
     /// The place of the change or the work in which the disk failed. Nothing is changed behind it.
-    pub stopped: Option<u64>,
+    pub(crate) stopped: Option<u64>,
 }
 
 impl State {

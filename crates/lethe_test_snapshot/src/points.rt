@@ -4,8 +4,8 @@ ghost use Rattle.lethe_base.specs.Limits.{max_place};
 ghost use Rattle.lethe_segment.specs.Records.{RecordHasSpelling};
 ghost use Rattle.lethe_state.specs.Writable.{IsWritable};
 
-use crate::common::{key_of, new_state};
-use lethe_base::{List, Pending, Range, Value};
+use crate::common::{erased_state, key_of, new_state};
+use lethe_base::Value;
 use lethe_memdisk::{MemDisk, MemPort};
 use lethe_segment::Record;
 use lethe_snapshot::Snapshot;
@@ -54,7 +54,7 @@ fn freeze(alloc: Global, state: &mut State) -> Result<(), Fail>
     requires { IsWritable state.old }
     ensures { OnOk result (IsWritable state.new) }
 {
-    match state.frozen {
+    match state.frozen() {
         None => {
             let step = state.freezing(alloc)?;
             state.freeze(alloc, step);
@@ -65,10 +65,11 @@ fn freeze(alloc: Global, state: &mut State) -> Result<(), Fail>
 }
 
 /// The put of `a` is in the frozen buffer, that of `b` in the active one.
-fn filled(alloc: Global) -> Result<State, Fail>
+fn filled(alloc: Global, new: State) -> Result<State, Fail>
+    requires { IsWritable new }
     ensures { IfOk result IsWritable }
 {
-    let mut state = new_state(alloc)?;
+    let mut state = new;
     put(alloc, &mut state, "a")?;
     freeze(alloc, &mut state)?;
     put(alloc, &mut state, "b")?;
@@ -143,7 +144,7 @@ fn shows_past(
 fn a_snapshot_shows_what_was_there_at_its_point(rt: HostRuntime) -> Result<(), Fail> {
     let alloc = rt.alloc();
     let version = Version::of(alloc, Vec::new(alloc))?;
-    let mut state = filled(alloc)?;
+    let mut state = filled(alloc, new_state(alloc)?)?;
     let snapshot = Snapshot::of(alloc, &state, &version, 7, 90)?;
     let shown = shows_past(alloc, &mut state, &version, &snapshot);
     let (point, limit) = (snapshot.point(), snapshot.limit());
@@ -158,14 +159,7 @@ fn a_snapshot_shows_what_was_there_at_its_point(rt: HostRuntime) -> Result<(), F
 fn a_snapshot_has_the_erases_that_are_pending(rt: HostRuntime) -> Result<(), Fail> {
     let alloc = rt.alloc();
     let version = Version::of(alloc, Vec::new(alloc))?;
-    let mut state = filled(alloc)?;
-    let range = Range::new(5, 6).ok_or("a range")?;
-    let erase = Pending {
-        seq: 2,
-        time: 0,
-        range,
-    };
-    state.pending = List::of([erase].as_slice().to_vec(alloc)?);
+    let state = filled(alloc, erased_state(alloc)?)?;
     assert!(rt; shows_now(alloc, &state, &version, "b")?);
     Ok(())
 }

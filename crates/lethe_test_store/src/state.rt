@@ -88,16 +88,16 @@ fn filled_state(alloc: Global) -> Result<State, Fail>
     filled(alloc, &version)
 }
 
-/// Numbers up to 10 are drawn.
+/// Draws seven numbers, from 3 on.
 fn draw(state: &mut State) -> Result<(), Fail>
     requires { IsWritable state.old }
     ensures unfrozen { OnOk result (state.new.frozen ≡ state.old.frozen) }
     ensures writable { OnOk result (IsWritable state.new) }
 {
-    if state.manifest.next > 10 {
-        return Err(Fail::new("a new store"));
+    for _ in 0..7 {
+        state.free_number().ok_or("a number")?;
+        state.draw();
     }
-    state.next = 10;
     Ok(())
 }
 
@@ -106,7 +106,7 @@ fn freezing(alloc: Global, state: &State) -> Result<Step, Fail>
     ensures unfrozen { OnOk result (state.now.frozen ≡ None) }
     ensures step { IfOk result (IsStepFrom 2 state.now []) }
 {
-    match state.frozen {
+    match state.frozen() {
         None => Ok(state.freezing(alloc)?),
         Some(_) => Err(Fail::new("no frozen buffer")),
     }
@@ -135,8 +135,8 @@ fn has_room_at_first(alloc: Global) -> Result<bool, Fail> {
 
 fn check_filled(rt: &impl Abort, state: &State) {
     assert!(rt; !state.has_room());
-    let counts = (state.count, state.records, state.active.len());
-    assert_eq!(rt; (counts, state.end), ((4, 4, 2), 90));
+    let counts = (state.count(), state.records(), state.active().len());
+    assert_eq!(rt; (counts, state.end()), ((4, 4, 2), 90));
 }
 
 fn check_stop(rt: &impl Abort, state: &mut State) -> Result<(), Fail>
@@ -167,10 +167,10 @@ fn check_new_segment(rt: &impl Abort, step: &Step) -> Result<(), Fail> {
 
 fn check_frozen(rt: &impl Abort, state: &State) {
     assert_eq!(rt;
-        (state.count, state.records, state.end, state.next),
+        (state.count(), state.records(), state.end(), state.next()),
         (4, 0, 11, 5)
     );
-    let frozen = state.frozen.as_ref().map(|frozen| frozen.len());
+    let frozen = state.frozen().map(|frozen| frozen.len());
     assert_eq!(rt; frozen, Some(2));
 }
 
@@ -226,6 +226,6 @@ fn a_frozen_buffer_is_flushed(rt: HostRuntime) -> Result<(), Fail> {
     let (headers, step) = flushing(rt.alloc(), &state)?;
     check_flush(&rt, headers, &step);
     state.flush(step);
-    assert!(rt; state.frozen.is_none() && state.manifest.no == 7 && state.next == 8);
+    assert!(rt; state.frozen().is_none() && state.manifest().no == 7 && state.next() == 8);
     Ok(())
 }

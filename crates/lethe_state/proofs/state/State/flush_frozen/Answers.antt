@@ -13,9 +13,10 @@ pub returns-clause-step : goal.returns-clause-step
 returns-clause-step c =
     let next = c.in_ok-made.ensures.next in
     let objects = c.in_ok-made.ensures.objects in
-    let numbers = c.requires.numbers in
+    let number = c.requires.number in
+    let free = c.requires.free in
     ok_both c.flush_step.result _ _ _ c.flush_step.ensures.is c.flush_step.ensures.few
-    (λ step is few. flush_from c.args.self.now c.in_ok-made.made step.0.items step.1 c.requires.writable c.requires.segments (omega (arith, next, numbers)) (omega (arith, next, objects))
+    (λ step is few. flush_from c.args.self.now c.in_ok-made.made step.0.items step.1 c.requires.writable c.requires.segments (omega (arith, next, number, free)) (omega (arith, next, objects))
     c.in_ok-made.ensures.cited c.in_ok-made.ensures.level c.in_ok-made.ensures.levels is few)
 
 pub returns-clause-few : goal.returns-clause-few

@@ -1,4 +1,4 @@
-use Rattle.std.proofs.Common.{◌<◌, ◌≤◌, ap, append-nil, arith, Bool, IsTrue, List, Some, rules, ◌≡◌, map, length, All, sym, ◌∙◌, subst}
+use Rattle.std.proofs.Common.{◌<◌, ◌≤◌, append-nil, Bool, IsTrue, List, Some, rules, ◌≡◌, map, length, All, sym, ◌∙◌, subst}
 use Rattle.std.specs.Prelude.{◌↔◌, sum_by}
 use Rattle.lethe_header.specs.declared.header.Header.{Header}
 use Rattle.lethe_advance.specs.Shown.{parts_by_level, parts_in}
@@ -41,11 +41,3 @@ returns-in-Ok-clause-drafted g c =
     let drafts = c.in_ok-drafts.drafts.items in
     let are = drafted c.args.self.now c.unwrap-frozen.result.now c.is_clear-alone.result drafts (search rules) c.in_ok-drafts.ensures.are c.in_ok-drafts.ensures.few in
     (drafts, are, c.in-Ok.ensures.few)
-
-pub returns-then-is_short_for-clause-exhausted : goal.returns-then-is_short_for-clause-exhausted
-returns-then-is_short_for-clause-exhausted g c = λ refused.
-    let drafts = c.in_ok-drafts.drafts.items in
-    let are = drafted c.args.self.now c.unwrap-frozen.result.now c.is_clear-alone.result drafts (search rules) c.in_ok-drafts.ensures.are c.in_ok-drafts.ensures.few in
-    let short = c.is_short_for.ensures.0 c.if-is_short_for.true in
-    let same : sum_by numbers_for c.deref.result.now ≡ sum_by numbers_for drafts = ap (sum_by numbers_for) c.deref.ensures.value in
-    record { drafts = drafts; drafted = are; short = omega (arith, short, same) }
