@@ -15,7 +15,7 @@ use Rattle.lethe_disk.specs.declared.disk.Disk.{Ghosts}
 use Rattle.lethe_file.specs.Agreement.{page_name}
 use Rattle.lethe_flush.specs.Made.{pages_in}
 use Rattle.lethe_stored.specs.Stored.{Stored}
-use Rattle.lethe_job.specs.Jobs.{IsJob, IsUnread}
+use Rattle.lethe_job.specs.Jobs.{IsJob, IsUnread, next_bytes}
 use Rattle.lethe_job.specs.Tasks.{AreSound, inputs_in, plain_task}
 use Rattle.lethe_job.specs.declared.job.Job.{Job}
 use Rattle.lethe_core.specs.Asked.{Serves, behind, failure_of, refused_to}
@@ -25,7 +25,7 @@ use Rattle.lethe_core.specs.Steps.{IsUndone}
 use Rattle.lethe_core.specs.View.{Face, Flying, View, face_of}
 use Rattle.lethe_core.proofs.Hindered.{as_itself}
 use Rattle.lethe_engine.specs.Answers.{IsStill}
-use Rattle.lethe_engine.specs.Jobs.{next_bytes, written_face}
+use Rattle.lethe_engine.specs.Jobs.{written_face}
 use Rattle.lethe_drive.specs.Answers.{IsJobRefusal, IsWriteOut}
 use Rattle.lethe_engine.specs.StandsFor.{Opened, StandsFor}
 use Rattle.lethe_drive.specs.Moments.{IsKnown, Moment, going_of, moment_of}

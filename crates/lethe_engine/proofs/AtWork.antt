@@ -17,7 +17,7 @@ use Rattle.lethe_advance.specs.Settled.{AreDrawn, names_in}
 use Rattle.lethe_flush.specs.Made.{pages_in, written_pages}
 use Rattle.lethe_flush.proofs.Adding.{pages_few}
 use Rattle.lethe_flush.proofs.Zips.{zip_cut, zip_joined}
-use Rattle.lethe_job.specs.Jobs.{AreOutputs}
+use Rattle.lethe_job.specs.Jobs.{AreOutputs, next_bytes}
 use Rattle.lethe_job.specs.Tasks.{PlainTask, plain_task}
 use Rattle.lethe_job.specs.declared.job.Job.{Job}
 use Rattle.lethe_job.specs.declared.job.Piece.{Piece}
@@ -27,7 +27,7 @@ use Rattle.lethe_core.specs.Running.{Holds, IsSound}
 use Rattle.lethe_core.specs.StandsNow.{IsOpenOrStopped, StandsNow}
 use Rattle.lethe_core.specs.View.{Face, Flying, View, face_of, loose_in}
 use Rattle.lethe_core.proofs.Beside.{drawn_front}
-use Rattle.lethe_engine.specs.Jobs.{IsNextPage, next_bytes, written_face}
+use Rattle.lethe_engine.specs.Jobs.{IsNextPage, written_face}
 
 -- the value, where there is one
 pub some_there : {X : Type 0} (P : X → Type 0) (o : Option X) → IsSome o → IfSome o P → (x : X) × (o ≡ Some x) × P x

@@ -1,6 +1,5 @@
 -- The calls of a job.
-use Rattle.std.specs.Prelude.{◌≡◌, ◌≤◌, ◌<◌, ℕ, ◌+◌, ◌-◌, ◌&&◌, nat_le, List, [], length, slice_index_or, sum_by, None, is_none, option_map, IfSome, IsSome, Result, Ok, Err, if◌then◌else◌}
-use Rattle.std.specs.Option.{option_map_or}
+use Rattle.std.specs.Prelude.{◌≡◌, ◌≤◌, ◌<◌, ℕ, ◌+◌, ◌-◌, ◌&&◌, nat_le, List, [], length, sum_by, None, is_none, option_map, IfSome, IsSome, Result, Ok, Err, if◌then◌else◌}
 use Rattle.lethe_base.specs.Limits.{max_place}
 use Rattle.lethe_base.specs.declared.name.Name.{Name}
 use Rattle.lethe_base.specs.declared.refused.Refused.{Refused}
@@ -23,10 +22,6 @@ pub record IsNextPage {D Page Port : Type 0} {kind : Ghosts D Page Port} (job : 
 -- the numbers of the headers of its outputs and of a manifest can't be drawn
 abbrev pub IsShortToInstall : {D Page Port : Type 0} {kind : Ghosts D Page Port} → View → Job D Page Port kind → Type 0
 IsShortToInstall view job = IfSome job.drafts (λ drafts. max_place ≤ view.state.next + (sum_by numbers_for drafts.items - job.written))
-
--- the bytes of the job's next page
-abbrev pub next_bytes : {D Page Port : Type 0} {kind : Ghosts D Page Port} → Job D Page Port kind → List ℕ
-next_bytes job = option_map_or (λ drafts. slice_index_or (pages_in drafts.items) job.written []) job.drafts []
 
 -- What the jobs have come to behind each of their calls
 

@@ -1,5 +1,5 @@
 //! The jobs of a store: merges that run beside its other calls.
-ghost use Rattle.std.specs.Prelude.{◌≡◌, ◌≤◌, ◌<◌, ◌+◌, ◌-◌, ℕ, [], true, Some, None, length, slice_index_or, sum_by, IfOk, IfErr, IfSome, IsErrOf, IsOk, IsSome, OnErr, OnOk, option_map};
+ghost use Rattle.std.specs.Prelude.{◌≡◌, ◌≤◌, ◌<◌, ◌+◌, ◌-◌, ℕ, true, Some, None, length, sum_by, IfOk, IfErr, IfSome, IsErrOf, IsOk, IsSome, OnErr, OnOk, option_map};
 ghost use Rattle.std.specs.Result.{result_err};
 ghost use Rattle.std.specs.FinMap.{insert};
 ghost use Rattle.lethe_base.specs.Limits.{max_place};
@@ -10,6 +10,7 @@ ghost use Rattle.lethe_disk.specs.Disk.{IsIdle};
 ghost use Rattle.lethe_file.specs.Agreement.{page_name};
 ghost use Rattle.lethe_flush.specs.Made.{pages_in};
 ghost use Rattle.lethe_stored.specs.Stored.{Stored};
+ghost use Rattle.lethe_job.specs.Jobs.{next_bytes};
 ghost use Rattle.lethe_job.specs.Tasks.{IsBegunIn, plain_task};
 ghost use Rattle.lethe_core.specs.Asked.{Serves};
 ghost use Rattle.lethe_core.specs.Jobs.{AreOutputsOf, IsAtWork, IsInFlight, IsWhole, with_page};
@@ -17,7 +18,7 @@ ghost use Rattle.lethe_core.specs.Merges.{IsInstalled};
 ghost use Rattle.lethe_core.specs.Running.{Holds, IsSound};
 ghost use Rattle.lethe_core.specs.View.{face_of, view_of};
 ghost use Rattle.lethe_engine.specs.Answers.{Answers};
-ghost use Rattle.lethe_engine.specs.Jobs.{IsNextPage, IsShortToInstall, begun_face, ended_face, given_up, next_bytes, written_face};
+ghost use Rattle.lethe_engine.specs.Jobs.{IsNextPage, IsShortToInstall, begun_face, ended_face, given_up, written_face};
 ghost use Rattle.lethe_engine.specs.Refusals.{HasReasonOfBegin, HasReasonOfWork};
 
 use crate::Engine;
@@ -219,20 +220,4 @@ impl<D: Disk> Engine<D> {
         let before = self.core.disk.faults();
         self.core.cancel_now(before)
     }
-}
-
-/// The page at a place among those of the drafts.
-fn page_at(drafts: &[Draft], place: usize) -> &[u8]
-    requires { place < length (pages_in drafts.now) }
-    ensures { result.now ≡ slice_index_or (pages_in drafts.now) place [] }
-{
-    let mut left = place;
-    for draft in drafts {
-        let pages = draft.pages.items();
-        if left < pages.len() {
-            return pages[left].items();
-        }
-        left -= pages.len();
-    }
-    unreachable!()
 }

@@ -1,5 +1,6 @@
 -- A job that runs.
-use Rattle.std.specs.Prelude.{◌≡◌, ◌≤◌, ◌<◌, ◌^◌, ℕ, List, length, sum_by, All, Any, IfSome, None, Err}
+use Rattle.std.specs.Prelude.{◌≡◌, ◌≤◌, ◌<◌, ◌^◌, ℕ, List, [], length, slice_index_or, sum_by, All, Any, IfSome, None, Err}
+use Rattle.std.specs.Option.{option_map_or}
 use Rattle.lethe_base.specs.declared.name.Name.{Name}
 use Rattle.lethe_base.specs.declared.refused.Refused.{Refused}
 use Rattle.lethe_base.specs.declared.refused.Refused.TheVariants.{ReadFault, Damaged, NoMemory}
@@ -29,6 +30,10 @@ pub record IsJob {D Page Port : Type 0} {disk : Ghosts D Page Port} (Tells : Typ
   pub made : IfSome job.drafts (λ drafts. AreOutputs Tells (plain_task job.task.value) drafts.items)
   pub few : IfSome job.drafts (λ drafts. job.written ≤ length (pages_in drafts.items))
   pub unmade : job.drafts ≡ None → job.written ≡ 0
+
+-- the bytes of the job's next page
+abbrev pub next_bytes : {D Page Port : Type 0} {kind : Ghosts D Page Port} → Job D Page Port kind → List ℕ
+next_bytes job = option_map_or (λ drafts. slice_index_or (pages_in drafts.items) job.written []) job.drafts []
 
 -- a refusal of a read, as a job tells it
 abbrev pub told_as : read.ReadRefused → Refused

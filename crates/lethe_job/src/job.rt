@@ -1,10 +1,10 @@
 //! A job that runs.
-ghost use Rattle.std.specs.Prelude.{◌≡◌, ◌+◌, ◌≤◌, ◌<◌, ◌^◌, ◌↔◌, true, false, length, sum_by, All, IfOk, IfErr, IfSome, IsOk, OnOk, OnErr, None, IsSome};
+ghost use Rattle.std.specs.Prelude.{◌≡◌, ◌+◌, ◌≤◌, ◌<◌, ◌^◌, ◌↔◌, [], true, false, length, slice_index_or, sum_by, All, IfOk, IfErr, IfSome, IsOk, OnOk, OnErr, None, IsSome};
 ghost use Rattle.lethe_base.specs.Limits.{max_time};
 ghost use Rattle.lethe_build.specs.Drafts.{numbers_for};
 ghost use Rattle.lethe_flush.specs.Made as made;
 ghost use Rattle.lethe_job.specs.Jobs as jobs;
-ghost use Rattle.lethe_job.specs.Jobs.{IsJob, IsUnread};
+ghost use Rattle.lethe_job.specs.Jobs.{IsJob, IsUnread, next_bytes};
 ghost use Rattle.lethe_job.specs.Tasks.{inputs_in, pages_in, plain_task};
 
 use crate::number::BegunJobs;
@@ -20,15 +20,15 @@ use std::sync::Arc;
 #[derive(Drop)]
 pub struct Job<D: Disk> {
     /// Its number: how many jobs the store had begun before it.
-    pub number: Snapshot<BegunJobs>,
-    pub task: Arc<Task<D>>,
-    pub port: D::Port,
+    number: Snapshot<BegunJobs>,
+    task: Arc<Task<D>>,
+    port: D::Port,
     /// The drafts of its outputs, once they are made.
-    pub drafts: Option<Vec<Draft>>,
+    drafts: Option<Vec<Draft>>,
     /// How many of the drafts' pages are written.
-    pub written: usize,
+    written: usize,
     /// One of its calls was refused, so that it can only be cancelled.
-    pub refused: bool,
+    refused: bool,
 }
 
 /// The next page that a job has to write. It is written by the store before the job is asked for the next one.
@@ -57,7 +57,52 @@ fn count_pages(drafts: &[Draft]) -> usize
     numbers_for(drafts) as usize - drafts.len()
 }
 
+/// The page at a place among those of the drafts.
+fn page_at(drafts: &[Draft], place: usize) -> &[u8]
+    requires { place < length (made.pages_in drafts.now) }
+    ensures { result.now ≡ slice_index_or (made.pages_in drafts.now) place [] }
+{
+    let mut left = place;
+    for draft in drafts {
+        let pages = draft.pages.items();
+        if left < pages.len() {
+            return pages[left].items();
+        }
+        left -= pages.len();
+    }
+    unreachable!()
+}
+
 impl<D: Disk> Job<D> {
+    /// A job of this task, which has made and written nothing.
+    pub fn begun(number: Snapshot<BegunJobs>, task: Arc<Task<D>>, port: D::Port) -> Job<D>
+        ensures job { IsJob D.tells result }
+        ensures is { result ≡ record { number = number; task = task; port = port; drafts = None; written = 0; refused = false } }
+    {
+        Job {
+            number,
+            task,
+            port,
+            drafts: None,
+            written: 0,
+            refused: false,
+        }
+    }
+
+    /// One of its calls was refused, so that it can only be cancelled.
+    pub fn is_refused(&self) -> bool
+        ensures { result ≡ self.now.refused }
+    {
+        self.refused
+    }
+
+    /// Tells it that a call of it was refused: from now on it can only be cancelled.
+    pub fn refuse(&mut self)
+        ensures { self.new ≡ record self.old { refused = true } }
+    {
+        self.refused = true;
+    }
+
     /// Makes the drafts, where they aren't made yet.
     fn make(&mut self, alloc: Global) -> Result<(), Refused>
         requires erases { All (λ erase. erase.time ≤ max_time) self.old.task.value.erases }
@@ -128,5 +173,36 @@ impl<D: Disk> Job<D> {
             Some(drafts) if place < count_pages(drafts) => Ok(Some(Piece { place })),
             _ => Ok(None),
         }
+    }
+
+    /// The first page of its drafts that isn't written.
+    pub fn next_page(&self) -> &[u8]
+        requires made { IsSome self.now.drafts }
+        requires left { IfSome self.now.drafts (λ drafts. self.now.written < length (made.pages_in drafts.items)) }
+        ensures { result.now ≡ next_bytes self.now }
+    {
+        let Some(drafts) = &self.drafts else {
+            unreachable!()
+        };
+        page_at(drafts, self.written)
+    }
+
+    /// Tells it that its next page is written.
+    pub fn count_written(&mut self)
+        requires job { IsJob D.tells self.old }
+        requires made { IsSome self.old.drafts }
+        requires left { IfSome self.old.drafts (λ drafts. self.old.written < length (made.pages_in drafts.items)) }
+        ensures job { IsJob D.tells self.new }
+        ensures written { self.new ≡ record self.old { written = self.old.written + 1 } }
+    {
+        self.written += 1;
+    }
+
+    /// Gives its drafts away, where they are made.
+    pub fn take_drafts(&mut self) -> Option<Vec<Draft>>
+        ensures given { result ≡ self.old.drafts }
+        ensures lacks { self.new ≡ record self.old { drafts = None } }
+    {
+        self.drafts.take()
     }
 }

@@ -10,13 +10,14 @@ use Rattle.lethe_build.specs.declared.draft.Draft.{Draft}
 use Rattle.lethe_clean.specs.Copied.{IsCopied}
 use Rattle.lethe_file.specs.Agreement.{page_name}
 use Rattle.lethe_flush.specs.Made.{pages_in}
+use Rattle.lethe_job.specs.Jobs.{next_bytes}
 use Rattle.lethe_core.specs.Asked.{Serves}
 use Rattle.lethe_core.specs.Jobs.{with_page}
 use Rattle.lethe_core.specs.Reasons.{HasReason}
 use Rattle.lethe_core.specs.Steps.{IsUndone}
 use Rattle.lethe_core.specs.View.{Flying, face_of, view_of}
 use Rattle.lethe_engine.specs.Answers.{Answers}
-use Rattle.lethe_engine.specs.Jobs.{next_bytes, written_face}
+use Rattle.lethe_engine.specs.Jobs.{written_face}
 use Rattle.lethe_engine.proofs.AtWork.{some_there}
 use Rattle.lethe_engine.proofs.Copying.{next_copied}
 use Rattle.lethe_engine.proofs.Calls.{if_refused, itself_answers, refused_is_none, step_answers}

@@ -1,6 +1,6 @@
 use Rattle.std.proofs.Common.{◌≡◌, ◌<◌, [], length, get_or, drop}
 use Rattle.lethe_flush.specs.Made.{pages_in}
-use Rattle.lethe_engine.proofs.jobs.page_at.Given as goal
+use Rattle.lethe_job.proofs.job.page_at.Given as goal
 
 -- the page stands at that place behind the first drafts
 abbrev pub invariant-loop-draft : goal.invariant-loop-draft
