@@ -68,14 +68,7 @@ impl<D: Disk> Core<D> {
             written: Written::new(alloc),
         });
         self.begun = self.begun.more();
-        Ok(Some(Job {
-            number,
-            task,
-            port,
-            drafts: None,
-            written: 0,
-            refused: false,
-        }))
+        Ok(Some(Job::begun(number, task, port)))
     }
 
     /// Writes the next page of the job in flight, under the next number, and syncs. The page has no put but those of stored files.

@@ -69,7 +69,7 @@ pub(crate) fn write_out<D: Disk>(
     ensures begun { jobs.new.begun ≡ jobs.old.begun }
 {
     match &mut jobs.there {
-        Some(numbered) if numbered.number == number && !numbered.job.refused => {
+        Some(numbered) if numbered.number == number && !numbered.job.is_refused() => {
             flagged(write_next(engine, alloc, &mut numbered.job))
         }
         _ => Reply::NoSuch,
@@ -131,7 +131,7 @@ pub(crate) fn install<D: Disk>(
     let Some(numbered) = jobs.there.take() else {
         return Reply::NoSuch;
     };
-    if numbered.number != number || numbered.job.refused {
+    if numbered.number != number || numbered.job.is_refused() {
         jobs.there = Some(numbered);
         return Reply::NoSuch;
     }

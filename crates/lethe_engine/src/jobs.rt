@@ -104,9 +104,9 @@ impl<D: Disk> Engine<D> {
         drop(piece);
         let written = self.write_next(job);
         if written.is_ok() {
-            job.written += 1;
+            job.count_written();
         } else {
-            job.refused = true;
+            job.refuse();
         }
         written
     }
@@ -126,11 +126,8 @@ impl<D: Disk> Engine<D> {
         ensures exhausted { self.old.core.state.stopped ≡ None → self.old.core.state.count ≡ max_place → IsErrOf result (refused.Exhausted max_place) × (self.new ≡ self.old) }
     {
         self.core.state.may_change()?;
-        let Some(drafts) = &job.drafts else {
-            unreachable!()
-        };
         let before = self.core.disk.faults();
-        self.core.write_now(before, page_at(drafts, job.written))
+        self.core.write_now(before, job.next_page())
     }
 
     /// Installs what a job made, whose pages are all written: its files take the place of its inputs, which are removed.
@@ -158,10 +155,10 @@ impl<D: Disk> Engine<D> {
             → IfErr result (λ back. back.1 ≡ refused.Exhausted max_place) × OnOk result ⊥ × (self.new ≡ self.old) }
     {
         let mut job = job;
-        match self.install_drafts(alloc, job.drafts.take().unwrap()) {
+        match self.install_drafts(alloc, job.take_drafts().unwrap()) {
             Ok(()) => Ok(()),
             Err(why) => {
-                job.refused = true;
+                job.refuse();
                 Err((job, why))
             }
         }
