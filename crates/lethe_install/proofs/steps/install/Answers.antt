@@ -3,6 +3,7 @@ use Rattle.lethe_base.specs.declared.name.Kind.TheVariants.{Page}
 use Rattle.lethe_base.specs.declared.name.Name.{Name}
 use Rattle.lethe_manifest.specs.declared.manifest.Manifest.{Manifest}
 use Rattle.lethe_flush.proofs.Results.{ok_both, ok_weaker}
+use Rattle.lethe_advance.specs.Settled.{AreDrawn}
 use Rattle.lethe_advance.specs.Shown.{parts_by_level}
 use Rattle.lethe_advance.specs.declared.new_header.NewHeader.{NewHeader}
 use Rattle.lethe_job.specs.Tasks.{plain_task}
@@ -17,7 +18,7 @@ abbrev IsPage : Name → Type 0
 IsPage name = name.kind ≡ Page
 
 pub make_files-requires-clause-written : goal.make_files-requires-clause-written
-make_files-requires-clause-written g c = drawn_behind c.args.state.now.next c.args.retired.now c.args.written.now c.requires.drawn
+make_files-requires-clause-written g c = drawn_behind c.next.result c.args.retired.now c.args.written.now (subst (λ next. AreDrawn next (c.args.retired.now ++ c.args.written.now)) (sym c.next.ensures) c.requires.drawn)
 
 pub returns-clause-step : goal.returns-clause-step
 returns-clause-step g c =
@@ -26,8 +27,9 @@ returns-clause-step g c =
     let next = c.in_ok-made.ensures.next in
     let objects = c.in_ok-made.ensures.objects in
     let numbers = c.requires.numbers in
+    let first = c.next.ensures in
     ok_weaker c.step_of.result _ _ c.step_of.ensures (λ made is. install_from state (c.args.task.now.level + 1) c.in_ok-inputs.inputs c.in_ok-made.made c.args.retired.now c.args.needed.now made c.requires.writable
-    (omega (arith, low)) (omega (arith, next, numbers)) (omega (arith, next, objects)) (c.in_ok-made.ensures.cited state.manifest.config.levels (omega (arith, low))) c.in_ok-made.ensures.level
+    (omega (arith, low)) (omega (arith, next, numbers, first)) (omega (arith, next, objects, first)) (c.in_ok-made.ensures.cited state.manifest.config.levels (omega (arith, low))) c.in_ok-made.ensures.level
     c.in_ok-made.ensures.levels is)
 
 pub returns-clause-level : goal.returns-clause-level
@@ -42,9 +44,9 @@ returns-clause-pages g c = ok_weaker c.step_of.result _ _ c.step_of.ensures (λ 
 
 pub returns-clause-installs : goal.returns-clause-installs
 returns-clause-installs g c = λ s m beside is current rising begun named uncited of.
-    let files = c.in_ok-made.ensures.made in
+    let files = rw c.next.ensures at c.in_ok-made.ensures.made in
     let next = c.in_ok-made.ensures.next in
-    let found = c.in_ok-inputs.ensures.stored s is.coherent (sym (ap (λ (m : Manifest). m.files) is.manifest) ∙ sym c.items.ensures) is.files in
+    let found = c.in_ok-inputs.ensures.stored s is.coherent (sym (ap (λ (m : Manifest). m.files) is.manifest) ∙ sym (c.items-cited.ensures ∙ ap (λ (m : Manifest). m.files) c.manifest.ensures)) is.files in
     ok_both c.step_of.result _ _ _ c.step_of.ensures (returns-clause-step g c) (λ made stepped from.
     install_steps s m c.args.state.now (parts_by_level c.args.version.now) (plain_task c.args.task.now) is current c.requires.writable.drawn begun c.args.retired.now c.args.written.now c.args.drafts.items
-    c.requires.drawn c.requires.some beside named uncited of c.in_ok-made.made (omega (arith, next)) files.0 files.1 c.in_ok-inputs.inputs c.in_ok-inputs.ensures.numbers found c.args.needed.now made stepped from.spelled)
+    c.requires.drawn c.requires.some beside named uncited of c.in_ok-made.made (omega (arith, next, c.next.ensures)) files.0 files.1 c.in_ok-inputs.inputs c.in_ok-inputs.ensures.numbers found c.args.needed.now made stepped from.spelled)
