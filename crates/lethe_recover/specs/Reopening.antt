@@ -7,6 +7,7 @@ use Rattle.lethe_base.specs.declared.entry.Entry.{Entry}
 use Rattle.lethe_base.specs.declared.pending.Pending.{Pending}
 use Rattle.lethe_disk.specs.Directory.{Directory}
 use Rattle.lethe_header.specs.declared.header.Header.{Header}
+use Rattle.lethe_manifest.specs.Followers.{follower}
 use Rattle.lethe_manifest.specs.declared.manifest.Cited.{Cited}
 use Rattle.lethe_manifest.specs.declared.manifest.Manifest.{Manifest}
 use Rattle.lethe_segment.specs.Segments.{segment_bytes}
@@ -30,14 +31,7 @@ use Rattle.lethe_recover.specs.declared.reopening.Reopening.{Reopening}
 
 -- the manifest that follows: it has this count and these erases, and cites a new segment and these files
 abbrev pub successor : Manifest → ℕ → List Pending → List Cited → ℕ → Manifest
-successor m count erases files segment = record m {
-  no = segment + 1;
-  count = count;
-  next = segment + 1 + 1;
-  erases = erases;
-  segments = segment ∷ [];
-  files = files;
-}
+successor m count erases files segment = follower m (record { no = segment + 1; count = count; erases = erases; segments = segment ∷ []; files = files })
 
 -- the object of an empty segment
 abbrev pub empty_segment : ℕ → Object

@@ -71,7 +71,7 @@ fn first_manifest(alloc: Global, config: &Config) -> Result<Manifest, NoMemory>
     ensures limits { IsConfig config.now }
 {
     // A configuration keeps its limits, which a spelling needs.
-    let _limits = config.fields();
+    prove!(config.fields().levels > 0);
     let mut segments = Vec::new(alloc);
     segments.push(1)?;
     Ok(Manifest {

@@ -1,6 +1,6 @@
 //! The files of a journal.
 ghost use Rattle.std.specs.Prelude as prelude;
-ghost use Rattle.std.specs.Prelude.{◌≡◌, ◌+◌, ◌*◌, ◌++◌, ◌≤◌, ◌↔◌, IsTrue, map, sum_by, All, IfOk};
+ghost use Rattle.std.specs.Prelude.{◌≡◌, ◌+◌, ◌*◌, ◌++◌, ◌≤◌, map, sum_by, All, IfOk};
 ghost use Rattle.lethe_base.specs.declared.config.Fields.{Fields};
 ghost use Rattle.lethe_base.specs.declared.pending.Pending as pending;
 ghost use Rattle.lethe_base.specs.Limits.{max_place, max_time};
@@ -12,7 +12,7 @@ ghost use Rattle.lethe_recover.specs.Flushing.{AreDraftsOfRecords, AreDraftsOfJo
 ghost use Rattle.lethe_recover.specs.declared.journal.Journal as journals;
 
 use crate::journal::Journal;
-use lethe_base::{Config, List, MAX_PLACE, NoMemory, Pending};
+use lethe_base::{Config, List, NoMemory, Pending};
 use lethe_build::{Draft, numbers_for};
 use lethe_disk::Disk;
 use lethe_flush::{MadeFiles, flush_drafts, flush_files, is_clear, newest_of};
@@ -35,13 +35,12 @@ pub struct Flushes {
 }
 
 impl Drafts {
-    /// Whether the numbers of the files, of a segment and of a manifest can't be drawn from the next one on.
-    pub fn exhaust(&self, next: u64) -> bool
+    /// How many numbers the files of both segments take.
+    pub fn count_numbers(&self) -> u64
         requires { numbers_of self.now ≤ 4 * max_place }
-        ensures { IsTrue result ↔ (max_place ≤ next + numbers_of self.now + 1) }
+        ensures { result ≡ numbers_of self.now }
     {
-        let numbers = numbers_for(&self.older) + numbers_for(&self.newer);
-        MAX_PLACE.saturating_sub(next) <= numbers + 1
+        numbers_for(&self.older) + numbers_for(&self.newer)
     }
 }
 

@@ -1,6 +1,6 @@
 //! What a store becomes that is opened.
 ghost use Rattle.std.specs.Prelude as prelude;
-ghost use Rattle.std.specs.Prelude.{◌≡◌, ℕ, ◌+◌, ◌<◌, ◌≤◌, ◌^◌, ◌++◌, ◌∷◌, [], length, All, AllPairs, IfOk};
+ghost use Rattle.std.specs.Prelude.{◌≡◌, ℕ, ◌+◌, ◌<◌, ◌≤◌, ◌++◌, ◌∷◌, [], length, All, AllPairs, IfOk};
 ghost use Rattle.lethe_base.specs.Limits.{max_place};
 ghost use Rattle.lethe_build.specs.Drafts.{IsDraft};
 ghost use Rattle.lethe_header.specs.Headers as headers;
@@ -10,19 +10,16 @@ ghost use Rattle.lethe_stored.specs.Stored.{Stored, IsCoherent, count_of, pendin
 ghost use Rattle.lethe_recover.specs.Flushing.{AreDraftsOfJournal, IsWritable, numbers_of};
 ghost use Rattle.lethe_recover.specs.declared.journal.Journal.{Journal};
 ghost use Rattle.lethe_recover.specs.Journals.{IsJournalOf};
-ghost use Rattle.lethe_recover.specs.Reopening.{AreHeadersOf, IsStepOf, Reopens, empty_segment, successor};
+ghost use Rattle.lethe_recover.specs.Reopening.{AreHeadersOf, IsStepOf, Reopens, empty_segment};
 
 use crate::cited::push_segments;
 use crate::flushing::{Drafts, Flushes, flush_journal};
 use lethe_advance::{NewHeader, Step};
 use lethe_base::{Kind, List, Name, NoMemory, Pending};
 use lethe_commit::Object;
-use lethe_manifest::{Cited, Manifest};
+use lethe_manifest::{Change, Manifest};
 use lethe_segment::new_segment;
 use std::alloc::Global;
-
-// A manifest counts its erases and its files in four bytes each.
-const MAX_LISTED: usize = u32::MAX as usize;
 
 /// The step of an opening.
 #[derive(Drop)]
@@ -80,57 +77,24 @@ fn step_of(
 {
     let Flushes { older, newer } = flushes;
     let segment = newer.next;
-    let mut files = newer.cited;
-    files.extend_from_slice(&older.cited)?;
-    files.extend_from_slice(manifest.files.items())?;
     let mut headers = newer.headers;
     let mut older_headers = older.headers;
     headers.append(&mut older_headers)?;
-    let next = next_manifest(alloc, manifest, count, erases, files, segment)?;
+    let mut files = newer.cited;
+    files.extend_from_slice(&older.cited)?;
+    files.extend_from_slice(manifest.files.items())?;
+    let change = Change {
+        no: segment + 1,
+        count,
+        erases: List::of(erases),
+        segments: List::of(vec![in alloc; segment]?),
+        files: List::of(files),
+    };
     let objects = with_segment(alloc, older.objects, newer.objects, segment)?;
     let mut gone = Vec::new(alloc);
     push_segments(&mut gone, manifest.segments.items())?;
-    let step = Step {
-        objects,
-        merged: Vec::new(alloc),
-        older: manifest.no,
-        manifest: next,
-        gone,
-    };
+    let step = Step::to(manifest, change, objects, Vec::new(alloc), gone)?;
     Ok(Reopening { headers, step })
-}
-
-// The manifest that follows, which cites these files and a new segment.
-fn next_manifest(
-    alloc: Global,
-    manifest: &Manifest,
-    count: u64,
-    erases: Vec<Pending>,
-    files: Vec<Cited>,
-    segment: u64,
-) -> Result<Manifest, NoMemory>
-    requires { segment + 2 ≤ max_place }
-    ensures is { IfOk result (λ next. next ≡ successor manifest.now count erases.items files.items segment) }
-    ensures few_erases { IfOk result (λ next. length next.erases < 2 ^ 32) }
-    ensures few_files { IfOk result (λ next. length next.files < 2 ^ 32) }
-{
-    if erases.len() > MAX_LISTED || files.len() > MAX_LISTED {
-        return Err(NoMemory);
-    }
-    let mut segments = Vec::new(alloc);
-    segments.push(segment)?;
-    let no = segment + 1;
-    Ok(Manifest {
-        no,
-        config: manifest.config,
-        clock: manifest.clock,
-        count,
-        next: no + 1,
-        certificate: manifest.certificate,
-        erases: List::of(erases),
-        segments: List::of(segments),
-        files: List::of(files),
-    })
 }
 
 // The objects of two flushes, and an empty segment.

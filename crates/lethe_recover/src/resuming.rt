@@ -24,7 +24,7 @@ use crate::journal::Journal;
 use crate::prepared::{Prepared, prepare};
 use crate::reopening::{Reopening, reopening_of};
 use crate::{OpenWhy, Opened, tidy};
-use lethe_advance::{Step, advance};
+use lethe_advance::{Step, advance, number_behind};
 use lethe_base::{MAX_PLACE, Name};
 use lethe_disk::{Disk, DiskRefused};
 use lethe_file::FileView;
@@ -64,7 +64,9 @@ pub fn resume<D: Disk>(
     let Ok(made) = prepare(alloc, manifest, journal, files) else {
         return Err(OpenWhy::NoMemory);
     };
-    if made.drafts.exhaust(manifest.next) {
+    // The numbers of the files and that of a segment are drawn, and the manifest has the one behind them.
+    let drawn = made.drafts.count_numbers() + 1;
+    if number_behind(manifest.next, drawn).is_none() {
         return Err(OpenWhy::Exhausted { last: MAX_PLACE });
     }
     match reopen(alloc, disk, names, manifest, made) {
