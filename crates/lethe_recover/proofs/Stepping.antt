@@ -41,7 +41,8 @@ use Rattle.lethe_advance.proofs.Lists.{filter_all}
 use Rattle.lethe_flush.proofs.Finishing.{headers_made}
 use Rattle.lethe_recover.specs.Flushing.{AreFlushesOf, IsWritable}
 use Rattle.lethe_recover.specs.Journals.{IsJournalOf}
-use Rattle.lethe_recover.specs.Reopening.{AreFiled, AreHeadersOf, IsReopenedAs, IsStepOf, Reopens, empty_segment, successor}
+use Rattle.lethe_advance.specs.Segment.{empty_segment}
+use Rattle.lethe_recover.specs.Reopening.{AreFiled, AreHeadersOf, IsReopenedAs, IsStepOf, Reopens, successor}
 use Rattle.lethe_recover.specs.declared.flushing.Flushes as both
 use Rattle.lethe_recover.specs.declared.journal.Journal.{Journal}
 use Rattle.lethe_recover.specs.declared.reopening.Reopening.{Reopening}

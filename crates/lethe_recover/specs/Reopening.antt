@@ -13,7 +13,6 @@ use Rattle.lethe_manifest.specs.declared.manifest.Manifest.{Manifest}
 use Rattle.lethe_segment.specs.Segments.{segment_bytes}
 use Rattle.lethe_segment.specs.declared.record.Record.{Record}
 use Rattle.lethe_commit.specs.Switch.{HasGreatest}
-use Rattle.lethe_commit.specs.declared.objects.Object.{Object}
 use Rattle.lethe_merge.specs.Merge.{merged}
 use Rattle.lethe_moves.specs.Flushes.{span_of}
 use Rattle.lethe_stored.specs.Encodes.{Encodes}
@@ -24,6 +23,7 @@ use Rattle.lethe_stored.specs.Stored.{Stored, IsCoherent, count_of, pending_of, 
 use Rattle.lethe_follows.specs.Filed.{AreInOrder, AreNewFiles, reopened}
 use Rattle.lethe_follows.specs.Woven.{AreWovenOf}
 use Rattle.lethe_flush.specs.Clear.{IsClearOf}
+use Rattle.lethe_advance.specs.Segment.{empty_segment}
 use Rattle.lethe_advance.specs.Steps.{IsStep, written_in}
 use Rattle.lethe_recover.specs.New.{new_stored}
 use Rattle.lethe_recover.specs.declared.flushing.Flushes.{Flushes}
@@ -32,10 +32,6 @@ use Rattle.lethe_recover.specs.declared.reopening.Reopening.{Reopening}
 -- the manifest that follows: it has this count and these erases, and cites a new segment and these files
 abbrev pub successor : Manifest → ℕ → List Pending → List Cited → ℕ → Manifest
 successor m count erases files segment = follower m (record { no = segment + 1; count = count; erases = erases; segments = segment ∷ []; files = files })
-
--- the object of an empty segment
-abbrev pub empty_segment : ℕ → Object
-empty_segment segment = record { name = segment_name segment; bytes = segment_bytes segment [] }
 
 -- the files of both flushes, the newer ones first, and an empty segment come, and the old segments go
 pub record IsStepOf (m : Manifest) (count : ℕ) (erases : List Pending) (flushes : Flushes) (made : Reopening) : Type 0 where

@@ -8,17 +8,17 @@ ghost use Rattle.lethe_manifest.specs.Manifests.{HasSpelling, IsErase};
 ghost use Rattle.lethe_header.specs.declared.header.Header as header;
 ghost use Rattle.lethe_stored.specs.Stored.{Stored, IsCoherent, count_of, pending_of};
 ghost use Rattle.lethe_recover.specs.Flushing.{AreDraftsOfJournal, IsWritable, numbers_of};
+ghost use Rattle.lethe_advance.specs.Segment.{empty_segment};
 ghost use Rattle.lethe_recover.specs.declared.journal.Journal.{Journal};
 ghost use Rattle.lethe_recover.specs.Journals.{IsJournalOf};
-ghost use Rattle.lethe_recover.specs.Reopening.{AreHeadersOf, IsStepOf, Reopens, empty_segment};
+ghost use Rattle.lethe_recover.specs.Reopening.{AreHeadersOf, IsStepOf, Reopens};
 
 use crate::cited::push_segments;
 use crate::flushing::{Drafts, Flushes, flush_journal};
-use lethe_advance::{NewHeader, Step};
-use lethe_base::{Kind, List, Name, NoMemory, Pending};
+use lethe_advance::{NewHeader, Step, empty_segment};
+use lethe_base::{List, NoMemory, Pending};
 use lethe_commit::Object;
 use lethe_manifest::{Change, Manifest};
-use lethe_segment::new_segment;
 use std::alloc::Global;
 
 /// The step of an opening.
@@ -109,12 +109,6 @@ fn with_segment(
     let mut objects = older;
     let mut newer = newer;
     objects.append(&mut newer)?;
-    objects.push(Object {
-        name: Name {
-            kind: Kind::Segment,
-            no: segment,
-        },
-        bytes: List::of(new_segment(segment).to_vec(alloc)?),
-    })?;
+    objects.push(empty_segment(alloc, segment)?)?;
     Ok(objects)
 }

@@ -3,7 +3,7 @@ use Rattle.std.specs.Prelude.{IfSome, option_map}
 use Rattle.lethe_stored.specs.Stored.{Stored}
 use Rattle.lethe_job.specs.declared.number.BegunJobs.{BegunJobs}
 use Rattle.lethe_job.specs.Tasks.{IsBegunIn, plain_task}
-use Rattle.lethe_core.specs.Jobs.{with_begun}
+use Rattle.lethe_core.specs.Jobs.{IsAtWork, with_begun}
 use Rattle.lethe_core.specs.Running.{Holds, IsSound}
 use Rattle.lethe_core.specs.StandsNow.{StandsNow}
 use Rattle.lethe_core.specs.View.{Face, Flying, face_of, flying_of, view_of}
@@ -93,17 +93,20 @@ returns-clause-held g c = λ told s holds.
     (begun_holds g.D.Disk.tells old task (ap (option_map flying_of) c.requires.free) c.requires.runs c.requires.sound begun s holds))
 
 pub returns-clause-works : goal.returns-clause-works
-returns-clause-works g c = record {
+returns-clause-works g c = subst (IsAtWork g.D.Disk.tells _) (sym c.begun.ensures.is) (record {
   flies = record { flying = flying_of (record { number = c.of.result; task = c.in_ok-shared.shared; written = c.new-2.result }); is = refl; number = ap (λ (begun : BegunJobs). begun.count) (c.of-number.ensures ∙ sym c.of.ensures); task = ap plain_task (sym c.in_ok-shared.ensures.cases) };
   asked = refl;
   job_is = record { made = tt; few = tt; unmade = λ none. refl };
   count = ap length c.new-2.ensures;
   pages = tt;
-}
+})
 
 pub returns-clause-face : goal.returns-clause-face
-returns-clause-face g c = λ i. record {
-  retired = c.args.self.now.retired.items;
-  begun = c.more-self.ensures i;
-  flight = Some (record { number = (c.of.ensures i).count; task = plain_task (c.in_ok-shared.ensures.cases i); written = c.new-2.ensures i });
-}
+returns-clause-face g c =
+    let face : Face = with_begun (face_of (view_of c.args.self.now)) (plain_task c.in_ok-task-2.task.value) in
+    let is : record { begun = c.more-self.result.count; flight = Some (flying_of (record { number = c.of.result; task = c.in_ok-shared.shared; written = c.new-2.result })); retired = c.args.self.now.retired.items } ≡ face = λ i. record {
+      retired = c.args.self.now.retired.items;
+      begun = c.more-self.ensures i;
+      flight = Some (record { number = (c.of.ensures i).count; task = plain_task (c.in_ok-shared.ensures.cases i); written = c.new-2.ensures i });
+    } in
+    is ∙ ap (λ job. with_begun (face_of (view_of c.args.self.now)) (plain_task job.task.value)) (sym c.begun.ensures.is)

@@ -2,6 +2,7 @@ use Rattle.std.proofs.Common.{◌≡◌, ◌≤◌, ◌*◌, [], length, get_or,
 use Rattle.std.proofs.lemmas.Bool.{leb-true, le-leb}
 use Rattle.std.proofs.lemmas.List.{length-map}
 use Rattle.lethe_base.specs.declared.config.Fields.{Fields}
+use Rattle.lethe_manifest.specs.declared.manifest.Manifest.{Manifest}
 use Rattle.lethe_advance.specs.Shown.{parts_by_level}
 use Rattle.lethe_core.specs.View.{view_of}
 use Rattle.lethe_core.proofs.Crowded.{crowded_at, many_shown}
@@ -9,7 +10,8 @@ use Rattle.lethe_core.proofs.holding.Core.is_crowded.Goals as goal
 
 pub returns : goal.returns
 returns g c = λ told s holds.
-    let ratio = ap (λ (fields : Fields). 2 * fields.ratio) c.fields.ensures.fields in
+    let config = c.fields.ensures.fields ∙ ap (λ (m : Manifest). m.config) c.manifest.ensures in
+    let ratio = ap (λ (fields : Fields). 2 * fields.ratio) config in
     let version = c.args.self.now.version in
     let count = c.requires.count in
     let many : length c.files.result.now ≡ length (get_or (parts_by_level version) 0 []) =

@@ -1,4 +1,4 @@
-use Rattle.std.proofs.Common.{rules, ◌≡◌, None, Result, Err, sym, subst}
+use Rattle.std.proofs.Common.{rules, ◌≡◌, ◌∙◌, None, Result, Err, ap, sym, subst}
 use Rattle.std.specs.Prelude.{IfErr, OnErr}
 use Rattle.std.specs.Result.{result_err}
 use Rattle.lethe_base.specs.declared.refused.Refused.{Refused}
@@ -11,7 +11,7 @@ use Rattle.lethe_core.specs.Keeps.{Keeps}
 use Rattle.lethe_core.specs.Merges.{MayMerge}
 use Rattle.lethe_core.specs.Running.{Holds}
 use Rattle.lethe_core.specs.Steps.{IsUndone}
-use Rattle.lethe_core.specs.View.{beside_in, view_of}
+use Rattle.lethe_core.specs.View.{View, beside_in, view_of}
 use Rattle.lethe_core.proofs.Carried.{active_ends}
 use Rattle.lethe_core.proofs.Hindered.{hindered_keeps, hindered_next, hindered_undone}
 use Rattle.lethe_core.proofs.Merged.{merge_keeps, merge_moments, merged_holds, merged_view}
@@ -65,7 +65,8 @@ returns-clause-done g c = λ told s task t holds may.
     let gate = c.in_ok-carry_out.ensures.gate told s t may.left running is in
     let untorn = step_untorn s t (beside_in old) may.left made.headers.items made.step old.disk.directory mid.disk.directory holds.remembers.coherent is running.only running.untorn kept gate in
     let ends = active_ends s t (beside_in old) may.left made.headers.items made.step is holds.remembers.coherent old.disk mid.disk done.0 kept old.state.end may.installed.merged_is.active (laws.itself told c.args.self.now.disk) running.ends in
-    subst (λ (state : State). Holds (record (merged_view old mid.disk mid.faults mid.levels mid.begun made) { state = under made.step.manifest state }) t) (sym c.in_ok-carry_out.ensures.state)
+    let state = c.install.ensures.is ∙ ap (under made.step.manifest) c.in_ok-carry_out.ensures.state in
+    subst (λ (state : State). Holds (record (merged_view old mid.disk mid.faults mid.levels mid.begun made) { state = state }) t) (sym state)
     (merged_holds old mid.disk mid.faults mid.levels mid.begun made s t task holds may files done.0 done.1 untorn ends)
 
 pub returns-clause-keeps : goal.returns-clause-keeps
@@ -74,9 +75,9 @@ returns-clause-keeps g c =
     let mid = view_of c.carry_out.new.self in
     let made = c.args.made in
     let moments = merge_moments old mid.disk mid.faults mid.levels mid.begun made g.D.Disk.tells c.args.before c.requires.may c.requires.from c.requires.merges c.carry_out.ensures.moments in
-    let P : State → Type 0 = λ state. (g.D.Disk.tells → (s : Stored) (task : PlainTask) (t : Stored) → Holds old s → MayMerge old s task t made → Holds (record (merged_view old mid.disk mid.faults mid.levels mid.begun made) { state = under made.step.manifest state }) t)
-    → Keeps g.D.Disk.tells old (record (merged_view old mid.disk mid.faults mid.levels mid.begun made) { state = under made.step.manifest state }) None in
-    subst P (sym c.in_ok-carry_out.ensures.state)
+    let view : State → View = λ state. record (merged_view old mid.disk mid.faults mid.levels mid.begun made) { state = state } in
+    let P : State → Type 0 = λ state. (g.D.Disk.tells → (s : Stored) (task : PlainTask) (t : Stored) → Holds old s → MayMerge old s task t made → Holds (view state) t) → Keeps g.D.Disk.tells old (view state) None in
+    subst P (sym (c.install.ensures.is ∙ ap (under made.step.manifest) c.in_ok-carry_out.ensures.state))
     (λ behind. merge_keeps old mid.disk mid.faults mid.levels mid.begun made g.D.Disk.tells c.args.before c.requires.may c.requires.from c.requires.merges behind c.requires.drawn c.carry_out.ensures.levels moments
     c.in_ok-carry_out.ensures.calls c.carry_out.ensures.faults)
     (returns-clause-done g c)

@@ -11,8 +11,9 @@ returns-in-Ok-clause-most g c = λ s holds.
     let remembers = holds.remembers in
     let most = steps_down s.manifest.config.levels s.files in
     let few = few_steps s remembers.coherent in
-    let cited = sym (ap (λ (m : Manifest). m.files) remembers.manifest) ∙ sym c.items.ensures in
+    let told = c.manifest-manifest.ensures ∙ remembers.manifest in
+    let cited = sym (ap (λ (m : Manifest). m.files) told) ∙ sym c.items.ensures in
     let files : map plain_file c.deref.result.now ≡ s.files = ap (map plain_file) c.deref.ensures.value ∙ c.in-Ok.ensures.stored s remembers.coherent cited remembers.files in
-    let deepest : c.fields.result.now.levels ≡ s.manifest.config.levels = ap (λ (f : Fields). f.levels) c.fields.ensures.fields ∙ ap (λ (m : Manifest). m.config.levels) remembers.manifest in
+    let deepest : c.fields.result.now.levels ≡ s.manifest.config.levels = ap (λ (f : Fields). f.levels) c.fields.ensures.fields ∙ ap (λ (m : Manifest). m.config.levels) told in
     let same : steps_down c.fields.result.now.levels (map plain_file c.deref.result.now) ≡ most = ap (steps_down c.fields.result.now.levels) files ∙ ap (λ levels. steps_down levels s.files) deepest in
     omega (arith, c.steps_down.ensures, same, few)
