@@ -46,7 +46,8 @@ abbrev pub own_merges : Fields → ℕ → ℕ → List FileFacts → List FileF
 own_merges fields clock level files next = map (λ file. merge_named file.no level (range_of file) next) (sorted_by expired_cmp (filter (is_expired fields clock level) files))
 
 -- what the loop over the files has found behind the last one
-pub oldest_result : (fields : Fields) (clock level : ℕ) (claims : List Claim) (files next : List FileFacts) (i : ℕ) (oldest : Option Age) → length files ≤ i → oldest ≡ first_age (is_due_and_free fields clock level next claims) (take i files)
+pub oldest_result : (fields : Fields) (clock level : ℕ) (claims : List Claim) (files next : List FileFacts) (i : ℕ) (oldest : Option Age) → length files ≤ i
+    → oldest ≡ first_age (is_due_and_free fields clock level next claims) (take i files)
     → option_map (λ (a : Age). merge_plan a.no) oldest ≡ option_map (λ (c : Candidate). c.plan) (find (is_free claims) (own_merges fields clock level files next))
 oldest_result fields clock level claims files next i oldest end e =
     ap (option_map (λ (a : Age). merge_plan a.no)) (e ∙ ap (first_age (is_due_and_free fields clock level next claims)) (take_all i files end))
@@ -73,7 +74,8 @@ module _ (fields : Fields) (clock level : ℕ) (claims : List Claim) (files next
     kept = λ fails. sym (ap (λ b. cond b (Some (lesser_of age_cmp oldest (age_of file))) oldest) fails) ∙ oldest_more;
   }
 
-pub is_free_file : (level : ℕ) (next : List FileFacts) (claims : List Claim) (file : FileFacts) (sources : KeyRange) (free is : Bool) → sources ≡ range_of file → free ≡ not (list_any (meets (merge_claim level sources next)) claims) → free ≡ is
+pub is_free_file : (level : ℕ) (next : List FileFacts) (claims : List Claim) (file : FileFacts) (sources : KeyRange) (free is : Bool) → sources ≡ range_of file
+    → free ≡ not (list_any (meets (merge_claim level sources next)) claims) → free ≡ is
     → is_file_free level next claims file ≡ is
 is_free_file level next claims file sources free is same tested e = ap (λ keys. not (list_any (meets (merge_claim level keys next)) claims)) (sym same) ∙ sym tested ∙ e
 
@@ -93,8 +95,15 @@ same_plans f g [] same = refl
 same_plans f g (file ∷ files) same = ap Some (same file)
 
 -- one claim decides for all its files
-module _ (fields : Fields) (clock level : ℕ) (files next : List FileFacts) (claims : List Claim) (first : FileFacts) (others : List FileFacts) (zeroth : level ≡ 0) (are : files ≡ first ∷ others) (keys : KeyRange) (keys_are : keys ≡ hull (range_of first) others) where
-  whole_test : (file : FileFacts) → is_free claims (merge_named file.no level (sources_keys level files file) next) ≡ not (list_any (meets (merge_claim 0 keys next)) claims)
+module _ (fields : Fields) (clock level : ℕ) (files next : List FileFacts) (claims : List Claim) (first : FileFacts) (others : List FileFacts) (zeroth : level ≡ 0)
+    (are : files ≡ first ∷ others) (keys : KeyRange) (keys_are : keys ≡ hull (range_of first) others) where
+  abbrev merge_of : FileFacts → Candidate
+  merge_of file = merge_named file.no level (sources_keys level files file) next
+
+  abbrev sorted : List FileFacts
+  sorted = sorted_by expired_cmp (filter (is_expired fields clock level) files)
+
+  whole_test : (file : FileFacts) → is_free claims (merge_of file) ≡ not (list_any (meets (merge_claim 0 keys next)) claims)
   whole_test file = rw (zeroth, are, keys_are) refl
 
   pub whole_free : not (list_any (meets (merge_claim 0 keys next)) claims) ≡ true
@@ -102,12 +111,12 @@ module _ (fields : Fields) (clock level : ℕ) (files next : List FileFacts) (cl
   whole_free free =
       subst (λ n. option_map (λ (c : Candidate). c.plan) (find (is_free []) (own_merges fields clock n files next)) ≡ option_map (λ (c : Candidate). c.plan) (find (is_free claims) (expired_merges fields clock level files next))) zeroth
       (ap (option_map (λ (c : Candidate). c.plan)) (first_free (own_merges fields clock level files next))
-      ∙ same_plans (λ file. merge_named file.no level (range_of file) next) (λ file. merge_named file.no level (sources_keys level files file) next) (sorted_by expired_cmp (filter (is_expired fields clock level) files)) (λ file. refl)
-      ∙ ap (option_map (λ (c : Candidate). c.plan)) (sym (first_mapped claims (λ file. merge_named file.no level (sources_keys level files file) next) (sorted_by expired_cmp (filter (is_expired fields clock level) files)) (λ file. whole_test file ∙ free))))
+      ∙ same_plans (λ file. merge_named file.no level (range_of file) next) merge_of sorted (λ file. refl)
+      ∙ ap (option_map (λ (c : Candidate). c.plan)) (sym (first_mapped claims merge_of sorted (λ file. whole_test file ∙ free))))
 
   pub whole_taken : not (list_any (meets (merge_claim 0 keys next)) claims) ≡ false → None ≡ option_map (λ (c : Candidate). c.plan) (find (is_free claims) (expired_merges fields clock level files next))
   whole_taken taken =
-      ap (option_map (λ (c : Candidate). c.plan)) (sym (none_mapped claims (λ file. merge_named file.no level (sources_keys level files file) next) (sorted_by expired_cmp (filter (is_expired fields clock level) files)) (λ file. whole_test file ∙ taken)))
+      ap (option_map (λ (c : Candidate). c.plan)) (sym (none_mapped claims merge_of sorted (λ file. whole_test file ∙ taken)))
 
 -- The levels
 

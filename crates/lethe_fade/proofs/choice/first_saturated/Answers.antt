@@ -1,4 +1,4 @@
-use Rattle.std.proofs.Common.{◌≡◌, ◌+◌, ◌<◌, [], drop, length, sym, ap, ◌∙◌, subst, arith}
+use Rattle.std.proofs.Common.{◌≡◌, ◌+◌, ◌<◌, [], drop, sym, ap, ◌∙◌, subst, arith}
 use Rattle.std.specs.List.{find}
 use Rattle.std.specs.Option.{option_map}
 use Rattle.lethe_base.specs.declared.config.Fields.{Fields}
@@ -9,22 +9,30 @@ use Rattle.lethe_fade.proofs.choice.first_saturated.Goals as goal
 
 pub returns-then-is_some : goal.returns-then-is_some
 returns-then-is_some c =
-    let inside : c.loop-level.level + 1 < length c.args.shape.now.levels = omega (arith, ap (λ (f : Fields). f.levels) c.fields.ensures.fields) in
-    let step : Step (level_merges c.args.config.now) c.args.shape.now.levels (is_free c.args.claims.now) c.loop-level.level c.first_free-plan.result =
-    level_step (level_merges c.args.config.now) c.args.shape.now.levels (is_free c.args.claims.now) c.loop-level.level c.items.result.now c.items-in-loop-level.result.now c.first_free-plan.result inside
-    (read_at c.items-levels.result.now c.args.shape.now.levels c.loop-level.level c.items.result.now c.index-levels-place.result c.items.ensures c.index-levels-place.is c.items-levels.ensures)
-    (read_at c.items-levels.result.now c.args.shape.now.levels (c.loop-level.level + 1) c.items-in-loop-level.result.now c.index-levels-place-in-loop-level.result c.items-in-loop-level.ensures c.index-levels-place-in-loop-level.is c.items-levels.ensures)
+    let config = c.args.config.now in
+    let levels = c.args.shape.now.levels in
+    let level = c.loop-level.level in
+    let count : c.fields.result.now.levels ≡ config.levels = ap (λ (f : Fields). f.levels) c.fields.ensures.fields in
+    let step : Step (level_merges config) levels (is_free c.args.claims.now) level c.first_free-plan.result =
+    level_step (level_merges config) levels (is_free c.args.claims.now) level c.items.result.now c.items-in-loop-level.result.now c.first_free-plan.result (omega (arith, count))
+    (read_at c.items-levels.result.now levels level c.items.result.now c.index-levels-place.result c.items.ensures c.index-levels-place.is c.items-levels.ensures)
+    (read_at c.items-levels.result.now levels (level + 1) c.items-in-loop-level.result.now c.index-levels-place-in-loop-level.result c.items-in-loop-level.ensures
+    c.index-levels-place-in-loop-level.is c.items-levels.ensures)
     c.first_free-plan.ensures
     in
     step.found (sym c.is_some.ensures ∙ c.if-is_some.true) ∙ ap (option_map (λ (candidate : Candidate). candidate.plan)) (sym c.loop-level.invariant)
 
 pub loop-level-preserved : goal.loop-level-preserved
 loop-level-preserved c =
-    let inside : c.loop-level.level + 1 < length c.args.shape.now.levels = omega (arith, ap (λ (f : Fields). f.levels) c.fields.ensures.fields) in
-    let step : Step (level_merges c.args.config.now) c.args.shape.now.levels (is_free c.args.claims.now) c.loop-level.level c.first_free-plan.result =
-    level_step (level_merges c.args.config.now) c.args.shape.now.levels (is_free c.args.claims.now) c.loop-level.level c.items.result.now c.items-in-loop-level.result.now c.first_free-plan.result inside
-    (read_at c.items-levels.result.now c.args.shape.now.levels c.loop-level.level c.items.result.now c.index-levels-place.result c.items.ensures c.index-levels-place.is c.items-levels.ensures)
-    (read_at c.items-levels.result.now c.args.shape.now.levels (c.loop-level.level + 1) c.items-in-loop-level.result.now c.index-levels-place-in-loop-level.result c.items-in-loop-level.ensures c.index-levels-place-in-loop-level.is c.items-levels.ensures)
+    let config = c.args.config.now in
+    let levels = c.args.shape.now.levels in
+    let level = c.loop-level.level in
+    let count : c.fields.result.now.levels ≡ config.levels = ap (λ (f : Fields). f.levels) c.fields.ensures.fields in
+    let step : Step (level_merges config) levels (is_free c.args.claims.now) level c.first_free-plan.result =
+    level_step (level_merges config) levels (is_free c.args.claims.now) level c.items.result.now c.items-in-loop-level.result.now c.first_free-plan.result (omega (arith, count))
+    (read_at c.items-levels.result.now levels level c.items.result.now c.index-levels-place.result c.items.ensures c.index-levels-place.is c.items-levels.ensures)
+    (read_at c.items-levels.result.now levels (level + 1) c.items-in-loop-level.result.now c.index-levels-place-in-loop-level.result c.items-in-loop-level.ensures
+    c.index-levels-place-in-loop-level.is c.items-levels.ensures)
     c.first_free-plan.ensures
     in
     c.loop-level.invariant ∙ step.later (sym c.is_some.ensures ∙ c.if-is_some.false)

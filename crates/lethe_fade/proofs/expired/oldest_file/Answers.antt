@@ -21,7 +21,8 @@ loop-file-preserved c =
     elim c.if-is_passed.branch [
       | then-is_passed+then-is_merge_free w ↦
           w.oldest-is ∙ ap Some w.older.ensures
-          ∙ more.taken (and_from expired free (sym passed ∙ w.if-is_passed.true) (is_free_file level c.args.next.now c.args.claims.now file w.of.result w.is_merge_free.result true w.of.ensures w.is_merge_free.ensures w.if-is_merge_free.true))
+          ∙ more.taken (and_from expired free (sym passed ∙ w.if-is_passed.true)
+          (is_free_file level c.args.next.now c.args.claims.now file w.of.result w.is_merge_free.result true w.of.ensures w.is_merge_free.ensures w.if-is_merge_free.true))
       | else-is_passed w ↦ elim w.else-is_passed.branch [
         | else-is_passed-via-then-is_passed+else-is_merge_free v ↦
             w.oldest-is ∙ more.kept (and_right expired free (is_free_file level c.args.next.now c.args.claims.now file v.of.result v.is_merge_free.result false v.of.ensures v.is_merge_free.ensures v.if-is_merge_free.false))
