@@ -21,9 +21,9 @@ use Rattle.lethe_job.specs.Tasks.{PlainTask, IsBegunIn, IsCitedAs, IsTaskIn, cou
 use Rattle.lethe_core.specs.Running.{Holds}
 use Rattle.lethe_core.specs.View.{Flying, View, beside_in}
 
--- no merge is due
+-- no merge is due at its clock
 abbrev pub HasNoMerge : Stored → Type 0
-HasNoMerge s = choice s.manifest.config (shape_of (layout_of s)) [] ≡ None
+HasNoMerge s = choice s.manifest.config (shape_of (layout_of s)) s.manifest.clock [] ≡ None
 
 -- a merge, and what is stored behind it
 pub record Outcome : Type 0 where

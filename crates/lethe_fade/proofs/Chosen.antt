@@ -16,9 +16,10 @@ use Rattle.lethe_fade.specs.declared.rank.Rank.{Rank}
 use Rattle.lethe_fade.specs.Saturation.{entries_in, is_saturated}
 use Rattle.lethe_fade.specs.Spans.{KeyRange, range_of, hull, overlapping}
 use Rattle.lethe_fade.specs.Claims.{meets, claim_at, merge_claim}
-use Rattle.lethe_fade.specs.Ranks.{better_rank, file_cmp, sorted_by}
-use Rattle.lethe_fade.specs.Choice.{Candidate, merge_plan, merge_named, whole_merges, file_merges, level_merges, first_files, candidates_from, is_free}
-use Rattle.lethe_fade.proofs.Ranking.{first_rank, first_rank_more, find-map, plan-rank}
+use Rattle.lethe_fade.specs.Ranks.{file_cmp, lesser_of, rank_cmp, rank_of, sorted_by}
+use Rattle.lethe_fade.specs.Candidates.{Candidate, first_files, is_free, merge_named, merge_plan, merges_from}
+use Rattle.lethe_fade.specs.Choice.{whole_merges, file_merges, level_merges}
+use Rattle.lethe_fade.proofs.Ranking.{first_rank, first_ranked_more, find-map, plan-rank, rank_total}
 
 -- the plan of a single candidate that is free, or none
 single : (candidate : Candidate) (b : Bool) → then_some b candidate.plan ≡ option_map (λ (c : Candidate). c.plan) (cond b (Some candidate) None)
@@ -48,60 +49,64 @@ pub best_more : (order : Pick) (level : ℕ) (claims : List Claim) (files next :
     → i < length files → file ≡ get_or files i file → sources ≡ range_of file
     → keys ≡ hull sources (overlapping sources next) → below ≡ entries_in (overlapping sources next) → free ≡ not (list_any (meets (claim_at level keys)) claims)
     → best ≡ first_rank order next (is_file_free level next claims) (take i files)
-    → cond free (Some (better_rank order best (record { below = below; tombs = file.tombs; oldest = file.oldest; no = file.no }))) best ≡ first_rank order next (is_file_free level next claims) (take (i + 1) files)
+    → cond free (Some (lesser_of (rank_cmp order) best (record { below = below; tombs = file.tombs; oldest = file.oldest; no = file.no }))) best ≡ first_rank order next (is_file_free level next claims) (take (i + 1) files)
 best_more order level claims files next i file sources keys below free best h is s k w f e =
-    let step = first_rank_more order next (is_file_free level next claims) files i file h in
+    let step = first_ranked_more (rank_of next) (rank_cmp order) (rank_total order) (is_file_free level next claims) files i file h in
     let here = rw (← is) at step in
     rw (f, k, w, s, e) (sym here)
 
--- the candidates from a level on: its own, and those from the next one on
-candidates-drop : (fields : Fields) (levels : List (List FileFacts)) (level : ℕ) (files next : List FileFacts) → level + 1 < length levels → files ≡ get_or levels level files → next ≡ get_or levels (level + 1) next
-    → candidates_from fields level (drop level levels) ≡ level_merges fields level files next ++ candidates_from fields (level + 1) (drop (level + 1) levels)
-candidates-drop fields levels level files next h is next_is =
-    let here : drop level levels ≡ files ∷ drop (level + 1) levels = drop_more levels level files (omega arith) ∙ ap (λ files. files ∷ drop (level + 1) levels) (sym is) in
-    let behind : first_files (drop (level + 1) levels) ≡ next = ap first_files (drop_more levels (level + 1) next h) ∙ sym next_is in
-    ap (candidates_from fields level) here ∙ ap (λ next. level_merges fields level files next ++ candidates_from fields (level + 1) (drop (level + 1) levels)) behind
-
-not_last : (fields : Fields) (files next : List FileFacts) → 0 < fields.levels → level_merges fields fields.levels files next ≡ []
-not_last fields files next some =
-    let still : is_saturated fields fields.levels files ≡ false = grind (arith, nat_tests) in
-    rw still refl
-
--- the last level has none
-pub candidates-last : (fields : Fields) (levels : List (List FileFacts)) (level : ℕ) → 0 < fields.levels → length levels ≡ fields.levels + 1 → fields.levels ≡ level → candidates_from fields level (drop level levels) ≡ []
-candidates-last fields levels level some e at =
-    rw (← at)
-    (ap (candidates_from fields fields.levels) (drop_more levels fields.levels [] (omega arith))
-    ∙ ap (λ deeper. level_merges fields fields.levels (get_or levels fields.levels []) (first_files deeper) ++ candidates_from fields (fields.levels + 1) deeper) (drop_all (fields.levels + 1) levels (omega arith))
-    ∙ ap (λ merges. merges ++ []) (not_last fields (get_or levels fields.levels []) [] some))
-
--- a level with a candidate that is free decides, and where it has none the later levels do
-pub record Step (p : Candidate → Bool) (fields : Fields) (levels : List (List FileFacts)) (level : ℕ) (plan : Option Plan) : Type 0 where
-  pub found : is_some plan ≡ true → plan ≡ option_map (λ (c : Candidate). c.plan) (find p (candidates_from fields level (drop level levels)))
-  pub later : is_some plan ≡ false → find p (candidates_from fields level (drop level levels)) ≡ find p (candidates_from fields (level + 1) (drop (level + 1) levels))
-
-found_first : (p : Candidate → Bool) (xs ys : List Candidate) (plan : Option Plan) → plan ≡ option_map (λ (c : Candidate). c.plan) (find p xs) → is_some plan ≡ true → plan ≡ option_map (λ (c : Candidate). c.plan) (find p (xs ++ ys))
+-- the plan of what is found in a list or behind it
+pub found_first : (p : Candidate → Bool) (xs ys : List Candidate) (plan : Option Plan) → plan ≡ option_map (λ (c : Candidate). c.plan) (find p xs) → is_some plan ≡ true → plan ≡ option_map (λ (c : Candidate). c.plan) (find p (xs ++ ys))
 found_first p xs ys plan e some = rw find-append (by_found (find p xs) e)
   where
     by_found : (o : Option Candidate) → plan ≡ option_map (λ (c : Candidate). c.plan) o → plan ≡ option_map (λ (c : Candidate). c.plan) (option_or o (find p ys))
     by_found None e = absurd (true≢false (sym some ∙ ap is_some e))
     by_found (Some c) e = e
 
-found_later : (p : Candidate → Bool) (xs ys : List Candidate) (plan : Option Plan) → plan ≡ option_map (λ (c : Candidate). c.plan) (find p xs) → is_some plan ≡ false → find p (xs ++ ys) ≡ find p ys
+pub found_later : (p : Candidate → Bool) (xs ys : List Candidate) (plan : Option Plan) → plan ≡ option_map (λ (c : Candidate). c.plan) (find p xs) → is_some plan ≡ false → find p (xs ++ ys) ≡ find p ys
 found_later p xs ys plan e none = rw find-append (by_found (find p xs) e)
   where
     by_found : (o : Option Candidate) → plan ≡ option_map (λ (c : Candidate). c.plan) o → option_or o (find p ys) ≡ find p ys
     by_found None e = refl
     by_found (Some c) e = absurd (true≢false (sym (ap is_some e) ∙ none))
 
-pub level_step : (p : Candidate → Bool) (fields : Fields) (levels : List (List FileFacts)) (level : ℕ) (files next : List FileFacts) (plan : Option Plan)
-    → level + 1 < length levels → files ≡ get_or levels level files → next ≡ get_or levels (level + 1) next → plan ≡ option_map (λ (c : Candidate). c.plan) (find p (level_merges fields level files next)) → Step p fields levels level plan
-level_step p fields levels level files next plan h is next_is e =
-    let split = candidates-drop fields levels level files next h is next_is in
-    record {
-      found = λ some. rw split (found_first p (level_merges fields level files next) (candidates_from fields (level + 1) (drop (level + 1) levels)) plan e some);
-      later = λ none. rw split (found_later p (level_merges fields level files next) (candidates_from fields (level + 1) (drop (level + 1) levels)) plan e none);
-    }
+-- the merges of the levels, told by a function of a level
+module _ (merges : ℕ → List FileFacts → List FileFacts → List Candidate) (levels : List (List FileFacts)) where
+  abbrev rest_from : ℕ → List Candidate
+  rest_from level = merges_from merges level (drop level levels)
+
+  -- those from a level on: its own, and those from the next one on
+  merges-drop : (level : ℕ) (files next : List FileFacts) → level + 1 < length levels → files ≡ get_or levels level files → next ≡ get_or levels (level + 1) next → rest_from level ≡ merges level files next ++ rest_from (level + 1)
+  merges-drop level files next h is next_is =
+      let here : drop level levels ≡ files ∷ drop (level + 1) levels = drop_more levels level files (omega arith) ∙ ap (λ files. files ∷ drop (level + 1) levels) (sym is) in
+      let behind : first_files (drop (level + 1) levels) ≡ next = ap first_files (drop_more levels (level + 1) next h) ∙ sym next_is in
+      ap (merges_from merges level) here ∙ ap (λ next. merges level files next ++ rest_from (level + 1)) behind
+
+  -- a last level that has none
+  pub merges-last : (level : ℕ) → length levels ≡ level + 1 → ((files next : List FileFacts) → merges level files next ≡ []) → rest_from level ≡ []
+  merges-last level e none =
+      ap (merges_from merges level) (drop_more levels level [] (omega arith))
+      ∙ ap (λ deeper. merges level (get_or levels level []) (first_files deeper) ++ merges_from merges (level + 1) deeper) (drop_all (level + 1) levels (omega arith))
+      ∙ ap (λ own. own ++ []) (none (get_or levels level []) [])
+
+  -- a level with a merge that is free decides, and where it has none the later levels do
+  pub record Step (p : Candidate → Bool) (level : ℕ) (plan : Option Plan) : Type 0 where
+    pub found : is_some plan ≡ true → plan ≡ option_map (λ (c : Candidate). c.plan) (find p (rest_from level))
+    pub later : is_some plan ≡ false → find p (rest_from level) ≡ find p (rest_from (level + 1))
+
+  pub level_step : (p : Candidate → Bool) (level : ℕ) (files next : List FileFacts) (plan : Option Plan)
+      → level + 1 < length levels → files ≡ get_or levels level files → next ≡ get_or levels (level + 1) next → plan ≡ option_map (λ (c : Candidate). c.plan) (find p (merges level files next)) → Step p level plan
+  level_step p level files next plan h is next_is e =
+      let split = merges-drop level files next h is next_is in
+      record {
+        found = λ some. rw split (found_first p (merges level files next) (rest_from (level + 1)) plan e some);
+        later = λ none. rw split (found_later p (merges level files next) (rest_from (level + 1)) plan e none);
+      }
+
+pub not_last : (fields : Fields) (files next : List FileFacts) → 0 < fields.levels → level_merges fields fields.levels files next ≡ []
+not_last fields files next some =
+    let still : is_saturated fields fields.levels files ≡ false = grind (arith, nat_tests) in
+    rw still refl
 
 -- what was read at a place of a list stands there
 pub read_at : (read levels : List (List FileFacts)) (at : ℕ) (files item : List FileFacts) → files ≡ item → item ≡ get_or read at item → read ≡ levels → files ≡ get_or levels at files

@@ -1,27 +1,31 @@
 -- In a shape whose files have distinct numbers each candidate's claim is the one of its plan.
 use Rattle.std.proofs.Common.{IsTrue, ◌≡◌, ◌⊎◌, inl, inr, ℕ, suc, ◌+◌, ◌<◌, min, Bool, true, false, not, cond, List, [], ◌∷◌, ◌++◌, length, get_or, fold, map, Option, Some, None, refl, sym, ap, ◌∙◌, arith}
-use Rattle.std.specs.Prelude.{◌≢◌, ◌==◌, ◌≤◌, nat_le, flat_map}
+use Rattle.std.specs.Prelude.{◌≢◌, ◌==◌, ◌≤◌, nat_le, nat_lt, flat_map}
 use Rattle.std.proofs.lemmas.Bool.{leb-true, leb-false}
 use Rattle.std.proofs.lemmas.Bool.Decides.{nat_tests}
 use Rattle.std.proofs.lemmas.List.Concat.{flat_map-cons}
-use Rattle.std.specs.List.{find, list_any, AllPairs}
+use Rattle.std.specs.List.{filter, find, list_any, AllPairs}
 use Rattle.std.specs.Option.{option_map, is_some}
 use Rattle.std.specs.declared.cmp.Ordering.{Ordering}
 use Rattle.std.specs.declared.cmp.Ordering.TheVariants.{Less, Equal, Greater}
 use Rattle.std.specs.Ordering.{ordering_reverse, is_lt, is_le, is_gt}
 use Rattle.std.specs.Cmp.Lexicographic.{nat_list_cmp_total}
 use Rattle.lethe_base.specs.Keys.{Bytes, key_cmp}
-use Rattle.lethe_base.specs.Shapes.{HasOtherNumber, HasRange, all_files}
+use Rattle.lethe_base.specs.Shapes.{HasOtherNumber, HasRange, IsValidShape, all_files}
 use Rattle.lethe_base.specs.declared.config.Fields.{Fields}
 use Rattle.lethe_base.specs.declared.config.Pick.{Pick}
 use Rattle.lethe_base.specs.declared.shape.FileFacts.{FileFacts}
+use Rattle.lethe_base.specs.declared.shape.Shape.{Shape}
 use Rattle.lethe_fade.specs.declared.claim.Claim.{Claim}
 use Rattle.lethe_fade.specs.declared.plan.Plan.{Plan}
 use Rattle.lethe_fade.specs.Saturation.{is_saturated}
 use Rattle.lethe_fade.specs.Spans.{KeyRange, range_of, joined, hull, hull_of, overlapping}
 use Rattle.lethe_fade.specs.Claims.{meets, IsProper, merge_claim}
 use Rattle.lethe_fade.specs.Ranks.{with_item, sorted_by, file_cmp}
-use Rattle.lethe_fade.specs.Choice.{Candidate, merge_named, whole_merges, file_merges, level_merges, first_files, candidates_from, candidates, is_free}
+use Rattle.lethe_fade.specs.Candidates.{Candidate, first_files, is_free, merge_named, merges_from}
+use Rattle.lethe_fade.specs.Expired.{expired, expired_cmp, expired_merges, is_expired, sources_keys}
+use Rattle.lethe_fade.specs.Choice.{whole_merges, file_merges, level_merges, candidates, choice}
+use Rattle.lethe_fade.proofs.Expiring.{timed_merges}
 use Rattle.lethe_fade.proofs.MeetingLaws.{key_upto, key_itself}
 use Rattle.lethe_fade.specs.Claimed.{job_claim, claim_in, IsFreePlan, ChoiceIsFree}
 
@@ -61,6 +65,14 @@ each_with P cmp x (y ∷ ys) h k = by_test (is_gt (cmp x y)) (each_with P cmp x 
 each_sorted : {X : Type 0} (P : X → Type 0) (cmp : X → X → Ordering) (xs : List X) → Each P xs → Each P (sorted_by cmp xs)
 each_sorted P cmp [] h = tt
 each_sorted P cmp (x ∷ xs) h = each_with P cmp x (sorted_by cmp xs) h.0 (each_sorted P cmp xs h.1)
+
+each_filter : {X : Type 0} (P : X → Type 0) (p : X → Bool) (xs : List X) → Each P xs → Each P (filter p xs)
+each_filter P p [] h = tt
+each_filter P p (x ∷ xs) h = by_test (p x) (each_filter P p xs h.1)
+  where
+    by_test : (b : Bool) → Each P (filter p xs) → Each P (cond b (x ∷ filter p xs) (filter p xs))
+    by_test true rest = (h.0, rest)
+    by_test false rest = rest
 
 -- what is found is one of the items, and passes
 found_is : {X : Type 0} (P : X → Type 0) (p : X → Bool) (xs : List X) (x : X) → Each P xs → find p xs ≡ Some x → P x × (p x ≡ true)
@@ -181,6 +193,34 @@ level_claimed fields level files next d = by_tests (is_saturated fields level fi
     by_tests true false t = files_claimed fields.pick level files next t d
     by_tests false first t = tt
 
+-- what holds of the merge of each file holds of those of the expired ones, in their order
+each_expired : (P : Candidate → Type 0) (fields : Fields) (clock level : ℕ) (files next : List FileFacts) → Each (λ file. P (merge_named file.no level (sources_keys level files file) next)) files
+    → Each P (expired_merges fields clock level files next)
+each_expired P fields clock level files next h =
+    each_map P (λ file. merge_named file.no level (sources_keys level files file) next) (sorted_by expired_cmp (filter (is_expired fields clock level) files))
+    (each_sorted (λ file. P (merge_named file.no level (sources_keys level files file) next)) expired_cmp (filter (is_expired fields clock level) files)
+    (each_filter (λ file. P (merge_named file.no level (sources_keys level files file) next)) (is_expired fields clock level) files h))
+
+each_timed : (P : Candidate → Type 0) (fields : Fields) (clock level : ℕ) (files next : List FileFacts) → Each (λ file. P (merge_named file.no level (sources_keys level files file) next)) files
+    → Each P (timed_merges fields clock level files next)
+each_timed P fields clock level files next h = by_test (nat_lt level fields.levels)
+  where
+    by_test : (b : Bool) → Each P (cond b (expired_merges fields clock level files next) [])
+    by_test true = each_expired P fields clock level files next h
+    by_test false = tt
+
+-- an expired file of level 0 has the claim of the whole level
+expired_claimed : (fields : Fields) (clock level : ℕ) (files next : List FileFacts) → Distinct files → Each (IsClaimedHere level files next) (timed_merges fields clock level files next)
+expired_claimed fields clock level files next d =
+    each_timed (IsClaimedHere level files next) fields clock level files next
+    (each_weaker (λ file. numbered file.no files ≡ Some file) (λ file. IsClaimedHere level files next (merge_named file.no level (sources_keys level files file) next)) files
+    (λ file e. rw e (ap Some (by_level file (level == 0) refl))) (numbered-own files d))
+  where
+    by_level : (file : FileFacts) (first : Bool) → (level == 0) ≡ first
+        → cond first (merge_claim 0 (hull_of files) next) (merge_claim level (range_of file) next) ≡ merge_claim level (cond first (hull_of files) (range_of file)) next
+    by_level file true t = let zeroth : level ≡ 0 = test_is level 0 t in ap (λ n. merge_claim n (hull_of files) next) (sym zeroth)
+    by_level file false t = refl
+
 abbrev flat : List (List FileFacts) → List FileFacts
 flat [] = []
 flat (files ∷ deeper) = files ++ flat deeper
@@ -211,15 +251,16 @@ none_above plan level files deeper claim apart is = by_found (numbered plan.file
         in
         absurd cc
 
-levels_claimed : (fields : Fields) (level : ℕ) (levels : List (List FileFacts)) → Distinct (flat levels) → Each (λ c. claim_in c.plan level levels ≡ Some c.claim) (candidates_from fields level levels)
-levels_claimed fields level [] d = tt
-levels_claimed fields level (files ∷ deeper) d =
+levels_claimed : (merges : ℕ → List FileFacts → List FileFacts → List Candidate) → ((level : ℕ) (files next : List FileFacts) → Distinct files → Each (IsClaimedHere level files next) (merges level files next))
+    → (level : ℕ) (levels : List (List FileFacts)) → Distinct (flat levels) → Each (λ c. claim_in c.plan level levels ≡ Some c.claim) (merges_from merges level levels)
+levels_claimed merges claimed level [] d = tt
+levels_claimed merges claimed level (files ∷ deeper) d =
     let parts = distinct_parts files (flat deeper) d in
-    each_append (λ c. claim_in c.plan level (files ∷ deeper) ≡ Some c.claim) (level_merges fields level files (first_files deeper)) (candidates_from fields (level + 1) deeper)
-    (each_weaker (IsClaimedHere level files (first_files deeper)) (λ c. claim_in c.plan level (files ∷ deeper) ≡ Some c.claim) (level_merges fields level files (first_files deeper)) (λ c e. rw e refl)
-    (level_claimed fields level files (first_files deeper) parts.0))
-    (each_weaker (λ c. claim_in c.plan (level + 1) deeper ≡ Some c.claim) (λ c. claim_in c.plan level (files ∷ deeper) ≡ Some c.claim) (candidates_from fields (level + 1) deeper)
-    (λ c e. rw (none_above c.plan (level + 1) files deeper c.claim parts.1.0 e) e) (levels_claimed fields (level + 1) deeper parts.1.1))
+    each_append (λ c. claim_in c.plan level (files ∷ deeper) ≡ Some c.claim) (merges level files (first_files deeper)) (merges_from merges (level + 1) deeper)
+    (each_weaker (IsClaimedHere level files (first_files deeper)) (λ c. claim_in c.plan level (files ∷ deeper) ≡ Some c.claim) (merges level files (first_files deeper)) (λ c e. rw e refl)
+    (claimed level files (first_files deeper) parts.0))
+    (each_weaker (λ c. claim_in c.plan (level + 1) deeper ≡ Some c.claim) (λ c. claim_in c.plan level (files ∷ deeper) ≡ Some c.claim) (merges_from merges (level + 1) deeper)
+    (λ c e. rw (none_above c.plan (level + 1) files deeper c.claim parts.1.0 e) e) (levels_claimed merges claimed (level + 1) deeper parts.1.1))
 
 -- the ends of a range are in order
 abbrev IsRange : KeyRange → Type 0
@@ -261,26 +302,63 @@ level_proper fields level files next ranges = by_tests (is_saturated fields leve
         (each_weaker HasRange (λ file. IsProperMerge (merge_named file.no level (range_of file) next)) files (λ file r. merge_proper level (range_of file) next r) h))
     by_tests false first files h = tt
 
-levels_proper : (fields : Fields) (level : ℕ) (levels : List (List FileFacts)) → Each HasRange (flat levels) → Each IsProperMerge (candidates_from fields level levels)
-levels_proper fields level [] h = tt
-levels_proper fields level (files ∷ deeper) h =
+whole_range : (file : FileFacts) (files : List FileFacts) → Each HasRange files → HasRange file → IsRange (hull_of files)
+whole_range file [] h own = refl
+whole_range file (first ∷ others) h own = hull_range (range_of first) others h.0
+
+expired_proper : (fields : Fields) (clock level : ℕ) (files next : List FileFacts) → Each HasRange files → Each IsProperMerge (timed_merges fields clock level files next)
+expired_proper fields clock level files next ranges =
+    each_timed IsProperMerge fields clock level files next
+    (each_weaker HasRange (λ file. IsProperMerge (merge_named file.no level (sources_keys level files file) next)) files
+    (λ file own. merge_proper level (sources_keys level files file) next (by_level file own (level == 0))) ranges)
+  where
+    by_level : (file : FileFacts) → HasRange file → (first : Bool) → IsRange (cond first (hull_of files) (range_of file))
+    by_level file own true = whole_range file files ranges own
+    by_level file own false = own
+
+levels_proper : (merges : ℕ → List FileFacts → List FileFacts → List Candidate) → ((level : ℕ) (files next : List FileFacts) → Each HasRange files → Each IsProperMerge (merges level files next))
+    → (level : ℕ) (levels : List (List FileFacts)) → Each HasRange (flat levels) → Each IsProperMerge (merges_from merges level levels)
+levels_proper merges proper level [] h = tt
+levels_proper merges proper level (files ∷ deeper) h =
     let parts = each_parts HasRange files (flat deeper) h in
-    each_append IsProperMerge (level_merges fields level files (first_files deeper)) (candidates_from fields (level + 1) deeper) (level_proper fields level files (first_files deeper) parts.0) (levels_proper fields (level + 1) deeper parts.1)
+    each_append IsProperMerge (merges level files (first_files deeper)) (merges_from merges (level + 1) deeper) (proper level files (first_files deeper) parts.0) (levels_proper merges proper (level + 1) deeper parts.1)
 
 no_false : (b : Bool) → not b ≡ true → b ≡ false
 no_false true e = absurd cc
 no_false false e = refl
 
+module _ (fields : Fields) (shape : Shape) (clock : ℕ) (valid : IsValidShape shape) where
+  abbrev all : List Candidate
+  all = expired fields clock shape ++ candidates fields shape
+
+  distinct : Distinct (flat shape.levels)
+  distinct = rw (← flat-is shape.levels) (distinct_from (all_files shape) valid.numbers)
+
+  ranges : Each HasRange (flat shape.levels)
+  ranges = rw (← flat-is shape.levels) (each_from HasRange (all_files shape) valid.ranges)
+
+  abbrev IsClaimed : Candidate → Type 0
+  IsClaimed c = claim_in c.plan 0 shape.levels ≡ Some c.claim
+
+  claimed : Each IsClaimed all
+  claimed =
+      each_append IsClaimed (expired fields clock shape) (candidates fields shape) (levels_claimed (timed_merges fields clock) (expired_claimed fields clock) 0 shape.levels distinct)
+      (levels_claimed (level_merges fields) (level_claimed fields) 0 shape.levels distinct)
+
+  proper : Each IsProperMerge all
+  proper =
+      each_append IsProperMerge (expired fields clock shape) (candidates fields shape) (levels_proper (timed_merges fields clock) (expired_proper fields clock) 0 shape.levels ranges)
+      (levels_proper (level_merges fields) (level_proper fields) 0 shape.levels ranges)
+
+  pub all_free : (claims : List Claim) (plan : Plan) → choice fields shape clock claims ≡ Some plan → IsFreePlan shape claims plan
+  all_free claims plan chosen = by_found (find (is_free claims) all) refl chosen
+    where
+      by_found : (o : Option Candidate) → find (is_free claims) all ≡ o → option_map (λ (c : Candidate). c.plan) o ≡ Some plan → IsFreePlan shape claims plan
+      by_found None e p = absurd cc
+      by_found (Some c) e p =
+          let same : c.plan ≡ plan = cc in
+          let found = found_is (λ (c : Candidate). IsClaimed c × IsProperMerge c) (is_free claims) all c (each_both IsClaimed IsProperMerge all claimed proper) e in
+          record { claim = c.claim; is = rw (← same) found.0.0; proper = found.0.1; free = no_false (list_any (meets c.claim) claims) found.1 }
+
 pub choice_is_free : ChoiceIsFree
-choice_is_free fields shape claims plan valid chosen = by_found (find (is_free claims) (candidates fields shape)) refl chosen
-  where
-    by_found : (o : Option Candidate) → find (is_free claims) (candidates fields shape) ≡ o → option_map (λ (c : Candidate). c.plan) o ≡ Some plan → IsFreePlan shape claims plan
-    by_found None e p = absurd cc
-    by_found (Some c) e p =
-        let same : c.plan ≡ plan = cc in
-        let distinct : Distinct (flat shape.levels) = rw (← flat-is shape.levels) (distinct_from (all_files shape) valid.numbers) in
-        let ranges : Each HasRange (flat shape.levels) = rw (← flat-is shape.levels) (each_from HasRange (all_files shape) valid.ranges) in
-        let found = found_is (λ (c : Candidate). (claim_in c.plan 0 shape.levels ≡ Some c.claim) × IsProperMerge c) (is_free claims) (candidates fields shape) c
-        (each_both (λ (c : Candidate). claim_in c.plan 0 shape.levels ≡ Some c.claim) IsProperMerge (candidates fields shape) (levels_claimed fields 0 shape.levels distinct) (levels_proper fields 0 shape.levels ranges)) e
-        in
-        record { claim = c.claim; is = rw (← same) found.0.0; proper = found.0.1; free = no_false (list_any (meets c.claim) claims) found.1 }
+choice_is_free fields shape clock claims plan valid chosen = all_free fields shape clock valid claims plan chosen

@@ -1,15 +1,18 @@
--- The files of a level in their order are the same files.
+-- The files of a level in an order are the same files.
 use Rattle.std.proofs.Common.{Bool, true, false, cond, List, [], ◌∷◌, IsTrue, arith}
-use Rattle.std.specs.List.{All, AllPairs}
+use Rattle.std.specs.Cmp.{IsTotalOrder}
+use Rattle.std.specs.List.{All, AllPairs, filter}
 use Rattle.std.specs.List.Sorted.{IsPermutation}
 use Rattle.std.proofs.lemmas.List.Elements.{All-cons}
 use Rattle.std.proofs.lemmas.List.Kept.{AllPairs-cons}
 use Rattle.std.proofs.lemmas.List.Sorted.{IsPermutation-refl, IsPermutation-cons, IsPermutation-insert, IsPermutation-trans}
 use Rattle.std.specs.declared.cmp.Ordering.{Ordering}
 use Rattle.std.specs.Ordering.{is_le, is_gt}
-use Rattle.lethe_fade.specs.Ranks.{with_item, sorted_by, file_cmp, FilesComeInOrder}
+use Rattle.lethe_base.specs.declared.shape.FileFacts.{FileFacts}
+use Rattle.lethe_fade.specs.Ranks.{with_item, sorted_by, file_cmp, IsInOrder, FilesComeInOrder}
+use Rattle.lethe_fade.specs.Expired.{ExpiredComeInOrder, expired_cmp, is_expired}
 use Rattle.lethe_fade.proofs.MeetingLaws.{upto_is}
-use Rattle.lethe_fade.proofs.Ranking.{file_total}
+use Rattle.lethe_fade.proofs.Ranking.{expired_total, file_total}
 use Rattle.lethe_fade.proofs.Sorting.{Leads, Ascends, ascends_sorted}
 
 exchanged : {X : Type 0} (x y : X) (ys : List X) → IsPermutation (x ∷ (y ∷ ys)) (y ∷ (x ∷ ys))
@@ -36,8 +39,14 @@ pairs_from : {X : Type 0} (cmp : X → X → Ordering) (xs : List X) → Ascends
 pairs_from cmp [] s = λ i j d lt h. absurd (omega arith)
 pairs_from cmp (x ∷ xs) s = AllPairs-cons (λ x y. IsTrue (is_le (cmp x y))) x xs (all_from cmp x xs s.0) (pairs_from cmp xs s.1)
 
-pub files_come_in_order : FilesComeInOrder
-files_come_in_order order next files = record {
-  same = permutation_sorted (file_cmp order next) files;
-  ascending = pairs_from (file_cmp order next) (sorted_by (file_cmp order next) files) (ascends_sorted (file_total order next) files);
+in_order : (cmp : FileFacts → FileFacts → Ordering) → IsTotalOrder cmp → (files : List FileFacts) → IsInOrder cmp files (sorted_by cmp files)
+in_order cmp total files = record {
+  same = permutation_sorted cmp files;
+  ascending = pairs_from cmp (sorted_by cmp files) (ascends_sorted total files);
 }
+
+pub files_come_in_order : FilesComeInOrder
+files_come_in_order order next files = in_order (file_cmp order next) (file_total order next) files
+
+pub expired_come_in_order : ExpiredComeInOrder
+expired_come_in_order fields clock level files = in_order expired_cmp expired_total (filter (is_expired fields clock level) files)

@@ -1,4 +1,4 @@
--- The order of the files of a level is total, and a loop over them finds the first one that is free.
+-- The orders of the files of a level are total, and a loop over them finds the first one that passes.
 use Rattle.std.proofs.Common.{◌≡◌, ℕ, ◌+◌, ◌<◌, Bool, true, false, cond, List, [], ◌∷◌, length, take, get_or, map, Option, Some, None, refl, ap, ◌∙◌}
 use Rattle.std.proofs.lemmas.Cmp.{nat_cmp_total, on_total, then_total, back_total}
 use Rattle.std.specs.Cmp.{IsTotalOrder}
@@ -10,9 +10,11 @@ use Rattle.std.specs.Ordering.{ordering_reverse, min_by_ordering}
 use Rattle.lethe_base.specs.declared.config.Pick.{Pick}
 use Rattle.lethe_base.specs.declared.config.Pick.TheVariants.{So, Sd}
 use Rattle.lethe_base.specs.declared.shape.FileFacts.{FileFacts}
+use Rattle.lethe_fade.specs.declared.rank.Age.{Age}
 use Rattle.lethe_fade.specs.declared.rank.Rank.{Rank}
-use Rattle.lethe_fade.specs.Ranks.{oldest_cmp, rank_cmp, rank_of, file_cmp, better_rank, sorted_by}
-use Rattle.lethe_fade.specs.Choice.{merge_plan}
+use Rattle.lethe_fade.specs.Ranks.{age_cmp, oldest_cmp, rank_cmp, rank_of, file_cmp, lesser_of, sorted_by}
+use Rattle.lethe_fade.specs.Candidates.{merge_plan}
+use Rattle.lethe_fade.specs.Expired.{age_of, expired_cmp}
 use Rattle.lethe_fade.proofs.Sorting.{better, find-sorted_more}
 
 oldest_antisymm : (a b : Option ℕ) → oldest_cmp a b ≡ ordering_reverse (oldest_cmp b a)
@@ -46,34 +48,47 @@ rank_total Sd = then_total (on_total (λ (r : Rank). r.tombs) (back_total nat_cm
 pub file_total : (order : Pick) (next : List FileFacts) → IsTotalOrder (file_cmp order next)
 file_total order next = on_total (rank_of next) (rank_total order)
 
--- files go by their ranks
-rank-min : (next : List FileFacts) (r : Ordering) (x y : FileFacts) → rank_of next (min_by_ordering r x y) ≡ min_by_ordering r (rank_of next x) (rank_of next y)
-rank-min next Less x y = refl
-rank-min next Equal x y = refl
-rank-min next Greater x y = refl
+pub age_total : IsTotalOrder age_cmp
+age_total = then_total (on_total (λ (a : Age). a.oldest) oldest_total) (then_total (on_total (λ (a : Age). a.tombs) (back_total nat_cmp_total)) (on_total (λ (a : Age). a.no) nat_cmp_total))
 
-rank-better : (order : Pick) (next : List FileFacts) (a : Option FileFacts) (y : FileFacts)
-    → option_map (rank_of next) (better (file_cmp order next) a (Some y)) ≡ Some (better_rank order (option_map (rank_of next) a) (rank_of next y))
-rank-better order next None y = refl
-rank-better order next (Some x) y = ap Some (rank-min next (file_cmp order next x y) x y)
+pub expired_total : IsTotalOrder expired_cmp
+expired_total = on_total age_of age_total
 
--- the rank of the first of some files that passes
+-- what items are ranked by, for any such
+module _ {X R : Type 0} (rank : X → R) (cmp : R → R → Ordering) where
+  abbrev by_rank : X → X → Ordering
+  by_rank x y = cmp (rank x) (rank y)
+
+  -- items go by their ranks
+  rank-min : (r : Ordering) (x y : X) → rank (min_by_ordering r x y) ≡ min_by_ordering r (rank x) (rank y)
+  rank-min Less x y = refl
+  rank-min Equal x y = refl
+  rank-min Greater x y = refl
+
+  rank-better : (a : Option X) (y : X) → option_map rank (better by_rank a (Some y)) ≡ Some (lesser_of cmp (option_map rank a) (rank y))
+  rank-better None y = refl
+  rank-better (Some x) y = ap Some (rank-min (by_rank x y) x y)
+
+  -- the rank of the first of some items that passes
+  abbrev pub first_ranked : (X → Bool) → List X → Option R
+  first_ranked p xs = option_map rank (find p (sorted_by by_rank xs))
+
+  rank-passing : (a : Option X) (y : X) (b : Bool) → option_map rank (better by_rank a (cond b (Some y) None)) ≡ cond b (Some (lesser_of cmp (option_map rank a) (rank y))) (option_map rank a)
+  rank-passing a y true = rank-better a y
+  rank-passing None y false = refl
+  rank-passing (Some x) y false = refl
+
+  -- a step of a loop over the items
+  pub first_ranked_more : IsTotalOrder cmp → (p : X → Bool) (xs : List X) (i : ℕ) (d : X) → i < length xs
+      → first_ranked p (take (i + 1) xs) ≡ cond (p (get_or xs i d)) (Some (lesser_of cmp (first_ranked p (take i xs)) (rank (get_or xs i d)))) (first_ranked p (take i xs))
+  first_ranked_more o p xs i d h =
+      ap (option_map rank) (find-sorted_more (on_total rank o) p xs i d h) ∙ rank-passing (find p (sorted_by by_rank (take i xs))) (get_or xs i d) (p (get_or xs i d))
+
 abbrev pub first_rank : Pick → List FileFacts → (FileFacts → Bool) → List FileFacts → Option Rank
-first_rank order next p files = option_map (rank_of next) (find p (sorted_by (file_cmp order next) files))
+first_rank order next = first_ranked (rank_of next) (rank_cmp order)
 
-rank-passing : (order : Pick) (next : List FileFacts) (a : Option FileFacts) (y : FileFacts) (b : Bool)
-    → option_map (rank_of next) (better (file_cmp order next) a (cond b (Some y) None)) ≡ cond b (Some (better_rank order (option_map (rank_of next) a) (rank_of next y))) (option_map (rank_of next) a)
-rank-passing order next a y true = rank-better order next a y
-rank-passing order next None y false = refl
-rank-passing order next (Some x) y false = refl
-
--- a step of a loop over the files
-pub first_rank_more : (order : Pick) (next : List FileFacts) (p : FileFacts → Bool) (files : List FileFacts) (i : ℕ) (d : FileFacts) → i < length files
-    → first_rank order next p (take (i + 1) files)
-    ≡ cond (p (get_or files i d)) (Some (better_rank order (first_rank order next p (take i files)) (rank_of next (get_or files i d)))) (first_rank order next p (take i files))
-first_rank_more order next p files i d h =
-    ap (option_map (rank_of next)) (find-sorted_more (file_total order next) p files i d h)
-    ∙ rank-passing order next (find p (sorted_by (file_cmp order next) (take i files))) (get_or files i d) (p (get_or files i d))
+abbrev pub first_age : (FileFacts → Bool) → List FileFacts → Option Age
+first_age = first_ranked age_of age_cmp
 
 -- the first of mapped items, and what is read of it
 pub find-map : {X Y Z : Type 0} (f : X → Y) (g : Y → Z) (p : Y → Bool) (xs : List X) → option_map g (find p (map f xs)) ≡ option_map (λ x. g (f x)) (find (λ x. p (f x)) xs)
@@ -88,3 +103,7 @@ find-map f g p (x ∷ xs) = by_test (p (f x)) (find-map f g p xs)
 pub plan-rank : (next : List FileFacts) (o : Option FileFacts) → option_map (λ (r : Rank). merge_plan r.no) (option_map (rank_of next) o) ≡ option_map (λ (f : FileFacts). merge_plan f.no) o
 plan-rank next None = refl
 plan-rank next (Some x) = refl
+
+pub plan-age : (o : Option FileFacts) → option_map (λ (a : Age). merge_plan a.no) (option_map age_of o) ≡ option_map (λ (f : FileFacts). merge_plan f.no) o
+plan-age None = refl
+plan-age (Some x) = refl

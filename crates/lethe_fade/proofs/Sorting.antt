@@ -3,7 +3,8 @@ use Rattle.std.proofs.Common.{◌≡◌, ℕ, ◌+◌, ◌<◌, Bool, true, fals
 use Rattle.std.proofs.lemmas.Cmp.{upto}
 use Rattle.std.proofs.lemmas.List.{take_more}
 use Rattle.std.specs.Cmp.{IsTotalOrder}
-use Rattle.std.specs.List.{find}
+use Rattle.std.specs.List.{filter, find}
+use Rattle.std.specs.Prelude.{◌&&◌}
 use Rattle.std.specs.declared.cmp.Ordering.{Ordering}
 use Rattle.std.specs.declared.cmp.Ordering.TheVariants.{Less, Equal, Greater}
 use Rattle.std.specs.Ordering.{ordering_reverse, is_gt, min_by_ordering}
@@ -151,3 +152,16 @@ pub find-sorted_more : {X : Type 0} {cmp : X → X → Ordering} (o : IsTotalOrd
 find-sorted_more {cmp = cmp} o p xs i d h =
     find-sorted_by o p (take (i + 1) xs) ∙ ap (best_of cmp p) (take_more xs i d h) ∙ best_of-push o p (take i xs) (get_or xs i d)
     ∙ ap (λ found. better cmp found (passing p (get_or xs i d))) (sym (find-sorted_by o p (take i xs)))
+
+-- the best of those that are kept is the best of those that are kept and pass
+best_of-filter : {X : Type 0} (cmp : X → X → Ordering) (q p : X → Bool) (xs : List X) → best_of cmp p (filter q xs) ≡ best_of cmp (λ x. q x && p x) xs
+best_of-filter cmp q p [] = refl
+best_of-filter {X} cmp q p (x ∷ xs) = by_test (q x) (best_of-filter cmp q p xs)
+  where
+    by_test : (b : Bool) → best_of cmp p (filter q xs) ≡ best_of cmp (λ x. q x && p x) xs
+        → best_of cmp p (cond b (x ∷ filter q xs) (filter q xs)) ≡ better cmp (cond (b && p x) (Some x) None) (best_of cmp (λ x. q x && p x) xs)
+    by_test true rest = ap (better cmp (passing p x)) rest
+    by_test false rest = rest
+
+pub find-sorted_filter : {X : Type 0} {cmp : X → X → Ordering} (o : IsTotalOrder cmp) (q p : X → Bool) (xs : List X) → find p (sorted_by cmp (filter q xs)) ≡ find (λ x. q x && p x) (sorted_by cmp xs)
+find-sorted_filter {cmp = cmp} o q p xs = find-sorted_by o p (filter q xs) ∙ best_of-filter cmp q p xs ∙ sym (find-sorted_by o (λ x. q x && p x) xs)

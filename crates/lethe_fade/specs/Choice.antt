@@ -1,6 +1,5 @@
 -- The choice of a job: the first candidate whose claim meets none of those that stand.
-use Rattle.std.specs.Prelude.{ℕ, ◌+◌, min, Bool, not, ◌==◌, if◌then◌else◌, List, [], ◌∷◌, ◌++◌, map, fold, find, Option, None, option_map}
-use Rattle.std.specs.List.{list_any}
+use Rattle.std.specs.Prelude.{◌≡◌, ℕ, min, ◌==◌, if◌then◌else◌, List, [], ◌∷◌, ◌++◌, map, fold, find, Option, IsSome, option_map}
 use Rattle.lethe_base.specs.declared.config.Fields.{Fields}
 use Rattle.lethe_base.specs.declared.config.Pick.{Pick}
 use Rattle.lethe_base.specs.declared.shape.FileFacts.{FileFacts}
@@ -8,21 +7,10 @@ use Rattle.lethe_base.specs.declared.shape.Shape.{Shape}
 use Rattle.lethe_fade.specs.declared.claim.Claim.{Claim}
 use Rattle.lethe_fade.specs.declared.plan.Plan.{Plan}
 use Rattle.lethe_fade.specs.Saturation.{is_saturated}
-use Rattle.lethe_fade.specs.Spans.{KeyRange, range_of, hull_of}
-use Rattle.lethe_fade.specs.Claims.{meets, merge_claim}
+use Rattle.lethe_fade.specs.Spans.{range_of, hull_of}
 use Rattle.lethe_fade.specs.Ranks.{file_cmp, sorted_by}
-
--- a job that may be chosen
-pub record Candidate : Type 0 where
-  pub plan : Plan
-  pub claim : Claim
-
-abbrev pub merge_plan : ℕ → Plan
-merge_plan number = record { file = number; erase = None }
-
--- the merge that a file's number names, of sources with these keys
-abbrev pub merge_named : ℕ → ℕ → KeyRange → List FileFacts → Candidate
-merge_named number level sources next = record { plan = merge_plan number; claim = merge_claim level sources next }
+use Rattle.lethe_fade.specs.Candidates.{Candidate, is_free, merge_named, merges_from}
+use Rattle.lethe_fade.specs.Expired.{due, expired}
 
 -- level 0 is merged as a whole, and the least of its numbers names the merge
 abbrev pub whole_merges : List FileFacts → List FileFacts → List Candidate
@@ -38,22 +26,13 @@ abbrev pub level_merges : Fields → ℕ → List FileFacts → List FileFacts �
 level_merges fields level files next =
     if is_saturated fields level files then (if level == 0 then whole_merges files next else file_merges fields.pick level files next) else []
 
--- the files of the first of some levels
-abbrev pub first_files : List (List FileFacts) → List FileFacts
-first_files [] = []
-first_files (files ∷ deeper) = files
-
--- the merges of the saturated ones of some levels, the first of which has that number, lowest level first
-abbrev pub candidates_from : Fields → ℕ → List (List FileFacts) → List Candidate
-candidates_from fields level [] = []
-candidates_from fields level (files ∷ deeper) = level_merges fields level files (first_files deeper) ++ candidates_from fields (level + 1) deeper
-
+-- the merges of the saturated levels
 abbrev pub candidates : Fields → Shape → List Candidate
-candidates fields shape = candidates_from fields 0 shape.levels
+candidates fields shape = merges_from (level_merges fields) 0 shape.levels
 
--- whether a candidate's claim meets none of these
-abbrev pub is_free : List Claim → Candidate → Bool
-is_free claims candidate = not (list_any (meets candidate.claim) claims)
+-- those of the expired files come first
+abbrev pub choice : Fields → Shape → ℕ → List Claim → Option Plan
+choice fields shape clock claims = option_map (λ candidate. candidate.plan) (find (is_free claims) (expired fields clock shape ++ candidates fields shape))
 
-abbrev pub choice : Fields → Shape → List Claim → Option Plan
-choice fields shape claims = option_map (λ candidate. candidate.plan) (find (is_free claims) (candidates fields shape))
+abbrev pub DueIsFirst : Type 0
+DueIsFirst = (fields : Fields) (shape : Shape) (clock : ℕ) → IsSome (due fields shape clock) → choice fields shape clock [] ≡ due fields shape clock

@@ -10,7 +10,8 @@ use Rattle.lethe_fade.specs.declared.claim.Claim.{Claim}
 use Rattle.lethe_fade.specs.declared.plan.Plan.{Plan}
 use Rattle.lethe_fade.specs.Spans.{range_of, hull_of}
 use Rattle.lethe_fade.specs.Claims.{meets, IsProper, merge_claim}
-use Rattle.lethe_fade.specs.Choice.{first_files, choice}
+use Rattle.lethe_fade.specs.Candidates.{first_files}
+use Rattle.lethe_fade.specs.Choice.{choice}
 
 -- of a file among the files of its level: a sweep claims its level and keys, a merge of level 0 takes all files there, and another merge the file
 abbrev pub job_claim : Option ℕ → ℕ → List FileFacts → List FileFacts → FileFacts → Claim
@@ -35,4 +36,4 @@ pub record IsFreePlan (shape : Shape) (claims : List Claim) (plan : Plan) : Type
   pub free : list_any (meets claim) claims ≡ false
 
 abbrev pub ChoiceIsFree : Type 0
-ChoiceIsFree = (fields : Fields) (shape : Shape) (claims : List Claim) (plan : Plan) → IsValidShape shape → choice fields shape claims ≡ Some plan → IsFreePlan shape claims plan
+ChoiceIsFree = (fields : Fields) (shape : Shape) (clock : ℕ) (claims : List Claim) (plan : Plan) → IsValidShape shape → choice fields shape clock claims ≡ Some plan → IsFreePlan shape claims plan

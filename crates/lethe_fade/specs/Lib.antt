@@ -3,5 +3,7 @@ pub mod Saturation
 pub mod Spans
 pub mod Claims
 pub mod Ranks
+pub mod Candidates
+pub mod Expired
 pub mod Choice
 pub mod Claimed

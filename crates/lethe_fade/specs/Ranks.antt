@@ -1,4 +1,4 @@
--- The order in which the files of a saturated level are candidates.
+-- The orders in which the files of a level are candidates.
 use Rattle.std.specs.Prelude.{ℕ, IsTrue, List, [], ◌∷◌, AllPairs, Option, Some, None, if◌then◌else◌}
 use Rattle.std.specs.declared.cmp.Ordering.{Ordering}
 use Rattle.std.specs.declared.cmp.Ordering.TheVariants.{Less, Equal, Greater}
@@ -7,6 +7,7 @@ use Rattle.std.specs.List.Sorted.{IsPermutation}
 use Rattle.lethe_base.specs.declared.config.Pick.{Pick}
 use Rattle.lethe_base.specs.declared.config.Pick.TheVariants.{So, Sd}
 use Rattle.lethe_base.specs.declared.shape.FileFacts.{FileFacts}
+use Rattle.lethe_fade.specs.declared.rank.Age.{Age}
 use Rattle.lethe_fade.specs.declared.rank.Rank.{Rank}
 use Rattle.lethe_fade.specs.Saturation.{entries_in}
 use Rattle.lethe_fade.specs.Spans.{range_of, overlapping}
@@ -17,6 +18,10 @@ oldest_cmp None None = Equal
 oldest_cmp None (Some time) = Greater
 oldest_cmp (Some time) None = Less
 oldest_cmp (Some time) (Some other) = nat_cmp time other
+
+-- of expired files the least time comes first, then the most tombstones
+abbrev pub age_cmp : Age → Age → Ordering
+age_cmp a b = ordering_then (oldest_cmp a.oldest b.oldest) (ordering_then (nat_cmp b.tombs a.tombs) (nat_cmp a.no b.no))
 
 -- by `so` the fewest entries below come first, by `sd` the most tombstones
 abbrev pub rank_cmp : Pick → Rank → Rank → Ordering
@@ -30,10 +35,10 @@ rank_of next file = record { below = entries_in (overlapping (range_of file) nex
 abbrev pub file_cmp : Pick → List FileFacts → FileFacts → FileFacts → Ordering
 file_cmp order next a b = rank_cmp order (rank_of next a) (rank_of next b)
 
--- the lesser of two ranks, the first where they are tied
-abbrev pub better_rank : Pick → Option Rank → Rank → Rank
-better_rank order None rank = rank
-better_rank order (Some before) rank = min_by_ordering (rank_cmp order before rank) before rank
+-- the lesser of two in an order, the first where they are tied
+abbrev pub lesser_of : {X : Type 0} → (X → X → Ordering) → Option X → X → X
+lesser_of cmp None x = x
+lesser_of cmp (Some before) x = min_by_ordering (cmp before x) before x
 
 -- a list with one more item at its place in an order, before what it is tied with
 abbrev pub with_item : {X : Type 0} → (X → X → Ordering) → X → List X → List X
@@ -46,9 +51,9 @@ sorted_by cmp [] = []
 sorted_by cmp (x ∷ xs) = with_item cmp x (sorted_by cmp xs)
 
 -- the same files, and none before a lesser one
-pub record IsInOrder (order : Pick) (next files sorted : List FileFacts) : Type 0 where
+pub record IsInOrder (cmp : FileFacts → FileFacts → Ordering) (files sorted : List FileFacts) : Type 0 where
   pub same : IsPermutation files sorted
-  pub ascending : AllPairs (λ file later. IsTrue (is_le (file_cmp order next file later))) sorted
+  pub ascending : AllPairs (λ file later. IsTrue (is_le (cmp file later))) sorted
 
 abbrev pub FilesComeInOrder : Type 0
-FilesComeInOrder = (order : Pick) (next files : List FileFacts) → IsInOrder order next files (sorted_by (file_cmp order next) files)
+FilesComeInOrder = (order : Pick) (next files : List FileFacts) → IsInOrder (file_cmp order next) files (sorted_by (file_cmp order next) files)

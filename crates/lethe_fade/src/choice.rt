@@ -1,9 +1,11 @@
 //! The choice of the next merge.
 ghost use Rattle.std.specs.Prelude.{◌≡◌, ◌+◌, ◌<◌, ◌^◌, length, find, option_map};
-ghost use Rattle.lethe_fade.specs.Ranks.{better_rank};
-ghost use Rattle.lethe_fade.specs.Choice.{whole_merges, file_merges, level_merges, is_free, choice};
+ghost use Rattle.lethe_fade.specs.Ranks.{lesser_of, rank_cmp};
+ghost use Rattle.lethe_fade.specs.Candidates.{is_free};
+ghost use Rattle.lethe_fade.specs.Choice.{whole_merges, file_merges, level_merges, candidates, choice};
 
-use crate::merge::{is_free, merge_of};
+use crate::expired::first_expired;
+use crate::merge::{is_free, is_merge_free, merge_of};
 use crate::rank::{Rank, compare_ranks};
 use crate::saturation::is_saturated;
 use crate::span::Span;
@@ -11,12 +13,23 @@ use crate::{Claim, Plan};
 use lethe_base::{Config, FileFacts, Pick, Shape};
 use std::cmp::Ordering;
 
-/// The first merge of a saturated level, lowest level first, whose claim meets none of those given. None where there is no such merge.
-///
-/// Only merges of saturated levels are looked at today, so that the clock isn't used yet.
-pub fn pick(shape: &Shape, config: &Config, _clock: u64, claims: &[Claim]) -> Option<Plan>
+/// The first merge whose claim meets none of those given: of a file that is expired at the clock, where there is one, and else of a saturated level. None where there is no
+/// such merge.
+pub fn pick(shape: &Shape, config: &Config, clock: u64, claims: &[Claim]) -> Option<Plan>
     requires { length shape.now.levels ≡ config.now.levels + 1 }
-    ensures { result ≡ choice config.now shape.now claims.now }
+    ensures { result ≡ choice config.now shape.now clock claims.now }
+{
+    let expired = first_expired(shape, config, clock, claims);
+    if expired.is_some() {
+        return expired;
+    }
+    first_saturated(shape, config, claims)
+}
+
+/// The first merge of a saturated level that is free, lowest level first.
+fn first_saturated(shape: &Shape, config: &Config, claims: &[Claim]) -> Option<Plan>
+    requires { length shape.now.levels ≡ config.now.levels + 1 }
+    ensures { result ≡ option_map (λ c. c.plan) (find (is_free claims.now) (candidates config.now shape.now)) }
 {
     let levels = shape.levels.items();
     for level in 0..config.fields().levels {
@@ -60,14 +73,11 @@ fn whole_level(files: &[FileFacts], next: &[FileFacts], claims: &[Claim]) -> Opt
     ensures { result ≡ option_map (λ c. c.plan) (find (is_free claims.now) (whole_merges files.now next.now)) }
 {
     let (first, others) = files.split_first()?;
-    let mut keys = Span::of(first);
     let mut least = first.no;
     for file in others {
-        keys = keys.join(&Span::of(file));
         least = least.min(file.no);
     }
-    let merge = merge_of(&keys, next);
-    is_free(0, &merge.keys, claims).then_some(Plan {
+    is_merge_free(0, &Span::of_all(first, others), next, claims).then_some(Plan {
         file: least,
         erase: None,
     })
@@ -106,7 +116,7 @@ fn best_file(
 
 /// The lesser of two ranks, the one before where they are tied.
 fn better(order: Pick, best: Option<Rank>, rank: Rank) -> Rank
-    ensures { result ≡ better_rank order best rank }
+    ensures { result ≡ lesser_of (rank_cmp order) best rank }
 {
     match best {
         Some(before) if compare_ranks(order, &before, &rank) != Ordering::Greater => before,

@@ -3,6 +3,7 @@
 
 mod choice;
 mod claim;
+mod expired;
 mod laws;
 mod level_times;
 mod merge;
@@ -13,6 +14,10 @@ mod span;
 
 pub use choice::pick;
 pub use claim::Claim;
-pub use laws::{choice_is_free, deadlines_rise, files_come_in_order, meeting_is_sharing};
+pub use expired::pick_due;
+pub use laws::{
+    choice_is_free, deadlines_rise, due_is_first, expired_come_in_order, files_come_in_order,
+    meeting_is_sharing,
+};
 pub use level_times::cum;
 pub use plan::Plan;

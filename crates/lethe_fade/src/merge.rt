@@ -3,7 +3,7 @@ ghost use Rattle.std.specs.Prelude.{◌≡◌, ◌<◌, ◌^◌, not};
 ghost use Rattle.std.specs.List.{list_any};
 ghost use Rattle.lethe_fade.specs.Saturation.{entries_in};
 ghost use Rattle.lethe_fade.specs.Spans.{overlapping, hull};
-ghost use Rattle.lethe_fade.specs.Claims.{claim_at, meets};
+ghost use Rattle.lethe_fade.specs.Claims.{claim_at, meets, merge_claim};
 
 use crate::Claim;
 use crate::span::Span;
@@ -33,6 +33,19 @@ pub fn merge_of<'a>(sources: &Span<'a>, next: &'a [FileFacts]) -> Merge<'a>
         }
     }
     Merge { keys, below }
+}
+
+/// Whether the merge of files that have these keys meets none of the claims. Where there are none it looks at no file.
+pub fn is_merge_free<'a>(
+    level: u64,
+    sources: &Span<'a>,
+    next: &'a [FileFacts],
+    claims: &[Claim],
+) -> bool
+    requires { level < 2 ^ 63 }
+    ensures { result ≡ not (list_any (meets (merge_claim level sources.now next.now)) claims.now) }
+{
+    claims.is_empty() || is_free(level, &merge_of(sources, next).keys, claims)
 }
 
 /// Whether a merge of a level with the next one meets none of the claims.

@@ -1,11 +1,11 @@
-//! The order in which the files of a saturated level are looked at.
+//! The orders in which the files of a level are looked at.
 ghost use Rattle.std.specs.Prelude.{◌≡◌};
-ghost use Rattle.lethe_fade.specs.Ranks.{oldest_cmp, rank_cmp};
+ghost use Rattle.lethe_fade.specs.Ranks.{age_cmp, oldest_cmp, rank_cmp};
 
 use lethe_base::Pick;
 use std::cmp::Ordering;
 
-/// What a file is ranked by.
+/// What a file of a saturated level is ranked by.
 #[derive(Clone, Copy)]
 pub struct Rank {
     /// How many entries the files of the next level have that it overlaps.
@@ -28,6 +28,26 @@ pub fn compare_ranks(order: Pick, a: &Rank, b: &Rank) -> Ordering
         Pick::So => a.below.cmp(&b.below).then(tombs).then(number),
         Pick::Sd => tombs.then(compare_oldest(a.oldest, b.oldest)).then(number),
     }
+}
+
+/// What an expired file is ranked by.
+#[derive(Clone, Copy)]
+pub struct Age {
+    /// The least `since` of its entries.
+    pub oldest: Option<u64>,
+    /// How many of its entries are tombstones.
+    pub tombs: u64,
+    /// Its number.
+    pub no: u64,
+}
+
+/// How two expired files stand in their order. The lesser is taken first.
+pub fn compare_ages(a: &Age, b: &Age) -> Ordering
+    ensures { result ≡ age_cmp a.now b.now }
+{
+    let tombs = b.tombs.cmp(&a.tombs);
+    let number = a.no.cmp(&b.no);
+    compare_oldest(a.oldest, b.oldest).then(tombs).then(number)
 }
 
 fn compare_oldest(a: Option<u64>, b: Option<u64>) -> Ordering

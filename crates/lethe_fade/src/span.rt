@@ -1,6 +1,6 @@
 //! Ranges of keys that both ends belong to.
 ghost use Rattle.std.specs.Prelude.{◌≡◌};
-ghost use Rattle.lethe_fade.specs.Spans.{range_of, joined, overlaps};
+ghost use Rattle.lethe_fade.specs.Spans.{range_of, hull, joined, overlaps};
 
 use lethe_base::{FileFacts, Key};
 use std::marker::Model;
@@ -33,6 +33,17 @@ impl<'a> Span<'a> {
         ensures { result ≡ range_of file.now }
     {
         Span::new(&file.lo, &file.hi)
+    }
+
+    /// The least range that has all keys of some files.
+    pub fn of_all(first: &'a FileFacts, others: &'a [FileFacts]) -> Span<'a>
+        ensures { result ≡ hull (range_of first.now) others.now }
+    {
+        let mut keys = Span::of(first);
+        for file in others {
+            keys = keys.join(&Span::of(file));
+        }
+        keys
     }
 
     /// The same keys.

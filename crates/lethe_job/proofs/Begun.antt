@@ -1,4 +1,4 @@
--- The task of a plan that is chosen merges files that are stored.
+-- The task of a plan that names a file merges files that are stored.
 use Rattle.std.proofs.Common.{◌≡◌, ◌≢◌, ◌⊎◌, inl, inr, ℕ, ◌+◌, ◌<◌, Bool, true, false, not, eqb, ltb, IsTrue, List, [], ◌∷◌, ◌++◌, length, map, Some, None, refl, sym, ap, ◌∙◌, subst, arith, append-nil}
 use Rattle.std.specs.Prelude.{◌&&◌, ◌||◌, All, Contains, Option, filter, find, option_map}
 use Rattle.std.specs.List.{list_any}
@@ -14,7 +14,6 @@ use Rattle.lethe_base.specs.declared.config.Fields.{Fields}
 use Rattle.lethe_base.specs.declared.pending.Pending.{Pending}
 use Rattle.lethe_cover.proofs.Common.{none_in}
 use Rattle.lethe_cover.proofs.Lists.{all_from, pairs_from}
-use Rattle.lethe_fade.specs.Choice.{choice}
 use Rattle.lethe_fade.specs.Spans.{KeyRange, hull, joined, overlaps}
 use Rattle.lethe_fade.specs.declared.plan.Plan.{Plan}
 use Rattle.lethe_follows.specs.Merged.{StoredMerge, IsAlone, IsMergeIn, at, hull_of, range_of}
@@ -24,12 +23,12 @@ use Rattle.lethe_moves.specs.Files.{IsClearOf}
 use Rattle.lethe_moves.proofs.Tiled.{keys_ordered}
 use Rattle.lethe_stored.specs.Files.{StoredFile, IsFile, file_of}
 use Rattle.lethe_stored.specs.Levels.{AreRising}
-use Rattle.lethe_stored.specs.Stored.{Stored, IsCoherent, count_of, layout_of, pending_of}
+use Rattle.lethe_stored.specs.Stored.{Stored, IsCoherent, count_of, pending_of}
 use Rattle.lethe_stored.proofs.FileFacts.{lower_is, upper_is}
 use Rattle.lethe_stored.proofs.Leveled.{from_level, in_filter, in_level, low_level}
 use Rattle.lethe_job.specs.Chosen.{hull_in, hull_with, is_below, is_named, is_source, level_named, met_in, range_in, sources_in, task_in}
-use Rattle.lethe_job.specs.Tasks.{IsBegunIn, IsTaskIn}
-use Rattle.lethe_job.proofs.Listed.{among, find_some, find_there, filter_twice, pairs_weaker}
+use Rattle.lethe_job.specs.Tasks.{IsPlanned, IsTaskIn}
+use Rattle.lethe_job.proofs.Listed.{among, find_some, filter_twice, pairs_weaker}
 use Rattle.lethe_job.proofs.Split.{IsParted, and_false, parted}
 
 -- The file that is named
@@ -48,13 +47,6 @@ level_from levels number files level is = by (find (is_named levels number) file
         let less = parts.0 in
         let low : file.level < levels = grind (arith, nat_tests) in
         (file, there.0, same, omega (arith, low, same), eqb-true file.header.no number parts.1)
-
-pub level_there : (levels number : ℕ) (files : List StoredFile) (file : StoredFile) → Contains files file → file.level < levels → file.header.no ≡ number → level_named levels number files ≡ None → ⊥
-level_there levels number files file there low named none =
-    let less : ltb file.level levels ≡ true = grind (arith, nat_tests) in
-    let found = find_there (is_named levels number) files file there (and_from (ltb file.level levels) (eqb file.header.no number) less (eq-eqb file.header.no number named)) in
-    let clash : Some found.0.level ≡ None = sym (ap (option_map (λ (file : StoredFile). file.level)) found.1) ∙ none in
-    cc
 
 pub source_there : (level number : ℕ) (files : List StoredFile) (file : StoredFile) → Contains files file → file.level ≡ level → file.header.no ≡ number → Contains (sources_in level number files) file
 source_there level number files file there same named = in_filter (is_source level number) files file there
@@ -216,9 +208,8 @@ module _ (s : Stored) (coherent : IsCoherent s) (rising : AreRising s.files) (le
       config = sym configured;
     }
 
-    pub is_begun : choice s.manifest.config (shapes.shape_of (layout_of s)) [] ≡ Some plan → IsBegunIn s (task_in level plan s.files config erases upto)
-    is_begun chosen = record {
-      chosen = chosen;
+    pub is_planned : IsPlanned s (task_in level plan s.files config erases upto)
+    is_planned = record {
       m = m;
       is = is_task;
       named = (has_source.0, file, has_source.1, has_source.2, named);

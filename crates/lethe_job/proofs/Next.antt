@@ -1,6 +1,6 @@
--- The first task of a store, as its files are told.
+-- The task of a plan in a store, as its files are told, and which plan is the choice.
 use Rattle.std.proofs.Common.{◌≡◌, ℕ, ◌+◌, ◌<◌, ◌≤◌, ◌^◌, true, false, eqb, List, [], ◌++◌, length, map, Some, None, sym, ap, ◌∙◌, subst, arith}
-use Rattle.std.specs.Prelude.{◌&&◌, ◌||◌, Contains}
+use Rattle.std.specs.Prelude.{◌&&◌, ◌||◌, Contains, IsSome}
 use Rattle.std.proofs.lemmas.Bool.{and_left, and_parts, eqb-true, ne_eqb}
 use Rattle.std.proofs.lemmas.List.Sums.{sum_by-append}
 use Rattle.lethe_base.specs.Configuration.{IsConfig}
@@ -17,11 +17,11 @@ use Rattle.lethe_stored.specs.Files.{StoredFile, lines_in}
 use Rattle.lethe_stored.specs.Stored.{Stored, layout_of}
 use Rattle.lethe_job.specs.Chosen.{hull_in, is_source, level_named, met_in, range_in, sources_in, task_in}
 use Rattle.lethe_job.specs.Shapes.{shape_of}
-use Rattle.lethe_job.specs.Tasks.{IsBegunIn, IsStore, PlainTask, counted_in, inputs_in, plain_file}
+use Rattle.lethe_job.specs.Tasks.{IsBegunIn, IsPlanned, IsStore, PlainTask, counted_in, inputs_in, plain_file}
 use Rattle.lethe_job.specs.declared.filed.Filed.{Filed}
-use Rattle.lethe_job.proofs.Begun.{is_begun, level_from, level_there, source_there}
+use Rattle.lethe_job.proofs.Begun.{is_planned, level_from, source_there}
 use Rattle.lethe_job.proofs.Listed.{apart_sums}
-use Rattle.lethe_job.proofs.Named.{chosen_file}
+use Rattle.lethe_job.proofs.Named.{chosen_file, has_level}
 use Rattle.lethe_job.proofs.Shaped.{shape_same}
 
 -- the inputs are some of the files: none is a source and met by the sources
@@ -34,11 +34,9 @@ some_inputs level number keys files =
     and_left (eqb file.level (level + 1)) (overlaps keys (range_in file)) (ne_eqb file.level (level + 1) (λ next. omega (arith, same, next))) in
     omega (arith, sum_by-append counted (sources_in level number files) (met_in (level + 1) keys files), apart_sums counted (is_source level number) (λ file. eqb file.level (level + 1) && overlaps keys (range_in file)) apart files)
 
-pub task_some : (level : ℕ) (plan : Plan) (files seen : List StoredFile) (config : Fields) (erases : List Pending) (count : ℕ) (task : PlainTask) → seen ≡ files → task ≡ task_in level plan seen config erases count
+pub task_some : (level : ℕ) (plan : Plan) (files : List StoredFile) (config : Fields) (erases : List Pending) (count : ℕ) (task : PlainTask) → task ≡ task_in level plan files config erases count
     → counted_in (inputs_in task) ≤ counted_in files
-task_some level plan files seen config erases count task same is =
-    subst (λ (files : List StoredFile). counted_in (inputs_in task) ≤ counted_in files) same
-    (subst (λ (task : PlainTask). counted_in (inputs_in task) ≤ counted_in seen) (sym is) (some_inputs level plan.file (hull_in (sources_in level plan.file seen)) seen))
+task_some level plan files config erases count task is = subst (λ (task : PlainTask). counted_in (inputs_in task) ≤ counted_in files) (sym is) (some_inputs level plan.file (hull_in (sources_in level plan.file files)) files)
 
 module _ {D Page Port : Type 0} {disk : Ghosts D Page Port} (files : List (Filed D Page Port disk)) (config : Fields) (erases : List Pending) (count : ℕ) where
   abbrev all : List StoredFile
@@ -47,43 +45,50 @@ module _ {D Page Port : Type 0} {disk : Ghosts D Page Port} (files : List (Filed
   stored_shape : (s : Stored) → IsStore s files config erases count → shape_of config.levels all erases ≡ shapes.shape_of (layout_of s)
   stored_shape s store = (λ i. shape_of (sym store.config_is i).levels (store.files_are i) (store.erases_are i)) ∙ shape_same s store.coherent
 
-  module _ (fields : Fields) (same_fields : fields ≡ config) (limits : IsConfig config) (seen : List (Filed D Page Port disk)) (seen_is : seen ≡ files) (shape : Shape) (shaped : shape ≡ shape_of fields.levels (map plain_file seen) erases) where
+  -- what a plan that is picked is
+  module _ (fields : Fields) (same_fields : fields ≡ config) (limits : IsConfig config) (seen : List (Filed D Page Port disk)) (seen_is : seen ≡ files)
+      (shape : Shape) (shaped : shape ≡ shape_of fields.levels (map plain_file seen) erases) (clock : ℕ) where
     shape_is : shape ≡ shape_of config.levels all erases
     shape_is = shaped ∙ (λ i. shape_of (same_fields i).levels (map plain_file (seen_is i)) erases)
 
-    pub none_chosen : None ≡ choice config shape [] → (s : Stored) → IsStore s files config erases count → choice config (shapes.shape_of (layout_of s)) [] ≡ None
-    none_chosen chosen s store = sym (chosen ∙ ap (λ shape. choice config shape []) (shape_is ∙ stored_shape s store))
+    pub none_chosen : None ≡ choice config shape clock [] → (s : Stored) → IsStore s files config erases count → choice config (shapes.shape_of (layout_of s)) clock [] ≡ None
+    none_chosen chosen s store = sym (chosen ∙ ap (λ shape. choice config shape clock []) (shape_is ∙ stored_shape s store))
 
-    module _ (plan : Plan) (chosen : Some plan ≡ choice config shape []) (again : List (Filed D Page Port disk)) (again_is : again ≡ files) where
-      chosen_there : (file : StoredFile) × Contains all file × (file.level < config.levels) × (file.header.no ≡ plan.file)
-      chosen_there = let some = limits.levels in chosen_file config (omega (arith, some)) all erases plan (sym (chosen ∙ ap (λ shape. choice config shape []) shape_is))
+    module _ (plan : Plan) (chosen : Some plan ≡ choice config shape clock []) where
+      pub chosen_named : (again : List (Filed D Page Port disk)) → again ≡ files → IsSome (level_named config.levels plan.file (map plain_file again))
+      chosen_named again same =
+          let some = limits.levels in
+          let file = chosen_file config (omega (arith, some)) all erases clock plan (sym (chosen ∙ ap (λ shape. choice config shape clock []) shape_is)) in
+          subst (λ l. IsSome (level_named config.levels plan.file (map plain_file l))) (sym same) (has_level config.levels plan.file all file.0 file.1 file.2 file.3)
 
-      pub level_found : None ≡ level_named fields.levels plan.file (map plain_file again) → ⊥
-      level_found none = level_there config.levels plan.file all chosen_there.0 chosen_there.1 chosen_there.2 chosen_there.3
-          (sym (none ∙ (λ i. level_named (same_fields i).levels plan.file (map plain_file (again_is i)))))
+      pub begun : (task : PlainTask) → task.plan ≡ plan → (s : Stored) → IsStore s files config erases count → s.manifest.clock ≡ clock → IsPlanned s task → IsBegunIn s task
+      begun task is s store now planned = record {
+        chosen =
+            (λ i. choice (store.config_is i) (shapes.shape_of (layout_of s)) (now i) []) ∙ sym (chosen ∙ ap (λ shape. choice config shape clock []) (shape_is ∙ stored_shape s store))
+            ∙ ap Some (sym is);
+        planned = planned;
+      }
 
-      module _ (level : ℕ) (found : Some level ≡ level_named fields.levels plan.file (map plain_file again)) where
-        named : (file : StoredFile) × Contains all file × (file.level ≡ level) × (level < config.levels) × (file.header.no ≡ plan.file)
-        named = level_from config.levels plan.file all level (sym (found ∙ (λ i. level_named (same_fields i).levels plan.file (map plain_file (again_is i)))))
+  -- what the task of a plan is
+  module _ (limits : IsConfig config) (plan : Plan) (fields : Fields) (same_fields : fields ≡ config) (level : ℕ) (found : Some level ≡ level_named fields.levels plan.file all) where
+    named : (file : StoredFile) × Contains all file × (file.level ≡ level) × (level < config.levels) × (file.header.no ≡ plan.file)
+    named = level_from config.levels plan.file all level (sym (found ∙ ap (λ (f : Fields). level_named f.levels plan.file all) same_fields))
 
-        level_low : level < config.levels
-        level_low = named.3
+    level_low : level < config.levels
+    level_low = named.3
 
-        pub task_low : (third : List (Filed D Page Port disk)) (task : PlainTask) → task ≡ task_in level plan (map plain_file third) config erases count → task.level < config.levels
-        task_low third task is = subst (λ n. n < config.levels) (sym (ap (λ (t : PlainTask). t.level) is)) level_low
+    pub task_low : (task : PlainTask) → task ≡ task_in level plan all config erases count → task.level < config.levels
+    task_low task is = subst (λ n. n < config.levels) (sym (ap (λ (t : PlainTask). t.level) is)) level_low
 
-        pub level_small : level < 2 ^ 32
-        level_small = let low = level_low in let few = limits.levels in omega (arith, low, few)
+    pub level_small : level < 2 ^ 32
+    level_small = let low = level_low in let few = limits.levels in omega (arith, low, few)
 
-        pub some_source : (third : List (Filed D Page Port disk)) → third ≡ files → 0 < length (sources_in level plan.file (map plain_file third))
-        some_source third same = subst (λ l. 0 < length (sources_in level plan.file (map plain_file l))) (sym same)
-            (let there = source_there level plan.file all named.0 named.1 named.2 named.4 in let within = there.1 in omega (arith, within))
+    pub some_source : 0 < length (sources_in level plan.file all)
+    some_source = let there = source_there level plan.file all named.0 named.1 named.2 named.4 in let within = there.1 in omega (arith, within)
 
-        pub begun : (third : List (Filed D Page Port disk)) → third ≡ files → (task : PlainTask) → task ≡ task_in level plan (map plain_file third) config erases count → (s : Stored) → IsStore s files config erases count → IsBegunIn s task
-        begun third same task is s store =
-            let file = named.0 in
-            let there : Contains s.files file = subst (λ l. Contains l file) store.files_are named.1 in
-            let task_is : task ≡ task_in level plan s.files config erases count = is ∙ (λ i. task_in level plan (map plain_file (same i)) config erases count) ∙ ap (λ l. task_in level plan l config erases count) store.files_are in
-            let picked : choice s.manifest.config (shapes.shape_of (layout_of s)) [] ≡ Some plan =
-            ap (λ fields. choice fields (shapes.shape_of (layout_of s)) []) store.config_is ∙ sym (chosen ∙ ap (λ shape. choice config shape []) (shape_is ∙ stored_shape s store)) in
-            subst (IsBegunIn s) (sym task_is) (is_begun s store.coherent store.rising level plan file there named.2 named.4 config store.config_is erases store.erases_are count store.count_is level_low picked)
+    pub planned : (task : PlainTask) → task ≡ task_in level plan all config erases count → (s : Stored) → IsStore s files config erases count → IsPlanned s task
+    planned task is s store =
+        let file = named.0 in
+        let there : Contains s.files file = subst (λ l. Contains l file) store.files_are named.1 in
+        let task_is : task ≡ task_in level plan s.files config erases count = is ∙ ap (λ l. task_in level plan l config erases count) store.files_are in
+        subst (IsPlanned s) (sym task_is) (is_planned s store.coherent store.rising level plan file there named.2 named.4 config store.config_is erases store.erases_are count store.count_is level_low)

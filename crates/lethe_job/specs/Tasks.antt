@@ -85,15 +85,20 @@ pub record IsTaskIn (s : Stored) (m : StoredMerge) (task : PlainTask) : Type 0 w
   pub upto : task.upto ≤ count_of s
   pub config : task.config ≡ s.manifest.config
 
--- The task of the choice, where no other claim stands. Its plan names one of the sources, and of level 0 it merges all files.
-pub record IsBegunIn (s : Stored) (task : PlainTask) : Type 0 where
-  pub chosen : choice s.manifest.config (shape_of (layout_of s)) [] ≡ Some task.plan
+-- The task of a plan that names a file above the last level. The plan names one of the sources, and of level 0 it merges all files.
+pub record IsPlanned (s : Stored) (task : PlainTask) : Type 0 where
   pub m : StoredMerge
   pub is : IsTaskIn s m task
   pub named : Any (λ file. file.header.no ≡ task.plan.file) m.sources
   pub all : m.level ≡ 0 → m.newer ≡ []
   pub alone : IsAlone s m.level (hull_of (inputs_of m)) → IsTrue task.alone
   pub counted : task.upto ≡ count_of s
+
+-- the task of the choice at the clock, where no other claim stands
+pub record IsBegunIn (s : Stored) (task : PlainTask) : Type 0 where
+  pub chosen : choice s.manifest.config (shape_of (layout_of s)) s.manifest.clock [] ≡ Some task.plan
+  pub planned : IsPlanned s task
+  pub open planned use *
 
 -- what is told of a store is what is stored
 pub record IsStore {D Page Port : Type 0} {disk : Ghosts D Page Port} (s : Stored) (files : List (Filed D Page Port disk)) (config : Fields) (erases : List Pending) (count : ℕ) : Type 0 where

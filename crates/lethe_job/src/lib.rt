@@ -14,6 +14,6 @@ mod task;
 
 pub use filed::{Filed, cited_files};
 pub use job::{Job, Piece};
-pub use laws::{shape_is_of_the_layout, task_stays};
+pub use laws::{due_is_named, shape_is_of_the_layout, task_stays};
 pub use number::BegunJobs;
-pub use task::{Task, next_task};
+pub use task::{Task, next_task, task_of};

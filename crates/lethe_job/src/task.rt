@@ -1,10 +1,10 @@
 //! What a job is to do.
-ghost use Rattle.std.specs.Prelude.{◌≡◌, ◌<◌, ◌≤◌, ◌^◌, [], Ok, None, length, map, IfOk, IfSome};
+ghost use Rattle.std.specs.Prelude.{◌≡◌, ◌<◌, ◌≤◌, ◌^◌, [], Ok, None, length, map, IfOk, IfSome, IsSome};
 ghost use Rattle.lethe_base.specs.Shapes.{shape_of};
 ghost use Rattle.lethe_fade.specs.Choice.{choice};
 ghost use Rattle.lethe_stored.specs.Stored.{Stored, layout_of};
-ghost use Rattle.lethe_job.specs.Chosen.{sources_in, task_in};
-ghost use Rattle.lethe_job.specs.Tasks.{IsBegunIn, IsStore, counted_in, inputs_in, plain_file, plain_task};
+ghost use Rattle.lethe_job.specs.Chosen.{level_named, sources_in, task_in};
+ghost use Rattle.lethe_job.specs.Tasks.{IsBegunIn, IsPlanned, IsStore, counted_in, inputs_in, plain_file, plain_task};
 
 use crate::filed::Filed;
 use crate::inputs::{level_named, lies_below, met_in, sources_in};
@@ -35,7 +35,7 @@ pub struct Task<D: Disk> {
     pub config: Config,
 }
 
-/// The first merge that is due in a store of these files, pending erases and so many changes, where no other runs. None where nothing is due.
+/// The first merge that is due in a store of these files, pending erases and so many changes at a clock, where no other runs. None where nothing is due.
 pub fn next_task<D: Disk>(
     alloc: Global,
     files: Vec<Filed<D>>,
@@ -44,8 +44,8 @@ pub fn next_task<D: Disk>(
     erases: &[Pending],
     count: u64,
 ) -> Result<Option<Task<D>>, NoMemory>
-    ensures none { (s : Stored) → IsStore s files.items config.now erases.now count → result ≡ Ok None → choice config.now (shape_of (layout_of s)) [] ≡ None }
-    ensures some { (s : Stored) → IsStore s files.items config.now erases.now count → IfOk result (λ found. IfSome found (λ task. IsBegunIn s (plain_task task))) }
+    ensures none { (s : Stored) → IsStore s files.items config.now erases.now count → result ≡ Ok None → choice config.now (shape_of (layout_of s)) clock [] ≡ None }
+    ensures some { (s : Stored) → IsStore s files.items config.now erases.now count → s.manifest.clock ≡ clock → IfOk result (λ found. IfSome found (λ task. IsBegunIn s (plain_task task))) }
 
     // On any disk:
     ensures level { IfOk result (λ found. IfSome found (λ task. task.level < config.now.levels)) }
@@ -55,16 +55,39 @@ pub fn next_task<D: Disk>(
     // Its inputs' headers count no more entries than those of all the files.
     ensures some_of { IfOk result (λ found. IfSome found (λ task. counted_in (inputs_in (plain_task task)) ≤ counted_in (map plain_file files.items))) }
 {
-    let levels = config.fields().levels;
-    let shape = shape_of(alloc, &files, levels, erases)?;
+    let shape = shape_of(alloc, &files, config.fields().levels, erases)?;
     let Some(plan) = pick(&shape, config, clock, &[]) else {
         return Ok(None);
     };
-    let Some(level) = level_named(&files, levels, plan.file) else {
+    let task = task_of(alloc, &files, plan, config, erases, count)?;
+    Ok(Some(task))
+}
+
+/// The task of a plan in a store of these files, pending erases and so many changes. The plan has to name one of the files above the last level.
+pub fn task_of<D: Disk>(
+    alloc: Global,
+    files: &[Filed<D>],
+    plan: Plan,
+    config: &Config,
+    erases: &[Pending],
+    count: u64,
+) -> Result<Task<D>, NoMemory>
+    requires named { IsSome (level_named config.now.levels plan.file (map plain_file files.now)) }
+    ensures plan { IfOk result (λ task. task.plan ≡ plan) }
+    ensures planned { (s : Stored) → IsStore s files.now config.now erases.now count → IfOk result (λ task. IsPlanned s (plain_task task)) }
+
+    // On any disk:
+    ensures level { IfOk result (λ task. task.level < config.now.levels) }
+    ensures upto { IfOk result (λ task. task.upto ≡ count) }
+    ensures erases { IfOk result (λ task. task.erases ≡ erases.now) }
+    ensures config { IfOk result (λ task. task.config ≡ config.now) }
+    // Its inputs' headers count no more entries than those of all the files.
+    ensures some_of { IfOk result (λ task. counted_in (inputs_in (plain_task task)) ≤ counted_in (map plain_file files.now)) }
+{
+    let Some(level) = level_named(files, config.fields().levels, plan.file) else {
         unreachable!()
     };
-    let task = task_in(alloc, &files, plan, level, config, erases, count)?;
-    Ok(Some(task))
+    task_in(alloc, files, plan, level, config, erases, count)
 }
 
 /// The task of a plan, whose file stands in that level.

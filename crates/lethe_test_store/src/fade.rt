@@ -2,7 +2,7 @@
 
 use crate::common::{SMALL, config_of, key_of};
 use lethe_base::{Fields, FileFacts, List, Pick, Shape};
-use lethe_fade::{Claim, Plan, cum, pick};
+use lethe_fade::{Claim, Plan, cum, pick, pick_due};
 use std::alloc::Global;
 use std::test::Fail;
 
@@ -217,6 +217,140 @@ fn a_claim_in_the_way_leaves_the_next_candidate(rt: HostRuntime) -> Result<(), F
     for (claims, file) in CLAIMED {
         let got = picked(rt.alloc(), Pick::So, &CANDIDATES, claims)?;
         assert_eq!(rt; got, file, "{claims:?}");
+    }
+    Ok(())
+}
+
+/// A file of each level whose time is 10, and one of level 0 that has none.
+const NEWEST: [Row; 1] = [(0, 7, "a", "c", Some(10), 1, 4)];
+
+const MIDDLE: [Row; 1] = [(1, 7, "a", "c", Some(10), 1, 9)];
+
+const LAST: [Row; 1] = [(2, 7, "a", "c", Some(10), 1, 9)];
+
+const TIMELESS: [Row; 1] = [(0, 7, "a", "c", None, 1, 4)];
+
+/// Its time is the greatest number.
+const LATEST: [Row; 1] = [(0, 7, "a", "c", Some(u64::MAX), 1, 4)];
+
+/// Level 0 has the younger file.
+const TWO_LEVELS: [Row; 2] = [
+    (0, 7, "a", "c", Some(60), 0, 4),
+    (1, 3, "a", "c", Some(0), 5, 9),
+];
+
+/// Level 0 is saturated, and none of its files has a time.
+const CROWDED: [Row; 3] = [
+    (0, 8, "a", "c", None, 9, 4),
+    (0, 6, "d", "f", None, 9, 4),
+    (1, 9, "a", "c", Some(10), 0, 9),
+];
+
+/// Of the files of level 0 one has a time. The merge takes both, and is named by the least number until that one is expired.
+const WHOLE: [Row; 2] = [
+    (0, 3, "a", "c", None, 9, 4),
+    (0, 8, "d", "f", Some(10), 0, 4),
+];
+
+/// A threshold, files and a clock, and the files that `pick` and `pick_due` name then. The times of levels 0 and 1 are 33 and 100 for threshold 100, and 0 and 1 for threshold 1.
+const AGES: [(u64, &[Row], u64, Option<u64>, Option<u64>); 20] = [
+    (100, &NEWEST, 42, None, None),
+    (100, &NEWEST, 43, Some(7), Some(7)),
+    (100, &NEWEST, 44, Some(7), Some(7)),
+    (100, &MIDDLE, 109, None, None),
+    (100, &MIDDLE, 110, Some(7), Some(7)),
+    (100, &MIDDLE, 111, Some(7), Some(7)),
+    (100, &LAST, u64::MAX, None, None),
+    (100, &TIMELESS, u64::MAX, None, None),
+    (100, &LATEST, u64::MAX, None, None),
+    (1, &NEWEST, 9, None, None),
+    (1, &NEWEST, 10, Some(7), Some(7)),
+    (1, &LATEST, u64::MAX, Some(7), Some(7)),
+    (1, &MIDDLE, 10, None, None),
+    (1, &MIDDLE, 11, Some(7), Some(7)),
+    (100, &TWO_LEVELS, 92, None, None),
+    (100, &TWO_LEVELS, 100, Some(7), Some(7)),
+    (100, &CROWDED, 109, Some(6), None),
+    (100, &CROWDED, 110, Some(9), Some(9)),
+    (100, &WHOLE, 42, Some(3), None),
+    (100, &WHOLE, 43, Some(8), Some(8)),
+];
+
+/// The files that `pick` and `pick_due` name at a clock.
+fn named(
+    alloc: Global,
+    threshold: u64,
+    rows: &[Row],
+    claimed: &[ClaimRow],
+    clock: u64,
+) -> Result<(Option<u64>, Option<u64>), Fail> {
+    let config = config_of(Fields { threshold, ..SMALL })?;
+    let shape = shape_of(alloc, rows)?;
+    if shape.levels.items().len() as u64 != config.fields().levels + 1 {
+        return Err(Fail::from("a list for each level"));
+    }
+    let claims = claims_of(alloc, claimed)?;
+    let picked = pick(&shape, &config, clock, &claims).map(|plan| plan.file);
+    let due = pick_due(&shape, &config, clock).map(|plan| plan.file);
+    Ok((picked, due))
+}
+
+#[test]
+fn a_file_is_due_when_the_time_of_its_level_is_over(rt: HostRuntime) -> Result<(), Fail> {
+    for (threshold, files, clock, picked, due) in AGES {
+        let got = named(rt.alloc(), threshold, files, &[], clock)?;
+        assert_eq!(rt; got, (picked, due), "{threshold} {files:?} {clock}");
+    }
+    Ok(())
+}
+
+/// Two expired files of a level, with a number, a time and tombstones, and the one that comes first.
+const TIES: [((u64, u64, u64), (u64, u64, u64), u64); 3] = [
+    ((3, 7, 5), (4, 6, 1), 4),
+    ((3, 6, 1), (4, 6, 2), 4),
+    ((4, 6, 2), (3, 6, 2), 3),
+];
+
+#[test]
+fn expired_files_come_by_time_then_tombstones_then_number(rt: HostRuntime) -> Result<(), Fail> {
+    for (first, second, file) in TIES {
+        for level in 0..2 {
+            let files: [Row; 2] = [
+                (level, first.0, "a", "c", Some(first.1), first.2, 8),
+                (level, second.0, "d", "f", Some(second.1), second.2, 4),
+            ];
+            let got = named(rt.alloc(), 100, &files, &[], 1000)?;
+            assert_eq!(rt;
+                got,
+                (Some(file), Some(file)),
+                "{level} {first:?} {second:?}"
+            );
+        }
+    }
+    Ok(())
+}
+
+/// All of these files are expired. The merge of level 0 has the keys from `a` to `p`, whichever file it is for.
+const EXPIRED: [Row; 4] = [
+    (0, 8, "a", "b", Some(2), 0, 4),
+    (0, 6, "m", "p", Some(1), 0, 4),
+    (1, 4, "f", "g", Some(1), 0, 4),
+    (1, 5, "q", "z", Some(2), 0, 4),
+];
+
+/// The claims that stand, and what is picked then.
+const STANDING: [(&[ClaimRow], Option<u64>); 4] = [
+    (&[(2, 3, "a", "z")], Some(6)),
+    (&[(0, 0, "a", "a")], Some(4)),
+    (&[(0, 1, "c", "n")], Some(5)),
+    (&[(1, 1, "a", "z")], None),
+];
+
+#[test]
+fn claims_hold_back_what_is_picked_but_not_what_is_due(rt: HostRuntime) -> Result<(), Fail> {
+    for (claims, picked) in STANDING {
+        let got = named(rt.alloc(), 100, &EXPIRED, claims, 1000)?;
+        assert_eq!(rt; got, (picked, Some(6)), "{claims:?}");
     }
     Ok(())
 }

@@ -1,7 +1,7 @@
 use Rattle.std.proofs.Common.{true, false, Some, sym, ap, ◌∙◌}
 use Rattle.std.specs.Option.{option_map}
 use Rattle.lethe_fade.specs.declared.rank.Rank.{Rank}
-use Rattle.lethe_fade.specs.Choice.{merge_plan}
+use Rattle.lethe_fade.specs.Candidates.{merge_plan}
 use Rattle.lethe_fade.proofs.Chosen.{best_result, best_more}
 use Rattle.lethe_fade.proofs.choice.best_file.Goals as goal
 use Rattle.lethe_fade.proofs.choice.best_file.Goals.{then-is_free, else-is_free}

@@ -1,36 +1,18 @@
-use Rattle.std.proofs.Common.{◌≡◌, ◌+◌, ◌<◌, [], drop, length, sym, ap, ◌∙◌, arith}
-use Rattle.std.specs.List.{find}
+use Rattle.std.proofs.Common.{sym, ap, ◌∙◌}
 use Rattle.std.specs.Option.{option_map}
-use Rattle.lethe_base.specs.declared.config.Fields.{Fields}
-use Rattle.lethe_fade.specs.Choice.{Candidate, is_free, candidates_from}
-use Rattle.lethe_fade.proofs.Chosen.{Step, level_step, candidates-last, read_at}
+use Rattle.lethe_fade.specs.Candidates.{Candidate, is_free}
+use Rattle.lethe_fade.specs.Expired.{expired}
+use Rattle.lethe_fade.specs.Choice.{candidates}
+use Rattle.lethe_fade.proofs.Chosen.{found_first, found_later}
 use Rattle.lethe_fade.proofs.choice.pick.Goals as goal
 
 pub returns-then-is_some : goal.returns-then-is_some
 returns-then-is_some c =
-    let inside : c.loop-level.level + 1 < length c.args.shape.now.levels = omega (arith, ap (λ (f : Fields). f.levels) c.fields.ensures.fields) in
-    let step : Step (is_free c.args.claims.now) c.args.config.now c.args.shape.now.levels c.loop-level.level c.first_free-plan.result =
-    level_step (is_free c.args.claims.now) c.args.config.now c.args.shape.now.levels c.loop-level.level c.items.result.now c.items-in-loop-level.result.now c.first_free-plan.result inside
-    (read_at c.items-levels.result.now c.args.shape.now.levels c.loop-level.level c.items.result.now c.index-levels-place.result c.items.ensures c.index-levels-place.is c.items-levels.ensures)
-    (read_at c.items-levels.result.now c.args.shape.now.levels (c.loop-level.level + 1) c.items-in-loop-level.result.now c.index-levels-place-in-loop-level.result c.items-in-loop-level.ensures c.index-levels-place-in-loop-level.is c.items-levels.ensures)
-    c.first_free-plan.ensures
-    in
-    step.found (sym c.is_some.ensures ∙ c.if-is_some.true) ∙ ap (option_map (λ (candidate : Candidate). candidate.plan)) (sym c.loop-level.invariant)
-
-pub loop-level-preserved : goal.loop-level-preserved
-loop-level-preserved c =
-    let inside : c.loop-level.level + 1 < length c.args.shape.now.levels = omega (arith, ap (λ (f : Fields). f.levels) c.fields.ensures.fields) in
-    let step : Step (is_free c.args.claims.now) c.args.config.now c.args.shape.now.levels c.loop-level.level c.first_free-plan.result =
-    level_step (is_free c.args.claims.now) c.args.config.now c.args.shape.now.levels c.loop-level.level c.items.result.now c.items-in-loop-level.result.now c.first_free-plan.result inside
-    (read_at c.items-levels.result.now c.args.shape.now.levels c.loop-level.level c.items.result.now c.index-levels-place.result c.items.ensures c.index-levels-place.is c.items-levels.ensures)
-    (read_at c.items-levels.result.now c.args.shape.now.levels (c.loop-level.level + 1) c.items-in-loop-level.result.now c.index-levels-place-in-loop-level.result c.items-in-loop-level.ensures c.index-levels-place-in-loop-level.is c.items-levels.ensures)
-    c.first_free-plan.ensures
-    in
-    c.loop-level.invariant ∙ step.later (sym c.is_some.ensures ∙ c.if-is_some.false)
+    found_first (is_free c.args.claims.now) (expired c.args.config.now c.args.clock c.args.shape.now) (candidates c.args.config.now c.args.shape.now) c.first_expired-expired.result c.first_expired-expired.ensures
+    (sym c.is_some.ensures ∙ c.if-is_some.true)
 
 pub returns : goal.returns
 returns c =
-    let some : 0 < c.args.config.now.levels = omega (arith, c.fields.ensures.limits.levels.0) in
-    let last : c.args.config.now.levels ≡ c.loop-level.level = omega (arith, ap (λ (f : Fields). f.levels) c.fields.ensures.fields) in
-    let none : candidates_from c.args.config.now c.loop-level.level (drop c.loop-level.level c.args.shape.now.levels) ≡ [] = candidates-last c.args.config.now c.args.shape.now.levels c.loop-level.level some c.requires last in
-    sym (ap (option_map (λ (candidate : Candidate). candidate.plan)) (c.loop-level.invariant ∙ ap (find (is_free c.args.claims.now)) none))
+    c.first_saturated.ensures
+    ∙ sym (ap (option_map (λ (candidate : Candidate). candidate.plan)) (found_later (is_free c.args.claims.now) (expired c.args.config.now c.args.clock c.args.shape.now) (candidates c.args.config.now c.args.shape.now)
+    c.first_expired-expired.result c.first_expired-expired.ensures (sym c.is_some.ensures ∙ c.if-is_some.false)))

@@ -1,9 +1,5 @@
 use Rattle.std.proofs.Common.{◌≡◌, min, fold, take}
-use Rattle.lethe_fade.specs.Spans.{hull}
 use Rattle.lethe_fade.proofs.choice.whole_level.Given as goal
 
 abbrev pub invariant-loop-file : goal.invariant-loop-file
-invariant-loop-file l = record {
-  keys : l.keys ≡ hull l.initial.keys (take l.file-index l.others);
-  least : l.least ≡ fold (λ least file. min least file.no) l.initial.least (take l.file-index l.others);
-}
+invariant-loop-file l = l.least ≡ fold (λ least file. min least file.no) l.initial.least (take l.file-index l.others)

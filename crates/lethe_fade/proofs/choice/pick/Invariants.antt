@@ -1,8 +1,0 @@
-use Rattle.std.proofs.Common.{◌≡◌, drop}
-use Rattle.std.specs.List.{find}
-use Rattle.lethe_fade.specs.Choice.{is_free, candidates, candidates_from}
-use Rattle.lethe_fade.proofs.choice.pick.Given as goal
-
--- the levels so far have no candidate that is free
-abbrev pub invariant-loop-level : goal.invariant-loop-level
-invariant-loop-level l = find (is_free l.claims) (candidates l.config l.shape) ≡ find (is_free l.claims) (candidates_from l.config l.level (drop l.level l.shape.levels))
