@@ -10,3 +10,6 @@ pub mod MergeFiles
 pub mod MergeRising
 pub mod Merging
 pub mod Staying
+pub mod Ticking
+pub mod Expired
+pub mod Young

@@ -2,3 +2,5 @@ pub mod Filed
 pub mod Holders
 pub mod Woven
 pub mod Merged
+pub mod Ticked
+pub mod Young

@@ -1,4 +1,4 @@
-//! What a flush, an opening and reads make of what is stored: laws that carry steps on layouts over to manifests, segments and
+//! What a flush, an opening, a merge, a tick and reads make of what is stored: laws that carry steps on layouts over to manifests, segments and
 //! files. The functions do nothing: their contracts are the laws.
 #![tactic(auto)]
 
@@ -6,8 +6,10 @@ mod layouts;
 mod merges;
 mod reads;
 mod steps;
+mod ticks;
 
 pub use layouts::{erases_are_spelled, pending_is_spelled, stored_follows};
 pub use merges::{files_are_counted, merge_follows, merge_stays};
 pub use reads::read_answers;
 pub use steps::{flush_follows, nothing_flushes, reopen_follows};
+pub use ticks::{nothing_is_due, tick_follows, young_by_oldest};
