@@ -96,7 +96,7 @@ sound_halted Tells old new fits sound = record {
 -- A step that was hindered
 
 like_itself : (state : State) → IsLike state state
-like_itself state = record { manifest = refl; count = refl; pending = refl; active = refl; records = refl; end_is = refl; frozen = refl; stopped = refl; next = refl }
+like_itself state = record { manifest = refl; count = refl; pending = refl; active = refl; records = refl; end_is = refl; oldest = refl; frozen = refl; frozen_oldest = refl; stopped = refl; next = refl }
 
 pub like_of : (old new : State) → new ≡ old → IsLike old new
 like_of old new same = subst (IsLike old) (sym same) (like_itself old)

@@ -33,7 +33,9 @@ like_remembered s old new levels like is = record {
   pending = like.pending ∙ is.pending;
   active = subst (AreNewestOf s.active.records) (sym like.active) is.active;
   records = like.records ∙ is.records;
+  oldest = like.oldest ∙ is.oldest;
   frozen = subst (IsFrozenIn s.frozen) (sym like.frozen) is.frozen;
+  frozen_oldest = like.frozen_oldest ∙ is.frozen_oldest;
   files = is.files;
   counted = let le = is.counted in let same = like.count in omega (arith, le, same);
 }

@@ -34,7 +34,9 @@ module _ (s t : Stored) (m : StoredMerge) (applied : List Pending) (alone : Bool
           pending = is.pending ∙ sym pending_same;
           active = is.active;
           records = is.records;
+          oldest = is.oldest;
           frozen = is.frozen;
+          frozen_oldest = is.frozen_oldest;
           files = files;
           counted = omega (arith, counts);
         },

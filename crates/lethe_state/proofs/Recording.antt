@@ -18,6 +18,9 @@ use Rattle.lethe_cover.specs.Steps.{next_place, put_entry, time_of, tomb_entry, 
 use Rattle.lethe_mem.specs.Buffered.{Buffered}
 use Rattle.lethe_stored.specs.Files.{Parts}
 use Rattle.lethe_stored.specs.Kept.{IsFor}
+use Rattle.lethe_base.specs.Shapes.{earlier}
+use Rattle.lethe_follows.specs.Young.{time_of as record_time}
+use Rattle.lethe_follows.proofs.Young.{oldest-push}
 use Rattle.lethe_stored.specs.Replayed.{AreNewestOf}
 use Rattle.lethe_stored.specs.Stored.{Stored, Segment, IsCoherent, appended, count_of, erase_of, layout_of, records_in}
 use Rattle.lethe_stored.proofs.Changes.{blind_for, blind_stored, delete_for, delete_stored, layout_appended, put_for, put_stored}
@@ -148,7 +151,9 @@ entered_remembered s old new levels next end is current step place coherent =
         pending = step.pending ∙ is.pending ∙ sym (ap (λ l. l.pending) (layout_appended s next (no_erase next spelled)));
         active = newest_next s.active.records next old.active.entries new.active.entries spelled is.active step.active;
         records = step.records ∙ ap (λ n. n + 1) is.records ∙ sym (length_more s.active.records next);
+        oldest = step.oldest ∙ ap (λ time. earlier time (record_time next)) is.oldest ∙ sym (oldest-push s.active.records next);
         frozen = subst (IsFrozenIn s.frozen) (sym step.frozen) is.frozen;
+        frozen_oldest = step.frozen_oldest ∙ is.frozen_oldest;
         files = record { count = (is.files).count; each = (is.files).each };
         counted = omega (arith, count_is, counted);
       },

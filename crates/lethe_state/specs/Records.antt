@@ -3,6 +3,7 @@ use Rattle.std.specs.Prelude.{◌≡◌, ◌⊎◌, ◌<◌, ℕ, ◌+◌, min, 
 use Rattle.std.specs.Option.{option_or}
 use Rattle.lethe_base.specs.Keys.{Bytes}
 use Rattle.lethe_base.specs.Limits.{max_place}
+use Rattle.lethe_base.specs.Shapes.{earlier}
 use Rattle.lethe_base.specs.Entries.{entry_of, Inserts}
 use Rattle.lethe_base.specs.declared.entry.Body.TheVariants.{Put, Tomb}
 use Rattle.lethe_base.specs.declared.entry.Entry.{Entry}
@@ -13,6 +14,7 @@ use Rattle.lethe_mem.specs.Buffered.{Buffered}
 use Rattle.lethe_segment.specs.declared.record.Record.{Record}
 use Rattle.lethe_segment.specs.declared.record.Record.TheVariants as of
 use Rattle.lethe_stored.specs.Files.{Parts}
+use Rattle.lethe_follows.specs.Young.{time_of}
 use Rattle.lethe_version.specs.Probing.{bound}
 use Rattle.lethe_state.specs.declared.state.State.{State}
 
@@ -73,7 +75,9 @@ pub record IsLike (old new : State) : Type 0 where
   pub active : new.active.entries ≡ old.active.entries
   pub records : new.records ≡ old.records
   pub end_is : new.end ≡ old.end
+  pub oldest : new.oldest ≡ old.oldest
   pub frozen : new.frozen ≡ old.frozen
+  pub frozen_oldest : new.frozen_oldest ≡ old.frozen_oldest
   pub stopped : new.stopped ≡ old.stopped
   pub next : new.next ≡ old.next
 
@@ -85,7 +89,9 @@ pub record IsNext (next : Record) (end : ℕ) (old new : State) : Type 0 where
   pub active : Enters next old.active.entries new.active.entries
   pub records : new.records ≡ old.records + 1
   pub end_is : new.end ≡ end
+  pub oldest : new.oldest ≡ earlier old.oldest (time_of next)
   pub frozen : new.frozen ≡ old.frozen
+  pub frozen_oldest : new.frozen_oldest ≡ old.frozen_oldest
   pub stopped : new.stopped ≡ old.stopped
   pub drawn : new.next ≡ old.next
 

@@ -5,7 +5,8 @@ use Rattle.lethe_mem.specs.Buffered.{Buffered}
 use Rattle.lethe_stored.specs.Files.{Parts}
 use Rattle.lethe_stored.specs.Levels.{HasFiles}
 use Rattle.lethe_stored.specs.Replayed.{AreNewestOf}
-use Rattle.lethe_stored.specs.Stored.{Stored, Segment, IsCoherent, pending_of, count_of}
+use Rattle.lethe_stored.specs.Stored.{Stored, Segment, IsCoherent, pending_of, count_of, records_in}
+use Rattle.lethe_follows.specs.Young.{oldest_in}
 use Rattle.lethe_state.specs.declared.state.State.{State}
 
 -- the frozen buffer has the newest entries of the frozen segment, where there is one
@@ -15,14 +16,16 @@ IsFrozenIn (Some segment) (Some buffer) = AreNewestOf segment.records buffer.ent
 IsFrozenIn None (Some buffer) = ⊥
 IsFrozenIn (Some segment) None = ⊥
 
--- the manifest, the erases, the newest entries of the segments, and the files by level as their readers have them
+-- the manifest, the erases, the newest entries and the least times of the segments, and the files by level as their readers have them
 pub record Remembers (s : Stored) (state : State) (levels : List (List Parts)) : Type 0 where
   pub coherent : IsCoherent s
   pub manifest : state.manifest ≡ s.manifest
   pub pending : state.pending ≡ pending_of s
   pub active : AreNewestOf s.active.records state.active.entries
   pub records : state.records ≡ length s.active.records
+  pub oldest : state.oldest ≡ oldest_in s.active.records
   pub frozen : IsFrozenIn s.frozen state.frozen
+  pub frozen_oldest : state.frozen_oldest ≡ oldest_in (records_in s.frozen)
   pub files : HasFiles s levels
   -- all places of what is stored are counted
   pub counted : count_of s ≤ state.count
@@ -37,6 +40,8 @@ pub record IsFresh (manifest : Manifest) (state : State) : Type 0 where
   pub manifest_is : state.manifest ≡ manifest
   pub active : state.active.entries ≡ []
   pub records : state.records ≡ 0
+  pub oldest : state.oldest ≡ None
   pub frozen : state.frozen ≡ None
+  pub frozen_oldest : state.frozen_oldest ≡ None
   pub stopped : state.stopped ≡ None
   pub next : state.next ≡ manifest.next

@@ -98,7 +98,9 @@ pub record IsFrozenWith (manifest : Manifest) (old new : State) : Type 0 where
   pub active : new.active.entries ≡ []
   pub records : new.records ≡ 0
   pub end_is : new.end ≡ 11
+  pub oldest : new.oldest ≡ None
   pub frozen : new.frozen ≡ Some old.active
+  pub frozen_oldest : new.frozen_oldest ≡ old.oldest
   pub stopped : new.stopped ≡ old.stopped
   pub next : new.next ≡ manifest.next
 
@@ -108,4 +110,4 @@ under manifest state = record state { manifest = manifest; next = manifest.next 
 
 -- the frozen buffer is gone, under this manifest
 abbrev pub unfrozen : Manifest → State → State
-unfrozen manifest state = record (under manifest state) { frozen = None }
+unfrozen manifest state = record (under manifest state) { frozen = None; frozen_oldest = None }

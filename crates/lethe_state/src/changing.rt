@@ -3,9 +3,11 @@ ghost use Rattle.std.specs.Prelude.{◌≡◌, ◌↔◌, ◌+◌, ◌<◌, ◌�
 ghost use Rattle.std.specs.Option.{option_or};
 ghost use Rattle.lethe_base.specs.Entries.{entry_of};
 ghost use Rattle.lethe_base.specs.Limits.{IsKey, IsValue, max_place};
+ghost use Rattle.lethe_base.specs.Shapes.{earlier};
 ghost use Rattle.lethe_base.specs.Spelling.{IsTimeOrNone};
 ghost use Rattle.lethe_segment.specs.Records.{RecordHasSpelling, record_bytes};
 ghost use Rattle.lethe_advance.specs.Shown.{parts_by_level};
+ghost use Rattle.lethe_follows.specs.Young.{time_of};
 ghost use Rattle.lethe_state.specs.Records.{IsDeleteRecord, IsLike, IsNext, frozen_entry, halted, headers_in, put_record, since_of, tomb_record};
 ghost use Rattle.lethe_state.specs.Writable.{IsWritable};
 
@@ -116,6 +118,7 @@ impl State {
         ensures is { IsNext next end self.old self.new }
         ensures writable { IsWritable self.new }
     {
+        self.oldest = first_time(self.oldest, time_of(&next));
         if let Record::Entry(entry) = next {
             self.active.insert(entry);
         }
@@ -136,6 +139,27 @@ impl State {
         self.count = place;
         self.stopped = Some(place);
         place
+    }
+}
+
+/// The time of a record, if it has one: a blind delete has none.
+fn time_of(next: &Record) -> Option<u64>
+    ensures { result ≡ time_of next.now }
+{
+    match next {
+        Record::Entry(entry) => entry.since,
+        Record::Blind { .. } => None,
+        Record::Erase(erase) => Some(erase.time),
+    }
+}
+
+/// The smaller of two times, where there are any.
+fn first_time(time: Option<u64>, other: Option<u64>) -> Option<u64>
+    ensures { result ≡ earlier time other }
+{
+    match (time, other) {
+        (Some(time), Some(other)) => Some(time.min(other)),
+        (time, other) => time.or(other),
     }
 }
 

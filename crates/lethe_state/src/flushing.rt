@@ -165,5 +165,6 @@ impl State {
         self.next = step.manifest.next;
         self.manifest = step.manifest;
         self.frozen = None;
+        self.frozen_oldest = None;
     }
 }

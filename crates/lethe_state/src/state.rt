@@ -35,8 +35,12 @@ pub struct State {
     pub(crate) records: u64,
     /// The place of the closed gate byte that ends the active segment.
     pub(crate) end: u64,
+    /// The least time of all records of the active segment, of replaced ones too, where one has a time.
+    pub(crate) oldest: Option<u64>,
     /// The newest entry of each key of the frozen segment, where there is one.
     pub(crate) frozen: Option<VecBuffer>,
+    /// The least time of all records of the frozen segment.
+    pub(crate) frozen_oldest: Option<u64>,
     /// The place of the change or the work in which the disk failed. Nothing is changed behind it.
     pub(crate) stopped: Option<u64>,
 }
@@ -61,7 +65,9 @@ impl State {
             active: VecBuffer::new(alloc),
             records: 0,
             end: FIRST_GATE,
+            oldest: None,
             frozen: None,
+            frozen_oldest: None,
             stopped: None,
         })
     }
