@@ -62,7 +62,9 @@ halted_remembered s state levels is = record {
   pending = is.pending;
   active = is.active;
   records = is.records;
+  oldest = is.oldest;
   frozen = is.frozen;
+  frozen_oldest = is.frozen_oldest;
   files = is.files;
   counted = let le = is.counted in omega (arith, le);
 }

@@ -116,7 +116,9 @@ other_files s state levels next files is = record {
   pending = is.pending;
   active = is.active;
   records = is.records;
+  oldest = is.oldest;
   frozen = is.frozen;
+  frozen_oldest = is.frozen_oldest;
   files = files;
   counted = is.counted;
 }
