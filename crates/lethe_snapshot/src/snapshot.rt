@@ -182,7 +182,7 @@ impl<D: Disk> Snapshot<D> {
 
 /// A copy of the frozen buffer, if there is one.
 fn copy_of(frozen: Option<&VecBuffer>) -> Result<Option<VecBuffer>, NoMemory>
-    ensures { (o : Option Segment) → IsFrozenIn o (option_copied frozen) → IfOk result (IsFrozenIn o) }
+    ensures { (o : Option Segment) → IsFrozenIn o (option_copied frozen.entry) → IfOk result (IsFrozenIn o) }
 {
     match frozen {
         Some(buffer) => Ok(Some(buffer.copy()?)),

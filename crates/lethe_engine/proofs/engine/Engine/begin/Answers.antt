@@ -3,7 +3,7 @@ use Rattle.std.specs.Prelude.{IfSome}
 use Rattle.lethe_base.specs.declared.call.Call.TheVariants.{Work}
 use Rattle.lethe_base.specs.declared.refused.Refused.TheVariants.{NothingDue, NoMemory, Stopped}
 use Rattle.lethe_advance.specs.Shown.{parts_by_level}
-use Rattle.lethe_job.specs.Tasks.{plain_task}
+use Rattle.lethe_job.specs.Tasks.{IsBegunIn, plain_task}
 use Rattle.lethe_core.specs.Asked.{Serves}
 use Rattle.lethe_core.specs.Jobs.{with_begun}
 use Rattle.lethe_core.specs.View.{face_of, view_of}
@@ -43,3 +43,6 @@ returns-in-Err-clause-answers g c =
     let is = c.begin_now.ensures in
     subst (λ face. Answers g.D.Disk.tells (Serves Work) (Some NoMemory) face old new) c.in-Err.ensures.kept
     (idle_answers g.D.Disk.tells (Some NoMemory) old new is.sound is.state (ap parts_by_level is.version) (ap (λ names. names.items) is.retired) is.faults is.idle is.stands (refused_is_none (Serves Work) NoMemory refl))
+
+pub returns-in-Ok-Some-clause-begun : goal.returns-in-Ok-Some-clause-begun
+returns-in-Ok-Some-clause-begun g c = λ told s holds. (subst (λ found. IfSome found (λ job. IsBegunIn s (plain_task job.task.value))) c.in-Ok-Some.field-0-is (c.in-Ok-Some.ensures.begun s holds), c.in-Ok-Some.ensures.held told s holds)

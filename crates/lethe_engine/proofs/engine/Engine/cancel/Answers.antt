@@ -18,15 +18,18 @@ returns-in-Some-clause-answers g c =
     let old = view_of c.args.self.now.core in
     let new = record old { flight = None } in
     let at = c.in-Some.at in
-    subst (λ face. Answers g.D.Disk.tells (Serves Work) (Some (Stopped at)) face old new) (sym (given_up_stopped (face_of old) old.state at c.in-Some.is))
-    (idle_answers g.D.Disk.tells (Some (Stopped at)) old new (forgets_sound old at c.in-Some.is g.D.Disk.tells c.requires.sound) refl refl refl refl (λ told. idle_itself old)
-    (λ told config h stands. forgets_now old at c.in-Some.is config h stands) (refused_is_none (Serves Work) (Stopped at) refl))
+    let is = sym c.stopped.ensures ∙ c.in-Some.is in
+    subst (λ face. Answers g.D.Disk.tells (Serves Work) (Some (Stopped at)) face old new) (sym (given_up_stopped (face_of old) old.state at is))
+    (idle_answers g.D.Disk.tells (Some (Stopped at)) old new (forgets_sound old at is g.D.Disk.tells c.requires.sound) refl refl refl refl (λ told. idle_itself old)
+    (λ told config h stands. forgets_now old at is config h stands) (refused_is_none (Serves Work) (Stopped at) refl))
 
-pub returns-then-self-ge-MAX_PLACE-clause-answers : goal.returns-then-self-ge-MAX_PLACE-clause-answers
-returns-then-self-ge-MAX_PLACE-clause-answers g c =
+pub returns-then-count-ge-MAX_PLACE-clause-answers : goal.returns-then-count-ge-MAX_PLACE-clause-answers
+returns-then-count-ge-MAX_PLACE-clause-answers g c =
     let old = view_of c.args.self.now.core in
-    let full = c.if-self-ge-MAX_PLACE.true in
-    subst (λ face. Answers g.D.Disk.tells (Serves Work) None face old old) (sym (given_up_never (face_of old) old.state c.in_default.is (omega (arith, full))))
+    let full = c.if-count-ge-MAX_PLACE.true in
+    let count = c.count.ensures in
+    let runs = sym c.stopped.ensures ∙ c.in_default.is in
+    subst (λ face. Answers g.D.Disk.tells (Serves Work) None face old old) (sym (given_up_never (face_of old) old.state runs (omega (arith, full, count))))
     (itself_answers g.D.Disk.tells (Serves Work) None old c.requires.sound (served_is_none Work))
 
 pub returns-clause-answers : goal.returns-clause-answers
@@ -34,11 +37,13 @@ returns-clause-answers g c =
     let old = view_of c.args.self.now.core in
     let new = view_of c.cancel_now.new.self in
     let result = c.cancel_now.result in
-    let left = c.if-self-ge-MAX_PLACE.false in
+    let left = c.if-count-ge-MAX_PLACE.false in
+    let count = c.count.ensures in
+    let runs = sym c.stopped.ensures ∙ c.in_default.is in
     let begun = c.cancel_now.ensures.begun in
     let free = c.cancel_now.ensures.free in
     let retired = c.cancel_now.ensures.retired in
     let now : face_of new ≡ record (face_of old) { flight = None } = λ i. record { begun = (begun i).count; flight = option_map flying_of (free i); retired = (retired i).items } in
-    subst (λ face. Answers g.D.Disk.tells (Serves Work) (result_err result) face old new) (now ∙ sym (given_up_now (face_of old) old.state c.in_default.is (omega (arith, left))))
-    (step_answers g.D.Disk.tells ⊥ (result_err result) old new c.faults-before.result c.in_default.is c.faults-before.ensures c.cancel_now.ensures.keeps
+    subst (λ face. Answers g.D.Disk.tells (Serves Work) (result_err result) face old new) (now ∙ sym (given_up_now (face_of old) old.state runs (omega (arith, left, count))))
+    (step_answers g.D.Disk.tells ⊥ (result_err result) old new c.faults-before.result runs c.faults-before.ensures c.cancel_now.ensures.keeps
     (if_refused result (HasReason ⊥ old.state c.faults-before.result new.faults) c.cancel_now.ensures.why) (if_refused result (IsUndone g.D.Disk.tells old new) c.cancel_now.ensures.undone))

@@ -11,8 +11,8 @@ use Rattle.lethe_engine.proofs.engine.Engine.get.Goals as goal
 pub returns-in-Ok-clause-answer : goal.returns-in-Ok-clause-answer
 returns-in-Ok-clause-answer g c = λ told config h stands.
     let core = c.args.self.now.core in
-    found core config h stands (option_copied c.as_ref.result) c.items.result.now c.as_ref.ensures.value c.items.ensures c.args.key.now c.in-Ok.held
-    (c.in-Ok.ensures.answer told (stored_sound core config h stands))
+    found core config h stands (option_copied c.frozen.result) c.pending.result.now c.frozen.ensures c.pending.ensures c.args.key.now c.in-Ok.held
+    (rw c.active.ensures at (c.in-Ok.ensures.answer told (stored_sound core config h stands)))
 
 pub returns-in-Err-clause-undamaged : goal.returns-in-Err-clause-undamaged
 returns-in-Err-clause-undamaged g c = λ told sound name is.

@@ -1,6 +1,7 @@
-use Rattle.std.proofs.Common.{rules, ◌≡◌, ◌≤◌, ◌<◌, Option, Some, Vec, Result, Err, List, [], ℕ, length, get_or, refl, sym, ap, subst}
+use Rattle.std.proofs.Common.{rules, ◌≡◌, ◌∙◌, ◌≤◌, ◌<◌, Option, Some, Vec, Result, Err, List, [], ℕ, length, get_or, refl, sym, ap, subst}
 use Rattle.std.specs.declared.alloc.Global.{Global}
 use Rattle.std.specs.Prelude.{IfSome, IsSome, OnOk}
+use Rattle.std.specs.Option.{option_map_or}
 use Rattle.std.specs.Result.{result_err}
 use Rattle.lethe_base.specs.Limits.{max_place}
 use Rattle.lethe_base.specs.declared.call.Call.TheVariants.{Work}
@@ -40,7 +41,7 @@ returns-clause-answers g c =
     let new = view_of c.write_now.new.self in
     let result = c.write_now.result in
     let there : IsSome old.flight = subst (λ (flight : Option Flying). IsSome flight) (sym c.requires.works.flies.is) refl in
-    let bytes : c.page_at.result.now ≡ next_bytes c.args.job.now = search rules in
+    let bytes = c.next_page.ensures in
     let written = subst (λ bytes. IfSome old.flight (λ flying. OnOk result (new.flight ≡ Some (with_page flying (page_name old.state.next, bytes))))) bytes c.write_now.ensures.written in
     subst (λ face. Answers g.D.Disk.tells (Serves Work) (result_err result) face old new)
     (written_by old new (page_name old.state.next, next_bytes c.args.job.now) result (ap (λ begun. begun.count) c.write_now.ensures.begun) (ap (λ names. names.items) c.write_now.ensures.retired) there written c.write_now.ensures.kept)
@@ -52,6 +53,6 @@ write_now-requires-clause-copied g c κs within = λ told s holds.
     let view = view_of c.args.self.now.core in
     let job = c.args.job.now in
     let there = some_there (λ (drafts : Vec Draft Global). job.written < length (pages_in drafts.items)) job.drafts c.requires.made c.requires.left in
-    let bytes : c.page_at.result.now ≡ get_or (pages_in (there.0).items) job.written [] = search rules in
+    let bytes : c.next_page.result.now ≡ get_or (pages_in (there.0).items) job.written [] = c.next_page.ensures ∙ ap (λ (drafts : Option (Vec Draft Global)). option_map_or (λ drafts. get_or (pages_in drafts.items) job.written []) drafts []) there.1 in
     subst (λ (bytes : List ℕ). IsCopied s (page_name view.state.next, bytes)) (sym bytes)
     (next_copied g.D.Disk.tells view job c.requires.works s holds told view.state.next there.0 there.1 there.2)
