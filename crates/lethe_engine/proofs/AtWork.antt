@@ -62,15 +62,6 @@ written_more drafts written name at count left is =
 module _ {D Page Port : Type 0} {kind : Ghosts D Page Port} (Tells : Type 0) (old : View) (job : Job D Page Port kind) (works : IsAtWork Tells old job) where
   module _ (piece : Piece) (next : IsNextPage job piece) where
     -- the drafts' pages are few
-    pub page_fits : job.written + 1 < 2 ^ 64
-    page_fits =
-        let there = some_there (λ (drafts : Vec Draft Global). job.written < length (pages_in drafts.items)) job.drafts next.made next.left in
-        let made : AreOutputs Tells (plain_task job.task.value) (there.0).items = some_at (λ (drafts : Vec Draft Global). AreOutputs Tells (plain_task job.task.value) drafts.items) job.drafts there.0 there.1 works.job_is.made in
-        let few = made.few in
-        let upto = pages_few (there.0).items in
-        let left = there.2 in
-        omega (arith, few, upto, left)
-
     pub one_more : (new : View) (name : Name) (result : Result (Unit {0}) Refused) → face_of new ≡ written_face (face_of old) (name, next_bytes job) result → OnOk result (IsAtWork Tells new (record job { written = job.written + 1 }))
     one_more new name (Err why) is = tt
     one_more new name (Ok done) is =

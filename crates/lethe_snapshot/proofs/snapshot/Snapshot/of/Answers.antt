@@ -1,4 +1,6 @@
-use Rattle.std.proofs.Common.{rules, ◌≡◌, sym, ◌∙◌, subst}
+use Rattle.std.proofs.Common.{rules, ◌≡◌, ap, sym, ◌∙◌, subst}
+use Rattle.lethe_mem.specs.Buffered.{Buffered}
+use Rattle.lethe_state.specs.Remembered.{IsFrozenIn}
 use Rattle.lethe_stored.specs.Replayed.{AreNewestOf}
 use Rattle.lethe_snapshot.proofs.snapshot.Snapshot.of.Goals as goal
 
@@ -10,8 +12,8 @@ returns-clause-of g c = λ s h remembers stands.
       shows = record {
         coherent = remembers.coherent;
         pending = same ∙ remembers.pending;
-        active = subst (AreNewestOf s.active.records) (sym c.in_ok-copy.ensures) remembers.active;
-        frozen = c.in_ok-copy_of.ensures s.frozen remembers.frozen;
+        active = subst (AreNewestOf s.active.records) (sym (c.in_ok-copy.ensures ∙ ap (λ (b : Buffered). b.entries) c.active.ensures)) remembers.active;
+        frozen = c.in_ok-copy_of.ensures s.frozen (subst (IsFrozenIn s.frozen) (sym c.frozen.ensures) remembers.frozen);
         files = c.in_ok-share.ensures.files s remembers.files;
       };
       stands = stands;
