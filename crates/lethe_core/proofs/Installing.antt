@@ -21,7 +21,7 @@ use Rattle.lethe_install.specs.Inputs.{numbered}
 use Rattle.lethe_install.specs.Left.{is_needed, left_of}
 use Rattle.lethe_install.specs.declared.steps.Installation.{Installation}
 use Rattle.lethe_install.proofs.Beside.{input_in}
-use Rattle.lethe_job.specs.Tasks.{AreSound, IsBegunIn, IsTaskIn, PlainTask, inputs_in}
+use Rattle.lethe_job.specs.Tasks.{AreSound, IsBegunIn, IsPlanned, IsTaskIn, PlainTask, inputs_in}
 use Rattle.lethe_merge.specs.Merge.{merged}
 use Rattle.lethe_stored.specs.Files.{IsFile, Parts, StoredFile, file_of, objects_of}
 use Rattle.lethe_stored.specs.Kept.{IsFor}
@@ -111,21 +111,25 @@ module _ (view : View) (flying : Flying) (flies : view.flight ≡ Some flying) (
       let next = next_merge view flying.task drafts (names_in flying.written) retired made its there (ap loose_in flies ∙ outputs.pages) of s tasked.0 holds tasked.1 in
       (next.0, next.2)
 
--- for the merge that is due, where no job is in flight
-module _ (view : View) (task : PlainTask) (begins : (s : Stored) → Holds view s → IsBegunIn s task) where
-  pub begun_sound : (s : Stored) → Holds view s → AreSound (inputs_in task)
-  begun_sound s holds = let begun = begins s holds in sound_inputs s holds.remembers.coherent begun.m task begun.is
+-- for the merge that is chosen, where no job is in flight
+module _ (view : View) (task : PlainTask) (plans : (s : Stored) → Holds view s → IsPlanned s task) where
+  pub planned_sound : (s : Stored) → Holds view s → AreSound (inputs_in task)
+  planned_sound s holds = let planned = plans s holds in sound_inputs s holds.remembers.coherent planned.m task planned.is
 
-  pub begun_counted : view.state.stopped ≡ None → (config : Fields) (h : History) → StandsNow config h view → IsCounted task
-  begun_counted runs config h stands =
+  pub planned_counted : view.state.stopped ≡ None → (config : Fields) (h : History) → StandsNow config h view → IsCounted task
+  planned_counted runs config h stands =
       let holds = stands_holds config h view stands runs in
-      let begun = begins stands.stored holds in
-      counted_inputs stands.stored holds.remembers.coherent begun.m task begun.is h (stands_for config h view stands runs) begun.counted
+      let planned = plans stands.stored holds in
+      counted_inputs stands.stored holds.remembers.coherent planned.m task planned.is h (stands_for config h view stands runs) planned.counted
 
   module _ (free : view.flight ≡ None) (Tells : Type 0) (drafts : List Draft) (retired : List Name) (made : Installation)
       (installs : Installs view.state view.levels task drafts [] retired [] made) (there : view.retired ≡ retired)
       (of : Tells → AreSound (inputs_in task) → AreDraftsOf task.config (merged (entries_in (inputs_in task)) task.erases task.alone) drafts) where
-    pub next_outcome : Tells → (s : Stored) (holds : Holds view s) → (t : Stored) × IsMerged s (begins s holds).m (pending_of s) task.alone task.upto t × MayMerge view s task t made
+    pub next_outcome : Tells → (s : Stored) (holds : Holds view s) → (t : Stored) × IsMerged s (plans s holds).m (pending_of s) task.alone task.upto t × MayMerge view s task t made
     next_outcome told s holds =
-        let begun = begins s holds in
-        next_merge view task drafts [] retired made installs there (ap loose_in free) (of told (begun_sound s holds)) s begun.m holds begun.is
+        let planned = plans s holds in
+        next_merge view task drafts [] retired made installs there (ap loose_in free) (of told (planned_sound s holds)) s planned.m holds planned.is
+
+-- for the merge that a job begins with
+pub begun_sound : (view : View) (task : PlainTask) → ((s : Stored) → Holds view s → IsBegunIn s task) → (s : Stored) → Holds view s → AreSound (inputs_in task)
+begun_sound view task begins = planned_sound view task (λ s holds. (begins s holds).planned)

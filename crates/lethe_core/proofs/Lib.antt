@@ -25,3 +25,4 @@ pub mod Installing
 pub mod Unread
 pub mod Fetched
 pub mod Roomed
+pub mod Chosen

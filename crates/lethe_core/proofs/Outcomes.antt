@@ -1,14 +1,16 @@
 -- Merges one after another.
 use Rattle.std.proofs.Common.{◌≡◌, ◌≤◌, ◌<◌, ℕ, ◌+◌, ◌^◌, ◌-◌, min, List, [], ◌∷◌, ◌++◌, None, refl, sym, ap, ◌∙◌, subst, arith}
+use Rattle.std.specs.Prelude.{Option}
 use Rattle.std.proofs.lemmas.List.Sums.{sum_by-append}
 use Rattle.lethe_base.specs.declared.config.Fields.{Fields}
 use Rattle.lethe_base.specs.declared.name.Name.{Name}
+use Rattle.lethe_fade.specs.declared.plan.Plan.{Plan}
 use Rattle.lethe_manifest.specs.declared.manifest.Manifest.{Manifest}
 use Rattle.lethe_stored.specs.Stored.{Stored, pending_of}
 use Rattle.lethe_job.specs.Tasks.{inputs_in, pages_in}
 use Rattle.lethe_core.specs.Descent.{steps_down}
 use Rattle.lethe_core.specs.Keeps.{Keeps, MayStep}
-use Rattle.lethe_core.specs.Merges.{AreOutcomes, AreSomeOutcomes, HasNoMerge, IsOutcome, Outcome, pages_of, retired_behind}
+use Rattle.lethe_core.specs.Merges.{AreOutcomesBy, AreSomeOutcomesBy, HasNoMergeBy, IsOutcomeBy, Outcome, pages_of, retired_behind}
 use Rattle.lethe_core.specs.Running.{Holds}
 use Rattle.lethe_core.specs.Steps.{IsSteady}
 use Rattle.lethe_core.specs.View.{View}
@@ -16,15 +18,16 @@ use Rattle.lethe_core.proofs.Behind.{next_may}
 use Rattle.lethe_core.proofs.Descending.{few_steps, goes_down}
 use Rattle.lethe_core.proofs.Hindered.{keeps_itself, keeps_then}
 
--- Some of the merges that are due
+-- Some of the merges that are chosen
 
-some_more : (s : Stored) (outcomes : List Outcome) (t : Stored) (next : Outcome) → AreSomeOutcomes s outcomes t → IsOutcome t next → AreSomeOutcomes s (outcomes ++ next ∷ []) next.to
-some_more s [] t next are is = (subst (λ x. IsOutcome x next) are is, refl)
-some_more s (outcome ∷ more) t next are is = (are.0, some_more outcome.to more t next are.1 is)
+module _ (chosen : Stored → Option Plan) where
+  some_more : (s : Stored) (outcomes : List Outcome) (t : Stored) (next : Outcome) → AreSomeOutcomesBy chosen s outcomes t → IsOutcomeBy chosen t next → AreSomeOutcomesBy chosen s (outcomes ++ next ∷ []) next.to
+  some_more s [] t next are is = (subst (λ x. IsOutcomeBy chosen x next) are is, refl)
+  some_more s (outcome ∷ more) t next are is = (are.0, some_more outcome.to more t next are.1 is)
 
-some_ended : (s : Stored) (outcomes : List Outcome) (t : Stored) → AreSomeOutcomes s outcomes t → HasNoMerge t → AreOutcomes s outcomes t
-some_ended s [] t are none = (subst HasNoMerge are none, are)
-some_ended s (outcome ∷ more) t are none = (are.0, some_ended outcome.to more t are.1 none)
+  some_ended : (s : Stored) (outcomes : List Outcome) (t : Stored) → AreSomeOutcomesBy chosen s outcomes t → HasNoMergeBy chosen t → AreOutcomesBy chosen s outcomes t
+  some_ended s [] t are none = (subst (HasNoMergeBy chosen) are none, are)
+  some_ended s (outcome ∷ more) t are none = (are.0, some_ended outcome.to more t are.1 none)
 
 -- a merge leaves no page retired
 none_behind : (outcomes : List Outcome) (next : Outcome) (retired : List Name) → retired_behind (outcomes ++ next ∷ []) retired ≡ []
@@ -32,24 +35,24 @@ none_behind [] next retired = refl
 none_behind (outcome ∷ more) next retired = refl
 
 -- what is stored behind so many merges, whose pages were fetched, and the pages that are retired then
-pub record AreBehind (s : Stored) (old new : View) (count fetched : ℕ) : Type 0 where
+pub record AreBehind (chosen : Stored → Option Plan) (s : Stored) (old new : View) (count fetched : ℕ) : Type 0 where
   pub outcomes : List Outcome
   pub to : Stored
-  pub are : AreSomeOutcomes s outcomes to
+  pub are : AreSomeOutcomesBy chosen s outcomes to
   pub holds : Holds new to
   pub pages : pages_of outcomes ≡ fetched
   pub retired : new.retired ≡ retired_behind outcomes old.retired
   pub down : steps_down s.manifest.config.levels to.files + count ≤ steps_down s.manifest.config.levels s.files
 
 -- Of a store that has carried out so many merges: what it keeps and what is stored, by its port's counts of fetches and of faults.
-pub record HasMerged (Tells : Type 0) (old new : View) (count fetches fetches' faults faults' : ℕ) : Type 0 where
+pub record HasMerged (chosen : Stored → Option Plan) (Tells : Type 0) (old new : View) (count fetches fetches' faults faults' : ℕ) : Type 0 where
   pub keeps : Keeps Tells old new None
   pub steady : IsSteady old.state new.state
-  pub behind : Tells → (s : Stored) → Holds old s → (fetched : ℕ) × AreBehind s old new count fetched × (fetches' ≡ fetches + fetched)
+  pub behind : Tells → (s : Stored) → Holds old s → (fetched : ℕ) × AreBehind chosen s old new count fetched × (fetches' ≡ fetches + fetched)
   pub port_faults : faults ≤ faults'
 
-pub none_merged : (Tells : Type 0) (view : View) (before fetches faults : ℕ) → MayStep Tells view before → HasMerged Tells view view 0 fetches fetches faults faults
-none_merged Tells view before fetches faults may = record {
+pub none_merged : (chosen : Stored → Option Plan) (Tells : Type 0) (view : View) (before fetches faults : ℕ) → MayStep Tells view before → HasMerged chosen Tells view view 0 fetches fetches faults faults
+none_merged chosen Tells view before fetches faults may = record {
   keeps = keeps_itself Tells view may.sound may.runs None tt;
   steady = record { stopped = refl; count = refl; records = refl; config = refl };
   behind = λ told s holds. (0, record { outcomes = []; to = s; are = refl; holds = holds; pages = refl; retired = refl; down = omega arith }, omega arith);
@@ -60,7 +63,7 @@ none_merged Tells view before fetches faults may = record {
 config_held : (view : View) (s : Stored) → Holds view s → s.manifest.config ≡ view.state.manifest.config
 config_held view s holds = ap (λ (m : Manifest). m.config) (sym holds.remembers.manifest)
 
-module _ (Tells : Type 0) (old mid : View) (before count f0 f1 p0 p1 : ℕ) (merged : HasMerged Tells old mid count f0 f1 p0 p1) where
+module _ (chosen : Stored → Option Plan) (Tells : Type 0) (old mid : View) (before count f0 f1 p0 p1 : ℕ) (merged : HasMerged chosen Tells old mid count f0 f1 p0 p1) where
   pub merged_may : MayStep Tells old before → MayStep Tells mid before
   merged_may may = next_may Tells old mid before may merged.keeps
 
@@ -76,8 +79,8 @@ module _ (Tells : Type 0) (old mid : View) (before count f0 f1 p0 p1 : ℕ) (mer
   levels_same s t first then = ap (λ (fields : Fields). fields.levels) (config_held mid t then ∙ merged.steady.config ∙ sym (config_held old s first))
 
   pub once_more : (new : View) (f2 p2 : ℕ) → Keeps Tells mid new None → IsSteady mid.state new.state
-      → (Tells → (t : Stored) → Holds mid t → (next : Outcome) × IsOutcome t next × Holds new next.to × (f2 ≡ f1 + pages_in (inputs_in next.task))) → new.retired ≡ [] → p1 ≤ p2
-      → HasMerged Tells old new (count + 1) f0 f2 p0 p2
+      → (Tells → (t : Stored) → Holds mid t → (next : Outcome) × IsOutcomeBy chosen t next × Holds new next.to × (f2 ≡ f1 + pages_in (inputs_in next.task))) → new.retired ≡ [] → p1 ≤ p2
+      → HasMerged chosen Tells old new (count + 1) f0 f2 p0 p2
   once_more new f2 p2 keeps steady done none faults = record {
     keeps = keeps_then Tells old mid new merged.keeps None keeps;
     steady = merged_steady new steady;
@@ -101,7 +104,7 @@ module _ (Tells : Type 0) (old mid : View) (before count f0 f1 p0 p1 : ℕ) (mer
           record {
             outcomes = are.outcomes ++ next ∷ [];
             to = next.to;
-            are = some_more s are.outcomes t next are.are is;
+            are = some_more chosen s are.outcomes t next are.are is;
             holds = made.2;
             pages = omega (arith, all, pages);
             retired = none ∙ sym (none_behind are.outcomes next old.retired);
@@ -112,18 +115,18 @@ module _ (Tells : Type 0) (old mid : View) (before count f0 f1 p0 p1 : ℕ) (mer
     port_faults = let early = merged.port_faults in omega (arith, early, faults);
   }
 
-  -- no merge is due any more
-  pub no_more : Tells → (s : Stored) → Holds old s → ((t : Stored) → Holds mid t → HasNoMerge t)
-      → (t : Stored) × (outcomes : List Outcome) × AreOutcomes s outcomes t × Holds mid t × (f1 ≡ f0 + pages_of outcomes) × (mid.retired ≡ retired_behind outcomes old.retired)
+  -- no merge is chosen any more
+  pub no_more : Tells → (s : Stored) → Holds old s → ((t : Stored) → Holds mid t → HasNoMergeBy chosen t)
+      → (t : Stored) × (outcomes : List Outcome) × AreOutcomesBy chosen s outcomes t × Holds mid t × (f1 ≡ f0 + pages_of outcomes) × (mid.retired ≡ retired_behind outcomes old.retired)
   no_more told s holds none =
       let had = merged.behind told s holds in
       let are = had.1 in
       let pages = are.pages in
       let fetched = had.2 in
-      (are.to, are.outcomes, some_ended s are.outcomes are.to are.are (none are.to are.holds), are.holds, omega (arith, pages, fetched), are.retired)
+      (are.to, are.outcomes, some_ended chosen s are.outcomes are.to are.are (none are.to are.holds), are.holds, omega (arith, pages, fetched), are.retired)
 
   -- what some of them left
-  pub some_merged : Tells → (s : Stored) → Holds old s → (t : Stored) × ((outcomes : List Outcome) × AreSomeOutcomes s outcomes t) × Holds mid t
+  pub some_merged : Tells → (s : Stored) → Holds old s → (t : Stored) × ((outcomes : List Outcome) × AreSomeOutcomesBy chosen s outcomes t) × Holds mid t
   some_merged told s holds = let are = (merged.behind told s holds).1 in (are.to, (are.outcomes, are.are), are.holds)
 
   -- there are no more merges than steps down

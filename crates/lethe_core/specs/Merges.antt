@@ -1,13 +1,17 @@
--- The merges that a store carries out itself, one after another, where a caller makes room.
+-- The merges that a store carries out itself, one after another, where a caller makes room and where the clock goes on.
 use Rattle.std.specs.Prelude.{◌≡◌, ◌⊎◌, ◌≤◌, ℕ, ◌+◌, ◌*◌, List, [], ◌∷◌, length, sum_by, All, Option, Some, None}
 use Rattle.std.specs.List.{AllZip}
 use Rattle.lethe_base.specs.Limits.{max_place}
+use Rattle.lethe_base.specs.declared.config.Fields.{Fields}
 use Rattle.lethe_base.specs.declared.name.Name.{Name}
+use Rattle.lethe_base.specs.declared.shape.Shape.{Shape}
 use Rattle.lethe_base.specs.Shapes.{shape_of}
 use Rattle.lethe_build.specs.Built.{most_numbers}
 use Rattle.lethe_build.specs.Drafts.{AreDraftsOf, numbers_for}
 use Rattle.lethe_build.specs.declared.draft.Draft.{Draft}
 use Rattle.lethe_fade.specs.Choice.{choice}
+use Rattle.lethe_fade.specs.Expired.{due}
+use Rattle.lethe_fade.specs.declared.plan.Plan.{Plan}
 use Rattle.lethe_follows.specs.Merged.{StoredMerge, IsMerged, at, entries_in}
 use Rattle.lethe_merge.specs.Merge.{merged}
 use Rattle.lethe_stored.specs.Files.{StoredFile}
@@ -17,13 +21,36 @@ use Rattle.lethe_advance.specs.Steps.{IsStep}
 use Rattle.lethe_clean.specs.Copied.{IsCopied}
 use Rattle.lethe_install.specs.declared.steps.Installation.{Installation}
 use Rattle.lethe_state.specs.Room.{HasRoom, IsFrozen, IsUnfrozen}
-use Rattle.lethe_job.specs.Tasks.{PlainTask, IsBegunIn, IsCitedAs, IsTaskIn, counted_in, inputs_in, pages_in}
+use Rattle.lethe_job.specs.Tasks.{PlainTask, IsCitedAs, IsPlanned, IsTaskIn, counted_in, inputs_in, pages_in}
 use Rattle.lethe_core.specs.Running.{Holds}
+use Rattle.lethe_core.specs.declared.choosing.Choice.{Choice}
+use Rattle.lethe_core.specs.declared.choosing.Choice.TheVariants.{Room, DueAt}
 use Rattle.lethe_core.specs.View.{Flying, View, beside_in}
+
+-- the plan that is picked at a clock: to make room the choice where no claim stands, and else the one that is due at a time, whatever the clock
+abbrev pub picked : Choice → Fields → Shape → ℕ → Option Plan
+picked Room config shape clock = choice config shape clock []
+picked (DueAt to) config shape clock = due config shape to
+
+-- the plan that is picked in what is stored, at its own clock
+abbrev pub chosen_by : Choice → Stored → Option Plan
+chosen_by by s = picked by s.manifest.config (shape_of (layout_of s)) s.manifest.clock
+
+-- that of the merges that make room
+abbrev pub room_choice : Stored → Option Plan
+room_choice = chosen_by Room
+
+-- that of the merges that are due at a time
+abbrev pub due_choice : ℕ → Stored → Option Plan
+due_choice to = chosen_by (DueAt to)
+
+-- no merge is chosen
+abbrev pub HasNoMergeBy : (Stored → Option Plan) → Stored → Type 0
+HasNoMergeBy chosen s = chosen s ≡ None
 
 -- no merge is due at its clock
 abbrev pub HasNoMerge : Stored → Type 0
-HasNoMerge s = choice s.manifest.config (shape_of (layout_of s)) s.manifest.clock [] ≡ None
+HasNoMerge = HasNoMergeBy room_choice
 
 -- a merge, and what is stored behind it
 pub record Outcome : Type 0 where
@@ -44,20 +71,36 @@ pub record MayMerge (view : View) (s : Stored) (task : PlainTask) (t : Stored) (
   pub left_is : made.left.items ≡ names_in left
   pub copied : All (IsCopied t) left
 
--- the merge that is due, with its outcome
-pub record IsOutcome (s : Stored) (outcome : Outcome) : Type 0 where
-  pub begun : IsBegunIn s outcome.task
+-- the task of the plan that is chosen
+pub record IsBegunBy (chosen : Stored → Option Plan) (s : Stored) (task : PlainTask) : Type 0 where
+  pub is_chosen : chosen s ≡ Some task.plan
+  pub planned : IsPlanned s task
+  pub open planned use *
+
+-- the merge that is chosen, with its outcome
+pub record IsOutcomeBy (chosen : Stored → Option Plan) (s : Stored) (outcome : Outcome) : Type 0 where
+  pub begun : IsBegunBy chosen s outcome.task
   pub merged_is : IsMerged s begun.m (pending_of s) outcome.task.alone outcome.task.upto outcome.to
 
--- the merges that are due, one after another, until none is
-abbrev pub AreOutcomes : Stored → List Outcome → Stored → Type 0
-AreOutcomes s [] t = HasNoMerge s × (t ≡ s)
-AreOutcomes s (outcome ∷ more) t = IsOutcome s outcome × AreOutcomes outcome.to more t
+-- the merges that are chosen, one after another, until none is
+abbrev pub AreOutcomesBy : (Stored → Option Plan) → Stored → List Outcome → Stored → Type 0
+AreOutcomesBy chosen s [] t = HasNoMergeBy chosen s × (t ≡ s)
+AreOutcomesBy chosen s (outcome ∷ more) t = IsOutcomeBy chosen s outcome × AreOutcomesBy chosen outcome.to more t
 
--- some of the merges that are due, one after another
+-- some of the merges that are chosen, one after another
+abbrev pub AreSomeOutcomesBy : (Stored → Option Plan) → Stored → List Outcome → Stored → Type 0
+AreSomeOutcomesBy chosen s [] t = t ≡ s
+AreSomeOutcomesBy chosen s (outcome ∷ more) t = IsOutcomeBy chosen s outcome × AreSomeOutcomesBy chosen outcome.to more t
+
+-- those that make room
+abbrev pub IsOutcome : Stored → Outcome → Type 0
+IsOutcome = IsOutcomeBy room_choice
+
+abbrev pub AreOutcomes : Stored → List Outcome → Stored → Type 0
+AreOutcomes = AreOutcomesBy room_choice
+
 abbrev pub AreSomeOutcomes : Stored → List Outcome → Stored → Type 0
-AreSomeOutcomes s [] t = t ≡ s
-AreSomeOutcomes s (outcome ∷ more) t = IsOutcome s outcome × AreSomeOutcomes outcome.to more t
+AreSomeOutcomes = AreSomeOutcomesBy room_choice
 
 -- level 0 has at least twice as many files as the ratio
 abbrev pub IsCrowded : Stored → Type 0
@@ -112,11 +155,14 @@ pub record IsTaskOf (view : View) (task : PlainTask) : Type 0 where
   pub cited : AllZip (IsCitedAs view.levels) view.state.manifest.files files
   pub some : counted_in (inputs_in task) ≤ counted_in files
 
--- The numbers of the objects of the merge that is due, and of a manifest, can't be drawn. On any disk these are no more than as many entries take as the headers of its inputs count.
-pub record IsShortToMerge (Tells : Type 0) (view : View) : Type 0 where
+-- The numbers of the objects of the merge that is chosen, and of a manifest, can't be drawn. On any disk these are no more than as many entries take as the headers of its inputs count.
+pub record IsShortToMergeBy (chosen : Stored → Option Plan) (Tells : Type 0) (view : View) : Type 0 where
   pub task : PlainTask
   pub of : IsTaskOf view task
   pub drafts : List Draft
   pub bounded : sum_by numbers_for drafts ≤ most_numbers (counted_in (inputs_in task))
   pub short : max_place ≤ view.state.next + sum_by numbers_for drafts
-  pub are : Tells → (s : Stored) → Holds view s → IsBegunIn s task × AreDraftsOf task.config (merged (entries_in (inputs_in task)) task.erases task.alone) drafts
+  pub are : Tells → (s : Stored) → Holds view s → IsBegunBy chosen s task × AreDraftsOf task.config (merged (entries_in (inputs_in task)) task.erases task.alone) drafts
+
+abbrev pub IsShortToMerge : Type 0 → View → Type 0
+IsShortToMerge = IsShortToMergeBy room_choice

@@ -2,15 +2,16 @@
 ghost use Rattle.std.specs.Prelude.{◌≡◌, ◌<◌, ◌-◌, None, Ok, length, slice_index, IfOk, IfSome};
 ghost use Rattle.lethe_stored.specs.Stored.{Stored};
 ghost use Rattle.lethe_state.specs.Writable.{IsWritable};
-ghost use Rattle.lethe_job.specs.Tasks.{IsBegunIn, plain_task};
-ghost use Rattle.lethe_core.specs.Merges.{HasNoMerge, IsTaskOf};
+ghost use Rattle.lethe_job.specs.Tasks.{plain_task};
+ghost use Rattle.lethe_core.specs.Merges.{HasNoMergeBy, IsBegunBy, IsTaskOf, chosen_by};
 ghost use Rattle.lethe_core.specs.Running.{Holds};
 ghost use Rattle.lethe_core.specs.View.{view_of};
 
 use crate::Flight;
+use crate::choosing::Choice;
 use lethe_base::{Name, NoMemory};
 use lethe_disk::Disk;
-use lethe_job::{BegunJobs, Task, cited_files, next_task};
+use lethe_job::{BegunJobs, Task, cited_files, shape_of, task_of};
 use lethe_state::State;
 use lethe_version::Version;
 use std::alloc::Global;
@@ -30,11 +31,15 @@ pub struct Core<D: Disk> {
 }
 
 impl<D: Disk> Core<D> {
-    /// The merge that is due, and None where none is. It reads no page and makes no device call.
-    pub(crate) fn next_task(&self, alloc: Global) -> Result<Option<Task<D>>, NoMemory>
+    /// The merge that is chosen, and None where none is. It reads no page and makes no device call.
+    pub(crate) fn next_task(
+        &self,
+        alloc: Global,
+        choice: Choice,
+    ) -> Result<Option<Task<D>>, NoMemory>
         requires { IsWritable self.now.state }
-        ensures none { (s : Stored) → Holds (view_of self.now) s → result ≡ Ok None → HasNoMerge s }
-        ensures some { (s : Stored) → Holds (view_of self.now) s → IfOk result (λ found. IfSome found (λ task. IsBegunIn s (plain_task task))) }
+        ensures none { (s : Stored) → Holds (view_of self.now) s → result ≡ Ok None → HasNoMergeBy (chosen_by choice) s }
+        ensures some { (s : Stored) → Holds (view_of self.now) s → IfOk result (λ found. IfSome found (λ task. IsBegunBy (chosen_by choice) s (plain_task task))) }
 
         // On any disk:
         ensures level { IfOk result (λ found. IfSome found (λ task. task.level < self.now.state.manifest.config.levels)) }
@@ -44,15 +49,15 @@ impl<D: Disk> Core<D> {
         ensures of { IfOk result (λ found. IfSome found (λ task. IsTaskOf (view_of self.now) (plain_task task))) }
     {
         let manifest = self.state.manifest();
+        let config = &manifest.config;
+        let erases = self.state.pending();
         let files = cited_files(alloc, &self.version, manifest.files.items())?;
-        next_task(
-            alloc,
-            files,
-            &manifest.config,
-            manifest.clock,
-            self.state.pending(),
-            self.state.count(),
-        )
+        let shape = shape_of(alloc, &files, config.fields().levels, erases)?;
+        let Some(plan) = choice.pick(&shape, config, manifest.clock) else {
+            return Ok(None);
+        };
+        let task = task_of(alloc, &files, plan, config, erases, self.state.count())?;
+        Ok(Some(task))
     }
 
     /// The number of the active segment.

@@ -1,6 +1,7 @@
 //! The core of a store: what it has in memory and on its disk, and the steps that its calls are made of.
 #![tactic(auto)]
 
+mod choosing;
 mod descent;
 mod flight;
 mod holding;

@@ -14,7 +14,8 @@ ghost use Rattle.lethe_core.specs.Descent.{steps_down};
 ghost use Rattle.lethe_job.specs.Jobs.{told_as};
 ghost use Rattle.lethe_job.specs.Tasks.{PlainTask, inputs_in, pages_in};
 ghost use Rattle.lethe_core.specs.Keeps.{Keeps, MayStep};
-ghost use Rattle.lethe_core.specs.Merges.{AreOutcomes, AreSomeOutcomes, HasNoMerge, IsCrowded, IsMergedInPart, IsOutcome, IsShortToMerge, IsUncrowded, MayMerge, Outcome, pages_of, retired_behind};
+ghost use Rattle.lethe_core.specs.Merges.{AreOutcomesBy, AreSomeOutcomesBy, HasNoMergeBy, IsOutcomeBy, IsShortToMergeBy, chosen_by, due_choice};
+ghost use Rattle.lethe_core.specs.Merges.{IsCrowded, IsMergedInPart, IsShortToMerge, IsUncrowded, MayMerge, Outcome, pages_of, retired_behind};
 ghost use Rattle.lethe_core.specs.Reasons.{HasReason, IsUnreadable, told_since};
 ghost use Rattle.lethe_core.specs.Running.{Holds, IsSound};
 ghost use Rattle.lethe_core.specs.StandsNow.{IsCounted, StandsNow};
@@ -22,6 +23,7 @@ ghost use Rattle.lethe_core.specs.Steps.{IsDoneInPart, IsSteady, IsUndone};
 ghost use Rattle.lethe_core.specs.View.{view_of};
 
 use crate::Core;
+use crate::choosing::Choice;
 use crate::descent::steps_down;
 use lethe_base::{NoMemory, Refused};
 use lethe_disk::{Disk, ReadRefused};
@@ -56,7 +58,35 @@ impl<D: Disk> Core<D> {
         if self.flight.is_some() || !self.is_crowded() {
             return Ok(());
         }
-        self.merge_all(alloc, port, before)
+        self.merge_all(alloc, port, before, Choice::Room)
+    }
+
+    /// Carries out the merges that are due at a time, one after another until none is, where no job is in flight.
+    pub fn ripen(
+        &mut self,
+        alloc: Global,
+        port: &mut D::Port,
+        before: u64,
+        to: u64,
+    ) -> Result<(), Refused>
+        requires may { MayStep D.tells (view_of self.old) before }
+        requires free { self.old.flight ≡ None }
+        ensures keeps { Keeps D.tells (view_of self.old) (view_of self.new) (result_err result) }
+        ensures partly { IfErr result (IsDoneInPart D.tells (λ s t. (outcomes : List Outcome) × AreSomeOutcomesBy (due_choice to) s outcomes t) (view_of self.old) (view_of self.new)) }
+        ensures done { D.tells → (s : Stored) → Holds (view_of self.old) s
+            → OnOk result ((t : Stored) × (outcomes : List Outcome) × AreOutcomesBy (due_choice to) s outcomes t × Holds (view_of self.new) t
+            × (D.fetches port.new ≡ D.fetches port.old + pages_of outcomes) × ((view_of self.new).retired ≡ retired_behind outcomes (view_of self.old).retired)) }
+        ensures steady { OnOk result (IsSteady self.old.state self.new.state) }
+        ensures why { IfErr result (λ why. HasReason (IsShortToMergeBy (due_choice to) D.tells (view_of self.new)) self.old.state before (D.faults self.new.disk) why
+            ⊎ IsUnreadable D.tells D.ports_fail (D.port_faults port.old) (D.port_faults port.new) why) }
+        ensures free { self.new.flight ≡ None }
+        ensures begun { self.new.begun ≡ self.old.begun }
+        ensures port_faults { D.port_faults port.old ≤ D.port_faults port.new }
+        // Where a page is told as damaged, a fetch was made in this call, on any disk.
+        ensures fetched { (name : Name) → IsErrOf result (refused.Damaged name) → D.fetches port.old < D.fetches port.new }
+        ensures fetches { D.fetches port.old ≤ D.fetches port.new }
+    {
+        self.merge_all(alloc, port, before, Choice::DueAt(to))
     }
 
     /// Whether level 0 has at least twice as many files as the ratio.
@@ -68,17 +98,23 @@ impl<D: Disk> Core<D> {
         self.version.files(0).len() as u64 >= 2 * ratio
     }
 
-    /// Carries out the merges that are due, one after another until none is, where no job is in flight.
-    fn merge_all(&mut self, alloc: Global, port: &mut D::Port, before: u64) -> Result<(), Refused>
+    /// Carries out the merges that are chosen, one after another until none is, where no job is in flight.
+    fn merge_all(
+        &mut self,
+        alloc: Global,
+        port: &mut D::Port,
+        before: u64,
+        choice: Choice,
+    ) -> Result<(), Refused>
         requires may { MayStep D.tells (view_of self.old) before }
         requires free { self.old.flight ≡ None }
         ensures keeps { Keeps D.tells (view_of self.old) (view_of self.new) (result_err result) }
-        ensures partly { IfErr result (IsDoneInPart D.tells (λ s t. (outcomes : List Outcome) × AreSomeOutcomes s outcomes t) (view_of self.old) (view_of self.new)) }
+        ensures partly { IfErr result (IsDoneInPart D.tells (λ s t. (outcomes : List Outcome) × AreSomeOutcomesBy (chosen_by choice) s outcomes t) (view_of self.old) (view_of self.new)) }
         ensures done { D.tells → (s : Stored) → Holds (view_of self.old) s
-            → OnOk result ((t : Stored) × (outcomes : List Outcome) × AreOutcomes s outcomes t × Holds (view_of self.new) t
+            → OnOk result ((t : Stored) × (outcomes : List Outcome) × AreOutcomesBy (chosen_by choice) s outcomes t × Holds (view_of self.new) t
             × (D.fetches port.new ≡ D.fetches port.old + pages_of outcomes) × ((view_of self.new).retired ≡ retired_behind outcomes (view_of self.old).retired)) }
         ensures steady { OnOk result (IsSteady self.old.state self.new.state) }
-        ensures why { IfErr result (λ why. HasReason (IsShortToMerge D.tells (view_of self.new)) self.old.state before (D.faults self.new.disk) why
+        ensures why { IfErr result (λ why. HasReason (IsShortToMergeBy (chosen_by choice) D.tells (view_of self.new)) self.old.state before (D.faults self.new.disk) why
             ⊎ IsUnreadable D.tells D.ports_fail (D.port_faults port.old) (D.port_faults port.new) why) }
         ensures free { self.new.flight ≡ None }
         ensures begun { self.new.begun ≡ self.old.begun }
@@ -91,7 +127,7 @@ impl<D: Disk> Core<D> {
 
         // Each merge brings an entry a level down, so there are no more of them than levels that the entries have still to go.
         for _ in 0..self.most_merges(alloc)?.saturating_add(1) {
-            match self.merge_next(alloc, port, before) {
+            match self.merge_next(alloc, port, before, choice) {
                 Ok(true) => {}
                 Ok(false) => return Ok(()),
                 Err(why) => return Err(told_since(why, earlier)),
@@ -113,24 +149,25 @@ impl<D: Disk> Core<D> {
         }
     }
 
-    /// Carries out the merge that is due, and answers whether there was one, where no job is in flight.
+    /// Carries out the merge that is chosen, and answers whether there was one, where no job is in flight.
     fn merge_next(
         &mut self,
         alloc: Global,
         port: &mut D::Port,
         before: u64,
+        choice: Choice,
     ) -> Result<bool, Refused>
         requires may { MayStep D.tells (view_of self.old) before }
         requires free { self.old.flight ≡ None }
         ensures keeps { Keeps D.tells (view_of self.old) (view_of self.new) (result_err result) }
         ensures undone { IfErr result (IsUndone D.tells (view_of self.old) (view_of self.new)) }
-        ensures ended { result ≡ Ok false → (self.new ≡ self.old) × (D.fetches port.new ≡ D.fetches port.old) × ((s : Stored) → Holds (view_of self.old) s → HasNoMerge s) }
+        ensures ended { result ≡ Ok false → (self.new ≡ self.old) × (D.fetches port.new ≡ D.fetches port.old) × ((s : Stored) → Holds (view_of self.old) s → HasNoMergeBy (chosen_by choice) s) }
         ensures done { D.tells → (s : Stored) → Holds (view_of self.old) s → result ≡ Ok true
-            → (outcome : Outcome) × IsOutcome s outcome × Holds (view_of self.new) outcome.to
+            → (outcome : Outcome) × IsOutcomeBy (chosen_by choice) s outcome × Holds (view_of self.new) outcome.to
             × (D.fetches port.new ≡ D.fetches port.old + pages_in (inputs_in outcome.task)) }
         ensures steady { OnOk result (IsSteady self.old.state self.new.state) }
         ensures retired { result ≡ Ok true → self.new.retired.items ≡ [] }
-        ensures why { IfErr result (λ why. HasReason (IsShortToMerge D.tells (view_of self.new)) self.old.state before (D.faults self.new.disk) why
+        ensures why { IfErr result (λ why. HasReason (IsShortToMergeBy (chosen_by choice) D.tells (view_of self.new)) self.old.state before (D.faults self.new.disk) why
             ⊎ IsUnreadable D.tells D.ports_fail (D.port_faults port.old) (D.port_faults port.new) why) }
         ensures free { self.new.flight ≡ None }
         ensures begun { self.new.begun ≡ self.old.begun }
@@ -139,7 +176,7 @@ impl<D: Disk> Core<D> {
         ensures fetched { (name : Name) → IsErrOf result (refused.Damaged name) → D.fetches port.old < D.fetches port.new }
         ensures fetches { D.fetches port.old ≤ D.fetches port.new }
     {
-        let task = match self.next_task(alloc) {
+        let task = match self.next_task(alloc, choice) {
             Ok(Some(task)) => task,
             Ok(None) => return Ok(false),
             Err(NoMemory) => return Err(Refused::NoMemory),

@@ -21,6 +21,7 @@ ghost use Rattle.lethe_core.specs.StandsNow.{StandsNow};
 ghost use Rattle.lethe_core.specs.Steps.{IsSteady, IsUndone};
 ghost use Rattle.lethe_core.specs.View.{face_of, view_of};
 
+use crate::choosing::Choice;
 use crate::{Core, Flight};
 use lethe_base::{MAX_PLACE, NoMemory, Refused};
 use lethe_build::Draft;
@@ -55,7 +56,7 @@ impl<D: Disk> Core<D> {
         ensures idle { D.tells → IsIdle (D.seen self.old.disk) (D.seen self.new.disk) }
         ensures faults { D.faults self.new.disk ≡ D.faults self.old.disk }
     {
-        let Some(task) = self.next_task(alloc)? else {
+        let Some(task) = self.next_task(alloc, Choice::Room)? else {
             return Ok(None);
         };
         let port = self.disk.port(alloc)?;

@@ -4,10 +4,12 @@ use Rattle.lethe_stored.specs.Stored.{Stored}
 use Rattle.lethe_job.specs.declared.number.BegunJobs.{BegunJobs}
 use Rattle.lethe_job.specs.Tasks.{IsBegunIn, plain_task}
 use Rattle.lethe_core.specs.Jobs.{IsAtWork, with_begun}
+use Rattle.lethe_core.specs.Merges.{IsBegunBy, room_choice}
 use Rattle.lethe_core.specs.Running.{Holds, IsSound}
 use Rattle.lethe_core.specs.StandsNow.{StandsNow}
 use Rattle.lethe_core.specs.View.{Face, Flying, face_of, flying_of, view_of}
 use Rattle.lethe_core.proofs.Begun.{begun_holds, begun_sound, begun_stands, idle_holds, idle_sound, idle_stands}
+use Rattle.lethe_core.proofs.Chosen.{begun_in}
 use Rattle.lethe_core.proofs.holding.Core.begin_now.Goals as goal
 
 -- Where there was no memory
@@ -52,7 +54,7 @@ returns-clause-sound g c =
     let same : flying_of (record { number = c.of.result; task = c.in_ok-shared.shared; written = c.new-2.result }) ≡ flying = λ i. record { number = (c.of.ensures i).count; task = plain_task (value i); written = c.new-2.ensures i } in
     let now : record { begun = c.more-self.result.count; flight = Some (flying_of (record { number = c.of.result; task = c.in_ok-shared.shared; written = c.new-2.result })); retired = old.retired } ≡ with_begun (face_of old) task =
     λ i. record { begun = c.more-self.ensures i; flight = Some (same i); retired = old.retired } in
-    let begun : (s : Stored) → Holds old s → IsBegunIn s task = λ s holds. subst (λ found. IfSome found (λ task. IsBegunIn s (plain_task task))) c.in-Some.is (c.in_ok-task.ensures.some s holds) in
+    let begun : (s : Stored) → Holds old s → IsBegunIn s task = λ s holds. begun_in s task (subst (λ found. IfSome found (λ task. IsBegunBy room_choice s (plain_task task))) c.in-Some.is (c.in_ok-task.ensures.some s holds)) in
     let level = subst (λ found. IfSome found (λ task. task.level < old.state.manifest.config.levels)) c.in-Some.is c.in_ok-task.ensures.level in
     let upto = subst (λ found. IfSome found (λ task. task.upto ≡ old.state.count)) c.in-Some.is c.in_ok-task.ensures.upto in
     let erases = subst (λ found. IfSome found (λ task. task.erases ≡ old.state.pending)) c.in-Some.is c.in_ok-task.ensures.erases in
@@ -71,7 +73,7 @@ returns-clause-stands g c = λ told config h stands.
     let same : flying_of (record { number = c.of.result; task = c.in_ok-shared.shared; written = c.new-2.result }) ≡ flying = λ i. record { number = (c.of.ensures i).count; task = plain_task (value i); written = c.new-2.ensures i } in
     let now : record { begun = c.more-self.result.count; flight = Some (flying_of (record { number = c.of.result; task = c.in_ok-shared.shared; written = c.new-2.result })); retired = old.retired } ≡ with_begun (face_of old) task =
     λ i. record { begun = c.more-self.ensures i; flight = Some (same i); retired = old.retired } in
-    let begun : (s : Stored) → Holds old s → IsBegunIn s task = λ s holds. subst (λ found. IfSome found (λ task. IsBegunIn s (plain_task task))) c.in-Some.is (c.in_ok-task.ensures.some s holds) in
+    let begun : (s : Stored) → Holds old s → IsBegunIn s task = λ s holds. begun_in s task (subst (λ found. IfSome found (λ task. IsBegunBy room_choice s (plain_task task))) c.in-Some.is (c.in_ok-task.ensures.some s holds)) in
     subst (λ (face : Face). StandsNow config h (record old { disk = seen; faults = faults; flight = face.flight; begun = face.begun })) (sym now)
     (idle_stands (record old { flight = Some flying; begun = old.begun + 1 }) seen faults (c.port.ensures.idle told) config h
     (begun_stands g.D.Disk.tells old task (ap (option_map flying_of) c.requires.free) c.requires.runs c.requires.sound begun config h stands))
@@ -87,7 +89,7 @@ returns-clause-held g c = λ told s holds.
     let same : flying_of (record { number = c.of.result; task = c.in_ok-shared.shared; written = c.new-2.result }) ≡ flying = λ i. record { number = (c.of.ensures i).count; task = plain_task (value i); written = c.new-2.ensures i } in
     let now : record { begun = c.more-self.result.count; flight = Some (flying_of (record { number = c.of.result; task = c.in_ok-shared.shared; written = c.new-2.result })); retired = old.retired } ≡ with_begun (face_of old) task =
     λ i. record { begun = c.more-self.ensures i; flight = Some (same i); retired = old.retired } in
-    let begun : (s : Stored) → Holds old s → IsBegunIn s task = λ s holds. subst (λ found. IfSome found (λ task. IsBegunIn s (plain_task task))) c.in-Some.is (c.in_ok-task.ensures.some s holds) in
+    let begun : (s : Stored) → Holds old s → IsBegunIn s task = λ s holds. begun_in s task (subst (λ found. IfSome found (λ task. IsBegunBy room_choice s (plain_task task))) c.in-Some.is (c.in_ok-task.ensures.some s holds)) in
     subst (λ (face : Face). Holds (record old { disk = seen; faults = faults; flight = face.flight; begun = face.begun }) s) (sym now)
     (idle_holds (record old { flight = Some flying; begun = old.begun + 1 }) seen faults (c.port.ensures.idle told) s
     (begun_holds g.D.Disk.tells old task (ap (option_map flying_of) c.requires.free) c.requires.runs c.requires.sound begun s holds))

@@ -5,7 +5,7 @@ use Rattle.lethe_base.specs.declared.refused.Refused.{Refused}
 use Rattle.lethe_base.specs.declared.refused.Refused.TheVariants.{Damaged}
 use Rattle.lethe_core.specs.Asked.{failure_of}
 use Rattle.lethe_core.specs.Keeps.{Keeps}
-use Rattle.lethe_core.specs.Merges.{AreSomeOutcomes, IsShortToMerge, Outcome}
+use Rattle.lethe_core.specs.Merges.{AreSomeOutcomesBy, IsShortToMergeBy, Outcome, chosen_by}
 use Rattle.lethe_core.specs.Reasons.{HasReason, IsUnreadable, told_since}
 use Rattle.lethe_core.specs.Running.{Holds}
 use Rattle.lethe_core.specs.Steps.{IsDoneInPart}
@@ -31,12 +31,12 @@ returns-in_err-most_merges-clause-partly g c =
     let why = c.in_err-most_merges.field-0.0 in
     let refusal : c.from_residual.result ≡ Err why = search rules in
     let old = view_of c.args.self.now in
-    subst (λ (r : Result (Unit {0}) Refused). IfErr r (IsDoneInPart g.D.Disk.tells (λ s t. (outcomes : List Outcome) × AreSomeOutcomes s outcomes t) old old)) (sym refusal)
+    subst (λ (r : Result (Unit {0}) Refused). IfErr r (IsDoneInPart g.D.Disk.tells (λ s t. (outcomes : List Outcome) × AreSomeOutcomesBy (chosen_by c.args.choice) s outcomes t) old old)) (sym refusal)
     (λ none told s holds. (s, ([], refl), holds))
 
 pub loop-init : goal.loop-init
 loop-init g c = record {
-  merged = none_merged g.D.Disk.tells (view_of c.args.self.now) c.args.before (g.D.Disk.fetches c.args.port.now) (g.D.Disk.port_faults c.args.port.now) c.requires.may;
+  merged = none_merged (chosen_by c.args.choice) g.D.Disk.tells (view_of c.args.self.now) c.args.before (g.D.Disk.fetches c.args.port.now) (g.D.Disk.port_faults c.args.port.now) c.requires.may;
   free = c.requires.free;
   begun = refl;
   fetches = omega arith;
@@ -46,7 +46,7 @@ pub loop-preserved : goal.loop-preserved
 loop-preserved g c =
     let ok : c.merge_next.result ≡ Ok true = c.in-Ok-true.is ∙ ap Ok c.in-Ok-true.field-0-test in
     record {
-      merged = once_more g.D.Disk.tells (view_of c.args.self.now) (view_of c.loop.self) c.args.before c.loop.counter (g.D.Disk.fetches c.args.port.now) (g.D.Disk.fetches c.loop.port)
+      merged = once_more (chosen_by c.args.choice) g.D.Disk.tells (view_of c.args.self.now) (view_of c.loop.self) c.args.before c.loop.counter (g.D.Disk.fetches c.args.port.now) (g.D.Disk.fetches c.loop.port)
           (g.D.Disk.port_faults c.args.port.now) (g.D.Disk.port_faults c.loop.port) c.loop.invariant.merged
           (view_of c.merge_next.new.self) (g.D.Disk.fetches c.merge_next.new.port) (g.D.Disk.port_faults c.merge_next.new.port)
           (subst (λ (r : Result Bool Refused). Keeps g.D.Disk.tells (view_of c.loop.self) (view_of c.merge_next.new.self) (result_err r)) ok c.merge_next.ensures.keeps) c.in-Ok-true.ensures.steady
@@ -57,7 +57,7 @@ loop-preserved g c =
     }
 
 pub merge_next-requires-clause-may : goal.merge_next-requires-clause-may
-merge_next-requires-clause-may g c κs within = merged_may g.D.Disk.tells _ _ c.args.before _ _ _ _ _ c.loop.invariant.merged c.requires.may
+merge_next-requires-clause-may g c κs within = merged_may (chosen_by c.args.choice) g.D.Disk.tells _ _ c.args.before _ _ _ _ _ c.loop.invariant.merged c.requires.may
 
 pub returns-in-Ok-false-clause-keeps : goal.returns-in-Ok-false-clause-keeps
 returns-in-Ok-false-clause-keeps g c =
@@ -67,7 +67,7 @@ returns-in-Ok-false-clause-keeps g c =
 pub returns-in-Ok-false-clause-done : goal.returns-in-Ok-false-clause-done
 returns-in-Ok-false-clause-done g c = λ told s holds.
     let ended = c.merge_next.ensures.ended (c.in-Ok-false.is ∙ ap Ok c.in-Ok-false.field-0-test) in
-    let done = no_more g.D.Disk.tells (view_of c.args.self.now) (view_of c.loop.self) c.args.before c.loop.counter (g.D.Disk.fetches c.args.port.now) (g.D.Disk.fetches c.loop.port)
+    let done = no_more (chosen_by c.args.choice) g.D.Disk.tells (view_of c.args.self.now) (view_of c.loop.self) c.args.before c.loop.counter (g.D.Disk.fetches c.args.port.now) (g.D.Disk.fetches c.loop.port)
     (g.D.Disk.port_faults c.args.port.now) (g.D.Disk.port_faults c.loop.port) c.loop.invariant.merged told s holds ended.2 in
     (done.0, done.1, done.2, subst (λ core. Holds (view_of core) done.0) (sym ended.0) done.3, ended.1 ∙ done.4, (λ i. (ended.0 i).retired.items) ∙ done.5)
 
@@ -85,7 +85,7 @@ returns-in-Err-clause-partly g c = λ none told s holds.
     let old = view_of c.args.self.now in
     let mid = view_of c.loop.self in
     let new = view_of c.merge_next.new.self in
-    let some = some_merged g.D.Disk.tells old mid c.args.before c.loop.counter (g.D.Disk.fetches c.args.port.now) (g.D.Disk.fetches c.loop.port)
+    let some = some_merged (chosen_by c.args.choice) g.D.Disk.tells old mid c.args.before c.loop.counter (g.D.Disk.fetches c.args.port.now) (g.D.Disk.fetches c.loop.port)
     (g.D.Disk.port_faults c.args.port.now) (g.D.Disk.port_faults c.loop.port) c.loop.invariant.merged told s holds in
     let why = c.in-Err.why in
     let earlier = c.port_faults-earlier.result in
@@ -96,7 +96,7 @@ returns-in-Err-clause-partly g c = λ none told s holds.
 pub returns-in-Err-clause-why : goal.returns-in-Err-clause-why
 returns-in-Err-clause-why g c =
     let new = c.merge_next.new.self in
-    let Short = IsShortToMerge g.D.Disk.tells (view_of new) in
+    let Short = IsShortToMergeBy (chosen_by c.args.choice) g.D.Disk.tells (view_of new) in
     let now = g.D.Disk.faults new.disk in
     let later = g.D.Disk.port_faults c.merge_next.new.port in
     let either = either_since Short g.D.Disk.tells g.D.Disk.ports_fail c.args.self.now.state c.loop.self.state c.args.before now (g.D.Disk.port_faults c.args.port.now) (g.D.Disk.port_faults c.loop.port) later
@@ -120,6 +120,6 @@ returns-in_err-most_merges-clause-fetched g c = λ name e.
 
 pub returns-clause-done : goal.returns-clause-done
 returns-clause-done g c = λ told s holds.
-    absurd (too_many g.D.Disk.tells (view_of c.args.self.now) (view_of c.loop.self) c.args.before c.loop.counter (g.D.Disk.fetches c.args.port.now) (g.D.Disk.fetches c.loop.port)
+    absurd (too_many (chosen_by c.args.choice) g.D.Disk.tells (view_of c.args.self.now) (view_of c.loop.self) c.args.before c.loop.counter (g.D.Disk.fetches c.args.port.now) (g.D.Disk.fetches c.loop.port)
     (g.D.Disk.port_faults c.args.port.now) (g.D.Disk.port_faults c.loop.port) c.loop.invariant.merged told s holds c.in_ok-most_merges.field-0 (c.in_ok-most_merges.ensures.most s holds)
     (let over = c.loop-test.false in let end = c.saturating_add-end.ensures in omega (arith, over, end)))

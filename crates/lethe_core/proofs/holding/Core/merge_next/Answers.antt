@@ -4,10 +4,10 @@ use Rattle.std.specs.Result.{result_err}
 use Rattle.lethe_base.specs.declared.refused.Refused.{Refused}
 use Rattle.lethe_base.specs.declared.refused.Refused.TheVariants.{Damaged, NoMemory}
 use Rattle.lethe_stored.specs.Stored.{Stored}
-use Rattle.lethe_job.specs.Tasks.{IsBegunIn, plain_task}
+use Rattle.lethe_job.specs.Tasks.{plain_task}
 use Rattle.lethe_core.specs.Asked.{failure_of}
 use Rattle.lethe_core.specs.Keeps.{Keeps}
-use Rattle.lethe_core.specs.Merges.{IsShortToMerge, IsTaskOf}
+use Rattle.lethe_core.specs.Merges.{IsBegunBy, IsShortToMergeBy, IsTaskOf, chosen_by}
 use Rattle.lethe_core.specs.Reasons.{HasReason, IsUnreadable}
 use Rattle.lethe_core.specs.Running.{Holds}
 use Rattle.lethe_core.specs.Steps.{IsUndone}
@@ -15,7 +15,7 @@ use Rattle.lethe_core.specs.View.{flying_of, view_of}
 use Rattle.lethe_core.proofs.Asked.{not_failed}
 use Rattle.lethe_core.proofs.Fetched.{damaged_as, not_damaged, not_short}
 use Rattle.lethe_core.proofs.Hindered.{as_itself, keeps_itself}
-use Rattle.lethe_core.proofs.Installing.{begun_counted, begun_sound, next_outcome}
+use Rattle.lethe_core.proofs.Installing.{next_outcome, planned_counted, planned_sound}
 use Rattle.lethe_core.proofs.Unread.{not_failed_read, short_reason, told_reason}
 use Rattle.lethe_core.proofs.holding.Core.merge_next.Goals as goal
 
@@ -39,17 +39,18 @@ pub returns-in-Err-outcome-clause-why : goal.returns-in-Err-outcome-clause-why
 returns-in-Err-outcome-clause-why g c =
     let core = c.args.self.now in
     let view = view_of core in
-    let Short = IsShortToMerge g.D.Disk.tells view in
+    let Short = IsShortToMergeBy (chosen_by c.args.choice) g.D.Disk.tells view in
     let earlier = g.D.Disk.port_faults c.args.port.now in
     let later = g.D.Disk.port_faults c.outcome.new.port in
     let task = plain_task c.in-Ok-Some.task in
     let found : c.in-Ok-Some.field-0 ≡ Some c.in-Ok-Some.task = cc in
-    let begins : (s : Stored) → Holds view s → IsBegunIn s task = λ s holds. subst (λ found. IfSome found (λ task. IsBegunIn s (plain_task task))) found (c.in-Ok-Some.ensures.some s holds) in
+    let begins : (s : Stored) → Holds view s → IsBegunBy (chosen_by c.args.choice) s task = λ s holds.
+    subst (λ found. IfSome found (λ task. IsBegunBy (chosen_by c.args.choice) s (plain_task task))) found (c.in-Ok-Some.ensures.some s holds) in
     subst (λ (why : Refused). HasReason Short view.state c.args.before view.faults why ⊎ IsUnreadable g.D.Disk.tells g.D.Disk.ports_fail earlier later why) (sym c.told_as.ensures)
     (told_reason Short g.D.Disk.tells g.D.Disk.ports_fail view.state c.args.before view.faults earlier later c.in-Err-outcome.why c.in-Err-outcome.ensures.cause c.in-Err-outcome.ensures.can_fail (λ told name is.
     let held = c.requires.may.sound.held told in
     let holds : Holds view held.0 = record { remembers = held.1; running = held.2 c.requires.may.runs } in
-    c.in-Err-outcome.ensures.undamaged told (begun_sound view task begins held.0 holds) name (ap Err is)))
+    c.in-Err-outcome.ensures.undamaged told (planned_sound view task (λ s holds. (begins s holds).planned) held.0 holds) name (ap Err is)))
 
 pub returns-in-Err-outcome-clause-fetched : goal.returns-in-Err-outcome-clause-fetched
 returns-in-Err-outcome-clause-fetched g c = λ name e.
@@ -91,10 +92,11 @@ returns-in_err-made-clause-undone g c =
 pub returns-in_err-made-clause-why : goal.returns-in_err-made-clause-why
 returns-in_err-made-clause-why g c =
     let view = view_of c.args.self.now in
-    let Short = IsShortToMerge g.D.Disk.tells view in
+    let Short = IsShortToMergeBy (chosen_by c.args.choice) g.D.Disk.tells view in
     let task = plain_task c.in-Ok-Some.task in
     let found : c.in-Ok-Some.field-0 ≡ Some c.in-Ok-Some.task = cc in
-    let begins : (s : Stored) → Holds view s → IsBegunIn s task = λ s holds. subst (λ found. IfSome found (λ task. IsBegunIn s (plain_task task))) found (c.in-Ok-Some.ensures.some s holds) in
+    let begins : (s : Stored) → Holds view s → IsBegunBy (chosen_by c.args.choice) s task = λ s holds.
+    subst (λ found. IfSome found (λ task. IsBegunBy (chosen_by c.args.choice) s (plain_task task))) found (c.in-Ok-Some.ensures.some s holds) in
     let why = c.in_err-made.field-0.0 in
     let refusal : c.from_residual.result ≡ Err why = search rules in
     let earlier = g.D.Disk.port_faults c.args.port.now in
@@ -106,7 +108,7 @@ returns-in_err-made-clause-why g c =
       drafts = c.in-Ok.drafts.items;
       bounded = c.in-Ok.ensures.bounded;
       short = let short = c.in_err-made.ensures.exhausted (ap Err is) in omega (arith, short);
-      are = λ told s holds. (begins s holds, c.in-Ok.ensures.drafts told (begun_sound view task begins s holds));
+      are = λ told s holds. (begins s holds, c.in-Ok.ensures.drafts told (planned_sound view task (λ s holds. (begins s holds).planned) s holds));
     })))
 
 pub merge_now-requires-clause-merges : goal.merge_now-requires-clause-merges
@@ -114,9 +116,11 @@ merge_now-requires-clause-merges g c κs within = λ told s holds.
     let view = view_of c.args.self.now in
     let task = plain_task c.in-Ok-Some.task in
     let found : c.in-Ok-Some.field-0 ≡ Some c.in-Ok-Some.task = cc in
-    let begins : (s : Stored) → Holds view s → IsBegunIn s task = λ s holds. subst (λ found. IfSome found (λ task. IsBegunIn s (plain_task task))) found (c.in-Ok-Some.ensures.some s holds) in
-    let next = next_outcome view task begins (ap (option_map flying_of) c.requires.free) g.D.Disk.tells c.in-Ok.drafts.items c.deref.result.now c.in_ok-made.made c.in_ok-made.ensures.installs (sym c.deref.ensures.value) c.in-Ok.ensures.drafts told s holds in
-    (task, next.0, next.2, begun_counted view task begins c.requires.may.runs)
+    let begins : (s : Stored) → Holds view s → IsBegunBy (chosen_by c.args.choice) s task = λ s holds.
+    subst (λ found. IfSome found (λ task. IsBegunBy (chosen_by c.args.choice) s (plain_task task))) found (c.in-Ok-Some.ensures.some s holds) in
+    let next = next_outcome view task (λ s holds. (begins s holds).planned) (ap (option_map flying_of) c.requires.free) g.D.Disk.tells
+    c.in-Ok.drafts.items c.deref.result.now c.in_ok-made.made c.in_ok-made.ensures.installs (sym c.deref.ensures.value) c.in-Ok.ensures.drafts told s holds in
+    (task, next.0, next.2, planned_counted view task (λ s holds. (begins s holds).planned) c.requires.may.runs)
 
 pub returns-in_err-merge_now-clause-keeps : goal.returns-in_err-merge_now-clause-keeps
 returns-in_err-merge_now-clause-keeps g c =
@@ -137,8 +141,10 @@ returns-clause-done g c = λ told s holds is.
     let view = view_of c.args.self.now in
     let task = plain_task c.in-Ok-Some.task in
     let found : c.in-Ok-Some.field-0 ≡ Some c.in-Ok-Some.task = cc in
-    let begins : (s : Stored) → Holds view s → IsBegunIn s task = λ s holds. subst (λ found. IfSome found (λ task. IsBegunIn s (plain_task task))) found (c.in-Ok-Some.ensures.some s holds) in
-    let next = next_outcome view task begins (ap (option_map flying_of) c.requires.free) g.D.Disk.tells c.in-Ok.drafts.items c.deref.result.now c.in_ok-made.made c.in_ok-made.ensures.installs (sym c.deref.ensures.value) c.in-Ok.ensures.drafts told s holds in (
+    let begins : (s : Stored) → Holds view s → IsBegunBy (chosen_by c.args.choice) s task = λ s holds.
+    subst (λ found. IfSome found (λ task. IsBegunBy (chosen_by c.args.choice) s (plain_task task))) found (c.in-Ok-Some.ensures.some s holds) in
+    let next = next_outcome view task (λ s holds. (begins s holds).planned) (ap (option_map flying_of) c.requires.free) g.D.Disk.tells
+    c.in-Ok.drafts.items c.deref.result.now c.in_ok-made.made c.in_ok-made.ensures.installs (sym c.deref.ensures.value) c.in-Ok.ensures.drafts told s holds in (
       record { task = task; to = next.0 },
       record { begun = begins s holds; merged_is = next.1 },
       c.in_ok-merge_now.ensures.done told s task next.0 holds next.2,

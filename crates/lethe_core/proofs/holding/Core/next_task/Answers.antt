@@ -1,14 +1,34 @@
-use Rattle.std.proofs.Common.{◌≤◌, ◌∙◌, List, ap, map, subst}
-use Rattle.std.specs.Prelude.{IfSome}
+use Rattle.std.proofs.Common.{◌≤◌, ◌∙◌, List, Some, ap, map, subst, sym}
 use Rattle.std.specs.List.{AllZip}
-use Rattle.std.proofs.lemmas.Option.{IfSome_then}
-use Rattle.std.proofs.lemmas.Result.{IfOk-weaker}
 use Rattle.lethe_manifest.specs.declared.manifest.Cited.{Cited}
 use Rattle.lethe_manifest.specs.declared.manifest.Manifest.{Manifest}
 use Rattle.lethe_job.specs.Tasks.{IsCitedAs, counted_in, inputs_in, plain_file, plain_task}
-use Rattle.lethe_core.specs.Merges.{IsTaskOf}
 use Rattle.lethe_core.specs.View.{view_of}
+use Rattle.lethe_core.proofs.Chosen.{picked_chosen, plan_named, stored_in}
 use Rattle.lethe_core.proofs.holding.Core.next_task.Goals as goal
+
+pub returns-in_default-clause-none : goal.returns-in_default-clause-none
+returns-in_default-clause-none g c = λ s holds ended.
+    let cited = ap (λ (m : Manifest). m.files) (sym (c.manifest-manifest.ensures ∙ holds.remembers.manifest)) ∙ sym c.items.ensures in
+    let files = c.in_ok-files.ensures.stored s holds.remembers.coherent cited holds.remembers.files in
+    sym (c.in_default.ensures ∙ picked_chosen c.args.choice c.manifest-manifest.result.now c.pending-erases.result.now c.fields.result.now c.fields.ensures.fields c.in_ok-files.files.items c.deref.result.now
+    c.deref.ensures.value c.in_ok-shape.shape c.in_ok-shape.ensures.shape (view_of c.args.self.now) c.manifest-manifest.ensures c.pending-erases.ensures s holds files)
+
+pub task_of-requires-clause-named : goal.task_of-requires-clause-named
+task_of-requires-clause-named g c κs within =
+    plan_named c.args.choice c.manifest-manifest.result.now c.pending-erases.result.now c.fields.result.now c.fields.ensures.fields c.in_ok-files.files.items c.deref.result.now c.deref.ensures.value
+    c.in_ok-shape.shape c.in_ok-shape.ensures.shape c.fields.ensures.limits c.in-Some.plan c.in-Some.ensures c.deref-2.result.now c.deref-2.ensures.value
+
+pub returns-clause-some : goal.returns-clause-some
+returns-clause-some g c = λ s holds.
+    let cited = ap (λ (m : Manifest). m.files) (sym (c.manifest-manifest.ensures ∙ holds.remembers.manifest)) ∙ sym c.items.ensures in
+    let files = c.in_ok-files.ensures.stored s holds.remembers.coherent cited holds.remembers.files in
+    let chosen = picked_chosen c.args.choice c.manifest-manifest.result.now c.pending-erases.result.now c.fields.result.now c.fields.ensures.fields c.in_ok-files.files.items c.deref.result.now
+    c.deref.ensures.value c.in_ok-shape.shape c.in_ok-shape.ensures.shape (view_of c.args.self.now) c.manifest-manifest.ensures c.pending-erases.ensures s holds files in
+    let store = stored_in c.args.choice c.manifest-manifest.result.now c.pending-erases.result.now c.fields.result.now c.fields.ensures.fields c.in_ok-files.files.items c.deref.result.now
+    c.deref.ensures.value c.in_ok-shape.shape c.in_ok-shape.ensures.shape (view_of c.args.self.now) c.manifest-manifest.ensures c.pending-erases.ensures s holds files c.deref-2.result.now c.deref-2.ensures.value
+    c.count.result c.count.ensures in
+    record { is_chosen = sym (c.in-Some.ensures ∙ chosen) ∙ ap Some (sym c.in_ok-task.ensures.plan); planned = c.in_ok-task.ensures.planned s store }
 
 pub returns-clause-of : goal.returns-clause-of
 returns-clause-of g c =
@@ -16,5 +36,5 @@ returns-clause-of g c =
     let files = map plain_file c.in_ok-files.files.items in
     let same = c.items.ensures ∙ ap (λ (m : Manifest). m.files) c.manifest-manifest.ensures in
     let cited = subst (λ (cited : List Cited). AllZip (IsCitedAs view.levels) cited files) same c.in_ok-files.ensures.each in
-    IfOk-weaker c.next_task.result (λ found. IfSome found (λ task. counted_in (inputs_in (plain_task task)) ≤ counted_in files)) (λ found. IfSome found (λ task. IsTaskOf view (plain_task task)))
-    (λ found some. IfSome_then found some (λ task few. record { files = files; cited = cited; some = few })) c.next_task.ensures.some_of
+    let some = subst (λ files. counted_in (inputs_in (plain_task c.in_ok-task.task)) ≤ counted_in (map plain_file files)) c.deref-2.ensures.value c.in_ok-task.ensures.some_of in
+    record { files = files; cited = cited; some = some }
