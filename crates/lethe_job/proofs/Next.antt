@@ -1,28 +1,22 @@
 -- The task of a plan in a store, as its files are told, and which plan is the choice.
-use Rattle.std.proofs.Common.{◌≡◌, ℕ, ◌+◌, ◌<◌, ◌≤◌, ◌^◌, true, false, eqb, List, [], ◌++◌, length, map, Some, None, sym, ap, ◌∙◌, subst, arith}
-use Rattle.std.specs.Prelude.{◌&&◌, ◌||◌, Contains, IsSome}
+use Rattle.std.proofs.Common.{◌≡◌, ℕ, ◌+◌, ◌<◌, ◌≤◌, ◌^◌, true, false, eqb, List, ◌++◌, length, map, Some, sym, ap, ◌∙◌, subst, arith}
+use Rattle.std.specs.Prelude.{◌&&◌, ◌||◌, Contains}
 use Rattle.std.proofs.lemmas.Bool.{and_left, and_parts, eqb-true, ne_eqb}
 use Rattle.std.proofs.lemmas.List.Sums.{sum_by-append}
 use Rattle.lethe_base.specs.Configuration.{IsConfig}
-use Rattle.lethe_base.specs.Shapes as shapes
 use Rattle.lethe_base.specs.declared.config.Fields.{Fields}
 use Rattle.lethe_base.specs.declared.pending.Pending.{Pending}
-use Rattle.lethe_base.specs.declared.shape.Shape.{Shape}
 use Rattle.lethe_disk.specs.declared.disk.Disk.{Ghosts}
-use Rattle.lethe_fade.specs.Choice.{choice}
 use Rattle.lethe_fade.specs.Spans.{KeyRange, overlaps}
 use Rattle.lethe_fade.specs.declared.plan.Plan.{Plan}
 use Rattle.lethe_header.specs.Headers.{entries_in}
 use Rattle.lethe_stored.specs.Files.{StoredFile, lines_in}
-use Rattle.lethe_stored.specs.Stored.{Stored, layout_of}
+use Rattle.lethe_stored.specs.Stored.{Stored}
 use Rattle.lethe_job.specs.Chosen.{hull_in, is_source, level_named, met_in, range_in, sources_in, task_in}
-use Rattle.lethe_job.specs.Shapes.{shape_of}
-use Rattle.lethe_job.specs.Tasks.{IsBegunIn, IsPlanned, IsStore, PlainTask, counted_in, inputs_in, plain_file}
+use Rattle.lethe_job.specs.Tasks.{IsPlanned, IsStore, PlainTask, counted_in, inputs_in, plain_file}
 use Rattle.lethe_job.specs.declared.filed.Filed.{Filed}
 use Rattle.lethe_job.proofs.Begun.{is_planned, level_from, source_there}
 use Rattle.lethe_job.proofs.Listed.{apart_sums}
-use Rattle.lethe_job.proofs.Named.{chosen_file, has_level}
-use Rattle.lethe_job.proofs.Shaped.{shape_same}
 
 -- the inputs are some of the files: none is a source and met by the sources
 some_inputs : (level number : ℕ) (keys : KeyRange) (files : List StoredFile) → counted_in (sources_in level number files ++ met_in (level + 1) keys files) ≤ counted_in files
@@ -41,33 +35,6 @@ task_some level plan files config erases count task is = subst (λ (task : Plain
 module _ {D Page Port : Type 0} {disk : Ghosts D Page Port} (files : List (Filed D Page Port disk)) (config : Fields) (erases : List Pending) (count : ℕ) where
   abbrev all : List StoredFile
   all = map plain_file files
-
-  stored_shape : (s : Stored) → IsStore s files config erases count → shape_of config.levels all erases ≡ shapes.shape_of (layout_of s)
-  stored_shape s store = (λ i. shape_of (sym store.config_is i).levels (store.files_are i) (store.erases_are i)) ∙ shape_same s store.coherent
-
-  -- what a plan that is picked is
-  module _ (fields : Fields) (same_fields : fields ≡ config) (limits : IsConfig config) (seen : List (Filed D Page Port disk)) (seen_is : seen ≡ files)
-      (shape : Shape) (shaped : shape ≡ shape_of fields.levels (map plain_file seen) erases) (clock : ℕ) where
-    shape_is : shape ≡ shape_of config.levels all erases
-    shape_is = shaped ∙ (λ i. shape_of (same_fields i).levels (map plain_file (seen_is i)) erases)
-
-    pub none_chosen : None ≡ choice config shape clock [] → (s : Stored) → IsStore s files config erases count → choice config (shapes.shape_of (layout_of s)) clock [] ≡ None
-    none_chosen chosen s store = sym (chosen ∙ ap (λ shape. choice config shape clock []) (shape_is ∙ stored_shape s store))
-
-    module _ (plan : Plan) (chosen : Some plan ≡ choice config shape clock []) where
-      pub chosen_named : (again : List (Filed D Page Port disk)) → again ≡ files → IsSome (level_named config.levels plan.file (map plain_file again))
-      chosen_named again same =
-          let some = limits.levels in
-          let file = chosen_file config (omega (arith, some)) all erases clock plan (sym (chosen ∙ ap (λ shape. choice config shape clock []) shape_is)) in
-          subst (λ l. IsSome (level_named config.levels plan.file (map plain_file l))) (sym same) (has_level config.levels plan.file all file.0 file.1 file.2 file.3)
-
-      pub begun : (task : PlainTask) → task.plan ≡ plan → (s : Stored) → IsStore s files config erases count → s.manifest.clock ≡ clock → IsPlanned s task → IsBegunIn s task
-      begun task is s store now planned = record {
-        chosen =
-            (λ i. choice (store.config_is i) (shapes.shape_of (layout_of s)) (now i) []) ∙ sym (chosen ∙ ap (λ shape. choice config shape clock []) (shape_is ∙ stored_shape s store))
-            ∙ ap Some (sym is);
-        planned = planned;
-      }
 
   -- what the task of a plan is
   module _ (limits : IsConfig config) (plan : Plan) (fields : Fields) (same_fields : fields ≡ config) (level : ℕ) (found : Some level ≡ level_named fields.levels plan.file all) where

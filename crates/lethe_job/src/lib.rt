@@ -17,4 +17,4 @@ pub use job::{Job, Piece};
 pub use laws::{due_is_named, shape_is_of_the_layout, task_stays};
 pub use number::BegunJobs;
 pub use shape::shape_of;
-pub use task::{Task, next_task, task_of};
+pub use task::{Task, task_of};

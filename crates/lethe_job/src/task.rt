@@ -1,18 +1,15 @@
 //! What a job is to do.
-ghost use Rattle.std.specs.Prelude.{◌≡◌, ◌<◌, ◌≤◌, ◌^◌, [], Ok, None, length, map, IfOk, IfSome, IsSome};
-ghost use Rattle.lethe_base.specs.Shapes.{shape_of};
-ghost use Rattle.lethe_fade.specs.Choice.{choice};
-ghost use Rattle.lethe_stored.specs.Stored.{Stored, layout_of};
+ghost use Rattle.std.specs.Prelude.{◌≡◌, ◌<◌, ◌≤◌, ◌^◌, length, map, IfOk, IsSome};
+ghost use Rattle.lethe_stored.specs.Stored.{Stored};
 ghost use Rattle.lethe_job.specs.Chosen.{level_named, sources_in, task_in};
-ghost use Rattle.lethe_job.specs.Tasks.{IsBegunIn, IsPlanned, IsStore, counted_in, inputs_in, plain_file, plain_task};
+ghost use Rattle.lethe_job.specs.Tasks.{IsPlanned, IsStore, counted_in, inputs_in, plain_file, plain_task};
 
 use crate::filed::Filed;
 use crate::inputs::{level_named, lies_below, met_in, sources_in};
 use crate::reach::Reach;
-use crate::shape::shape_of;
 use lethe_base::{Config, List, NoMemory, Pending};
 use lethe_disk::Disk;
-use lethe_fade::{Plan, pick};
+use lethe_fade::Plan;
 use std::alloc::Global;
 
 /// A merge of files of a level with those that they overlap in the next one. It never changes.
@@ -33,34 +30,6 @@ pub struct Task<D: Disk> {
     /// The place up to which the outputs count as swept: how many changes there were when it began.
     pub upto: u64,
     pub config: Config,
-}
-
-/// The first merge that is due in a store of these files, pending erases and so many changes at a clock, where no other runs. None where nothing is due.
-pub fn next_task<D: Disk>(
-    alloc: Global,
-    files: Vec<Filed<D>>,
-    config: &Config,
-    clock: u64,
-    erases: &[Pending],
-    count: u64,
-) -> Result<Option<Task<D>>, NoMemory>
-    ensures none { (s : Stored) → IsStore s files.items config.now erases.now count → result ≡ Ok None → choice config.now (shape_of (layout_of s)) clock [] ≡ None }
-    ensures some { (s : Stored) → IsStore s files.items config.now erases.now count → s.manifest.clock ≡ clock → IfOk result (λ found. IfSome found (λ task. IsBegunIn s (plain_task task))) }
-
-    // On any disk:
-    ensures level { IfOk result (λ found. IfSome found (λ task. task.level < config.now.levels)) }
-    ensures upto { IfOk result (λ found. IfSome found (λ task. task.upto ≡ count)) }
-    ensures erases { IfOk result (λ found. IfSome found (λ task. task.erases ≡ erases.now)) }
-    ensures config { IfOk result (λ found. IfSome found (λ task. task.config ≡ config.now)) }
-    // Its inputs' headers count no more entries than those of all the files.
-    ensures some_of { IfOk result (λ found. IfSome found (λ task. counted_in (inputs_in (plain_task task)) ≤ counted_in (map plain_file files.items))) }
-{
-    let shape = shape_of(alloc, &files, config.fields().levels, erases)?;
-    let Some(plan) = pick(&shape, config, clock, &[]) else {
-        return Ok(None);
-    };
-    let task = task_of(alloc, &files, plan, config, erases, count)?;
-    Ok(Some(task))
 }
 
 /// The task of a plan in a store of these files, pending erases and so many changes. The plan has to name one of the files above the last level.
