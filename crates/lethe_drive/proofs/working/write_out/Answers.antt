@@ -9,11 +9,11 @@ use Rattle.lethe_drive.specs.Steps.{IsAsked}
 use Rattle.lethe_drive.proofs.Giving.{theirs_asked, theirs_called, theirs_sound}
 use Rattle.lethe_drive.proofs.Naming.{no_such, none_there, other_there, put_back, refused_there, there_is}
 use Rattle.lethe_drive.proofs.working.write_out.Goals as goal
-use Rattle.lethe_drive.proofs.working.write_out.Goals.{in_default-via-in-Some+then-numbered-number+else-not-numbered, in_default-via-in-Some+else-numbered-number, in_default-via-in_default}
+use Rattle.lethe_drive.proofs.working.write_out.Goals.{in_default-via-in-Some+then-numbered-number+else-not-is_refused, in_default-via-in-Some+else-numbered-number, in_default-via-in_default}
 
 pub write_next-requires-clause-works : goal.write_next-requires-clause-works
 write_next-requires-clause-works g c = λ lifetimes outlive.
-    theirs_asked g.D.Disk.tells (view_of c.args.engine.now.core) c.args.jobs.now c.requires.jobs c.in-Some.numbered c.in-Some.is c.if-not-numbered.true
+    theirs_asked g.D.Disk.tells (view_of c.args.engine.now.core) c.args.jobs.now c.requires.jobs c.in-Some.numbered c.in-Some.is (sym c.is_refused.ensures ∙ c.if-not-is_refused.true)
 
 pub write_next-requires-clause-reads : goal.write_next-requires-clause-reads
 write_next-requires-clause-reads g c = λ lifetimes outlive.
@@ -41,7 +41,7 @@ returns-in-Some-clause-step g c = λ told config opened h stands s known fetches
       step.2,
       inr (
         going,
-        ((there, c.if-numbered-number.true), c.if-not-numbered.true),
+        ((there, c.if-numbered-number.true), (sym c.is_refused.ensures ∙ c.if-not-is_refused.true)),
         result,
         c.flagged.ensures,
         subst (λ (o : Option Going). IsWriteOut g.D.Disk.ports_fail going h (moment_of old s fetches faults jobs.begun o) result (behind h 0 (Serves Work) (result_err result))
@@ -55,12 +55,12 @@ returns-in_default-clause-step g c = λ told config opened h stands s known fetc
     let jobs = c.args.jobs.now in
     let number = c.args.number in
     let none : (going : Going) → IsAsked number (moment_of view s fetches faults jobs.begun (there_of jobs)) going → ⊥ = elim c.in_default.branch [
-      | in_default-via-in-Some+then-numbered-number+else-not-numbered w ↦ refused_there jobs h view s fetches faults number w.in-Some.numbered w.in-Some.is w.if-not-numbered.false
+      | in_default-via-in-Some+then-numbered-number+else-not-is_refused w ↦ refused_there jobs h view s fetches faults number w.in-Some.numbered w.in-Some.is (sym w.is_refused.ensures ∙ w.if-not-is_refused.false)
       | in_default-via-in-Some+else-numbered-number w ↦ λ going asked. other_there jobs h view s fetches faults number w.in-Some.numbered w.in-Some.is w.if-numbered-number.false going asked.0
       | in_default-via-in_default w ↦ λ going asked. none_there jobs h view s fetches faults number w.in_default.is going asked.0
     ] in
     let same : c.in_default.jobs ≡ jobs = elim c.in_default.branch [
-      | in_default-via-in-Some+then-numbered-number+else-not-numbered w ↦ w.jobs-is ∙ put_back jobs w.in-Some.numbered w.in-Some.is
+      | in_default-via-in-Some+then-numbered-number+else-not-is_refused w ↦ w.jobs-is ∙ put_back jobs w.in-Some.numbered w.in-Some.is
       | in_default-via-in-Some+else-numbered-number w ↦ w.jobs-is ∙ put_back jobs w.in-Some.numbered w.in-Some.is
       | in_default-via-in_default w ↦ w.jobs-is
     ] in
