@@ -14,6 +14,7 @@ use Rattle.lethe_segment.specs.declared.record.Record.{Record}
 use Rattle.lethe_stored.specs.Stored.{Stored, appended}
 use Rattle.lethe_state.specs.Records.{headers_in}
 use Rattle.lethe_state.specs.Room.{HasRoom}
+use Rattle.lethe_core.proofs.Chosen.{begun_in}
 use Rattle.lethe_core.specs.Asked.{Makes, behind, failure_of, refused_to}
 use Rattle.lethe_core.specs.Merges.{IsRoomBegun, IsRoomMadeBy, Outcome, pages_of, retired_behind}
 use Rattle.lethe_core.specs.Reasons.{HasReason, IsShort, IsShortOfRoom, IsUnreadable}
@@ -53,7 +54,7 @@ module _ (Tells PortsFail : Type 0) (told : Tells) (call : Call) (IsNext : Store
   short_on t holds (inl short) = inl short
   short_on t holds (inr short) =
       let is = short.are told t holds in
-      inr (record { task = short.task; begun = is.0; drafts = short.drafts; are = is.1; short = short.short })
+      inr (record { task = short.task; begun = begun_in t short.task is.0; drafts = short.drafts; are = is.1; short = short.short })
 
   module _ (why : Refused) (stood : StandsFor config opened (refused_to h 0 call why) new) where
     -- what is refused for want of numbers is in no history, so nothing was stopped
