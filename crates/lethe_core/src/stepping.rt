@@ -65,8 +65,8 @@ impl<D: Disk> Core<D> {
         self.merge_due(alloc, port, before)
     }
 
-    /// Flushes the frozen buffer, if there is one.
-    fn unfreeze(&mut self, alloc: Global, before: u64) -> Result<(), Refused>
+    /// Flushes the frozen buffer, if there is one. `before` is the count of faults from which a failure is told.
+    pub fn unfreeze(&mut self, alloc: Global, before: u64) -> Result<(), Refused>
         requires { MayStep D.tells (view_of self.old) before }
         ensures keeps { Keeps D.tells (view_of self.old) (view_of self.new) (result_err result) }
         ensures undone { IfErr result (IsUndone D.tells (view_of self.old) (view_of self.new)) }
@@ -121,8 +121,8 @@ impl<D: Disk> Core<D> {
         Ok(())
     }
 
-    /// Carries a step out on the disk, and takes the files that it leaves. Where the disk fails the store is stopped.
-    pub(crate) fn carry_out(
+    /// Carries a step out on the disk, and takes the files that it leaves. Where the disk fails the store is stopped. `before` is the count of faults from which a failure is told.
+    pub fn carry_out(
         &mut self,
         alloc: Global,
         before: u64,

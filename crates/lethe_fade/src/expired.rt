@@ -107,8 +107,8 @@ fn oldest_file(
     })
 }
 
-/// Whether at a clock so much time is over since then.
-fn is_passed(deadline: u64, clock: u64, since: Option<u64>) -> bool
+/// Whether at a clock so much time is over since then. Without a time nothing is.
+pub fn is_passed(deadline: u64, clock: u64, since: Option<u64>) -> bool
     ensures { (fields : Fields) (level : ℕ) → deadline ≡ level_deadline fields level → result ≡ is_passed fields clock level since }
 {
     match since {

@@ -14,7 +14,7 @@ mod span;
 
 pub use choice::pick;
 pub use claim::Claim;
-pub use expired::pick_due;
+pub use expired::{is_passed, pick_due};
 pub use laws::{
     choice_is_free, deadlines_rise, due_is_first, expired_come_in_order, files_come_in_order,
     meeting_is_sharing,
