@@ -1,5 +1,5 @@
 //! What a step writes and removes.
-ghost use Rattle.std.specs.Prelude.{◌≡◌, ◌<◌, ◌^◌, length, IfOk};
+ghost use Rattle.std.specs.Prelude.{◌≡◌, ◌⊎◌, ◌↔◌, ◌<◌, ◌≤◌, ◌^◌, length, IfOk, IsErr};
 ghost use Rattle.lethe_base.specs.Limits.{max_place};
 ghost use Rattle.lethe_manifest.specs.Followers.{follower};
 
@@ -43,6 +43,7 @@ impl Step {
         ensures gone { IfOk result (λ step. step.gone ≡ gone) }
         ensures few_erases { IfOk result (λ step. length step.manifest.erases < 2 ^ 32) }
         ensures few_files { IfOk result (λ step. length step.manifest.files < 2 ^ 32) }
+        ensures no_memory { IsErr result ↔ ((2 ^ 32 ≤ length change.erases) ⊎ (2 ^ 32 ≤ length change.files)) }
     {
         Ok(Step {
             objects,
