@@ -94,14 +94,14 @@ abbrev beside_disk : View → Seen → ℕ → View
 beside_disk view disk faults = record view { disk = disk; faults = faults }
 
 pub idle_sound : (Tells : Type 0) (view : View) (disk : Seen) (faults : ℕ) → (Tells → IsIdle view.disk disk) → IsSound Tells view → IsSound Tells (beside_disk view disk faults)
-idle_sound Tells view disk faults idle sound = sound_back Tells view (beside_disk view disk faults) (λ told. idle_back view.disk disk (idle told)) refl (record { levels = refl; retired = refl; flight = refl; begun = refl }) sound
+idle_sound Tells view disk faults idle sound = sound_back Tells view (beside_disk view disk faults) (λ told. idle_back view.disk disk (idle told)) refl (record { levels = refl; retired = refl; flight = refl; begun = refl; rounds = refl }) sound
 
 module _ (view : View) (disk : Seen) (faults : ℕ) (idle : IsIdle view.disk disk) where
   pub idle_holds : (s : Stored) → Holds view s → Holds (beside_disk view disk faults) s
   idle_holds s holds = record {
     remembers = holds.remembers;
-    running = running_back view (beside_disk view disk faults) (idle_back view.disk disk idle) s refl (record { levels = refl; retired = refl; flight = refl; begun = refl }) holds.running;
+    running = running_back view (beside_disk view disk faults) (idle_back view.disk disk idle) s refl (record { levels = refl; retired = refl; flight = refl; begun = refl; rounds = refl }) holds.running;
   }
 
   pub idle_stands : (config : Fields) (h : History) → StandsNow config h view → StandsNow config h (beside_disk view disk faults)
-  idle_stands config h stands = stands_back view (beside_disk view disk faults) (idle_back view.disk disk idle) config h refl (record { levels = refl; retired = refl; flight = refl; begun = refl }) stands
+  idle_stands config h stands = stands_back view (beside_disk view disk faults) (idle_back view.disk disk idle) config h refl (record { levels = refl; retired = refl; flight = refl; begun = refl; rounds = refl }) stands

@@ -111,13 +111,13 @@ next_small next end old new is room small =
 
 -- the jobs of a store, and the pages that are retired, are as they were
 pub jobs_same : {D Page Port : Type 0} {kind : Ghosts D Page Port} (old new : Core D Page Port kind) → new.begun ≡ old.begun → new.flight ≡ old.flight → new.retired.items ≡ old.retired.items → face_of (view_of new) ≡ face_of (view_of old)
-jobs_same old new begun flight retired = λ i. record { begun = (begun i).count; flight = option_map flying_of (flight i); retired = retired i }
+jobs_same old new begun flight retired = λ i. record { begun = (begun i).jobs.count; rounds = (begun i).rounds; flight = option_map flying_of (flight i); retired = retired i }
 
 -- what it held it holds
 pub before_holds : (Tells : Type 0) → Tells → (old new : View) (s : Stored) → face_of new ≡ face_of old → IsAsBefore Tells old new → Holds old s → Holds new s
 before_holds Tells told old new s face is holds =
     let mid = with_state old new.state in
-    let rest : IsBeside mid new = record { levels = is.levels; retired = is.retired; flight = ap (λ (face : Face). face.flight) face; begun = ap (λ (face : Face). face.begun) face } in
+    let rest : IsBeside mid new = record { levels = is.levels; retired = is.retired; flight = ap (λ (face : Face). face.flight) face; begun = ap (λ (face : Face). face.begun) face; rounds = ap (λ (face : Face). face.rounds) face } in
     let like = like_holds old new.state is.state s holds in
     record {
       remembers = subst (Remembers s new.state) (sym is.levels) like.remembers;

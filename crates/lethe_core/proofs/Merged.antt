@@ -72,13 +72,13 @@ small_under manifest state config is =
 
 -- The view behind the step: what is left is retired, and no job is in flight
 
-abbrev pub merged_view : View → Seen → ℕ → List (List Parts) → ℕ → Installation → View
-merged_view old disk faults levels begun made =
-    record { disk = disk; faults = faults; state = under made.step.manifest old.state; levels = levels; retired = made.left.items; flight = None; begun = begun }
+abbrev pub merged_view : View → Seen → ℕ → List (List Parts) → ℕ → ℕ → Installation → View
+merged_view old disk faults levels begun rounds made =
+    record { disk = disk; faults = faults; state = under made.step.manifest old.state; levels = levels; retired = made.left.items; flight = None; begun = begun; rounds = rounds }
 
-module _ (old : View) (disk : Seen) (faults : ℕ) (levels : List (List Parts)) (begun : ℕ) (made : Installation) where
+module _ (old : View) (disk : Seen) (faults : ℕ) (levels : List (List Parts)) (begun rounds : ℕ) (made : Installation) where
   abbrev new : View
-  new = merged_view old disk faults levels begun made
+  new = merged_view old disk faults levels begun rounds made
 
   abbrev step : Step
   step = made.step

@@ -141,7 +141,7 @@ abbrev pub beside : View → View → State → View
 beside old new state = record old { disk = new.disk; faults = new.faults; state = state }
 
 pub is_beside : (old new : View) (state : State) → new.state ≡ state → IsBeside old new → beside old new state ≡ new
-is_beside old new state same rest = λ i. record new { state = (sym same) i; levels = (sym rest.levels) i; retired = (sym rest.retired) i; flight = (sym rest.flight) i; begun = (sym rest.begun) i }
+is_beside old new state same rest = λ i. record new { state = (sym same) i; levels = (sym rest.levels) i; retired = (sym rest.retired) i; flight = (sym rest.flight) i; begun = (sym rest.begun) i; rounds = (sym rest.rounds) i }
 
 pub idle_back : (old new : Seen) → IsIdle old new → IsTakenBack old new
 idle_back old new idle = record { directory = idle.directory; images = λ c here. (idle.left old.moment c).0 (subst (λ m. new.left m c) idle.moment here) }

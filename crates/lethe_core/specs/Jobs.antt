@@ -10,12 +10,13 @@ use Rattle.lethe_job.specs.Tasks.{PlainTask, plain_task}
 use Rattle.lethe_job.specs.declared.job.Job.{Job}
 use Rattle.lethe_core.specs.View.{Face, Flying, View}
 
--- the store has the job in flight
+-- the store has the job in flight, which was begun in the present round
 pub record IsInFlight {D Page Port : Type 0} {kind : Ghosts D Page Port} (view : View) (job : Job D Page Port kind) : Type 0 where
   pub flying : Flying
   pub is : view.flight ≡ Some flying
   pub number : job.number.value.count ≡ flying.number
   pub task : plain_task job.task.value ≡ flying.task
+  pub round : job.round ≡ view.rounds
 
 -- the drafts are those of its outputs, whose first pages were written
 pub record AreOutputsOf (Tells : Type 0) (flying : Flying) (drafts : List Draft) : Type 0 where

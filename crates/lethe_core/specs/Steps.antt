@@ -21,6 +21,7 @@ pub record IsBeside (old new : View) : Type 0 where
   pub retired : new.retired ≡ old.retired
   pub flight : new.flight ≡ old.flight
   pub begun : new.begun ≡ old.begun
+  pub rounds : new.rounds ≡ old.rounds
 
 -- All is as it was, but for memory that was reserved and the jobs: a read gives what it gave, and a crash leaves nothing that it couldn't leave before.
 pub record IsAsBefore (Tells : Type 0) (old new : View) : Type 0 where

@@ -19,7 +19,7 @@ pub record Flying : Type 0 where
   pub written : List (Name × List ℕ)
 
 -- the disk at this time with its count of faults, what the store remembers, its files by level as their readers have them, the pages that no manifest cites any more and
--- that are still needed, the job in flight, and how many jobs were begun
+-- that are still needed, the job in flight, how many jobs were begun, and how many rounds have ended
 pub record View : Type 1 where
   pub disk : Seen
   pub faults : ℕ
@@ -28,6 +28,7 @@ pub record View : Type 1 where
   pub retired : List Name
   pub flight : Option Flying
   pub begun : ℕ
+  pub rounds : ℕ
 
 abbrev pub flying_of : {D Page Port : Type 0} {kind : Ghosts D Page Port} → Flight D Page Port kind → Flying
 flying_of flight = record { number = flight.number.value.count; task = plain_task flight.task.value; written = flight.written }
@@ -40,21 +41,23 @@ view_of {kind = kind} core = record {
   levels = parts_by_level core.version;
   retired = core.retired.items;
   flight = option_map flying_of core.flight;
-  begun = core.begun.count;
+  begun = core.begun.jobs.count;
+  rounds = core.begun.rounds;
 }
 
--- What the jobs of a store have come to: how many were begun, the one in flight, and the pages that are retired.
+-- What the jobs of a store have come to: how many were begun, how many rounds have ended, the job in flight, and the pages that are retired.
 pub record Face : Type 0 where
   pub begun : ℕ
+  pub rounds : ℕ
   pub flight : Option Flying
   pub retired : List Name
 
 abbrev pub face_of : View → Face
-face_of view = record { begun = view.begun; flight = view.flight; retired = view.retired }
+face_of view = record { begun = view.begun; rounds = view.rounds; flight = view.flight; retired = view.retired }
 
--- no job was begun yet, and no page is retired
+-- no job was begun and no round has ended yet, and no page is retired
 abbrev pub no_jobs : Face
-no_jobs = record { begun = 0; flight = None; retired = [] }
+no_jobs = record { begun = 0; rounds = 0; flight = None; retired = [] }
 
 -- the pages that were written for the job in flight, which no manifest cites yet
 abbrev pub loose_in : Option Flying → List (Name × List ℕ)

@@ -11,13 +11,13 @@ use crate::Flight;
 use crate::choosing::Choice;
 use lethe_base::{Name, NoMemory};
 use lethe_disk::Disk;
-use lethe_job::{BegunJobs, Task, cited_files, shape_of, task_of};
+use lethe_job::{Begun, Task, cited_files, shape_of, task_of};
 use lethe_state::State;
 use lethe_version::Version;
 use std::alloc::Global;
 
-/// What a store has: its disk, what it remembers of what is stored there, the files that readers have, the pages that lie there beside what is stored, and how many jobs were
-/// begun. Its calls are made of steps, which each leave it so that it can go on.
+/// What a store has: its disk, what it remembers of what is stored there, the files that readers have, the pages that lie there beside what is stored, and how many jobs
+/// were begun and rounds have ended. Its calls are made of steps, which each leave it so that it can go on.
 #[derive(Drop)]
 pub struct Core<D: Disk> {
     pub disk: D,
@@ -26,8 +26,8 @@ pub struct Core<D: Disk> {
     /// The pages that no manifest cites any more and that are still needed. No call adds to them yet.
     pub retired: Vec<Name>,
     pub flight: Option<Flight<D>>,
-    /// How many jobs were begun since the store was opened.
-    pub begun: BegunJobs,
+    /// How many jobs were begun since the store was opened, and how many rounds have ended.
+    pub begun: Begun,
 }
 
 impl<D: Disk> Core<D> {

@@ -62,14 +62,14 @@ impl<D: Disk> Core<D> {
         let port = self.disk.port(alloc)?;
         let task = Arc::new(alloc, task)?;
         let shared = Arc::clone(&task)?;
-        let number = Snapshot::of(&self.begun);
+        let number = Snapshot::of(&self.begun.jobs);
         self.flight = Some(Flight {
-            number: Snapshot::of(&self.begun),
+            number: Snapshot::of(&self.begun.jobs),
             task: shared,
             written: Written::new(alloc),
         });
-        self.begun = self.begun.more();
-        Ok(Some(Job::begun(number, task, port)))
+        self.begun.jobs = self.begun.jobs.more();
+        Ok(Some(Job::begun(number, self.begun.rounds, task, port)))
     }
 
     /// Writes the next page of the job in flight, under the next number, and syncs. The page has no put but those of stored files.

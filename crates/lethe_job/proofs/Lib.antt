@@ -4,7 +4,7 @@ pub mod Staying
 pub mod Shaped
 pub mod Named
 pub mod Split
-pub mod Begun
+pub mod Planned
 pub mod Next
 mod Adding
 mod Pieces

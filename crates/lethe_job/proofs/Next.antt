@@ -15,7 +15,7 @@ use Rattle.lethe_stored.specs.Stored.{Stored}
 use Rattle.lethe_job.specs.Chosen.{hull_in, is_source, level_named, met_in, range_in, sources_in, task_in}
 use Rattle.lethe_job.specs.Tasks.{IsPlanned, IsStore, PlainTask, counted_in, inputs_in, plain_file}
 use Rattle.lethe_job.specs.declared.filed.Filed.{Filed}
-use Rattle.lethe_job.proofs.Begun.{is_planned, level_from, source_there}
+use Rattle.lethe_job.proofs.Planned.{is_planned, level_from, source_there}
 use Rattle.lethe_job.proofs.Listed.{apart_sums}
 
 -- the inputs are some of the files: none is a source and met by the sources

@@ -21,6 +21,8 @@ use std::sync::Arc;
 pub struct Job<D: Disk> {
     /// Its number: how many jobs the store had begun before it.
     number: Snapshot<BegunJobs>,
+    /// The round in which it was begun: how many rounds had ended before it.
+    round: u64,
     task: Arc<Task<D>>,
     port: D::Port,
     /// The drafts of its outputs, once they are made.
@@ -75,18 +77,31 @@ fn page_at(drafts: &[Draft], place: usize) -> &[u8]
 
 impl<D: Disk> Job<D> {
     /// A job of this task, which has made and written nothing.
-    pub fn begun(number: Snapshot<BegunJobs>, task: Arc<Task<D>>, port: D::Port) -> Job<D>
+    pub fn begun(
+        number: Snapshot<BegunJobs>,
+        round: u64,
+        task: Arc<Task<D>>,
+        port: D::Port,
+    ) -> Job<D>
         ensures job { IsJob D.tells result }
-        ensures is { result ≡ record { number = number; task = task; port = port; drafts = None; written = 0; refused = false } }
+        ensures is { result ≡ record { number = number; round = round; task = task; port = port; drafts = None; written = 0; refused = false } }
     {
         Job {
             number,
+            round,
             task,
             port,
             drafts: None,
             written: 0,
             refused: false,
         }
+    }
+
+    /// The round in which it was begun.
+    pub fn round(&self) -> u64
+        ensures { result ≡ self.now.round }
+    {
+        self.round
     }
 
     /// One of its calls was refused, so that it can only be cancelled.
@@ -109,6 +124,7 @@ impl<D: Disk> Job<D> {
         requires job { IsJob D.tells self.old }
         ensures job { IsJob D.tells self.new }
         ensures number { self.new.number ≡ self.old.number }
+        ensures round { self.new.round ≡ self.old.round }
         ensures task { self.new.task.value ≡ self.old.task.value }
         ensures written { self.new.written ≡ self.old.written }
         ensures made { OnOk result (IsSome self.new.drafts) }
@@ -148,6 +164,7 @@ impl<D: Disk> Job<D> {
         requires asked { self.old.refused ≡ false }
         ensures job { IsJob D.tells self.new }
         ensures number { self.new.number ≡ self.old.number }
+        ensures round { self.new.round ≡ self.old.round }
         ensures task { self.new.task.value ≡ self.old.task.value }
         ensures written { self.new.written ≡ self.old.written }
         ensures made { OnOk result (IsSome self.new.drafts) }

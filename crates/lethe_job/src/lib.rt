@@ -15,6 +15,6 @@ mod task;
 pub use filed::{Filed, cited_files};
 pub use job::{Job, Piece};
 pub use laws::{due_is_named, shape_is_of_the_layout, task_stays};
-pub use number::BegunJobs;
+pub use number::{Begun, BegunJobs};
 pub use shape::shape_of;
 pub use task::{Task, task_of};

@@ -52,13 +52,13 @@ returns-clause-sound g c =
     let flying : Flying = record { number = old.begun; task = task; written = [] } in
     let value : c.in_ok-shared.shared.value ≡ c.in-Some.task = c.in_ok-shared.ensures.cases ∙ c.in_ok-task-2.ensures.ok in
     let same : flying_of (record { number = c.of.result; task = c.in_ok-shared.shared; written = c.new-2.result }) ≡ flying = λ i. record { number = (c.of.ensures i).count; task = plain_task (value i); written = c.new-2.ensures i } in
-    let now : record { begun = c.more-self.result.count; flight = Some (flying_of (record { number = c.of.result; task = c.in_ok-shared.shared; written = c.new-2.result })); retired = old.retired } ≡ with_begun (face_of old) task =
-    λ i. record { begun = c.more-self.ensures i; flight = Some (same i); retired = old.retired } in
+    let now : record { begun = c.more-self.result.count; rounds = c.args.self.now.begun.rounds; flight = Some (flying_of (record { number = c.of.result; task = c.in_ok-shared.shared; written = c.new-2.result })); retired = old.retired } ≡ with_begun (face_of old) task =
+    λ i. record { begun = c.more-self.ensures i; rounds = old.rounds; flight = Some (same i); retired = old.retired } in
     let begun : (s : Stored) → Holds old s → IsBegunIn s task = λ s holds. begun_in s task (subst (λ found. IfSome found (λ task. IsBegunBy room_choice s (plain_task task))) c.in-Some.is (c.in_ok-task.ensures.some s holds)) in
     let level = subst (λ found. IfSome found (λ task. task.level < old.state.manifest.config.levels)) c.in-Some.is c.in_ok-task.ensures.level in
     let upto = subst (λ found. IfSome found (λ task. task.upto ≡ old.state.count)) c.in-Some.is c.in_ok-task.ensures.upto in
     let erases = subst (λ found. IfSome found (λ task. task.erases ≡ old.state.pending)) c.in-Some.is c.in_ok-task.ensures.erases in
-    subst (λ (face : Face). IsSound g.D.Disk.tells (record old { disk = seen; faults = faults; flight = face.flight; begun = face.begun })) (sym now)
+    subst (λ (face : Face). IsSound g.D.Disk.tells (record old { disk = seen; faults = faults; flight = face.flight; begun = face.begun; rounds = face.rounds })) (sym now)
     (idle_sound g.D.Disk.tells (record old { flight = Some flying; begun = old.begun + 1 }) seen faults c.port.ensures.idle
     (begun_sound g.D.Disk.tells old task (ap (option_map flying_of) c.requires.free) c.requires.runs c.requires.sound begun level upto erases))
 
@@ -71,10 +71,10 @@ returns-clause-stands g c = λ told config h stands.
     let flying : Flying = record { number = old.begun; task = task; written = [] } in
     let value : c.in_ok-shared.shared.value ≡ c.in-Some.task = c.in_ok-shared.ensures.cases ∙ c.in_ok-task-2.ensures.ok in
     let same : flying_of (record { number = c.of.result; task = c.in_ok-shared.shared; written = c.new-2.result }) ≡ flying = λ i. record { number = (c.of.ensures i).count; task = plain_task (value i); written = c.new-2.ensures i } in
-    let now : record { begun = c.more-self.result.count; flight = Some (flying_of (record { number = c.of.result; task = c.in_ok-shared.shared; written = c.new-2.result })); retired = old.retired } ≡ with_begun (face_of old) task =
-    λ i. record { begun = c.more-self.ensures i; flight = Some (same i); retired = old.retired } in
+    let now : record { begun = c.more-self.result.count; rounds = c.args.self.now.begun.rounds; flight = Some (flying_of (record { number = c.of.result; task = c.in_ok-shared.shared; written = c.new-2.result })); retired = old.retired } ≡ with_begun (face_of old) task =
+    λ i. record { begun = c.more-self.ensures i; rounds = old.rounds; flight = Some (same i); retired = old.retired } in
     let begun : (s : Stored) → Holds old s → IsBegunIn s task = λ s holds. begun_in s task (subst (λ found. IfSome found (λ task. IsBegunBy room_choice s (plain_task task))) c.in-Some.is (c.in_ok-task.ensures.some s holds)) in
-    subst (λ (face : Face). StandsNow config h (record old { disk = seen; faults = faults; flight = face.flight; begun = face.begun })) (sym now)
+    subst (λ (face : Face). StandsNow config h (record old { disk = seen; faults = faults; flight = face.flight; begun = face.begun; rounds = face.rounds })) (sym now)
     (idle_stands (record old { flight = Some flying; begun = old.begun + 1 }) seen faults (c.port.ensures.idle told) config h
     (begun_stands g.D.Disk.tells old task (ap (option_map flying_of) c.requires.free) c.requires.runs c.requires.sound begun config h stands))
 
@@ -87,16 +87,16 @@ returns-clause-held g c = λ told s holds.
     let flying : Flying = record { number = old.begun; task = task; written = [] } in
     let value : c.in_ok-shared.shared.value ≡ c.in-Some.task = c.in_ok-shared.ensures.cases ∙ c.in_ok-task-2.ensures.ok in
     let same : flying_of (record { number = c.of.result; task = c.in_ok-shared.shared; written = c.new-2.result }) ≡ flying = λ i. record { number = (c.of.ensures i).count; task = plain_task (value i); written = c.new-2.ensures i } in
-    let now : record { begun = c.more-self.result.count; flight = Some (flying_of (record { number = c.of.result; task = c.in_ok-shared.shared; written = c.new-2.result })); retired = old.retired } ≡ with_begun (face_of old) task =
-    λ i. record { begun = c.more-self.ensures i; flight = Some (same i); retired = old.retired } in
+    let now : record { begun = c.more-self.result.count; rounds = c.args.self.now.begun.rounds; flight = Some (flying_of (record { number = c.of.result; task = c.in_ok-shared.shared; written = c.new-2.result })); retired = old.retired } ≡ with_begun (face_of old) task =
+    λ i. record { begun = c.more-self.ensures i; rounds = old.rounds; flight = Some (same i); retired = old.retired } in
     let begun : (s : Stored) → Holds old s → IsBegunIn s task = λ s holds. begun_in s task (subst (λ found. IfSome found (λ task. IsBegunBy room_choice s (plain_task task))) c.in-Some.is (c.in_ok-task.ensures.some s holds)) in
-    subst (λ (face : Face). Holds (record old { disk = seen; faults = faults; flight = face.flight; begun = face.begun }) s) (sym now)
+    subst (λ (face : Face). Holds (record old { disk = seen; faults = faults; flight = face.flight; begun = face.begun; rounds = face.rounds }) s) (sym now)
     (idle_holds (record old { flight = Some flying; begun = old.begun + 1 }) seen faults (c.port.ensures.idle told) s
     (begun_holds g.D.Disk.tells old task (ap (option_map flying_of) c.requires.free) c.requires.runs c.requires.sound begun s holds))
 
 pub returns-clause-works : goal.returns-clause-works
 returns-clause-works g c = subst (IsAtWork g.D.Disk.tells _) (sym c.begun.ensures.is) (record {
-  flies = record { flying = flying_of (record { number = c.of.result; task = c.in_ok-shared.shared; written = c.new-2.result }); is = refl; number = ap (λ (begun : BegunJobs). begun.count) (c.of-number.ensures ∙ sym c.of.ensures); task = ap plain_task (sym c.in_ok-shared.ensures.cases) };
+  flies = record { flying = flying_of (record { number = c.of.result; task = c.in_ok-shared.shared; written = c.new-2.result }); is = refl; number = ap (λ (begun : BegunJobs). begun.count) (c.of-number.ensures ∙ sym c.of.ensures); task = ap plain_task (sym c.in_ok-shared.ensures.cases); round = refl };
   asked = refl;
   job_is = record { made = tt; few = tt; unmade = λ none. refl };
   count = ap length c.new-2.ensures;
@@ -106,9 +106,10 @@ returns-clause-works g c = subst (IsAtWork g.D.Disk.tells _) (sym c.begun.ensure
 pub returns-clause-face : goal.returns-clause-face
 returns-clause-face g c =
     let face : Face = with_begun (face_of (view_of c.args.self.now)) (plain_task c.in_ok-task-2.task.value) in
-    let is : record { begun = c.more-self.result.count; flight = Some (flying_of (record { number = c.of.result; task = c.in_ok-shared.shared; written = c.new-2.result })); retired = c.args.self.now.retired.items } ≡ face = λ i. record {
+    let is : record { begun = c.more-self.result.count; rounds = c.args.self.now.begun.rounds; flight = Some (flying_of (record { number = c.of.result; task = c.in_ok-shared.shared; written = c.new-2.result })); retired = c.args.self.now.retired.items } ≡ face = λ i. record {
       retired = c.args.self.now.retired.items;
       begun = c.more-self.ensures i;
+      rounds = c.args.self.now.begun.rounds;
       flight = Some (record { number = (c.of.ensures i).count; task = plain_task (c.in_ok-shared.ensures.cases i); written = c.new-2.ensures i });
     } in
     is ∙ ap (λ job. with_begun (face_of (view_of c.args.self.now)) (plain_task job.task.value)) (sym c.begun.ensures.is)

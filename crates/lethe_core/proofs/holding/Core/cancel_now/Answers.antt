@@ -69,7 +69,7 @@ returns-clause-keeps g c =
     (refused_keeps g.D.Disk.tells old may.sound (record old { disk = g.D.Disk.seen disk; faults = g.D.Disk.faults disk; state = state }) c.args.before may
     (λ told s holds. c.remove_pages.ensures.any_moment told s (stays g.D.Disk.tells old (flying_of c.in-Some.flight) is may.sound) (may_remove g.D.Disk.tells old (flying_of c.in-Some.flight) is may.sound s holds))
     (λ told. laws.itself told disk) c.remove_pages.ensures.cause.later why
-    (c.stop-place.ensures.place, refl, c.faults.ensures, told, c.stop-place.ensures.is, record { levels = refl; retired = refl; flight = refl; begun = refl })))
+    (c.stop-place.ensures.place, refl, c.faults.ensures, told, c.stop-place.ensures.is, record { levels = refl; retired = refl; flight = refl; begun = refl; rounds = refl })))
 
 pub returns-clause-undone : goal.returns-clause-undone
 returns-clause-undone g c = λ none. absurd (not_none (record { place = c.stop-place.result; before = c.args.before; after = c.faults.result }) none)

@@ -32,7 +32,7 @@ returns-in_err-carry_out-clause-keeps g c =
     let why = c.in_err-carry_out.field-0.0 in
     let refusal : c.from_residual.result ≡ Err why = search rules in
     subst (λ (r : Result (Unit {0}) Refused). Keeps g.D.Disk.tells old new (result_err r)) (sym refusal) (hindered_keeps g.D.Disk.tells old new c.args.before c.requires.may why c.in_err-carry_out.ensures.refused
-    (merge_moments old new.disk new.faults new.levels new.begun c.args.made g.D.Disk.tells c.args.before c.requires.may c.requires.from c.requires.merges c.carry_out.ensures.moments)
+    (merge_moments old new.disk new.faults new.levels new.begun new.rounds c.args.made g.D.Disk.tells c.args.before c.requires.may c.requires.from c.requires.merges c.carry_out.ensures.moments)
     (λ told. laws.itself told c.carry_out.new.self.disk) c.carry_out.ensures.later c.carry_out.ensures.faults)
 
 pub returns-in_err-carry_out-clause-undone : goal.returns-in_err-carry_out-clause-undone
@@ -66,18 +66,18 @@ returns-clause-done g c = λ told s task t holds may.
     let untorn = step_untorn s t (beside_in old) may.left made.headers.items made.step old.disk.directory mid.disk.directory holds.remembers.coherent is running.only running.untorn kept gate in
     let ends = active_ends s t (beside_in old) may.left made.headers.items made.step is holds.remembers.coherent old.disk mid.disk done.0 kept old.state.end may.installed.merged_is.active (laws.itself told c.args.self.now.disk) running.ends in
     let state = c.install.ensures.is ∙ ap (under made.step.manifest) c.in_ok-carry_out.ensures.state in
-    subst (λ (state : State). Holds (record (merged_view old mid.disk mid.faults mid.levels mid.begun made) { state = state }) t) (sym state)
-    (merged_holds old mid.disk mid.faults mid.levels mid.begun made s t task holds may files done.0 done.1 untorn ends)
+    subst (λ (state : State). Holds (record (merged_view old mid.disk mid.faults mid.levels mid.begun mid.rounds made) { state = state }) t) (sym state)
+    (merged_holds old mid.disk mid.faults mid.levels mid.begun mid.rounds made s t task holds may files done.0 done.1 untorn ends)
 
 pub returns-clause-keeps : goal.returns-clause-keeps
 returns-clause-keeps g c =
     let old = view_of c.args.self.now in
     let mid = view_of c.carry_out.new.self in
     let made = c.args.made in
-    let moments = merge_moments old mid.disk mid.faults mid.levels mid.begun made g.D.Disk.tells c.args.before c.requires.may c.requires.from c.requires.merges c.carry_out.ensures.moments in
-    let view : State → View = λ state. record (merged_view old mid.disk mid.faults mid.levels mid.begun made) { state = state } in
+    let moments = merge_moments old mid.disk mid.faults mid.levels mid.begun mid.rounds made g.D.Disk.tells c.args.before c.requires.may c.requires.from c.requires.merges c.carry_out.ensures.moments in
+    let view : State → View = λ state. record (merged_view old mid.disk mid.faults mid.levels mid.begun mid.rounds made) { state = state } in
     let P : State → Type 0 = λ state. (g.D.Disk.tells → (s : Stored) (task : PlainTask) (t : Stored) → Holds old s → MayMerge old s task t made → Holds (view state) t) → Keeps g.D.Disk.tells old (view state) None in
     subst P (sym (c.install.ensures.is ∙ ap (under made.step.manifest) c.in_ok-carry_out.ensures.state))
-    (λ behind. merge_keeps old mid.disk mid.faults mid.levels mid.begun made g.D.Disk.tells c.args.before c.requires.may c.requires.from c.requires.merges behind c.requires.drawn c.carry_out.ensures.levels moments
+    (λ behind. merge_keeps old mid.disk mid.faults mid.levels mid.begun mid.rounds made g.D.Disk.tells c.args.before c.requires.may c.requires.from c.requires.merges behind c.requires.drawn c.carry_out.ensures.levels moments
     c.in_ok-carry_out.ensures.calls c.carry_out.ensures.faults)
     (returns-clause-done g c)

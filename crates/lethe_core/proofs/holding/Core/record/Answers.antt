@@ -164,14 +164,14 @@ returns-clause-sound g c =
     let mid = with_state (view_of c.args.self.now) c.prepare.new.self in
     let disk = g.D.Disk.seen c.append.new.disk in
     sound_back g.D.Disk.tells mid (moved mid disk (g.D.Disk.faults c.append.new.disk) c.prepare.new.self) (λ told. refused_at_once mid.disk disk (c.in-Err-NoMemory.ensures.no_memory told (ap Err c.in-Err-NoMemory.field-0-is))) refl
-    (record { levels = refl; retired = refl; flight = refl; begun = refl }) (like_sound (view_of c.args.self.now) c.prepare.new.self c.prepare.ensures.same g.D.Disk.tells c.prepare.ensures.writable c.requires.may.sound)
+    (record { levels = refl; retired = refl; flight = refl; begun = refl; rounds = refl }) (like_sound (view_of c.args.self.now) c.prepare.new.self c.prepare.ensures.same g.D.Disk.tells c.prepare.ensures.writable c.requires.may.sound)
 
 pub returns-clause-stands : goal.returns-clause-stands
 returns-clause-stands g c = λ told config h caller call change stands with.
     let mid = with_state (view_of c.args.self.now) c.prepare.new.self in
     let disk = g.D.Disk.seen c.append.new.disk in
     stands_back mid (moved mid disk (g.D.Disk.faults c.append.new.disk) c.prepare.new.self) (refused_at_once mid.disk disk (c.in-Err-NoMemory.ensures.no_memory told (ap Err c.in-Err-NoMemory.field-0-is))) config h refl
-    (record { levels = refl; retired = refl; flight = refl; begun = refl }) (like_stands (view_of c.args.self.now) c.prepare.new.self c.prepare.ensures.same config h stands c.requires.may.runs)
+    (record { levels = refl; retired = refl; flight = refl; begun = refl; rounds = refl }) (like_stands (view_of c.args.self.now) c.prepare.new.self c.prepare.ensures.same config h stands c.requires.may.runs)
 
 pub returns-clause-any_moment : goal.returns-clause-any_moment
 returns-clause-any_moment g c = λ told config h caller call stands with.

@@ -79,7 +79,7 @@ returns-in-Err-Failed-clause-keeps g c =
     refused_keeps g.D.Disk.tells (view_of self) may.sound _ c.args.before may
     (λ told s holds. (rw c.in-Some.ensures.some at (c.write_page-placed.ensures.any_moment told s (stays g.D.Disk.tells (view_of self) flying is may.sound))) (may_write g.D.Disk.tells (view_of self) flying is may.sound s holds))
     (λ told. laws.itself told c.write_page-placed.new.disk) c.write_page-placed.ensures.cause.later (refused.Fault c.stop-place.result c.args.before c.faults.result)
-    (c.stop-place.ensures.place, refl, c.faults.ensures, told, c.stop-place.ensures.is, record { levels = refl; retired = refl; flight = as_written g.D.Disk.tells (view_of self) flying is may.sound written kept; begun = refl })
+    (c.stop-place.ensures.place, refl, c.faults.ensures, told, c.stop-place.ensures.is, record { levels = refl; retired = refl; flight = as_written g.D.Disk.tells (view_of self) flying is may.sound written kept; begun = refl; rounds = refl })
 
 pub returns-in-Err-Failed-clause-drawn : goal.returns-in-Err-Failed-clause-drawn
 returns-in-Err-Failed-clause-drawn g c = ap (λ (state : State). state.next) c.stop-place.ensures.is
@@ -99,7 +99,7 @@ returns-in-Err-NoMemory-clause-keeps g c =
     (λ told s holds. (rw c.in-Some.ensures.some at (c.write_page-placed.ensures.any_moment told s (stays g.D.Disk.tells (view_of self) flying is may.sound))) (may_write g.D.Disk.tells (view_of self) flying is may.sound s holds))
     (λ told. laws.itself told c.write_page-placed.new.disk) c.write_page-placed.ensures.cause.later refused.NoMemory (
       refl,
-      record { levels = refl; retired = refl; flight = as_written g.D.Disk.tells (view_of self) flying is may.sound written kept; begun = refl },
+      record { levels = refl; retired = refl; flight = as_written g.D.Disk.tells (view_of self) flying is may.sound written kept; begun = refl; rounds = refl },
       λ told. refused_at_once (g.D.Disk.seen self.disk) (g.D.Disk.seen c.write_page-placed.new.disk) (c.write_page-placed.ensures.no_memory told failed),
     )
 
