@@ -1,5 +1,5 @@
 -- The step that installs files.
-use Rattle.std.specs.Prelude.{◌≡◌, ◌<◌, ◌^◌, ℕ, ◌+◌, List, ◌++◌, length}
+use Rattle.std.specs.Prelude.{◌≡◌, ◌<◌, ◌^◌, ℕ, List, ◌++◌, length}
 use Rattle.lethe_base.specs.declared.name.Name.{Name}
 use Rattle.lethe_manifest.specs.Followers.{follower}
 use Rattle.lethe_manifest.specs.declared.manifest.Cited.{Cited}

@@ -47,6 +47,17 @@ pub struct Installation {
     pub left: Vec<Name>,
 }
 
+/// The names of the pages that tell what is written, what goes and what is left.
+#[derive(Drop)]
+struct Pages<'a> {
+    /// The first of the outputs' pages, which were written before.
+    written: &'a [Name],
+    /// Those that were retired before.
+    retired: &'a [Name],
+    /// Those that are still needed.
+    needed: &'a [Name],
+}
+
 /// What installs a job's outputs: the step writes what isn't written of them yet, cites them in the place of the inputs, and removes what isn't needed of these and of the
 /// pages that were retired before. The first of the outputs' pages were written before, under these names; for the other pages, the headers and the manifest numbers are
 /// drawn.
@@ -92,86 +103,90 @@ pub fn installing<D: Disk>(
         × (made.left.items ≡ names_in (left_of needed.now (numbered made.step.merged.items s.files) beside))) }
 {
     let objects = numbers_for(&drafts) - written.len() as u64;
-    if number_behind(state.next(), objects).is_none() {
+    let Some(number) = number_behind(state.next(), objects) else {
         return Err(Refused::Exhausted { last: MAX_PLACE });
-    }
-    match install(
-        alloc, state, version, task, drafts, written, retired, needed,
-    ) {
+    };
+    let pages = Pages {
+        written,
+        retired,
+        needed,
+    };
+    match install(alloc, state, version, task, drafts, pages, number) {
         Ok(made) => Ok(made),
         Err(NoMemory) => Err(Refused::NoMemory),
     }
 }
 
-/// What installs the drafts' files. The manifest has the number behind those of the objects.
+/// What installs the drafts' files, to the manifest of this number, which is the one behind those of the objects.
 fn install<D: Disk>(
     alloc: Global,
     state: &State,
     version: &Version<D>,
     task: &Task<D>,
     drafts: Vec<Draft>,
-    written: &[Name],
-    retired: &[Name],
-    needed: &[Name],
+    pages: Pages,
+    number: u64,
 ) -> Result<Installation, NoMemory>
     requires writable { IsWritable state.now }
     requires level { task.now.level < state.now.manifest.config.levels }
     requires upto { task.now.upto ≤ max_place }
     requires drafts { All IsDraft drafts.items }
-    requires drawn { AreDrawn state.now.next (retired.now ++ written.now) }
-    requires some { length written.now ≤ length (pages_in drafts.items) }
-    requires pages { All (λ name. name.kind ≡ Page) needed.now }
-    requires numbers { state.now.next + (sum_by numbers_for drafts.items - length written.now) < max_place }
+    requires drawn { AreDrawn state.now.next (pages.retired.now ++ pages.written.now) }
+    requires some { length pages.written.now ≤ length (pages_in drafts.items) }
+    requires pages { All (λ name. name.kind ≡ Page) pages.needed.now }
+    requires number { number ≡ state.now.next + (sum_by numbers_for drafts.items - length pages.written.now) }
+    requires free { number < max_place }
     ensures headers { IfOk result (λ made. All (λ new. headers.HasSpelling new.header) made.headers.items) }
     ensures step { IfOk result (λ made. IsStepFrom (segments_for state.now.frozen) state.now made.headers.items made.step) }
     ensures level { IfOk result (λ made. All (λ new. new.level ≡ task.now.level + 1) made.headers.items) }
-    ensures objects { IfOk result (λ made. length made.step.objects.items ≡ sum_by numbers_for drafts.items - length written.now) }
-    ensures none { needed.now ≡ [] → IfOk result (λ made. made.left.items ≡ []) }
+    ensures objects { IfOk result (λ made. length made.step.objects.items ≡ sum_by numbers_for drafts.items - length pages.entry.written.now) }
+    ensures none { pages.entry.needed.now ≡ [] → IfOk result (λ made. made.left.items ≡ []) }
     ensures pages { IfOk result (λ made. All (λ name. name.kind ≡ Page) made.left.items) }
     ensures installs { (s : Stored) (m : StoredMerge) (beside : prelude.List (name.Name × prelude.List ℕ)) → Remembers s state.now (parts_by_level version.now) → IsCurrent s state.now
-        → AreRising s.files → IsTaskIn s m (plain_task task.now) → names_in beside ≡ retired.now → AreUncited s (beside ++ written_pages written.now drafts.items)
+        → AreRising s.files → IsTaskIn s m (plain_task task.now) → names_in beside ≡ pages.entry.retired.now → AreUncited s (beside ++ written_pages pages.entry.written.now drafts.items)
         → AreDraftsOf s.manifest.config (merged (entries_in (inputs_of m)) (pending_of s) task.now.alone) drafts.items
         → IfOk result (λ made. (t : Stored) × IsMerged s m (pending_of s) task.now.alone task.now.upto t
-        × IsStep s (beside ++ written_pages written.now drafts.items) t (left_of needed.now (numbered made.step.merged.items s.files) beside) made.headers.items made.step
-        × (made.left.items ≡ names_in (left_of needed.now (numbered made.step.merged.items s.files) beside))) }
+        × IsStep s (beside ++ written_pages pages.entry.written.now drafts.items) t (left_of pages.entry.needed.now (numbered made.step.merged.items s.files) beside) made.headers.items made.step
+        × (made.left.items ≡ names_in (left_of pages.entry.needed.now (numbered made.step.merged.items s.files) beside))) }
 {
     let level = task.level + 1;
-    let made = make_files(alloc, drafts, level, task.upto, written, state.next())?;
+    let made = make_files(alloc, drafts, level, task.upto, pages.written, state.next())?;
     let cited = state.manifest().files.items();
     let inputs = inputs_of(alloc, version, task, level, cited)?;
-    step_of(alloc, state, level, inputs, made, retired, needed)
+    step_of(alloc, state, level, inputs, made, pages, number)
 }
 
-/// The step that writes what a job made, and cites it in the level in the place of the inputs.
+/// The step that writes what a job made, and cites it in the level in the place of the inputs, to the manifest of this number.
 fn step_of(
     alloc: Global,
     state: &State,
     level: u64,
     inputs: Inputs,
     made: MadeFiles,
-    retired: &[Name],
-    needed: &[Name],
+    pages: Pages,
+    number: u64,
 ) -> Result<Installation, NoMemory>
-    requires numbers { made.next < max_place }
-    ensures { IfOk result (IsInstallStep state.now level inputs made retired.now needed.now) }
+    requires number { number ≡ made.next }
+    requires free { number < max_place }
+    ensures { IfOk result (IsInstallStep state.now level inputs made pages.entry.retired.now pages.entry.needed.now) }
 {
     let MadeFiles {
         headers,
         objects,
         cited,
-        next,
+        ..
     } = made;
     let Inputs {
         numbers,
         above,
         mut names,
     } = inputs;
-    names.extend_from_slice(retired)?;
-    let Parted { gone, left } = part(alloc, names, needed)?;
+    names.extend_from_slice(pages.retired)?;
+    let Parted { gone, left } = part(alloc, names, pages.needed)?;
     let old = state.manifest();
     let files = with_made(alloc, old.files.items(), cited, level, &numbers, &above)?;
     let change = Change {
-        no: next,
+        no: number,
         count: state.count(),
         erases: List::of(state.pending().to_vec(alloc)?),
         segments: List::of(old.segments.items().to_vec(alloc)?),
