@@ -1,5 +1,5 @@
 -- The step of a freeze.
-use Rattle.std.proofs.Common.{◌≡◌, ◌≢◌, ◌≤◌, ◌<◌, ◌+◌, inl, inr, ℕ, List, [], ◌∷◌, ◌++◌, length, map, All, AllPairs, Contains, None, refl, sym, ap, ◌∙◌, subst, arith}
+use Rattle.std.proofs.Common.{◌≡◌, ◌≢◌, ◌≤◌, ◌<◌, ◌+◌, inl, inr, ℕ, List, [], ◌∷◌, ◌++◌, length, map, All, Contains, None, refl, sym, ap, ◌∙◌, subst, arith}
 use Rattle.std.specs.Prelude.{option_to_list}
 use Rattle.std.specs.List.Sorted.{IsPermutation}
 use Rattle.std.proofs.lemmas.List.{length_push}
@@ -29,7 +29,7 @@ use Rattle.lethe_state.specs.Remembered.{IsCurrent, Remembers}
 use Rattle.lethe_state.specs.Room.{IsStepFrom}
 use Rattle.lethe_state.specs.Writable.{IsWritable, segments_for}
 use Rattle.lethe_state.specs.declared.state.State.{State}
-use Rattle.lethe_state.proofs.Shared.{all_kept, all_left, left_stays, left_there, loose_apart, loose_pages, one_all, one_once, still_uncited}
+use Rattle.lethe_state.proofs.Shared.{all_kept, all_left, left_stays, left_there, loose_apart, loose_pages, none_all, none_once, one_all, one_once, still_uncited}
 
 -- On any disk
 
@@ -147,8 +147,8 @@ module _ (s : Stored) (state : State) (levels : List (List Parts)) (is : Remembe
     cited = one_all (λ (made : Object). Contains (part_names t) made.name) (empty_segment n) step.objects.items objects (active_part t);
     stays = all_from (IsSettledBy step t loose) (part_names s) (λ name there. inl (stays name there));
     taken = all_left n loose drawn step t;
-    gone = subst (All (IsUncited s loose t)) (sym gone) (All-nil (IsUncited s loose t));
-    gone_once = subst (AllPairs (λ (name other : Name). name ≢ other)) (sym gone) (λ i j d before within. absurd (omega arith));
+    gone = none_all (IsUncited s loose t) step.gone.items gone;
+    gone_once = none_once (λ (name other : Name). name ≢ other) step.gone.items gone;
     left_there = left_there n loose drawn s;
     left_stays = left_stays n loose drawn s step.gone.items uncited (λ name there. absurd (none_in name (subst (λ l. Contains l name) gone there)));
     left_uncited = still_uncited n loose drawn s t (λ object there. inl (object_part s object there)) uncited;

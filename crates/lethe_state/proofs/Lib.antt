@@ -5,3 +5,4 @@ pub mod Stepping
 pub mod Shared
 pub mod FreezeStep
 pub mod FlushStep
+pub mod TickStep

@@ -19,6 +19,12 @@ one_all P x xs is holds = subst (All P) (sym is) (All-cons P x [] holds (All-nil
 pub one_once : {X : Type 0} (R : X → X → Type 0) (x : X) (xs : List X) → xs ≡ x ∷ [] → AllPairs R xs
 one_once R x xs is = subst (AllPairs R) (sym is) (pairs_to R (x ∷ []) ((λ y there. absurd (none_in y there)), tt))
 
+pub none_all : {X : Type 0} (P : X → Type 0) (xs : List X) → xs ≡ [] → All P xs
+none_all P xs none = subst (All P) (sym none) (All-nil P)
+
+pub none_once : {X : Type 0} (R : X → X → Type 0) (xs : List X) → xs ≡ [] → AllPairs R xs
+none_once R xs none = subst (AllPairs R) (sym none) (λ i j d before within. absurd (omega arith))
+
 -- where no file goes, all stay
 pub all_kept : (s : Stored) (step : Step) → step.merged.items ≡ [] → kept_files s step ≡ s.files
 all_kept s step none = filter_all (λ (file : StoredFile). is_kept step.merged.items file.header) s.files

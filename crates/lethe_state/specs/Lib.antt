@@ -3,3 +3,4 @@ pub mod Remembered
 pub mod Records
 pub mod Room
 pub mod Made
+pub mod Ticking

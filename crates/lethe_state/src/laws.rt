@@ -1,5 +1,5 @@
 //! What a state remembers behind each step. The functions do nothing: their contracts are the laws.
-ghost use Rattle.std.specs.Prelude.{◌≡◌, ◌<◌, ◌+◌, ◌^◌, ℕ, List, None, length, map};
+ghost use Rattle.std.specs.Prelude.{◌≡◌, ◌<◌, ◌≤◌, ◌+◌, ◌^◌, ℕ, List, None, length, map};
 ghost use Rattle.lethe_base.specs.History.{History};
 ghost use Rattle.lethe_base.specs.Keys.{Bytes};
 ghost use Rattle.lethe_base.specs.Limits.{IsKey, IsValue, max_place};
@@ -13,9 +13,11 @@ ghost use Rattle.lethe_stored.specs.Files.{Parts, file_of};
 ghost use Rattle.lethe_stored.specs.Kept.{IsFor};
 ghost use Rattle.lethe_stored.specs.Levels.{HasFiles};
 ghost use Rattle.lethe_stored.specs.Stored.{Stored, IsCoherent, appended, layout_of};
+ghost use Rattle.lethe_follows.specs.Ticked.{ticked};
 ghost use Rattle.lethe_state.specs.Records.{IsDeleteRecord, IsLike, IsNext, halted, headers_in, put_record};
 ghost use Rattle.lethe_state.specs.Remembered.{Remembers, IsCurrent};
 ghost use Rattle.lethe_state.specs.Room.{IsFlushed, IsFrozen, IsFrozenWith, IsRoomMade, unfrozen};
+ghost use Rattle.lethe_state.specs.Ticking.{moved};
 ghost use Rattle.lethe_state.specs.declared.state.State.{State};
 
 /// With the record of a put, what is stored stands for the history with that put.
@@ -66,6 +68,13 @@ pub fn freeze_is_remembered()
 pub fn flush_is_remembered()
     ensures { (s t : Stored) (state : State) (levels next : List (List Parts)) → Remembers s state levels → IsCurrent s state
         → IsFlushed s t → HasSpelling t.manifest → HasFiles t next → Remembers t (unfrozen t.manifest state) next × IsCurrent t (unfrozen t.manifest state) }
+{}
+
+/// With the clock moved, what is stored with the tick is remembered.
+pub fn tick_is_remembered()
+    ensures { (s : Stored) (state : State) (levels next : List (List Parts)) (to number : ℕ) → Remembers s state levels → IsCurrent s state → s.manifest.next ≤ number
+        → HasSpelling (ticked s to number).manifest → HasFiles (ticked s to number) next
+        → Remembers (ticked s to number) (moved (ticked s to number).manifest state) next × IsCurrent (ticked s to number) (moved (ticked s to number).manifest state) }
 {}
 
 /// The files of a flush flush the layout.

@@ -7,11 +7,12 @@ mod freezing;
 mod laws;
 mod numbering;
 mod state;
+mod ticking;
 mod told;
 
 pub use laws::{
     delete_is_recorded, entered_is_remembered, files_are_remembered, flush_is_remembered,
     flush_stands, flushed_flushes, freeze_is_remembered, halted_is_remembered, like_is_remembered,
-    put_is_recorded, room_stands,
+    put_is_recorded, room_stands, tick_is_remembered,
 };
 pub use state::State;
