@@ -1,2 +1,3 @@
 pub mod Buffers
-pub mod Ripening
+pub mod Moving
+pub mod Ripe

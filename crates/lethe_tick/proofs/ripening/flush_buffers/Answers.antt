@@ -24,8 +24,8 @@ pub freeze_if_any-requires-clause-may : goal.freeze_if_any-requires-clause-may
 freeze_if_any-requires-clause-may g c κs within =
     next_may g.D.Disk.tells (view_of c.args.core.now) (view_of c.flush_frozen.new.core) c.args.before c.requires c.in_ok-flush_frozen.ensures.keeps
 
-pub flush_frozen-2-requires : goal.flush_frozen-2-requires
-flush_frozen-2-requires g c κs within =
+pub flush_frozen-requires-2-after_bounds : goal.flush_frozen-requires-2-after_bounds
+flush_frozen-requires-2-after_bounds g c κs within =
     let middle = view_of c.flush_frozen.new.core in
     let may = next_may g.D.Disk.tells (view_of c.args.core.now) middle c.args.before c.requires c.in_ok-flush_frozen.ensures.keeps in
     next_may g.D.Disk.tells middle (view_of c.freeze_if_any.new.core) c.args.before may c.in_ok-freeze_if_any.ensures.keeps

@@ -21,7 +21,7 @@ pub returns-clause-done : goal.returns-clause-done
 returns-clause-done g c = λ told s holds.
     let some : IsSome c.args.core.now.state.frozen = search rules in
     let old = view_of c.args.core.now in
-    let new = view_of c.flush_now.new.core in
+    let new = view_of c.flush_now.new.self in
     on_ok c.flush_now.result ((t : Stored) × IsFlushed s t × Holds new t) ((t : Stored) × IsUnfrozen s t × Holds new t)
     (c.flush_now.ensures.done told s holds)
     (λ done. (done.0, inr (frozen_there s old.state old.levels holds.remembers some, done.1), done.2))
