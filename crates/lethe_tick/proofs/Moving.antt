@@ -1,0 +1,232 @@
+-- The clock moves: what is stored next is held, and stands for the history with the tick.
+use Rattle.std.proofs.Common.{◌≡◌, ◌≤◌, ◌<◌, ◌+◌, ◌⊎◌, inl, inr, ℕ, List, [], ◌++◌, length, All, Option, Some, None, refl, sym, ap, ◌∙◌, subst, arith}
+use Rattle.std.specs.Prelude.{IfSome}
+use Rattle.lethe_base.specs.History.{History, after}
+use Rattle.lethe_base.specs.Limits.{max_place}
+use Rattle.lethe_base.specs.declared.call.Call.TheVariants.{Tick}
+use Rattle.lethe_base.specs.declared.config.Fields.{Fields}
+use Rattle.lethe_base.specs.declared.name.Name.{Name}
+use Rattle.lethe_base.specs.declared.refused.Refused.{Refused}
+use Rattle.lethe_base.specs.declared.refused.Refused.TheVariants.{Fault, NoMemory}
+use Rattle.lethe_advance.specs.Settled.{AreDrawn, AreUncited, HasOnly, IsSettled, names_in}
+use Rattle.lethe_advance.specs.Steps.{IsStep}
+use Rattle.lethe_advance.specs.Untorn.{IsUntorn}
+use Rattle.lethe_advance.specs.declared.new_header.NewHeader.{NewHeader}
+use Rattle.lethe_advance.specs.declared.step.Step.{Step}
+use Rattle.lethe_clean.proofs.Copied.{all_copied}
+use Rattle.lethe_clean.proofs.Stays.{step_untorn}
+use Rattle.lethe_clean.specs.Copied.{IsCopied}
+use Rattle.lethe_commit.specs.Append.{EndsAt}
+use Rattle.lethe_cover.specs.Steps.{with_done}
+use Rattle.lethe_disk.specs.Disk.{Image}
+use Rattle.lethe_follows.proofs.Ticking.{count_ticked, pending_ticked, ticked_for}
+use Rattle.lethe_follows.specs.Merged.{StoredMerge}
+use Rattle.lethe_follows.specs.Ticked.{ticked}
+use Rattle.lethe_job.specs.Tasks.{IsTaskIn, PlainTask}
+use Rattle.lethe_manifest.specs.declared.manifest.Manifest.{Manifest}
+use Rattle.lethe_moves.specs.Due.{HasNothingDue}
+use Rattle.lethe_state.proofs.TickStep.{tick_remembered}
+use Rattle.lethe_state.specs.Remembered.{IsCurrent, Remembers}
+use Rattle.lethe_state.specs.Records.{halted}
+use Rattle.lethe_state.specs.Room.{IsStepFrom}
+use Rattle.lethe_state.specs.Ticking.{moved}
+use Rattle.lethe_state.specs.Writable.{IsWritable, segments_for}
+use Rattle.lethe_state.specs.declared.state.State.{State}
+use Rattle.lethe_stored.proofs.Numbers.{goes_from_weaker}
+use Rattle.lethe_stored.specs.Files.{Parts}
+use Rattle.lethe_stored.specs.Kept.{IsFor, IsKept}
+use Rattle.lethe_stored.specs.Left.{IsKeptOr}
+use Rattle.lethe_stored.specs.Levels.{HasFiles}
+use Rattle.lethe_stored.specs.Numbers.{GoesFrom}
+use Rattle.lethe_stored.specs.Stored.{Stored, layout_of, segment_name}
+use Rattle.lethe_core.specs.Asked.{Makes, behind, done_by, written_by}
+use Rattle.lethe_core.specs.Keeps.{MayStep}
+use Rattle.lethe_core.specs.Running.{Holds, IsFlying, IsRunning, IsSmall, IsSound, IsTasked}
+use Rattle.lethe_core.specs.StandsNow.{IsCounted, StandsNow}
+use Rattle.lethe_core.specs.Steps.{IsHindered}
+use Rattle.lethe_core.specs.View.{Flying, View, beside_at, beside_in, loose_in, names_beside}
+use Rattle.lethe_core.proofs.Beside.{beside_stays}
+use Rattle.lethe_core.proofs.Carried.{IsCarried, active_ends}
+use Rattle.lethe_core.proofs.Hindered.{drawn_on, flies_on}
+use Rattle.lethe_core.proofs.Next.{beside_drawn}
+use Rattle.lethe_core.proofs.Recorded.{failed_stands}
+use Rattle.lethe_core.proofs.Standing.{is_beside, moments_or, next_drawn, open_stands, stands_back, stands_for, stands_holds}
+
+-- The job in flight
+
+-- it merges the same files, which are stored as before
+task_ticked : (s : Stored) (m : StoredMerge) (task : PlainTask) → IsTaskIn s m task → (to number : ℕ) → IsTaskIn (ticked s to number) m task
+task_ticked s m task is to number =
+    let before = is.upto in
+    record {
+      merge = record { level = is.merge.level; from = is.merge.from; whole = is.merge.whole; into = is.merge.into; lower = is.merge.lower; met = is.merge.met; higher = is.merge.higher };
+      level = is.level;
+      sources = is.sources;
+      met = is.met;
+      clear = is.clear;
+      bottom = is.bottom;
+      erases = is.erases ∙ sym (pending_ticked s to number);
+      upto = omega (arith, before, count_ticked s to number);
+      config = is.config;
+    }
+
+tasked_ticked : (s : Stored) (to number : ℕ) (flight : Option Flying) → IfSome flight (IsTasked s) → IfSome flight (IsTasked (ticked s to number))
+tasked_ticked s to number None is = tt
+tasked_ticked s to number (Some flying) is = (is.0, task_ticked s is.0 flying.task is.1 to number)
+
+-- The state
+
+small_moved : (manifest : Manifest) (state : State) → manifest.config ≡ state.manifest.config → IsSmall state → IsSmall (moved manifest state)
+small_moved manifest state config is =
+    let same : manifest.config.buffer ≡ state.manifest.config.buffer = ap (λ (f : Fields). f.buffer) config in
+    let records = is.records in
+    let frozen = is.frozen in
+    record { active = is.active; records = omega (arith, same, records); frozen = omega (arith, same, frozen) }
+
+-- The step
+
+module _ (Tells : Type 0) (old : View) (before to : ℕ) (may : MayStep Tells old before) (headers : List NewHeader) (step : Step) (none : headers ≡ [])
+    (from : IsStepFrom (segments_for old.state.frozen) old.state headers step)
+    (ticks : (s : Stored) (levels : List (List Parts)) → Remembers s old.state levels → IsCurrent s old.state → (loose : List (Name × List ℕ)) → AreDrawn old.state.next (names_in loose) → AreUncited s loose
+    → IsStep s loose (ticked s to old.state.next) loose [] step) where
+  abbrev t : Stored → Stored
+  t s = ticked s to old.state.next
+
+  pub tick_is : (s : Stored) → Holds old s → IsStep s (beside_in old) (t s) (beside_in old) headers step
+  tick_is s holds = subst (λ headers. IsStep s (beside_in old) (t s) (beside_in old) headers step) (sym none)
+      (ticks s old.levels holds.remembers holds.running.current (beside_in old) (beside_drawn old may.sound.drawn) holds.running.uncited)
+
+  held_now : Tells → (s : Stored) × Holds old s
+  held_now told = let held = may.sound.held told in (held.0, record { remembers = held.1; running = held.2 may.runs })
+
+  pub tick_step : Tells → (s t : Stored) × (left : List (Name × List ℕ)) × IsRunning old s × IsStep s (beside_in old) t left headers step
+  tick_step told = let held = held_now told in (held.0, t held.0, beside_in old, held.1.running, tick_is held.0 held.1)
+
+  -- A crash leaves what is kept for the history, or for it with the tick
+
+  module _ (config : Fields) (h : History) (stands : StandsNow config h old) (forward : (after h).clock ≤ to) (due : HasNothingDue stands.stored.manifest.config to (layout_of stands.stored)) (caller : ℕ) where
+    abbrev s : Stored
+    s = stands.stored
+
+    holds : Holds old s
+    holds = stands_holds config h old stands may.runs
+
+    for : IsFor h s
+    for = stands_for config h old stands may.runs
+
+    few : length h < max_place
+    few = let fits = may.fits in let count = stands.count in omega (arith, fits, count)
+
+    later : s.manifest.clock ≤ to
+    later = let clock = for.clock in omega (arith, clock, forward)
+
+    pub then_for : IsFor (with_done h caller (Tick to)) (t s)
+    then_for = ticked_for s to old.state.next h holds.remembers.coherent for few later due caller
+
+    pub tick_moments : (new : View) → (Tells → (s t : Stored) (left : List (Name × List ℕ)) → IsRunning old s → IsStep s (beside_in old) t left headers step → (h g : History) → IsFor h s → IsFor g t
+        → s.manifest.next ≤ old.state.next → t.manifest.next ≤ old.state.next + length step.objects.items + 1
+        → GoesFrom old.state.next (λ c. IsKept s.manifest.config c h ⊎ IsKept s.manifest.config c g) old.disk new.disk)
+        → Tells → GoesFrom old.state.next (IsKeptOr config h (Some (done_by caller (Tick to)))) old.disk new.disk
+    tick_moments new moments told =
+        let g = with_done h caller (Tick to) in
+        subst (λ (fields : Fields). GoesFrom old.state.next (IsKeptOr fields h (Some (done_by caller (Tick to)))) old.disk new.disk) stands.config_is
+        (goes_from_weaker (λ c. IsKept s.manifest.config c h ⊎ IsKept s.manifest.config c g) (IsKeptOr s.manifest.config h (Some (done_by caller (Tick to)))) old.state.next old.disk new.disk
+        (λ c either. elim either [ inl was ↦ (h, inl refl, was) | inr is ↦ (g, inr refl, is) ])
+        (moments told s (t s) (beside_in old) holds.running (tick_is s holds) h g for then_for (next_drawn old s may.sound.writable stands.remembers) (omega arith)))
+
+    -- where there was no memory it leaves what is kept for the history
+    pub tick_unmoved : (new : View) → (Tells → (s t : Stored) (left : List (Name × List ℕ)) → IsRunning old s → IsStep s (beside_in old) t left headers step → (h : History) → IsFor h s
+        → s.manifest.next ≤ old.state.next → GoesFrom old.state.next (λ c. IsKept s.manifest.config c h) old.disk new.disk)
+        → Tells → GoesFrom old.state.next (λ c. IsKept config c h) old.disk new.disk
+    tick_unmoved new unmoved told =
+        subst (λ (fields : Fields). GoesFrom old.state.next (λ c. IsKept fields c h) old.disk new.disk) stands.config_is
+        (unmoved told s (t s) (beside_in old) holds.running (tick_is s holds) h for (next_drawn old s may.sound.writable stands.remembers))
+
+    -- It was hindered
+
+    pub hindered_moments : (new : View) (why : Refused) → IsHindered Tells old new before why → GoesFrom old.state.next (IsKeptOr config h (Some (done_by caller (Tick to)))) old.disk new.disk
+        → (why ≡ NoMemory → GoesFrom old.state.next (λ c. IsKept config c h) old.disk new.disk) → GoesFrom old.state.next (IsKeptOr config h (written_by caller (Makes (Tick to)) (Some why))) old.disk new.disk
+    hindered_moments new (Fault place b a) is goes unmoved = goes
+    hindered_moments new NoMemory is goes unmoved = moments_or config h None old.state.next old.disk new.disk (unmoved refl)
+    hindered_moments new why is goes unmoved = absurd is
+
+    pub hindered_stands : (new : View) (why : Refused) → IsHindered Tells old new before why → GoesFrom old.state.next (IsKeptOr config h (Some (done_by caller (Tick to)))) old.disk new.disk
+        → Tells → Image new.disk new.disk.directory → StandsNow config (behind h caller (Makes (Tick to)) (Some why)) new
+    hindered_stands new (Fault place b a) is goes told here = subst (StandsNow config (behind h caller (Makes (Tick to)) (Some (Fault place b a)))) (is_beside old new (halted old.state) is.4 is.5)
+        (failed_stands config h old stands may.runs may.fits new.disk new.faults caller (Tick to) refl b a here goes.goes)
+    hindered_stands new NoMemory is goes told here = stands_back old new (is.2 told) config h is.0 is.1 stands
+    hindered_stands new why is goes told here = absurd is
+
+  -- It was carried out
+
+  module _ (new : View) (carried : IsCarried Tells old new headers step) (new_is : new.state ≡ moved step.manifest old.state) (here : Tells → Image old.disk old.disk.directory) where
+    module _ (told : Tells) (s : Stored) (holds : Holds old s) where
+      is : IsStep s (beside_in old) (t s) (beside_in old) headers step
+      is = tick_is s holds
+
+      done : IsSettled new.disk (t s) × HasOnly (t s) (beside_in old) new.disk.directory
+      done = carried.done told s (t s) (beside_in old) holds.running is
+
+      files : HasFiles (t s) new.levels
+      files = carried.files told s (t s) (beside_in old) holds.running is holds.remembers.files
+
+      same_beside : beside_in new ≡ beside_in old
+      same_beside = (λ i. beside_at new.disk.directory (carried.retired i) (carried.flight i)) ∙ beside_stays old.disk.directory new.disk.directory old.retired old.flight done.1.there
+
+      untorn : IsUntorn (t s) new.disk.directory
+      untorn = step_untorn s (t s) (beside_in old) (beside_in old) headers step old.disk.directory new.disk.directory holds.remembers.coherent is holds.running.only holds.running.untorn
+          (carried.kept told s (t s) (beside_in old) holds.running is) (carried.gate told s (t s) (beside_in old) holds.running is)
+
+      ends : EndsAt new.disk (segment_name s.active.no) s.active.no s.active.records old.state.end
+      ends = active_ends s (t s) (beside_in old) (beside_in old) headers step is holds.remembers.coherent old.disk new.disk done.0
+          (carried.kept told s (t s) (beside_in old) holds.running is) old.state.end refl (here told) holds.running.ends
+
+      both : Remembers (t s) new.state new.levels × IsCurrent (t s) new.state
+      both =
+          let state_is : new.state ≡ moved (t s).manifest old.state = new_is ∙ ap (λ m. moved m old.state) is.manifest in
+          subst (λ state. Remembers (t s) state new.levels × IsCurrent (t s) state) (sym state_is)
+          (tick_remembered s old.state old.levels new.levels to old.state.next holds.remembers holds.running.current (next_drawn old s may.sound.writable holds.remembers) is.coherent.spelled files)
+
+      pub ticked_holds : Holds new (t s)
+      ticked_holds = record {
+        remembers = both.0;
+        running = record {
+          settled = done.0;
+          only = subst (λ l. HasOnly (t s) l new.disk.directory) (sym same_beside) done.1;
+          uncited = subst (AreUncited (t s)) (sym same_beside) is.left_uncited;
+          untorn = untorn;
+          copied = subst (All (IsCopied (t s))) (sym same_beside) (all_copied s (t s) refl (λ file there. there) (beside_in old) holds.running.copied);
+          rising = holds.running.rising;
+          ends = subst (EndsAt new.disk (segment_name s.active.no) s.active.no s.active.records) (sym (ap (λ (state : State). state.end) new_is)) ends;
+          current = both.1;
+          tasked = subst (λ flight. IfSome flight (IsTasked (t s))) (sym carried.flight) (tasked_ticked s to old.state.next old.flight holds.running.tasked);
+        };
+      }
+
+    config_is : new.state.manifest.config ≡ old.state.manifest.config
+    config_is = ap (λ (state : State). state.manifest.config) new_is ∙ from.config
+
+    next_is : new.state.next ≡ old.state.next + length step.objects.items + 1
+    next_is = let next = ap (λ (state : State). state.next) new_is in let number = from.numbers in let above = from.next in omega (arith, next, number, above)
+
+    pub ticked_sound : IsWritable new.state → IsSound Tells new
+    ticked_sound writable = record {
+      writable = writable;
+      small = subst IsSmall (sym new_is) (small_moved step.manifest old.state from.config may.sound.small);
+      count = carried.levels ∙ may.sound.count ∙ ap (λ (fields : Fields). fields.levels + 1) (sym config_is);
+      flies = subst (λ flight. IfSome flight (IsFlying new.state)) (sym carried.flight) (flies_on old.state new.state (ap (λ (fields : Fields). fields.levels) config_is) old.flight may.sound.flies);
+      drawn = subst (AreDrawn new.state.next) (λ i. (sym carried.retired) i ++ names_in (loose_in ((sym carried.flight) i)))
+          (drawn_on old.state.next new.state.next (names_beside old) (omega (arith, next_is)) may.sound.drawn);
+      held = λ told. let held = held_now told in let holds = ticked_holds told held.0 held.1 in (t held.0, holds.remembers, λ runs. holds.running);
+    }
+
+    pub ticked_numbers : Tells → new.state.next + old.disk.moment ≤ old.state.next + new.disk.moment
+    ticked_numbers told = let made = carried.calls told in omega (arith, made, next_is)
+
+    pub ticked_stands : Tells → (config : Fields) (h : History) (stands : StandsNow config h old) → (after h).clock ≤ to → HasNothingDue stands.stored.manifest.config to (layout_of stands.stored) → (caller : ℕ)
+        → StandsNow config (with_done h caller (Tick to)) new
+    ticked_stands told config h stands forward due caller =
+        let for = then_for config h stands forward due caller in
+        let holds = ticked_holds told stands.stored (stands_holds config h old stands may.runs) in
+        open_stands config (with_done h caller (Tick to)) new (t stands.stored) for.legal for.done (holds.running.current.count ∙ for.count) stands.config_is for holds
+        (subst (λ flight. IfSome flight (λ (flying : Flying). IsCounted flying.task)) (sym carried.flight) stands.counted)

@@ -1,0 +1,121 @@
+-- What is stored once a tick has done all but move the clock: nothing is due.
+use Rattle.std.proofs.Common.{◌≡◌, ◌≤◌, ◌⊎◌, inl, inr, ℕ, List, [], ◌∷◌, Option, Some, None, refl, sym, ap, ◌∙◌, subst, arith}
+use Rattle.lethe_base.specs.History.{History, after}
+use Rattle.lethe_base.specs.Limits.{max_place}
+use Rattle.lethe_base.specs.declared.call.Call.TheVariants.{Tick, Work}
+use Rattle.lethe_base.specs.declared.config.Fields.{Fields}
+use Rattle.lethe_base.specs.declared.refused.Refused.{Refused}
+use Rattle.lethe_base.specs.declared.refused.Refused.TheVariants.{Fault, Stopped, Exhausted, NoMemory}
+use Rattle.lethe_fade.specs.Expired.{is_passed}
+use Rattle.lethe_fade.specs.declared.plan.Plan.{Plan}
+use Rattle.lethe_follows.proofs.Expired.{nothing_due}
+use Rattle.lethe_follows.proofs.Young.{young_by}
+use Rattle.lethe_follows.specs.Young.{AreYoung, oldest_in}
+use Rattle.lethe_manifest.specs.declared.manifest.Manifest.{Manifest}
+use Rattle.lethe_moves.specs.Due.{HasNothingDue}
+use Rattle.lethe_state.specs.Room.{IsUnfrozen}
+use Rattle.lethe_state.specs.declared.state.State.{State}
+use Rattle.lethe_stored.proofs.Unique.{one_stored}
+use Rattle.lethe_stored.specs.Kept.{IsFor}
+use Rattle.lethe_stored.specs.Left.{IsKeptOr}
+use Rattle.lethe_stored.specs.Numbers.{GoesFrom}
+use Rattle.lethe_stored.specs.Stored.{Segment, Stored, layout_of, records_in}
+use Rattle.lethe_core.specs.Asked.{Makes, behind, failure_of, written_by}
+use Rattle.lethe_core.specs.Keeps.{Keeps, MayStep}
+use Rattle.lethe_core.specs.Merges.{AreOutcomesBy, AreSomeOutcomesBy, HasNoMergeBy, IsOutcomeBy, Outcome, due_choice}
+use Rattle.lethe_core.specs.Reasons.{HasReason}
+use Rattle.lethe_core.specs.Running.{Holds}
+use Rattle.lethe_core.specs.StandsNow.{StandsNow}
+use Rattle.lethe_core.specs.View.{View}
+use Rattle.lethe_core.proofs.Standing.{stands_for, stands_holds}
+use Rattle.lethe_tick.specs.Ripened.{AreBuffersFlushed, IsFrozenIfAny, IsRipened}
+
+-- one thing alone is stored
+pub one_held : (view : View) (s t : Stored) → Holds view s → Holds view t → s ≡ t
+one_held view s t is other = one_stored view.disk.directory s t is.remembers.coherent other.remembers.coherent is.running.settled.encodes other.running.settled.encodes
+
+-- How old records are
+
+module _ (to : ℕ) where
+  empty_young : (s : Stored) → s.active.records ≡ [] → s.frozen ≡ None → AreYoung s to
+  empty_young s active frozen =
+      let fields = s.manifest.config in
+      (young_by s to).1 (ap (λ records. is_passed fields to 0 (oldest_in records)) active, ap (λ segment. is_passed fields to 0 (oldest_in (records_in segment))) frozen)
+
+  same_young : (s t : Stored) → t.active ≡ s.active → t.frozen ≡ s.frozen → t.manifest.config ≡ s.manifest.config → AreYoung s to → AreYoung t to
+  same_young s t active frozen config young =
+      let is = (young_by s to).0 young in
+      (young_by t to).1 ((λ i. is_passed (config i) to 0 (oldest_in (active i).records)) ∙ is.0, (λ i. is_passed (config i) to 0 (oldest_in (records_in (frozen i)))) ∙ is.1)
+
+  -- behind a flush the active segment is the one that there was, and none is frozen
+  unfrozen_is : (s t : Stored) → IsUnfrozen s t → (t.active ≡ s.active) × (t.frozen ≡ None)
+  unfrozen_is s t (inl same) = (ap (λ (x : Stored). x.active) same.1, ap (λ (x : Stored). x.frozen) same.1 ∙ same.0)
+  unfrozen_is s t (inr (some, is)) = (ap (λ (x : Stored). x.active) is.is, ap (λ (x : Stored). x.frozen) is.is)
+
+  -- behind a freeze the active segment has no record
+  frozen_empty : (s t : Stored) → IsFrozenIfAny s t → t.active.records ≡ []
+  frozen_empty s t (inl same) = ap (λ (x : Stored). x.active.records) same.1 ∙ same.0
+  frozen_empty s t (inr (some, is)) = ap (λ (x : Stored). x.active.records) is.is
+
+  flushed_young : (s t : Stored) → AreBuffersFlushed s t → AreYoung t to
+  flushed_young s t is =
+      let last = unfrozen_is is.frozen t is.last in
+      empty_young t (ap (λ (segment : Segment). segment.records) last.0 ∙ frozen_empty is.unfrozen is.frozen is.second) last.1
+
+  pub ripened_young : (s t : Stored) → IsRipened to s t → AreYoung t to
+  ripened_young s t (inl young) = subst (λ x. AreYoung x to) (sym young.1) young.0
+  ripened_young s t (inr old) = flushed_young s t old.1
+
+  -- merges change no segment
+  pub outcomes_young : (chosen : Stored → Option Plan) (s : Stored) (outcomes : List Outcome) (t : Stored) → AreOutcomesBy chosen s outcomes t → AreYoung s to → AreYoung t to
+  outcomes_young chosen s [] t are young = subst (λ x. AreYoung x to) (sym are.1) young
+  outcomes_young chosen s (outcome ∷ more) t are young =
+      let is = are.0.merged_is in
+      outcomes_young chosen outcome.to more t are.1 (same_young s outcome.to is.active is.frozen (ap (λ (m : Manifest). m.config) is.manifest) young)
+
+-- Merges until none is chosen
+
+pub none_more : (chosen : Stored → Option Plan) (s : Stored) (outcomes : List Outcome) (t : Stored) → AreOutcomesBy chosen s outcomes t → HasNoMergeBy chosen t
+none_more chosen s [] t are = subst (HasNoMergeBy chosen) (sym are.1) are.0
+none_more chosen s (outcome ∷ more) t are = none_more chosen outcome.to more t are.1
+
+pub all_some : (chosen : Stored → Option Plan) (s : Stored) (outcomes : List Outcome) (t : Stored) → AreOutcomesBy chosen s outcomes t → AreSomeOutcomesBy chosen s outcomes t
+all_some chosen s [] t are = are.1
+all_some chosen s (outcome ∷ more) t are = (are.0, all_some chosen outcome.to more t are.1)
+
+-- The clock may move
+
+module _ (Tells : Type 0) (old new : View) (before to : ℕ) (may : MayStep Tells old before) (forward : old.state.manifest.clock ≤ to) (keeps : Keeps Tells old new None)
+    (done : Tells → (s : Stored) → Holds old s → (ripe t : Stored) × (outcomes : List Outcome) × IsRipened to s ripe × AreOutcomesBy (due_choice to) ripe outcomes t × Holds new t)
+    (told : Tells) (config : Fields) (h : History) (stands : StandsNow config h old) where
+  pub stands_then : StandsNow config h new
+  stands_then = keeps.stands told config h stands 0 Work
+
+  -- the time isn't behind the history's
+  pub time_forward : (after h).clock ≤ to
+  time_forward =
+      let for = stands_for config h old stands may.runs in
+      let clock = for.clock in
+      let same : old.state.manifest.clock ≡ stands.stored.manifest.clock = ap (λ (m : Manifest). m.clock) stands.remembers.manifest in
+      omega (arith, clock, same, forward)
+
+  pub due_nothing : HasNothingDue stands_then.stored.manifest.config to (layout_of stands_then.stored)
+  due_nothing =
+      let runs = keeps.stopped ∙ may.runs in
+      let is = done told stands.stored (stands_holds config h old stands may.runs) in
+      let ripe = is.0 in
+      let t = is.1 in
+      let same = one_held new t stands_then.stored is.5 (stands_holds config h new stands_then runs) in
+      subst (λ (x : Stored). HasNothingDue x.manifest.config to (layout_of x)) same
+      (nothing_due h t is.5.remembers.coherent (subst (IsFor h) (sym same) (stands_for config h new stands_then runs)) to (none_more (due_choice to) ripe is.2 t is.4)
+      (outcomes_young to (due_choice to) ripe is.2 t is.4 (ripened_young to stands.stored ripe is.3)))
+
+-- A refusal
+
+-- where nothing but a failure of the disk can have refused it
+pub only_failed : (state : State) (before now : ℕ) → state.stopped ≡ None → (state.count ≡ max_place → ⊥) → (why : Refused) → HasReason ⊥ state before now why → (why ≡ NoMemory → ⊥) → failure_of why ≡ None → ⊥
+only_failed state before now runs fits (Fault place b a) is memory none = cc
+only_failed state before now runs fits NoMemory is memory none = memory refl
+only_failed state before now runs fits (Stopped at) is memory none = let clash : Some at ≡ None = sym is ∙ runs in cc
+only_failed state before now runs fits (Exhausted last) is memory none = elim is.2 [ inl full ↦ fits full | inr short ↦ short ]
+only_failed state before now runs fits why is memory none = absurd is

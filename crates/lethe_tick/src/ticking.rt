@@ -1,0 +1,101 @@
+//! A tick.
+ghost use Rattle.std.specs.Prelude.{◌≡◌, ◌≤◌, ◌<◌, ◌+◌, ◌⊎◌, ℕ, List, None, IfErr, IsErrOf, OnOk};
+ghost use Rattle.std.specs.Result.{result_err};
+ghost use Rattle.lethe_base.specs.History.{History};
+ghost use Rattle.lethe_base.specs.Limits.{max_time};
+ghost use Rattle.lethe_base.specs.declared.call.Call.TheVariants.{Tick};
+ghost use Rattle.lethe_base.specs.declared.config.Fields.{Fields};
+ghost use Rattle.lethe_base.specs.declared.name.Name.{Name};
+ghost use Rattle.lethe_base.specs.declared.refused.Refused.TheVariants as refused;
+ghost use Rattle.lethe_follows.specs.Ticked.{ticked};
+ghost use Rattle.lethe_stored.specs.Left.{IsKeptOr};
+ghost use Rattle.lethe_stored.specs.Numbers.{GoesFrom};
+ghost use Rattle.lethe_stored.specs.Stored.{Stored};
+ghost use Rattle.lethe_core.specs.Asked.{Makes, behind, counted, stopped_by, written_by};
+ghost use Rattle.lethe_core.specs.Keeps.{Keeps, MayStep};
+ghost use Rattle.lethe_core.specs.Merges.{AreOutcomesBy, Outcome, due_choice, pages_of, retired_behind};
+ghost use Rattle.lethe_core.specs.Reasons.{HasReason, IsUnreadable};
+ghost use Rattle.lethe_core.specs.Running.{Holds, IsSound};
+ghost use Rattle.lethe_core.specs.StandsNow.{StandsNow};
+ghost use Rattle.lethe_core.specs.Steps.{IsDoneInPart};
+ghost use Rattle.lethe_core.specs.View.{view_of};
+ghost use Rattle.lethe_tick.specs.Ripened.{IsRipened, IsShortToTick, IsTickedInPart};
+
+use crate::clock::move_clock;
+use crate::ripening::ripen_buffers;
+use lethe_base::Refused;
+use lethe_core::Core;
+use lethe_disk::Disk;
+use std::alloc::Global;
+
+/// Carries out a tick to a time that isn't behind the clock. The job in flight is given up. Where a record of a segment is as old at that time as level 0 may have it, both
+/// buffers are flushed. The merges that are due then are carried out, one after another until none is, and their inputs are read through the port. Then the clock moves.
+/// `before` is the count of faults from which a failure is told.
+///
+/// # Errors
+///
+/// `Exhausted` where numbers have run out, `NoMemory`, `Fault`, which stops the store, `ReadFault`, and on a disk that tells nothing `Damaged`. What was done before stays.
+pub fn tick<D: Disk>(
+    core: &mut Core<D>,
+    alloc: Global,
+    port: &mut D::Port,
+    before: u64,
+    to: u64,
+) -> Result<(), Refused>
+    requires may { MayStep D.tells (view_of core.old) before }
+    requires within { to ≤ max_time }
+    requires forward { core.old.state.manifest.clock ≤ to }
+    ensures sound { IsSound D.tells (view_of core.new) }
+    ensures count { core.new.state.count ≡ counted (Makes (Tick to)) (result_err result) core.old.state.count }
+    ensures stopped { core.new.state.stopped ≡ stopped_by (result_err result) core.old.state.stopped }
+    ensures stands { D.tells → (config : Fields) (h : History) → StandsNow config h (view_of core.old) → (caller : ℕ)
+        → StandsNow config (behind h caller (Makes (Tick to)) (result_err result)) (view_of core.new) }
+    ensures any_moment { D.tells → (config : Fields) (h : History) → StandsNow config h (view_of core.old) → (caller : ℕ)
+        → GoesFrom core.old.state.next (IsKeptOr config h (written_by caller (Makes (Tick to)) (result_err result))) (D.seen core.old.disk) (D.seen core.new.disk) }
+
+    // Acknowledged: the buffers were flushed where they had to be, then exactly the merges that were due were carried out, and the clock moved.
+    ensures done { D.tells → (s : Stored) → Holds (view_of core.old) s
+        → OnOk result ((ripe t : Stored) × (outcomes : List Outcome) × (number : ℕ) × IsRipened to s ripe × AreOutcomesBy (due_choice to) ripe outcomes t
+        × Holds (view_of core.new) (ticked t to number) × (D.fetches port.new ≡ D.fetches port.old + pages_of outcomes) × ((view_of core.new).retired ≡ retired_behind outcomes (view_of core.old).retired)) }
+    ensures partly { IfErr result (IsDoneInPart D.tells (IsTickedInPart to) (view_of core.old) (view_of core.new)) }
+    ensures why { IfErr result (λ why. HasReason (IsShortToTick D.tells to (view_of core.new)) core.old.state before (D.faults core.new.disk) why
+        ⊎ IsUnreadable D.tells D.ports_fail (D.port_faults port.old) (D.port_faults port.new) why) }
+    ensures numbers { D.tells → core.new.state.next + (D.seen core.old.disk).moment ≤ core.old.state.next + (D.seen core.new.disk).moment }
+    ensures faults { D.faults core.old.disk ≤ D.faults core.new.disk }
+    ensures free { core.new.flight ≡ None }
+    ensures begun { core.new.begun ≡ core.old.begun }
+    ensures port_faults { D.port_faults port.old ≤ D.port_faults port.new }
+    // Where a page is told as damaged, a fetch was made in this call, on any disk.
+    ensures fetched { (name : Name) → IsErrOf result (refused.Damaged name) → D.fetches port.old < D.fetches port.new }
+    ensures fetches { D.fetches port.old ≤ D.fetches port.new }
+{
+    ripen_store(core, alloc, port, before, to)?;
+    move_clock(core, alloc, before, to)
+}
+
+/// Does all that a tick to this time does before the clock moves.
+fn ripen_store<D: Disk>(
+    core: &mut Core<D>,
+    alloc: Global,
+    port: &mut D::Port,
+    before: u64,
+    to: u64,
+) -> Result<(), Refused>
+    requires { MayStep D.tells (view_of core.old) before }
+    ensures keeps { Keeps D.tells (view_of core.old) (view_of core.new) (result_err result) }
+    ensures partly { IfErr result (IsDoneInPart D.tells (IsTickedInPart to) (view_of core.old) (view_of core.new)) }
+    ensures done { D.tells → (s : Stored) → Holds (view_of core.old) s
+        → OnOk result ((ripe t : Stored) × (outcomes : List Outcome) × IsRipened to s ripe × AreOutcomesBy (due_choice to) ripe outcomes t × Holds (view_of core.new) t
+        × (D.fetches port.new ≡ D.fetches port.old + pages_of outcomes) × ((view_of core.new).retired ≡ retired_behind outcomes (view_of core.old).retired)) }
+    ensures why { IfErr result (λ why. HasReason (IsShortToTick D.tells to (view_of core.new)) core.old.state before (D.faults core.new.disk) why
+        ⊎ IsUnreadable D.tells D.ports_fail (D.port_faults port.old) (D.port_faults port.new) why) }
+    ensures free { core.new.flight ≡ None }
+    ensures begun { core.new.begun ≡ core.old.begun }
+    ensures port_faults { D.port_faults port.old ≤ D.port_faults port.new }
+    ensures fetched { (name : Name) → IsErrOf result (refused.Damaged name) → D.fetches port.old < D.fetches port.new }
+    ensures fetches { D.fetches port.old ≤ D.fetches port.new }
+{
+    core.cancel_now(before)?;
+    ripen_buffers(core, alloc, before, to)?;
+    core.ripen(alloc, port, before, to)
+}
