@@ -29,13 +29,14 @@ pub struct Reopening {
     pub step: Step,
 }
 
-/// The step that writes the files of these drafts and puts an empty segment in the place of the journal, to a manifest of this count and these erases.
+/// The step that writes the files of these drafts and puts an empty segment in the place of the journal, to a manifest of this count, these erases and this number.
 pub fn reopening_of(
     alloc: Global,
     manifest: &Manifest,
     count: u64,
     erases: Vec<Pending>,
     drafts: Drafts,
+    number: u64,
 ) -> Result<Reopening, NoMemory>
     requires spelled { HasSpelling manifest.now }
     requires count { count ≤ max_place }
@@ -43,7 +44,8 @@ pub fn reopening_of(
     requires ascending { AllPairs (λ a b. a.seq < b.seq) erases.items }
     requires older { All IsDraft drafts.older.items }
     requires newer { All IsDraft drafts.newer.items }
-    requires numbers { manifest.now.next + numbers_of drafts + 1 < max_place }
+    requires number { number ≡ manifest.now.next + numbers_of drafts + 1 }
+    requires free { number < max_place }
     ensures reopens { IfOk result (λ made. (s : Stored) (journal : Journal) (heads : prelude.List header.Header) → IsCoherent s → s.manifest ≡ manifest.now → count ≡ count_of s → erases.items ≡ pending_of s
         → AreHeadersOf s heads → IsJournalOf s journal → AreDraftsOfJournal manifest.now.config journal erases.items heads drafts → Reopens s made) }
     ensures spelled { IfOk result (λ made. HasSpelling made.step.manifest) }
@@ -54,16 +56,17 @@ pub fn reopening_of(
     ensures next { IfOk result (λ made. made.step.manifest.next ≡ manifest.now.next + length made.step.objects.items + 1) }
 {
     let flushes = flush_journal(alloc, drafts, count, manifest.next)?;
-    step_of(alloc, manifest, count, erases, flushes)
+    step_of(alloc, manifest, count, erases, flushes, number)
 }
 
-// The step to a manifest of this count and these erases.
+// The step to a manifest of this count, these erases and this number, which is the one behind the segment's.
 fn step_of(
     alloc: Global,
     manifest: &Manifest,
     count: u64,
     erases: Vec<Pending>,
     flushes: Flushes,
+    number: u64,
 ) -> Result<Reopening, NoMemory>
     requires spelled { HasSpelling manifest.now }
     requires count { count ≤ max_place }
@@ -71,7 +74,8 @@ fn step_of(
     requires ascending { AllPairs (λ a b. a.seq < b.seq) erases.items }
     requires older { IsWritable manifest.now.next flushes.older }
     requires newer { IsWritable flushes.older.next flushes.newer }
-    requires room { flushes.newer.next + 2 ≤ max_place }
+    requires number { number ≡ flushes.newer.next + 1 }
+    requires free { number < max_place }
     ensures is { IfOk result (IsStepOf manifest.now count erases.items flushes) }
     ensures spelled { IfOk result (λ made. HasSpelling made.step.manifest) }
 {
@@ -84,7 +88,7 @@ fn step_of(
     files.extend_from_slice(&older.cited)?;
     files.extend_from_slice(manifest.files.items())?;
     let change = Change {
-        no: segment + 1,
+        no: number,
         count,
         erases: List::of(erases),
         segments: List::of(vec![in alloc; segment]?),

@@ -66,27 +66,29 @@ pub fn resume<D: Disk>(
     };
     // The numbers of the files and that of a segment are drawn, and the manifest has the one behind them.
     let drawn = made.drafts.count_numbers() + 1;
-    if number_behind(manifest.next, drawn).is_none() {
+    let Some(number) = number_behind(manifest.next, drawn) else {
         return Err(OpenWhy::Exhausted { last: MAX_PLACE });
-    }
-    match reopen(alloc, disk, names, manifest, made) {
+    };
+    match reopen(alloc, disk, names, manifest, made, number) {
         Ok(opened) => Ok(opened),
         Err(why) => Err(failure(disk, before, why)),
     }
 }
 
-// Removes what isn't committed, and writes the records of the journal into files.
+// Removes what isn't committed, and writes the records of the journal into files, to the manifest of this number.
 fn reopen<D: Disk>(
     alloc: Global,
     disk: &mut D,
     names: &[Name],
     manifest: &Manifest,
     made: Prepared<D>,
+    number: u64,
 ) -> Result<Opened<D>, DiskRefused>
     requires listed { D.tells → names.now ≡ keys (D.seen disk.old).directory }
     requires spelled { HasSpelling manifest.now }
     requires ready { IsReady manifest.now made }
-    requires numbers { manifest.now.next + numbers_of made.drafts + 1 < max_place }
+    requires number { number ≡ manifest.now.next + numbers_of made.drafts + 1 }
+    requires free { number < max_place }
     requires settled { D.tells → (s : Stored) × IsSettled (D.seen disk.old) s × IsReadyFor s manifest.now made }
     ensures there { D.tells → (s : Stored) → IsSettled (D.seen disk.old) s → IsReadyFor s manifest.now made → IfOk result (λ opened. IsReopened s (D.seen disk.new) opened) }
     ensures spelled { IfOk result (λ opened. IsSpellable manifest.now.config opened) }
@@ -105,7 +107,7 @@ fn reopen<D: Disk>(
         drafts,
     } = made;
     tidy(alloc, disk, names, &cited)?;
-    let made = reopening_of(alloc, manifest, count, erases, drafts)?;
+    let made = reopening_of(alloc, manifest, count, erases, drafts, number)?;
     let Reopening { headers, step } = made;
     let reopened = advance(alloc, disk, &version, headers, &step)?;
     let Step { manifest, .. } = step;
