@@ -1,5 +1,5 @@
 -- Both buffers are flushed.
-use Rattle.std.proofs.Common.{◌≡◌, ◌≢◌, ◌<◌, ◌≤◌, ◌⊎◌, inl, inr, ℕ, ◌+◌, List, [], ◌∷◌, length, Result, Ok, Err, None, refl, sym, ap, ◌∙◌, subst, arith}
+use Rattle.std.proofs.Common.{◌≡◌, ◌≢◌, ◌<◌, ◌≤◌, inl, inr, ℕ, List, [], ◌∷◌, length, Result, Ok, Err, None, refl, sym, ap, subst, arith}
 use Rattle.std.specs.Prelude.{IfErr, sum_by}
 use Rattle.lethe_base.specs.declared.refused.Refused.{Refused}
 use Rattle.lethe_base.specs.declared.refused.Refused.TheVariants.{Fault, Stopped, Backwards, Pinned, NothingDue, Cancelled, Exhausted, ReadFault, NoMemory, Damaged}
@@ -7,17 +7,17 @@ use Rattle.lethe_build.specs.Drafts.{AreDraftsOf}
 use Rattle.lethe_build.specs.declared.draft.Draft.{Draft}
 use Rattle.lethe_build.specs.Built.{most_numbers}
 use Rattle.lethe_build.specs.Drafts.{numbers_for}
-use Rattle.lethe_follows.specs.Young.{AreYoung}
 use Rattle.lethe_manifest.specs.declared.manifest.Manifest.{Manifest}
 use Rattle.lethe_merge.specs.Merge.{merged}
 use Rattle.lethe_segment.specs.declared.record.Record.{Record}
 use Rattle.lethe_state.specs.Records.{IsLike}
-use Rattle.lethe_state.specs.Room.{AreDrafted, IsFlushed, IsFrozen, IsShortToFlush, IsShortToFreeze, IsUnfrozen, buffered, frozen_len}
+use Rattle.lethe_state.specs.Room.{AreDrafted, IsShortToFlush, IsShortToFreeze, buffered, frozen_len}
 use Rattle.lethe_state.specs.declared.state.State.{State}
-use Rattle.lethe_stored.specs.Stored.{Segment, Stored}
 use Rattle.lethe_core.specs.Asked.{failure_of}
+use Rattle.lethe_core.specs.Keeps.{Keeps}
 use Rattle.lethe_core.specs.Reasons.{HasReason}
-use Rattle.lethe_tick.specs.Ripened.{AreBuffersFlushed, IsFrozenIfAny, IsRipened}
+use Rattle.lethe_core.specs.View.{View}
+use Rattle.lethe_core.proofs.Behind.{reason_behind}
 
 -- Numbers that are short in a state are short in one that is like it
 
@@ -51,6 +51,10 @@ reason_told Short Other state before now NothingDue wider is = is
 reason_told Short Other state before now (Cancelled begun other) wider is = is
 reason_told Short Other state before now (ReadFault b a) wider is = is
 reason_told Short Other state before now (Damaged name) wider is = is
+
+-- behind a step that was done it is a reason of the whole
+pub reason_then : (Tells Short : Type 0) (old mid : View) (before now : ℕ) → Keeps Tells old mid None → (why : Refused) → HasReason Short mid.state before now why → HasReason Short old.state before now why
+reason_then Tells Short old mid before now keeps = reason_behind Short Short old.state mid.state before now keeps.stopped keeps.count (λ short. short)
 
 -- The active segment has a record or none
 

@@ -203,30 +203,28 @@ module _ (Tells : Type 0) (old : View) (before to : ℕ) (may : MayStep Tells ol
         };
       }
 
+  module _ (new : View) (new_is : new.state ≡ moved step.manifest old.state) (retired : new.retired ≡ old.retired) (flight : new.flight ≡ old.flight) (held : Tells → (s : Stored) → Holds old s → Holds new (t s)) where
     config_is : new.state.manifest.config ≡ old.state.manifest.config
     config_is = ap (λ (state : State). state.manifest.config) new_is ∙ from.config
 
-    next_is : new.state.next ≡ old.state.next + length step.objects.items + 1
-    next_is = let next = ap (λ (state : State). state.next) new_is in let number = from.numbers in let above = from.next in omega (arith, next, number, above)
-
-    pub ticked_sound : IsWritable new.state → IsSound Tells new
-    ticked_sound writable = record {
+    pub ticked_sound : length new.levels ≡ length old.levels → IsWritable new.state → IsSound Tells new
+    ticked_sound levels writable = record {
       writable = writable;
       small = subst IsSmall (sym new_is) (small_moved step.manifest old.state from.config may.sound.small);
-      count = carried.levels ∙ may.sound.count ∙ ap (λ (fields : Fields). fields.levels + 1) (sym config_is);
-      flies = subst (λ flight. IfSome flight (IsFlying new.state)) (sym carried.flight) (flies_on old.state new.state (ap (λ (fields : Fields). fields.levels) config_is) old.flight may.sound.flies);
-      drawn = subst (AreDrawn new.state.next) (λ i. (sym carried.retired) i ++ names_in (loose_in ((sym carried.flight) i)))
-          (drawn_on old.state.next new.state.next (names_beside old) (omega (arith, next_is)) may.sound.drawn);
-      held = λ told. let held = held_now told in let holds = ticked_holds told held.0 held.1 in (t held.0, holds.remembers, λ runs. holds.running);
+      count = levels ∙ may.sound.count ∙ ap (λ (fields : Fields). fields.levels + 1) (sym config_is);
+      flies = subst (λ flight. IfSome flight (IsFlying new.state)) (sym flight) (flies_on old.state new.state (ap (λ (fields : Fields). fields.levels) config_is) old.flight may.sound.flies);
+      drawn =
+          let next = ap (λ (state : State). state.next) new_is in
+          let number = from.numbers in
+          let above = from.next in
+          subst (AreDrawn new.state.next) (λ i. (sym retired) i ++ names_in (loose_in ((sym flight) i))) (drawn_on old.state.next new.state.next (names_beside old) (omega (arith, next, number, above)) may.sound.drawn);
+      held = λ told. let now = held_now told in let holds = held told now.0 now.1 in (t now.0, holds.remembers, λ runs. holds.running);
     }
-
-    pub ticked_numbers : Tells → new.state.next + old.disk.moment ≤ old.state.next + new.disk.moment
-    ticked_numbers told = let made = carried.calls told in omega (arith, made, next_is)
 
     pub ticked_stands : Tells → (config : Fields) (h : History) (stands : StandsNow config h old) → (after h).clock ≤ to → HasNothingDue stands.stored.manifest.config to (layout_of stands.stored) → (caller : ℕ)
         → StandsNow config (with_done h caller (Tick to)) new
     ticked_stands told config h stands forward due caller =
         let for = then_for config h stands forward due caller in
-        let holds = ticked_holds told stands.stored (stands_holds config h old stands may.runs) in
+        let holds = held told stands.stored (stands_holds config h old stands may.runs) in
         open_stands config (with_done h caller (Tick to)) new (t stands.stored) for.legal for.done (holds.running.current.count ∙ for.count) stands.config_is for holds
-        (subst (λ flight. IfSome flight (λ (flying : Flying). IsCounted flying.task)) (sym carried.flight) stands.counted)
+        (subst (λ flight. IfSome flight (λ (flying : Flying). IsCounted flying.task)) (sym flight) stands.counted)

@@ -1,8 +1,8 @@
 -- What is stored once a tick has done all but move the clock: nothing is due.
-use Rattle.std.proofs.Common.{◌≡◌, ◌≤◌, ◌⊎◌, inl, inr, ℕ, List, [], ◌∷◌, Option, Some, None, refl, sym, ap, ◌∙◌, subst, arith}
+use Rattle.std.proofs.Common.{◌≡◌, ◌≤◌, inl, inr, ℕ, List, [], ◌∷◌, Option, Some, None, refl, sym, ap, ◌∙◌, subst, arith}
 use Rattle.lethe_base.specs.History.{History, after}
 use Rattle.lethe_base.specs.Limits.{max_place}
-use Rattle.lethe_base.specs.declared.call.Call.TheVariants.{Tick, Work}
+use Rattle.lethe_base.specs.declared.call.Call.TheVariants.{Work}
 use Rattle.lethe_base.specs.declared.config.Fields.{Fields}
 use Rattle.lethe_base.specs.declared.refused.Refused.{Refused}
 use Rattle.lethe_base.specs.declared.refused.Refused.TheVariants.{Fault, Stopped, Exhausted, NoMemory}
@@ -17,12 +17,10 @@ use Rattle.lethe_state.specs.Room.{IsUnfrozen}
 use Rattle.lethe_state.specs.declared.state.State.{State}
 use Rattle.lethe_stored.proofs.Unique.{one_stored}
 use Rattle.lethe_stored.specs.Kept.{IsFor}
-use Rattle.lethe_stored.specs.Left.{IsKeptOr}
-use Rattle.lethe_stored.specs.Numbers.{GoesFrom}
 use Rattle.lethe_stored.specs.Stored.{Segment, Stored, layout_of, records_in}
-use Rattle.lethe_core.specs.Asked.{Makes, behind, failure_of, written_by}
+use Rattle.lethe_core.specs.Asked.{failure_of}
 use Rattle.lethe_core.specs.Keeps.{Keeps, MayStep}
-use Rattle.lethe_core.specs.Merges.{AreOutcomesBy, AreSomeOutcomesBy, HasNoMergeBy, IsOutcomeBy, Outcome, due_choice}
+use Rattle.lethe_core.specs.Merges.{AreOutcomesBy, AreSomeOutcomesBy, HasNoMergeBy, Outcome, due_choice}
 use Rattle.lethe_core.specs.Reasons.{HasReason}
 use Rattle.lethe_core.specs.Running.{Holds}
 use Rattle.lethe_core.specs.StandsNow.{StandsNow}

@@ -1,10 +1,8 @@
-use Rattle.std.proofs.Common.{rules, ◌≡◌, ◌≤◌, ◌+◌, List, None, Some, Result, Err, refl, sym, ap, ◌∙◌, subst, arith}
+use Rattle.std.proofs.Common.{rules, ◌≡◌, None, Result, Err, sym, ap, ◌∙◌, subst, arith}
 use Rattle.std.specs.Prelude.{IfErr, option_map}
 use Rattle.std.specs.Result.{result_err}
 use Rattle.lethe_base.specs.declared.call.Call.TheVariants.{Tick}
-use Rattle.lethe_base.specs.declared.name.Name.{Name}
 use Rattle.lethe_base.specs.declared.refused.Refused.{Refused}
-use Rattle.lethe_advance.specs.declared.new_header.NewHeader.{NewHeader}
 use Rattle.lethe_state.specs.Room.{IsStepFrom}
 use Rattle.lethe_state.specs.Ticking.{moved}
 use Rattle.lethe_state.specs.Writable.{segments_for}
@@ -19,8 +17,7 @@ use Rattle.lethe_core.proofs.Asked.{behind_none, counted_none, not_failed, stopp
 use Rattle.lethe_core.proofs.Carried.{IsCarried}
 use Rattle.lethe_core.proofs.Hindered.{as_itself, hindered_count, hindered_next, hindered_sound, hindered_stopped, hindered_undone}
 use Rattle.lethe_core.proofs.Standing.{moments_or, stands_moments}
-use Rattle.lethe_core.proofs.Unread.{short_reason}
-use Rattle.lethe_tick.proofs.Moving.{hindered_moments, hindered_stands, tick_moments, tick_step, tick_unmoved, ticked_holds, ticked_numbers, ticked_sound, ticked_stands}
+use Rattle.lethe_tick.proofs.Moving.{hindered_moments, hindered_stands, tick_moments, tick_step, tick_unmoved, ticked_holds, ticked_sound, ticked_stands}
 use Rattle.lethe_tick.proofs.clock.move_clock.Goals as goal
 
 -- There was no number or no memory for the step
@@ -147,29 +144,6 @@ returns-in_err-carry_out-clause-numbers g c = λ told.
 
 -- It was carried out
 
-pub returns-clause-sound : goal.returns-clause-sound
-returns-clause-sound g c =
-    let old = view_of c.args.core.now in
-    let new = view_of (record c.carry_out.new.self { state = c.tick.new.self }) in
-    let headers = c.new.result.items in
-    let step = c.in_ok-step.step in
-    let laws = g.met.D.Disk g.world.𝓛 g.world.𝓜 g.world.𝓡 ((λ s x. x), (λ x. x), (λ x. x), λ x. x) in
-    let new_is : new.state ≡ moved step.manifest old.state = c.tick.ensures.is ∙ ap (moved step.manifest) c.in_ok-carry_out.ensures.state in
-    let carried : IsCarried g.D.Disk.tells old new headers step = record {
-      moments = c.carry_out.ensures.moments;
-      done = c.in_ok-carry_out.ensures.done;
-      kept = c.in_ok-carry_out.ensures.kept;
-      gate = c.in_ok-carry_out.ensures.gate;
-      files = c.in_ok-carry_out.ensures.files;
-      levels = c.carry_out.ensures.levels;
-      retired = λ i. (c.carry_out.ensures.retired i).items;
-      flight = ap (option_map flying_of) c.carry_out.ensures.flight;
-      calls = c.in_ok-carry_out.ensures.calls;
-      faults = c.carry_out.ensures.faults;
-    } in
-    let from = subst (λ headers. IsStepFrom (segments_for old.state.frozen) old.state headers step) (sym c.new.ensures.items) c.in_ok-step.ensures.step in
-    ticked_sound g.D.Disk.tells old c.args.before c.args.to c.requires.may headers step c.new.ensures.items from c.in_ok-step.ensures.ticks new carried new_is (λ told. laws.itself told c.args.core.now.disk) c.tick.ensures.writable
-
 pub returns-clause-done : goal.returns-clause-done
 returns-clause-done g c = λ told s holds.
     let old = view_of c.args.core.now in
@@ -193,29 +167,25 @@ returns-clause-done g c = λ told s holds.
     let from = subst (λ headers. IsStepFrom (segments_for old.state.frozen) old.state headers step) (sym c.new.ensures.items) c.in_ok-step.ensures.step in
     ticked_holds g.D.Disk.tells old c.args.before c.args.to c.requires.may headers step c.new.ensures.items from c.in_ok-step.ensures.ticks new carried new_is (λ told. laws.itself told c.args.core.now.disk) told s holds
 
+pub returns-clause-sound : goal.returns-clause-sound
+returns-clause-sound g c =
+    let old = view_of c.args.core.now in
+    let new = view_of (record c.carry_out.new.self { state = c.tick.new.self }) in
+    let step = c.in_ok-step.step in
+    let new_is : new.state ≡ moved step.manifest old.state = c.tick.ensures.is ∙ ap (moved step.manifest) c.in_ok-carry_out.ensures.state in
+    let from = subst (λ headers. IsStepFrom (segments_for old.state.frozen) old.state headers step) (sym c.new.ensures.items) c.in_ok-step.ensures.step in
+    ticked_sound g.D.Disk.tells old c.args.before c.args.to c.requires.may c.new.result.items step c.new.ensures.items from c.in_ok-step.ensures.ticks new new_is (λ i. (c.carry_out.ensures.retired i).items)
+    (ap (option_map flying_of) c.carry_out.ensures.flight) (returns-clause-done g c) c.carry_out.ensures.levels c.tick.ensures.writable
+
 pub returns-clause-stands : goal.returns-clause-stands
 returns-clause-stands g c = λ told config h stands forward due caller.
     let old = view_of c.args.core.now in
     let new = view_of (record c.carry_out.new.self { state = c.tick.new.self }) in
-    let headers = c.new.result.items in
     let step = c.in_ok-step.step in
-    let laws = g.met.D.Disk g.world.𝓛 g.world.𝓜 g.world.𝓡 ((λ s x. x), (λ x. x), (λ x. x), λ x. x) in
     let new_is : new.state ≡ moved step.manifest old.state = c.tick.ensures.is ∙ ap (moved step.manifest) c.in_ok-carry_out.ensures.state in
-    let carried : IsCarried g.D.Disk.tells old new headers step = record {
-      moments = c.carry_out.ensures.moments;
-      done = c.in_ok-carry_out.ensures.done;
-      kept = c.in_ok-carry_out.ensures.kept;
-      gate = c.in_ok-carry_out.ensures.gate;
-      files = c.in_ok-carry_out.ensures.files;
-      levels = c.carry_out.ensures.levels;
-      retired = λ i. (c.carry_out.ensures.retired i).items;
-      flight = ap (option_map flying_of) c.carry_out.ensures.flight;
-      calls = c.in_ok-carry_out.ensures.calls;
-      faults = c.carry_out.ensures.faults;
-    } in
     let from = subst (λ headers. IsStepFrom (segments_for old.state.frozen) old.state headers step) (sym c.new.ensures.items) c.in_ok-step.ensures.step in
-    ticked_stands g.D.Disk.tells old c.args.before c.args.to c.requires.may headers step c.new.ensures.items from c.in_ok-step.ensures.ticks new carried new_is (λ told. laws.itself told c.args.core.now.disk)
-    told config h stands forward due caller
+    ticked_stands g.D.Disk.tells old c.args.before c.args.to c.requires.may c.new.result.items step c.new.ensures.items from c.in_ok-step.ensures.ticks new new_is (λ i. (c.carry_out.ensures.retired i).items)
+    (ap (option_map flying_of) c.carry_out.ensures.flight) (returns-clause-done g c) told config h stands forward due caller
 
 pub returns-clause-any_moment : goal.returns-clause-any_moment
 returns-clause-any_moment g c = λ told config h stands forward due caller.

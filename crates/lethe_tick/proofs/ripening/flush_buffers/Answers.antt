@@ -1,4 +1,4 @@
-use Rattle.std.proofs.Common.{rules, ◌≡◌, ◌⊎◌, inl, inr, Some, None, Result, Err, refl, sym, ap, ◌∙◌, subst}
+use Rattle.std.proofs.Common.{rules, ◌≡◌, ◌⊎◌, inl, inr, Some, None, Result, Err, refl, sym, subst}
 use Rattle.std.specs.Prelude.{IfErr}
 use Rattle.std.specs.Result.{result_err}
 use Rattle.std.proofs.lemmas.Result.{IfErr-weaker}
@@ -11,11 +11,11 @@ use Rattle.lethe_core.specs.Reasons.{HasReason}
 use Rattle.lethe_core.specs.Running.{Holds}
 use Rattle.lethe_core.specs.Steps.{IsDoneInPart, IsUndone}
 use Rattle.lethe_core.specs.View.{view_of}
-use Rattle.lethe_core.proofs.Behind.{next_may, reason_behind}
+use Rattle.lethe_core.proofs.Behind.{next_may}
 use Rattle.lethe_core.proofs.Hindered.{keeps_then}
 use Rattle.lethe_core.proofs.Likes.{before_holds, jobs_same}
 use Rattle.lethe_tick.specs.Ripened.{AreBuffersFlushed, AreFlushedInPart}
-use Rattle.lethe_tick.proofs.Buffers.{if_both, like_short_flush, like_short_freeze, reason_told}
+use Rattle.lethe_tick.proofs.Buffers.{if_both, like_short_flush, like_short_freeze, reason_then, reason_told}
 use Rattle.lethe_tick.proofs.ripening.flush_buffers.Goals as goal
 
 -- The calls
@@ -85,17 +85,16 @@ returns-in_err-freeze_if_any-clause-partly g c =
 
 pub returns-in_err-freeze_if_any-clause-why : goal.returns-in_err-freeze_if_any-clause-why
 returns-in_err-freeze_if_any-clause-why g c =
-    let old = c.args.core.now.state in
-    let mid = c.flush_frozen.new.core.state in
+    let old = view_of c.args.core.now in
+    let mid = view_of c.flush_frozen.new.core in
     let new = c.freeze_if_any.new.core in
     let why = c.in_err-freeze_if_any.field-0.0 in
     let refusal : c.from_residual-in_err-freeze_if_any.result ≡ Err why = search rules in
     let Short = IsShortToFlush new.state ⊎ IsShortToFreeze new.state in
     let now = g.D.Disk.faults new.disk in
-    let first = c.in_ok-flush_frozen.ensures.keeps in
-    subst (λ (r : Result (Unit {0}) Refused). IfErr r (HasReason Short old c.args.before now)) (sym refusal)
-    (reason_behind Short Short old mid c.args.before now first.stopped first.count (λ short. short) why
-    (reason_told (IsShortToFreeze mid) Short mid c.args.before now why (λ none short. inr (like_short_freeze mid new.state (c.in_err-freeze_if_any.ensures.undone none).state short)) c.in_err-freeze_if_any.ensures.why))
+    subst (λ (r : Result (Unit {0}) Refused). IfErr r (HasReason Short old.state c.args.before now)) (sym refusal)
+    (reason_then g.D.Disk.tells Short old mid c.args.before now c.in_ok-flush_frozen.ensures.keeps why
+    (reason_told (IsShortToFreeze mid.state) Short mid.state c.args.before now why (λ none short. inr (like_short_freeze mid.state new.state (c.in_err-freeze_if_any.ensures.undone none).state short)) c.in_err-freeze_if_any.ensures.why))
 
 -- The last step
 
@@ -129,14 +128,14 @@ returns-clause-done g c = λ told s holds.
 
 pub returns-clause-why : goal.returns-clause-why
 returns-clause-why g c =
-    let old = c.args.core.now.state in
-    let frozen = c.freeze_if_any.new.core in
-    let new = c.flush_frozen-2.new.core in
+    let tells = g.D.Disk.tells in
+    let old = view_of c.args.core.now in
+    let middle = view_of c.flush_frozen.new.core in
+    let frozen = view_of c.freeze_if_any.new.core in
+    let new = view_of c.flush_frozen-2.new.core in
     let Short = IsShortToFlush new.state ⊎ IsShortToFreeze new.state in
-    let now = g.D.Disk.faults new.disk in
-    let first = c.in_ok-flush_frozen.ensures.keeps in
-    let second = c.in_ok-freeze_if_any.ensures.keeps in
-    if_both c.flush_frozen-2.result (IsUndone g.D.Disk.tells (view_of frozen) (view_of new)) (HasReason (IsShortToFlush frozen.state) frozen.state c.args.before now) (HasReason Short old c.args.before now)
-    (λ why undone reason. reason_behind Short Short old frozen.state c.args.before now (second.stopped ∙ first.stopped) (second.count ∙ first.count) (λ short. short) why
-    (reason_told (IsShortToFlush frozen.state) Short frozen.state c.args.before now why (λ none short. inl (like_short_flush frozen.state new.state (undone none).state short)) reason))
+    if_both c.flush_frozen-2.result (IsUndone tells frozen new) (HasReason (IsShortToFlush frozen.state) frozen.state c.args.before new.faults) (HasReason Short old.state c.args.before new.faults)
+    (λ why undone reason. reason_then tells Short old middle c.args.before new.faults c.in_ok-flush_frozen.ensures.keeps why
+    (reason_then tells Short middle frozen c.args.before new.faults c.in_ok-freeze_if_any.ensures.keeps why
+    (reason_told (IsShortToFlush frozen.state) Short frozen.state c.args.before new.faults why (λ none short. inl (like_short_flush frozen.state new.state (undone none).state short)) reason)))
     c.flush_frozen-2.ensures.undone c.flush_frozen-2.ensures.why

@@ -1,4 +1,4 @@
-use Rattle.std.proofs.Common.{rules, ◌≡◌, ◌<◌, inl, inr, None, length, refl, arith}
+use Rattle.std.proofs.Common.{◌≡◌, ◌<◌, inl, inr, None, length, refl, arith}
 use Rattle.lethe_disk.proofs.Quieting.{on_ok}
 use Rattle.lethe_stored.specs.Stored.{Stored}
 use Rattle.lethe_state.specs.Room.{IsFrozen}

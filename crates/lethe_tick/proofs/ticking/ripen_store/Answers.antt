@@ -1,10 +1,8 @@
-use Rattle.std.proofs.Common.{rules, ◌≡◌, ◌≤◌, ◌⊎◌, ◌+◌, inl, inr, ℕ, List, Some, None, Result, Err, refl, sym, ap, ◌∙◌, subst, arith}
+use Rattle.std.proofs.Common.{rules, ◌≡◌, ◌⊎◌, ◌+◌, inl, inr, List, Some, None, Result, Err, refl, sym, ap, ◌∙◌, subst, arith}
 use Rattle.std.specs.Prelude.{IfErr}
 use Rattle.std.specs.Result.{result_err}
 use Rattle.std.proofs.lemmas.Result.{IfErr-weaker}
-use Rattle.lethe_base.specs.Limits.{max_place}
 use Rattle.lethe_base.specs.declared.refused.Refused.{Refused}
-use Rattle.lethe_base.specs.declared.refused.Refused.TheVariants.{NoMemory}
 use Rattle.lethe_disk.proofs.Quieting.{on_ok}
 use Rattle.lethe_stored.specs.Stored.{Stored}
 use Rattle.lethe_state.specs.Room.{IsShortToFlush, IsShortToFreeze}
@@ -18,6 +16,7 @@ use Rattle.lethe_core.proofs.Behind.{next_may, reason_behind}
 use Rattle.lethe_core.proofs.Fetched.{not_damaged}
 use Rattle.lethe_core.proofs.Hindered.{keeps_then}
 use Rattle.lethe_tick.specs.Ripened.{IsRipened, IsShortToTick, IsTickedInPart}
+use Rattle.lethe_tick.proofs.Buffers.{reason_then, reason_told}
 use Rattle.lethe_tick.proofs.Ripe.{only_failed}
 use Rattle.lethe_tick.proofs.ticking.ripen_store.Goals as goal
 
@@ -158,16 +157,17 @@ returns-clause-done g c = λ told s holds.
 
 pub returns-clause-why : goal.returns-clause-why
 returns-clause-why g c =
-    let old = c.args.core.now.state in
-    let mid = c.ripen_buffers.new.core.state in
+    let tells = g.D.Disk.tells in
+    let old = view_of c.args.core.now in
+    let free = view_of c.cancel_now.new.self in
+    let mid = view_of c.ripen_buffers.new.core in
     let new = view_of c.ripen.new.self in
     let Short = IsShortToTick g.D.Disk.tells c.args.to new in
     let Merging = IsShortToMergeBy (due_choice c.args.to) g.D.Disk.tells new in
     let Unread = IsUnreadable g.D.Disk.tells g.D.Disk.ports_fail (g.D.Disk.port_faults c.args.port.now) (g.D.Disk.port_faults c.ripen.new.port) in
-    let first = c.in_ok-cancel_now.ensures.keeps in
-    let second = c.in_ok-ripen_buffers.ensures.keeps in
-    IfErr-weaker c.ripen.result (λ why. HasReason Merging mid c.args.before new.faults why ⊎ Unread why) (λ why. HasReason Short old c.args.before new.faults why ⊎ Unread why)
-    (λ why either. elim either as (λ _. HasReason Short old c.args.before new.faults why ⊎ Unread why) [
-      | inl is ↦ inl (reason_behind Merging Short old mid c.args.before new.faults (second.stopped ∙ first.stopped) (second.count ∙ first.count) (λ short. inr (inr short)) why is)
+    IfErr-weaker c.ripen.result (λ why. HasReason Merging mid.state c.args.before new.faults why ⊎ Unread why) (λ why. HasReason Short old.state c.args.before new.faults why ⊎ Unread why)
+    (λ why either. elim either as (λ _. HasReason Short old.state c.args.before new.faults why ⊎ Unread why) [
+      | inl is ↦ inl (reason_then tells Short old free c.args.before new.faults c.in_ok-cancel_now.ensures.keeps why (reason_then tells Short free mid c.args.before new.faults c.in_ok-ripen_buffers.ensures.keeps why
+          (reason_told Merging Short mid.state c.args.before new.faults why (λ none short. inr (inr short)) is)))
       | inr is ↦ inr is
     ]) c.ripen.ensures.why
