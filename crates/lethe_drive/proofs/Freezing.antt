@@ -141,7 +141,7 @@ pub known_idle : (config : Fields) (h : History) (old new : View) (s : Stored) �
 known_idle config h old new s idle state levels face known =
     let remembers = subst (λ (state : State). Remembers s state new.levels) (sym state) (subst (λ (levels : List (List Parts)). Remembers s old.state levels) (sym levels) known.remembers) in
     let is_beside : IsBeside old new =
-    record { levels = levels; retired = ap (λ (face : Face). face.retired) face; flight = ap (λ (face : Face). face.flight) face; begun = ap (λ (face : Face). face.begun) face } in
+    record { levels = levels; retired = ap (λ (face : Face). face.retired) face; flight = ap (λ (face : Face). face.flight) face; begun = ap (λ (face : Face). face.begun) face; rounds = ap (λ (face : Face). face.rounds) face } in
     record {
       config_is = known.config_is;
       stands = known.stands;

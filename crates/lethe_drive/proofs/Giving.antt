@@ -77,8 +77,8 @@ pub theirs_none : {D Page Port : Type 0} {kind : Ghosts D Page Port} (Tells : Ty
 theirs_none Tells view begun there none = subst (λ there. IsTheirs Tells view (record { begun = begun; there = there })) (sym none) (record { flies = tt; works = tt; reads = tt })
 
 -- where nothing happens to the job in flight
-pub theirs_on : {D Page Port : Type 0} {kind : Ghosts D Page Port} (Tells : Type 0) (old new : View) (jobs : Jobs D Page Port kind) → new.flight ≡ old.flight → IsTheirs Tells old jobs → IsTheirs Tells new jobs
-theirs_on {D} {Page} {Port} {kind} Tells old new jobs same is = record {
+pub theirs_on : {D Page Port : Type 0} {kind : Ghosts D Page Port} (Tells : Type 0) (old new : View) (jobs : Jobs D Page Port kind) → new.flight ≡ old.flight → new.rounds ≡ old.rounds → IsTheirs Tells old jobs → IsTheirs Tells new jobs
+theirs_on {D} {Page} {Port} {kind} Tells old new jobs same rounds is = record {
   flies = flies_on jobs.there is.flies;
   works = works_on jobs.there is.works;
   reads = is.reads;
@@ -86,7 +86,7 @@ theirs_on {D} {Page} {Port} {kind} Tells old new jobs same is = record {
   where
     flies_on : (there : Option (Numbered D Page Port kind)) → IfSome there (λ numbered. IsInFlight old numbered.job) → IfSome there (λ numbered. IsInFlight new numbered.job)
     flies_on None is = tt
-    flies_on (Some numbered) is = record { flying = is.flying; is = same ∙ is.is; number = is.number; task = is.task }
+    flies_on (Some numbered) is = record { flying = is.flying; is = same ∙ is.is; number = is.number; task = is.task; round = is.round ∙ sym rounds }
 
     works_on : (there : Option (Numbered D Page Port kind)) → IfSome there (λ numbered. numbered.job.refused ≡ false → IsAtWork Tells old numbered.job)
         → IfSome there (λ numbered. numbered.job.refused ≡ false → IsAtWork Tells new numbered.job)

@@ -79,9 +79,9 @@ module _ {D Page Port : Type 0} {kind : Ghosts D Page Port} (Tells PortsFail : T
   goes_on number written was asked pages = λ i. Some (record { number = number; refused = (asked ∙ sym was) i; task = plain_task (task i); written = pages i; port_faults = kind.port_faults mid.port })
 
   module _ (number : mid.number ≡ job.number) (written : mid.written ≡ job.written) (kept : IsSome job.drafts → mid.drafts ≡ job.drafts) (is : IsJob Tells mid) where
-    pub still_works : (view : View) → IsAtWork Tells view job → mid.refused ≡ false → IsAtWork Tells view mid
-    still_works view works asked = record {
-      flies = record { flying = works.flies.flying; is = works.flies.is; number = (λ i. (number i).value.count) ∙ works.flies.number; task = ap plain_task task ∙ works.flies.task };
+    pub still_works : (view : View) → mid.round ≡ job.round → IsAtWork Tells view job → mid.refused ≡ false → IsAtWork Tells view mid
+    still_works view round works asked = record {
+      flies = record { flying = works.flies.flying; is = works.flies.is; number = (λ i. (number i).value.count) ∙ works.flies.number; task = ap plain_task task ∙ works.flies.task; round = round ∙ works.flies.round };
       asked = asked;
       job_is = is;
       count = works.count ∙ sym written;

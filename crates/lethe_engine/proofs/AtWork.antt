@@ -1,15 +1,17 @@
 -- A job at work, where one page more is written, where it is installed and where it is given up.
-use Rattle.std.proofs.Common.{◌≡◌, ◌<◌, ℕ, ◌+◌, ◌^◌, List, [], ◌∷◌, ◌++◌, length, get_or, take, Option, Some, None, Vec, Result, Ok, Err, refl, sym, ap, ◌∙◌, subst, append-nil, length-append, drop-cons, arith}
-use Rattle.std.specs.Prelude.{IfSome, IsSome, OnOk, option_map}
+use Rattle.std.proofs.Common.{◌≡◌, ◌≤◌, ◌<◌, ℕ, ◌+◌, ◌-◌, ◌^◌, List, [], ◌∷◌, ◌++◌, length, get_or, take, Option, Some, None, Vec, Result, Ok, Err, refl, sym, ap, ◌∙◌, subst, append-nil, length-append, drop-cons, arith}
+use Rattle.std.specs.Prelude.{IfSome, IsSome, OnOk, option_map, sum_by}
 use Rattle.std.specs.Option.{option_map_or}
 use Rattle.std.specs.List.{zip}
 use Rattle.std.specs.declared.alloc.Global.{Global}
 use Rattle.std.proofs.lemmas.List.{length-map, map-append}
 use Rattle.std.proofs.lemmas.Option.{IfSome_then}
 use Rattle.lethe_base.specs.History.{History}
+use Rattle.lethe_base.specs.Limits.{max_place}
 use Rattle.lethe_base.specs.declared.config.Fields.{Fields}
 use Rattle.lethe_base.specs.declared.name.Name.{Name}
 use Rattle.lethe_base.specs.declared.refused.Refused.{Refused}
+use Rattle.lethe_build.specs.Drafts.{numbers_for}
 use Rattle.lethe_build.specs.declared.draft.Draft.{Draft}
 use Rattle.lethe_disk.specs.declared.disk.Disk.{Ghosts}
 use Rattle.lethe_stored.specs.Stored.{Stored}
@@ -21,13 +23,13 @@ use Rattle.lethe_job.specs.Jobs.{AreOutputs, next_bytes}
 use Rattle.lethe_job.specs.Tasks.{PlainTask, plain_task}
 use Rattle.lethe_job.specs.declared.job.Job.{Job}
 use Rattle.lethe_job.specs.declared.job.Piece.{Piece}
-use Rattle.lethe_core.specs.Jobs.{IsAtWork, with_page}
+use Rattle.lethe_core.specs.Jobs.{AreOutputsOf, IsAtWork, with_page}
 use Rattle.lethe_core.specs.Merges.{IsInstalled}
 use Rattle.lethe_core.specs.Running.{Holds, IsSound}
 use Rattle.lethe_core.specs.StandsNow.{IsOpenOrStopped, StandsNow}
 use Rattle.lethe_core.specs.View.{Face, Flying, View, face_of, loose_in}
 use Rattle.lethe_core.proofs.Beside.{drawn_front}
-use Rattle.lethe_engine.specs.Jobs.{IsNextPage, written_face}
+use Rattle.lethe_engine.specs.Jobs.{IsNextPage, IsShortToInstall, written_face}
 
 -- the value, where there is one
 pub some_there : {X : Type 0} (P : X → Type 0) (o : Option X) → IsSome o → IfSome o P → (x : X) × (o ≡ Some x) × P x
@@ -81,6 +83,7 @@ module _ {D Page Port : Type 0} {kind : Ghosts D Page Port} (Tells : Type 0) (ol
             is = flight;
             number = works.flies.number;
             task = works.flies.task;
+            round = works.flies.round ∙ sym (ap (λ (face : Face). face.rounds) is);
           };
           asked = works.asked;
           job_is = record {
@@ -98,6 +101,26 @@ module _ {D Page Port : Type 0} {kind : Ghosts D Page Port} (Tells : Type 0) (ol
   outcome_of s new is =
       subst (λ (task : PlainTask). (t : Stored) × IsInstalled s task t × Holds new t) (sym works.flies.task)
       (some_at (λ (flying : Flying). (t : Stored) × IsInstalled s flying.task t × Holds new t) old.flight works.flies.flying works.flies.is is)
+
+  module _ (drafts : Vec Draft Global) (made : job.drafts ≡ Some drafts) where
+    -- the job in flight has its outputs
+    pub outputs_flying : IfSome old.flight (λ flying. AreOutputsOf Tells flying drafts.items)
+    outputs_flying =
+        let flying : Flying = works.flies.flying in
+        subst (λ o. IfSome o (λ flying. AreOutputsOf Tells flying drafts.items)) (sym works.flies.is) (record {
+          outputs = subst (λ (task : PlainTask). AreOutputs Tells task drafts.items) works.flies.task
+              (some_at (λ (drafts : Vec Draft Global). AreOutputs Tells (plain_task job.task.value) drafts.items) job.drafts drafts made works.job_is.made);
+          some = subst (λ n. n ≤ length (pages_in drafts.items)) (sym works.count) (some_at (λ (drafts : Vec Draft Global). job.written ≤ length (pages_in drafts.items)) job.drafts drafts made works.job_is.few);
+          pages = some_at (λ (drafts : Vec Draft Global). flying.written ≡ written_pages (names_in flying.written) drafts.items) job.drafts drafts made works.pages;
+        })
+
+    -- the numbers that it is short of are the job's
+    pub short_flying : IfSome old.flight (λ flying. max_place ≤ old.state.next + (sum_by numbers_for drafts.items - length flying.written)) → IsShortToInstall old job
+    short_flying short =
+        let flying : Flying = works.flies.flying in
+        let few = some_at (λ (flying : Flying). max_place ≤ old.state.next + (sum_by numbers_for drafts.items - length flying.written)) old.flight flying works.flies.is short in
+        subst (λ o. IfSome o (λ (drafts : Vec Draft Global). max_place ≤ old.state.next + (sum_by numbers_for drafts.items - job.written))) (sym made)
+        (subst (λ n. max_place ≤ old.state.next + (sum_by numbers_for drafts.items - n)) works.count few)
 
 -- A store that was stopped forgets its job
 

@@ -10,3 +10,4 @@ pub mod Calls
 pub mod Faces
 pub mod Copying
 pub mod Clean
+pub mod Rounds

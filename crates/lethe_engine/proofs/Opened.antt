@@ -37,13 +37,13 @@ use Rattle.lethe_engine.proofs.Onward.{opened_for}
 use Rattle.lethe_core.proofs.Standing.{open_stands}
 
 -- no job is in flight
-abbrev pub fresh_view : Seen → ℕ → List Name → ℕ → State → List (List Parts) → View
-fresh_view disk faults retired begun state levels = record { disk = disk; faults = faults; state = state; levels = levels; retired = retired; flight = None; begun = begun }
+abbrev pub fresh_view : Seen → ℕ → List Name → ℕ → ℕ → State → List (List Parts) → View
+fresh_view disk faults retired begun rounds state levels = record { disk = disk; faults = faults; state = state; levels = levels; retired = retired; flight = None; begun = begun; rounds = rounds }
 
-pub opened_running : (disk : Seen) (faults : ℕ) (retired : List Name) → retired ≡ [] → (begun : ℕ) (s : Stored) (state : State) (levels : List (List Parts))
+pub opened_running : (disk : Seen) (faults : ℕ) (retired : List Name) → retired ≡ [] → (begun rounds : ℕ) (s : Stored) (state : State) (levels : List (List Parts))
     → IsSettled disk s → HasOnly s [] disk.directory → IsUntorn s disk.directory → AreRising s.files → s.active.records ≡ []
-    → EndsAt disk (segment_name s.active.no) s.active.no [] 11 → state.end ≡ 11 → IsCurrent s state → IsRunning (fresh_view disk faults retired begun state levels) s
-opened_running disk faults retired empty begun s state levels settled only untorn rising none ends end_is current = record {
+    → EndsAt disk (segment_name s.active.no) s.active.no [] 11 → state.end ≡ 11 → IsCurrent s state → IsRunning (fresh_view disk faults retired begun rounds state levels) s
+opened_running disk faults retired empty begun rounds s state levels settled only untorn rising none ends end_is current = record {
   settled = settled;
   only = subst (λ retired. HasOnly s (beside_at disk.directory retired None) disk.directory) (sym empty) only;
   uncited = subst (λ retired. AreUncited s (beside_at disk.directory retired None)) (sym empty) (All-nil (λ (named : Name × List ℕ). IsCited s named.0 → ⊥));
@@ -55,12 +55,12 @@ opened_running disk faults retired empty begun s state levels settled only untor
   tasked = tt;
 }
 
-pub resumed : (config : Fields) (h g : History) (change : Option Change) (start finish : Seen) (faults : ℕ) (retired : List Name) (begun : ℕ) (s : Stored) (state : State) (levels : List (List Parts))
+pub resumed : (config : Fields) (h g : History) (change : Option Change) (start finish : Seen) (faults : ℕ) (retired : List Name) (begun rounds : ℕ) (s : Stored) (state : State) (levels : List (List Parts))
     → IsHistoryOr h change g → IsKept config start.directory g → IsWritable state
-    → IsRunning (fresh_view finish faults retired begun state levels) s → Remembers s state levels → s.manifest.config ≡ config → IsFor g s
-    → ((next : ℕ) → IsNextNumber start.directory next → state.next + start.moment ≤ next + finish.moment) → IsResumed config h change start (fresh_view finish faults retired begun state levels)
-resumed config h g change start finish faults retired begun s state levels either was writable running remembers config_is stands numbers =
-    let view : View = fresh_view finish faults retired begun state levels in
+    → IsRunning (fresh_view finish faults retired begun rounds state levels) s → Remembers s state levels → s.manifest.config ≡ config → IsFor g s
+    → ((next : ℕ) → IsNextNumber start.directory next → state.next + start.moment ≤ next + finish.moment) → IsResumed config h change start (fresh_view finish faults retired begun rounds state levels)
+resumed config h g change start finish faults retired begun rounds s state levels either was writable running remembers config_is stands numbers =
+    let view : View = fresh_view finish faults retired begun rounds state levels in
     record {
       history = g;
       either = either;

@@ -11,7 +11,11 @@ use Rattle.lethe_job.specs.Tasks.{plain_task}
 use Rattle.lethe_job.specs.declared.job.Job.{Job}
 use Rattle.lethe_job.specs.declared.job.Piece.{Piece}
 use Rattle.lethe_core.specs.Jobs.{with_begun, with_page}
-use Rattle.lethe_core.specs.View.{Face, View}
+use Rattle.lethe_core.specs.View.{Face, View, face_of}
+
+-- the job was begun in an earlier round, so that it was given up
+abbrev pub IsPast : {D Page Port : Type 0} {kind : Ghosts D Page Port} → View → Job D Page Port kind → Type 0
+IsPast view job = job.round < view.rounds
 
 -- the piece is the job's next page
 pub record IsNextPage {D Page Port : Type 0} {kind : Ghosts D Page Port} (job : Job D Page Port kind) (piece : Piece) : Type 0 where
@@ -43,3 +47,7 @@ ended_face face (Err why) = face
 -- given up it is in flight no more, whether or not the disk failed, but where no place is left for that and no call has failed
 abbrev pub given_up : Face → State → Face
 given_up face state = if is_none state.stopped && nat_le max_place state.count then face else record face { flight = None }
+
+-- what the jobs have come to behind the cancel of a job: one of an earlier round was given up before
+abbrev pub cancelled_face : {D Page Port : Type 0} {kind : Ghosts D Page Port} → View → Job D Page Port kind → Face
+cancelled_face view job = if nat_le view.rounds job.round then given_up (face_of view) view.state else face_of view

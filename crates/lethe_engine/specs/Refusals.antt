@@ -2,16 +2,23 @@
 use Rattle.std.specs.Prelude.{◌≡◌, ◌<◌, ◌⊎◌, ℕ, Some, None, IsSome}
 use Rattle.lethe_base.specs.declared.refused.Refused.{Refused}
 use Rattle.lethe_base.specs.declared.refused.Refused.TheVariants.{Fault, Stopped, Backwards, Pinned, NothingDue, Cancelled, Exhausted, ReadFault, NoMemory, Damaged}
+use Rattle.lethe_disk.specs.declared.disk.Disk.{Ghosts}
 use Rattle.lethe_stored.specs.Stored.{Stored}
 use Rattle.lethe_state.specs.declared.state.State.{State}
+use Rattle.lethe_job.specs.declared.job.Job.{Job}
 use Rattle.lethe_core.specs.Merges.{HasNoMerge}
 use Rattle.lethe_core.specs.Reasons.{HasReason, IsShortOfRoom, IsUnreadable}
 use Rattle.lethe_core.specs.Running.{Holds}
 use Rattle.lethe_core.specs.View.{View}
+use Rattle.lethe_engine.specs.Jobs.{IsPast}
 
 -- Work: an earlier call failed, the places are used up or numbers are short, the disk failed in this call, or there was no memory.
 abbrev pub HasReasonOfWork : Type 0 → View → View → Refused → Type 0
 HasReasonOfWork Short old new why = HasReason Short old.state old.faults new.faults why
+
+-- A call of a job: the same; or nothing has failed, and the job is of an earlier round.
+abbrev pub HasReasonOfJob : {D Page Port : Type 0} {kind : Ghosts D Page Port} → Type 0 → Job D Page Port kind → View → View → Refused → Type 0
+HasReasonOfJob Short job old new why = HasReasonOfWork Short old new why ⊎ (old.state.stopped ≡ None) × IsPast old job × (why ≡ Cancelled job.round old.rounds)
 
 -- the active segment has fewer records than a buffer may have, as the store sees it
 abbrev pub SeesRoom : State → Type 0

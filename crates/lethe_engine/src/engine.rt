@@ -24,7 +24,7 @@ ghost use Rattle.lethe_engine.specs.Answers.{Answers};
 use lethe_base::{Config, NoMemory};
 use lethe_core::Core;
 use lethe_disk::Disk;
-use lethe_job::BegunJobs;
+use lethe_job::Begun;
 use lethe_recover::{OpenWhy, Opened, open};
 use lethe_state::State;
 use std::alloc::Global;
@@ -94,7 +94,7 @@ impl<D: Disk> Engine<D> {
                         version,
                         retired: Vec::new(alloc),
                         flight: None,
-                        begun: BegunJobs::none(),
+                        begun: Begun::none(),
                     },
                 }),
                 Err(NoMemory) => Err(OpenRefused {
@@ -123,6 +123,13 @@ impl<D: Disk> Engine<D> {
         ensures { result ≡ self.now.core.state.count }
     {
         self.core.state.count()
+    }
+
+    /// How many rounds have ended since the store was opened. It takes no memory.
+    pub fn rounds(&self) -> u64
+        ensures { result ≡ self.now.core.begun.rounds }
+    {
+        self.core.begun.rounds
     }
 
     /// Gives the disk back.

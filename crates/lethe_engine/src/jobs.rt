@@ -1,11 +1,10 @@
 //! The jobs of a store: merges that run beside its other calls.
-ghost use Rattle.std.specs.Prelude.{◌≡◌, ◌≤◌, ◌<◌, ◌+◌, ◌-◌, ℕ, true, Some, None, length, sum_by, IfOk, IfErr, IfSome, IsErrOf, IsOk, IsSome, OnErr, OnOk, option_map};
+ghost use Rattle.std.specs.Prelude.{◌≡◌, ◌≤◌, ◌<◌, ◌+◌, ◌⊎◌, ℕ, true, Some, None, length, IfOk, IfErr, IfSome, IsErrOf, IsOk, IsSome, OnErr, OnOk, option_map};
 ghost use Rattle.std.specs.Result.{result_err};
 ghost use Rattle.std.specs.FinMap.{insert};
 ghost use Rattle.lethe_base.specs.Limits.{max_place};
 ghost use Rattle.lethe_base.specs.declared.call.Call.TheVariants.{Work};
 ghost use Rattle.lethe_base.specs.declared.refused.Refused.TheVariants as refused;
-ghost use Rattle.lethe_build.specs.Drafts.{numbers_for};
 ghost use Rattle.lethe_disk.specs.Disk.{IsIdle};
 ghost use Rattle.lethe_file.specs.Agreement.{page_name};
 ghost use Rattle.lethe_flush.specs.Made.{pages_in};
@@ -13,17 +12,16 @@ ghost use Rattle.lethe_stored.specs.Stored.{Stored};
 ghost use Rattle.lethe_job.specs.Jobs.{next_bytes};
 ghost use Rattle.lethe_job.specs.Tasks.{IsBegunIn, plain_task};
 ghost use Rattle.lethe_core.specs.Asked.{Serves};
-ghost use Rattle.lethe_core.specs.Jobs.{AreOutputsOf, IsAtWork, IsInFlight, IsWhole, with_page};
+ghost use Rattle.lethe_core.specs.Jobs.{IsAtWork, IsInFlight, IsWhole, with_page};
 ghost use Rattle.lethe_core.specs.Merges.{IsInstalled};
 ghost use Rattle.lethe_core.specs.Running.{Holds, IsSound};
 ghost use Rattle.lethe_core.specs.View.{face_of, view_of};
 ghost use Rattle.lethe_engine.specs.Answers.{Answers};
-ghost use Rattle.lethe_engine.specs.Jobs.{IsNextPage, IsShortToInstall, begun_face, ended_face, given_up, written_face};
-ghost use Rattle.lethe_engine.specs.Refusals.{HasReasonOfBegin, HasReasonOfWork};
+ghost use Rattle.lethe_engine.specs.Jobs.{IsNextPage, IsPast, IsShortToInstall, begun_face, cancelled_face, ended_face, written_face};
+ghost use Rattle.lethe_engine.specs.Refusals.{HasReasonOfBegin, HasReasonOfJob, HasReasonOfWork};
 
 use crate::Engine;
 use lethe_base::{MAX_PLACE, NoMemory, Refused};
-use lethe_build::Draft;
 use lethe_disk::Disk;
 use lethe_job::{Job, Piece};
 use std::alloc::Global;
@@ -40,9 +38,9 @@ impl<D: Disk> Engine<D> {
         requires { IsSound D.tells (view_of self.old.core) }
         ensures answers { Answers D.tells (Serves Work) (result_err result) (begun_face (face_of (view_of self.old.core)) result) (view_of self.old.core) (view_of self.new.core) }
 
-        // The job has the next number, and has made and fetched nothing. Its task is that of the first merge that is due.
+        // The job has the next number and the present round, and has made and fetched nothing. Its task is that of the first merge that is due.
         ensures begun { D.tells → (s : Stored) → Holds (view_of self.old.core) s → IfOk result (λ job. IsBegunIn s (plain_task job.task.value) × Holds (view_of self.new.core) s) }
-        ensures number { IfOk result (λ job. job.number.value ≡ self.old.core.begun) }
+        ensures number { IfOk result (λ job. (job.number.value ≡ self.old.core.begun.jobs) × (job.round ≡ self.old.core.begun.rounds)) }
         ensures works { IfOk result (IsAtWork D.tells (view_of self.new.core)) }
         ensures unmade { IfOk result (λ job. (job.drafts ≡ None) × (D.fetches job.port ≡ 0) × (D.port_faults job.port ≡ 0)) }
 
@@ -73,12 +71,12 @@ impl<D: Disk> Engine<D> {
     ///
     /// # Errors
     ///
-    /// `Stopped`, `Exhausted` where the last place is taken or no number is left, `NoMemory`, `Fault`, which stops the store. After each of these the job can only be
-    /// given up.
+    /// `Stopped`, `Cancelled` where the job was begun in an earlier round, `Exhausted` where the last place is taken or no number is left, `NoMemory`, `Fault`, which
+    /// stops the store. After each of these the job can only be given up.
     pub fn write_out(&mut self, job: &mut Job<D>, piece: Piece) -> Result<(), Refused>
         // Opening gives this, and each call leaves it so.
         requires sound { IsSound D.tells (view_of self.old.core) }
-        requires works { IsAtWork D.tells (view_of self.old.core) job.old }
+        requires works { IsAtWork D.tells (view_of self.old.core) job.old ⊎ IsPast (view_of self.old.core) job.old }
         requires next { IsNextPage job.old piece }
         ensures answers { Answers D.tells (Serves Work) (result_err result) (written_face (face_of (view_of self.old.core)) (page_name self.old.core.state.next, next_bytes job.old) result) (view_of self.old.core) (view_of self.new.core) }
 
@@ -89,16 +87,19 @@ impl<D: Disk> Engine<D> {
         ensures held { D.tells → (s : Stored) → Holds (view_of self.old.core) s → OnOk result (Holds (view_of self.new.core) s) }
         ensures page { D.tells → OnOk result ((D.seen self.new.core.disk).directory ≡ insert (D.seen self.old.core.disk).directory (page_name self.old.core.state.next) (next_bytes job.old)) }
 
-        // The job stays in flight, and where it was refused it can only be given up.
-        ensures flies { IsInFlight (view_of self.new.core) job.new }
+        // A job in flight stays so, and where it was refused it can only be given up.
+        ensures flies { IsInFlight (view_of self.old.core) job.old → IsInFlight (view_of self.new.core) job.new }
         ensures refused { OnErr result (job.new.refused ≡ true) }
-        ensures same { (job.new.drafts ≡ job.old.drafts) × (job.new.task ≡ job.old.task) × (job.new.port ≡ job.old.port) }
+        ensures same { (job.new.drafts ≡ job.old.drafts) × (job.new.task ≡ job.old.task) × (job.new.port ≡ job.old.port) × (job.new.number ≡ job.old.number) × (job.new.round ≡ job.old.round) }
 
         // A refusal has its reason.
-        ensures why { IfErr result (HasReasonOfWork (max_place ≤ self.old.core.state.next) (view_of self.old.core) (view_of self.new.core)) }
+        ensures why { IfErr result (HasReasonOfJob (max_place ≤ self.old.core.state.next) job.old (view_of self.old.core) (view_of self.new.core)) }
         ensures drawn { OnErr result (self.new.core.state.next ≡ self.old.core.state.next) }
         ensures stopped { (at : ℕ) → self.old.core.state.stopped ≡ Some at → IsErrOf result (refused.Stopped at) × (self.new ≡ self.old) }
-        ensures exhausted { self.old.core.state.stopped ≡ None → self.old.core.state.count ≡ max_place → IsErrOf result (refused.Exhausted max_place) × (self.new ≡ self.old) }
+        ensures past { self.old.core.state.stopped ≡ None → IsPast (view_of self.old.core) job.old
+            → IsErrOf result (refused.Cancelled job.old.round self.old.core.begun.rounds) × (self.new ≡ self.old) }
+        ensures exhausted { self.old.core.state.stopped ≡ None → IsInFlight (view_of self.old.core) job.old → self.old.core.state.count ≡ max_place
+            → IsErrOf result (refused.Exhausted max_place) × (self.new ≡ self.old) }
     {
         // The piece says only that this page is the next one.
         drop(piece);
@@ -111,20 +112,40 @@ impl<D: Disk> Engine<D> {
         written
     }
 
+    /// Whether the job may go on in a store that isn't stopped: one of an earlier round is refused.
+    fn check_round(&self, job: &Job<D>) -> Result<(), Refused>
+        ensures refused { IfErr result (λ why. (why ≡ refused.Cancelled job.now.round self.now.core.begun.rounds) × (self.now.core.state.stopped ≡ None) × IsPast (view_of self.now.core) job.now) }
+        ensures present { OnOk result (self.now.core.state.stopped ≡ None → IsPast (view_of self.now.core) job.now → ⊥) }
+    {
+        let now = self.rounds();
+        if self.core.state.stopped().is_none() && job.round() < now {
+            return Err(Refused::Cancelled {
+                begun: job.round(),
+                now,
+            });
+        }
+        Ok(())
+    }
+
     /// Writes the job's next page.
     fn write_next(&mut self, job: &Job<D>) -> Result<(), Refused>
         requires sound { IsSound D.tells (view_of self.old.core) }
-        requires works { IsAtWork D.tells (view_of self.old.core) job.now }
+        requires works { IsAtWork D.tells (view_of self.old.core) job.now ⊎ IsPast (view_of self.old.core) job.now }
         requires made { IsSome job.now.drafts }
         requires left { IfSome job.now.drafts (λ drafts. job.now.written < length (pages_in drafts.items)) }
         ensures answers { Answers D.tells (Serves Work) (result_err result) (written_face (face_of (view_of self.old.core)) (page_name self.old.core.state.next, next_bytes job.now) result) (view_of self.old.core) (view_of self.new.core) }
         ensures held { D.tells → (s : Stored) → Holds (view_of self.old.core) s → OnOk result (Holds (view_of self.new.core) s) }
         ensures page { D.tells → OnOk result ((D.seen self.new.core.disk).directory ≡ insert (D.seen self.old.core.disk).directory (page_name self.old.core.state.next) (next_bytes job.now)) }
-        ensures why { IfErr result (HasReasonOfWork (max_place ≤ self.old.core.state.next) (view_of self.old.core) (view_of self.new.core)) }
+        ensures present { OnOk result (IsAtWork D.tells (view_of self.old.core) job.now) }
+        ensures why { IfErr result (HasReasonOfJob (max_place ≤ self.old.core.state.next) job.now (view_of self.old.core) (view_of self.new.core)) }
         ensures drawn { OnErr result (self.new.core.state.next ≡ self.old.core.state.next) }
         ensures stopped { (at : ℕ) → self.old.core.state.stopped ≡ Some at → IsErrOf result (refused.Stopped at) × (self.new ≡ self.old) }
-        ensures exhausted { self.old.core.state.stopped ≡ None → self.old.core.state.count ≡ max_place → IsErrOf result (refused.Exhausted max_place) × (self.new ≡ self.old) }
+        ensures past { self.old.core.state.stopped ≡ None → IsPast (view_of self.old.core) job.now
+            → IsErrOf result (refused.Cancelled job.now.round self.old.core.begun.rounds) × (self.new ≡ self.old) }
+        ensures exhausted { self.old.core.state.stopped ≡ None → IsInFlight (view_of self.old.core) job.now → self.old.core.state.count ≡ max_place
+            → IsErrOf result (refused.Exhausted max_place) × (self.new ≡ self.old) }
     {
+        self.check_round(job)?;
         self.core.state.may_change()?;
         let before = self.core.disk.faults();
         self.core.write_now(before, job.next_page())
@@ -138,24 +159,26 @@ impl<D: Disk> Engine<D> {
     pub fn install(&mut self, alloc: Global, job: Job<D>) -> Result<(), (Job<D>, Refused)>
         // Opening gives this, and each call leaves it so.
         requires sound { IsSound D.tells (view_of self.old.core) }
-        requires works { IsAtWork D.tells (view_of self.old.core) job }
+        requires works { IsAtWork D.tells (view_of self.old.core) job ⊎ IsPast (view_of self.old.core) job }
         requires whole { IsWhole job }
         ensures answers { Answers D.tells (Serves Work) (option_map (λ back. back.1) (result_err result)) (ended_face (face_of (view_of self.old.core)) result) (view_of self.old.core) (view_of self.new.core) }
 
         // Acknowledged: what is stored is the outcome of the task.
         ensures done { D.tells → (s : Stored) → Holds (view_of self.old.core) s → OnOk result ((t : Stored) × IsInstalled s (plain_task job.task.value) t × Holds (view_of self.new.core) t) }
 
-        // A refusal has its reason. The job stays in flight, and can only be given up.
-        ensures back { IfErr result (λ back. IsInFlight (view_of self.new.core) back.0 × (back.0.refused ≡ true)) }
-        ensures handed { IfErr result (λ back. back.0.task ≡ job.task) }
-        ensures why { IfErr result (λ back. HasReasonOfWork (IsShortToInstall (view_of self.old.core) job) (view_of self.old.core) (view_of self.new.core) back.1) }
+        // A refusal has its reason. A job in flight stays so, and can only be given up.
+        ensures back { IfErr result (λ back. (IsInFlight (view_of self.old.core) job → IsInFlight (view_of self.new.core) back.0) × (back.0.refused ≡ true)) }
+        ensures handed { IfErr result (λ back. (back.0.task ≡ job.task) × (back.0.number ≡ job.number) × (back.0.round ≡ job.round)) }
+        ensures why { IfErr result (λ back. HasReasonOfJob (IsShortToInstall (view_of self.old.core) job) job (view_of self.old.core) (view_of self.new.core) back.1) }
         ensures drawn { OnErr result (self.new.core.state.next ≡ self.old.core.state.next) }
         ensures stopped { (at : ℕ) → self.old.core.state.stopped ≡ Some at → IfErr result (λ back. back.1 ≡ refused.Stopped at) × OnOk result ⊥ × (self.new ≡ self.old) }
-        ensures exhausted { self.old.core.state.stopped ≡ None → self.old.core.state.count ≡ max_place
+        ensures past { self.old.core.state.stopped ≡ None → IsPast (view_of self.old.core) job
+            → IfErr result (λ back. back.1 ≡ refused.Cancelled job.round self.old.core.begun.rounds) × OnOk result ⊥ × (self.new ≡ self.old) }
+        ensures exhausted { self.old.core.state.stopped ≡ None → IsInFlight (view_of self.old.core) job → self.old.core.state.count ≡ max_place
             → IfErr result (λ back. back.1 ≡ refused.Exhausted max_place) × OnOk result ⊥ × (self.new ≡ self.old) }
     {
         let mut job = job;
-        match self.install_drafts(alloc, job.take_drafts().unwrap()) {
+        match self.install_whole(alloc, &mut job) {
             Ok(()) => Ok(()),
             Err(why) => {
                 job.refuse();
@@ -164,28 +187,31 @@ impl<D: Disk> Engine<D> {
         }
     }
 
-    /// Installs the drafts of the job in flight.
-    fn install_drafts(&mut self, alloc: Global, drafts: Vec<Draft>) -> Result<(), Refused>
+    /// Installs what the job made, and takes its drafts from it where they are needed.
+    fn install_whole(&mut self, alloc: Global, job: &mut Job<D>) -> Result<(), Refused>
         requires sound { IsSound D.tells (view_of self.old.core) }
-        requires flies { IsSome self.old.core.flight }
-        requires outputs { IfSome (view_of self.old.core).flight (λ flying. AreOutputsOf D.tells flying drafts.items) }
+        requires works { IsAtWork D.tells (view_of self.old.core) job.old ⊎ IsPast (view_of self.old.core) job.old }
+        requires whole { IsWhole job.old }
         ensures answers { Answers D.tells (Serves Work) (result_err result) (ended_face (face_of (view_of self.old.core)) result) (view_of self.old.core) (view_of self.new.core) }
-        ensures done { D.tells → (s : Stored) → Holds (view_of self.old.core) s
-            → IfSome (view_of self.old.core).flight (λ flying. OnOk result ((t : Stored) × IsInstalled s flying.task t × Holds (view_of self.new.core) t)) }
-        ensures why { IfErr result (HasReasonOfWork
-            (IfSome (view_of self.old.core).flight (λ flying. max_place ≤ self.old.core.state.next + (sum_by numbers_for drafts.items - length flying.written)))
-            (view_of self.old.core) (view_of self.new.core)) }
+        ensures done { D.tells → (s : Stored) → Holds (view_of self.old.core) s → OnOk result ((t : Stored) × IsInstalled s (plain_task job.old.task.value) t × Holds (view_of self.new.core) t) }
+        ensures job { job.new ≡ record job.old { drafts = job.new.drafts } }
+        ensures why { IfErr result (HasReasonOfJob (IsShortToInstall (view_of self.old.core) job.old) job.old (view_of self.old.core) (view_of self.new.core)) }
         ensures drawn { OnErr result (self.new.core.state.next ≡ self.old.core.state.next) }
         ensures stopped { (at : ℕ) → self.old.core.state.stopped ≡ Some at → IsErrOf result (refused.Stopped at) × (self.new ≡ self.old) }
-        ensures exhausted { self.old.core.state.stopped ≡ None → self.old.core.state.count ≡ max_place → IsErrOf result (refused.Exhausted max_place) × (self.new ≡ self.old) }
+        ensures past { self.old.core.state.stopped ≡ None → IsPast (view_of self.old.core) job.old
+            → IsErrOf result (refused.Cancelled job.old.round self.old.core.begun.rounds) × (self.new ≡ self.old) }
+        ensures exhausted { self.old.core.state.stopped ≡ None → IsInFlight (view_of self.old.core) job.old → self.old.core.state.count ≡ max_place
+            → IsErrOf result (refused.Exhausted max_place) × (self.new ≡ self.old) }
     {
+        self.check_round(job)?;
         self.core.state.may_change()?;
         let before = self.core.disk.faults();
+        let drafts = job.take_drafts().unwrap();
         self.core.install_now(alloc, before, drafts)
     }
 
     /// Gives a job up, and removes its pages. It takes no memory. Where the last place of the history is taken nothing can be removed: then the job's pages stay, and it
-    /// counts as in flight, until the store is opened again.
+    /// counts as in flight, until the store is opened again. A job of an earlier round was given up when that ended, and nothing is left to be done.
     ///
     /// # Errors
     ///
@@ -193,12 +219,13 @@ impl<D: Disk> Engine<D> {
     pub fn cancel(&mut self, job: Job<D>) -> Result<(), Refused>
         // Opening gives this, and each call leaves it so.
         requires sound { IsSound D.tells (view_of self.old.core) }
-        requires flies { IsInFlight (view_of self.old.core) job }
-        ensures answers { Answers D.tells (Serves Work) (result_err result) (given_up (face_of (view_of self.old.core)) self.old.core.state) (view_of self.old.core) (view_of self.new.core) }
+        requires flies { IsInFlight (view_of self.old.core) job ⊎ IsPast (view_of self.old.core) job }
+        ensures answers { Answers D.tells (Serves Work) (result_err result) (cancelled_face (view_of self.old.core) job) (view_of self.old.core) (view_of self.new.core) }
 
         // What is stored stays, and where nothing can be removed, all does.
         ensures held { D.tells → (s : Stored) → Holds (view_of self.old.core) s → OnOk result (Holds (view_of self.new.core) s) }
         ensures last { self.old.core.state.stopped ≡ None → self.old.core.state.count ≡ max_place → IsOk result × (self.new ≡ self.old) }
+        ensures past { IsPast (view_of self.old.core) job → (self.old.core.state.stopped ≡ None → IsOk result) × (self.new ≡ self.old) }
 
         // A refusal has its reason: an earlier call failed, or the disk failed in this one.
         ensures why { IfErr result (HasReasonOfWork ⊥ (view_of self.old.core) (view_of self.new.core)) }
@@ -206,6 +233,12 @@ impl<D: Disk> Engine<D> {
         ensures exhausted { (last : ℕ) → IsErrOf result (refused.Exhausted last) → ⊥ }
         ensures stopped { (at : ℕ) → self.old.core.state.stopped ≡ Some at → IsErrOf result (refused.Stopped at) × (self.new.core.state ≡ self.old.core.state) }
     {
+        if job.round() < self.rounds() {
+            if let Some(at) = self.core.state.stopped() {
+                return Err(Refused::Stopped { at });
+            }
+            return Ok(());
+        }
         drop(job);
         if let Some(at) = self.core.state.stopped() {
             self.core.flight = None;

@@ -51,7 +51,7 @@ module _ {T U : Type 0} (see : T → U) (PortsFail : Type 0) (read : Read) (told
 
 pub returns-in-Put-clause-jobs : goal.returns-in-Put-clause-jobs
 returns-in-Put-clause-jobs g c =
-    theirs_on g.D.Disk.tells (view_of c.args.engine.now.core) (view_of c.put.new.self.core) c.args.jobs.now (ap (λ (face : Face). face.flight) c.put.ensures.answers.face_is) c.requires.jobs
+    theirs_on g.D.Disk.tells (view_of c.args.engine.now.core) (view_of c.put.new.self.core) c.args.jobs.now (ap (λ (face : Face). face.flight) c.put.ensures.answers.face_is) (ap (λ (face : Face). face.rounds) c.put.ensures.answers.face_is) c.requires.jobs
 
 pub returns-in-Put-clause-step : goal.returns-in-Put-clause-step
 returns-in-Put-clause-step g c = λ told config opened h stands s known.
@@ -76,7 +76,7 @@ returns-in-Put-clause-step g c = λ told config opened h stands s known.
 
 pub returns-in-Delete-clause-jobs : goal.returns-in-Delete-clause-jobs
 returns-in-Delete-clause-jobs g c =
-    theirs_on g.D.Disk.tells (view_of c.args.engine.now.core) (view_of c.delete.new.self.core) c.args.jobs.now (ap (λ (face : Face). face.flight) c.delete.ensures.answers.face_is) c.requires.jobs
+    theirs_on g.D.Disk.tells (view_of c.args.engine.now.core) (view_of c.delete.new.self.core) c.args.jobs.now (ap (λ (face : Face). face.flight) c.delete.ensures.answers.face_is) (ap (λ (face : Face). face.rounds) c.delete.ensures.answers.face_is) c.requires.jobs
 
 pub returns-in-Delete-clause-step : goal.returns-in-Delete-clause-step
 returns-in-Delete-clause-step g c = λ told config opened h stands s known.
@@ -165,7 +165,7 @@ returns-in-Scan-clause-step g c = λ told config opened h stands s known.
 
 pub returns-in-Freeze-clause-jobs : goal.returns-in-Freeze-clause-jobs
 returns-in-Freeze-clause-jobs g c =
-    theirs_on g.D.Disk.tells (view_of c.args.engine.now.core) (view_of c.freeze.new.self.core) c.args.jobs.now (ap (λ (face : Face). face.flight) c.freeze.ensures.answers.face_is) c.requires.jobs
+    theirs_on g.D.Disk.tells (view_of c.args.engine.now.core) (view_of c.freeze.new.self.core) c.args.jobs.now (ap (λ (face : Face). face.flight) c.freeze.ensures.answers.face_is) (ap (λ (face : Face). face.rounds) c.freeze.ensures.answers.face_is) c.requires.jobs
 
 pub returns-in-Freeze-clause-step : goal.returns-in-Freeze-clause-step
 returns-in-Freeze-clause-step g c = λ told config opened h stands s known.
@@ -186,7 +186,7 @@ returns-in-Freeze-clause-step g c = λ told config opened h stands s known.
 
 pub returns-in-Flush-clause-jobs : goal.returns-in-Flush-clause-jobs
 returns-in-Flush-clause-jobs g c =
-    theirs_on g.D.Disk.tells (view_of c.args.engine.now.core) (view_of c.flush.new.self.core) c.args.jobs.now (ap (λ (face : Face). face.flight) c.flush.ensures.answers.face_is) c.requires.jobs
+    theirs_on g.D.Disk.tells (view_of c.args.engine.now.core) (view_of c.flush.new.self.core) c.args.jobs.now (ap (λ (face : Face). face.flight) c.flush.ensures.answers.face_is) (ap (λ (face : Face). face.rounds) c.flush.ensures.answers.face_is) c.requires.jobs
 
 pub returns-in-Flush-clause-step : goal.returns-in-Flush-clause-step
 returns-in-Flush-clause-step g c = λ told config opened h stands s known.

@@ -49,7 +49,7 @@ returns-in-Ok-clause-step g c = λ told config opened h stands s known fetches f
 
 pub returns-in-Err-clause-jobs : goal.returns-in-Err-clause-jobs
 returns-in-Err-clause-jobs g c =
-    theirs_on g.D.Disk.tells (view_of c.args.engine.now.core) (view_of c.begin.new.self.core) c.args.jobs.now (ap (λ (face : Face). face.flight) c.in-Err.ensures.answers.face_is) c.requires.jobs
+    theirs_on g.D.Disk.tells (view_of c.args.engine.now.core) (view_of c.begin.new.self.core) c.args.jobs.now (ap (λ (face : Face). face.flight) c.in-Err.ensures.answers.face_is) (ap (λ (face : Face). face.rounds) c.in-Err.ensures.answers.face_is) c.requires.jobs
 
 pub returns-in-Err-clause-step : goal.returns-in-Err-clause-step
 returns-in-Err-clause-step g c = λ told config opened h stands s known fetches faults.

@@ -4,6 +4,7 @@ use Rattle.lethe_base.specs.declared.call.Call.TheVariants.{Work}
 use Rattle.lethe_core.specs.Asked.{Serves, behind}
 use Rattle.lethe_core.specs.View.{Face, face_of, view_of}
 use Rattle.lethe_engine.proofs.Faces.{given_up_free}
+use Rattle.lethe_engine.proofs.Rounds.{cancelled_flying}
 use Rattle.lethe_drive.specs.Moments.{going_of, moment_of, there_of}
 use Rattle.lethe_drive.specs.Steps.{IsThere}
 use Rattle.lethe_drive.proofs.Giving.{given, given_up, given_up_retired, theirs_back, theirs_flies, theirs_none}
@@ -48,7 +49,7 @@ returns-then-numbered-number-clause-step g c = λ told config opened h stands s 
 
 pub cancel-requires-clause-flies : goal.cancel-requires-clause-flies
 cancel-requires-clause-flies g c = λ lifetimes outlive.
-    theirs_flies g.D.Disk.tells (view_of c.args.engine.now.core) c.args.jobs.now c.requires.jobs c.in-Some.numbered (sym c.take.ensures.value ∙ c.in-Some.is)
+    inl (theirs_flies g.D.Disk.tells (view_of c.args.engine.now.core) c.args.jobs.now c.requires.jobs c.in-Some.numbered (sym c.take.ensures.value ∙ c.in-Some.is))
 
 pub returns-clause-jobs : goal.returns-clause-jobs
 returns-clause-jobs g c = theirs_none g.D.Disk.tells (view_of c.cancel.new.self.core) c.args.jobs.now.begun c.take.new.self c.take.ensures.after
@@ -62,10 +63,11 @@ returns-clause-step g c = λ told config opened h stands s known fetches faults.
     let there : jobs.there ≡ Some numbered = sym c.take.ensures.value ∙ c.in-Some.is in
     let gone = record jobs { there = c.take.new.self } in
     let is = c.cancel.ensures in
+    let face = is.answers.face_is ∙ cancelled_flying old numbered.job (theirs_flies g.D.Disk.tells old jobs c.requires.jobs numbered there) in
     let is_given =
     given_up g.D.Disk.tells told config opened h old new s known fetches faults jobs.begun (there_of jobs) (there_of gone) (there_none gone c.take.ensures.after) c.cancel.result
-    (is.answers.stands told config opened h stands 0) is.answers.still is.answers.refused (is.held told s) (λ may. ap (λ (face : Face). face.flight) (is.answers.face_is ∙ given_up_free (face_of old) old.state may))
-    (ap (λ (face : Face). face.retired) is.answers.face_is ∙ given_up_retired (face_of old) old.state) is.why is.no_memory is.exhausted (λ at e. (is.stopped at e).0)
+    (is.answers.stands told config opened h stands 0) is.answers.still is.answers.refused (is.held told s) (λ may. ap (λ (face : Face). face.flight) (face ∙ given_up_free (face_of old) old.state may))
+    (ap (λ (face : Face). face.retired) face ∙ given_up_retired (face_of old) old.state) is.why is.no_memory is.exhausted (λ at e. (is.stopped at e).0)
     (λ runs full. let last = is.last runs full in (given c.cancel.result last.0, (let same = last.1 in λ i. view_of (same i).core))) in (
       behind h 0 (Serves Work) (result_err c.cancel.result),
       is_given.0,

@@ -1,5 +1,7 @@
-use Rattle.std.proofs.Common.{ap}
+use Rattle.std.proofs.Common.{inl, ap}
 use Rattle.lethe_core.specs.View.{Face, view_of}
+use Rattle.lethe_engine.specs.Jobs.{IsShortToInstall}
+use Rattle.lethe_engine.proofs.Rounds.{flies_now, reason_of_work}
 use Rattle.lethe_drive.specs.Moments.{there_of}
 use Rattle.lethe_drive.proofs.Installing.{install_refused, installed_whole, rest_refused, task_back, theirs_spoilt}
 use Rattle.lethe_drive.proofs.Naming.{there_none}
@@ -27,22 +29,28 @@ returns-in-Ok-clause-step g c = λ told config opened h stands s known fetches f
     (ap (λ (face : Face). face.retired) c.in-Ok.ensures.answers.face_is) (there_none c.args.jobs.now c.requires.none) in
     (made.0, made.1, stood, made.2)
 
+pub install-requires-clause-works : goal.install-requires-clause-works
+install-requires-clause-works g c κs within = inl c.in_default.ensures.works
+
 pub returns-in-Err-install-clause-jobs : goal.returns-in-Err-install-clause-jobs
 returns-in-Err-install-clause-jobs g c =
     let numbered = c.args.numbered in
     let back = c.in-Err-install.ensures.back in
     theirs_spoilt g.D.Disk.tells (view_of c.install.new.self.core) c.args.jobs.now.begun numbered.number numbered.job c.in-Err-install.job
-    (task_back numbered.job c.write_rest.new.job c.in-Err-install.job c.write_rest.ensures.task c.in-Err-install.ensures.handed) c.requires.reads back.0 back.1
+    (task_back numbered.job c.write_rest.new.job c.in-Err-install.job c.write_rest.ensures.task c.in-Err-install.ensures.handed.0) c.requires.reads (back.0 c.in_default.ensures.works.flies) back.1
 
 pub returns-in-Err-install-clause-step : goal.returns-in-Err-install-clause-step
 returns-in-Err-install-clause-step g c = λ told config opened h stands s known fetches faults.
     let numbered = c.args.numbered in
     let step = c.in_default.ensures.step told config opened h stands s known in
+    let mid = view_of c.write_rest.new.engine.core in
+    let whole = c.write_rest.new.job in
     let is = c.in-Err-install.ensures in
     let after = is.answers.stands told config opened h step.2 0 in
     let not_made =
     install_refused g.D.Disk.tells g.D.Disk.ports_fail h (view_of c.args.engine.now.core) s numbered.number fetches faults c.args.jobs.now.begun numbered.job told (c.requires.reads told)
     (view_of c.write_rest.new.engine.core) c.write_rest.new.job c.write_rest.ensures.task c.in_default.ensures.works c.in_default.ensures.whole config opened stands step.2 c.write_rest.ensures.faults
     step.0 step.1 step.3.done step.3.flight step.3.retired (view_of c.install.new.self.core) c.in-Err-install.job c.in-Err-install.why after is.answers.still is.answers.refused is.answers.face_is
-    (task_back numbered.job c.write_rest.new.job c.in-Err-install.job c.write_rest.ensures.task is.handed) is.back.1 is.why is.drawn in
+    (task_back numbered.job c.write_rest.new.job c.in-Err-install.job c.write_rest.ensures.task is.handed.0) is.back.1
+    (reason_of_work mid whole (IsShortToInstall mid whole) (view_of c.install.new.self.core) c.in-Err-install.why (flies_now mid whole c.in_default.ensures.works.flies) is.why) is.drawn in
     (not_made.0, not_made.1, after, not_made.2)

@@ -1,6 +1,9 @@
-use Rattle.std.proofs.Common.{rules, ◌≡◌, Some, None, ◌∙◌}
+use Rattle.std.proofs.Common.{rules, ◌≡◌, ◌<◌, ◌≤◌, ℕ, inl, Some, None, ◌∙◌, subst}
+use Rattle.lethe_base.specs.Limits.{max_place}
 use Rattle.lethe_base.specs.declared.refused.Refused.TheVariants.{Stopped}
 use Rattle.lethe_core.specs.View.{View, view_of}
+use Rattle.lethe_engine.specs.Jobs.{IsPast}
+use Rattle.lethe_engine.proofs.Rounds.{flies_now, reason_of_work}
 use Rattle.lethe_drive.proofs.Knowing.{known_held, not_stopped, ok_or_err}
 use Rattle.lethe_drive.proofs.Paging.{no_page, page_written, refused_paged, unread_paged}
 use Rattle.lethe_drive.proofs.Writing.{fewer_left, left_of, none_left, still_works}
@@ -17,8 +20,8 @@ returns-in_err-piece-clause-step g c = λ told config opened h stands s known nu
 
 pub write_out-requires-clause-works : goal.write_out-requires-clause-works
 write_out-requires-clause-works g c κs within =
-    still_works g.D.Disk.tells g.D.Disk.ports_fail c.args.job.now c.next_piece.new.self c.next_piece.ensures.task c.next_piece.ensures.number c.next_piece.ensures.written c.next_piece.ensures.kept c.next_piece.ensures.job
-    (view_of c.args.engine.now.core) c.requires.works c.in_ok-piece.ensures.ok
+    inl (still_works g.D.Disk.tells g.D.Disk.ports_fail c.args.job.now c.next_piece.new.self c.next_piece.ensures.task c.next_piece.ensures.number c.next_piece.ensures.written c.next_piece.ensures.kept c.next_piece.ensures.job
+    (view_of c.args.engine.now.core) c.next_piece.ensures.round c.requires.works c.in_ok-piece.ensures.ok)
 
 -- the engine refuses it
 
@@ -26,9 +29,14 @@ pub returns-in_err-write_out-in-Some-clause-step : goal.returns-in_err-write_out
 returns-in_err-write_out-in-Some-clause-step g c = λ told config opened h stands s known number fetches faults begun.
     let refused = c.in_err-write_out-in-Some.ensures in
     let same : c.write_out.new.job.task.value ≡ c.next_piece.new.self.task.value = λ i. (c.write_out.ensures.same.1 i).value in
+    let old = view_of c.args.engine.now.core in
+    let mid = c.next_piece.new.self in
+    let why = c.in_err-write_out-in-Some.field-0.0 in
+    let present : IsPast old mid → ⊥ = λ past. flies_now old c.args.job.now c.requires.works.flies (subst (λ (round : ℕ). round < old.rounds) c.next_piece.ensures.round past) in
+    let reason = reason_of_work old mid (max_place ≤ old.state.next) (view_of c.write_out.new.self.core) why present refused.why in
     refused_paged g.D.Disk.tells g.D.Disk.ports_fail h (view_of c.args.engine.now.core) s number fetches faults begun c.args.job.now c.write_out.new.job (same ∙ c.next_piece.ensures.task)
     told config opened known (view_of c.write_out.new.self.core) c.in_err-write_out-in-Some.field-0.0 refused.answers.refused refused.answers.face_is refused.answers.still
-    c.from_residual-in_err-write_out-in-Some.result (search rules) (refused.answers.stands told config opened h stands 0) refused.why refused.refused
+    c.from_residual-in_err-write_out-in-Some.result (search rules) (refused.answers.stands told config opened h stands 0) reason refused.refused
 
 -- it is written
 
@@ -64,7 +72,7 @@ returns-in_ok-write_out-in-Some-clause-step g c = λ told config opened h stands
 pub returns-in-None-clause-works : goal.returns-in-None-clause-works
 returns-in-None-clause-works g c =
     still_works g.D.Disk.tells g.D.Disk.ports_fail c.args.job.now c.next_piece.new.self c.next_piece.ensures.task c.next_piece.ensures.number c.next_piece.ensures.written c.next_piece.ensures.kept c.next_piece.ensures.job
-    (view_of c.args.engine.now.core) c.requires.works c.in_ok-piece.ensures.ok
+    (view_of c.args.engine.now.core) c.next_piece.ensures.round c.requires.works c.in_ok-piece.ensures.ok
 
 pub returns-in-None-clause-step : goal.returns-in-None-clause-step
 returns-in-None-clause-step g c = λ told config opened h stands s known number fetches faults begun.

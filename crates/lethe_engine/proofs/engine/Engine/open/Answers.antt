@@ -25,7 +25,7 @@ returns-in-Ok-opened-clause-sound g c =
           let levels = parts_by_level version in (
             is.s,
             remembers.0,
-            λ runs. opened_running (g.D.Disk.seen disk) (g.D.Disk.faults disk) c.new.result.items c.new.ensures.items c.none.result.count is.s state levels
+            λ runs. opened_running (g.D.Disk.seen disk) (g.D.Disk.faults disk) c.new.result.items c.new.ensures.items c.none.result.jobs.count c.none.result.rounds is.s state levels
                 is.settled is.only is.untorn is.rising is.told.active is.ends c.in-Ok-opened.ensures.end remembers.1,
           );
     }
@@ -34,7 +34,7 @@ pub returns-in-Ok-opened-clause-runs : goal.returns-in-Ok-opened-clause-runs
 returns-in-Ok-opened-clause-runs g c = c.in-Ok-opened.ensures.fresh.stopped
 
 pub returns-in-Ok-opened-clause-face : goal.returns-in-Ok-opened-clause-face
-returns-in-Ok-opened-clause-face g c = λ i. record { begun = c.none.ensures i; flight = None; retired = c.new.ensures.items i }
+returns-in-Ok-opened-clause-face g c = λ i. record { begun = c.none.ensures.jobs i; rounds = c.none.ensures.rounds i; flight = None; retired = c.new.ensures.items i }
 
 pub returns-in-Ok-opened-clause-opened : goal.returns-in-Ok-opened-clause-opened
 returns-in-Ok-opened-clause-opened g c = λ tells.
@@ -42,7 +42,7 @@ returns-in-Ok-opened-clause-opened g c = λ tells.
     let is = c.in-Ok.ensures.opened tells in
     let remembers = c.in-Ok-opened.ensures.remembers is.s levels is.settled.coherent is.told.files (sym is.told.manifest) is.told.frozen is.told.active is.told.erases in
     let disk = c.open.new.disk in
-    let running = opened_running (g.D.Disk.seen disk) (g.D.Disk.faults disk) c.new.result.items c.new.ensures.items c.none.result.count is.s c.in-Ok-opened.state levels
+    let running = opened_running (g.D.Disk.seen disk) (g.D.Disk.faults disk) c.new.result.items c.new.ensures.items c.none.result.jobs.count c.none.result.rounds is.s c.in-Ok-opened.state levels
     is.settled is.only is.untorn is.rising is.told.active is.ends c.in-Ok-opened.ensures.end remembers.1 in
     (is.s, record { remembers = remembers.0; running = running }, is.opened_as)
 
@@ -60,9 +60,9 @@ returns-in-Ok-opened-clause-resumed g c = λ tells kept h change left.
     let is = again.is in
     let remembers = c.in-Ok-opened.ensures.remembers is.s levels is.settled.coherent is.told.files (sym is.told.manifest) is.told.frozen is.told.active is.told.erases in
     let faults = g.D.Disk.faults c.open.new.disk in
-    let running = opened_running seen faults c.new.result.items c.new.ensures.items c.none.result.count is.s state levels
+    let running = opened_running seen faults c.new.result.items c.new.ensures.items c.none.result.jobs.count c.none.result.rounds is.s state levels
     is.settled is.only is.untorn is.rising is.told.active is.ends c.in-Ok-opened.ensures.end remembers.1 in
-    resumed c.args.config.now h again.history change (g.D.Disk.seen c.args.disk) seen faults c.new.result.items c.none.result.count is.s state levels again.either again.was
+    resumed c.args.config.now h again.history change (g.D.Disk.seen c.args.disk) seen faults c.new.result.items c.none.result.jobs.count c.none.result.rounds is.s state levels again.either again.was
     c.in-Ok-opened.ensures.writable running remembers.0 is.config_is again.stands
     (λ next from. returns-in-Ok-opened-clause-numbers g c tells next from)
 

@@ -12,7 +12,7 @@ use Rattle.lethe_clean.specs.Copied.{IsCopied}
 use Rattle.lethe_file.specs.Agreement.{page_name}
 use Rattle.lethe_flush.specs.Made.{pages_in}
 use Rattle.lethe_job.specs.Jobs.{next_bytes}
-use Rattle.lethe_core.specs.Asked.{Serves}
+use Rattle.lethe_core.specs.Asked.{Serves, failure_of}
 use Rattle.lethe_core.specs.Jobs.{with_page}
 use Rattle.lethe_core.specs.Reasons.{HasReason}
 use Rattle.lethe_core.specs.Steps.{IsUndone}
@@ -24,14 +24,24 @@ use Rattle.lethe_engine.proofs.Copying.{next_copied}
 use Rattle.lethe_engine.proofs.Calls.{if_refused, itself_answers, refused_is_none, step_answers}
 use Rattle.lethe_engine.proofs.Faces.{written_by}
 use Rattle.lethe_engine.proofs.Reasons.{not_begun}
+use Rattle.lethe_engine.proofs.Rounds.{at_work}
 use Rattle.lethe_engine.proofs.engine.Engine.write_next.Goals as goal
+
+pub returns-in_err-check_round-clause-answers : goal.returns-in_err-check_round-clause-answers
+returns-in_err-check_round-clause-answers g c =
+    let old = view_of c.args.self.now.core in
+    let page : Name × List ℕ = (page_name old.state.next, next_bytes c.args.job.now) in
+    let why = c.in_err-check_round.field-0.0 in
+    let refusal : c.from_residual.result ≡ Err why = search rules in
+    subst (λ (r : Result (Unit {0}) Refused). Answers g.D.Disk.tells (Serves Work) (result_err r) (written_face (face_of old) page r) old old) (sym refusal)
+    (itself_answers g.D.Disk.tells (Serves Work) (Some why) old c.requires.sound (refused_is_none (Serves Work) why (ap failure_of c.in_err-check_round.ensures.refused.0)))
 
 pub returns-in_err-may_change-clause-answers : goal.returns-in_err-may_change-clause-answers
 returns-in_err-may_change-clause-answers g c =
     let old = view_of c.args.self.now.core in
     let page : Name × List ℕ = (page_name old.state.next, next_bytes c.args.job.now) in
     let why = c.in_err-may_change.field-0.0 in
-    let refusal : c.from_residual.result ≡ Err why = search rules in
+    let refusal : c.from_residual-in_err-may_change.result ≡ Err why = search rules in
     subst (λ (r : Result (Unit {0}) Refused). Answers g.D.Disk.tells (Serves Work) (result_err r) (written_face (face_of old) page r) old old) (sym refusal)
     (itself_answers g.D.Disk.tells (Serves Work) (Some why) old c.requires.sound (refused_is_none (Serves Work) why (not_begun old.state why c.in_err-may_change.ensures.refused)))
 
@@ -40,11 +50,12 @@ returns-clause-answers g c =
     let old = view_of c.args.self.now.core in
     let new = view_of c.write_now.new.self in
     let result = c.write_now.result in
-    let there : IsSome old.flight = subst (λ (flight : Option Flying). IsSome flight) (sym c.requires.works.flies.is) refl in
+    let works = at_work old c.args.job.now g.D.Disk.tells c.requires.works (c.in_ok-check_round.ensures.present c.in_ok-may_change.ensures.fits.0) in
+    let there : IsSome old.flight = subst (λ (flight : Option Flying). IsSome flight) (sym works.flies.is) refl in
     let bytes = c.next_page.ensures in
     let written = subst (λ bytes. IfSome old.flight (λ flying. OnOk result (new.flight ≡ Some (with_page flying (page_name old.state.next, bytes))))) bytes c.write_now.ensures.written in
     subst (λ face. Answers g.D.Disk.tells (Serves Work) (result_err result) face old new)
-    (written_by old new (page_name old.state.next, next_bytes c.args.job.now) result (ap (λ begun. begun.count) c.write_now.ensures.begun) (ap (λ names. names.items) c.write_now.ensures.retired) there written c.write_now.ensures.kept)
+    (written_by old new (page_name old.state.next, next_bytes c.args.job.now) result (ap (λ begun. begun.jobs.count) c.write_now.ensures.begun) (ap (λ begun. begun.rounds) c.write_now.ensures.begun) (ap (λ names. names.items) c.write_now.ensures.retired) there written c.write_now.ensures.kept)
     (step_answers g.D.Disk.tells (max_place ≤ old.state.next) (result_err result) old new c.faults-before.result c.in_ok-may_change.ensures.fits.0 c.faults-before.ensures c.write_now.ensures.keeps
     (if_refused result (HasReason (max_place ≤ old.state.next) old.state c.faults-before.result new.faults) c.write_now.ensures.why) (if_refused result (IsUndone g.D.Disk.tells old new) c.write_now.ensures.undone))
 
@@ -52,7 +63,8 @@ pub write_now-requires-clause-copied : goal.write_now-requires-clause-copied
 write_now-requires-clause-copied g c κs within = λ told s holds.
     let view = view_of c.args.self.now.core in
     let job = c.args.job.now in
+    let works = at_work view job g.D.Disk.tells c.requires.works (c.in_ok-check_round.ensures.present c.in_ok-may_change.ensures.fits.0) in
     let there = some_there (λ (drafts : Vec Draft Global). job.written < length (pages_in drafts.items)) job.drafts c.requires.made c.requires.left in
     let bytes : c.next_page.result.now ≡ get_or (pages_in (there.0).items) job.written [] = c.next_page.ensures ∙ ap (λ (drafts : Option (Vec Draft Global)). option_map_or (λ drafts. get_or (pages_in drafts.items) job.written []) drafts []) there.1 in
     subst (λ (bytes : List ℕ). IsCopied s (page_name view.state.next, bytes)) (sym bytes)
-    (next_copied g.D.Disk.tells view job c.requires.works s holds told view.state.next there.0 there.1 there.2)
+    (next_copied g.D.Disk.tells view job works s holds told view.state.next there.0 there.1 there.2)
