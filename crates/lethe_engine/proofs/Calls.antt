@@ -4,7 +4,7 @@ use Rattle.std.specs.Prelude.{IfErr, IfSome, IsSome}
 use Rattle.std.specs.Result.{result_err}
 use Rattle.lethe_base.specs.History.{History}
 use Rattle.lethe_base.specs.declared.call.Call.{Call}
-use Rattle.lethe_base.specs.declared.call.Call.TheVariants.{Work}
+use Rattle.lethe_base.specs.declared.call.Call.TheVariants.{Put, Delete, Erase, Tick, Work}
 use Rattle.lethe_base.specs.declared.config.Fields.{Fields}
 use Rattle.lethe_base.specs.declared.refused.Refused.{Refused}
 use Rattle.lethe_disk.specs.Directory.{Directory}
@@ -16,24 +16,24 @@ use Rattle.lethe_stored.specs.Numbers.{GoesFrom}
 use Rattle.lethe_stored.specs.Stored.{Stored}
 use Rattle.lethe_stored.proofs.Numbers.{goes_from_then}
 use Rattle.lethe_state.specs.declared.state.State.{State}
-use Rattle.lethe_core.specs.Asked.{Asked, Makes, Serves, behind, counted, failure_of, refused_to, stopped_by, written_by}
+use Rattle.lethe_core.specs.Asked.{Asked, Makes, Serves, behind, counted, failure_of, stopped_by, written_by}
 use Rattle.lethe_core.specs.Keeps.{Keeps}
 use Rattle.lethe_core.specs.Merges.{IsRoomBegun, IsRoomMadeBy, Outcome}
 use Rattle.lethe_core.specs.Reasons.{HasReason}
 use Rattle.lethe_core.specs.Running.{Holds, IsSound}
 use Rattle.lethe_core.specs.StandsNow.{StandsNow}
 use Rattle.lethe_core.specs.Steps.{IsDoneInPart, IsUndone}
-use Rattle.lethe_core.specs.View.{View, face_of}
+use Rattle.lethe_core.specs.View.{Flying, View, face_of}
 use Rattle.lethe_core.proofs.Asked.{behind_none, counted_none, stopped_none}
 use Rattle.lethe_core.proofs.Hindered.{as_itself, like_of}
 use Rattle.lethe_core.proofs.Likes.{before_holds}
 use Rattle.lethe_core.proofs.Roomed.{room_begun}
 use Rattle.lethe_core.proofs.Standing.{idle_back, moments_or, stands_moments}
-use Rattle.lethe_engine.specs.Answers.{Answers, IsRefused}
-use Rattle.lethe_engine.specs.Refusals.{HasReasonOfChange, SeesRoom}
+use Rattle.lethe_engine.specs.Answers.{Answers, IsBegun, IsReadyFor, IsRefused}
+use Rattle.lethe_engine.specs.Refusals.{HasReasonOfChange}
 use Rattle.lethe_engine.specs.StandsFor.{IsKeptFor, Opened, StandsFor}
 use Rattle.lethe_engine.proofs.Onward.{answered_for, idle_for, worked_for}
-use Rattle.lethe_engine.proofs.Reasons.{changes_told, reasons_told}
+use Rattle.lethe_engine.proofs.Reasons.{IsTold, changes_told, reasons_told}
 
 -- what is said of a refusal, by the answer that may be one
 pub if_refused : {T : Type 0} (result : Result T Refused) (P : Refused → Type 0) → IfErr result P → IfSome (result_err result) P
@@ -84,6 +84,14 @@ idle_moments P old new idle next run = let same = idle.moment in record {
   pace = λ m c low high left more is. let below = run.pace m c (omega (arith, low, same)) high left more is in omega (arith, below, next, same);
 }
 
+-- of the steps of a change none may have been done
+none_begun : (call : Call) (flight : Option Flying) (s : Stored) → IsBegun call flight s s
+none_begun (Put key dkey value) flight s = inl refl
+none_begun (Delete key) flight s = inl refl
+none_begun (Erase range) flight s = inl refl
+none_begun (Tick to) flight s = inl (inl refl)
+none_begun Work flight s = refl
+
 -- nothing was done at all
 pub itself_answers : (Tells : Type 0) (asked : Asked) (why : Option Refused) (view : View) → IsSound Tells view → IsNoChange asked why → Answers Tells asked why (face_of view) view view
 itself_answers Tells asked why view sound none = record {
@@ -105,7 +113,7 @@ itself_answers Tells asked why view sound none = record {
 
     undone : (asked : Asked) (why : Option Refused) → IfSome why (IsRefused Tells asked view view)
     undone asked None = tt
-    undone (Makes call) (Some why) = ((λ room not. as_itself Tells view), λ not told s holds. (s, inl refl, holds))
+    undone (Makes call) (Some why) = ((λ ready not. as_itself Tells view), λ not told s holds. (s, none_begun call view.flight s, holds))
     undone (Serves call) (Some why) = λ not. as_itself Tells view
 
 -- work or a look that left the disk as it was
@@ -169,59 +177,59 @@ step_answers Tells Short why old new before runs is keeps reason undone = record
 -- Changes
 
 module _ (Tells : Type 0) (call : Call) (works : call ≡ Work → ⊥) (old : View) (runs : old.state.stopped ≡ None) where
-  -- room couldn't be made
-  pub unroomed_answers : (PortsFail : Type 0) (first last : ℕ) (new : View) (why : Refused) → Keeps Tells old new (Some why) → HasReasonOfChange Tells PortsFail old new first last why → (SeesRoom old.state → ⊥)
-      → IsDoneInPart Tells (IsRoomBegun old.flight) old new why → Answers Tells (Makes call) (Some why) (face_of new) old new
-  unroomed_answers PortsFail first last new why keeps reason full partly = record {
-    sound = keeps.sound;
-    count = keeps.count;
-    stopped = keeps.stopped;
+  -- the change was made, or wasn't, as its steps say together
+  pub made_answers : (new : View) (why : Option Refused) → IsSound Tells new → new.state.count ≡ counted (Makes call) why old.state.count → new.state.stopped ≡ stopped_by why old.state.stopped
+      → (Tells → (config : Fields) (h : History) (caller : ℕ) → StandsNow config h old → StandsNow config (behind h caller (Makes call) why) new)
+      → (Tells → (config : Fields) (h : History) (caller : ℕ) → StandsNow config h old → GoesFrom old.state.next (IsKeptOr config h (written_by caller (Makes call) why)) old.disk new.disk)
+      → (Tells → new.state.next + old.disk.moment ≤ old.state.next + new.disk.moment) → old.faults ≤ new.faults → IfSome why (IsTold old.faults new.faults) → IfSome why (IsRefused Tells (Makes call) old new)
+      → Answers Tells (Makes call) why (face_of new) old new
+  made_answers new why sound count stopped stands moments numbers faults reason refused = record {
+    sound = sound;
+    count = count;
+    stopped = stopped;
     stands = answered;
-    goes = λ told config opened h stands caller.
-        goes_by (λ c. IsKept config c h) config opened h (refused_to h caller call why) old new stands (answered told config opened h stands caller) (keeps.any_moment told config h stands.now).goes;
-    any_moment = λ told config h stands runs caller. moments_or config h (written_by caller (Makes call) (Some why)) old.state.next old.disk new.disk (keeps.any_moment told config h stands);
-    numbers = keeps.numbers;
-    faults = keeps.faults;
+    goes = λ told config opened h before caller.
+        goes_by (IsKeptOr config h (written_by caller (Makes call) why)) config opened h (behind h caller (Makes call) why) old new before (answered told config opened h before caller) (moments told config h caller before.now).goes;
+    any_moment = λ told config h before runs caller. moments told config h caller before;
+    numbers = numbers;
+    faults = faults;
     still = λ some. absurd (runs_on old.state.stopped runs some);
-    refused = ((λ room. absurd (full room)), partly);
+    refused = refused;
     face_is = refl;
   }
     where
-      answered : Tells → (config : Fields) (opened : Opened) (h : History) → StandsFor config opened h old → (caller : ℕ) → StandsFor config opened (refused_to h caller call why) new
-      answered told config opened h stands caller =
-          answered_for config opened h old new stands runs keeps.faults (keeps.numbers told) caller call works (Some why) (changes_told Tells PortsFail old new first last why reason)
-          (moments_or config h (written_by caller (Makes call) (Some why)) old.state.next old.disk new.disk (keeps.any_moment told config h stands.now)) (keeps.stands told config h stands.now caller call)
+      answered : Tells → (config : Fields) (opened : Opened) (h : History) → StandsFor config opened h old → (caller : ℕ) → StandsFor config opened (behind h caller (Makes call) why) new
+      answered told config opened h before caller =
+          answered_for config opened h old new before runs faults (numbers told) caller call works why reason (moments told config h caller before.now) (stands told config h caller before.now)
+
+  -- room couldn't be made
+  pub unroomed_answers : (PortsFail : Type 0) (first last : ℕ) (new : View) (why : Refused) → Keeps Tells old new (Some why) → HasReasonOfChange Tells PortsFail old new first last why → (IsReadyFor call old.state → ⊥)
+      → IsDoneInPart Tells (IsBegun call old.flight) old new why → Answers Tells (Makes call) (Some why) (face_of new) old new
+  unroomed_answers PortsFail first last new why keeps reason full partly =
+      made_answers new (Some why) keeps.sound keeps.count keeps.stopped (λ told config h caller before. keeps.stands told config h before caller call)
+      (λ told config h caller before. moments_or config h (written_by caller (Makes call) (Some why)) old.state.next old.disk new.disk (keeps.any_moment told config h before)) keeps.numbers keeps.faults
+      (changes_told Tells PortsFail old new first last why reason) ((λ ready. absurd (full ready)), partly)
 
   -- room was made, and then the record was appended, or wasn't
   module _ (mid new : View) (why : Option Refused) (room : Keeps Tells old mid None) (made : Tells → (s : Stored) → Holds old s → (t : Stored) × (outcomes : List Outcome) × IsRoomMadeBy old.flight s outcomes t × Holds mid t)
-      (same : SeesRoom old.state → mid ≡ old) (face : face_of new ≡ face_of mid) (sound : IsSound Tells new) (count : new.state.count ≡ counted (Makes call) why mid.state.count) (stopped : new.state.stopped ≡ stopped_by why mid.state.stopped)
+      (begun : (s t : Stored) → IsRoomBegun old.flight s t → IsBegun call old.flight s t) (same : IsReadyFor call old.state → mid ≡ old) (face : face_of new ≡ face_of mid) (sound : IsSound Tells new)
+      (count : new.state.count ≡ counted (Makes call) why mid.state.count) (stopped : new.state.stopped ≡ stopped_by why mid.state.stopped)
       (reason : IfSome why (HasReason ⊥ mid.state old.faults new.faults)) (undone : IfSome why (IsUndone Tells mid new)) (numbers : Tells → new.state.next + mid.disk.moment ≤ mid.state.next + new.disk.moment) (faults : mid.faults ≤ new.faults) where
     recorded_refused : (why : Option Refused) → IfSome why (IsUndone Tells mid new) → IfSome why (IsRefused Tells (Makes call) old new)
     recorded_refused None undone = tt
     recorded_refused (Some why) undone = (
-      (λ room. subst (λ view. IsUndone Tells view new why) (same room) undone),
+      (λ ready. subst (λ view. IsUndone Tells view new why) (same ready) undone),
       λ none told s holds.
           let all = made told s holds in
-          (all.0, room_begun old.flight s all.1 all.0 all.2, before_holds Tells told mid new all.0 face (undone none) all.3),
+          (all.0, begun s all.0 (room_begun old.flight s all.1 all.0 all.2), before_holds Tells told mid new all.0 face (undone none) all.3),
     )
 
     pub recorded_answers : (Tells → (config : Fields) (h : History) (caller : ℕ) → StandsNow config h mid → StandsNow config (behind h caller (Makes call) why) new)
         → (Tells → (config : Fields) (h : History) (caller : ℕ) → StandsNow config h mid → GoesFrom mid.state.next (IsKeptOr config h (written_by caller (Makes call) why)) mid.disk new.disk)
         → Answers Tells (Makes call) why (face_of mid) old new
-    recorded_answers stands moments = record {
-      sound = sound;
-      count = count ∙ ap (counted (Makes call) why) room.count;
-      stopped = stopped ∙ ap (stopped_by why) room.stopped;
-      stands = answered;
-      goes = λ told config opened h before caller.
-          goes_by (IsKeptOr config h (written_by caller (Makes call) why)) config opened h (behind h caller (Makes call) why) old new before (answered told config opened h before caller) (whole told config h before.now caller).goes;
-      any_moment = λ told config h before runs caller. whole told config h before caller;
-      numbers = drawn;
-      faults = rose;
-      still = λ some. absurd (runs_on old.state.stopped runs some);
-      refused = recorded_refused why undone;
-      face_is = face;
-    }
+    recorded_answers stands moments = subst (λ at. Answers Tells (Makes call) why at old new) face
+        (made_answers new why sound (count ∙ ap (counted (Makes call) why) room.count) (stopped ∙ ap (stopped_by why) room.stopped) (λ told config h caller before. stands told config h caller (behind_room told config h before)) whole
+        drawn rose (reasons_told ⊥ mid.state old.faults new.faults why reason) (recorded_refused why undone))
       where
         drawn : Tells → new.state.next + old.disk.moment ≤ old.state.next + new.disk.moment
         drawn told = let first = room.numbers told in let then = numbers told in omega (arith, first, then)
@@ -233,13 +241,8 @@ module _ (Tells : Type 0) (call : Call) (works : call ≡ Work → ⊥) (old : V
         behind_room : Tells → (config : Fields) (h : History) → StandsNow config h old → StandsNow config h mid
         behind_room told config h before = room.stands told config h before 0 Work
 
-        whole : Tells → (config : Fields) (h : History) → StandsNow config h old → (caller : ℕ) → GoesFrom old.state.next (IsKeptOr config h (written_by caller (Makes call) why)) old.disk new.disk
-        whole told config h before caller =
+        whole : Tells → (config : Fields) (h : History) (caller : ℕ) → StandsNow config h old → GoesFrom old.state.next (IsKeptOr config h (written_by caller (Makes call) why)) old.disk new.disk
+        whole told config h caller before =
             let Change = written_by caller (Makes call) why in
             goes_from_then (IsKeptOr config h Change) old.state.next mid.state.next old.disk mid.disk new.disk (moments_or config h Change old.state.next old.disk mid.disk (room.any_moment told config h before))
             (room.numbers told) (moments told config h caller (behind_room told config h before))
-
-        answered : Tells → (config : Fields) (opened : Opened) (h : History) → StandsFor config opened h old → (caller : ℕ) → StandsFor config opened (behind h caller (Makes call) why) new
-        answered told config opened h before caller =
-            answered_for config opened h old new before runs rose (drawn told) caller call works why (reasons_told ⊥ mid.state old.faults new.faults why reason) (whole told config h before.now caller)
-            (stands told config h caller (behind_room told config h before.now))

@@ -11,3 +11,4 @@ pub mod Faces
 pub mod Copying
 pub mod Clean
 pub mod Rounds
+pub mod Ticks

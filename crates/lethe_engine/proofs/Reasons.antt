@@ -36,7 +36,7 @@ reasons_told Short state before now None is = tt
 reasons_told Short state before now (Some why) is = reason_told Short state before now why is
 
 -- reading a file is no device call
-unreadable_told : (Tells PortsFail : Type 0) (first last before now : ℕ) (why : Refused) → IsUnreadable Tells PortsFail first last why → IsTold before now why
+pub unreadable_told : (Tells PortsFail : Type 0) (first last before now : ℕ) (why : Refused) → IsUnreadable Tells PortsFail first last why → IsTold before now why
 unreadable_told Tells PortsFail first last before now (Fault place b a) is = absurd is
 unreadable_told Tells PortsFail first last before now (Stopped at) is = tt
 unreadable_told Tells PortsFail first last before now (Backwards clock) is = tt

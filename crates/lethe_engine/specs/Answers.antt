@@ -1,25 +1,46 @@
 -- What each call of a store says of itself: what it was asked, why it was refused if it was, the store before and the store behind.
 use Rattle.std.specs.Prelude.{◌≡◌, ◌≤◌, ◌+◌, ℕ, Option, None, IfSome, IsSome}
 use Rattle.lethe_base.specs.History.{History}
+use Rattle.lethe_base.specs.declared.call.Call.{Call}
+use Rattle.lethe_base.specs.declared.call.Call.TheVariants.{Put, Delete, Erase, Tick, Work}
 use Rattle.lethe_base.specs.declared.config.Fields.{Fields}
 use Rattle.lethe_base.specs.declared.refused.Refused.{Refused}
 use Rattle.lethe_disk.specs.Disk.{IsIdle}
 use Rattle.lethe_disk.specs.Goes.{Goes}
 use Rattle.lethe_stored.specs.Left.{IsKeptOr}
 use Rattle.lethe_stored.specs.Numbers.{GoesFrom}
+use Rattle.lethe_stored.specs.Stored.{Stored}
+use Rattle.lethe_state.specs.declared.state.State.{State}
 use Rattle.lethe_core.specs.Asked.{Asked, Makes, Serves, behind, counted, stopped_by, written_by}
 use Rattle.lethe_core.specs.Merges.{IsRoomBegun}
 use Rattle.lethe_core.specs.Running.{IsSound}
 use Rattle.lethe_core.specs.StandsNow.{StandsNow}
 use Rattle.lethe_core.specs.Steps.{IsDoneInPart, IsUndone}
-use Rattle.lethe_core.specs.View.{Face, View, face_of}
+use Rattle.lethe_core.specs.View.{Face, Flying, View, face_of}
+use Rattle.lethe_tick.specs.Ripened.{IsTickedInPart}
 use Rattle.lethe_engine.specs.Refusals.{SeesRoom}
 use Rattle.lethe_engine.specs.StandsFor.{IsKeptFor, Opened, StandsFor}
 
+-- the steps of a change that may have been done where it was refused
+abbrev pub IsBegun : Call → Option Flying → Stored → Stored → Type 0
+IsBegun (Put key dkey value) flight = IsRoomBegun flight
+IsBegun (Delete key) flight = IsRoomBegun flight
+IsBegun (Erase range) flight = IsRoomBegun flight
+IsBegun (Tick to) flight = IsTickedInPart to
+IsBegun Work flight = λ s t. t ≡ s
+
+-- Of a change nothing is done before its record is written, as the store sees it: there is room for that. A tick writes no record.
+abbrev pub IsReadyFor : Call → State → Type 0
+IsReadyFor (Put key dkey value) state = SeesRoom state
+IsReadyFor (Delete key) state = SeesRoom state
+IsReadyFor (Erase range) state = SeesRoom state
+IsReadyFor (Tick to) state = ⊥
+IsReadyFor Work state = SeesRoom state
+
 -- What stands behind a call that was refused, unless the disk failed in it. Work and looks leave all as it was. So does a change where there was room; where there
--- was none, some of the steps that make it may have been done, and nothing else.
+-- was none, some of the steps that make it may have been done, and nothing else. Of a tick, too, some steps may have been done.
 abbrev pub IsRefused : Type 0 → Asked → View → View → Refused → Type 0
-IsRefused Tells (Makes call) old new why = (SeesRoom old.state → IsUndone Tells old new why) × IsDoneInPart Tells (IsRoomBegun old.flight) old new why
+IsRefused Tells (Makes call) old new why = (IsReadyFor call old.state → IsUndone Tells old new why) × IsDoneInPart Tells (IsBegun call old.flight) old new why
 IsRefused Tells (Serves call) old new why = IsUndone Tells old new why
 
 -- nothing was done, but that a job may have been forgotten

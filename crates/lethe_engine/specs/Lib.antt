@@ -8,3 +8,5 @@ pub mod Reads
 pub mod Capped
 pub mod Stats
 pub mod Opening
+pub mod Ticks
+pub mod Gone

@@ -132,6 +132,13 @@ impl<D: Disk> Engine<D> {
         self.core.begun.rounds
     }
 
+    /// The place in the history of the call in which the disk failed, if one has: then the store is stopped.
+    pub fn stopped(&self) -> Option<u64>
+        ensures { result ≡ self.now.core.state.stopped }
+    {
+        self.core.state.stopped()
+    }
+
     /// Gives the disk back.
     pub fn into_disk(self) -> D
         ensures { result ≡ self.core.disk }

@@ -7,8 +7,10 @@ mod jobs;
 mod laws;
 mod reading;
 mod telling;
+mod ticking;
 mod working;
 
 pub use engine::{Engine, OpenRefused};
 pub use laws::standing_is_clean;
 pub use telling::Stat;
+pub use ticking::Ticked;

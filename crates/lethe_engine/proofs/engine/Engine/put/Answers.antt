@@ -77,7 +77,7 @@ returns-clause-answers g c =
     subst (λ face. Answers g.D.Disk.tells (Makes Asks) why face old new)
     (jobs_with core c.make_room.new.self c.make_room.ensures.begun c.make_room.ensures.flight ∙ ap (λ names. record (face_of old) { retired = names.items }) (sym c.record.ensures.retired))
     (recorded_answers g.D.Disk.tells Asks (put_works c.args.key c.args.dkey c.args.value) old fits.0 mid new why c.in_ok-make_room.ensures.keeps
-    (λ told s holds. let done = c.in_ok-make_room.ensures.done told s holds in (done.0, done.1, done.2, done.3)) (λ room. ap view_of (c.in_ok-make_room.ensures.room room).1)
+    (λ told s holds. let done = c.in_ok-make_room.ensures.done told s holds in (done.0, done.1, done.2, done.3)) (λ s t is. is) (λ room. ap view_of (c.in_ok-make_room.ensures.room room).1)
     (jobs_same c.make_room.new.self c.record.new.self c.record.ensures.begun c.record.ensures.flight (ap (λ names. names.items) c.record.ensures.retired)) c.record.ensures.sound (c.record.ensures.count Asks) c.record.ensures.stopped reason
     (if_refused c.record.result (IsUndone g.D.Disk.tells mid new) c.record.ensures.undone) c.record.ensures.numbers c.record.ensures.faults
     (λ told config h caller still. c.record.ensures.stands told config h caller Asks refl still

@@ -1,0 +1,242 @@
+-- Ticks: the tests that come first, the round that begins, and what is gone behind one.
+use Rattle.std.proofs.Common.{◌≡◌, ◌≤◌, ◌<◌, ◌+◌, ◌⊎◌, inl, inr, ℕ, List, Some, None, Option, refl, sym, ap, ◌∙◌, subst, arith}
+use Rattle.std.specs.Prelude.{Bool, true, false, ◌&&◌, if◌then◌else◌, is_none, nat_le, nat_lt}
+use Rattle.std.proofs.lemmas.Bool.{le-leb, le-ltb, lt-leb, lt-ltb}
+use Rattle.lethe_base.proofs.Histories.{after-push}
+use Rattle.lethe_base.specs.History.{History, after}
+use Rattle.lethe_base.specs.Limits.{max_place}
+use Rattle.lethe_base.specs.declared.call.Call.TheVariants.{Tick, Work}
+use Rattle.lethe_base.specs.declared.call.Did.TheVariants.{Done}
+use Rattle.lethe_base.specs.declared.config.Fields.{Fields}
+use Rattle.lethe_base.specs.declared.name.Name.{Name}
+use Rattle.lethe_base.specs.declared.refused.Refused.{Refused}
+use Rattle.lethe_base.specs.declared.refused.Refused.TheVariants.{Fault, Stopped, Backwards, Pinned, NothingDue, Cancelled, Exhausted, ReadFault, NoMemory, Damaged}
+use Rattle.lethe_cover.specs.Steps.{with_done}
+use Rattle.lethe_stored.specs.Clean.{IsClean}
+use Rattle.lethe_stored.specs.Stored.{Stored}
+use Rattle.lethe_core.specs.Asked.{failure_of}
+use Rattle.lethe_core.specs.Keeps.{MayStep}
+use Rattle.lethe_core.specs.Reasons.{HasReason, IsUnreadable}
+use Rattle.lethe_core.specs.Running.{Holds, IsRunning, IsSound}
+use Rattle.lethe_core.specs.StandsNow.{IsOpenOrStopped, StandsNow}
+use Rattle.lethe_core.specs.Steps.{IsDoneInPart}
+use Rattle.lethe_core.specs.View.{Face, View, face_of}
+use Rattle.lethe_core.proofs.Behind.{reason_behind}
+use Rattle.lethe_tick.specs.Ripened.{IsShortToTick}
+use Rattle.lethe_engine.specs.Gone.{HoldsNothingErased}
+use Rattle.lethe_engine.specs.Ticks.{HasReasonOfTick, MayRefuseTick, passes, ticked_face}
+use Rattle.lethe_engine.proofs.Clean.{now_clean}
+use Rattle.lethe_engine.proofs.Reasons.{IsTold, reason_told, unreadable_told}
+
+-- The tests
+
+four : Bool → Bool → Bool → Bool → Bool
+four a b c d = a && b && c && d
+
+ends_false : (a b c : Bool) → four a b c false ≡ false
+ends_false false b c = refl
+ends_false true false c = refl
+ends_false true true false = refl
+ends_false true true true = refl
+
+third_false : (a b d : Bool) → four a b false d ≡ false
+third_false false b d = refl
+third_false true false d = refl
+third_false true true d = refl
+
+second_false : (a c d : Bool) → four a false c d ≡ false
+second_false false c d = refl
+second_false true c d = refl
+
+-- the jobs behind a tick, by whether it passed the tests
+face_if : View → List Name → Bool → Face
+face_if view retired passed = if passed then record { begun = view.begun; rounds = view.rounds + 1; flight = None; retired = retired } else face_of view
+
+module _ (view : View) (to : ℕ) where
+  -- each is passed
+  pub passes_all : view.state.stopped ≡ None → view.state.manifest.clock ≤ to → view.state.count < max_place → view.rounds < max_place → passes view to ≡ true
+  passes_all runs forward place round = λ i.
+      four (is_none (runs i)) (le-leb view.state.manifest.clock to forward i) (lt-ltb view.state.count max_place place i) (lt-ltb view.rounds max_place round i)
+
+  -- one isn't
+  pub passes_not : (why : Refused) → MayRefuseTick view to why → passes view to ≡ false
+  passes_not (Stopped at) is =
+      ap (λ stopped. four (is_none stopped) (nat_le view.state.manifest.clock to) (nat_lt view.state.count max_place) (nat_lt view.rounds max_place)) is
+  passes_not (Backwards clock) is =
+      ap (λ b. four (is_none view.state.stopped) b (nat_lt view.state.count max_place) (nat_lt view.rounds max_place)) (lt-leb view.state.manifest.clock to is.1)
+      ∙ second_false (is_none view.state.stopped) (nat_lt view.state.count max_place) (nat_lt view.rounds max_place)
+  passes_not (Exhausted last) is = elim is.3 [
+    | inl full ↦ ap (λ b. four (is_none view.state.stopped) (nat_le view.state.manifest.clock to) b (nat_lt view.rounds max_place)) (le-ltb view.state.count max_place (omega (arith, full)))
+        ∙ third_false (is_none view.state.stopped) (nat_le view.state.manifest.clock to) (nat_lt view.rounds max_place)
+    | inr full ↦ ap (λ b. four (is_none view.state.stopped) (nat_le view.state.manifest.clock to) (nat_lt view.state.count max_place) b) (le-ltb view.rounds max_place full)
+        ∙ ends_false (is_none view.state.stopped) (nat_le view.state.manifest.clock to) (nat_lt view.state.count max_place)
+  ]
+  passes_not (Fault place before after) is = absurd is
+  passes_not (Pinned pin limit) is = absurd is
+  passes_not NothingDue is = absurd is
+  passes_not (Cancelled begun now) is = absurd is
+  passes_not (ReadFault before after) is = absurd is
+  passes_not NoMemory is = absurd is
+  passes_not (Damaged name) is = absurd is
+
+  -- a tick that may not begin leaves the jobs as they were
+  pub ticked_not : (why : Refused) → MayRefuseTick view to why → ticked_face view to view.retired ≡ face_of view
+  ticked_not why is = ap (face_if view view.retired) (passes_not why is)
+
+  -- one that begins ends a round
+  pub ticked_now : (new : View) → passes view to ≡ true → new.begun ≡ view.begun → new.rounds ≡ view.rounds + 1 → new.flight ≡ None → face_of new ≡ ticked_face view to new.retired
+  ticked_now new all begun rounds flight =
+      let same : face_of new ≡ face_if view new.retired true = λ i. record { begun = begun i; rounds = rounds i; flight = flight i; retired = new.retired } in
+      same ∙ sym (ap (face_if view new.retired) all)
+
+  -- a refusal before any work is no failure
+  pub may_refuse_none : (why : Refused) → MayRefuseTick view to why → failure_of why ≡ None
+  may_refuse_none (Stopped at) is = refl
+  may_refuse_none (Backwards clock) is = refl
+  may_refuse_none (Exhausted last) is = refl
+  may_refuse_none (Fault place before after) is = absurd is
+  may_refuse_none (Pinned pin limit) is = absurd is
+  may_refuse_none NothingDue is = absurd is
+  may_refuse_none (Cancelled begun now) is = absurd is
+  may_refuse_none (ReadFault before after) is = absurd is
+  may_refuse_none NoMemory is = absurd is
+  may_refuse_none (Damaged name) is = absurd is
+
+  -- and has its reason
+  pub may_refuse_reason : (Tells PortsFail : Type 0) (new : View) (first last : ℕ) (why : Refused) → MayRefuseTick view to why → HasReasonOfTick Tells PortsFail to view new first last why
+  may_refuse_reason Tells PortsFail new first last (Stopped at) is = inr (inl is)
+  may_refuse_reason Tells PortsFail new first last (Backwards clock) is = inl (is.0, is.1, ap (λ clock. Backwards clock) is.2)
+  may_refuse_reason Tells PortsFail new first last (Exhausted place) is = inr (inl (is.0, is.2, elim is.3 [ inl full ↦ inl full | inr full ↦ inr (inl full) ]))
+  may_refuse_reason Tells PortsFail new first last (Fault place before after) is = absurd is
+  may_refuse_reason Tells PortsFail new first last (Pinned pin limit) is = absurd is
+  may_refuse_reason Tells PortsFail new first last NothingDue is = absurd is
+  may_refuse_reason Tells PortsFail new first last (Cancelled begun now) is = absurd is
+  may_refuse_reason Tells PortsFail new first last (ReadFault before after) is = absurd is
+  may_refuse_reason Tells PortsFail new first last NoMemory is = absurd is
+  may_refuse_reason Tells PortsFail new first last (Damaged name) is = absurd is
+
+-- The next round
+
+-- the same store in another round
+abbrev pub in_round : View → ℕ → View
+in_round view rounds = record view { rounds = rounds }
+
+module _ (view : View) (rounds : ℕ) where
+  running_in_round : (s : Stored) → IsRunning view s → IsRunning (in_round view rounds) s
+  running_in_round s is = record {
+    settled = is.settled;
+    only = is.only;
+    uncited = is.uncited;
+    untorn = is.untorn;
+    copied = is.copied;
+    rising = is.rising;
+    ends = is.ends;
+    current = is.current;
+    tasked = is.tasked;
+  }
+
+  pub holds_in_round : (s : Stored) → Holds view s → Holds (in_round view rounds) s
+  holds_in_round s is = record { remembers = is.remembers; running = running_in_round s is.running }
+
+  pub sound_in_round : (Tells : Type 0) → IsSound Tells view → IsSound Tells (in_round view rounds)
+  sound_in_round Tells is = record {
+    writable = is.writable;
+    small = is.small;
+    count = is.count;
+    flies = is.flies;
+    drawn = is.drawn;
+    held = λ told. let held = is.held told in (held.0, held.1, λ runs. running_in_round held.0 (held.2 runs));
+  }
+
+  open_in_round : (config : Fields) (h : History) (s : Stored) (stopped : Option ℕ) → IsOpenOrStopped config view h s stopped → IsOpenOrStopped config (in_round view rounds) h s stopped
+  open_in_round config h s None is = (is.0, running_in_round s is.1)
+  open_in_round config h s (Some at) is = is
+
+  pub stands_in_round : (config : Fields) (h : History) → StandsNow config h view → StandsNow config h (in_round view rounds)
+  stands_in_round config h is = record {
+    legal = is.legal;
+    count = is.count;
+    stored = is.stored;
+    remembers = is.remembers;
+    config_is = is.config_is;
+    stands = is.stands;
+    held = open_in_round config h is.stored view.state.stopped is.held;
+    counted = is.counted;
+  }
+
+  -- the tick's work may begin there
+  pub may_in_round : (Tells : Type 0) (before : ℕ) → IsSound Tells view → view.state.stopped ≡ None → view.state.count < max_place → before ≡ view.faults → MayStep Tells (in_round view rounds) before
+  may_in_round Tells before sound runs place is = record { sound = sound_in_round Tells sound; runs = runs; fits = place; told_from = omega (arith, is) }
+
+  -- what came of what was stored there came of what was stored
+  pub partly_in_round : (Tells : Type 0) (Comes : Stored → Stored → Type 0) (new : View) (why : Refused) → IsDoneInPart Tells Comes (in_round view rounds) new why → IsDoneInPart Tells Comes view new why
+  partly_in_round Tells Comes new why partly none told s holds = partly none told s (holds_in_round s holds)
+
+-- A tick that was begun and refused
+
+module _ (Tells PortsFail : Type 0) (to : ℕ) (old new : View) (before first last : ℕ) (runs : old.state.stopped ≡ None) (is_before : before ≡ old.faults) where
+  pub reason_of_tick : (why : Refused) → HasReason (IsShortToTick Tells to new) old.state before new.faults why ⊎ IsUnreadable Tells PortsFail first last why → HasReasonOfTick Tells PortsFail to old new first last why
+  reason_of_tick why (inl is) = inr (inl (subst (λ n. HasReason ((max_place ≤ old.rounds) ⊎ IsShortToTick Tells to new) old.state n new.faults why) is_before
+      (reason_behind (IsShortToTick Tells to new) ((max_place ≤ old.rounds) ⊎ IsShortToTick Tells to new) old.state old.state before new.faults refl refl (λ short. inr short) why is)))
+  reason_of_tick why (inr is) = inr (inr (runs, is))
+
+  pub tick_told : (why : Refused) → HasReason (IsShortToTick Tells to new) old.state before new.faults why ⊎ IsUnreadable Tells PortsFail first last why → IsTold old.faults new.faults why
+  tick_told why (inl is) = subst (λ n. IsTold n new.faults why) is_before (reason_told (IsShortToTick Tells to new) old.state before new.faults why is)
+  tick_told why (inr is) = unreadable_told Tells PortsFail first last old.faults new.faults why is
+
+-- What is gone
+
+ticked_clock : (h : History) (caller to : ℕ) → (after (with_done h caller (Tick to))).clock ≡ to
+ticked_clock h caller to = ap (λ state. state.clock) (after-push h (record { caller = caller; call = Tick to; did = Done }))
+
+clean_gone : (threshold : ℕ) (view : View) (h : History) (time : ℕ) → IsClean threshold view.disk.directory h time → HoldsNothingErased threshold view.disk.directory h time
+clean_gone threshold view h time clean name bytes entries entry there spelled among put overdue =
+    clean.timely entry (record { name = name; bytes = bytes; there = there; entries = entries; spelled = spelled; among = among }) put overdue
+
+pub ticked_gone : (config : Fields) (h : History) (caller to : ℕ) (view : View) → StandsNow config (with_done h caller (Tick to)) view → view.state.stopped ≡ None
+    → HoldsNothingErased config.threshold view.disk.directory (with_done h caller (Tick to)) to
+ticked_gone config h caller to view stands runs =
+    let later = with_done h caller (Tick to) in
+    clean_gone config.threshold view later to (subst (IsClean config.threshold view.disk.directory later) (ticked_clock h caller to) (now_clean config later view stands runs))
+
+pub tick_works : (to : ℕ) → Tick to ≡ Work → ⊥
+tick_works to e = cc
+
+-- which refusal it is
+
+module _ (view : View) (to : ℕ) where
+  pub why_stopped : (why : Refused) → MayRefuseTick view to why → (at : ℕ) → view.state.stopped ≡ Some at → why ≡ Stopped at
+  why_stopped (Stopped other) is at e = let same : Some other ≡ Some at = sym is ∙ e in cc
+  why_stopped (Backwards clock) is at e = let clash : None ≡ Some at = sym is.0 ∙ e in absurd cc
+  why_stopped (Exhausted last) is at e = let clash : None ≡ Some at = sym is.0 ∙ e in absurd cc
+  why_stopped (Fault place before after) is at e = absurd is
+  why_stopped (Pinned pin limit) is at e = absurd is
+  why_stopped NothingDue is at e = absurd is
+  why_stopped (Cancelled begun now) is at e = absurd is
+  why_stopped (ReadFault before after) is at e = absurd is
+  why_stopped NoMemory is at e = absurd is
+  why_stopped (Damaged name) is at e = absurd is
+
+  pub why_backwards : (why : Refused) → MayRefuseTick view to why → view.state.stopped ≡ None → to < view.state.manifest.clock → why ≡ Backwards view.state.manifest.clock
+  why_backwards (Stopped other) is runs behind = let clash : Some other ≡ None = sym is ∙ runs in absurd cc
+  why_backwards (Backwards clock) is runs behind = ap (λ clock. Backwards clock) is.2
+  why_backwards (Exhausted last) is runs behind = let forward = is.1 in absurd (omega (arith, forward, behind))
+  why_backwards (Fault place before after) is runs behind = absurd is
+  why_backwards (Pinned pin limit) is runs behind = absurd is
+  why_backwards NothingDue is runs behind = absurd is
+  why_backwards (Cancelled begun now) is runs behind = absurd is
+  why_backwards (ReadFault before after) is runs behind = absurd is
+  why_backwards NoMemory is runs behind = absurd is
+  why_backwards (Damaged name) is runs behind = absurd is
+
+  pub why_exhausted : (why : Refused) → MayRefuseTick view to why → view.state.stopped ≡ None → view.state.manifest.clock ≤ to → why ≡ Exhausted max_place
+  why_exhausted (Stopped other) is runs forward = let clash : Some other ≡ None = sym is ∙ runs in absurd cc
+  why_exhausted (Backwards clock) is runs forward = let behind = is.1 in absurd (omega (arith, forward, behind))
+  why_exhausted (Exhausted last) is runs forward = ap (λ last. Exhausted last) is.2
+  why_exhausted (Fault place before after) is runs forward = absurd is
+  why_exhausted (Pinned pin limit) is runs forward = absurd is
+  why_exhausted NothingDue is runs forward = absurd is
+  why_exhausted (Cancelled begun now) is runs forward = absurd is
+  why_exhausted (ReadFault before after) is runs forward = absurd is
+  why_exhausted NoMemory is runs forward = absurd is
+  why_exhausted (Damaged name) is runs forward = absurd is

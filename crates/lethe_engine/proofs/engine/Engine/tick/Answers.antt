@@ -1,0 +1,120 @@
+use Rattle.std.proofs.Common.{rules, ◌≡◌, ◌+◌, ◌⊎◌, ℕ, List, Some, None, Result, Ok, Err, refl, sym, ap, ◌∙◌, subst}
+use Rattle.std.specs.Prelude.{IfErr, IfSome, true}
+use Rattle.std.specs.Result.{result_err}
+use Rattle.lethe_base.specs.declared.call.Call.TheVariants as call
+use Rattle.lethe_base.specs.declared.refused.Refused.{Refused}
+use Rattle.lethe_core.specs.Asked.{Makes}
+use Rattle.lethe_core.specs.Reasons.{HasReason, IsUnreadable}
+use Rattle.lethe_core.specs.View.{View, face_of, view_of}
+use Rattle.lethe_tick.specs.Ripened.{IsShortToTick, IsTickedInPart}
+use Rattle.lethe_engine.specs.Answers.{Answers}
+use Rattle.lethe_engine.specs.Ticks.{HasReasonOfTick, passes, ticked_face}
+use Rattle.lethe_engine.specs.declared.ticking.Ticked.{Ticked}
+use Rattle.lethe_engine.proofs.Calls.{itself_answers, made_answers, refused_is_none}
+use Rattle.lethe_engine.proofs.Ticks.{holds_in_round, may_in_round, may_refuse_none, may_refuse_reason, partly_in_round, passes_all, reason_of_tick, stands_in_round, tick_told, tick_works, ticked_gone, ticked_not, ticked_now}
+use Rattle.lethe_engine.proofs.engine.Engine.tick.Goals as goal
+
+-- No tick was begun
+
+pub returns-in_err-may_tick-clause-answers : goal.returns-in_err-may_tick-clause-answers
+returns-in_err-may_tick-clause-answers g c =
+    let old = view_of c.args.self.now.core in
+    let to = c.args.to in
+    let why = c.in_err-may_tick.field-0.0 in
+    let refusal : c.from_residual.result ≡ Err why = search rules in
+    let may = c.in_err-may_tick.ensures.refused in
+    let Asks = Makes (call.Tick to) in
+    subst (λ (r : Result Ticked Refused). Answers g.D.Disk.tells Asks (result_err r) (ticked_face old to old.retired) old old) (sym refusal)
+    (subst (λ face. Answers g.D.Disk.tells Asks (Some why) face old old) (sym (ticked_not old to why may))
+    (itself_answers g.D.Disk.tells Asks (Some why) old c.requires.sound (refused_is_none Asks why (may_refuse_none old to why may))))
+
+pub returns-in_err-may_tick-clause-why : goal.returns-in_err-may_tick-clause-why
+returns-in_err-may_tick-clause-why g c =
+    let old = view_of c.args.self.now.core in
+    let to = c.args.to in
+    let why = c.in_err-may_tick.field-0.0 in
+    let refusal : c.from_residual.result ≡ Err why = search rules in
+    let count = g.D.Disk.port_faults c.args.port.now in
+    subst (λ (r : Result Ticked Refused). IfErr r (HasReasonOfTick g.D.Disk.tells g.D.Disk.ports_fail to old old count count)) (sym refusal)
+    (may_refuse_reason old to g.D.Disk.tells g.D.Disk.ports_fail old count count why c.in_err-may_tick.ensures.refused)
+
+-- A tick was begun
+
+pub tick-requires-clause-may : goal.tick-requires-clause-may
+tick-requires-clause-may g c κs within =
+    let old = view_of c.args.self.now.core in
+    let may = c.in_ok-may_tick.ensures.may in
+    may_in_round old (old.rounds + 1) g.D.Disk.tells c.faults-before.result c.requires.sound may.0 may.2 c.faults-before.ensures
+
+pub returns-in_err-tick-clause-answers : goal.returns-in_err-tick-clause-answers
+returns-in_err-tick-clause-answers g c =
+    let old = view_of c.args.self.now.core in
+    let new : View = view_of c.tick.new.core in
+    let to = c.args.to in
+    let tells = g.D.Disk.tells in
+    let why = c.in_err-tick.field-0.0 in
+    let refusal : c.from_residual-in_err-tick.result ≡ Err why = search rules in
+    let may = c.in_ok-may_tick.ensures.may in
+    let first = g.D.Disk.port_faults c.args.port.now in
+    let last = g.D.Disk.port_faults c.tick.new.port in
+    let is = c.in_err-tick.ensures in
+    let begun = is.begun in
+    let face = ticked_now old to new (passes_all old to may.0 may.1 may.2 may.3) (λ i. (begun i).jobs.count) (λ i. (begun i).rounds) is.free in
+    let told = tick_told tells g.D.Disk.ports_fail to old new c.faults-before.result first last may.0 c.faults-before.ensures why is.why in
+    subst (λ (r : Result Ticked Refused). Answers tells (Makes (call.Tick to)) (result_err r) (ticked_face old to new.retired) old new) (sym refusal)
+    (subst (λ face. Answers tells (Makes (call.Tick to)) (Some why) face old new) face
+    (made_answers tells (call.Tick to) (tick_works to) old may.0 new (Some why) is.sound is.count is.stopped
+    (λ told config h caller before. is.stands told config h (stands_in_round old (old.rounds + 1) config h before) caller)
+    (λ told config h caller before. is.any_moment told config h (stands_in_round old (old.rounds + 1) config h before) caller)
+    is.numbers is.faults told
+    ((λ ready. absurd ready), partly_in_round old (old.rounds + 1) tells (IsTickedInPart to) new why is.partly)))
+
+pub returns-in_err-tick-clause-why : goal.returns-in_err-tick-clause-why
+returns-in_err-tick-clause-why g c =
+    let old = view_of c.args.self.now.core in
+    let new : View = view_of c.tick.new.core in
+    let to = c.args.to in
+    let why = c.in_err-tick.field-0.0 in
+    let refusal : c.from_residual-in_err-tick.result ≡ Err why = search rules in
+    let may = c.in_ok-may_tick.ensures.may in
+    let first = g.D.Disk.port_faults c.args.port.now in
+    let last = g.D.Disk.port_faults c.tick.new.port in
+    subst (λ (r : Result Ticked Refused). IfErr r (HasReasonOfTick g.D.Disk.tells g.D.Disk.ports_fail to old new first last)) (sym refusal)
+    (reason_of_tick g.D.Disk.tells g.D.Disk.ports_fail to old new c.faults-before.result first last may.0 c.faults-before.ensures why c.in_err-tick.ensures.why)
+
+-- A tick was carried out
+
+pub returns-clause-answers : goal.returns-clause-answers
+returns-clause-answers g c =
+    let old = view_of c.args.self.now.core in
+    let new : View = view_of c.tick.new.core in
+    let to = c.args.to in
+    let tells = g.D.Disk.tells in
+    let may = c.in_ok-may_tick.ensures.may in
+    let is = c.in_ok-tick.ensures in
+    let begun = is.begun in
+    let face = ticked_now old to new (passes_all old to may.0 may.1 may.2 may.3) (λ i. (begun i).jobs.count) (λ i. (begun i).rounds) is.free in
+    subst (λ face. Answers tells (Makes (call.Tick to)) None face old new) face
+    (made_answers tells (call.Tick to) (tick_works to) old may.0 new None is.sound is.count is.stopped
+    (λ told config h caller before. is.stands told config h (stands_in_round old (old.rounds + 1) config h before) caller)
+    (λ told config h caller before. is.any_moment told config h (stands_in_round old (old.rounds + 1) config h before) caller)
+    is.numbers is.faults tt tt)
+
+pub returns-clause-gone : goal.returns-clause-gone
+returns-clause-gone g c = λ told config opened h stands caller.
+    let old = view_of c.args.self.now.core in
+    let may = c.in_ok-may_tick.ensures.may in
+    let is = c.in_ok-tick.ensures in
+    ticked_gone config h caller c.args.to (view_of c.tick.new.core) (is.stands told config h (stands_in_round old (old.rounds + 1) config h stands.now) caller) (is.stopped ∙ may.0)
+
+pub returns-clause-one_image : goal.returns-clause-one_image
+returns-clause-one_image g c = λ told.
+    let may = c.in_ok-may_tick.ensures.may in
+    let is = c.in_ok-tick.ensures in
+    let held = is.sound.held told in
+    (held.2 (is.stopped ∙ may.0)).settled.synced
+
+pub returns-clause-done : goal.returns-clause-done
+returns-clause-done g c = λ told s holds.
+    let old = view_of c.args.self.now.core in
+    c.in_ok-tick.ensures.done told s (holds_in_round old (old.rounds + 1) s holds)
