@@ -118,3 +118,8 @@ pub returns-clause-done : goal.returns-clause-done
 returns-clause-done g c = λ told s holds.
     let old = view_of c.args.self.now.core in
     c.in_ok-tick.ensures.done told s (holds_in_round old (old.rounds + 1) s holds)
+
+pub returns-clause-last_step : goal.returns-clause-last_step
+returns-clause-last_step g c = λ told config h stands.
+    let old = view_of c.args.self.now.core in
+    c.in_ok-tick.ensures.last_step told config h (stands_in_round old (old.rounds + 1) config h stands)
