@@ -1,14 +1,13 @@
-use Rattle.std.proofs.Common.{rules, ◌≡◌, ◌+◌, ◌⊎◌, ℕ, List, Some, None, Result, Ok, Err, refl, sym, ap, ◌∙◌, subst}
+use Rattle.std.proofs.Common.{rules, ◌≡◌, ◌+◌, Some, None, Result, Err, sym, subst}
 use Rattle.std.specs.Prelude.{IfErr, option_map}
 use Rattle.std.specs.Result.{result_err}
 use Rattle.lethe_base.specs.declared.call.Call.TheVariants as call
 use Rattle.lethe_base.specs.declared.refused.Refused.{Refused}
 use Rattle.lethe_core.specs.Asked.{Makes}
-use Rattle.lethe_core.specs.Reasons.{HasReason, IsUnreadable}
-use Rattle.lethe_core.specs.View.{View, face_of, flying_of, view_of}
-use Rattle.lethe_tick.specs.Ripened.{IsShortToTick, IsTickedInPart}
+use Rattle.lethe_core.specs.View.{View, flying_of, view_of}
+use Rattle.lethe_tick.specs.Ripened.{IsTickedInPart}
 use Rattle.lethe_engine.specs.Answers.{Answers}
-use Rattle.lethe_engine.specs.Ticks.{HasReasonOfTick, passes, ticked_face}
+use Rattle.lethe_engine.specs.Ticks.{HasReasonOfTick, ticked_face}
 use Rattle.lethe_engine.specs.declared.ticking.Ticked.{Ticked}
 use Rattle.lethe_engine.proofs.Calls.{itself_answers, made_answers, refused_is_none}
 use Rattle.lethe_engine.proofs.Ticks.{holds_in_round, may_in_round, may_refuse_none, may_refuse_reason, partly_in_round, passes_all, reason_of_tick, stands_in_round, still_runs, tick_told, tick_works, ticked_gone, ticked_not, ticked_now}
