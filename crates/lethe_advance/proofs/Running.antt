@@ -73,7 +73,7 @@ module _ (s t : Stored) (loose left : List (Name × List ℕ)) (headers : List N
           let d = placing.each moment c low high left in
           beside_spare d.0 c (subst (λ x. Encodes x s) (sym (may.settled.synced d.0 d.1)) may.settled.encodes) d.2
 
-      module _ (calls : s1.moment ≡ s0.moment + length objects + 1) (R : Directory → Directory → Type 0) (s2 : Seen) (exchanging : Leads R s1 s2) where
+      module _ (calls : s0.moment + length objects ≤ s1.moment) (R : Directory → Directory → Type 0) (s2 : Seen) (exchanging : Leads R s1 s2) where
         is_early : (moment : ℕ) → moment ≤ s0.moment + length step.objects.items → moment ≤ s1.moment
         is_early moment few = let as_many = ap length same in omega (arith, calls, few, as_many)
 

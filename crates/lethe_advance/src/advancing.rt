@@ -1,7 +1,7 @@
 //! Going from what is stored to what is stored next.
 ghost use Rattle.std.specs.Prelude.{◌≡◌, ◌⊎◌, ℕ, ◌+◌, ◌<◌, ◌≤◌, List, [], Some, length, map, All, Contains, IfOk, OnOk, IsErrOf};
 ghost use Rattle.lethe_base.specs.declared.name.Name.{Name};
-ghost use Rattle.lethe_disk.specs.Directory.{Directory, object};
+ghost use Rattle.lethe_disk.specs.Directory.{Directory, SameBeside, object};
 ghost use Rattle.lethe_disk.specs.Disk.{HasCause, IsSynced};
 ghost use Rattle.lethe_disk.specs.Goes.{Goes};
 ghost use Rattle.lethe_disk.specs.Runs.{Leads};
@@ -10,7 +10,7 @@ ghost use Rattle.lethe_header.specs.Headers as header;
 ghost use Rattle.lethe_manifest.specs.Manifests.{HasSpelling};
 ghost use Rattle.lethe_commit.specs.Clear.{ArePresent, IsCleared, remove_all};
 ghost use Rattle.lethe_commit.specs.Gates.{gate_name};
-ghost use Rattle.lethe_commit.specs.Place.{insert_all, name_of};
+ghost use Rattle.lethe_commit.specs.Place.{AreAbsent, insert_all, name_of};
 ghost use Rattle.lethe_commit.specs.Switch.{IsTakenBack};
 ghost use Rattle.lethe_stored.specs.Stored.{Stored, part_names};
 ghost use Rattle.lethe_stored.specs.Encodes.{Encodes};
@@ -75,11 +75,11 @@ pub fn advance<D: Disk>(
     ensures files { D.tells → (s t : Stored) (loose left : List (Name × List ℕ)) → MayAdvance (D.seen disk.old) s loose t left headers.items step.now
         → HasFiles s (parts_by_level version.now) → IfOk result (λ next. HasFiles t (parts_by_level next)) }
     ensures levels { IfOk result (λ next. length (levels_of next) ≡ length (levels_of version.now)) }
-    ensures calls { D.tells → OnOk result ((D.seen disk.old).moment + length step.now.objects.items + 5 ≤ (D.seen disk.new).moment) }
+    ensures calls { D.tells → OnOk result ((D.seen disk.old).moment + length step.now.objects.items + 4 ≤ (D.seen disk.new).moment) }
     ensures no_memory { D.tells → IsErrOf result NoMemory → IsTakenBack (D.seen disk.old) (D.seen disk.new) }
     ensures cause { HasCause (D.faults disk.old) (D.faults disk.new) result }
 {
-    place_all(disk, &step.objects)?;
+    place_new(disk, &step.objects)?;
     match exchange(alloc, disk, version, headers, step) {
         Ok(next) => {
             clear(disk, &step.gone)?;
@@ -91,6 +91,24 @@ pub fn advance<D: Disk>(
             Err(DiskRefused::NoMemory)
         }
     }
+}
+
+// Creates these objects, none of which is there, and syncs once. Where there are none nothing is done: a sync would find nothing.
+fn place_new<D: Disk>(disk: &mut D, objects: &[Object]) -> Result<(), DiskRefused>
+    requires synced { D.tells → IsSynced (D.seen disk.old) }
+    requires absent { D.tells → AreAbsent objects.now (D.seen disk.old).directory }
+    ensures any_moment { D.tells → Leads (SameBeside (map name_of objects.now)) (D.seen disk.old) (D.seen disk.new) }
+    ensures done { D.tells → OnOk result ((D.seen disk.new).directory ≡ insert_all objects.now (D.seen disk.old).directory) }
+    ensures synced { D.tells → OnOk result (IsSynced (D.seen disk.new)) }
+    ensures calls { D.tells → OnOk result ((D.seen disk.old).moment + length objects.now ≤ (D.seen disk.new).moment) }
+    ensures no_memory { D.tells → IsErrOf result NoMemory → IsTakenBack (D.seen disk.old) (D.seen disk.new) }
+    ensures idle { objects.now ≡ [] → disk.new ≡ disk.old }
+    ensures cause { HasCause (D.faults disk.old) (D.faults disk.new) result }
+{
+    if objects.is_empty() {
+        return Ok(());
+    }
+    place_all(disk, objects)
 }
 
 // Removes these objects again, and syncs.

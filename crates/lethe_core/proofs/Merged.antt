@@ -141,7 +141,7 @@ module _ (old : View) (disk : Seen) (faults : ℕ) (levels : List (List Parts)) 
           (installed_for h s next.0 next.1 holds.remembers.coherent (stands_for config h old stands can.runs) (next.3 config h stands) next.2.installed) (behind told s next.0 next.1 holds next.2) tt
 
       pub merge_keeps : AreDrawn step.manifest.next made.left.items → length levels ≡ length old.levels → (Tells → (config : Fields) (h : History) → StandsNow config h old → GoesFrom old.state.next (λ c. IsKept config c h) old.disk disk)
-          → (Tells → old.disk.moment + length step.objects.items + 5 ≤ disk.moment) → old.faults ≤ faults → Keeps Tells old new None
+          → (Tells → old.disk.moment + length step.objects.items + 4 ≤ disk.moment) → old.faults ≤ faults → Keeps Tells old new None
       merge_keeps drawn count moments calls rise = record {
         sound = record {
           writable = writable_under old.state made.headers.items step from can.sound.writable;

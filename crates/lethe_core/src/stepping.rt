@@ -160,7 +160,7 @@ impl<D: Disk> Core<D> {
         ensures retired { self.new.retired ≡ self.old.retired }
         ensures flight { self.new.flight ≡ self.old.flight }
         ensures begun { self.new.begun ≡ self.old.begun }
-        ensures calls { D.tells → OnOk result ((D.seen self.old.disk).moment + length step.now.objects.items + 5 ≤ (D.seen self.new.disk).moment) }
+        ensures calls { D.tells → OnOk result ((D.seen self.old.disk).moment + length step.now.objects.items + 4 ≤ (D.seen self.new.disk).moment) }
         ensures later { D.tells → (D.seen self.old.disk).moment ≤ (D.seen self.new.disk).moment }
         ensures faults { D.faults self.old.disk ≤ D.faults self.new.disk }
     {

@@ -3,7 +3,7 @@ use Rattle.std.proofs.Common.{◌≡◌, ◌≤◌, ◌<◌, ◌+◌, ◌⊎◌,
 use Rattle.std.specs.Prelude.{Bool, true, false, ◌&&◌, if◌then◌else◌, is_none, nat_le, nat_lt}
 use Rattle.std.proofs.lemmas.Bool.{le-leb, le-ltb, lt-leb, lt-ltb}
 use Rattle.lethe_base.proofs.Histories.{after-push}
-use Rattle.lethe_base.specs.History.{History, after}
+use Rattle.lethe_base.specs.History.{History, State, after}
 use Rattle.lethe_base.specs.Limits.{max_place}
 use Rattle.lethe_base.specs.declared.call.Call.TheVariants.{Tick, Work}
 use Rattle.lethe_base.specs.declared.call.Did.TheVariants.{Done}
@@ -30,7 +30,7 @@ use Rattle.lethe_engine.proofs.Reasons.{IsTold, reason_told, unreadable_told}
 
 -- The tests
 
-four : Bool → Bool → Bool → Bool → Bool
+abbrev four : Bool → Bool → Bool → Bool → Bool
 four a b c d = a && b && c && d
 
 ends_false : (a b c : Bool) → four a b c false ≡ false
@@ -49,7 +49,7 @@ second_false false c d = refl
 second_false true c d = refl
 
 -- the jobs behind a tick, by whether it passed the tests
-face_if : View → List Name → Bool → Face
+abbrev face_if : View → List Name → Bool → Face
 face_if view retired passed = if passed then record { begun = view.begun; rounds = view.rounds + 1; flight = None; retired = retired } else face_of view
 
 module _ (view : View) (to : ℕ) where
@@ -187,7 +187,7 @@ module _ (Tells PortsFail : Type 0) (to : ℕ) (old new : View) (before first la
 -- What is gone
 
 ticked_clock : (h : History) (caller to : ℕ) → (after (with_done h caller (Tick to))).clock ≡ to
-ticked_clock h caller to = ap (λ state. state.clock) (after-push h (record { caller = caller; call = Tick to; did = Done }))
+ticked_clock h caller to = ap (λ (state : State). state.clock) (after-push h (record { caller = caller; call = Tick to; did = Done }))
 
 clean_gone : (threshold : ℕ) (view : View) (h : History) (time : ℕ) → IsClean threshold view.disk.directory h time → HoldsNothingErased threshold view.disk.directory h time
 clean_gone threshold view h time clean name bytes entries entry there spelled among put overdue =

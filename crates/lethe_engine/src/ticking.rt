@@ -15,7 +15,9 @@ ghost use Rattle.lethe_state.specs.Writable.{IsWritable};
 ghost use Rattle.lethe_core.specs.Asked.{Makes};
 ghost use Rattle.lethe_core.specs.Merges.{AreOutcomesBy, Outcome, due_choice, pages_of, retired_behind};
 ghost use Rattle.lethe_core.specs.Running.{Holds, IsSound};
+ghost use Rattle.lethe_core.specs.StandsNow.{StandsNow};
 ghost use Rattle.lethe_core.specs.View.{view_of};
+ghost use Rattle.lethe_tick.specs.Last.{HasLastStep};
 ghost use Rattle.lethe_tick.specs.Ripened.{IsRipened};
 ghost use Rattle.lethe_engine.specs.Answers.{Answers};
 ghost use Rattle.lethe_engine.specs.Gone.{HoldsNothingErased};
@@ -58,6 +60,11 @@ impl<D: Disk> Engine<D> {
         ensures gone { D.tells → (config : Fields) (opened : Opened) (h : History) → StandsFor config opened h (view_of self.old.core) → (caller : ℕ)
             → OnOk result (HoldsNothingErased config.threshold (D.seen self.new.core.disk).directory (with_done h caller (call.Tick to)) to) }
         ensures one_image { D.tells → OnOk result (IsSynced (D.seen self.new.core.disk)) }
+
+        // It is in its last step alone that a crash may leave what is kept for the history with the tick: up to there all that is due was carried out.
+        ensures last_step { D.tells → (config : Fields) (h : History) → (stands : StandsNow config h (view_of self.old.core))
+            → OnOk result ((ripe t : Stored) × (outcomes : List Outcome) × IsRipened to stands.stored ripe × AreOutcomesBy (due_choice to) ripe outcomes t
+            × HasLastStep config h t (D.seen self.old.core.disk) (D.seen self.new.core.disk)) }
 
         // The buffers were flushed where they had to be, then exactly the merges that were due were carried out, each page of their inputs fetched once, and the clock moved.
         ensures done { D.tells → (s : Stored) → Holds (view_of self.old.core) s

@@ -1,3 +1,4 @@
 pub mod Buffers
 pub mod Moving
 pub mod Ripe
+pub mod Last

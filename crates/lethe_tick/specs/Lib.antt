@@ -1,1 +1,2 @@
 pub mod Ripened
+pub mod Last

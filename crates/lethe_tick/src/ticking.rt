@@ -19,6 +19,7 @@ ghost use Rattle.lethe_core.specs.Running.{Holds, IsSound};
 ghost use Rattle.lethe_core.specs.StandsNow.{StandsNow};
 ghost use Rattle.lethe_core.specs.Steps.{IsDoneInPart};
 ghost use Rattle.lethe_core.specs.View.{view_of};
+ghost use Rattle.lethe_tick.specs.Last.{HasLastStep};
 ghost use Rattle.lethe_tick.specs.Ripened.{IsRipened, IsShortToTick, IsTickedInPart};
 
 use crate::clock::move_clock;
@@ -52,6 +53,10 @@ pub fn tick<D: Disk>(
         → StandsNow config (behind h caller (Makes (Tick to)) (result_err result)) (view_of core.new) }
     ensures any_moment { D.tells → (config : Fields) (h : History) → StandsNow config h (view_of core.old) → (caller : ℕ)
         → GoesFrom core.old.state.next (IsKeptOr config h (written_by caller (Makes (Tick to)) (result_err result))) (D.seen core.old.disk) (D.seen core.new.disk) }
+
+    // It is in its last step alone that a crash may leave what is kept for the history with the tick: up to there all that is due was carried out.
+    ensures last_step { D.tells → (config : Fields) (h : History) → (stands : StandsNow config h (view_of core.old))
+        → OnOk result ((ripe t : Stored) × (outcomes : List Outcome) × IsRipened to stands.stored ripe × AreOutcomesBy (due_choice to) ripe outcomes t × HasLastStep config h t (D.seen core.old.disk) (D.seen core.new.disk)) }
 
     // Acknowledged: the buffers were flushed where they had to be, then exactly the merges that were due were carried out, and the clock moved.
     ensures done { D.tells → (s : Stored) → Holds (view_of core.old) s

@@ -8,8 +8,11 @@ use Rattle.lethe_advance.proofs.Running.{absent_before, early_placed, early_exch
 use Rattle.lethe_advance.proofs.Running.{exchange_moments, present_again, removal_moments, removal_still, back_again, present_placed, clear_moments, settled_next, kept_next, gate_next}
 use Rattle.lethe_advance.proofs.advancing.advance.Goals as goal
 
-pub place_all-requires-after_bounds : goal.place_all-requires-after_bounds
-place_all-requires-after_bounds g c κs within = λ told.
+pub place_new-requires-clause-synced : goal.place_new-requires-clause-synced
+place_new-requires-clause-synced g c κs within = λ told. (c.requires.step told).4.settled.synced
+
+pub place_new-requires-clause-absent : goal.place_new-requires-clause-absent
+place_new-requires-clause-absent g c κs within = λ told.
     let asked = c.requires.step told in
     let s = asked.0 in
     let t = asked.1 in
@@ -23,15 +26,15 @@ place_all-requires-after_bounds g c κs within = λ told.
     let same = c.deref.ensures.value in
     absent_before s t loose left headers step s0 may objects same
 
-pub returns-in_err-place_all-clause-any_moment : goal.returns-in_err-place_all-clause-any_moment
-returns-in_err-place_all-clause-any_moment g c = λ told s t loose left may.
+pub returns-in_err-place_new-clause-any_moment : goal.returns-in_err-place_new-clause-any_moment
+returns-in_err-place_new-clause-any_moment g c = λ told s t loose left may.
     let s0 = g.D.Disk.seen c.args.disk.now in
     let headers = c.args.headers.items in
     let step = c.args.step.now in
     let objects = c.deref.result.now in
     let same = c.deref.ensures.value in
-    let s1 = g.D.Disk.seen c.place_all.new.disk in
-    let placing = c.place_all.ensures.any_moment told in
+    let s1 = g.D.Disk.seen c.place_new.new.disk in
+    let placing = c.place_new.ensures.any_moment told in
     place_moments s t loose left headers step s0 may objects same s1 placing
 
 pub exchange-requires-clause-present : goal.exchange-requires-clause-present
@@ -47,10 +50,10 @@ exchange-requires-clause-present g c κs within = λ told.
     let step = c.args.step.now in
     let objects = c.deref.result.now in
     let same = c.deref.ensures.value in
-    let s1 = g.D.Disk.seen c.place_all.new.disk in
-    let placing = c.place_all.ensures.any_moment told in
-    let synced = c.in_ok-place_all.ensures.synced told in
-    let done = c.in_ok-place_all.ensures.done told in
+    let s1 = g.D.Disk.seen c.place_new.new.disk in
+    let placing = c.place_new.ensures.any_moment told in
+    let synced = c.in_ok-place_new.ensures.synced told in
+    let done = c.in_ok-place_new.ensures.done told in
     pages_placed s t loose left headers step s0 may objects same s1 placing synced done
 
 pub exchange-requires-clause-free : goal.exchange-requires-clause-free
@@ -66,10 +69,10 @@ exchange-requires-clause-free g c κs within = λ told.
     let step = c.args.step.now in
     let objects = c.deref.result.now in
     let same = c.deref.ensures.value in
-    let s1 = g.D.Disk.seen c.place_all.new.disk in
-    let placing = c.place_all.ensures.any_moment told in
-    let synced = c.in_ok-place_all.ensures.synced told in
-    let done = c.in_ok-place_all.ensures.done told in
+    let s1 = g.D.Disk.seen c.place_new.new.disk in
+    let placing = c.place_new.ensures.any_moment told in
+    let synced = c.in_ok-place_new.ensures.synced told in
+    let done = c.in_ok-place_new.ensures.done told in
     free_placed s t loose left headers step s0 may objects same s1 placing synced done
 
 pub exchange-requires-clause-older : goal.exchange-requires-clause-older
@@ -85,10 +88,10 @@ exchange-requires-clause-older g c κs within = λ told.
     let step = c.args.step.now in
     let objects = c.deref.result.now in
     let same = c.deref.ensures.value in
-    let s1 = g.D.Disk.seen c.place_all.new.disk in
-    let placing = c.place_all.ensures.any_moment told in
-    let synced = c.in_ok-place_all.ensures.synced told in
-    let done = c.in_ok-place_all.ensures.done told in
+    let s1 = g.D.Disk.seen c.place_new.new.disk in
+    let placing = c.place_new.ensures.any_moment told in
+    let synced = c.in_ok-place_new.ensures.synced told in
+    let done = c.in_ok-place_new.ensures.done told in
     older_placed s t loose left headers step s0 may objects same s1 placing synced done
 
 pub clear-requires-after_bounds : goal.clear-requires-after_bounds
@@ -104,10 +107,10 @@ clear-requires-after_bounds g c κs within = λ told.
     let step = c.args.step.now in
     let objects = c.deref.result.now in
     let same = c.deref.ensures.value in
-    let s1 = g.D.Disk.seen c.place_all.new.disk in
-    let placing = c.place_all.ensures.any_moment told in
-    let synced = c.in_ok-place_all.ensures.synced told in
-    let done = c.in_ok-place_all.ensures.done told in
+    let s1 = g.D.Disk.seen c.place_new.new.disk in
+    let placing = c.place_new.ensures.any_moment told in
+    let synced = c.in_ok-place_new.ensures.synced told in
+    let done = c.in_ok-place_new.ensures.done told in
     let s2 = g.D.Disk.seen c.exchange.new.disk in
     let exchanging = exchanges_from s t loose left headers step s0 may s1 s2 (c.exchange.ensures.any_moment told) in
     let new = c.in-Ok.ensures.new told in
@@ -123,10 +126,10 @@ returns-in_err-clear-in-Ok-clause-any_moment g c = λ told s t loose left may.
     let step = c.args.step.now in
     let objects = c.deref.result.now in
     let same = c.deref.ensures.value in
-    let s1 = g.D.Disk.seen c.place_all.new.disk in
-    let placing = c.place_all.ensures.any_moment told in
-    let synced = c.in_ok-place_all.ensures.synced told in
-    let done = c.in_ok-place_all.ensures.done told in
+    let s1 = g.D.Disk.seen c.place_new.new.disk in
+    let placing = c.place_new.ensures.any_moment told in
+    let synced = c.in_ok-place_new.ensures.synced told in
+    let done = c.in_ok-place_new.ensures.done told in
     let s2 = g.D.Disk.seen c.exchange.new.disk in
     let exchanging = exchanges_from s t loose left headers step s0 may s1 s2 (c.exchange.ensures.any_moment told) in
     let new = c.in-Ok.ensures.new told in
@@ -150,10 +153,10 @@ take_back-requires-after_bounds g c κs within = λ told.
     let step = c.args.step.now in
     let objects = c.deref.result.now in
     let same = c.deref.ensures.value in
-    let s1 = g.D.Disk.seen c.place_all.new.disk in
-    let placing = c.place_all.ensures.any_moment told in
-    let synced = c.in_ok-place_all.ensures.synced told in
-    let done = c.in_ok-place_all.ensures.done told in
+    let s1 = g.D.Disk.seen c.place_new.new.disk in
+    let placing = c.place_new.ensures.any_moment told in
+    let synced = c.in_ok-place_new.ensures.synced told in
+    let done = c.in_ok-place_new.ensures.done told in
     let s2 = g.D.Disk.seen c.exchange.new.disk in
     let exchanging = exchanges_from s t loose left headers step s0 may s1 s2 (c.exchange.ensures.any_moment told) in
     let back = c.exchange.ensures.no_memory told (c.in-Err-NoMemory.is ∙ ap (λ e. Err e) c.in-Err-NoMemory.field-0-is) in
@@ -166,10 +169,10 @@ returns-in_err-take_back-in-Err-NoMemory-clause-any_moment g c = λ told s t loo
     let step = c.args.step.now in
     let objects = c.deref.result.now in
     let same = c.deref.ensures.value in
-    let s1 = g.D.Disk.seen c.place_all.new.disk in
-    let placing = c.place_all.ensures.any_moment told in
-    let synced = c.in_ok-place_all.ensures.synced told in
-    let done = c.in_ok-place_all.ensures.done told in
+    let s1 = g.D.Disk.seen c.place_new.new.disk in
+    let placing = c.place_new.ensures.any_moment told in
+    let synced = c.in_ok-place_new.ensures.synced told in
+    let done = c.in_ok-place_new.ensures.done told in
     let s2 = g.D.Disk.seen c.exchange.new.disk in
     let exchanging = exchanges_from s t loose left headers step s0 may s1 s2 (c.exchange.ensures.any_moment told) in
     let back = c.exchange.ensures.no_memory told (c.in-Err-NoMemory.is ∙ ap (λ e. Err e) c.in-Err-NoMemory.field-0-is) in
@@ -185,10 +188,10 @@ returns-in_ok-clear-in-Ok-clause-any_moment g c = λ told s t loose left may.
     let step = c.args.step.now in
     let objects = c.deref.result.now in
     let same = c.deref.ensures.value in
-    let s1 = g.D.Disk.seen c.place_all.new.disk in
-    let placing = c.place_all.ensures.any_moment told in
-    let synced = c.in_ok-place_all.ensures.synced told in
-    let done = c.in_ok-place_all.ensures.done told in
+    let s1 = g.D.Disk.seen c.place_new.new.disk in
+    let placing = c.place_new.ensures.any_moment told in
+    let synced = c.in_ok-place_new.ensures.synced told in
+    let done = c.in_ok-place_new.ensures.done told in
     let s2 = g.D.Disk.seen c.exchange.new.disk in
     let exchanging = exchanges_from s t loose left headers step s0 may s1 s2 (c.exchange.ensures.any_moment told) in
     let new = c.in-Ok.ensures.new told in
@@ -206,10 +209,10 @@ returns-in_ok-clear-in-Ok-clause-done g c = λ told s t loose left may.
     let step = c.args.step.now in
     let objects = c.deref.result.now in
     let same = c.deref.ensures.value in
-    let s1 = g.D.Disk.seen c.place_all.new.disk in
-    let placing = c.place_all.ensures.any_moment told in
-    let synced = c.in_ok-place_all.ensures.synced told in
-    let done = c.in_ok-place_all.ensures.done told in
+    let s1 = g.D.Disk.seen c.place_new.new.disk in
+    let placing = c.place_new.ensures.any_moment told in
+    let synced = c.in_ok-place_new.ensures.synced told in
+    let done = c.in_ok-place_new.ensures.done told in
     let s2 = g.D.Disk.seen c.exchange.new.disk in
     let exchanging = exchanges_from s t loose left headers step s0 may s1 s2 (c.exchange.ensures.any_moment told) in
     let new = c.in-Ok.ensures.new told in
@@ -228,10 +231,10 @@ returns-in_ok-clear-in-Ok-clause-kept g c = λ told s t loose left may.
     let step = c.args.step.now in
     let objects = c.deref.result.now in
     let same = c.deref.ensures.value in
-    let s1 = g.D.Disk.seen c.place_all.new.disk in
-    let placing = c.place_all.ensures.any_moment told in
-    let synced = c.in_ok-place_all.ensures.synced told in
-    let done = c.in_ok-place_all.ensures.done told in
+    let s1 = g.D.Disk.seen c.place_new.new.disk in
+    let placing = c.place_new.ensures.any_moment told in
+    let synced = c.in_ok-place_new.ensures.synced told in
+    let done = c.in_ok-place_new.ensures.done told in
     let s2 = g.D.Disk.seen c.exchange.new.disk in
     let exchanging = exchanges_from s t loose left headers step s0 may s1 s2 (c.exchange.ensures.any_moment told) in
     let new = c.in-Ok.ensures.new told in
@@ -249,10 +252,10 @@ returns-in_ok-clear-in-Ok-clause-files g c = λ told s t loose left may has.
     let step = c.args.step.now in
     let objects = c.deref.result.now in
     let same = c.deref.ensures.value in
-    let s1 = g.D.Disk.seen c.place_all.new.disk in
-    let placing = c.place_all.ensures.any_moment told in
-    let synced = c.in_ok-place_all.ensures.synced told in
-    let done = c.in_ok-place_all.ensures.done told in
+    let s1 = g.D.Disk.seen c.place_new.new.disk in
+    let placing = c.place_new.ensures.any_moment told in
+    let synced = c.in_ok-place_new.ensures.synced told in
+    let done = c.in_ok-place_new.ensures.done told in
     let old = parts_by_level c.args.version.now in
     let new = parts_by_level c.in-Ok.next in
     let made = subst (λ added. AreLevelsWith step.merged.items added old new) (opened_placed s t loose left headers step s0 may objects same s1 placing synced done) (c.in-Ok.ensures.files told) in
@@ -265,10 +268,10 @@ returns-in-Err-Failed-clause-any_moment g c = λ told s t loose left may.
     let step = c.args.step.now in
     let objects = c.deref.result.now in
     let same = c.deref.ensures.value in
-    let s1 = g.D.Disk.seen c.place_all.new.disk in
-    let placing = c.place_all.ensures.any_moment told in
-    let synced = c.in_ok-place_all.ensures.synced told in
-    let done = c.in_ok-place_all.ensures.done told in
+    let s1 = g.D.Disk.seen c.place_new.new.disk in
+    let placing = c.place_new.ensures.any_moment told in
+    let synced = c.in_ok-place_new.ensures.synced told in
+    let done = c.in_ok-place_new.ensures.done told in
     let s2 = g.D.Disk.seen c.exchange.new.disk in
     let exchanging = exchanges_from s t loose left headers step s0 may s1 s2 (c.exchange.ensures.any_moment told) in
     exchange_moments s t loose left headers step s0 may objects same s1 placing synced done s2 exchanging
@@ -280,10 +283,10 @@ returns-in_ok-take_back-in-Err-NoMemory-clause-any_moment g c = λ told s t loos
     let step = c.args.step.now in
     let objects = c.deref.result.now in
     let same = c.deref.ensures.value in
-    let s1 = g.D.Disk.seen c.place_all.new.disk in
-    let placing = c.place_all.ensures.any_moment told in
-    let synced = c.in_ok-place_all.ensures.synced told in
-    let done = c.in_ok-place_all.ensures.done told in
+    let s1 = g.D.Disk.seen c.place_new.new.disk in
+    let placing = c.place_new.ensures.any_moment told in
+    let synced = c.in_ok-place_new.ensures.synced told in
+    let done = c.in_ok-place_new.ensures.done told in
     let s2 = g.D.Disk.seen c.exchange.new.disk in
     let exchanging = exchanges_from s t loose left headers step s0 may s1 s2 (c.exchange.ensures.any_moment told) in
     let back = c.exchange.ensures.no_memory told (c.in-Err-NoMemory.is ∙ ap (λ e. Err e) c.in-Err-NoMemory.field-0-is) in
@@ -305,10 +308,10 @@ returns-in_ok-take_back-in-Err-NoMemory-clause-no_memory g c = λ told refused.
     let step = c.args.step.now in
     let objects = c.deref.result.now in
     let same = c.deref.ensures.value in
-    let s1 = g.D.Disk.seen c.place_all.new.disk in
-    let placing = c.place_all.ensures.any_moment told in
-    let synced = c.in_ok-place_all.ensures.synced told in
-    let done = c.in_ok-place_all.ensures.done told in
+    let s1 = g.D.Disk.seen c.place_new.new.disk in
+    let placing = c.place_new.ensures.any_moment told in
+    let synced = c.in_ok-place_new.ensures.synced told in
+    let done = c.in_ok-place_new.ensures.done told in
     let s2 = g.D.Disk.seen c.exchange.new.disk in
     let exchanging = exchanges_from s t loose left headers step s0 may s1 s2 (c.exchange.ensures.any_moment told) in
     let back = c.exchange.ensures.no_memory told (c.in-Err-NoMemory.is ∙ ap (λ e. Err e) c.in-Err-NoMemory.field-0-is) in
@@ -318,13 +321,13 @@ returns-in_ok-take_back-in-Err-NoMemory-clause-no_memory g c = λ told refused.
     let here = (g.met.D.Disk g.world.𝓛 g.world.𝓜 g.world.𝓡 ((λ s x. x), (λ x. x), (λ x. x), λ x. x)).itself told c.args.disk.now in
     back_again s t loose left headers step s0 may objects same s1 placing synced done s2 exchanging back s3 here removed (c.in_ok-take_back-in-Err-NoMemory.ensures.synced told)
 
-pub returns-in_err-place_all-clause-early : goal.returns-in_err-place_all-clause-early
-returns-in_err-place_all-clause-early g c = λ told s t loose left may moment d low high few there.
+pub returns-in_err-place_new-clause-early : goal.returns-in_err-place_new-clause-early
+returns-in_err-place_new-clause-early g c = λ told s t loose left may moment d low high few there.
     let s0 = g.D.Disk.seen c.args.disk.now in
     let headers = c.args.headers.items in
     let step = c.args.step.now in
-    let s1 = g.D.Disk.seen c.place_all.new.disk in
-    let placing = c.place_all.ensures.any_moment told in
+    let s1 = g.D.Disk.seen c.place_new.new.disk in
+    let placing = c.place_new.ensures.any_moment told in
     early_placed s t loose left headers step s0 may c.deref.result.now c.deref.ensures.value s1 placing moment d low high there
 
 pub returns-in-Err-Failed-clause-early : goal.returns-in-Err-Failed-clause-early
@@ -332,10 +335,10 @@ returns-in-Err-Failed-clause-early g c = λ told s t loose left may moment d low
     let s0 = g.D.Disk.seen c.args.disk.now in
     let headers = c.args.headers.items in
     let step = c.args.step.now in
-    let s1 = g.D.Disk.seen c.place_all.new.disk in
-    let placing = c.place_all.ensures.any_moment told in
+    let s1 = g.D.Disk.seen c.place_new.new.disk in
+    let placing = c.place_new.ensures.any_moment told in
     let s2 = g.D.Disk.seen c.exchange.new.disk in
-    let calls = c.in_ok-place_all.ensures.calls told in
+    let calls = c.in_ok-place_new.ensures.calls told in
     early_exchanged s t loose left headers step s0 may c.deref.result.now c.deref.ensures.value s1 placing calls _ s2 (c.exchange.ensures.any_moment told) moment d low few there
 
 pub returns-in_err-clear-in-Ok-clause-early : goal.returns-in_err-clear-in-Ok-clause-early
@@ -343,10 +346,10 @@ returns-in_err-clear-in-Ok-clause-early g c = λ told s t loose left may moment 
     let s0 = g.D.Disk.seen c.args.disk.now in
     let headers = c.args.headers.items in
     let step = c.args.step.now in
-    let s1 = g.D.Disk.seen c.place_all.new.disk in
-    let placing = c.place_all.ensures.any_moment told in
+    let s1 = g.D.Disk.seen c.place_new.new.disk in
+    let placing = c.place_new.ensures.any_moment told in
     let s2 = g.D.Disk.seen c.exchange.new.disk in
-    let calls = c.in_ok-place_all.ensures.calls told in
+    let calls = c.in_ok-place_new.ensures.calls told in
     early_behind s t loose left headers step s0 may c.deref.result.now c.deref.ensures.value s1 placing calls _ s2 (c.exchange.ensures.any_moment told) _ (g.D.Disk.seen c.clear.new.disk) (c.clear.ensures.any_moment told) moment d low few there
 
 pub returns-in_ok-clear-in-Ok-clause-early : goal.returns-in_ok-clear-in-Ok-clause-early
@@ -354,10 +357,10 @@ returns-in_ok-clear-in-Ok-clause-early g c = λ told s t loose left may moment d
     let s0 = g.D.Disk.seen c.args.disk.now in
     let headers = c.args.headers.items in
     let step = c.args.step.now in
-    let s1 = g.D.Disk.seen c.place_all.new.disk in
-    let placing = c.place_all.ensures.any_moment told in
+    let s1 = g.D.Disk.seen c.place_new.new.disk in
+    let placing = c.place_new.ensures.any_moment told in
     let s2 = g.D.Disk.seen c.exchange.new.disk in
-    let calls = c.in_ok-place_all.ensures.calls told in
+    let calls = c.in_ok-place_new.ensures.calls told in
     early_behind s t loose left headers step s0 may c.deref.result.now c.deref.ensures.value s1 placing calls _ s2 (c.exchange.ensures.any_moment told) _ (g.D.Disk.seen c.clear.new.disk) (c.clear.ensures.any_moment told) moment d low few there
 
 pub returns-in_err-take_back-in-Err-NoMemory-clause-early : goal.returns-in_err-take_back-in-Err-NoMemory-clause-early
@@ -365,10 +368,10 @@ returns-in_err-take_back-in-Err-NoMemory-clause-early g c = λ told s t loose le
     let s0 = g.D.Disk.seen c.args.disk.now in
     let headers = c.args.headers.items in
     let step = c.args.step.now in
-    let s1 = g.D.Disk.seen c.place_all.new.disk in
-    let placing = c.place_all.ensures.any_moment told in
+    let s1 = g.D.Disk.seen c.place_new.new.disk in
+    let placing = c.place_new.ensures.any_moment told in
     let s2 = g.D.Disk.seen c.exchange.new.disk in
-    let calls = c.in_ok-place_all.ensures.calls told in
+    let calls = c.in_ok-place_new.ensures.calls told in
     early_behind s t loose left headers step s0 may c.deref.result.now c.deref.ensures.value s1 placing calls _ s2 (c.exchange.ensures.any_moment told) _ (g.D.Disk.seen c.take_back.new.disk) (c.take_back.ensures.any_moment told) moment d low few there
 
 pub returns-in_ok-take_back-in-Err-NoMemory-clause-early : goal.returns-in_ok-take_back-in-Err-NoMemory-clause-early
@@ -376,21 +379,21 @@ returns-in_ok-take_back-in-Err-NoMemory-clause-early g c = λ told s t loose lef
     let s0 = g.D.Disk.seen c.args.disk.now in
     let headers = c.args.headers.items in
     let step = c.args.step.now in
-    let s1 = g.D.Disk.seen c.place_all.new.disk in
-    let placing = c.place_all.ensures.any_moment told in
+    let s1 = g.D.Disk.seen c.place_new.new.disk in
+    let placing = c.place_new.ensures.any_moment told in
     let s2 = g.D.Disk.seen c.exchange.new.disk in
-    let calls = c.in_ok-place_all.ensures.calls told in
+    let calls = c.in_ok-place_new.ensures.calls told in
     early_behind s t loose left headers step s0 may c.deref.result.now c.deref.ensures.value s1 placing calls _ s2 (c.exchange.ensures.any_moment told) _ (g.D.Disk.seen c.take_back.new.disk) (c.take_back.ensures.any_moment told) moment d low few there
 
-pub returns-in_err-place_all-clause-unmoved : goal.returns-in_err-place_all-clause-unmoved
-returns-in_err-place_all-clause-unmoved g c = λ told s t loose left may refused.
+pub returns-in_err-place_new-clause-unmoved : goal.returns-in_err-place_new-clause-unmoved
+returns-in_err-place_new-clause-unmoved g c = λ told s t loose left may refused.
     let s0 = g.D.Disk.seen c.args.disk.now in
     let headers = c.args.headers.items in
     let step = c.args.step.now in
     let objects = c.deref.result.now in
     let same = c.deref.ensures.value in
-    let s1 = g.D.Disk.seen c.place_all.new.disk in
-    let placing = c.place_all.ensures.any_moment told in
+    let s1 = g.D.Disk.seen c.place_new.new.disk in
+    let placing = c.place_new.ensures.any_moment told in
     place_still s t loose left headers step s0 may objects same s1 placing
 
 pub returns-in_err-take_back-in-Err-NoMemory-clause-unmoved : goal.returns-in_err-take_back-in-Err-NoMemory-clause-unmoved
@@ -400,10 +403,10 @@ returns-in_err-take_back-in-Err-NoMemory-clause-unmoved g c = λ told s t loose 
     let step = c.args.step.now in
     let objects = c.deref.result.now in
     let same = c.deref.ensures.value in
-    let s1 = g.D.Disk.seen c.place_all.new.disk in
-    let placing = c.place_all.ensures.any_moment told in
-    let synced = c.in_ok-place_all.ensures.synced told in
-    let done = c.in_ok-place_all.ensures.done told in
+    let s1 = g.D.Disk.seen c.place_new.new.disk in
+    let placing = c.place_new.ensures.any_moment told in
+    let synced = c.in_ok-place_new.ensures.synced told in
+    let done = c.in_ok-place_new.ensures.done told in
     let s2 = g.D.Disk.seen c.exchange.new.disk in
     let exchanging = exchanges_from s t loose left headers step s0 may s1 s2 (c.exchange.ensures.any_moment told) in
     let is = c.in-Err-NoMemory.is ∙ ap (λ e. Err e) c.in-Err-NoMemory.field-0-is in
@@ -420,10 +423,10 @@ returns-in_ok-take_back-in-Err-NoMemory-clause-unmoved g c = λ told s t loose l
     let step = c.args.step.now in
     let objects = c.deref.result.now in
     let same = c.deref.ensures.value in
-    let s1 = g.D.Disk.seen c.place_all.new.disk in
-    let placing = c.place_all.ensures.any_moment told in
-    let synced = c.in_ok-place_all.ensures.synced told in
-    let done = c.in_ok-place_all.ensures.done told in
+    let s1 = g.D.Disk.seen c.place_new.new.disk in
+    let placing = c.place_new.ensures.any_moment told in
+    let synced = c.in_ok-place_new.ensures.synced told in
+    let done = c.in_ok-place_new.ensures.done told in
     let s2 = g.D.Disk.seen c.exchange.new.disk in
     let exchanging = exchanges_from s t loose left headers step s0 may s1 s2 (c.exchange.ensures.any_moment told) in
     let is = c.in-Err-NoMemory.is ∙ ap (λ e. Err e) c.in-Err-NoMemory.field-0-is in
@@ -440,10 +443,10 @@ returns-in_ok-clear-in-Ok-clause-gate g c = λ told s t loose left may.
     let step = c.args.step.now in
     let objects = c.deref.result.now in
     let same = c.deref.ensures.value in
-    let s1 = g.D.Disk.seen c.place_all.new.disk in
-    let placing = c.place_all.ensures.any_moment told in
-    let synced = c.in_ok-place_all.ensures.synced told in
-    let done = c.in_ok-place_all.ensures.done told in
+    let s1 = g.D.Disk.seen c.place_new.new.disk in
+    let placing = c.place_new.ensures.any_moment told in
+    let synced = c.in_ok-place_new.ensures.synced told in
+    let done = c.in_ok-place_new.ensures.done told in
     let s2 = g.D.Disk.seen c.exchange.new.disk in
     let exchanging = exchanges_from s t loose left headers step s0 may s1 s2 (c.exchange.ensures.any_moment told) in
     let new = c.in-Ok.ensures.new told in

@@ -19,9 +19,11 @@ use Rattle.lethe_core.specs.Steps.{IsDoneInPart, IsUndone}
 use Rattle.lethe_core.specs.View.{view_of}
 use Rattle.lethe_core.proofs.Behind.{next_may, reason_behind}
 use Rattle.lethe_core.proofs.Likes.{before_holds, jobs_same}
-use Rattle.lethe_core.proofs.Standing.{moments_or}
+use Rattle.lethe_core.proofs.Standing.{moments_or, stands_holds}
+use Rattle.lethe_tick.specs.Last.{HasLastStep}
 use Rattle.lethe_tick.specs.Ripened.{IsRipened, IsShortToTick, IsTickedInPart}
 use Rattle.lethe_tick.proofs.Buffers.{if_both, reason_told}
+use Rattle.lethe_tick.proofs.Last.{last_step}
 use Rattle.lethe_tick.proofs.Ripe.{all_some, due_nothing, stands_then, time_forward}
 use Rattle.lethe_tick.proofs.ticking.tick.Goals as goal
 
@@ -102,6 +104,27 @@ returns-clause-any_moment g c = λ told config h stands caller.
     goes_from_then (IsKeptOr config h change) old.state.next mid.state.next old.disk mid.disk new.disk (moments_or config h change old.state.next old.disk mid.disk (keeps.any_moment told config h stands)) (keeps.numbers told)
     (c.move_clock.ensures.any_moment told config h (stands_then tells old mid c.args.before c.args.to may forward keeps done told config h stands)
     (time_forward tells old mid c.args.before c.args.to may forward keeps done told config h stands) (due_nothing tells old mid c.args.before c.args.to may forward keeps done told config h stands) caller)
+
+pub returns-clause-last_step : goal.returns-clause-last_step
+returns-clause-last_step g c = λ told config h stands.
+    let old = view_of c.args.core.now in
+    let mid = view_of c.ripen_store.new.core in
+    let new = view_of c.move_clock.new.core in
+    let s = stands.stored in
+    let tells = g.D.Disk.tells in
+    let may = c.requires.may in
+    let forward = c.requires.forward in
+    let keeps = c.in_ok-ripen_store.ensures.keeps in
+    let is = c.in_ok-ripen_store.ensures.done told s (stands_holds config h old stands may.runs) in
+    let done : tells → (s : Stored) → Holds old s → (ripe t : Stored) × (outcomes : List Outcome) × IsRipened c.args.to s ripe × AreOutcomesBy (due_choice c.args.to) ripe outcomes t × Holds mid t =
+    λ told s holds. let is = c.in_ok-ripen_store.ensures.done told s holds in (is.0, is.1, is.2, is.3, is.4, is.5) in
+    let change = written_by 0 (Makes (Tick c.args.to)) (result_err c.move_clock.result) in
+    let moved = c.move_clock.ensures.any_moment told config h (stands_then tells old mid c.args.before c.args.to may forward keeps done told config h stands)
+    (time_forward tells old mid c.args.before c.args.to may forward keeps done told config h stands) (due_nothing tells old mid c.args.before c.args.to may forward keeps done told config h stands) 0 in
+    on_ok c.move_clock.result (Holds new (ticked is.1 c.args.to mid.state.next))
+    ((ripe t : Stored) × (outcomes : List Outcome) × IsRipened c.args.to s ripe × AreOutcomesBy (due_choice c.args.to) ripe outcomes t × HasLastStep config h t old.disk new.disk)
+    (c.move_clock.ensures.done told is.1 is.5)
+    (λ holds. (is.0, is.1, is.2, is.3, is.4, last_step config h is.1 mid old.disk new.disk (IsKeptOr config h change) is.5 (keeps.any_moment told config h stands).goes moved.goes))
 
 pub returns-clause-done : goal.returns-clause-done
 returns-clause-done g c = λ told s holds.

@@ -1,11 +1,11 @@
 use Rattle.std.proofs.Common.{rules, ◌≡◌, ◌+◌, ◌⊎◌, ℕ, List, Some, None, Result, Ok, Err, refl, sym, ap, ◌∙◌, subst}
-use Rattle.std.specs.Prelude.{IfErr, IfSome, true}
+use Rattle.std.specs.Prelude.{IfErr, option_map}
 use Rattle.std.specs.Result.{result_err}
 use Rattle.lethe_base.specs.declared.call.Call.TheVariants as call
 use Rattle.lethe_base.specs.declared.refused.Refused.{Refused}
 use Rattle.lethe_core.specs.Asked.{Makes}
 use Rattle.lethe_core.specs.Reasons.{HasReason, IsUnreadable}
-use Rattle.lethe_core.specs.View.{View, face_of, view_of}
+use Rattle.lethe_core.specs.View.{View, face_of, flying_of, view_of}
 use Rattle.lethe_tick.specs.Ripened.{IsShortToTick, IsTickedInPart}
 use Rattle.lethe_engine.specs.Answers.{Answers}
 use Rattle.lethe_engine.specs.Ticks.{HasReasonOfTick, passes, ticked_face}
@@ -58,15 +58,15 @@ returns-in_err-tick-clause-answers g c =
     let first = g.D.Disk.port_faults c.args.port.now in
     let last = g.D.Disk.port_faults c.tick.new.port in
     let is = c.in_err-tick.ensures in
-    let begun = is.begun in
-    let face = ticked_now old to new (passes_all old to may.0 may.1 may.2 may.3) (λ i. (begun i).jobs.count) (λ i. (begun i).rounds) is.free in
+    let all = c.tick.ensures in
+    let face = ticked_now old to new (passes_all old to may.0 may.1 may.2 may.3) (λ i. (all.begun i).jobs.count) (λ i. (all.begun i).rounds) (λ i. option_map flying_of (all.free i)) in
     let told = tick_told tells g.D.Disk.ports_fail to old new c.faults-before.result first last may.0 c.faults-before.ensures why is.why in
     subst (λ (r : Result Ticked Refused). Answers tells (Makes (call.Tick to)) (result_err r) (ticked_face old to new.retired) old new) (sym refusal)
     (subst (λ face. Answers tells (Makes (call.Tick to)) (Some why) face old new) face
-    (made_answers tells (call.Tick to) (tick_works to) old may.0 new (Some why) is.sound is.count is.stopped
+    (made_answers tells (call.Tick to) (tick_works to) old may.0 new (Some why) all.sound is.count is.stopped
     (λ told config h caller before. is.stands told config h (stands_in_round old (old.rounds + 1) config h before) caller)
     (λ told config h caller before. is.any_moment told config h (stands_in_round old (old.rounds + 1) config h before) caller)
-    is.numbers is.faults told
+    all.numbers all.faults told
     ((λ ready. absurd ready), partly_in_round old (old.rounds + 1) tells (IsTickedInPart to) new why is.partly)))
 
 pub returns-in_err-tick-clause-why : goal.returns-in_err-tick-clause-why
@@ -92,13 +92,13 @@ returns-clause-answers g c =
     let tells = g.D.Disk.tells in
     let may = c.in_ok-may_tick.ensures.may in
     let is = c.in_ok-tick.ensures in
-    let begun = is.begun in
-    let face = ticked_now old to new (passes_all old to may.0 may.1 may.2 may.3) (λ i. (begun i).jobs.count) (λ i. (begun i).rounds) is.free in
+    let all = c.tick.ensures in
+    let face = ticked_now old to new (passes_all old to may.0 may.1 may.2 may.3) (λ i. (all.begun i).jobs.count) (λ i. (all.begun i).rounds) (λ i. option_map flying_of (all.free i)) in
     subst (λ face. Answers tells (Makes (call.Tick to)) None face old new) face
-    (made_answers tells (call.Tick to) (tick_works to) old may.0 new None is.sound is.count is.stopped
+    (made_answers tells (call.Tick to) (tick_works to) old may.0 new None all.sound is.count is.stopped
     (λ told config h caller before. is.stands told config h (stands_in_round old (old.rounds + 1) config h before) caller)
     (λ told config h caller before. is.any_moment told config h (stands_in_round old (old.rounds + 1) config h before) caller)
-    is.numbers is.faults tt tt)
+    all.numbers all.faults tt tt)
 
 pub returns-clause-gone : goal.returns-clause-gone
 returns-clause-gone g c = λ told config opened h stands caller.
@@ -111,10 +111,15 @@ pub returns-clause-one_image : goal.returns-clause-one_image
 returns-clause-one_image g c = λ told.
     let may = c.in_ok-may_tick.ensures.may in
     let is = c.in_ok-tick.ensures in
-    let held = is.sound.held told in
+    let held = c.tick.ensures.sound.held told in
     (held.2 (is.stopped ∙ may.0)).settled.synced
 
 pub returns-clause-done : goal.returns-clause-done
 returns-clause-done g c = λ told s holds.
     let old = view_of c.args.self.now.core in
     c.in_ok-tick.ensures.done told s (holds_in_round old (old.rounds + 1) s holds)
+
+pub returns-clause-last_step : goal.returns-clause-last_step
+returns-clause-last_step g c = λ told config h stands.
+    let old = view_of c.args.self.now.core in
+    c.in_ok-tick.ensures.last_step told config h (stands_in_round old (old.rounds + 1) config h stands)
