@@ -1,5 +1,5 @@
 -- A job at work, where one page more is written, where it is installed and where it is given up.
-use Rattle.std.proofs.Common.{◌≡◌, ◌≤◌, ◌<◌, ℕ, ◌+◌, ◌-◌, ◌^◌, List, [], ◌∷◌, ◌++◌, length, get_or, take, Option, Some, None, Vec, Result, Ok, Err, refl, sym, ap, ◌∙◌, subst, append-nil, length-append, drop-cons, arith}
+use Rattle.std.proofs.Common.{◌≡◌, ◌≤◌, ◌<◌, ℕ, ◌+◌, ◌-◌, List, [], ◌∷◌, ◌++◌, length, get_or, take, Option, Some, None, Vec, Result, Ok, Err, refl, sym, ap, ◌∙◌, subst, append-nil, length-append, drop-cons, arith}
 use Rattle.std.specs.Prelude.{IfSome, IsSome, OnOk, option_map, sum_by}
 use Rattle.std.specs.Option.{option_map_or}
 use Rattle.std.specs.List.{zip}
@@ -17,7 +17,6 @@ use Rattle.lethe_disk.specs.declared.disk.Disk.{Ghosts}
 use Rattle.lethe_stored.specs.Stored.{Stored}
 use Rattle.lethe_advance.specs.Settled.{AreDrawn, names_in}
 use Rattle.lethe_flush.specs.Made.{pages_in, written_pages}
-use Rattle.lethe_flush.proofs.Adding.{pages_few}
 use Rattle.lethe_flush.proofs.Zips.{zip_cut, zip_joined}
 use Rattle.lethe_job.specs.Jobs.{AreOutputs, next_bytes}
 use Rattle.lethe_job.specs.Tasks.{PlainTask, plain_task}

@@ -148,11 +148,11 @@ module _ (view : View) (rounds : ℕ) where
     held = λ told. let held = is.held told in (held.0, held.1, λ runs. running_in_round held.0 (held.2 runs));
   }
 
-  open_in_round : (config : Fields) (h : History) (s : Stored) (stopped : Option ℕ) → IsOpenOrStopped config view h s stopped → IsOpenOrStopped config (in_round view rounds) h s stopped
+  pub open_in_round : (config : Fields) (h : History) (s : Stored) (stopped : Option ℕ) → IsOpenOrStopped config view h s stopped → IsOpenOrStopped config (in_round view rounds) h s stopped
   open_in_round config h s None is = (is.0, running_in_round s is.1)
   open_in_round config h s (Some at) is = is
 
-  pub stands_in_round : (config : Fields) (h : History) → StandsNow config h view → StandsNow config h (in_round view rounds)
+  abbrev pub stands_in_round : (config : Fields) (h : History) → StandsNow config h view → StandsNow config h (in_round view rounds)
   stands_in_round config h is = record {
     legal = is.legal;
     count = is.count;
@@ -202,41 +202,6 @@ ticked_gone config h caller to view stands runs =
 pub tick_works : (to : ℕ) → Tick to ≡ Work → ⊥
 tick_works to e = cc
 
--- which refusal it is
-
-module _ (view : View) (to : ℕ) where
-  pub why_stopped : (why : Refused) → MayRefuseTick view to why → (at : ℕ) → view.state.stopped ≡ Some at → why ≡ Stopped at
-  why_stopped (Stopped other) is at e = let same : Some other ≡ Some at = sym is ∙ e in cc
-  why_stopped (Backwards clock) is at e = let clash : None ≡ Some at = sym is.0 ∙ e in absurd cc
-  why_stopped (Exhausted last) is at e = let clash : None ≡ Some at = sym is.0 ∙ e in absurd cc
-  why_stopped (Fault place before after) is at e = absurd is
-  why_stopped (Pinned pin limit) is at e = absurd is
-  why_stopped NothingDue is at e = absurd is
-  why_stopped (Cancelled begun now) is at e = absurd is
-  why_stopped (ReadFault before after) is at e = absurd is
-  why_stopped NoMemory is at e = absurd is
-  why_stopped (Damaged name) is at e = absurd is
-
-  pub why_backwards : (why : Refused) → MayRefuseTick view to why → view.state.stopped ≡ None → to < view.state.manifest.clock → why ≡ Backwards view.state.manifest.clock
-  why_backwards (Stopped other) is runs behind = let clash : Some other ≡ None = sym is ∙ runs in absurd cc
-  why_backwards (Backwards clock) is runs behind = ap (λ clock. Backwards clock) is.2
-  why_backwards (Exhausted last) is runs behind = let forward = is.1 in absurd (omega (arith, forward, behind))
-  why_backwards (Fault place before after) is runs behind = absurd is
-  why_backwards (Pinned pin limit) is runs behind = absurd is
-  why_backwards NothingDue is runs behind = absurd is
-  why_backwards (Cancelled begun now) is runs behind = absurd is
-  why_backwards (ReadFault before after) is runs behind = absurd is
-  why_backwards NoMemory is runs behind = absurd is
-  why_backwards (Damaged name) is runs behind = absurd is
-
-  pub why_exhausted : (why : Refused) → MayRefuseTick view to why → view.state.stopped ≡ None → view.state.manifest.clock ≤ to → why ≡ Exhausted max_place
-  why_exhausted (Stopped other) is runs forward = let clash : Some other ≡ None = sym is ∙ runs in absurd cc
-  why_exhausted (Backwards clock) is runs forward = let behind = is.1 in absurd (omega (arith, forward, behind))
-  why_exhausted (Exhausted last) is runs forward = ap (λ last. Exhausted last) is.2
-  why_exhausted (Fault place before after) is runs forward = absurd is
-  why_exhausted (Pinned pin limit) is runs forward = absurd is
-  why_exhausted NothingDue is runs forward = absurd is
-  why_exhausted (Cancelled begun now) is runs forward = absurd is
-  why_exhausted (ReadFault before after) is runs forward = absurd is
-  why_exhausted NoMemory is runs forward = absurd is
-  why_exhausted (Damaged name) is runs forward = absurd is
+-- a store that ran before runs behind it
+pub still_runs : (old new : View) → new.state.stopped ≡ old.state.stopped → old.state.stopped ≡ None → new.state.stopped ≡ None
+still_runs old new stopped runs = stopped ∙ runs

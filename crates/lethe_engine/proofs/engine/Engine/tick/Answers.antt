@@ -1,17 +1,16 @@
-use Rattle.std.proofs.Common.{rules, ◌≡◌, ◌+◌, ◌⊎◌, ℕ, List, Some, None, Result, Ok, Err, refl, sym, ap, ◌∙◌, subst}
+use Rattle.std.proofs.Common.{rules, ◌≡◌, ◌+◌, Some, None, Result, Err, sym, subst}
 use Rattle.std.specs.Prelude.{IfErr, option_map}
 use Rattle.std.specs.Result.{result_err}
 use Rattle.lethe_base.specs.declared.call.Call.TheVariants as call
 use Rattle.lethe_base.specs.declared.refused.Refused.{Refused}
 use Rattle.lethe_core.specs.Asked.{Makes}
-use Rattle.lethe_core.specs.Reasons.{HasReason, IsUnreadable}
-use Rattle.lethe_core.specs.View.{View, face_of, flying_of, view_of}
-use Rattle.lethe_tick.specs.Ripened.{IsShortToTick, IsTickedInPart}
+use Rattle.lethe_core.specs.View.{View, flying_of, view_of}
+use Rattle.lethe_tick.specs.Ripened.{IsTickedInPart}
 use Rattle.lethe_engine.specs.Answers.{Answers}
-use Rattle.lethe_engine.specs.Ticks.{HasReasonOfTick, passes, ticked_face}
+use Rattle.lethe_engine.specs.Ticks.{HasReasonOfTick, ticked_face}
 use Rattle.lethe_engine.specs.declared.ticking.Ticked.{Ticked}
 use Rattle.lethe_engine.proofs.Calls.{itself_answers, made_answers, refused_is_none}
-use Rattle.lethe_engine.proofs.Ticks.{holds_in_round, may_in_round, may_refuse_none, may_refuse_reason, partly_in_round, passes_all, reason_of_tick, stands_in_round, tick_told, tick_works, ticked_gone, ticked_not, ticked_now}
+use Rattle.lethe_engine.proofs.Ticks.{holds_in_round, may_in_round, may_refuse_none, may_refuse_reason, partly_in_round, passes_all, reason_of_tick, stands_in_round, still_runs, tick_told, tick_works, ticked_gone, ticked_not, ticked_now}
 use Rattle.lethe_engine.proofs.engine.Engine.tick.Goals as goal
 
 -- No tick was begun
@@ -105,14 +104,17 @@ returns-clause-gone g c = λ told config opened h stands caller.
     let old = view_of c.args.self.now.core in
     let may = c.in_ok-may_tick.ensures.may in
     let is = c.in_ok-tick.ensures in
-    ticked_gone config h caller c.args.to (view_of c.tick.new.core) (is.stands told config h (stands_in_round old (old.rounds + 1) config h stands.now) caller) (is.stopped ∙ may.0)
+    let new : View = view_of c.tick.new.core in
+    ticked_gone config h caller c.args.to new (is.stands told config h (stands_in_round old (old.rounds + 1) config h stands.now) caller) (still_runs old new is.stopped may.0)
 
 pub returns-clause-one_image : goal.returns-clause-one_image
 returns-clause-one_image g c = λ told.
+    let old = view_of c.args.self.now.core in
+    let new : View = view_of c.tick.new.core in
     let may = c.in_ok-may_tick.ensures.may in
     let is = c.in_ok-tick.ensures in
     let held = c.tick.ensures.sound.held told in
-    (held.2 (is.stopped ∙ may.0)).settled.synced
+    (held.2 (still_runs old new is.stopped may.0)).settled.synced
 
 pub returns-clause-done : goal.returns-clause-done
 returns-clause-done g c = λ told s holds.
