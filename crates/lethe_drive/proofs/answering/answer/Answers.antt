@@ -68,7 +68,7 @@ returns-in-Put-clause-step g c = λ told config opened h stands s known.
     let stood = c.put.ensures.answers.stands told config opened h stands 0 in
     let is = changed g.D.Disk.tells g.D.Disk.ports_fail told Put (λ s headers next. next ≡ put_over s c.in-Put.key c.in-Put.dkey c.in-Put.value) config opened h old new s known
     (g.D.Disk.fetches c.args.port.now) fetches (g.D.Disk.port_faults c.args.port.now) faults jobs.begun (there_of jobs) stands (ap (λ (face : Face). face.flight) c.put.ensures.answers.face_is)
-    result stood c.put.ensures.answers.still c.put.ensures.answers.refused c.put.ensures.place c.put.ensures.why
+    (λ room. room) (λ t begun. begun) result stood c.put.ensures.answers.still c.put.ensures.answers.refused c.put.ensures.place c.put.ensures.why
     (λ holds. on_ok result _ _ (c.put.ensures.written told s holds) (λ done. (done.0, done.1, put_over done.0 c.in-Put.key c.in-Put.dkey c.in-Put.value, done.2, refl, done.3, done.4, done.5)))
     (λ at e. (c.put.ensures.stopped at e).0) (λ runs full. (c.put.ensures.exhausted runs full).0) in
     subst (Comes g.D.Disk.ports_fail config opened h before new (λ t. moment_of new t fetches faults jobs.begun (there_of jobs)) c.placed.result) (sym c.in-Put.is)
@@ -93,7 +93,7 @@ returns-in-Delete-clause-step g c = λ told config opened h stands s known.
     let stood = c.delete.ensures.answers.stands told config opened h stands 0 in
     let is = changed g.D.Disk.tells g.D.Disk.ports_fail told Delete (λ s headers next. IsDeleteOver s headers c.in-Delete.key next) config opened h old new s known
     (g.D.Disk.fetches c.args.port.now) fetches (g.D.Disk.port_faults c.args.port.now) faults jobs.begun (there_of jobs) stands (ap (λ (face : Face). face.flight) c.delete.ensures.answers.face_is)
-    result stood c.delete.ensures.answers.still c.delete.ensures.answers.refused c.delete.ensures.place c.delete.ensures.why (c.delete.ensures.written told s)
+    (λ room. room) (λ t begun. begun) result stood c.delete.ensures.answers.still c.delete.ensures.answers.refused c.delete.ensures.place c.delete.ensures.why (c.delete.ensures.written told s)
     (λ at e. (c.delete.ensures.stopped at e).0) (λ runs full. (c.delete.ensures.exhausted runs full).0) in
     subst (Comes g.D.Disk.ports_fail config opened h before new (λ t. moment_of new t fetches faults jobs.begun (there_of jobs)) c.placed-in-Delete.result) (sym c.in-Delete.is)
     (behind h 0 (Makes Delete) (result_err result), is.0, is.1, stood, (result, c.placed-in-Delete.ensures, is.2))
