@@ -114,7 +114,7 @@ returns-else-rounds-clause-event g c = λ told config opened h stands s known.
       step.2,
       step.3,
       present_event g.D.Disk.ports_fail h (before g at s) c.answer-reply.result step.0 (behind g at step.1 past) c.args.event (absent g at) step.4
-          (kept_event g.D.Disk.ports_fail h (before g at s) c.answer-reply.result step.0 (behind g at step.1 past) c.args.event (rounds g at) (omega (arith, few, c.rounds-2.ensures, c.rounds-rounds.ensures)) refl),
+          (kept_event g.D.Disk.ports_fail h (before g at s) c.answer-reply.result step.0 (behind g at step.1 past) c.args.event (rounds g at) (omega (arith, few, c.rounds.ensures, c.rounds-rounds.ensures)) refl),
     )
 
 pub returns-in_default-left-clause-event : goal.returns-in_default-left-clause-event
@@ -128,7 +128,7 @@ returns-in_default-left-clause-event g c = λ told config opened h stands s know
       step.2,
       step.3,
       present_event g.D.Disk.ports_fail h (before g at s) c.answer-reply.result step.0 (behind g at step.1 past) c.args.event (absent g at) step.4
-          (ended_event g.D.Disk.ports_fail h (before g at s) c.answer-reply.result step.0 (behind g at step.1 past) c.args.event (rounds g at) (omega (arith, many, c.rounds-2.ensures, c.rounds-rounds.ensures))
+          (ended_event g.D.Disk.ports_fail h (before g at s) c.answer-reply.result step.0 (behind g at step.1 past) c.args.event (rounds g at) (omega (arith, many, c.rounds.ensures, c.rounds-rounds.ensures))
           (left_none (before g at s).now.there c.left-left.result c.left-left.ensures past c.in_default-left.is)),
     )
 
@@ -145,7 +145,7 @@ returns-in-Some-left-clause-event g c = λ told config opened h stands s known.
       step.3,
       present_event g.D.Disk.ports_fail h (before g at s) c.answer-reply.result step.0 (behind g at step.1 c.push.new.self.items) c.args.event (absent g at) step.4
           (ended_event g.D.Disk.ports_fail h (before g at s) c.answer-reply.result step.0 (behind g at step.1 c.push.new.self.items) c.args.event (rounds g at)
-          (omega (arith, many, c.rounds-2.ensures, c.rounds-rounds.ensures)) (pushed ∙ left_some (before g at s).now.there c.left-left.result c.left-left.ensures past c.in-Some-left.job c.in-Some-left.is)),
+          (omega (arith, many, c.rounds.ensures, c.rounds-rounds.ensures)) (pushed ∙ left_some (before g at s).now.there c.left-left.result c.left-left.ensures past c.in-Some-left.job c.in-Some-left.is)),
     )
 
 pub returns-else-rounds-clause-earlier : goal.returns-else-rounds-clause-earlier
@@ -166,4 +166,4 @@ returns-in-Some-left-clause-earlier g c =
     let many = c.if-rounds.true in
     let rounds = c.answer-reply.new.engine.core.begun.rounds in
     subst (AreEarlier rounds) (sym pushed) (one_earlier g.D.Disk.tells old c.args.jobs.now c.requires.jobs c.left-left.result c.left-left.ensures c.in-Some-left.job c.in-Some-left.is past c.requires.earlier rounds
-    (omega (arith, many, c.rounds-2.ensures, c.rounds-rounds.ensures)))
+    (omega (arith, many, c.rounds.ensures, c.rounds-rounds.ensures)))
