@@ -20,7 +20,7 @@ use Rattle.lethe_core.specs.Merges.{IsRoomBegun, IsRoomMadeBy, Outcome, pages_of
 use Rattle.lethe_core.specs.Reasons.{HasReason, IsShort, IsShortOfRoom, IsUnreadable}
 use Rattle.lethe_core.specs.Running.{Holds}
 use Rattle.lethe_core.specs.View.{Flying, View}
-use Rattle.lethe_engine.specs.Answers.{IsRefused, IsStill}
+use Rattle.lethe_engine.specs.Answers.{IsBegun, IsReadyFor, IsRefused, IsStill}
 use Rattle.lethe_engine.specs.Refusals.{HasReasonOfChange, SeesRoom}
 use Rattle.lethe_engine.specs.StandsFor.{Opened, StandsFor}
 use Rattle.lethe_drive.specs.Answers.{IsChange, IsFull, IsShortToMerge, IsUnchanged}
@@ -34,7 +34,8 @@ not_begun flight s t room (inl same) = same
 not_begun flight s t room (inr begun) = absurd (begun.0 room)
 
 module _ (Tells PortsFail : Type 0) (told : Tells) (call : Call) (IsNext : Stored → List Header → Record → Type 0) (config : Fields) (opened : Opened) (h : History) (old new : View) (s : Stored)
-    (known : IsKnown config h old s) (fetches_before fetches_now faults_before faults_now begun : ℕ) (there : Option Going) (stands : StandsFor config opened h old) (flight : new.flight ≡ old.flight) where
+    (known : IsKnown config h old s) (fetches_before fetches_now faults_before faults_now begun : ℕ) (there : Option Going) (stands : StandsFor config opened h old) (flight : new.flight ≡ old.flight)
+    (ready : SeesRoom old.state → IsReadyFor call old.state) (parts : (t : Stored) → IsBegun call old.flight s t → IsRoomBegun old.flight s t) where
   abbrev before : Moment
   before = moment_of old s fetches_before faults_before begun there
 
@@ -76,7 +77,7 @@ module _ (Tells PortsFail : Type 0) (told : Tells) (call : Call) (IsNext : Store
       history = refl;
       reason = change_reason t is reason;
       untouched = λ room none.
-          let undone = refused.0 room none in
+          let undone = refused.0 (ready room) none in
           record {
             stored = not_begun old.flight s t (room_in s old.state old.levels known.remembers room) (comes none);
             state = undone.state;
@@ -117,7 +118,7 @@ module _ (Tells PortsFail : Type 0) (told : Tells) (call : Call) (IsNext : Store
         },
       )
   changed (Err why) stood still refused next reason written stops last =
-      let comes = refused_known Tells config opened h old new s known call why stood still (IsRoomBegun old.flight s) (inl refl) (λ none holds. refused.1 none told s holds) in (
+      let comes = refused_known Tells config opened h old new s known call why stood still (IsRoomBegun old.flight s) (inl refl) (λ none holds. let part = refused.1 none told s holds in (part.0, parts part.0 part.1, part.2)) in (
         comes.0,
         comes.1,
         record { answers = not_changed why stood refused comes.0 comes.1 comes.2 reason; stops = stops; last = last; jobs = same_jobs comes.0 },

@@ -155,10 +155,10 @@ known_idle config h old new s idle state levels face known =
 module _ (config : Fields) (h : History) (old new : View) (s : Stored) (fetches faults begun : ℕ) (there : Option Going)
     (state : new.state ≡ old.state) (levels : new.levels ≡ old.levels) (retired : new.retired ≡ old.retired) (idle : IsIdle old.disk new.disk) where
   -- it was begun
-  pub has_begun : {D Page Port : Type 0} {kind : Ghosts D Page Port} (Tells : Type 0) (job : Job D Page Port kind) → old.state.stopped ≡ None → (IsSome old.flight → ⊥) → IsBegunIn s (plain_task job.task.value)
+  pub has_begun : {D Page Port : Type 0} {kind : Ghosts D Page Port} (Tells : Type 0) (job : Job D Page Port kind) → job.round ≡ old.rounds → old.state.stopped ≡ None → (IsSome old.flight → ⊥) → IsBegunIn s (plain_task job.task.value)
       → IsAtWork Tells new job → job.drafts ≡ None → kind.port_faults job.port ≡ 0
       → IsBegin h (moment_of old s fetches faults begun there) (Ok begun) h (moment_of new s fetches faults (begun + 1) (Some (going_of begun job)))
-  has_begun {kind = kind} Tells job runs free is works unmade unread =
+  has_begun {kind = kind} Tells job round runs free is works unmade unread =
       let written = nil_from_length works.flies.flying.written (works.count ∙ works.job_is.unmade unmade) in
       record {
         history = refl;
@@ -168,7 +168,7 @@ module _ (config : Fields) (h : History) (old new : View) (s : Stored) (fetches 
           begun = is;
           own = works.flies.flying.number;
           flight = works.flies.is ∙ (λ i. Some (record { number = works.flies.flying.number; task = (sym works.flies.task) i; written = written i }));
-          there = λ i. Some (record { number = begun; refused = works.asked i; task = plain_task job.task.value; written = works.job_is.unmade unmade i; port_faults = unread i });
+          there = λ i. Some (record { number = begun; round = round i; refused = works.asked i; task = plain_task job.task.value; written = works.job_is.unmade unmade i; port_faults = unread i });
           count = refl;
         };
         stops = λ at e. absurd (none-some at (sym runs ∙ e));

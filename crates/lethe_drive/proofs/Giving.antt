@@ -127,6 +127,14 @@ given_up_retired face state = by (is_none state.stopped && nat_le max_place stat
     by true = refl
     by false = refl
 
+-- and no round ends
+pub given_up_rounds : (face : Face) (state : State) → (engine.given_up face state).rounds ≡ face.rounds
+given_up_rounds face state = by (is_none state.stopped && nat_le max_place state.count)
+  where
+    by : (full : Bool) → (if full then face else record face { flight = None }).rounds ≡ face.rounds
+    by true = refl
+    by false = refl
+
 -- on a store that runs giving up is refused only where the disk fails
 must_fail : (state : State) (before now : ℕ) (why : Refused) → HasReason ⊥ state before now why → (why ≡ NoMemory → ⊥) → ((last : ℕ) → why ≡ Exhausted last → ⊥) → state.stopped ≡ None → failure_of why ≡ None → ⊥
 must_fail state before now (Fault place b a) is memory numbers runs none = not_none (record { place = place; before = b; after = a }) none

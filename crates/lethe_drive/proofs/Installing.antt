@@ -65,12 +65,12 @@ module _ {D Page Port : Type 0} {kind : Ghosts D Page Port} where
     abbrev Cause : View → Stored → Job D Page Port kind → Refused → Type 0
     Cause new t back why = IsJobRefusal PortsFail (IsShortToInstall (going_of number job) (behind new t back)) before (going_of number job) (kind.port_faults back.port) (behind new t back) why
 
-    not_installed : (new : View) (t : Stored) (back : Job D Page Port kind) (why : Refused) → back.task.value ≡ job.task.value → back.refused ≡ true → Cause new t back why → IsWrittenOn old.flight new.flight → new.retired ≡ old.retired
+    not_installed : (new : View) (t : Stored) (back : Job D Page Port kind) (why : Refused) → back.task.value ≡ job.task.value → back.round ≡ job.round → back.refused ≡ true → Cause new t back why → IsWrittenOn old.flight new.flight → new.retired ≡ old.retired
         → (failure_of why ≡ None → t ≡ s) → IsInstall PortsFail (going_of number job) h before (Err why) (refused_to h 0 Work why) (behind new t back)
-    not_installed new t back why task refused cause written retired kept = record {
+    not_installed new t back why task round refused cause written retired kept = record {
       history = refl;
       answers = record {
-        spoilt = record { written = back.written; port_faults = kind.port_faults back.port; there = spoilt Tells PortsFail job back task number refused };
+        spoilt = record { written = back.written; port_faults = kind.port_faults back.port; there = spoilt Tells PortsFail job back task number round refused };
         reason = cause;
         flying = written.flying;
         flies = written.flies;
@@ -91,10 +91,10 @@ module _ {D Page Port : Type 0} {kind : Ghosts D Page Port} where
     unwritten new t back why (inr is) = inr is
 
     -- a page that was left was not written
-    pub rest_refused : (new : View) (t : Stored) (back : Job D Page Port kind) (why : Refused) → back.task.value ≡ job.task.value → back.refused ≡ true
+    pub rest_refused : (new : View) (t : Stored) (back : Job D Page Port kind) (why : Refused) → back.task.value ≡ job.task.value → back.round ≡ job.round → back.refused ≡ true
         → IsWritingOn PortsFail old new (kind.port_faults job.port) (kind.port_faults back.port) s t (Err why)
         → IsInstall PortsFail (going_of number job) h before (Err why) (refused_to h 0 Work why) (behind new t back)
-    rest_refused new t back why task refused is = not_installed new t back why task refused (unwritten new t back why is.why) is.flight is.retired is.kept
+    rest_refused new t back why task round refused is = not_installed new t back why task round refused (unwritten new t back why is.why) is.flight is.retired is.kept
 
     -- all pages are written
     module _ (told : Tells) (sound : AreSound (inputs_in (plain_task job.task.value))) (mid : View) (whole : Job D Page Port kind) (task : whole.task.value ≡ job.task.value) (works : IsAtWork Tells mid whole)
@@ -117,10 +117,10 @@ module _ {D Page Port : Type 0} {kind : Ghosts D Page Port} where
       -- the engine refused to install it
       pub install_refused : (config : Fields) (opened : Opened) → StandsFor config opened h old → StandsFor config opened h mid → old.faults ≤ mid.faults → (m : Stored) → IsKnown config h mid m → m ≡ s
           → IsWrittenOn old.flight mid.flight → mid.retired ≡ old.retired → (new : View) (back : Job D Page Port kind) (why : Refused) → StandsFor config opened (refused_to h 0 Work why) new
-          → (IsSome mid.state.stopped → IsStill Tells mid new) → IsUndone Tells mid new why → face_of new ≡ face_of mid → back.task.value ≡ job.task.value → back.refused ≡ true
+          → (IsSome mid.state.stopped → IsStill Tells mid new) → IsUndone Tells mid new why → face_of new ≡ face_of mid → back.task.value ≡ job.task.value → back.round ≡ job.round → back.refused ≡ true
           → HasReason (engine.IsShortToInstall mid whole) mid.state mid.faults new.faults why → new.state.next ≡ mid.state.next
           → (t : Stored) × IsKnown config (refused_to h 0 Work why) new t × IsInstall PortsFail (going_of number job) h before (Err why) (refused_to h 0 Work why) (behind new t back)
-      install_refused config opened was stands later m known stored written retired new back why stood still undone face same refused reason drawn =
+      install_refused config opened was stands later m known stored written retired new back why stood still undone face same round refused reason drawn =
           let is = work_refused Tells told config opened h mid new m known why undone stood still face in
           let cause : Cause new is.0 back why = inl (
             mid.faults,
@@ -132,7 +132,7 @@ module _ {D Page Port : Type 0} {kind : Ghosts D Page Port} where
           ) in
           let flight : new.flight ≡ mid.flight = ap (λ (face : Face). face.flight) face in
           let stay : new.retired ≡ old.retired = ap (λ (face : Face). face.retired) face ∙ retired in
-          (is.0, is.1, not_installed new is.0 back why same refused cause (subst (IsWrittenOn old.flight) (sym flight) written) stay (λ none. is.2 none ∙ stored))
+          (is.0, is.1, not_installed new is.0 back why same round refused cause (subst (IsWrittenOn old.flight) (sym flight) written) stay (λ none. is.2 none ∙ stored))
 
     -- it was installed
     pub installed_whole : (config : Fields) (opened : Opened) (done : Unit {0}) (mid new : View) → StandsFor config opened h new → (whole : Job D Page Port kind) (m : Stored) (there : Option Going)

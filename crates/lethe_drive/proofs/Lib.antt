@@ -7,6 +7,10 @@ pub mod Paging
 pub mod Naming
 pub mod Giving
 pub mod Resting
+pub mod Ticking
+pub mod Among
+pub mod Left
+pub mod Events
 pub mod Stepping
 pub mod Installing
 pub mod Changing

@@ -34,7 +34,7 @@ use Rattle.lethe_drive.proofs.Reasons.{unread_cause, unread_history}
 use Rattle.lethe_drive.proofs.Writing.{goes_on, outputs_for, some_of, spoilt}
 
 module _ {D Page Port : Type 0} {kind : Ghosts D Page Port} (Tells PortsFail : Type 0) (h : History) (old : View) (s : Stored) (number fetches faults begun : ℕ) (job mid : Job D Page Port kind)
-    (task : mid.task.value ≡ job.task.value) where
+    (task : mid.task.value ≡ job.task.value) (round : mid.round ≡ job.round) where
   abbrev before : Moment
   before = moment_of old s fetches faults begun (Some (going_of number job))
 
@@ -53,7 +53,7 @@ module _ {D Page Port : Type 0} {kind : Ghosts D Page Port} (Tells PortsFail : T
     page_refused t same is refused = record {
       history = refl;
       answers = record {
-        spoilt = record { written = mid.written; port_faults = kind.port_faults mid.port; there = spoilt Tells PortsFail job mid task number refused };
+        spoilt = record { written = mid.written; port_faults = kind.port_faults mid.port; there = spoilt Tells PortsFail job mid task number round refused };
         reason = inl (old.faults, new.faults, omega arith, omega arith, is);
         flight = ap (λ (face : Face). face.flight) face;
         untouched = work_untouched Tells told config opened h old new s known why undone t same fetches fetches faults faults begun begun (Some (going_of number job)) (Some (going_of number mid));
@@ -81,7 +81,7 @@ module _ {D Page Port : Type 0} {kind : Ghosts D Page Port} (Tells PortsFail : T
   page_unread told sound why is refused = record {
     history = refl;
     answers = record {
-      spoilt = record { written = mid.written; port_faults = kind.port_faults mid.port; there = spoilt Tells PortsFail job mid task number refused };
+      spoilt = record { written = mid.written; port_faults = kind.port_faults mid.port; there = spoilt Tells PortsFail job mid task number round refused };
       reason = unread_reason why (unread_cause Tells PortsFail (max_place ≤ old.state.next) (inputs_in (plain_task job.task.value)) (kind.port_faults job.port) (kind.port_faults mid.port)
           old.state old.faults old.faults told sound why is);
       flight = refl;
@@ -114,10 +114,10 @@ module _ {D Page Port : Type 0} {kind : Ghosts D Page Port} (Tells PortsFail : T
     drafts_are = (some_of mid.drafts made).1
 
     -- the next page was written
-    pub page_written : (new : View) (after : Job D Page Port kind) → after.task.value ≡ mid.task.value → after.refused ≡ false → after.written ≡ mid.written + 1 → IfSome mid.drafts (λ drafts. job.written < length (pages_in drafts.items))
+    pub page_written : (new : View) (after : Job D Page Port kind) → after.task.value ≡ mid.task.value → after.round ≡ mid.round → after.refused ≡ false → after.written ≡ mid.written + 1 → IfSome mid.drafts (λ drafts. job.written < length (pages_in drafts.items))
         → face_of new ≡ written_face (face_of old) (page_name old.state.next, next_bytes mid) (Ok tt) → new.disk.directory ≡ insert old.disk.directory (page_name old.state.next) (next_bytes mid)
         → IsWriteOut PortsFail (going_of number job) h before (Ok true) h (later new s after)
-    page_written new after kept asked more left face directory =
+    page_written new after kept stays asked more left face directory =
         let P : Option (Vec Draft Global) → Type 0 = λ o. IfSome o (λ drafts. job.written < length (pages_in drafts.items)) in
         let few : job.written < length (pages_in drafts.items) = subst P drafts_are left in
         let count = works.count in
@@ -142,7 +142,7 @@ module _ {D Page Port : Type 0} {kind : Ghosts D Page Port} (Tells PortsFail : T
             stored = refl;
             goes_on = record {
               port_faults = kind.port_faults after.port;
-              there = goes_on Tells PortsFail job after (kept ∙ task) number (job.written + 1) works.asked asked (more ∙ ap (λ n. n + 1) written);
+              there = goes_on Tells PortsFail job after (kept ∙ task) number (job.written + 1) (stays ∙ round) works.asked asked (more ∙ ap (λ n. n + 1) written);
             };
           };
           retired = ap (λ (face : Face). face.retired) face;
@@ -170,7 +170,7 @@ module _ {D Page Port : Type 0} {kind : Ghosts D Page Port} (Tells PortsFail : T
             stored = refl;
             state = refl;
             calls = refl;
-            goes_on = record { port_faults = kind.port_faults mid.port; there = goes_on Tells PortsFail job mid task number job.written works.asked asked written };
+            goes_on = record { port_faults = kind.port_faults mid.port; there = goes_on Tells PortsFail job mid task number job.written round works.asked asked written };
           };
           retired = refl;
           begun = refl;

@@ -1,5 +1,6 @@
 -- What runs of events come to: two puts and a get, and a job from its begin to its end.
 use Rattle.std.proofs.Common.{◌≡◌, ◌≢◌, ◌≤◌, ◌⊎◌, inl, inr, ℕ, ◌+◌, Bool, true, false, List, [], ◌∷◌, length, All, Option, Some, None, Result, Ok, Err, refl, sym, ap, ◌∙◌, subst, arith}
+use Rattle.std.specs.Prelude.{if◌then◌else◌}
 use Rattle.std.proofs.lemmas.List.{length_push}
 use Rattle.std.proofs.lemmas.List.Elements.{All-head, All-tail}
 use Rattle.std.proofs.lemmas.Option.{none-some, same_Some}
@@ -28,6 +29,7 @@ use Rattle.lethe_core.specs.Reasons.{HasReason, IsShort, IsUnreadable}
 use Rattle.lethe_engine.specs.Refusals.{SeesRoom}
 use Rattle.lethe_drive.specs.Answers.{HasBegun, IsBegin, IsChange, IsChanged, IsFull, IsInstall, IsRead, IsShortToMerge, IsUnchanged, IsWriteOut}
 use Rattle.lethe_drive.specs.Moments.{Going, IsMomentOf, IsStoppedBy, Moment}
+use Rattle.lethe_drive.specs.Past.{IsPastRefused, Run, refusal_of}
 use Rattle.lethe_drive.specs.Replies.{flagged, got, numbered, placed, united}
 use Rattle.lethe_drive.specs.Steps.{IsStep, Steps}
 use Rattle.lethe_drive.specs.declared.event.Event.TheVariants as event
@@ -141,7 +143,7 @@ get_done PortsFail asked h old (Err why) g new is calm memory = absurd (by is.an
 
 -- Two puts and a get
 
-module _ (PortsFail : Type 0) (config : Fields) (h g : History) (start finish : Moment) (first second asked : Bytes) (dkey other : ℕ) (value next : Bytes) where
+module _ (PortsFail : Type 0) (config : Fields) (h g : History) (start finish : Run) (first second asked : Bytes) (dkey other : ℕ) (value next : Bytes) where
   abbrev pub one : Call
   one = call.Put first dkey value
 
@@ -160,10 +162,10 @@ module _ (PortsFail : Type 0) (config : Fields) (h g : History) (start finish : 
 
   -- there is room for both records, or no reply says that numbers ran out
   abbrev pub IsWithin : List Reply → Type 0
-  IsWithin replies = (length start.stored.active.records + 2 ≤ config.buffer) ⊎ All (λ (given : Reply). given ≢ reply.Refused (Exhausted max_place)) replies
+  IsWithin replies = (length start.now.stored.active.records + 2 ≤ config.buffer) ⊎ All (λ (given : Reply). given ≢ reply.Refused (Exhausted max_place)) replies
 
-  module _ (is : IsMomentOf config h start) (done : AreDone h) (few : length h + 2 ≤ max_place)
-      (calm : Rose start.faults finish.faults → ⊥) (quiet : Rose start.port_faults finish.port_faults → ⊥) where
+  module _ (is : IsMomentOf config h start.now) (done : AreDone h) (few : length h + 2 ≤ max_place)
+      (calm : Rose start.now.faults finish.now.faults → ⊥) (quiet : Rose start.now.port_faults finish.now.port_faults → ⊥) where
     three : (a b c : Reply) → IsWithin (a ∷ b ∷ c ∷ []) → Goes (a ∷ b ∷ c ∷ []) → Remembers (a ∷ b ∷ c ∷ []) → Answered (a ∷ b ∷ c ∷ [])
     three a b c within steps memory =
         let enough : Reply → Type 0 = λ (given : Reply). given ≢ reply.Refused (Exhausted max_place) in
@@ -172,37 +174,37 @@ module _ (PortsFail : Type 0) (config : Fields) (h g : History) (start finish : 
         let last = others.5 in
         let end = last.5 in
         let behind : All given (b ∷ c ∷ []) = All-tail given a (b ∷ c ∷ []) memory in
-        let faults : last.1.faults ≤ finish.faults = subst (λ (m : Moment). last.1.faults ≤ m.faults) (sym end.1) (omega arith) in
-        let port_faults : last.1.port_faults ≤ finish.port_faults = subst (λ (m : Moment). last.1.port_faults ≤ m.port_faults) (sym end.1) (omega arith) in
-        let put = steps.4 in
-        let put_next = others.4 in
-        let get = last.4 in
-        let first_way : (length start.stored.active.records + 1 ≤ config.buffer) ⊎ (put.0 ≢ Err (Exhausted max_place)) =
+        let faults : last.1.now.faults ≤ finish.now.faults = subst (λ (run : Run). last.1.now.faults ≤ run.now.faults) (sym end.1) (omega arith) in
+        let port_faults : last.1.now.port_faults ≤ finish.now.port_faults = subst (λ (run : Run). last.1.now.port_faults ≤ run.now.port_faults) (sym end.1) (omega arith) in
+        let put = steps.4.0 in
+        let put_next = others.4.0 in
+        let get = last.4.0 in
+        let first_way : (length start.now.stored.active.records + 1 ≤ config.buffer) ⊎ (put.0 ≢ Err (Exhausted max_place)) =
         elim within [
           | inl room ↦ inl (omega (arith, room))
           | inr told ↦ inr (λ none. All-head enough a (b ∷ c ∷ []) told (put.1 ∙ (λ i. placed (none i))))
         ] in
         let a_done =
-        put_done PortsFail config h start is done (omega (arith, few)) one (λ s headers next_record. next_record ≡ put_over s first dkey value) steps.0 steps.1 put.0 put.2 first_way
-        (λ rose. calm (rose_within start.faults start.faults steps.1.faults finish.faults (omega arith) (omega (arith, others.3.faults, last.3.faults, faults)) rose))
-        (λ rose. quiet (rose_within start.port_faults start.port_faults steps.1.port_faults finish.port_faults (omega arith) (omega (arith, others.3.port_faults, last.3.port_faults, port_faults)) rose))
+        put_done PortsFail config h start.now is done (omega (arith, few)) one (λ s headers next_record. next_record ≡ put_over s first dkey value) steps.0 steps.1.now put.0 put.2 first_way
+        (λ rose. calm (rose_within start.now.faults start.now.faults steps.1.now.faults finish.now.faults (omega arith) (omega (arith, others.3.faults, last.3.faults, faults)) rose))
+        (λ rose. quiet (rose_within start.now.port_faults start.now.port_faults steps.1.now.port_faults finish.now.port_faults (omega arith) (omega (arith, others.3.port_faults, last.3.port_faults, port_faults)) rose))
         (λ none. All-head given a (b ∷ c ∷ []) memory (put.1 ∙ (λ i. placed (none i)))) in
         let count : length steps.0 ≡ length h + 1 = ap length a_done.1 ∙ length_push h (record { caller = 0; call = one; did = Done }) in
         let done_one : AreDone steps.0 = subst AreDone (sym a_done.1) (done_push h (record { caller = 0; call = one; did = Done }) done refl) in
-        let second_way : (length steps.1.stored.active.records + 1 ≤ config.buffer) ⊎ (put_next.0 ≢ Err (Exhausted max_place)) =
+        let second_way : (length steps.1.now.stored.active.records + 1 ≤ config.buffer) ⊎ (put_next.0 ≢ Err (Exhausted max_place)) =
         elim within [
           | inl room ↦ inl (omega (arith, room, a_done.2 (omega (arith, room))))
           | inr told ↦ inr (λ none. All-head enough b (c ∷ []) (All-tail enough a (b ∷ c ∷ []) told) (put_next.1 ∙ (λ i. placed (none i))))
         ] in
         let b_done =
-        put_done PortsFail config steps.0 steps.1 steps.2 done_one (omega (arith, few, count)) two (λ s headers next_record. next_record ≡ put_over s second other next)
-        others.0 others.1 put_next.0 put_next.2 second_way
-        (λ rose. calm (rose_within start.faults steps.1.faults others.1.faults finish.faults steps.3.faults (omega (arith, last.3.faults, faults)) rose))
-        (λ rose. quiet (rose_within start.port_faults steps.1.port_faults others.1.port_faults finish.port_faults steps.3.port_faults (omega (arith, last.3.port_faults, port_faults)) rose))
+        put_done PortsFail config steps.0 steps.1.now steps.2.now done_one (omega (arith, few, count)) two (λ s headers next_record. next_record ≡ put_over s second other next)
+        others.0 others.1.now put_next.0 put_next.2 second_way
+        (λ rose. calm (rose_within start.now.faults steps.1.now.faults others.1.now.faults finish.now.faults steps.3.faults (omega (arith, last.3.faults, faults)) rose))
+        (λ rose. quiet (rose_within start.now.port_faults steps.1.now.port_faults others.1.now.port_faults finish.now.port_faults steps.3.port_faults (omega (arith, last.3.port_faults, port_faults)) rose))
         (λ none. All-head given b (c ∷ []) behind (put_next.1 ∙ (λ i. placed (none i)))) in
         let got_it =
-        get_done PortsFail asked others.0 others.1 get.0 last.0 last.1 get.2
-        (λ rose. quiet (rose_within start.port_faults others.1.port_faults last.1.port_faults finish.port_faults (omega (arith, steps.3.port_faults, others.3.port_faults)) port_faults rose))
+        get_done PortsFail asked others.0 others.1.now get.0 last.0 last.1.now get.2
+        (λ rose. quiet (rose_within start.now.port_faults others.1.now.port_faults last.1.now.port_faults finish.now.port_faults (omega (arith, steps.3.port_faults, others.3.port_faults)) port_faults rose))
         (λ none. All-head given c [] (All-tail given b (c ∷ []) behind) (get.1 ∙ (λ i. got (none i)))) in
         let same : g ≡ others.0 = end.0 ∙ get.2.history in
         let a_is : a ≡ reply.Place (length h + 1) = put.1 ∙ (λ i. placed (a_done.0 i)) in
@@ -271,23 +273,41 @@ module _ (PortsFail : Type 0) (number : ℕ) (h : History) (old : Moment) (going
       let same : was.0 ≡ going = same_Some was.0 going (sym was.1.0.0 ∙ there) in
       ended_as was.2 was.3 (subst (λ (going : Going). IsInstall PortsFail going h old was.2 g new) same was.4)
 
-pub job_done : (PortsFail : Type 0) (config : Fields) (h g : History) (start finish : Moment) (number : ℕ) (wrote : Bool)
+-- a job of an earlier round is refused where it was to go on
+module _ (number : ℕ) (h : History) (old : Run) (g : History) (new : Run) where
+  never_past : (answer : Reply) → (answer ≡ reply.NoSuch → ⊥) → ((why : Refused) → answer ≡ reply.Refused why → ⊥) → IsPastRefused number h old answer g new → ⊥
+  never_past answer there fine is = by is.job.refused (refusal_of old.now.state.stopped is.job.round old.now.rounds) is.answer_is
+    where
+      by : (refused : Bool) (why : Refused) → answer ≡ (if refused then reply.NoSuch else reply.Refused why) → ⊥
+      by true why told = there told
+      by false why told = fine why told
+
+pub job_done : (PortsFail : Type 0) (config : Fields) (h g : History) (start finish : Run) (number : ℕ) (wrote : Bool)
     → Steps PortsFail config h start (event.Begin ∷ event.WriteOut number ∷ event.Install number ∷ []) (reply.Job number ∷ reply.Flag wrote ∷ reply.Unit ∷ []) g finish
-    → (g ≡ h) × ((task : PlainTask) × IsBegunIn start.stored task × IsInstalled start.stored task finish.stored) × (finish.flight ≡ None) × (finish.there ≡ None)
+    → (g ≡ h) × ((task : PlainTask) × IsBegunIn start.now.stored task × IsInstalled start.now.stored task finish.now.stored) × (finish.now.flight ≡ None) × (finish.now.there ≡ None)
 job_done PortsFail config h g start finish number wrote steps =
     let others = steps.5 in
     let last = others.5 in
     let end = last.5 in
-    let begin = steps.4 in
-    let begun = (begun_as h start number steps.0 steps.1 begin.0 begin.1 begin.2).1 in
-    let first : Going = record { number = (begun_as h start number steps.0 steps.1 begin.0 begin.1 begin.2).0; refused = false; task = begun.task; written = 0; port_faults = 0 } in
-    let written = wrote_next PortsFail number steps.0 steps.1 first begun.there others.0 others.1 wrote others.4 in
-    let ended = ends PortsFail number others.0 others.1 written.after written.there last.0 last.1 last.4 in
-    let stored : others.1.stored ≡ start.stored = written.stored ∙ begin.2.stored in
-    let installed : IsInstalled start.stored begun.task last.1.stored =
-    subst (λ (s : Stored). IsInstalled s begun.task last.1.stored) stored (subst (λ (task : PlainTask). IsInstalled others.1.stored task last.1.stored) written.task ended.installed) in (
+    let begin = steps.4.0 in
+    let begun = (begun_as h start.now number steps.0 steps.1.now begin.0 begin.1 begin.2).1 in
+    let own = (begun_as h start.now number steps.0 steps.1.now begin.0 begin.1 begin.2).0 in
+    let first : Going = record { number = own; round = start.now.rounds; refused = false; task = begun.task; written = 0; port_faults = 0 } in
+    let write : IsStep PortsFail steps.0 steps.1.now (event.WriteOut number) (reply.Flag wrote) others.0 others.1.now = elim others.4 [
+      | inl past ↦ absurd (never_past number steps.0 steps.1 others.0 others.1 (reply.Flag wrote) (λ clash. cc) (λ why clash. cc) past)
+      | inr present ↦ present.1.0
+    ] in
+    let install : IsStep PortsFail others.0 others.1.now (event.Install number) reply.Unit last.0 last.1.now = elim last.4 [
+      | inl past ↦ absurd (never_past number others.0 others.1 last.0 last.1 reply.Unit (λ clash. cc) (λ why clash. cc) past)
+      | inr present ↦ present.1.0
+    ] in
+    let written = wrote_next PortsFail number steps.0 steps.1.now first begun.there others.0 others.1.now wrote write in
+    let ended = ends PortsFail number others.0 others.1.now written.after written.there last.0 last.1.now install in
+    let stored : others.1.now.stored ≡ start.now.stored = written.stored ∙ begin.2.stored in
+    let installed : IsInstalled start.now.stored begun.task last.1.now.stored =
+    subst (λ (s : Stored). IsInstalled s begun.task last.1.now.stored) stored (subst (λ (task : PlainTask). IsInstalled others.1.now.stored task last.1.now.stored) written.task ended.installed) in (
       end.0 ∙ ended.history ∙ written.history ∙ begin.2.history,
-      (begun.task, begun.begun, subst (λ (m : Moment). IsInstalled start.stored begun.task m.stored) (sym end.1) installed),
-      ap (λ (m : Moment). m.flight) end.1 ∙ ended.flight,
-      ap (λ (m : Moment). m.there) end.1 ∙ ended.gone,
+      (begun.task, begun.begun, subst (λ (run : Run). IsInstalled start.now.stored begun.task run.now.stored) (sym end.1) installed),
+      ap (λ (run : Run). run.now.flight) end.1 ∙ ended.flight,
+      ap (λ (run : Run). run.now.there) end.1 ∙ ended.gone,
     )

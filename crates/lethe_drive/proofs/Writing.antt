@@ -71,12 +71,12 @@ module _ {D Page Port : Type 0} {kind : Ghosts D Page Port} (Tells PortsFail : T
       all.told told sound
 
   -- a job that was refused something
-  pub spoilt : (number : ℕ) → mid.refused ≡ true → Some (going_of number mid) ≡ Some (record (going_of number job) { refused = true; written = mid.written; port_faults = kind.port_faults mid.port })
-  spoilt number refused = λ i. Some (record { number = number; refused = refused i; task = plain_task (task i); written = mid.written; port_faults = kind.port_faults mid.port })
+  pub spoilt : (number : ℕ) → mid.round ≡ job.round → mid.refused ≡ true → Some (going_of number mid) ≡ Some (record (going_of number job) { refused = true; written = mid.written; port_faults = kind.port_faults mid.port })
+  spoilt number round refused = λ i. Some (record { number = number; round = round i; refused = refused i; task = plain_task (task i); written = mid.written; port_faults = kind.port_faults mid.port })
 
   -- one that goes on, with so many pages
-  pub goes_on : (number written : ℕ) → job.refused ≡ false → mid.refused ≡ false → mid.written ≡ written → Some (going_of number mid) ≡ Some (record (going_of number job) { written = written; port_faults = kind.port_faults mid.port })
-  goes_on number written was asked pages = λ i. Some (record { number = number; refused = (asked ∙ sym was) i; task = plain_task (task i); written = pages i; port_faults = kind.port_faults mid.port })
+  pub goes_on : (number written : ℕ) → mid.round ≡ job.round → job.refused ≡ false → mid.refused ≡ false → mid.written ≡ written → Some (going_of number mid) ≡ Some (record (going_of number job) { written = written; port_faults = kind.port_faults mid.port })
+  goes_on number written round was asked pages = λ i. Some (record { number = number; round = round i; refused = (asked ∙ sym was) i; task = plain_task (task i); written = pages i; port_faults = kind.port_faults mid.port })
 
   module _ (number : mid.number ≡ job.number) (written : mid.written ≡ job.written) (kept : IsSome job.drafts → mid.drafts ≡ job.drafts) (is : IsJob Tells mid) where
     pub still_works : (view : View) → mid.round ≡ job.round → IsAtWork Tells view job → mid.refused ≡ false → IsAtWork Tells view mid

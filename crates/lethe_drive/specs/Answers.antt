@@ -122,7 +122,7 @@ pub record HasBegun (old : Moment) (number : ℕ) (new : Moment) : Type 0 where
   -- the store's own number of it, which counts from its opening on
   pub own : ℕ
   pub flight : new.flight ≡ Some (record { number = own; task = task; written = [] })
-  pub there : new.there ≡ Some (record { number = number; refused = false; task = task; written = 0; port_faults = 0 })
+  pub there : new.there ≡ Some (record { number = number; round = old.rounds; refused = false; task = task; written = 0; port_faults = 0 })
   pub count : new.begun ≡ old.begun + 1
 
 -- why no job was begun

@@ -1,5 +1,5 @@
 -- A whole run of events.
-use Rattle.std.specs.Prelude.{◌≡◌, ◌⊎◌, ◌≤◌, ◌-◌, ◌^◌, ℕ, List, ◌++◌, length, Option, Some, None, option_map, Result, OnOk, IfErr, IfSome, false}
+use Rattle.std.specs.Prelude.{◌≡◌, ◌⊎◌, ◌≤◌, ◌-◌, ◌^◌, ℕ, List, [], ◌++◌, length, Option, Some, None, option_map, Result, OnOk, IfErr, IfSome, false}
 use Rattle.lethe_base.specs.History.{History}
 use Rattle.lethe_base.specs.Limits.{max_place}
 use Rattle.lethe_base.specs.declared.config.Fields.{Fields}
@@ -15,6 +15,7 @@ use Rattle.lethe_core.specs.Reasons.{HasReason, IsUnreadable}
 use Rattle.lethe_core.specs.Jobs.{IsAtWork, IsInFlight}
 use Rattle.lethe_core.specs.View.{Flying, View}
 use Rattle.lethe_drive.specs.Moments.{IsMomentOf, Moment}
+use Rattle.lethe_drive.specs.Past.{Run}
 use Rattle.lethe_drive.specs.Steps.{Steps, cancels_for}
 use Rattle.lethe_drive.specs.declared.jobs.Jobs.{Jobs}
 use Rattle.lethe_drive.specs.declared.event.Event.{Event}
@@ -24,11 +25,11 @@ use Rattle.lethe_drive.specs.declared.event.Reply.{Reply}
 pub record IsDriven (PortsFail : Type 0) (config : Fields) (h : History) (start : Moment) (events : List Event) (replies : List Reply) (g : History) (finish : Moment) : Type 0 where
   pub begins : IsMomentOf config h start
   pub history : History
-  pub middle : Moment
+  pub middle : Run
   pub answered : List Reply
-  pub steps : Steps PortsFail config h start events answered history middle
+  pub steps : Steps PortsFail config h (record { now = start; past = [] }) events answered history middle
   pub given_up : List Reply
-  pub cancels : Steps PortsFail config history middle (cancels_for middle.there) given_up g finish
+  pub cancels : Steps PortsFail config history middle (cancels_for middle) given_up g (record { now = finish; past = [] })
   pub replies_are : replies ≡ answered ++ given_up
   pub ended : finish.there ≡ None
 

@@ -21,17 +21,18 @@ use Rattle.lethe_core.specs.Running.{Holds, IsTasked}
 use Rattle.lethe_core.specs.View.{Flying, View, beside_at}
 use Rattle.lethe_drive.specs.declared.jobs.Jobs.{Jobs}
 
--- a job that was begun and hasn't ended: its number, whether one of its calls was refused, its task, how many of its pages are written, and its port's count of
--- faults
+-- a job that was begun and hasn't ended: its number, the round in which it was begun, whether one of its calls was refused, its task, how many of its pages are written, and
+-- its port's count of faults
 pub record Going : Type 0 where
   pub number : ℕ
+  pub round : ℕ
   pub refused : Bool
   pub task : PlainTask
   pub written : ℕ
   pub port_faults : ℕ
 
--- The store with what is stored and the pages that are retired, its disk's directory, the device calls that the disk has taken and its count of faults; the port's counts; and
--- the jobs of the run.
+-- The store with what is stored and the pages that are retired, its disk's directory, the device calls that the disk has taken and its count of faults; the port's counts; how
+-- many rounds have ended; and the jobs of the run that were begun in the present one.
 pub record Moment : Type 0 where
   pub stored : Stored
   pub state : State
@@ -43,6 +44,7 @@ pub record Moment : Type 0 where
   pub faults : ℕ
   pub fetches : ℕ
   pub port_faults : ℕ
+  pub rounds : ℕ
   pub begun : ℕ
   pub there : Option Going
 
@@ -84,6 +86,7 @@ pub record IsMomentOf (config : Fields) (h : History) (m : Moment) : Type 0 wher
 abbrev pub going_of : {D Page Port : Type 0} {kind : Ghosts D Page Port} → ℕ → Job D Page Port kind → Going
 going_of {kind = kind} number job = record {
   number = number;
+  round = job.round;
   refused = job.refused;
   task = plain_task job.task.value;
   written = job.written;
@@ -106,6 +109,7 @@ moment_of view stored fetches port_faults begun there = record {
   faults = view.faults;
   fetches = fetches;
   port_faults = port_faults;
+  rounds = view.rounds;
   begun = begun;
   there = there;
 }

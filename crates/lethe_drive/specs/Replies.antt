@@ -2,12 +2,17 @@
 use Rattle.std.specs.Prelude.{ℕ, Bool, List, Option, Result, Ok, Err}
 use Rattle.lethe_base.specs.Keys.{Bytes}
 use Rattle.lethe_base.specs.declared.refused.Refused.{Refused}
+use Rattle.lethe_engine.specs.declared.ticking.Ticked.{Ticked}
 use Rattle.lethe_drive.specs.declared.event.Reply.{Reply}
 use Rattle.lethe_drive.specs.declared.event.Reply.TheVariants as reply
 
 abbrev pub placed : Result ℕ Refused → Reply
 placed (Ok place) = reply.Place place
 placed (Err why) = reply.Refused why
+
+abbrev pub told : Result Ticked Refused → Reply
+told (Ok ticked) = reply.Ticked ticked
+told (Err why) = reply.Refused why
 
 abbrev pub got : Result (Option (ℕ × Bytes)) Refused → Reply
 got (Ok held) = reply.Got held

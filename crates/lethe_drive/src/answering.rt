@@ -1,5 +1,6 @@
 //! Answering one event.
-ghost use Rattle.std.specs.Prelude.{◌≡◌, ◌≤◌, ◌<◌, ◌+◌, ◌^◌};
+ghost use Rattle.std.specs.Prelude.{◌≡◌, ◌⊎◌, ◌≤◌, ◌<◌, ◌+◌, ◌^◌, None};
+ghost use Rattle.lethe_base.specs.Limits.{max_time};
 ghost use Rattle.lethe_base.specs.History.{History};
 ghost use Rattle.lethe_base.specs.declared.config.Fields.{Fields};
 ghost use Rattle.lethe_stored.specs.Stored.{Stored};
@@ -8,7 +9,9 @@ ghost use Rattle.lethe_core.specs.View.{view_of};
 ghost use Rattle.lethe_engine.specs.StandsFor.{Opened, StandsFor};
 ghost use Rattle.lethe_drive.specs.Driving.{IsTheirs};
 ghost use Rattle.lethe_drive.specs.Moments.{IsKnown, moment_of, there_of};
+ghost use Rattle.lethe_drive.specs.Past.{IsTickAsked};
 ghost use Rattle.lethe_drive.specs.Steps.{IsStep};
+ghost use Rattle.lethe_drive.specs.Ticks.{IsTick};
 ghost use Rattle.lethe_drive.specs.Replies as replies;
 
 use crate::event::{Event, Reply};
@@ -16,7 +19,7 @@ use crate::jobs::Jobs;
 use crate::working::{begin, cancel, install, write_out};
 use lethe_base::{List, Refused};
 use lethe_disk::Disk;
-use lethe_engine::Engine;
+use lethe_engine::{Engine, Ticked};
 use std::alloc::Global;
 
 /// Makes the call that the event asks for.
@@ -38,10 +41,13 @@ pub(crate) fn answer<D: Disk>(
     ensures faults { D.faults engine.old.core.disk ≤ D.faults engine.new.core.disk }
     ensures port_faults { D.port_faults port.old ≤ D.port_faults port.new }
     ensures begun { jobs.new.begun ≤ jobs.old.begun + 1 }
+    // Only a tick ends a round, and then no job is there.
+    ensures rounds { (engine.new.core.begun.rounds ≡ engine.old.core.begun.rounds) ⊎ (IsTickAsked event × (engine.new.core.begun.rounds ≡ engine.old.core.begun.rounds + 1) × (jobs.new.there ≡ None)) }
 {
     match event {
         Event::Put { key, dkey, value } => placed(engine.put(alloc, port, key, dkey, value)),
         Event::Delete { key } => placed(engine.delete(alloc, port, key)),
+        Event::Tick { to } => told(tick(engine, alloc, port, jobs, to.get())),
         Event::Get { key } => match engine.get(alloc, port, &key) {
             Ok(held) => Reply::Got(held),
             Err(why) => Reply::Refused(why),
@@ -65,6 +71,45 @@ fn placed(answer: Result<u64, Refused>) -> Reply
 {
     match answer {
         Ok(place) => Reply::Place(place),
+        Err(why) => Reply::Refused(why),
+    }
+}
+
+/// Moves the clock to a time up to the greatest. Where that ends the round, no job of it is there.
+fn tick<D: Disk>(
+    engine: &mut Engine<D>,
+    alloc: Global,
+    port: &mut D::Port,
+    jobs: &mut Jobs<D>,
+    to: u64,
+) -> Result<Ticked, Refused>
+    requires sound { IsSound D.tells (view_of engine.old.core) }
+    requires jobs { IsTheirs D.tells (view_of engine.old.core) jobs.old }
+    requires within { to ≤ max_time }
+    ensures sound { IsSound D.tells (view_of engine.new.core) }
+    ensures jobs { IsTheirs D.tells (view_of engine.new.core) jobs.new }
+    ensures step { D.tells → (config : Fields) (opened : Opened) (h : History) → StandsFor config opened h (view_of engine.old.core) → (s : Stored) → IsKnown config h (view_of engine.old.core) s
+        → (g : History) × (t : Stored) × IsKnown config g (view_of engine.new.core) t × StandsFor config opened g (view_of engine.new.core)
+        × IsTick D.ports_fail to h (moment_of (view_of engine.old.core) s (D.fetches port.old) (D.port_faults port.old) jobs.old.begun (there_of jobs.old)) result g (moment_of (view_of engine.new.core) t (D.fetches port.new) (D.port_faults port.new) jobs.new.begun (there_of jobs.new)) }
+    ensures faults { D.faults engine.old.core.disk ≤ D.faults engine.new.core.disk }
+    ensures port_faults { D.port_faults port.old ≤ D.port_faults port.new }
+    ensures begun { jobs.new.begun ≡ jobs.old.begun }
+    ensures rounds { ((engine.new.core.begun.rounds ≡ engine.old.core.begun.rounds) × (jobs.new ≡ jobs.old)) ⊎ ((engine.new.core.begun.rounds ≡ engine.old.core.begun.rounds + 1) × (jobs.new.there ≡ None)) }
+{
+    let rounds = engine.rounds();
+    let answer = engine.tick(alloc, port, to);
+    if engine.rounds() > rounds {
+        jobs.there = None;
+    }
+    answer
+}
+
+/// The reply of a tick.
+fn told(answer: Result<Ticked, Refused>) -> Reply
+    ensures { result ≡ replies.told answer }
+{
+    match answer {
+        Ok(ticked) => Reply::Ticked(ticked),
         Err(why) => Reply::Refused(why),
     }
 }

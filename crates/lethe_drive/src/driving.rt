@@ -1,5 +1,5 @@
 //! Driving a store through a run of events.
-ghost use Rattle.std.specs.Prelude.{◌≡◌, ◌≤◌, ℕ, None, IfOk, IfErr};
+ghost use Rattle.std.specs.Prelude.{◌≡◌, ◌≤◌, ◌+◌, ◌*◌, ℕ, None, IfOk, IfErr, IfSome};
 ghost use Rattle.lethe_base.specs.History.{History};
 ghost use Rattle.lethe_base.specs.declared.config.Fields.{Fields};
 ghost use Rattle.lethe_stored.specs.Stored.{Stored};
@@ -9,9 +9,10 @@ ghost use Rattle.lethe_engine.specs.StandsFor.{Opened, StandsFor};
 ghost use Rattle.lethe_drive.specs.Driving.{IsDriven};
 ghost use Rattle.lethe_drive.specs.Moments.{IsKnown, moment_of};
 
-use crate::answering::answer;
 use crate::event::{Event, Reply};
 use crate::jobs::Jobs;
+use crate::past::give_up;
+use crate::rounds::answer_any;
 use crate::working::cancel;
 use lethe_base::NoMemory;
 use lethe_disk::Disk;
@@ -23,7 +24,7 @@ use std::alloc::Global;
 ///
 /// # Errors
 ///
-/// `NoMemory` where there is no room for all replies: it is taken before the first event, and then nothing was made.
+/// `NoMemory` where there is no room for all replies and jobs: it is taken before the first event, and then nothing was made.
 pub fn drive<D: Disk>(
     engine: &mut Engine<D>,
     alloc: Global,
@@ -43,20 +44,32 @@ pub fn drive<D: Disk>(
     ensures faults { D.faults engine.old.core.disk ≤ D.faults engine.new.core.disk }
 {
     let count = events.len();
-    let Some(room) = count.checked_add(1) else {
+    let Some(room) = room_for(count) else {
         return Err(NoMemory);
     };
     let mut replies = Vec::with_capacity(alloc, room)?;
+    let mut past = Vec::with_capacity(alloc, count)?;
     let mut jobs = Jobs {
         begun: 0,
         there: None,
     };
     for event in events {
-        let reply = answer(engine, alloc, port, &mut jobs, event);
+        let reply = answer_any(engine, alloc, port, &mut jobs, &mut past, event);
         replies.push(reply).unwrap();
+    }
+    while !past.is_empty() {
+        replies.push(give_up(engine, &mut past, 0)).unwrap();
     }
     if let Some(number) = jobs.number() {
         replies.push(cancel(engine, &mut jobs, number)).unwrap();
     }
     Ok(replies)
+}
+
+/// For how many replies there has to be room: one of each event, and one of each job that hasn't ended, of which no more are of earlier rounds than there are ticks, and
+/// one is of the present.
+fn room_for(events: usize) -> Option<usize>
+    ensures { IfSome result (λ room. room ≡ 2 * events + 1) }
+{
+    events.checked_mul(2)?.checked_add(1)
 }

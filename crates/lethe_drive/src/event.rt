@@ -1,12 +1,18 @@
 //! What a run of events asks of a store, and what it answers.
+ghost use Rattle.std.specs.Prelude.{◌≡◌};
+ghost use Rattle.lethe_drive.specs.Past.{named_by};
 
+use crate::time::Time;
 use lethe_base::{Key, List, Refused, Value};
+use lethe_engine::Ticked;
 
 /// One event.
 #[derive(Debug, Drop)]
 pub enum Event {
     Put { key: Key, dkey: u64, value: Value },
     Delete { key: Key },
+    /// Moves the clock.
+    Tick { to: Time },
     Get { key: Key },
     /// From `lo` up to `hi` excluded.
     Scan { lo: Key, hi: Key },
@@ -22,11 +28,25 @@ pub enum Event {
     Cancel { job: usize },
 }
 
+impl Event {
+    /// The number of the job that the event names, if it names one.
+    pub(crate) fn job(&self) -> Option<usize>
+        ensures { result ≡ named_by self.now }
+    {
+        match self {
+            Event::WriteOut { job } | Event::Install { job } | Event::Cancel { job } => Some(*job),
+            _ => None,
+        }
+    }
+}
+
 /// The reply to an event.
 #[derive(Debug, Drop)]
 pub enum Reply {
     /// The place of a change in the store's history.
     Place(u64),
+    /// The place of a tick, and the clock.
+    Ticked(Ticked),
     /// The delete key and the value of a key.
     Got(Option<(u64, Value)>),
     /// Keys with their delete keys and values, ascending.

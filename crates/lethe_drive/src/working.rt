@@ -37,6 +37,7 @@ pub(crate) fn begin<D: Disk>(engine: &mut Engine<D>, alloc: Global, jobs: &mut J
     ensures step { D.tells → (config : Fields) (opened : Opened) (h : History) → StandsFor config opened h (view_of engine.old.core) → (s : Stored) → IsKnown config h (view_of engine.old.core) s → (fetches faults : ℕ)
         → (g : History) × (t : Stored) × IsKnown config g (view_of engine.new.core) t × StandsFor config opened g (view_of engine.new.core)
         × IsStep D.ports_fail h (moment_of (view_of engine.old.core) s fetches faults jobs.old.begun (there_of jobs.old)) event.Begin result g (moment_of (view_of engine.new.core) t fetches faults jobs.new.begun (there_of jobs.new)) }
+    ensures rounds { engine.new.core.begun.rounds ≡ engine.old.core.begun.rounds }
     ensures faults { D.faults engine.old.core.disk ≤ D.faults engine.new.core.disk }
     ensures begun { jobs.new.begun ≤ jobs.old.begun + 1 }
 {
@@ -65,6 +66,7 @@ pub(crate) fn write_out<D: Disk>(
     ensures step { D.tells → (config : Fields) (opened : Opened) (h : History) → StandsFor config opened h (view_of engine.old.core) → (s : Stored) → IsKnown config h (view_of engine.old.core) s → (fetches faults : ℕ)
         → (g : History) × (t : Stored) × IsKnown config g (view_of engine.new.core) t × StandsFor config opened g (view_of engine.new.core)
         × IsStep D.ports_fail h (moment_of (view_of engine.old.core) s fetches faults jobs.old.begun (there_of jobs.old)) (event.WriteOut number) result g (moment_of (view_of engine.new.core) t fetches faults jobs.new.begun (there_of jobs.new)) }
+    ensures rounds { engine.new.core.begun.rounds ≡ engine.old.core.begun.rounds }
     ensures faults { D.faults engine.old.core.disk ≤ D.faults engine.new.core.disk }
     ensures begun { jobs.new.begun ≡ jobs.old.begun }
 {
@@ -93,6 +95,7 @@ fn write_next<D: Disk>(
     ensures refused { OnErr result (job.new.refused ≡ true) }
     ensures drawn { OnErr result (engine.new.core.state.next ≡ engine.old.core.state.next) }
     ensures task { job.new.task.value ≡ job.old.task.value }
+    ensures round { job.new.round ≡ job.old.round }
     // Once its outputs are made nothing is read.
     ensures read { IsSome job.old.drafts → (before now : ℕ) → IsErrOf result (ReadFault before now) → ⊥ }
     ensures made { OnOk result (IsSome job.new.drafts) }
@@ -100,6 +103,7 @@ fn write_next<D: Disk>(
         → (t : Stored) × IsKnown config (behind h 0 (Serves Work) (result_err result)) (view_of engine.new.core) t × StandsFor config opened (behind h 0 (Serves Work) (result_err result)) (view_of engine.new.core)
         × IsWriteOut D.ports_fail (going_of number job.old) h (moment_of (view_of engine.old.core) s fetches faults begun (Some (going_of number job.old))) result
         (behind h 0 (Serves Work) (result_err result)) (moment_of (view_of engine.new.core) t fetches faults begun (Some (going_of number job.new))) }
+    ensures rounds { engine.new.core.begun.rounds ≡ engine.old.core.begun.rounds }
     ensures faults { D.faults engine.old.core.disk ≤ D.faults engine.new.core.disk }
 {
     match job.next_piece(alloc)? {
@@ -125,6 +129,7 @@ pub(crate) fn install<D: Disk>(
     ensures step { D.tells → (config : Fields) (opened : Opened) (h : History) → StandsFor config opened h (view_of engine.old.core) → (s : Stored) → IsKnown config h (view_of engine.old.core) s → (fetches faults : ℕ)
         → (g : History) × (t : Stored) × IsKnown config g (view_of engine.new.core) t × StandsFor config opened g (view_of engine.new.core)
         × IsStep D.ports_fail h (moment_of (view_of engine.old.core) s fetches faults jobs.old.begun (there_of jobs.old)) (event.Install number) result g (moment_of (view_of engine.new.core) t fetches faults jobs.new.begun (there_of jobs.new)) }
+    ensures rounds { engine.new.core.begun.rounds ≡ engine.old.core.begun.rounds }
     ensures faults { D.faults engine.old.core.disk ≤ D.faults engine.new.core.disk }
     ensures begun { jobs.new.begun ≡ jobs.old.begun }
 {
@@ -157,6 +162,7 @@ fn install_whole<D: Disk>(
         (moment_of (view_of engine.old.core) s fetches faults jobs.old.begun (Some (going_of numbered.number numbered.job))) result
         (behind h 0 (Serves Work) (result_err result)) (moment_of (view_of engine.new.core) t fetches faults jobs.new.begun (there_of jobs.new)) }
     ensures begun { jobs.new.begun ≡ jobs.old.begun }
+    ensures rounds { engine.new.core.begun.rounds ≡ engine.old.core.begun.rounds }
     ensures faults { D.faults engine.old.core.disk ≤ D.faults engine.new.core.disk }
 {
     let Numbered { number, mut job } = numbered;
@@ -188,9 +194,11 @@ fn write_rest<D: Disk>(
     ensures whole { OnOk result (IsWhole job.new) }
     ensures refused { OnErr result (job.new.refused ≡ true) }
     ensures task { job.new.task.value ≡ job.old.task.value }
+    ensures round { job.new.round ≡ job.old.round }
     ensures step { D.tells → (config : Fields) (opened : Opened) (h : History) → StandsFor config opened h (view_of engine.old.core) → (s : Stored) → IsKnown config h (view_of engine.old.core) s
         → (t : Stored) × IsKnown config (behind h 0 (Serves Work) (result_err result)) (view_of engine.new.core) t × StandsFor config opened (behind h 0 (Serves Work) (result_err result)) (view_of engine.new.core)
         × IsWritingOn D.ports_fail (view_of engine.old.core) (view_of engine.new.core) (D.port_faults job.old.port) (D.port_faults job.new.port) s t result }
+    ensures rounds { engine.new.core.begun.rounds ≡ engine.old.core.begun.rounds }
     ensures faults { D.faults engine.old.core.disk ≤ D.faults engine.new.core.disk }
 {
     while write_next(engine, alloc, job)? {}
@@ -206,6 +214,7 @@ pub(crate) fn cancel<D: Disk>(engine: &mut Engine<D>, jobs: &mut Jobs<D>, number
     ensures step { D.tells → (config : Fields) (opened : Opened) (h : History) → StandsFor config opened h (view_of engine.old.core) → (s : Stored) → IsKnown config h (view_of engine.old.core) s → (fetches faults : ℕ)
         → (g : History) × (t : Stored) × IsKnown config g (view_of engine.new.core) t × StandsFor config opened g (view_of engine.new.core)
         × IsStep D.ports_fail h (moment_of (view_of engine.old.core) s fetches faults jobs.old.begun (there_of jobs.old)) (event.Cancel number) result g (moment_of (view_of engine.new.core) t fetches faults jobs.new.begun (there_of jobs.new)) }
+    ensures rounds { engine.new.core.begun.rounds ≡ engine.old.core.begun.rounds }
     ensures faults { D.faults engine.old.core.disk ≤ D.faults engine.new.core.disk }
     ensures begun { jobs.new.begun ≡ jobs.old.begun }
 {

@@ -1,4 +1,4 @@
-use Rattle.std.proofs.Common.{◌≡◌, ℕ, List, Result, Ok, Err, Vec, Global, refl, sym, ap, ◌∙◌, subst}
+use Rattle.std.proofs.Common.{◌≡◌, inl, inr, ℕ, List, Result, Ok, Err, Vec, Global, refl, sym, ap, ◌∙◌, subst}
 use Rattle.std.specs.Result.{result_err}
 use Rattle.lethe_base.specs.History.{History}
 use Rattle.lethe_base.specs.Keys.{Bytes}
@@ -19,8 +19,10 @@ use Rattle.lethe_engine.specs.StandsFor.{Opened, StandsFor}
 use Rattle.lethe_engine.specs.Work.{HasNoFlush, HasNoFreeze}
 use Rattle.lethe_drive.specs.Answers.{IsRead, ReadAnswers}
 use Rattle.lethe_drive.specs.Moments.{IsKnown, Moment, moment_of, there_of}
+use Rattle.lethe_drive.specs.Past.{IsTickAsked}
 use Rattle.lethe_drive.specs.Replies.{got, paired}
 use Rattle.lethe_drive.specs.Steps.{IsStep}
+use Rattle.lethe_drive.specs.Ticks.{IsTick}
 use Rattle.lethe_drive.specs.declared.event.Event.{Event}
 use Rattle.lethe_drive.specs.declared.event.Reply.{Reply}
 use Rattle.lethe_drive.specs.declared.event.Reply.TheVariants as reply
@@ -66,7 +68,7 @@ returns-in-Put-clause-step g c = λ told config opened h stands s known.
     let stood = c.put.ensures.answers.stands told config opened h stands 0 in
     let is = changed g.D.Disk.tells g.D.Disk.ports_fail told Put (λ s headers next. next ≡ put_over s c.in-Put.key c.in-Put.dkey c.in-Put.value) config opened h old new s known
     (g.D.Disk.fetches c.args.port.now) fetches (g.D.Disk.port_faults c.args.port.now) faults jobs.begun (there_of jobs) stands (ap (λ (face : Face). face.flight) c.put.ensures.answers.face_is)
-    result stood c.put.ensures.answers.still c.put.ensures.answers.refused c.put.ensures.place c.put.ensures.why
+    (λ room. room) (λ t begun. begun) result stood c.put.ensures.answers.still c.put.ensures.answers.refused c.put.ensures.place c.put.ensures.why
     (λ holds. on_ok result _ _ (c.put.ensures.written told s holds) (λ done. (done.0, done.1, put_over done.0 c.in-Put.key c.in-Put.dkey c.in-Put.value, done.2, refl, done.3, done.4, done.5)))
     (λ at e. (c.put.ensures.stopped at e).0) (λ runs full. (c.put.ensures.exhausted runs full).0) in
     subst (Comes g.D.Disk.ports_fail config opened h before new (λ t. moment_of new t fetches faults jobs.begun (there_of jobs)) c.placed.result) (sym c.in-Put.is)
@@ -91,10 +93,27 @@ returns-in-Delete-clause-step g c = λ told config opened h stands s known.
     let stood = c.delete.ensures.answers.stands told config opened h stands 0 in
     let is = changed g.D.Disk.tells g.D.Disk.ports_fail told Delete (λ s headers next. IsDeleteOver s headers c.in-Delete.key next) config opened h old new s known
     (g.D.Disk.fetches c.args.port.now) fetches (g.D.Disk.port_faults c.args.port.now) faults jobs.begun (there_of jobs) stands (ap (λ (face : Face). face.flight) c.delete.ensures.answers.face_is)
-    result stood c.delete.ensures.answers.still c.delete.ensures.answers.refused c.delete.ensures.place c.delete.ensures.why (c.delete.ensures.written told s)
+    (λ room. room) (λ t begun. begun) result stood c.delete.ensures.answers.still c.delete.ensures.answers.refused c.delete.ensures.place c.delete.ensures.why (c.delete.ensures.written told s)
     (λ at e. (c.delete.ensures.stopped at e).0) (λ runs full. (c.delete.ensures.exhausted runs full).0) in
     subst (Comes g.D.Disk.ports_fail config opened h before new (λ t. moment_of new t fetches faults jobs.begun (there_of jobs)) c.placed-in-Delete.result) (sym c.in-Delete.is)
     (behind h 0 (Makes Delete) (result_err result), is.0, is.1, stood, (result, c.placed-in-Delete.ensures, is.2))
+
+-- Tick
+
+pub returns-in-Tick-clause-step : goal.returns-in-Tick-clause-step
+returns-in-Tick-clause-step g c = λ told config opened h stands s known.
+    let new = view_of c.tick.new.engine.core in
+    let jobs = c.tick.new.jobs in
+    let fetches = g.D.Disk.fetches c.tick.new.port in
+    let faults = g.D.Disk.port_faults c.tick.new.port in
+    let before = moment_of (view_of c.args.engine.now.core) s (g.D.Disk.fetches c.args.port.now) (g.D.Disk.port_faults c.args.port.now) c.args.jobs.now.begun (there_of c.args.jobs.now) in
+    let is = c.tick.ensures.step told config opened h stands s known in
+    let now = moment_of new is.1 fetches faults jobs.begun (there_of jobs) in
+    subst (Comes g.D.Disk.ports_fail config opened h before new (λ t. moment_of new t fetches faults jobs.begun (there_of jobs)) c.told.result) (sym c.in-Tick.is)
+    (is.0, is.1, is.2, is.3, (c.tick.result, c.told.ensures, subst (λ (to : ℕ). IsTick g.D.Disk.ports_fail to h before c.tick.result is.0 now) c.get.ensures.number is.4))
+
+pub returns-in-Tick-clause-rounds : goal.returns-in-Tick-clause-rounds
+returns-in-Tick-clause-rounds g c = elim c.tick.ensures.rounds [ inl kept ↦ inl kept.0 | inr ended ↦ inr (subst IsTickAsked (sym c.in-Tick.is) tt, ended.0, ended.1) ]
 
 -- Get
 
@@ -102,25 +121,25 @@ pub returns-in-Ok-clause-step : goal.returns-in-Ok-clause-step
 returns-in-Ok-clause-step g c = λ told config opened h stands s known.
     let view = view_of c.args.engine.now.core in
     let jobs = c.args.jobs.now in
-    let fetches = g.D.Disk.fetches c.get.new.port in
-    let faults = g.D.Disk.port_faults c.get.new.port in
+    let fetches = g.D.Disk.fetches c.get-in-Get.new.port in
+    let faults = g.D.Disk.port_faults c.get-in-Get.new.port in
     let before = moment_of view s (g.D.Disk.fetches c.args.port.now) (g.D.Disk.port_faults c.args.port.now) jobs.begun (there_of jobs) in
     let is = is_read g.D.Disk.ports_fail (reads.Get c.in-Get.key) reads.Found h view s (g.D.Disk.fetches c.args.port.now) fetches (g.D.Disk.port_faults c.args.port.now) faults jobs.begun (there_of jobs)
-    c.get.result (c.get.ensures.answer told config h stands.now) c.get.ensures.why c.get.ensures.fault c.get.ensures.can_fail (c.get.ensures.undamaged told c.requires.sound) in
+    c.get-in-Get.result (c.get-in-Get.ensures.answer told config h stands.now) c.get-in-Get.ensures.why c.get-in-Get.ensures.fault c.get-in-Get.ensures.can_fail (c.get-in-Get.ensures.undamaged told c.requires.sound) in
     subst (Comes g.D.Disk.ports_fail config opened h before view (λ t. moment_of view t fetches faults jobs.begun (there_of jobs)) (reply.Got c.in-Ok.held)) (sym c.in-Get.is)
-    (h, s, known, stands, (c.get.result, sym (ap got c.in-Ok.is), is))
+    (h, s, known, stands, (c.get-in-Get.result, sym (ap got c.in-Ok.is), is))
 
 pub returns-in-Get-clause-step : goal.returns-in-Get-clause-step
 returns-in-Get-clause-step g c = λ told config opened h stands s known.
     let view = view_of c.args.engine.now.core in
     let jobs = c.args.jobs.now in
-    let fetches = g.D.Disk.fetches c.get.new.port in
-    let faults = g.D.Disk.port_faults c.get.new.port in
+    let fetches = g.D.Disk.fetches c.get-in-Get.new.port in
+    let faults = g.D.Disk.port_faults c.get-in-Get.new.port in
     let before = moment_of view s (g.D.Disk.fetches c.args.port.now) (g.D.Disk.port_faults c.args.port.now) jobs.begun (there_of jobs) in
     let is = is_read g.D.Disk.ports_fail (reads.Get c.in-Get.key) reads.Found h view s (g.D.Disk.fetches c.args.port.now) fetches (g.D.Disk.port_faults c.args.port.now) faults jobs.begun (there_of jobs)
-    c.get.result (c.get.ensures.answer told config h stands.now) c.get.ensures.why c.get.ensures.fault c.get.ensures.can_fail (c.get.ensures.undamaged told c.requires.sound) in
+    c.get-in-Get.result (c.get-in-Get.ensures.answer told config h stands.now) c.get-in-Get.ensures.why c.get-in-Get.ensures.fault c.get-in-Get.ensures.can_fail (c.get-in-Get.ensures.undamaged told c.requires.sound) in
     subst (Comes g.D.Disk.ports_fail config opened h before view (λ t. moment_of view t fetches faults jobs.begun (there_of jobs)) (reply.Refused c.in-Err.why)) (sym c.in-Get.is)
-    (h, s, known, stands, (c.get.result, sym (ap got c.in-Err.is), is))
+    (h, s, known, stands, (c.get-in-Get.result, sym (ap got c.in-Err.is), is))
 
 -- Scan
 
@@ -240,3 +259,29 @@ returns-clause-step g c = λ told config opened h stands s known.
     let faults = g.D.Disk.port_faults c.args.port.now in
     subst (Comes g.D.Disk.ports_fail config opened h (moment_of (view_of c.args.engine.now.core) s fetches faults jobs.begun (there_of jobs)) (view_of c.cancel.new.engine.core)
     (λ t. moment_of (view_of c.cancel.new.engine.core) t fetches faults new.begun (there_of new)) c.cancel.result) (sym c.in-Cancel.is) (c.cancel.ensures.step told config opened h stands s known fetches faults)
+
+-- No round ends but by a tick
+
+pub returns-in-Put-clause-rounds : goal.returns-in-Put-clause-rounds
+returns-in-Put-clause-rounds g c = inl (ap (λ (face : Face). face.rounds) c.put.ensures.answers.face_is)
+
+pub returns-in-Delete-clause-rounds : goal.returns-in-Delete-clause-rounds
+returns-in-Delete-clause-rounds g c = inl (ap (λ (face : Face). face.rounds) c.delete.ensures.answers.face_is)
+
+pub returns-in-Freeze-clause-rounds : goal.returns-in-Freeze-clause-rounds
+returns-in-Freeze-clause-rounds g c = inl (ap (λ (face : Face). face.rounds) c.freeze.ensures.answers.face_is)
+
+pub returns-in-Flush-clause-rounds : goal.returns-in-Flush-clause-rounds
+returns-in-Flush-clause-rounds g c = inl (ap (λ (face : Face). face.rounds) c.flush.ensures.answers.face_is)
+
+pub returns-in-Begin-clause-rounds : goal.returns-in-Begin-clause-rounds
+returns-in-Begin-clause-rounds g c = inl c.begin.ensures.rounds
+
+pub returns-in-WriteOut-clause-rounds : goal.returns-in-WriteOut-clause-rounds
+returns-in-WriteOut-clause-rounds g c = inl c.write_out.ensures.rounds
+
+pub returns-in-Install-clause-rounds : goal.returns-in-Install-clause-rounds
+returns-in-Install-clause-rounds g c = inl c.install.ensures.rounds
+
+pub returns-clause-rounds : goal.returns-clause-rounds
+returns-clause-rounds g c = inl c.cancel.ensures.rounds

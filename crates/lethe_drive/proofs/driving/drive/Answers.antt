@@ -1,36 +1,47 @@
-use Rattle.std.proofs.Common.{rules, ◌≡◌, ◌+◌, List, [], ◌∷◌, ◌++◌, length, None, refl, sym, ap, ◌∙◌, subst, arith}
-use Rattle.std.proofs.lemmas.List.{length_push, map-id}
+use Rattle.std.proofs.Common.{rules, ◌≡◌, ◌<◌, ◌+◌, List, [], ◌∷◌, ◌++◌, length, None, refl, sym, ap, ◌∙◌, subst, append_assoc, arith}
+use Rattle.std.specs.Prelude.{vec_len}
+use Rattle.std.proofs.lemmas.Bool.{eqb-true}
+use Rattle.std.proofs.lemmas.List.{length-append, length_push, map-id}
+use Rattle.std.proofs.lemmas.List.Elements.{All-nil}
 use Rattle.std.proofs.lemmas.Iterator.Adapters.{YieldsList-from_vec}
 use Rattle.std.proofs.lemmas.Iterator.Consumers.{YieldsList-end}
 use Rattle.lethe_core.specs.View.{view_of}
 use Rattle.lethe_drive.specs.Moments.{moment_of, there_of}
+use Rattle.lethe_drive.specs.Past.{AreEarlier}
+use Rattle.lethe_drive.specs.Runs.{run_of}
 use Rattle.lethe_drive.specs.Steps.{Steps}
 use Rattle.lethe_drive.specs.declared.event.Reply.{Reply}
+use Rattle.lethe_drive.specs.declared.past.Past.{Past}
 use Rattle.lethe_drive.proofs.Giving.{going_there}
 use Rattle.lethe_drive.proofs.Knowing.{moment_known}
-use Rattle.lethe_drive.proofs.Stepping.{driven_free, driven_on, ended_as, one_more}
+use Rattle.lethe_drive.proofs.Left.{given, given_all, given_on}
+use Rattle.lethe_drive.proofs.Stepping.{driven_free, driven_on, ended_as, one_more, run_at}
 use Rattle.lethe_drive.proofs.driving.drive.Goals as goal
-use Rattle.lethe_drive.proofs.driving.drive.Goals.{Joined-jobs, in-Some-number, in_default-number}
+use Rattle.lethe_drive.proofs.driving.drive.Goals.{After-number, in-Some-number, in_default-number}
 
 pub loop-event-init : goal.loop-event-init
 loop-event-init g c =
     let view = view_of c.args.engine.now.core in
-    let asked : c.in-Some.room ≡ c.len-count.result + 1 = search rules in
+    let none : AreEarlier view.rounds c.in_ok-past.past.items = subst (AreEarlier view.rounds) (sym c.in_ok-past.ensures.items) (All-nil (λ (job : Past). job.round < view.rounds)) in
     record {
       sound = c.requires.sound;
       jobs = record { flies = tt; works = tt; reads = tt };
+      earlier = none;
       begun = omega arith;
       driven = λ told config opened h stands s known.
-          let start = moment_of view s (g.D.Disk.fetches c.args.port.now) (g.D.Disk.port_faults c.args.port.now) 0 None in (
+          let now = moment_of view s (g.D.Disk.fetches c.args.port.now) (g.D.Disk.port_faults c.args.port.now) 0 None in (
             h,
             s,
             known,
             stands,
-            subst (λ (replies : List Reply). Steps g.D.Disk.ports_fail config h start [] replies h start) (sym c.in_ok-replies.ensures.items) (refl, refl),
+            subst (λ (replies : List Reply). Steps g.D.Disk.ports_fail config h (run_at now []) [] replies h (run_at now c.in_ok-past.past.items)) (sym c.in_ok-replies.ensures.items)
+                (refl, ap (run_at now) c.in_ok-past.ensures.items),
           );
       faults = omega arith;
-      room = omega (arith, asked, c.in_ok-replies.ensures.capacity, c.len-count.ensures, c.args.events.ok.0);
+      room = omega (arith, c.in-Some.ensures, c.in_ok-replies.ensures.capacity, c.len-count.ensures, c.args.events.ok.0);
       len = search rules;
+      places = omega (arith, c.in_ok-past.ensures.capacity, c.len-count.ensures, c.args.events.ok.0);
+      few = let none = ap length c.in_ok-past.ensures.items in omega (arith, none);
     }
 
 pub loop-event-preserved : goal.loop-event-preserved
@@ -38,47 +49,70 @@ loop-event-preserved g c =
     let Ports = g.D.Disk.ports_fail in
     let old = view_of c.args.engine.now.core in
     let mid = view_of c.loop-event.engine.core in
-    let new = view_of c.answer-reply.new.engine.core in
+    let new = view_of c.answer_any-reply.new.engine.core in
     let event = c.in-Some-event.event in
-    let reply = c.answer-reply.result in
+    let reply = c.answer_any-reply.result in
     let pushed : c.push.new.self.items ≡ c.loop-event.replies.items ++ reply ∷ [] = search rules in
+    let is = c.answer_any-reply.ensures in
     record {
-      sound = c.answer-reply.ensures.sound;
-      jobs = c.answer-reply.ensures.jobs;
-      begun = let before = c.loop-event.invariant.begun in let more = c.answer-reply.ensures.begun in omega (arith, before, more, length_push c.loop-event.yielded event);
+      sound = is.sound;
+      jobs = is.jobs;
+      earlier = is.earlier;
+      begun = let before = c.loop-event.invariant.begun in let more = is.begun in omega (arith, before, more, length_push c.loop-event.yielded event);
       driven = λ told config opened h stands s known.
           let so_far = c.loop-event.invariant.driven told config opened h stands s known in
-          let step = c.answer-reply.ensures.step told config opened so_far.0 so_far.3 so_far.1 so_far.2 in
-          let start = moment_of old s (g.D.Disk.fetches c.args.port.now) (g.D.Disk.port_faults c.args.port.now) 0 None in
-          let middle = moment_of mid so_far.1 (g.D.Disk.fetches c.loop-event.port) (g.D.Disk.port_faults c.loop-event.port) c.loop-event.jobs.begun (there_of c.loop-event.jobs) in
-          let fetches = g.D.Disk.fetches c.answer-reply.new.port in
-          let faults = g.D.Disk.port_faults c.answer-reply.new.port in
-          let begun = c.answer-reply.new.jobs.begun in
-          let there = there_of c.answer-reply.new.jobs in
-          let finish = moment_of new step.1 fetches faults begun there in (
+          let step = is.event told config opened so_far.0 so_far.3 so_far.1 so_far.2 in
+          let start = run_at (moment_of old s (g.D.Disk.fetches c.args.port.now) (g.D.Disk.port_faults c.args.port.now) 0 None) [] in
+          let middle = run_of mid so_far.1 (g.D.Disk.fetches c.loop-event.port) (g.D.Disk.port_faults c.loop-event.port) c.loop-event.jobs c.loop-event.past.items in
+          let fetches = g.D.Disk.fetches c.answer_any-reply.new.port in
+          let faults = g.D.Disk.port_faults c.answer_any-reply.new.port in
+          let jobs = c.answer_any-reply.new.jobs in
+          let finish = run_of new step.1 fetches faults jobs c.answer_any-reply.new.past.items in (
             step.0,
             step.1,
             step.2,
             step.3,
             subst (λ (replies : List Reply). Steps Ports config h start (c.loop-event.yielded ++ event ∷ []) replies step.0 finish) (sym pushed)
                 (one_more Ports config h start c.loop-event.yielded c.loop-event.replies.items so_far.0 middle so_far.4 event reply step.0 finish step.4
-                (moment_known config opened step.0 new step.3 step.1 step.2 fetches faults begun there (going_there g.D.Disk.tells new c.answer-reply.new.jobs c.answer-reply.ensures.jobs))
-                (record { faults = c.answer-reply.ensures.faults; port_faults = c.answer-reply.ensures.port_faults })),
+                (record { now = moment_known config opened step.0 new step.3 step.1 step.2 fetches faults jobs.begun (there_of jobs) (going_there g.D.Disk.tells new jobs is.jobs); earlier = is.earlier })
+                (record { faults = is.faults; port_faults = is.port_faults })),
           );
-      faults = let before = c.loop-event.invariant.faults in let more = c.answer-reply.ensures.faults in omega (arith, before, more);
+      faults = let before = c.loop-event.invariant.faults in let more = is.faults in omega (arith, before, more);
       room = let room = c.loop-event.invariant.room in let more = c.push.ensures.capacity in omega (arith, room, more);
       len =
           let before = c.loop-event.replies in
           let after = c.push.new.self in
           omega (arith, after.ok.0, before.ok.0, c.loop-event.invariant.len, ap length pushed, length_push before.items reply, length_push c.loop-event.yielded event);
+      places = let places = c.loop-event.invariant.places in let more = is.space in omega (arith, places, more);
+      few = let few = c.loop-event.invariant.few in let more = is.more in omega (arith, few, more, length_push c.loop-event.yielded event);
+    }
+
+pub loop-replies-preserved : goal.loop-replies-preserved
+loop-replies-preserved g c =
+    let so_far = c.loop-replies.invariant in
+    let gone = c.give_up.ensures.gone in
+    let pushed : c.push-in-loop-replies.new.self.items ≡ c.loop-replies.replies.items ++ c.give_up.result ∷ [] = search rules in
+    record {
+      given = given_on c.loop-event.engine.core.state.stopped c.loop-event.past.items c.loop-replies.past.items c.loop-event.replies.items c.loop-replies.replies.items so_far.given gone.0 gone.1 gone.2 gone.3 gone.4
+          c.give_up.new.past.items gone.5 c.give_up.result c.give_up.ensures.reply c.push-in-loop-replies.new.self.items pushed;
+      room =
+          let before = c.loop-replies.replies in
+          let after = c.push-in-loop-replies.new.self in
+          omega (arith, so_far.room, c.push-in-loop-replies.ensures.capacity, after.ok.0, before.ok.0, ap length pushed, length_push before.items c.give_up.result, ap length gone.4, ap length gone.5,
+          length-append gone.0 (gone.2 ∷ gone.1), length-append gone.0 gone.1);
     }
 
 -- every event was answered
-answered : (g : _) (c : Joined-jobs g) → c.args.events.items ≡ c.loop-event.yielded
+answered : (g : _) (c : After-number g) → c.args.events.items ≡ c.loop-event.yielded
 answered g c =
     let gives = c.into_iter-event-iterator.ensures.into_iter_gives in
     let all = YieldsList-end (YieldsList-from_vec {s = c.into_iter-event-iterator.result} c.args.events.items gives.0 (gives.1 ∙ c.args.events.ok.0)) c.loop-event.yielded c.loop-event.event-iterator c.loop-event.yielded_by c.next.result c.next.new.self c.in-None.is c.next.ensures.steps in
     sym all.0 ∙ map-id c.loop-event.yielded
+
+-- and all jobs of earlier rounds were given up
+all_given : (g : _) (c : After-number g) → c.loop-replies.replies.items ≡ c.loop-event.replies.items ++ given c.loop-event.engine.core.state.stopped c.loop-event.past.items
+all_given g c = given_all c.loop-event.engine.core.state.stopped c.loop-event.past.items c.loop-replies.past.items c.loop-event.replies.items c.loop-replies.replies.items c.loop-replies.invariant.given
+    (let none = eqb-true (vec_len c.loop-replies.past) 0 (sym c.is_empty.ensures ∙ c.loop-replies-test.false) in omega (arith, none, c.loop-replies.past.ok.0))
 
 pub returns-clause-sound : goal.returns-clause-sound
 returns-clause-sound g c = elim c.match-number.branch [
@@ -88,6 +122,7 @@ returns-clause-sound g c = elim c.match-number.branch [
 
 pub returns-clause-driven : goal.returns-clause-driven
 returns-clause-driven g c = λ told config opened h stands s known.
+    let at = (goal.at.returns-clause-driven g c).After-number in
     let Ports = g.D.Disk.ports_fail in
     let old = view_of c.args.engine.now.core in
     let mid = view_of c.loop-event.engine.core in
@@ -96,11 +131,13 @@ returns-clause-driven g c = λ told config opened h stands s known.
     let begins = moment_known config opened h old stands s known (g.D.Disk.fetches c.args.port.now) (g.D.Disk.port_faults c.args.port.now) 0 None tt in
     let fetches = g.D.Disk.fetches c.loop-event.port in
     let faults = g.D.Disk.port_faults c.loop-event.port in
-    let begun = c.loop-event.jobs.begun in
-    let there = there_of c.loop-event.jobs in
+    let jobs = c.loop-event.jobs in
+    let past = c.loop-event.past.items in
     let events = c.loop-event.yielded in
     let replies = c.loop-event.replies.items in
+    let left = given mid.state.stopped past in
     let so_far = c.loop-event.invariant.driven told config opened h stands s known in
+    let is_now = moment_known config opened so_far.0 mid so_far.3 so_far.1 so_far.2 fetches faults jobs.begun (there_of jobs) (going_there g.D.Disk.tells mid jobs c.loop-event.invariant.jobs) in
     elim c.match-number.branch [
       | in-Some-number w ↦
           let number = w.in-Some-number.number in
@@ -108,13 +145,16 @@ returns-clause-driven g c = λ told config opened h stands s known.
           let new = view_of w.cancel.new.engine.core in
           let last = w.cancel.new.jobs in
           let step = w.cancel.ensures.step told config opened so_far.0 so_far.3 so_far.1 so_far.2 fetches faults in
-          let pushed : w.push-in-Some-number.new.self.items ≡ replies ++ reply ∷ [] = search rules in
+          let pushed : w.push-in-Some-number.new.self.items ≡ c.loop-replies.replies.items ++ reply ∷ [] = search rules in
           let whole : c.match-number.replies.items ≡ w.push-in-Some-number.new.self.items = λ i. (w.replies-is i).items in
           let moment = moment_known config opened step.0 new step.3 step.1 step.2 fetches faults last.begun (there_of last) (going_there g.D.Disk.tells new last w.cancel.ensures.jobs) in
-          let driven = driven_on Ports config h start begins events replies so_far.0 mid so_far.1 fetches faults begun there so_far.4 number (sym c.number.ensures ∙ w.in-Some-number.is) reply step.0 new step.1
-          last.begun (there_of last) moment (record { faults = w.cancel.ensures.faults; port_faults = omega arith }) step.4 in
-          ended_as Ports config opened h start fetches faults new events (replies ++ reply ∷ []) (step.0, step.1, step.2, step.3, last.begun, driven) end c.args.events.items c.match-number.replies.items (λ i. view_of (w.engine-is i).core) (answered g c) (whole ∙ pushed)
+          let driven = driven_on Ports config h start begins events replies so_far.0 mid so_far.1 fetches faults jobs.begun (there_of jobs) past so_far.4 is_now c.loop-event.invariant.earlier number
+          (sym c.number.ensures ∙ w.in-Some-number.is) reply step.0 new step.1 last.begun (there_of last) moment (record { faults = w.cancel.ensures.faults; port_faults = omega arith }) step.4 w.cancel.ensures.rounds in
+          ended_as Ports config opened h start fetches faults new events (replies ++ (left ++ reply ∷ [])) (step.0, step.1, step.2, step.3, last.begun, driven) end c.args.events.items c.match-number.replies.items
+              (λ i. view_of (w.engine-is i).core) (answered g at) (whole ∙ pushed ∙ ap (λ (l : List Reply). l ++ reply ∷ []) (all_given g at) ∙ append_assoc replies left (reply ∷ []))
       | in_default-number w ↦
-          let driven = driven_free Ports config h start begins events replies so_far.0 mid so_far.1 fetches faults begun there so_far.4 (sym c.number.ensures ∙ w.in_default-number.is) in
-          ended_as Ports config opened h start fetches faults mid events replies (so_far.0, so_far.1, so_far.2, so_far.3, begun, driven) end c.args.events.items c.match-number.replies.items (λ i. view_of (w.engine-is i).core) (answered g c) (λ i. (w.replies-is i).items)
+          let driven = driven_free Ports config h start begins events replies so_far.0 mid so_far.1 fetches faults jobs.begun (there_of jobs) past so_far.4 is_now c.loop-event.invariant.earlier
+          (sym c.number.ensures ∙ w.in_default-number.is) in
+          ended_as Ports config opened h start fetches faults mid events (replies ++ left) (so_far.0, so_far.1, so_far.2, so_far.3, jobs.begun, driven) end c.args.events.items c.match-number.replies.items
+              (λ i. view_of (w.engine-is i).core) (answered g at) ((λ i. (w.replies-is i).items) ∙ all_given g at)
     ]

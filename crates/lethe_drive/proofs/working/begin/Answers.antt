@@ -42,7 +42,7 @@ returns-in-Ok-clause-step g c = λ told config opened h stands s known fetches f
       (
         Ok jobs.begun,
         refl,
-        has_begun config h old new s fetches faults jobs.begun (there_of jobs) is.same.0 (λ i. parts_by_level (is.same.1 i)) retired (is.idle told) g.D.Disk.tells job runs
+        has_begun config h old new s fetches faults jobs.begun (there_of jobs) is.same.0 (λ i. parts_by_level (is.same.1 i)) retired (is.idle told) g.D.Disk.tells job is.number.1 runs
             (λ busy. ok_or_err job NothingDue (is.busy runs (some_mapped flying_of c.args.engine.now.core.flight busy)).0) begun.0 is.works is.unmade.0 is.unmade.2,
       ),
     )
@@ -73,3 +73,9 @@ returns-in-Err-clause-step g c = λ told config opened h stands s known fetches 
             (λ runs busy. refused_as c.begin.result why NothingDue c.in-Err.is (c.begin.ensures.busy runs (some_mapped flying_of c.args.engine.now.core.flight busy)).0),
       ),
     )
+
+pub returns-in-Ok-clause-rounds : goal.returns-in-Ok-clause-rounds
+returns-in-Ok-clause-rounds g c = ap (λ (face : Face). face.rounds) c.in-Ok.ensures.answers.face_is
+
+pub returns-in-Err-clause-rounds : goal.returns-in-Err-clause-rounds
+returns-in-Err-clause-rounds g c = ap (λ (face : Face). face.rounds) c.in-Err.ensures.answers.face_is

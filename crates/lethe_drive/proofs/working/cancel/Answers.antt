@@ -7,7 +7,7 @@ use Rattle.lethe_engine.proofs.Faces.{given_up_free}
 use Rattle.lethe_engine.proofs.Rounds.{cancelled_flying}
 use Rattle.lethe_drive.specs.Moments.{going_of, moment_of, there_of}
 use Rattle.lethe_drive.specs.Steps.{IsThere}
-use Rattle.lethe_drive.proofs.Giving.{given, given_up, given_up_retired, theirs_back, theirs_flies, theirs_none}
+use Rattle.lethe_drive.proofs.Giving.{given, given_up, given_up_retired, given_up_rounds, theirs_back, theirs_flies, theirs_none}
 use Rattle.lethe_drive.proofs.Naming.{no_such, none_there, other_there, put_back, there_is, there_none}
 use Rattle.lethe_drive.proofs.working.cancel.Goals as goal
 
@@ -53,6 +53,14 @@ cancel-requires-clause-flies g c = λ lifetimes outlive.
 
 pub returns-clause-jobs : goal.returns-clause-jobs
 returns-clause-jobs g c = theirs_none g.D.Disk.tells (view_of c.cancel.new.self.core) c.args.jobs.now.begun c.take.new.self c.take.ensures.after
+
+pub returns-clause-rounds : goal.returns-clause-rounds
+returns-clause-rounds g c =
+    let old = view_of c.args.engine.now.core in
+    let jobs = c.args.jobs.now in
+    let numbered = c.in-Some.numbered in
+    let flies = theirs_flies g.D.Disk.tells old jobs c.requires.jobs numbered (sym c.take.ensures.value ∙ c.in-Some.is) in
+    ap (λ (face : Face). face.rounds) (c.cancel.ensures.answers.face_is ∙ cancelled_flying old numbered.job flies) ∙ given_up_rounds (face_of old) old.state
 
 pub returns-clause-step : goal.returns-clause-step
 returns-clause-step g c = λ told config opened h stands s known fetches faults.

@@ -1,4 +1,4 @@
-use Rattle.std.proofs.Common.{inl, ap}
+use Rattle.std.proofs.Common.{inl, ap, ◌∙◌}
 use Rattle.lethe_core.specs.View.{Face, view_of}
 use Rattle.lethe_engine.specs.Jobs.{IsShortToInstall}
 use Rattle.lethe_engine.proofs.Rounds.{flies_now, reason_of_work}
@@ -15,7 +15,7 @@ returns-in-Err-clause-step g c = λ told config opened h stands s known fetches 
       step.1,
       step.2,
       rest_refused g.D.Disk.tells g.D.Disk.ports_fail h (view_of c.args.engine.now.core) s numbered.number fetches faults c.args.jobs.now.begun numbered.job (view_of c.write_rest.new.engine.core) step.0
-          c.write_rest.new.job c.in-Err.why c.write_rest.ensures.task c.in-Err.ensures.refused step.3,
+          c.write_rest.new.job c.in-Err.why c.write_rest.ensures.task c.write_rest.ensures.round c.in-Err.ensures.refused step.3,
     )
 
 pub returns-in-Ok-clause-step : goal.returns-in-Ok-clause-step
@@ -51,6 +51,12 @@ returns-in-Err-install-clause-step g c = λ told config opened h stands s known 
     install_refused g.D.Disk.tells g.D.Disk.ports_fail h (view_of c.args.engine.now.core) s numbered.number fetches faults c.args.jobs.now.begun numbered.job told (c.requires.reads told)
     (view_of c.write_rest.new.engine.core) c.write_rest.new.job c.write_rest.ensures.task c.in_default.ensures.works c.in_default.ensures.whole config opened stands step.2 c.write_rest.ensures.faults
     step.0 step.1 step.3.done step.3.flight step.3.retired (view_of c.install.new.self.core) c.in-Err-install.job c.in-Err-install.why after is.answers.still is.answers.refused is.answers.face_is
-    (task_back numbered.job c.write_rest.new.job c.in-Err-install.job c.write_rest.ensures.task is.handed.0) is.back.1
+    (task_back numbered.job c.write_rest.new.job c.in-Err-install.job c.write_rest.ensures.task is.handed.0) (is.handed.2 ∙ c.write_rest.ensures.round) is.back.1
     (reason_of_work mid whole (IsShortToInstall mid whole) (view_of c.install.new.self.core) c.in-Err-install.why (flies_now mid whole c.in_default.ensures.works.flies) is.why) is.drawn in
     (not_made.0, not_made.1, after, not_made.2)
+
+pub returns-in-Ok-clause-rounds : goal.returns-in-Ok-clause-rounds
+returns-in-Ok-clause-rounds g c = ap (λ (face : Face). face.rounds) c.in-Ok.ensures.answers.face_is ∙ c.write_rest.ensures.rounds
+
+pub returns-in-Err-install-clause-rounds : goal.returns-in-Err-install-clause-rounds
+returns-in-Err-install-clause-rounds g c = ap (λ (face : Face). face.rounds) c.in-Err-install.ensures.answers.face_is ∙ c.write_rest.ensures.rounds

@@ -1,7 +1,7 @@
-use Rattle.std.proofs.Common.{rules, ◌≡◌, ◌<◌, ◌≤◌, ℕ, inl, Some, None, ◌∙◌, subst}
+use Rattle.std.proofs.Common.{rules, ◌≡◌, ◌<◌, ◌≤◌, ℕ, inl, Some, None, ap, ◌∙◌, subst}
 use Rattle.lethe_base.specs.Limits.{max_place}
 use Rattle.lethe_base.specs.declared.refused.Refused.TheVariants.{Stopped}
-use Rattle.lethe_core.specs.View.{View, view_of}
+use Rattle.lethe_core.specs.View.{Face, View, view_of}
 use Rattle.lethe_engine.specs.Jobs.{IsPast}
 use Rattle.lethe_engine.proofs.Rounds.{flies_now, reason_of_work}
 use Rattle.lethe_drive.proofs.Knowing.{known_held, not_stopped, ok_or_err}
@@ -13,7 +13,7 @@ use Rattle.lethe_drive.proofs.working.write_next.Goals as goal
 
 pub returns-in_err-piece-clause-step : goal.returns-in_err-piece-clause-step
 returns-in_err-piece-clause-step g c = λ told config opened h stands s known number fetches faults begun.
-    unread_paged g.D.Disk.tells g.D.Disk.ports_fail h (view_of c.args.engine.now.core) s number fetches faults begun c.args.job.now c.next_piece.new.self c.next_piece.ensures.task config opened
+    unread_paged g.D.Disk.tells g.D.Disk.ports_fail h (view_of c.args.engine.now.core) s number fetches faults begun c.args.job.now c.next_piece.new.self c.next_piece.ensures.task c.next_piece.ensures.round config opened
     told (c.requires.reads told) stands known c.from_residual.result c.in_err-piece.field-0.0 (search rules) c.in_err-piece.ensures.unread c.in_err-piece.ensures.err
 
 -- there is a next page
@@ -35,10 +35,22 @@ returns-in_err-write_out-in-Some-clause-step g c = λ told config opened h stand
     let present : IsPast old mid → ⊥ = λ past. flies_now old c.args.job.now c.requires.works.flies (subst (λ (round : ℕ). round < old.rounds) c.next_piece.ensures.round past) in
     let reason = reason_of_work old mid (max_place ≤ old.state.next) (view_of c.write_out.new.self.core) why present refused.why in
     refused_paged g.D.Disk.tells g.D.Disk.ports_fail h (view_of c.args.engine.now.core) s number fetches faults begun c.args.job.now c.write_out.new.job (same ∙ c.next_piece.ensures.task)
-    told config opened known (view_of c.write_out.new.self.core) c.in_err-write_out-in-Some.field-0.0 refused.answers.refused refused.answers.face_is refused.answers.still
+    (c.write_out.ensures.same.4 ∙ c.next_piece.ensures.round) told config opened known (view_of c.write_out.new.self.core) c.in_err-write_out-in-Some.field-0.0 refused.answers.refused refused.answers.face_is refused.answers.still
     c.from_residual-in_err-write_out-in-Some.result (search rules) (refused.answers.stands told config opened h stands 0) reason refused.refused
 
+pub returns-in_err-write_out-in-Some-clause-rounds : goal.returns-in_err-write_out-in-Some-clause-rounds
+returns-in_err-write_out-in-Some-clause-rounds g c = ap (λ (face : Face). face.rounds) c.in_err-write_out-in-Some.ensures.answers.face_is
+
+pub returns-in_err-write_out-in-Some-clause-round : goal.returns-in_err-write_out-in-Some-clause-round
+returns-in_err-write_out-in-Some-clause-round g c = c.write_out.ensures.same.4 ∙ c.next_piece.ensures.round
+
 -- it is written
+
+pub returns-in_ok-write_out-in-Some-clause-rounds : goal.returns-in_ok-write_out-in-Some-clause-rounds
+returns-in_ok-write_out-in-Some-clause-rounds g c = ap (λ (face : Face). face.rounds) c.in_ok-write_out-in-Some.ensures.answers.face_is
+
+pub returns-in_ok-write_out-in-Some-clause-round : goal.returns-in_ok-write_out-in-Some-clause-round
+returns-in_ok-write_out-in-Some-clause-round g c = c.write_out.ensures.same.4 ∙ c.next_piece.ensures.round
 
 pub returns-in_ok-write_out-in-Some-clause-fewer : goal.returns-in_ok-write_out-in-Some-clause-fewer
 returns-in_ok-write_out-in-Some-clause-fewer g c = λ done.
@@ -62,8 +74,8 @@ returns-in_ok-write_out-in-Some-clause-step g c = λ told config opened h stands
       s,
       known_held config opened h new (written.answers.stands told config opened h stands 0) s (written.held told s (known.held runs)),
       written.answers.stands told config opened h stands 0,
-      page_written g.D.Disk.tells g.D.Disk.ports_fail h old s number fetches faults begun c.args.job.now mid c.next_piece.ensures.task told (c.requires.reads told) c.requires.works c.next_piece.ensures.written
-          asked.made c.next_piece.ensures.job new c.write_out.new.job (λ i. (c.write_out.ensures.same.1 i).value) written.works.asked written.written
+      page_written g.D.Disk.tells g.D.Disk.ports_fail h old s number fetches faults begun c.args.job.now mid c.next_piece.ensures.task c.next_piece.ensures.round told (c.requires.reads told) c.requires.works
+          c.next_piece.ensures.written asked.made c.next_piece.ensures.job new c.write_out.new.job (λ i. (c.write_out.ensures.same.1 i).value) c.write_out.ensures.same.4 written.works.asked written.written
           (left_of mid.drafts next c.in-Some.piece c.args.job.now.written is asked.left) written.answers.face_is (written.page told),
     )
 
@@ -84,6 +96,6 @@ returns-in-None-clause-step g c = λ told config opened h stands s known number 
       s,
       known,
       stands,
-      no_page g.D.Disk.tells g.D.Disk.ports_fail h old s number fetches faults begun c.args.job.now mid c.next_piece.ensures.task told (c.requires.reads told) c.requires.works c.next_piece.ensures.written asked.made
+      no_page g.D.Disk.tells g.D.Disk.ports_fail h old s number fetches faults begun c.args.job.now mid c.next_piece.ensures.task c.next_piece.ensures.round told (c.requires.reads told) c.requires.works c.next_piece.ensures.written asked.made
           c.next_piece.ensures.job asked.ok (none_left mid.drafts next c.args.job.now.written is asked.left),
     )

@@ -14,6 +14,8 @@ loop-init g c = record {
   sound = c.requires.sound;
   works = c.requires.works;
   task = refl;
+  round = refl;
+  rounds = refl;
   faults = omega arith;
   port = inl refl;
   rests = rests_first g.D.Disk.tells (view_of c.args.engine.now.core) c.args.job.now c.requires.works;
@@ -26,6 +28,8 @@ loop-preserved g c =
       sound = c.write_next.ensures.sound;
       works = c.in_ok-write_next.ensures.works;
       task = c.write_next.ensures.task ∙ c.loop.invariant.task;
+      round = c.write_next.ensures.round ∙ c.loop.invariant.round;
+      rounds = c.write_next.ensures.rounds ∙ c.loop.invariant.rounds;
       faults = let so_far = c.loop.invariant.faults in let more = c.write_next.ensures.faults in omega arith;
       port = inr c.in_ok-write_next.ensures.made;
       rests = rests_on g.D.Disk.tells g.D.Disk.ports_fail (view_of c.args.engine.now.core) (view_of c.loop.engine.core) (view_of c.write_next.new.engine.core) c.loop.job c.write_next.new.job true c.loop.invariant.rests

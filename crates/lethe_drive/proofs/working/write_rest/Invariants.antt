@@ -13,6 +13,8 @@ invariant-loop g l = record {
   sound : IsSound g.D.Disk.tells (view_of l.engine.core);
   works : IsAtWork g.D.Disk.tells (view_of l.engine.core) l.job;
   task : l.job.task.value ≡ l.fn.job.task.value;
+  round : l.job.round ≡ l.fn.job.round;
+  rounds : l.engine.core.begun.rounds ≡ l.fn.engine.core.begun.rounds;
   faults : g.D.Disk.faults l.fn.engine.core.disk ≤ g.D.Disk.faults l.engine.core.disk;
   port : (l.job.port ≡ l.fn.job.port) ⊎ IsSome l.job.drafts;
   rests : Rests g.D.Disk.tells (view_of l.fn.engine.core) (view_of l.engine.core);

@@ -1,0 +1,246 @@
+-- Ticks.
+use Rattle.std.proofs.Common.{◌≡◌, ◌⊎◌, inl, inr, ◌≤◌, ◌<◌, ℕ, ◌+◌, Bool, true, false, List, Option, Some, None, Result, Ok, Err, refl, sym, ap, ◌∙◌, subst, arith}
+use Rattle.std.specs.Prelude.{◌&&◌, IfErr, IfOk, IfSome, IsSome, OnOk, if◌then◌else◌, is_none, nat_le, nat_lt}
+use Rattle.std.specs.Result.{result_err}
+use Rattle.std.proofs.lemmas.Bool.{cases_lt, le-leb, lt-ltb}
+use Rattle.lethe_base.specs.History.{History, State, after}
+use Rattle.lethe_base.specs.Limits.{max_place}
+use Rattle.lethe_base.specs.declared.call.Call.TheVariants as call
+use Rattle.lethe_base.specs.declared.call.Did.TheVariants.{Done}
+use Rattle.lethe_base.specs.declared.config.Fields.{Fields}
+use Rattle.lethe_base.specs.declared.name.Name.{Name}
+use Rattle.lethe_base.specs.declared.refused.Refused.{Refused}
+use Rattle.lethe_base.specs.declared.refused.Refused.TheVariants.{Backwards, Exhausted, Stopped}
+use Rattle.lethe_base.proofs.Histories.{after-push}
+use Rattle.lethe_cover.specs.Steps.{with_done}
+use Rattle.lethe_follows.specs.Ticked.{ticked}
+use Rattle.lethe_stored.specs.Clean.{IsClean}
+use Rattle.lethe_stored.specs.Stored.{Stored}
+use Rattle.lethe_state.specs.Room.{IsShortToFlush, IsShortToFreeze}
+use Rattle.lethe_core.specs.Asked.{Makes, behind, failure_of, refused_to}
+use Rattle.lethe_core.specs.Merges.{AreOutcomesBy, Outcome, due_choice, pages_of, retired_behind}
+use Rattle.lethe_core.specs.Running.{Holds}
+use Rattle.lethe_core.specs.View.{Face, View, face_of}
+use Rattle.lethe_core.proofs.Asked.{refused_none}
+use Rattle.lethe_tick.specs.Ripened.{IsRipened, IsShortToTick, IsTickedInPart}
+use Rattle.lethe_engine.specs.Answers.{IsRefused, IsStill}
+use Rattle.lethe_engine.specs.StandsFor.{Opened, StandsFor}
+use Rattle.lethe_engine.specs.Ticks as engine
+use Rattle.lethe_engine.specs.declared.ticking.Ticked.{Ticked}
+use Rattle.lethe_engine.proofs.Clean.{now_clean}
+use Rattle.lethe_drive.specs.Moments.{Going, IsAllButPort, IsKnown, Moment, moment_of}
+use Rattle.lethe_drive.specs.Ticks.{EndsRound, HasReasonOfTick, IsShortToRipen, IsTick, passes}
+use Rattle.lethe_drive.proofs.Knowing.{known_held, not_stopped, ok_or_err, refused_known, stopped_same}
+use Rattle.lethe_drive.proofs.Reasons.{reason_on, unreadable_told}
+
+-- Whether the round ends
+
+-- the jobs behind a tick, by whether it passed the tests
+abbrev face_if : View → List Name → Bool → Face
+face_if view retired passed = if passed then record { begun = view.begun; rounds = view.rounds + 1; flight = None; retired = retired } else face_of view
+
+module _ (to : ℕ) (old new : View) (face : face_of new ≡ engine.ticked_face old to new.retired) where
+  pub face_ends : engine.passes old to ≡ true → face_of new ≡ face_if old new.retired true
+  face_ends is = face ∙ ap (face_if old new.retired) is
+
+  pub face_stays : engine.passes old to ≡ false → face_of new ≡ face_of old
+  face_stays is = face ∙ ap (face_if old new.retired) is
+
+  -- it does where one round more has ended
+  pub passed : old.rounds < new.rounds → engine.passes old to ≡ true
+  passed more = by (engine.passes old to) refl
+    where
+      by : (passed : Bool) → engine.passes old to ≡ passed → engine.passes old to ≡ true
+      by true is = is
+      by false is = let same : new.rounds ≡ old.rounds = ap (λ (face : Face). face.rounds) (face_stays is) in absurd (omega (arith, more, same))
+
+  pub not_passed : new.rounds ≤ old.rounds → engine.passes old to ≡ false
+  not_passed few = by (engine.passes old to) refl
+    where
+      by : (passed : Bool) → engine.passes old to ≡ passed → engine.passes old to ≡ false
+      by true is = let more : new.rounds ≡ old.rounds + 1 = ap (λ (face : Face). face.rounds) (face_ends is) in absurd (omega (arith, few, more))
+      by false is = is
+
+abbrev four : Bool → Bool → Bool → Bool → Bool
+four a b c d = a && b && c && d
+
+-- each test is passed
+passes_all : (view : View) (to : ℕ) → view.state.stopped ≡ None → view.state.manifest.clock ≤ to → view.state.count < max_place → view.rounds < max_place → engine.passes view to ≡ true
+passes_all view to runs forward place round = λ i.
+    four (is_none (runs i)) (le-leb view.state.manifest.clock to forward i) (lt-ltb view.state.count max_place place i) (lt-ltb view.rounds max_place round i)
+
+-- the clock behind a tick
+ticked_clock : (h : History) (to : ℕ) → (after (with_done h 0 (call.Tick to))).clock ≡ to
+ticked_clock h to = ap (λ (state : State). state.clock) (after-push h (record { caller = 0; call = call.Tick to; did = Done }))
+
+-- what the tests answer, and then nothing is done
+pub record Tested (to : ℕ) (old new : View) (result : Result Ticked Refused) : Type 1 where
+  pub stops : (at : ℕ) → old.state.stopped ≡ Some at → (result ≡ Err (Stopped at)) × (new ≡ old)
+  pub backwards : old.state.stopped ≡ None → to < old.state.manifest.clock → (result ≡ Err (Backwards old.state.manifest.clock)) × (new ≡ old)
+  pub last : old.state.stopped ≡ None → old.state.manifest.clock ≤ to → (old.state.count ≡ max_place) ⊎ (max_place ≤ old.rounds) → (result ≡ Err (Exhausted max_place)) × (new ≡ old)
+
+module _ (Tells PortsFail : Type 0) (told : Tells) (to : ℕ) (config : Fields) (opened : Opened) (h : History) (old new : View) (s : Stored) (known : IsKnown config h old s)
+    (fetches_before fetches_now faults_before faults_now begun : ℕ) (there gone : Option Going) (stands : StandsFor config opened h old) (face : face_of new ≡ engine.ticked_face old to new.retired) where
+  abbrev before : Moment
+  before = moment_of old s fetches_before faults_before begun there
+
+  abbrev later : Stored → Moment
+  later t = moment_of new t fetches_now faults_now begun gone
+
+  -- what a tick comes to
+  abbrev pub Ticks : Result Ticked Refused → Type 0
+  Ticks result = (t : Stored) × IsKnown config (behind h 0 (Makes (call.Tick to)) (result_err result)) new t
+      × IsTick PortsFail to h before result (behind h 0 (Makes (call.Tick to)) (result_err result)) (later t)
+
+  -- the steps before the last were done, and then that
+  abbrev pub Carried : Type 0
+  Carried = (ripe t : Stored) × (outcomes : List Outcome) × (number : ℕ) × IsRipened to s ripe × AreOutcomesBy (due_choice to) ripe outcomes t × Holds new (ticked t to number)
+      × (fetches_now ≡ fetches_before + pages_of outcomes) × (new.retired ≡ retired_behind outcomes old.retired)
+
+  -- numbers are short for a step
+  abbrev IsShort : Type 0
+  IsShort = (max_place ≤ old.rounds) ⊎ IsShortToTick Tells to new
+
+  abbrev IsShortBehind : Stored → Type 0
+  IsShortBehind t = (max_place ≤ old.rounds) ⊎ IsShortToFlush new.state ⊎ IsShortToFreeze new.state ⊎ IsShortToRipen to (later t)
+
+  -- The tests are not passed
+
+  -- why, and that nothing was done
+  record First (result : Result Ticked Refused) : Type 1 where
+    why : Refused
+    is : result ≡ Err why
+    none : failure_of why ≡ None
+    reason : (t : Stored) → HasReasonOfTick PortsFail to before (later t) why
+    same : new ≡ old
+
+  all_same : (view : View) → view ≡ old → (left : Option Going) → left ≡ there → IsAllButPort before (moment_of view s fetches_now faults_now begun left)
+  all_same view same left is = subst (λ (left : Option Going). IsAllButPort before (moment_of view s fetches_now faults_now begun left)) (sym is)
+      (subst (λ (view : View). IsAllButPort before (moment_of view s fetches_now faults_now begun there)) (sym same)
+      (record { stored = refl; state = refl; levels = refl; retired = refl; flight = refl; directory = refl; calls = refl; faults = refl; begun = refl; there = refl }))
+
+  known_same : (view : View) → view ≡ old → (g : History) → g ≡ h → IsKnown config g view s
+  known_same view same g is = subst (λ (g : History). IsKnown config g view s) (sym is) (subst (λ (view : View). IsKnown config h view s) (sym same) known)
+
+  module _ (result : Result Ticked Refused) (tested : Tested to old new result) where
+    full : old.state.stopped ≡ None → old.state.manifest.clock ≤ to → (old.state.count ≡ max_place) ⊎ (max_place ≤ old.rounds) → First result
+    full runs forward none =
+        let is = tested.last runs forward none in
+        let cause : (t : Stored) → (old.state.count ≡ max_place) ⊎ IsShortBehind t = λ t. elim none [ inl place ↦ inl place | inr round ↦ inr (inl round) ] in
+        record { why = Exhausted max_place; is = is.0; none = refl; reason = λ t. inr (inl (runs, refl, cause t)); same = is.1 }
+
+    places : old.state.count ≤ max_place → passes before to ≡ false → old.state.stopped ≡ None → old.state.manifest.clock ≤ to → (old.state.count < max_place) ⊎ (max_place ≤ old.state.count)
+        → (old.rounds < max_place) ⊎ (max_place ≤ old.rounds) → First result
+    places limit not runs forward (inr place) round = full runs forward (inl (omega (arith, place, limit)))
+    places limit not runs forward (inl place) (inr round) = full runs forward (inr round)
+    places limit not runs forward (inl place) (inl round) = absurd (let both : true ≡ false = sym (passes_all old to runs forward place round) ∙ not in cc)
+
+    first : old.state.count ≤ max_place → passes before to ≡ false → First result
+    first limit not = by old.state.stopped refl
+      where
+        by : (stopped : Option ℕ) → old.state.stopped ≡ stopped → First result
+        by (Some at) stopped = let is = tested.stops at stopped in record { why = Stopped at; is = is.0; none = refl; reason = λ t. inr (inl stopped); same = is.1 }
+        by None runs = elim (cases_lt to old.state.manifest.clock) [
+          | inl behind ↦ let is = tested.backwards runs behind in record { why = Backwards old.state.manifest.clock; is = is.0; none = refl; reason = λ t. inl (runs, behind, refl); same = is.1 }
+          | inr forward ↦ places limit not runs forward (cases_lt old.state.count max_place) (cases_lt old.rounds max_place)
+        ]
+
+    -- the tick does nothing
+    pub tick_stays : old.state.count ≤ max_place → passes before to ≡ false → gone ≡ there → Ticks result
+    tick_stays limit not stays =
+        let cause = first limit not in
+        let why = cause.why in
+        let stops : (at : ℕ) → old.state.stopped ≡ Some at → ◌≡◌ {A = Result Ticked Refused} (Err why) (Err (Stopped at)) = λ at e. sym cause.is ∙ (tested.stops at e).0 in
+        subst Ticks (sym cause.is) (
+          s,
+          known_same new cause.same (refused_to h 0 (call.Tick to) why) (refused_none h 0 (call.Tick to) why cause.none),
+          record {
+            answers = record { history = refl; reason = cause.reason s; begun = λ none. inl (inl refl) };
+            stops = stops;
+            backwards = λ runs behind. sym cause.is ∙ (tested.backwards runs behind).0;
+            last = λ runs forward none. sym cause.is ∙ (tested.last runs forward none).0;
+            round = λ passed. absurd (let both : true ≡ false = sym passed ∙ not in cc);
+            same = λ e. (all_same new cause.same gone stays, ap (λ (view : View). view.rounds) cause.same);
+          },
+        )
+
+  -- The tests are passed
+
+  module _ (all : engine.passes old to ≡ true) (none : gone ≡ None) where
+    ends : (t : Stored) → EndsRound before (later t)
+    ends t =
+        let is = face_ends to old new face all in
+        record { rounds = ap (λ (face : Face). face.rounds) is; flight = ap (λ (face : Face). face.flight) is; there = none; begun = refl }
+
+    never : {A : Type 0} → passes before to ≡ false → A
+    never not = absurd (let both : true ≡ false = sym all ∙ not in cc)
+
+    module _ (why : Refused) (stood : StandsFor config opened (refused_to h 0 (call.Tick to) why) new) where
+      -- what is refused for want of numbers is in no history, so nothing was stopped
+      still_runs : (last : ℕ) → why ≡ Exhausted last → old.state.stopped ≡ None → new.state.stopped ≡ None
+      still_runs last full runs =
+          let still = subst (λ (why : Refused). StandsFor config opened (refused_to h 0 (call.Tick to) why) new) full stood in
+          stopped_same config h old new stands.now still.now ∙ runs
+
+      -- the merge for which numbers are short is one of what is stored
+      short_on : (t : Stored) → Holds new t → IsShort → IsShortBehind t
+      short_on t holds (inl rounds) = inl rounds
+      short_on t holds (inr (inl flush)) = inr (inl flush)
+      short_on t holds (inr (inr (inl freeze))) = inr (inr (inl freeze))
+      short_on t holds (inr (inr (inr short))) =
+          let is = short.are told t holds in
+          inr (inr (inr (record { task = short.task; begun = is.0; drafts = short.drafts; are = is.1; short = short.short })))
+
+      tick_reason : (t : Stored) → IsKnown config (refused_to h 0 (call.Tick to) why) new t → engine.HasReasonOfTick Tells PortsFail to old new faults_before faults_now why
+          → HasReasonOfTick PortsFail to before (later t) why
+      tick_reason t is (inl behind) = inl behind
+      tick_reason t is (inr (inl reason)) = inr (inl (reason_on IsShort (IsShortBehind t) old.state old.state old.faults new.faults refl refl why reason
+          (λ last full runs short. short_on t (is.held (still_runs last full runs)) short)))
+      tick_reason t is (inr (inr unread)) = inr (inr (unread.0, unreadable_told Tells PortsFail faults_before faults_now why told unread.1))
+
+    -- the round ends, whatever the tick answers
+    pub tick_ends : (result : Result Ticked Refused) → Tested to old new result → StandsFor config opened (behind h 0 (Makes (call.Tick to)) (result_err result)) new → (IsSome old.state.stopped → IsStill Tells old new)
+        → IfSome (result_err result) (IsRefused Tells (Makes (call.Tick to)) old new) → IfOk result (λ answer. (answer.place ≡ old.state.count + 1) × (answer.clock ≡ to)) → (Holds old s → OnOk result Carried)
+        → IfErr result (engine.HasReasonOfTick Tells PortsFail to old new faults_before faults_now) → Ticks result
+    tick_ends (Ok answer) tested stood still refused told_as carried why =
+        let made = carried (known.held (not_stopped old.state.stopped (λ at e. ok_or_err answer (Stopped at) (tested.stops at e).0))) in
+        let g = with_done h 0 (call.Tick to) in
+        let clean : IsClean config.threshold new.disk.directory g to = subst (IsClean config.threshold new.disk.directory g) (ticked_clock h to) (now_clean config g new stood.now made.6.running.current.runs) in (
+          ticked made.1 to made.3,
+          known_held config opened g new stood (ticked made.1 to made.3) made.6,
+          record {
+            answers = record {
+              place_is = told_as.0 ∙ ap (λ n. n + 1) stands.now.count;
+              clock_is = told_as.1;
+              history = refl;
+              ripe = made.0;
+              ripened = made.4;
+              outcomes = made.2;
+              merged = made.1;
+              merges = made.5;
+              number = made.3;
+              stored = refl;
+              retired = made.8;
+              fetches = made.7;
+              clean = subst (λ (fields : Fields). IsClean fields.threshold new.disk.directory g to) (sym known.config_is) clean;
+            };
+            stops = λ at e. (tested.stops at e).0;
+            backwards = λ runs behind. (tested.backwards runs behind).0;
+            last = λ runs forward none. (tested.last runs forward none).0;
+            round = λ passed. ends (ticked made.1 to made.3);
+            same = λ not. never not;
+          },
+        )
+    tick_ends (Err why) tested stood still refused told_as carried reason =
+        let comes = refused_known Tells config opened h old new s known (call.Tick to) why stood still (IsTickedInPart to s) (inl (inl refl)) (λ fine holds. refused.1 fine told s holds) in (
+          comes.0,
+          comes.1,
+          record {
+            answers = record { history = refl; reason = tick_reason why stood comes.0 comes.1 reason; begun = comes.2 };
+            stops = λ at e. (tested.stops at e).0;
+            backwards = λ runs behind. (tested.backwards runs behind).0;
+            last = λ runs forward none. (tested.last runs forward none).0;
+            round = λ passed. ends comes.0;
+            same = λ not. never not;
+          },
+        )
