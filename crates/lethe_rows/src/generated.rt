@@ -18,13 +18,18 @@ const ALL: (&str, &str) = ("a", "g");
 /// A script that reads all of a store, and makes one more put.
 pub const READ_AND_PUT: &str = "1 scan a g\n1 put a 9 more\n1 get a\n";
 
-// Numbers that follow from a seed.
+/// Numbers that follow from a seed.
 #[derive(Drop)]
-struct Dice(u64);
+pub struct Dice(u64);
 
 impl Dice {
-    // The next number, which is below the bound.
-    fn below(&mut self, bound: usize) -> usize
+    /// Those of a seed.
+    pub fn new(seed: u64) -> Dice {
+        Dice(seed)
+    }
+
+    /// The next number, which is below the bound.
+    pub fn below(&mut self, bound: usize) -> usize
         requires { 0 < bound }
         ensures { result < bound }
     {
@@ -41,8 +46,8 @@ impl Dice {
         words[self.below(words.len())]
     }
 
-    // A key of one to three of the letters.
-    fn key(&mut self, alloc: Global, letters: &[&'static str]) -> Result<String, Fail>
+    /// A key of one to three of the letters.
+    pub fn key(&mut self, alloc: Global, letters: &[&'static str]) -> Result<String, Fail>
         requires { 0 < length letters.now }
     {
         let mut key = String::new(alloc);
