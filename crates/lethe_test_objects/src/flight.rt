@@ -1,11 +1,11 @@
 //! What a store's disk holds while a job is in flight.
-ghost use Rattle.std.specs.Prelude.{IfOk, OnOk};
+ghost use Rattle.std.specs.Prelude.{OnOk};
 ghost use Rattle.lethe_core.specs.Jobs.{IsAtWork};
 ghost use Rattle.lethe_core.specs.Running.{IsSound};
 ghost use Rattle.lethe_core.specs.View.{view_of};
 
+use crate::common::{opened, put};
 use crate::objects::held_by;
-use lethe_base::{Config, Fields, Key, Pick, Value};
 use lethe_disk::Disk;
 use lethe_engine::Engine;
 use lethe_job::Job;
@@ -13,46 +13,15 @@ use lethe_memdisk::MemDisk;
 use std::alloc::Global;
 use std::test::Fail;
 
-/// Pages of two entries, and buffers of four.
-const SMALL: Fields = Fields {
-    threshold: 100,
-    ratio: 2,
-    levels: 2,
-    page: 2,
-    tile: 2,
-    file: 2,
-    buffer: 4,
-    pick: Pick::So,
-};
-
 // A store of two files of level 0, each of two pages, and of a buffer of one record.
 const KEYS: [&str; 9] = ["a", "b", "c", "d", "e", "f", "g", "h", "i"];
 
-fn opened<D: Disk>(alloc: Global, disk: D) -> Result<Engine<D>, Fail>
-    ensures { IfOk result (λ engine. IsSound D.tells (view_of engine.core)) }
-{
-    match Engine::open(alloc, disk, &Config::new(SMALL)?) {
-        Ok(engine) => Ok(engine),
-        Err(_) => Err(Fail::new("not opened")),
-    }
-}
-
-fn put<D: Disk>(alloc: Global, engine: &mut Engine<D>, text: &str) -> Result<u64, Fail>
-    requires { IsSound D.tells (view_of engine.old.core) }
-    ensures { IsSound D.tells (view_of engine.new.core) }
-{
-    let key = Key::new(text.as_bytes().to_vec(alloc)?)?;
-    let value = Value::new(text.as_bytes().to_vec(alloc)?)?;
-    let mut port = engine.new_port(alloc)?;
-    Ok(engine.put(alloc, &mut port, key, 7, value)?)
-}
-
-fn put_all<D: Disk>(alloc: Global, engine: &mut Engine<D>) -> Result<(), Fail>
+pub fn put_all<D: Disk>(alloc: Global, engine: &mut Engine<D>) -> Result<(), Fail>
     requires { IsSound D.tells (view_of engine.old.core) }
     ensures { IsSound D.tells (view_of engine.new.core) }
 {
     for text in &KEYS {
-        put(alloc, engine, *text)?;
+        put(alloc, engine, *text, 7, *text)?;
     }
     Ok(())
 }

@@ -2,8 +2,18 @@
 #![tactic(auto)]
 
 #[cfg(test)]
+mod common;
+#[cfg(test)]
+mod faults;
+#[cfg(test)]
 mod flight;
 #[cfg(test)]
 mod generated;
 #[cfg(test)]
 mod objects;
+#[cfg(test)]
+mod rounds;
+#[cfg(test)]
+mod scripts;
+#[cfg(test)]
+mod ticks;

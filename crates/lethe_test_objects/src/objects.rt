@@ -10,7 +10,7 @@ use lethe_segment::{Record, replay, segment_number, write_segment};
 use std::alloc::Global;
 use std::test::Fail;
 
-/// How many objects there are of each kind, and the places of all puts that they hold.
+/// How many objects there are of each kind, the places of all puts that they hold, how many entries have a time, and the levels of the files that the manifest cites.
 #[derive(Drop)]
 pub struct Held {
     pub gates: usize,
@@ -19,6 +19,8 @@ pub struct Held {
     pub files: usize,
     pub pages: usize,
     pub puts: Vec<u64>,
+    pub timed: usize,
+    pub levels: Vec<u64>,
 }
 
 impl Held {
@@ -30,12 +32,17 @@ impl Held {
             files: 0,
             pages: 0,
             puts: Vec::new(alloc),
+            timed: 0,
+            levels: Vec::new(alloc),
         }
     }
 
     fn add(&mut self, entry: &Entry) -> Result<(), Fail> {
         if let Body::Put { .. } = entry.body {
             self.puts.push(entry.seq)?;
+        }
+        if entry.since.is_some() {
+            self.timed = self.timed.saturating_add(1);
         }
         Ok(())
     }
@@ -58,6 +65,16 @@ impl Held {
         Ok(())
     }
 
+    // Adds a manifest, and answers its number.
+    fn add_manifest(&mut self, alloc: Global, bytes: &[u8]) -> Result<u64, Fail> {
+        let manifest = read_manifest(alloc, bytes).ok().ok_or("a manifest")?;
+        self.manifests = self.manifests.saturating_add(1);
+        for cited in manifest.files.items() {
+            self.levels.push(cited.level)?;
+        }
+        Ok(manifest.no)
+    }
+
     fn add_page(&mut self, alloc: Global, bytes: &[u8]) -> Result<(), Fail> {
         let (_, entries) = read_page(alloc, bytes).ok().ok_or("a page")?;
         for entry in &entries {
@@ -74,10 +91,7 @@ impl Held {
                 self.gates = self.gates.saturating_add(1);
                 bytes.is_empty()
             }
-            Kind::Manifest => {
-                self.manifests = self.manifests.saturating_add(1);
-                read_manifest(alloc, bytes).ok().ok_or("a manifest")?.no == name.no
-            }
+            Kind::Manifest => { self.add_manifest(alloc, bytes)? == name.no }
             Kind::Segment => {
                 self.add_segment(alloc, name.no, bytes)?;
                 true

@@ -6,7 +6,7 @@ ghost use Rattle.lethe_core.specs.View.{view_of};
 use crate::common::{key_of, opened};
 use lethe_base::{Refused, Value};
 use lethe_disk::Disk;
-use lethe_drive::{Event, Reply, drive};
+use lethe_drive::{Event, Reply, Time, drive};
 use lethe_engine::Engine;
 use lethe_memdisk::{FlakyDisk, MemDisk};
 use std::alloc::Global;
@@ -17,6 +17,7 @@ use std::test::Fail;
 enum Ask {
     Put(&'static str),
     Delete(&'static str),
+    Tick(u64),
     Get(&'static str),
     Scan(&'static str, &'static str),
     Freeze,
@@ -31,6 +32,8 @@ enum Ask {
 #[derive(Clone, Copy, Debug, PartialEq, Eq)]
 enum Told {
     Place(u64),
+    /// The place, and the clock.
+    Ticked(u64, u64),
     Found(Option<u64>),
     Pairs(usize),
     Flag(bool),
@@ -81,6 +84,9 @@ fn event_of(alloc: Global, ask: Ask) -> Result<Event, Fail> {
         Ask::Delete(text) => Event::Delete {
             key: key_of(alloc, text)?,
         },
+        Ask::Tick(to) => Event::Tick {
+            to: Time::new(to).ok_or("a time")?,
+        },
         Ask::Get(text) => Event::Get {
             key: key_of(alloc, text)?,
         },
@@ -100,6 +106,7 @@ fn event_of(alloc: Global, ask: Ask) -> Result<Event, Fail> {
 fn told_of(reply: &Reply) -> Told {
     match reply {
         Reply::Place(place) => Told::Place(*place),
+        Reply::Ticked(ticked) => Told::Ticked(ticked.place, ticked.clock),
         Reply::Got(None) => Told::Found(None),
         Reply::Got(Some((dkey, _))) => Told::Found(Some(*dkey)),
         Reply::Pairs(pairs) => Told::Pairs(pairs.items().len()),
@@ -208,6 +215,31 @@ fn a_job_merges_two_files(rt: HostRuntime) -> Result<(), Fail> {
     let alloc = rt.alloc();
     let disk = MemDisk::new(alloc, 1000, Vec::new(alloc))?;
     run_over_two_files(alloc, disk, &[(&MERGE, &MERGE_TOLD, 1)])
+}
+
+const TICKS: [Ask; 6] = [
+    Ask::Tick(20),
+    Ask::Tick(19),
+    Ask::Delete("a"),
+    Ask::Tick(120),
+    Ask::Get("a"),
+    Ask::Get("b"),
+];
+
+const TICKS_TOLD: [Told; 6] = [
+    Told::Ticked(9, 20),
+    Told::Refused(Refused::Backwards { clock: 20 }),
+    Told::Place(10),
+    Told::Ticked(11, 120),
+    Told::Found(None),
+    Told::Found(Some(7)),
+];
+
+#[test]
+fn a_tick_takes_a_place(rt: HostRuntime) -> Result<(), Fail> {
+    let alloc = rt.alloc();
+    let disk = MemDisk::new(alloc, 1000, Vec::new(alloc))?;
+    run_over_two_files(alloc, disk, &[(&TICKS, &TICKS_TOLD, 1)])
 }
 
 const ENDS: [Ask; 11] = [

@@ -1,0 +1,167 @@
+//! Rows of changes and ticks, and what the disk holds behind them.
+ghost use Rattle.lethe_core.specs.Running.{IsSound};
+ghost use Rattle.lethe_core.specs.View.{view_of};
+
+use crate::common::{Ask, answer, disk_of, opened, tick};
+use crate::objects::held_by;
+use lethe_base::{MAX_TIME, Refused};
+use lethe_disk::Disk;
+use lethe_engine::Engine;
+use std::alloc::Global;
+use std::test::Fail;
+
+/// What is answered.
+#[derive(Clone, Copy, Debug, PartialEq, Eq)]
+enum Told {
+    Place(u64),
+    /// The place, and the clock.
+    Ticked(u64, u64),
+    Backwards(u64),
+}
+
+/// What is left: the places of the puts that objects hold, how many pages there are, the levels of the files, and how many entries have a time.
+#[derive(Clone, Copy, Debug)]
+struct Left {
+    puts: &'static [u64],
+    pages: usize,
+    levels: &'static [u64],
+    timed: usize,
+}
+
+struct Row {
+    asks: &'static [Ask],
+    told: &'static [Told],
+    left: Left,
+}
+
+const EMPTY: Left = Left {
+    puts: &[],
+    pages: 0,
+    levels: &[],
+    timed: 0,
+};
+
+const ROWS: [Row; 5] = [
+    // The segment may hold the value for 33.
+    Row {
+        asks: &[Ask::Put("a", 5, "x"), Ask::Delete("a"), Ask::Tick(20)],
+        told: &[Told::Place(1), Told::Place(2), Told::Ticked(3, 20)],
+        left: Left {
+            puts: &[1],
+            pages: 0,
+            levels: &[],
+            timed: 1,
+        },
+    },
+    Row {
+        asks: &[Ask::Put("a", 5, "x"), Ask::Delete("a"), Ask::Tick(33)],
+        told: &[Told::Place(1), Told::Place(2), Told::Ticked(3, 33)],
+        left: EMPTY,
+    },
+    // One page of level 1 holds the one put that is left, without a time.
+    Row {
+        asks: &[
+            Ask::Put("a", 1, "old"),
+            Ask::Put("z", 2, "q"),
+            Ask::Delete("z"),
+            Ask::Tick(40),
+            Ask::Delete("a"),
+            Ask::Put("a", 3, "new"),
+            Ask::Tick(140),
+        ],
+        told: &[
+            Told::Place(1),
+            Told::Place(2),
+            Told::Place(3),
+            Told::Ticked(4, 40),
+            Told::Place(5),
+            Told::Place(6),
+            Told::Ticked(7, 140),
+        ],
+        left: Left {
+            puts: &[6],
+            pages: 1,
+            levels: &[1],
+            timed: 0,
+        },
+    },
+    Row {
+        asks: &[Ask::Tick(50), Ask::Tick(49), Ask::Tick(50)],
+        told: &[
+            Told::Ticked(1, 50),
+            Told::Backwards(50),
+            Told::Ticked(2, 50),
+        ],
+        left: EMPTY,
+    },
+    // The greatest time, twice.
+    Row {
+        asks: &[
+            Ask::Put("a", 5, "x"),
+            Ask::Delete("a"),
+            Ask::Tick(MAX_TIME),
+            Ask::Put("b", 5, "y"),
+            Ask::Delete("b"),
+            Ask::Tick(MAX_TIME),
+            Ask::Tick(0),
+        ],
+        told: &[
+            Told::Place(1),
+            Told::Place(2),
+            Told::Ticked(3, MAX_TIME),
+            Told::Place(4),
+            Told::Place(5),
+            Told::Ticked(6, MAX_TIME),
+            Told::Backwards(MAX_TIME),
+        ],
+        left: Left {
+            puts: &[4],
+            pages: 0,
+            levels: &[],
+            timed: 1,
+        },
+    },
+];
+
+/// Makes the call, and tells what is answered.
+fn told_of<D: Disk>(alloc: Global, engine: &mut Engine<D>, ask: Ask) -> Result<Told, Fail>
+    requires { IsSound D.tells (view_of engine.old.core) }
+    ensures { IsSound D.tells (view_of engine.new.core) }
+{
+    if let Ask::Tick(to) = ask {
+        return match tick(alloc, engine, to)? {
+            Ok(ticked) => Ok(Told::Ticked(ticked.place, ticked.clock)),
+            Err(Refused::Backwards { clock }) => Ok(Told::Backwards(clock)),
+            Err(_) => Err(Fail::new(format_args!("tick {to}"))),
+        };
+    }
+    Ok(Told::Place(answer(alloc, engine, ask)??))
+}
+
+/// What is answered to these.
+fn answers<D: Disk>(alloc: Global, engine: &mut Engine<D>, asks: &[Ask]) -> Result<Vec<Told>, Fail>
+    requires { IsSound D.tells (view_of engine.old.core) }
+    ensures { IsSound D.tells (view_of engine.new.core) }
+{
+    let mut told = Vec::new(alloc);
+    for ask in asks {
+        told.push(told_of(alloc, engine, *ask)?)?;
+    }
+    Ok(told)
+}
+
+#[test]
+fn ticks_leave_what_may_be_there(rt: HostRuntime) -> Result<(), Fail> {
+    let alloc = rt.alloc();
+    for row in &ROWS {
+        let mut engine = opened(alloc, disk_of(alloc, &[])?)?;
+        let told = answers(alloc, &mut engine, row.asks)?;
+        assert_eq!(rt; told.as_slice(), row.told);
+        let mut disk = engine.into_disk();
+        let held = held_by(alloc, &mut disk)?;
+        assert_eq!(rt; held.puts.as_slice(), row.left.puts);
+        assert_eq!(rt; held.levels.as_slice(), row.left.levels);
+        assert_eq!(rt; (held.pages, held.timed), (row.left.pages, row.left.timed));
+    }
+    Ok(())
+}
