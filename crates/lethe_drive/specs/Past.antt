@@ -46,7 +46,7 @@ abbrev pub all_left : Option Going → List Past
 all_left None = []
 all_left (Some going) = left_of going ∷ []
 
--- A run at one time: the store with the job of the present round, and the jobs of earlier rounds that haven't ended, in the order of their numbers.
+-- A run at one time: the store with the job of the present round, and the jobs of earlier rounds that haven't ended, in the order of these.
 pub record Run : Type 0 where
   pub now : Moment
   pub past : List Past

@@ -96,6 +96,6 @@ abbrev pub cancel_for : Option Going → List Event
 cancel_for None = []
 cancel_for (Some going) = Cancel going.number ∷ []
 
--- the cancels of the jobs that haven't ended, in the order of their numbers
+-- the cancels of the jobs that haven't ended, those of earlier rounds first
 abbrev pub cancels_for : Run → List Event
 cancels_for run = map (λ job. Cancel job.number) run.past ++ cancel_for run.now.there
