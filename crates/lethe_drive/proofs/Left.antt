@@ -1,6 +1,6 @@
 -- The jobs of earlier rounds that are left, where one is refused or gone, and where they are given up one after another.
-use Rattle.std.proofs.Common.{◌≡◌, ◌<◌, ◌≤◌, ◌+◌, ℕ, List, [], ◌∷◌, ◌++◌, length, All, map, Option, refl, sym, ap, ◌∙◌, append-nil, append_assoc, subst, arith}
-use Rattle.std.proofs.lemmas.List.{map-append, length-append}
+use Rattle.std.proofs.Common.{◌≡◌, ℕ, List, [], ◌∷◌, ◌++◌, length, All, map, Option, sym, ap, ◌∙◌, append-nil, append_assoc, arith}
+use Rattle.std.proofs.lemmas.List.{map-append}
 use Rattle.std.proofs.lemmas.List.Elements.{All-cons, All-head, All-tail}
 use Rattle.lethe_drive.specs.Past.{given_up_as}
 use Rattle.lethe_drive.specs.declared.event.Reply.{Reply}

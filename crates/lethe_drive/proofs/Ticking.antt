@@ -1,6 +1,6 @@
 -- Ticks.
 use Rattle.std.proofs.Common.{◌≡◌, ◌⊎◌, inl, inr, ◌≤◌, ◌<◌, ℕ, ◌+◌, Bool, true, false, List, Option, Some, None, Result, Ok, Err, refl, sym, ap, ◌∙◌, subst, arith}
-use Rattle.std.specs.Prelude.{◌&&◌, IfErr, IfOk, IfSome, IsSome, OnOk, if◌then◌else◌, is_none, nat_le, nat_lt}
+use Rattle.std.specs.Prelude.{◌&&◌, IfErr, IfOk, IfSome, IsSome, OnOk, if◌then◌else◌, is_none}
 use Rattle.std.specs.Result.{result_err}
 use Rattle.std.proofs.lemmas.Bool.{cases_lt, le-leb, lt-ltb}
 use Rattle.lethe_base.specs.History.{History, State, after}

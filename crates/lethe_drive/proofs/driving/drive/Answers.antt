@@ -1,4 +1,4 @@
-use Rattle.std.proofs.Common.{rules, ◌≡◌, ◌<◌, ◌+◌, List, [], ◌∷◌, ◌++◌, length, None, refl, sym, ap, ◌∙◌, subst, append_assoc, arith}
+use Rattle.std.proofs.Common.{rules, ◌≡◌, ◌<◌, List, [], ◌∷◌, ◌++◌, length, None, refl, sym, ap, ◌∙◌, subst, append_assoc, arith}
 use Rattle.std.specs.Prelude.{vec_len}
 use Rattle.std.proofs.lemmas.Bool.{eqb-true}
 use Rattle.std.proofs.lemmas.List.{length-append, length_push, map-id}
@@ -98,8 +98,19 @@ loop-replies-preserved g c =
       room =
           let before = c.loop-replies.replies in
           let after = c.push-in-loop-replies.new.self in
-          omega (arith, so_far.room, c.push-in-loop-replies.ensures.capacity, after.ok.0, before.ok.0, ap length pushed, length_push before.items c.give_up.result, ap length gone.4, ap length gone.5,
-          length-append gone.0 (gone.2 ∷ gone.1), length-append gone.0 gone.1);
+          omega (
+            arith,
+            so_far.room,
+            c.push-in-loop-replies.ensures.capacity,
+            after.ok.0,
+            before.ok.0,
+            ap length pushed,
+            length_push before.items c.give_up.result,
+            ap length gone.4,
+            ap length gone.5,
+            length-append gone.0 (gone.2 ∷ gone.1),
+            length-append gone.0 gone.1,
+          );
     }
 
 -- every event was answered
@@ -151,10 +162,10 @@ returns-clause-driven g c = λ told config opened h stands s known.
           let driven = driven_on Ports config h start begins events replies so_far.0 mid so_far.1 fetches faults jobs.begun (there_of jobs) past so_far.4 is_now c.loop-event.invariant.earlier number
           (sym c.number.ensures ∙ w.in-Some-number.is) reply step.0 new step.1 last.begun (there_of last) moment (record { faults = w.cancel.ensures.faults; port_faults = omega arith }) step.4 w.cancel.ensures.rounds in
           ended_as Ports config opened h start fetches faults new events (replies ++ (left ++ reply ∷ [])) (step.0, step.1, step.2, step.3, last.begun, driven) end c.args.events.items c.match-number.replies.items
-              (λ i. view_of (w.engine-is i).core) (answered g at) (whole ∙ pushed ∙ ap (λ (l : List Reply). l ++ reply ∷ []) (all_given g at) ∙ append_assoc replies left (reply ∷ []))
+          (λ i. view_of (w.engine-is i).core) (answered g at) (whole ∙ pushed ∙ ap (λ (l : List Reply). l ++ reply ∷ []) (all_given g at) ∙ append_assoc replies left (reply ∷ []))
       | in_default-number w ↦
           let driven = driven_free Ports config h start begins events replies so_far.0 mid so_far.1 fetches faults jobs.begun (there_of jobs) past so_far.4 is_now c.loop-event.invariant.earlier
           (sym c.number.ensures ∙ w.in_default-number.is) in
           ended_as Ports config opened h start fetches faults mid events (replies ++ left) (so_far.0, so_far.1, so_far.2, so_far.3, jobs.begun, driven) end c.args.events.items c.match-number.replies.items
-              (λ i. view_of (w.engine-is i).core) (answered g at) ((λ i. (w.replies-is i).items) ∙ all_given g at)
+          (λ i. view_of (w.engine-is i).core) (answered g at) ((λ i. (w.replies-is i).items) ∙ all_given g at)
     ]

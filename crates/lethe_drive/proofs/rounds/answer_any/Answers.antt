@@ -1,4 +1,4 @@
-use Rattle.std.proofs.Common.{rules, ◌≡◌, ◌⊎◌, inl, inr, ℕ, ◌<◌, ◌+◌, List, [], ◌∷◌, ◌++◌, true, Some, None, refl, sym, ap, ◌∙◌, subst, arith}
+use Rattle.std.proofs.Common.{rules, ◌≡◌, ◌⊎◌, inl, inr, ℕ, ◌<◌, ◌+◌, List, [], ◌∷◌, ◌++◌, true, Some, None, refl, sym, ◌∙◌, subst, arith}
 use Rattle.std.proofs.lemmas.Option.{none-some, same_Some}
 use Rattle.lethe_stored.specs.Stored.{Stored}
 use Rattle.lethe_core.specs.View.{view_of}
@@ -77,7 +77,7 @@ returns-in-Some-place_of-clause-earlier g c =
       | in_default-event w ↦
           let refused = w.refuse.ensures.refused in
           subst (AreEarlier rounds) (sym ((λ i. (w.past-is i).items) ∙ refused.5))
-              (all_with Earlier refused.0 refused.1 refused.2 (record refused.2 { refused = true }) (λ earlier. earlier) (subst (AreEarlier rounds) refused.4 c.requires.earlier))
+          (all_with Earlier refused.0 refused.1 refused.2 (record refused.2 { refused = true }) (λ earlier. earlier) (subst (AreEarlier rounds) refused.4 c.requires.earlier))
     ]
 
 -- The present round
