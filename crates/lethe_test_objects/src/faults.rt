@@ -51,15 +51,32 @@ fn make_all<D: Disk>(alloc: Global, engine: &mut Engine<D>, asks: &[Ask]) -> Res
     Ok(true)
 }
 
+/// Puts the keys that begin with a letter.
+fn put_row<D: Disk>(alloc: Global, engine: &mut Engine<D>, first: &str) -> Result<(), Fail>
+    requires { IsSound D.tells (view_of engine.old.core) }
+    ensures { IsSound D.tells (view_of engine.new.core) }
+{
+    for second in &SECOND {
+        let key = format!(in alloc; "{first}{second}")?;
+        put(alloc, engine, &key, 5, "many")?;
+    }
+    Ok(())
+}
+
+fn put_keys<D: Disk>(alloc: Global, engine: &mut Engine<D>) -> Result<(), Fail>
+    requires { IsSound D.tells (view_of engine.old.core) }
+    ensures { IsSound D.tells (view_of engine.new.core) }
+{
+    for first in &FIRST {
+        put_row(alloc, engine, *first)?;
+    }
+    Ok(())
+}
+
 /// The disk of a store with files in two levels, of which the upper one has a tombstone over the lower.
 fn disk_of_levels(alloc: Global) -> Result<MemDisk, Fail> {
     let mut engine = opened(alloc, disk_of(alloc, &[])?)?;
-    for first in &FIRST {
-        for second in &SECOND {
-            let key = format!(in alloc; "{first}{second}")?;
-            put(alloc, &mut engine, &key, 5, "many")?;
-        }
-    }
+    put_keys(alloc, &mut engine)?;
     if !make_all(alloc, &mut engine, &OLD)? {
         return Err(Fail::new("levels"));
     }
@@ -117,25 +134,45 @@ fn a_fault_at_each_device_call_is_made_good_by_the_same_tick(rt: HostRuntime) ->
     Ok(())
 }
 
+/// Why the tick is refused over a store behind these changes, with the disk that it leaves; none where it is made.
+fn refused_tick<D: Disk>(alloc: Global, disk: D) -> Result<Option<(Refused, D)>, Fail> {
+    let Some(mut engine) = aged(alloc, disk)? else {
+        return Err(Fail::new("not aged"));
+    };
+    match tick(alloc, &mut engine, TO)? {
+        Ok(_) => Ok(None),
+        Err(why) => Ok(Some((why, engine.into_disk()))),
+    }
+}
+
+/// Whether the tick is refused where that fetch fails; then the same tick over what is left has to end clean.
+fn is_refused_at(alloc: Global, fetch: u64) -> Result<bool, Fail> {
+    let disk = FlakyDisk::new(disk_of_levels(alloc)?, vec![in alloc; fetch]?);
+    let Some((why, disk)) = refused_tick(alloc, disk)? else {
+        return Ok(false);
+    };
+    if why
+        != (Refused::ReadFault {
+            before: 0,
+            after: 1,
+        })
+    {
+        return Err(Fail::new("another refusal"));
+    }
+    if ends_clean(alloc, disk.into_inner())? {
+        Ok(true)
+    } else {
+        Err(Fail::new("not clean"))
+    }
+}
+
 #[test]
 fn a_fetch_that_fails_is_made_good_by_the_same_tick(rt: HostRuntime) -> Result<(), Fail> {
     let alloc = rt.alloc();
     let mut refused: usize = 0;
     for fetch in 1..20 {
-        let disk = FlakyDisk::new(disk_of_levels(alloc)?, vec![in alloc; fetch]?);
-        let Some(mut engine) = aged(alloc, disk)? else {
-            return Err(Fail::new("not aged"));
-        };
-        if let Err(why) = tick(alloc, &mut engine, TO)? {
-            assert_eq!(rt;
-                why,
-                Refused::ReadFault {
-                    before: 0,
-                    after: 1
-                }
-            );
+        if is_refused_at(alloc, fetch)? {
             refused = refused.saturating_add(1);
-            assert!(rt; ends_clean(alloc, engine.into_disk().into_inner())?);
         }
     }
     // The pages of the inputs of two merges.

@@ -138,8 +138,8 @@ fn take_line<D: Disk>(
     }
 }
 
-// Ten lines and a tick.
-fn take_part<D: Disk>(
+// Ten lines.
+fn take_lines<D: Disk>(
     alloc: Global,
     engine: &mut Engine<D>,
     plain: &mut Plain,
@@ -153,6 +153,20 @@ fn take_part<D: Disk>(
             return Err(Fail::new("another answer"));
         }
     }
+    Ok(())
+}
+
+// Ten lines and a tick.
+fn take_part<D: Disk>(
+    alloc: Global,
+    engine: &mut Engine<D>,
+    plain: &mut Plain,
+    dice: &mut Dice,
+) -> Result<(), Fail>
+    requires { IsSound D.tells (view_of engine.old.core) }
+    ensures { IsSound D.tells (view_of engine.new.core) }
+{
+    take_lines(alloc, engine, plain, dice)?;
     let to = plain.clock.saturating_add(dice.below(60) as u64);
     let ticked = tick(alloc, engine, to)??;
     if ticked.place != plain.tick(to) || ticked.clock != to {
@@ -161,14 +175,28 @@ fn take_part<D: Disk>(
     Ok(())
 }
 
-// The disk behind so many parts of the script of a seed, and what it has to hold.
-fn behind(alloc: Global, seed: u64, parts: usize) -> Result<(MemDisk, Plain), Fail> {
+// So many parts of the script of a seed, and what the store has to hold behind them.
+fn take_parts<D: Disk>(
+    alloc: Global,
+    engine: &mut Engine<D>,
+    seed: u64,
+    parts: usize,
+) -> Result<Plain, Fail>
+    requires { IsSound D.tells (view_of engine.old.core) }
+    ensures { IsSound D.tells (view_of engine.new.core) }
+{
     let mut dice = Dice::new(seed);
     let mut plain = Plain::new(alloc);
-    let mut engine = opened(alloc, disk_of(alloc, &[])?)?;
     for _ in 0..parts {
-        take_part(alloc, &mut engine, &mut plain, &mut dice)?;
+        take_part(alloc, engine, &mut plain, &mut dice)?;
     }
+    Ok(plain)
+}
+
+// The disk behind them.
+fn behind(alloc: Global, seed: u64, parts: usize) -> Result<(MemDisk, Plain), Fail> {
+    let mut engine = opened(alloc, disk_of(alloc, &[])?)?;
+    let plain = take_parts(alloc, &mut engine, seed, parts)?;
     Ok((engine.into_disk(), plain))
 }
 
