@@ -1,4 +1,4 @@
-//! A tick with two flushes and two merges, whose device calls fail in turn.
+//! A tick with two flushes and two merges, whose device calls and fetches fail in turn.
 ghost use Rattle.std.specs.Prelude.{IfOk, IfSome};
 ghost use Rattle.lethe_core.specs.Running.{IsSound};
 ghost use Rattle.lethe_core.specs.View.{view_of};
@@ -8,7 +8,7 @@ use crate::objects::{Held, held_by};
 use lethe_base::Refused;
 use lethe_disk::Disk;
 use lethe_engine::Engine;
-use lethe_memdisk::MemDisk;
+use lethe_memdisk::{FlakyDisk, MemDisk};
 use std::alloc::Global;
 use std::test::Fail;
 
@@ -131,5 +131,51 @@ fn a_fault_at_each_device_call_is_made_good_by_the_same_tick(rt: HostRuntime) ->
     }
     // Two flushes, two merges and the last step.
     assert!(rt; refused >= 40);
+    Ok(())
+}
+
+/// Why the tick is refused over a store behind these changes, with the disk that it leaves; none where it is made.
+fn refused_tick<D: Disk>(alloc: Global, disk: D) -> Result<Option<(Refused, D)>, Fail> {
+    let Some(mut engine) = aged(alloc, disk)? else {
+        return Err(Fail::new("not aged"));
+    };
+    match tick(alloc, &mut engine, TO)? {
+        Ok(_) => Ok(None),
+        Err(why) => Ok(Some((why, engine.into_disk()))),
+    }
+}
+
+/// Whether the tick is refused where that fetch fails; then the same tick over what is left has to end clean.
+fn is_refused_at(alloc: Global, fetch: u64) -> Result<bool, Fail> {
+    let disk = FlakyDisk::new(disk_of_levels(alloc)?, vec![in alloc; fetch]?);
+    let Some((why, disk)) = refused_tick(alloc, disk)? else {
+        return Ok(false);
+    };
+    if why
+        != (Refused::ReadFault {
+            before: 0,
+            after: 1,
+        })
+    {
+        return Err(Fail::new("another refusal"));
+    }
+    if ends_clean(alloc, disk.into_inner())? {
+        Ok(true)
+    } else {
+        Err(Fail::new("not clean"))
+    }
+}
+
+#[test]
+fn a_fetch_that_fails_is_made_good_by_the_same_tick(rt: HostRuntime) -> Result<(), Fail> {
+    let alloc = rt.alloc();
+    let mut refused: usize = 0;
+    for fetch in 1..20 {
+        if is_refused_at(alloc, fetch)? {
+            refused = refused.saturating_add(1);
+        }
+    }
+    // The pages of the inputs of two merges.
+    assert!(rt; refused >= 5);
     Ok(())
 }
