@@ -7,7 +7,7 @@ ghost use Rattle.lethe_disk.specs.Goes.{Goes};
 ghost use Rattle.lethe_disk.specs.Runs.{Leads};
 ghost use Rattle.lethe_disk.specs.declared.disk.DiskRefused.TheVariants.{NoMemory};
 ghost use Rattle.lethe_header.specs.Headers as header;
-ghost use Rattle.lethe_manifest.specs.Manifests.{HasSpelling};
+ghost use Rattle.lethe_manifest.specs.Manifests.{manifest_bytes};
 ghost use Rattle.lethe_commit.specs.Clear.{ArePresent, IsCleared, remove_all};
 ghost use Rattle.lethe_commit.specs.Gates.{gate_name};
 ghost use Rattle.lethe_commit.specs.Place.{AreAbsent, insert_all, name_of};
@@ -28,7 +28,7 @@ use lethe_version::Version;
 use std::alloc::Global;
 
 /// Goes from what is stored to what is stored next: writes the objects, opens the files of these headers, whose objects are among those
-/// that are written or stored, and adds them to the version in their levels, switches to the manifest, and removes what isn't cited any more.
+/// that are written or stored, and adds them to the version in their levels, switches to the manifest, which is spelled by these bytes, and removes what isn't cited any more.
 ///
 /// # Errors
 ///
@@ -40,8 +40,9 @@ pub fn advance<D: Disk>(
     version: &Version<D>,
     headers: Vec<NewHeader>,
     step: &Step,
+    manifest: &[u8],
 ) -> Result<Version<D>, DiskRefused>
-    requires spelled { HasSpelling step.now.manifest }
+    requires bytes { manifest.now ≡ manifest_bytes step.now.manifest }
     requires headers { All (λ new. header.HasSpelling new.header) headers.items }
     requires levels { All (λ new. new.level < length (levels_of version.now)) headers.items }
     requires step { D.tells → (s t : Stored) × (loose left : List (Name × List ℕ)) × MayAdvance (D.seen disk.old) s loose t left headers.items step.now }
@@ -80,7 +81,7 @@ pub fn advance<D: Disk>(
     ensures cause { HasCause (D.faults disk.old) (D.faults disk.new) result }
 {
     place_new(disk, &step.objects)?;
-    match exchange(alloc, disk, version, headers, step) {
+    match exchange(alloc, disk, version, headers, step, manifest) {
         Ok(next) => {
             clear(disk, &step.gone)?;
             Ok(next)

@@ -6,18 +6,18 @@ ghost use Rattle.lethe_disk.specs.Quiet.{IsQuiet};
 ghost use Rattle.lethe_disk.specs.Runs.{Leads};
 ghost use Rattle.lethe_disk.specs.declared.disk.DiskRefused.TheVariants.{NoMemory};
 ghost use Rattle.lethe_header.specs.Headers as header;
-ghost use Rattle.lethe_manifest.specs.Manifests.{manifest_bytes, HasSpelling};
+ghost use Rattle.lethe_manifest.specs.Manifests.{manifest_bytes};
 ghost use Rattle.lethe_commit.specs.Switch.{IsFree, IsSwitched, IsUnswitched, HasNew, IsTakenBack, manifest_name, switched};
 ghost use Rattle.lethe_version.specs.Versions.{levels_of};
 ghost use Rattle.lethe_advance.specs.Shown.{HasPages, AreLevelsWith, new_parts, new_parts_at, parts_by_level};
 
 use crate::{NewHeader, Step};
-use lethe_commit::switch_from;
+use lethe_commit::switch_to;
 use lethe_disk::{Disk, DiskRefused};
 use lethe_version::{NewFile, Version, open_file};
 use std::alloc::Global;
 
-/// Opens the files of these headers and adds them to the version in their levels, and then switches to the manifest.
+/// Opens the files of these headers and adds them to the version in their levels, and then switches to the manifest, which is spelled by these bytes.
 ///
 /// # Errors
 ///
@@ -29,8 +29,9 @@ pub fn exchange<D: Disk>(
     version: &Version<D>,
     headers: Vec<NewHeader>,
     step: &Step,
+    manifest: &[u8],
 ) -> Result<Version<D>, DiskRefused>
-    requires spelled { HasSpelling step.now.manifest }
+    requires bytes { manifest.now ≡ manifest_bytes step.now.manifest }
     requires headers { All (λ new. header.HasSpelling new.header) headers.items }
     requires levels { All (λ new. new.level < length (levels_of version.now)) headers.items }
     requires present { D.tells → All (λ new. HasPages (D.seen disk.old).directory new.header) headers.items }
@@ -53,7 +54,7 @@ pub fn exchange<D: Disk>(
 {
     let files = open_files(alloc, disk, headers)?;
     let next = version.with(alloc, &step.merged, files)?;
-    switch_from(alloc, disk, Some(step.older), &step.manifest)?;
+    switch_to(disk, Some(step.older), step.manifest.no, manifest)?;
     Ok(next)
 }
 

@@ -54,38 +54,15 @@ pub fn switch<D: Disk>(alloc: Global, disk: &mut D, manifest: &Manifest) -> Resu
     exchange(alloc, disk, manifest.no, &bytes)
 }
 
-/// The same where it is known which gate is the greatest, and that its manifest is there, or that there is no gate: so nothing is listed.
+/// Writes a manifest, spelled by these bytes, and then its gate, where it is known which gate is the greatest, and that its manifest is there, or that there is no gate: so nothing is
+/// listed, and what is spelled is at hand for a digest.
 ///
 /// It takes four to six device calls: those of `switch` but for the list.
 ///
 /// # Errors
 ///
 /// As those of `switch`.
-pub fn switch_from<D: Disk>(
-    alloc: Global,
-    disk: &mut D,
-    older: Option<u64>,
-    manifest: &Manifest,
-) -> Result<(), DiskRefused>
-    requires spelled { HasSpelling manifest.now }
-    requires free { D.tells → IsFree (D.seen disk.old) manifest.now.no older }
-    requires there { D.tells → (number : ℕ) → older ≡ Some number → IsSome (object (D.seen disk.old).directory (manifest_name number)) }
-    ensures any_moment { D.tells → Leads (IsSwitched manifest.now.no (manifest_bytes manifest.now) older) (D.seen disk.old) (D.seen disk.new) }
-    ensures greatest { D.tells → Throughout (HasOldOrNew older manifest.now.no (manifest_bytes manifest.now)) (D.seen disk.old) (D.seen disk.new) }
-    ensures done { D.tells → OnOk result ((D.seen disk.new).directory ≡ switched manifest.now.no (manifest_bytes manifest.now) older (D.seen disk.old).directory) }
-    ensures new { D.tells → OnOk result ((c : Directory) → Image (D.seen disk.new) c → HasNew manifest.now.no (manifest_bytes manifest.now) c) }
-    ensures calls { D.tells → OnOk result ((D.seen disk.old).moment + 4 ≤ (D.seen disk.new).moment) }
-    ensures soon { D.tells → (D.seen disk.new).moment ≤ (D.seen disk.old).moment + 6 }
-    ensures no_memory { D.tells → IsErrOf result NoMemory → IsTakenBack (D.seen disk.old) (D.seen disk.new) }
-    ensures unswitched { D.tells → IsErrOf result NoMemory → Leads (IsUnswitched manifest.now.no) (D.seen disk.old) (D.seen disk.new) }
-    ensures cause { HasCause (D.faults disk.old) (D.faults disk.new) result }
-{
-    let bytes = write_manifest(alloc, manifest)?;
-    exchange_from(disk, older, manifest.no, &bytes)
-}
-
-// Switches to the manifest of these bytes from the gate of this number, or from none.
-fn exchange_from<D: Disk>(
+pub fn switch_to<D: Disk>(
     disk: &mut D,
     older: Option<u64>,
     number: u64,
@@ -94,6 +71,7 @@ fn exchange_from<D: Disk>(
     requires free { D.tells → IsFree (D.seen disk.old) number older }
     requires there { D.tells → (k : ℕ) → older ≡ Some k → IsSome (object (D.seen disk.old).directory (manifest_name k)) }
     ensures any_moment { D.tells → Leads (IsSwitched number bytes.now older) (D.seen disk.old) (D.seen disk.new) }
+    ensures greatest { D.tells → Throughout (HasOldOrNew older number bytes.now) (D.seen disk.old) (D.seen disk.new) }
     ensures done { D.tells → OnOk result ((D.seen disk.new).directory ≡ switched number bytes.now older (D.seen disk.old).directory) }
     ensures new { D.tells → OnOk result ((c : Directory) → Image (D.seen disk.new) c → HasNew number bytes.now c) }
     ensures calls { D.tells → OnOk result ((D.seen disk.old).moment + 4 ≤ (D.seen disk.new).moment) }

@@ -6,7 +6,7 @@ ghost use Rattle.lethe_base.specs.History.{History};
 ghost use Rattle.lethe_base.specs.declared.refused.Refused.TheVariants as refused;
 ghost use Rattle.lethe_disk.specs.Directory.{object};
 ghost use Rattle.lethe_header.specs.Headers as header;
-ghost use Rattle.lethe_manifest.specs.Manifests.{HasSpelling};
+ghost use Rattle.lethe_manifest.specs.Manifests.{HasSpelling, manifest_bytes};
 ghost use Rattle.lethe_commit.specs.Gates.{gate_name};
 ghost use Rattle.lethe_commit.specs.Place.{insert_all};
 ghost use Rattle.lethe_stored.specs.Kept.{IsFor, IsKept};
@@ -28,6 +28,7 @@ use crate::Core;
 use lethe_advance::{NewHeader, Step, advance};
 use lethe_base::Refused;
 use lethe_disk::{Disk, DiskRefused};
+use lethe_manifest::write_manifest;
 use std::alloc::Global;
 
 impl<D: Disk> Core<D> {
@@ -164,7 +165,64 @@ impl<D: Disk> Core<D> {
         ensures later { D.tells → (D.seen self.old.disk).moment ≤ (D.seen self.new.disk).moment }
         ensures faults { D.faults self.old.disk ≤ D.faults self.new.disk }
     {
-        match advance(alloc, &mut self.disk, &self.version, headers, step) {
+        let Ok(manifest) = write_manifest(alloc, &step.manifest) else {
+            return Err(Refused::NoMemory);
+        };
+        self.carry_out_spelled(alloc, before, headers, step, &manifest)
+    }
+
+    /// Carries a step out on the disk, whose manifest is spelled by these bytes, and takes the files that it leaves. Where the disk fails the store is stopped. `before` is the count of faults from which a failure is told.
+    pub fn carry_out_spelled(
+        &mut self,
+        alloc: Global,
+        before: u64,
+        headers: Vec<NewHeader>,
+        step: &Step,
+        manifest: &[u8],
+    ) -> Result<(), Refused>
+        requires may { MayStep D.tells (view_of self.old) before }
+        requires bytes { manifest.now ≡ manifest_bytes step.now.manifest }
+        requires headers { All (λ new. header.HasSpelling new.header) headers.items }
+        requires levels { All (λ new. new.level ≤ self.old.state.manifest.config.levels) headers.items }
+        requires step { D.tells → (s t : Stored) × (left : List (Name × List ℕ)) × IsRunning (view_of self.old) s × IsStep s (beside_in (view_of self.old)) t left headers.items step.now }
+
+        // What was stored may stand for one history, and what is stored next for another: then each crash leaves what is kept for one of the two.
+        ensures moments { D.tells → (s t : Stored) (left : List (Name × List ℕ)) → IsRunning (view_of self.old) s → IsStep s (beside_in (view_of self.old)) t left headers.items step.now
+            → (h g : History) → IsFor h s → IsFor g t → s.manifest.next ≤ self.old.state.next → t.manifest.next ≤ self.old.state.next + length step.now.objects.items + 1
+            → GoesFrom self.old.state.next (λ c. IsKept s.manifest.config c h ⊎ IsKept s.manifest.config c g) (D.seen self.old.disk) (D.seen self.new.disk) }
+
+        // Where there was no memory it is what is kept for the first.
+        ensures unmoved { D.tells → (s t : Stored) (left : List (Name × List ℕ)) → IsRunning (view_of self.old) s → IsStep s (beside_in (view_of self.old)) t left headers.items step.now
+            → (h : History) → IsFor h s → s.manifest.next ≤ self.old.state.next → IsErrOf result refused.NoMemory
+            → GoesFrom self.old.state.next (λ c. IsKept s.manifest.config c h) (D.seen self.old.disk) (D.seen self.new.disk) }
+
+        ensures done { D.tells → (s t : Stored) (left : List (Name × List ℕ)) → IsRunning (view_of self.old) s → IsStep s (beside_in (view_of self.old)) t left headers.items step.now
+            → OnOk result (IsSettled (D.seen self.new.disk) t × HasOnly t left (D.seen self.new.disk).directory) }
+        ensures kept { D.tells → (s t : Stored) (left : List (Name × List ℕ)) → IsRunning (view_of self.old) s → IsStep s (beside_in (view_of self.old)) t left headers.items step.now
+            → OnOk result ((name : Name) → Contains (part_names t) name
+            → object (D.seen self.new.disk).directory name ≡ object (insert_all step.now.objects.items (D.seen self.old.disk).directory) name) }
+        ensures gate { D.tells → (s t : Stored) (left : List (Name × List ℕ)) → IsRunning (view_of self.old) s → IsStep s (beside_in (view_of self.old)) t left headers.items step.now
+            → OnOk result (object (D.seen self.new.disk).directory (gate_name t.manifest.no) ≡ Some []) }
+        ensures files { D.tells → (s t : Stored) (left : List (Name × List ℕ)) → IsRunning (view_of self.old) s → IsStep s (beside_in (view_of self.old)) t left headers.items step.now
+            → HasFiles s (parts_by_level self.old.version) → OnOk result (HasFiles t (parts_by_level self.new.version)) }
+        ensures state { OnOk result (self.new.state ≡ self.old.state) }
+        ensures levels { length (parts_by_level self.new.version) ≡ length (parts_by_level self.old.version) }
+        ensures refused { IfErr result (IsHindered D.tells (view_of self.old) (view_of self.new) before) }
+        ensures retired { self.new.retired ≡ self.old.retired }
+        ensures flight { self.new.flight ≡ self.old.flight }
+        ensures begun { self.new.begun ≡ self.old.begun }
+        ensures calls { D.tells → OnOk result ((D.seen self.old.disk).moment + length step.now.objects.items + 4 ≤ (D.seen self.new.disk).moment) }
+        ensures later { D.tells → (D.seen self.old.disk).moment ≤ (D.seen self.new.disk).moment }
+        ensures faults { D.faults self.old.disk ≤ D.faults self.new.disk }
+    {
+        match advance(
+            alloc,
+            &mut self.disk,
+            &self.version,
+            headers,
+            step,
+            manifest,
+        ) {
             Ok(version) => {
                 self.version = version;
                 Ok(())

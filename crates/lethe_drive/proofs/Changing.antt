@@ -22,7 +22,7 @@ use Rattle.lethe_core.specs.Running.{Holds}
 use Rattle.lethe_core.specs.View.{Flying, View}
 use Rattle.lethe_engine.specs.Answers.{IsBegun, IsReadyFor, IsRefused, IsStill}
 use Rattle.lethe_engine.specs.Refusals.{HasReasonOfChange, SeesRoom}
-use Rattle.lethe_engine.specs.StandsFor.{Opened, StandsFor}
+use Rattle.lethe_engine.specs.StandsFor.{Opened, StandsSince}
 use Rattle.lethe_drive.specs.Answers.{IsChange, IsFull, IsShortToMerge, IsUnchanged}
 use Rattle.lethe_drive.specs.Moments.{AreJobsSame, Going, IsKnown, Moment, moment_of}
 use Rattle.lethe_drive.proofs.Knowing.{known_held, not_stopped, ok_or_err, refused_known, room_in, stopped_same}
@@ -34,7 +34,7 @@ not_begun flight s t room (inl same) = same
 not_begun flight s t room (inr begun) = absurd (begun.0 room)
 
 module _ (Tells PortsFail : Type 0) (told : Tells) (call : Call) (IsNext : Stored → List Header → Record → Type 0) (config : Fields) (opened : Opened) (h : History) (old new : View) (s : Stored)
-    (known : IsKnown config h old s) (fetches_before fetches_now faults_before faults_now begun : ℕ) (there : Option Going) (stands : StandsFor config opened h old) (flight : new.flight ≡ old.flight)
+    (known : IsKnown config h old s) (fetches_before fetches_now faults_before faults_now begun : ℕ) (there : Option Going) (stands : StandsSince config opened h old) (flight : new.flight ≡ old.flight)
     (ready : SeesRoom old.state → IsReadyFor call old.state) (parts : (t : Stored) → IsBegun call old.flight s t → IsRoomBegun old.flight s t) where
   abbrev before : Moment
   before = moment_of old s fetches_before faults_before begun there
@@ -57,11 +57,11 @@ module _ (Tells PortsFail : Type 0) (told : Tells) (call : Call) (IsNext : Store
       let is = short.are told t holds in
       inr (record { task = short.task; begun = begun_in t short.task is.0; drafts = short.drafts; are = is.1; short = short.short })
 
-  module _ (why : Refused) (stood : StandsFor config opened (refused_to h 0 call why) new) where
+  module _ (why : Refused) (stood : StandsSince config opened (refused_to h 0 call why) new) where
     -- what is refused for want of numbers is in no history, so nothing was stopped
     still_runs : (last : ℕ) → why ≡ Exhausted last → old.state.stopped ≡ None → new.state.stopped ≡ None
     still_runs last full runs =
-        let still = subst (λ (why : Refused). StandsFor config opened (refused_to h 0 call why) new) full stood in
+        let still = subst (λ (why : Refused). StandsSince config opened (refused_to h 0 call why) new) full stood in
         stopped_same config h old new stands.now still.now ∙ runs
 
     change_reason : (t : Stored) → IsKnown config (refused_to h 0 call why) new t → HasReasonOfChange Tells PortsFail old new faults_before faults_now why
@@ -91,7 +91,7 @@ module _ (Tells PortsFail : Type 0) (told : Tells) (call : Call) (IsNext : Store
   abbrev pub Changed : Result ℕ Refused → Type 0
   Changed result = (t : Stored) × IsKnown config (behind h 0 (Makes call) (result_err result)) new t × IsChange PortsFail call IsNext h before result (behind h 0 (Makes call) (result_err result)) (later t)
 
-  pub changed : (result : Result ℕ Refused) → StandsFor config opened (behind h 0 (Makes call) (result_err result)) new → (IsSome old.state.stopped → IsStill Tells old new)
+  pub changed : (result : Result ℕ Refused) → StandsSince config opened (behind h 0 (Makes call) (result_err result)) new → (IsSome old.state.stopped → IsStill Tells old new)
       → IfSome (result_err result) (IsRefused Tells (Makes call) old new) → IfOk result (λ place. place ≡ old.state.count + 1)
       → IfErr result (HasReasonOfChange Tells PortsFail old new faults_before faults_now) → (Holds old s → OnOk result Written) → ((at : ℕ) → old.state.stopped ≡ Some at → result ≡ Err (Stopped at))
       → (old.state.stopped ≡ None → old.state.count ≡ max_place → result ≡ Err (Exhausted max_place)) → Changed result

@@ -29,7 +29,7 @@ use Rattle.lethe_core.proofs.Likes.{before_holds}
 use Rattle.lethe_core.proofs.Standing.{idle_back, running_back}
 use Rattle.lethe_engine.specs.Answers.{IsRefused, IsStill}
 use Rattle.lethe_engine.specs.Refusals.{HasReasonOfBegin}
-use Rattle.lethe_engine.specs.StandsFor.{Opened, StandsFor}
+use Rattle.lethe_engine.specs.StandsFor.{Opened, StandsSince}
 use Rattle.lethe_drive.specs.Answers.{IsBegin, IsUnbegun, IsWork}
 use Rattle.lethe_drive.specs.Moments.{Going, IsAllButPort, IsKnown, IsUntouched, going_of, moment_of}
 use Rattle.lethe_drive.proofs.Knowing.{known_held, not_stopped, ok_or_err, refused_known}
@@ -42,7 +42,7 @@ flags both = cc
 -- Work that was refused: what is stored is as it was, unless the disk failed.
 module _ (Tells : Type 0) (told : Tells) (config : Fields) (opened : Opened) (h : History) (old new : View) (s : Stored) (known : IsKnown config h old s) (why : Refused)
     (undone : IsUndone Tells old new why) where
-  pub work_refused : StandsFor config opened (refused_to h 0 Work why) new → (IsSome old.state.stopped → IsStill Tells old new) → face_of new ≡ face_of old
+  pub work_refused : StandsSince config opened (refused_to h 0 Work why) new → (IsSome old.state.stopped → IsStill Tells old new) → face_of new ≡ face_of old
       → (t : Stored) × IsKnown config (refused_to h 0 Work why) new t × (failure_of why ≡ None → t ≡ s)
   work_refused stood still face =
       refused_known Tells config opened h old new s known Work why stood still (λ (t : Stored). t ≡ s) refl (λ none holds. (s, refl, before_holds Tells told old new s face (undone none) holds))
@@ -70,7 +70,7 @@ module _ (Tells : Type 0) (told : Tells) (config : Fields) (opened : Opened) (h 
   Worked result = (t : Stored) × IsKnown config (behind h 0 (Serves Work) (result_err result)) new t
       × IsWork (λ m. Nothing m.state) Does Short h (moment_of old s fetches faults begun there) result (behind h 0 (Serves Work) (result_err result)) (moment_of new t fetches faults begun there)
 
-  pub worked : (result : Result Bool Refused) → StandsFor config opened (behind h 0 (Serves Work) (result_err result)) new → (IsSome old.state.stopped → IsStill Tells old new)
+  pub worked : (result : Result Bool Refused) → StandsSince config opened (behind h 0 (Serves Work) (result_err result)) new → (IsSome old.state.stopped → IsStill Tells old new)
       → IfSome (result_err result) (IsRefused Tells (Serves Work) old new) → ((result ≡ Ok false) ↔ Nothing old.state) → (result ≡ Ok false → new ≡ old)
       → (Holds old s → result ≡ Ok true → (t : Stored) × Does s t × Holds new t) → IfErr result (HasReason Short old.state old.faults new.faults)
       → ((at : ℕ) → old.state.stopped ≡ Some at → result ≡ Err (Stopped at))

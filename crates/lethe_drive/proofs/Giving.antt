@@ -24,7 +24,7 @@ use Rattle.lethe_core.proofs.Hindered.{like_of}
 use Rattle.lethe_core.proofs.Installing.{begun_sound}
 use Rattle.lethe_engine.specs.Answers.{IsRefused, IsStill}
 use Rattle.lethe_engine.specs.Jobs as engine
-use Rattle.lethe_engine.specs.StandsFor.{Opened, StandsFor}
+use Rattle.lethe_engine.specs.StandsFor.{Opened, StandsSince}
 use Rattle.lethe_drive.specs.Answers.{IsCancel, IsKeptUp}
 use Rattle.lethe_drive.specs.Driving.{IsTheirs}
 use Rattle.lethe_drive.specs.Moments.{Going, IsGoing, IsKnown, IsUntouched, going_of, moment_of, there_of}
@@ -173,10 +173,10 @@ module _ (Tells : Type 0) (told : Tells) (config : Fields) (opened : Opened) (h 
   }
 
   abbrev pub GivenUp : Result (Unit {0}) Refused → Type 0
-  GivenUp result = (t : Stored) × IsKnown config (behind h 0 (Serves Work) (result_err result)) new t × StandsFor config opened (behind h 0 (Serves Work) (result_err result)) new
+  GivenUp result = (t : Stored) × IsKnown config (behind h 0 (Serves Work) (result_err result)) new t × StandsSince config opened (behind h 0 (Serves Work) (result_err result)) new
       × IsCancel h (moment_of old s fetches faults begun there) result (behind h 0 (Serves Work) (result_err result)) (moment_of new t fetches faults begun gone)
 
-  pub given_up : (result : Result (Unit {0}) Refused) → StandsFor config opened (behind h 0 (Serves Work) (result_err result)) new → (IsSome old.state.stopped → IsStill Tells old new)
+  pub given_up : (result : Result (Unit {0}) Refused) → StandsSince config opened (behind h 0 (Serves Work) (result_err result)) new → (IsSome old.state.stopped → IsStill Tells old new)
       → IfSome (result_err result) (IsRefused Tells (Serves Work) old new) → (Holds old s → OnOk result (Holds new s)) → ((old.state.stopped ≡ None → old.state.count < max_place) → new.flight ≡ None) → new.retired ≡ old.retired
       → IfErr result (HasReason ⊥ old.state old.faults new.faults) → (result ≡ Err NoMemory → ⊥) → ((last : ℕ) → result ≡ Err (Exhausted last) → ⊥)
       → ((at : ℕ) → old.state.stopped ≡ Some at → result ≡ Err (Stopped at)) → (old.state.stopped ≡ None → old.state.count ≡ max_place → (result ≡ Ok tt) × (new ≡ old)) → GivenUp result

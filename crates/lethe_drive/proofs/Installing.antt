@@ -23,7 +23,7 @@ use Rattle.lethe_core.specs.Steps.{IsUndone}
 use Rattle.lethe_core.specs.View.{Face, View, face_of}
 use Rattle.lethe_engine.specs.Answers.{IsStill}
 use Rattle.lethe_engine.specs.Jobs as engine
-use Rattle.lethe_engine.specs.StandsFor.{Opened, StandsFor}
+use Rattle.lethe_engine.specs.StandsFor.{Opened, StandsSince}
 use Rattle.lethe_drive.specs.Answers.{IsInstall, IsJobRefusal, IsShortToInstall}
 use Rattle.lethe_drive.specs.Driving.{IsTheirs, IsWritingOn, IsWrittenOn}
 use Rattle.lethe_drive.specs.Moments.{Going, IsKnown, Moment, going_of, moment_of, there_of}
@@ -115,8 +115,8 @@ module _ {D Page Port : Type 0} {kind : Ghosts D Page Port} where
           )
 
       -- the engine refused to install it
-      pub install_refused : (config : Fields) (opened : Opened) → StandsFor config opened h old → StandsFor config opened h mid → old.faults ≤ mid.faults → (m : Stored) → IsKnown config h mid m → m ≡ s
-          → IsWrittenOn old.flight mid.flight → mid.retired ≡ old.retired → (new : View) (back : Job D Page Port kind) (why : Refused) → StandsFor config opened (refused_to h 0 Work why) new
+      pub install_refused : (config : Fields) (opened : Opened) → StandsSince config opened h old → StandsSince config opened h mid → old.faults ≤ mid.faults → (m : Stored) → IsKnown config h mid m → m ≡ s
+          → IsWrittenOn old.flight mid.flight → mid.retired ≡ old.retired → (new : View) (back : Job D Page Port kind) (why : Refused) → StandsSince config opened (refused_to h 0 Work why) new
           → (IsSome mid.state.stopped → IsStill Tells mid new) → IsUndone Tells mid new why → face_of new ≡ face_of mid → back.task.value ≡ job.task.value → back.round ≡ job.round → back.refused ≡ true
           → HasReason (engine.IsShortToInstall mid whole) mid.state mid.faults new.faults why → new.state.next ≡ mid.state.next
           → (t : Stored) × IsKnown config (refused_to h 0 Work why) new t × IsInstall PortsFail (going_of number job) h before (Err why) (refused_to h 0 Work why) (behind new t back)
@@ -135,7 +135,7 @@ module _ {D Page Port : Type 0} {kind : Ghosts D Page Port} where
           (is.0, is.1, not_installed new is.0 back why same round refused cause (subst (IsWrittenOn old.flight) (sym flight) written) stay (λ none. is.2 none ∙ stored))
 
     -- it was installed
-    pub installed_whole : (config : Fields) (opened : Opened) (done : Unit {0}) (mid new : View) → StandsFor config opened h new → (whole : Job D Page Port kind) (m : Stored) (there : Option Going)
+    pub installed_whole : (config : Fields) (opened : Opened) (done : Unit {0}) (mid new : View) → StandsSince config opened h new → (whole : Job D Page Port kind) (m : Stored) (there : Option Going)
         → whole.task.value ≡ job.task.value → IsKnown config h mid m → m ≡ s
         → ((at : ℕ) → mid.state.stopped ≡ Some at → ⊥) → (Holds mid m → (t : Stored) × IsInstalled m (plain_task whole.task.value) t × Holds new t) → new.flight ≡ None → new.retired ≡ [] → there ≡ None
         → (t : Stored) × IsKnown config h new t × IsInstall PortsFail (going_of number job) h before (Ok done) h (moment_of new t fetches faults begun there)

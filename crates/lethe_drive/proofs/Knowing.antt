@@ -25,11 +25,11 @@ use Rattle.lethe_core.proofs.Histories.{head_done, tail_done}
 use Rattle.lethe_core.proofs.Standing.{stands_holds}
 use Rattle.lethe_engine.specs.Answers.{IsStill}
 use Rattle.lethe_engine.specs.Refusals.{SeesRoom}
-use Rattle.lethe_engine.specs.StandsFor.{Opened, StandsFor}
+use Rattle.lethe_engine.specs.StandsFor.{Opened, StandsSince}
 use Rattle.lethe_drive.specs.Moments.{Going, IsGoing, IsKnown, IsMomentOf, IsStoppedBy, moment_of}
 
 -- what a store that stands for a history remembers
-pub known_of : (config : Fields) (opened : Opened) (h : History) (view : View) (stands : StandsFor config opened h view) → IsKnown config h view stands.now.stored
+pub known_of : (config : Fields) (opened : Opened) (h : History) (view : View) (stands : StandsSince config opened h view) → IsKnown config h view stands.now.stored
 known_of config opened h view stands = record {
   config_is = stands.now.config_is;
   stands = stands.now.stands;
@@ -38,7 +38,7 @@ known_of config opened h view stands = record {
 }
 
 -- what it holds is that, since its directory encodes one thing alone
-pub known_held : (config : Fields) (opened : Opened) (h : History) (view : View) → StandsFor config opened h view → (s : Stored) → Holds view s → IsKnown config h view s
+pub known_held : (config : Fields) (opened : Opened) (h : History) (view : View) → StandsSince config opened h view → (s : Stored) → Holds view s → IsKnown config h view s
 known_held config opened h view stands s holds =
     let own : Holds view stands.now.stored = stands_holds config h view stands.now holds.running.current.runs in
     let same : stands.now.stored ≡ s = one_stored view.disk.directory stands.now.stored s own.remembers.coherent holds.remembers.coherent own.running.settled.encodes holds.running.settled.encodes in
@@ -62,7 +62,7 @@ room_in s state levels remembers room =
 
 -- A refused call: what came of what is stored is known, unless the disk failed in it.
 module _ (Tells : Type 0) (config : Fields) (opened : Opened) (h : History) (old new : View) (s : Stored) (known : IsKnown config h old s) (call : Call) (why : Refused)
-    (stood : StandsFor config opened (refused_to h 0 call why) new) (still : IsSome old.state.stopped → IsStill Tells old new) where
+    (stood : StandsSince config opened (refused_to h 0 call why) new) (still : IsSome old.state.stopped → IsStill Tells old new) where
   abbrev pub Refuses : (Stored → Type 0) → Type 0
   Refuses Comes = (t : Stored) × IsKnown config (refused_to h 0 call why) new t × (failure_of why ≡ None → Comes t)
 
@@ -83,7 +83,7 @@ stopped_is config h view s None is = is.0
 stopped_is config h view s (Some at) is = (is.before, is.change, is.history, is.done, (is.faults_before, is.faults, is.failed), is.place)
 
 -- the moment of a store of which that is known, and whose job is this
-pub moment_known : (config : Fields) (opened : Opened) (h : History) (view : View) → StandsFor config opened h view → (s : Stored) → IsKnown config h view s → (fetches faults begun : ℕ) (there : Option Going)
+pub moment_known : (config : Fields) (opened : Opened) (h : History) (view : View) → StandsSince config opened h view → (s : Stored) → IsKnown config h view s → (fetches faults begun : ℕ) (there : Option Going)
     → IfSome there (IsGoing view.flight) → IsMomentOf config h (moment_of view s fetches faults begun there)
 moment_known config opened h view stands s known fetches faults begun there going = record {
   legal = stands.now.legal;

@@ -27,7 +27,7 @@ use Rattle.lethe_core.proofs.Hindered.{as_itself}
 use Rattle.lethe_engine.specs.Answers.{IsStill}
 use Rattle.lethe_engine.specs.Jobs.{written_face}
 use Rattle.lethe_drive.specs.Answers.{IsJobRefusal, IsWriteOut}
-use Rattle.lethe_engine.specs.StandsFor.{Opened, StandsFor}
+use Rattle.lethe_engine.specs.StandsFor.{Opened, StandsSince}
 use Rattle.lethe_drive.specs.Moments.{IsKnown, Moment, going_of, moment_of}
 use Rattle.lethe_drive.proofs.Freezing.{work_refused, work_untouched}
 use Rattle.lethe_drive.proofs.Reasons.{unread_cause, unread_history}
@@ -43,7 +43,7 @@ module _ {D Page Port : Type 0} {kind : Ghosts D Page Port} (Tells PortsFail : T
 
   -- what a store that stood for a history and held this comes to
   abbrev pub Paged : Fields → Opened → View → Job D Page Port kind → Result Bool Refused → Type 0
-  Paged config opened new after result = (t : Stored) × IsKnown config (behind h 0 (Serves Work) (result_err result)) new t × StandsFor config opened (behind h 0 (Serves Work) (result_err result)) new
+  Paged config opened new after result = (t : Stored) × IsKnown config (behind h 0 (Serves Work) (result_err result)) new t × StandsSince config opened (behind h 0 (Serves Work) (result_err result)) new
       × IsWriteOut PortsFail (going_of number job) h before result (behind h 0 (Serves Work) (result_err result)) (later new t after)
 
   -- the engine refused the page
@@ -63,7 +63,7 @@ module _ {D Page Port : Type 0} {kind : Ghosts D Page Port} (Tells PortsFail : T
       port = record { fetches = refl; port_faults = refl };
     }
 
-    pub refused_paged : (IsSome old.state.stopped → IsStill Tells old new) → (result : Result Bool Refused) → result ≡ Err why → StandsFor config opened (refused_to h 0 Work why) new
+    pub refused_paged : (IsSome old.state.stopped → IsStill Tells old new) → (result : Result Bool Refused) → result ≡ Err why → StandsSince config opened (refused_to h 0 Work why) new
         → HasReason (max_place ≤ old.state.next) old.state old.faults new.faults why → mid.refused ≡ true → Paged config opened new mid result
     refused_paged still result refusal stands is refused =
         let known_then = work_refused Tells told config opened h old new s known why undone stands still face in
@@ -92,14 +92,14 @@ module _ {D Page Port : Type 0} {kind : Ghosts D Page Port} (Tells PortsFail : T
     port = record { fetches = refl; port_faults = refl };
   }
 
-  pub unread_paged : (config : Fields) (opened : Opened) → Tells → AreSound (inputs_in (plain_task job.task.value)) → StandsFor config opened h old → IsKnown config h old s → (result : Result Bool Refused) (why : Refused) → result ≡ Err why
+  pub unread_paged : (config : Fields) (opened : Opened) → Tells → AreSound (inputs_in (plain_task job.task.value)) → StandsSince config opened h old → IsKnown config h old s → (result : Result Bool Refused) (why : Refused) → result ≡ Err why
       → IsUnread Tells PortsFail (inputs_in (plain_task job.task.value)) (kind.port_faults job.port) (kind.port_faults mid.port) why → mid.refused ≡ true → Paged config opened old mid result
   unread_paged config opened told sound stands known result why refusal is refused =
       let same = sym (unread_history Tells PortsFail (inputs_in (plain_task job.task.value)) (kind.port_faults job.port) (kind.port_faults mid.port) h Work why is) in
       subst (Paged config opened old mid) (sym refusal) (
         s,
         subst (λ (g : History). IsKnown config g old s) same known,
-        subst (λ (g : History). StandsFor config opened g old) same stands,
+        subst (λ (g : History). StandsSince config opened g old) same stands,
         page_unread told sound why is refused,
       )
 

@@ -18,7 +18,7 @@ use Rattle.lethe_core.specs.Asked.{Serves, behind}
 use Rattle.lethe_core.specs.Jobs.{IsAtWork}
 use Rattle.lethe_core.specs.Reasons.{HasReason, IsUnreadable}
 use Rattle.lethe_core.specs.View.{Flying, View}
-use Rattle.lethe_engine.specs.StandsFor.{Opened, StandsFor}
+use Rattle.lethe_engine.specs.StandsFor.{Opened, StandsSince}
 use Rattle.lethe_drive.specs.Answers.{IsWriteOut}
 use Rattle.lethe_drive.specs.Driving.{IsWritingOn, IsWrittenOn}
 use Rattle.lethe_drive.specs.Moments.{Going, IsKnown, Moment, going_of, moment_of}
@@ -59,7 +59,7 @@ one_more PortsFail going h first old false g new is so_far = no_more first old.f
 -- the history for which a store stands, what it is known to have stored and the retired pages are as they were, and the job in flight has more pages
 abbrev pub Rests : Type 0 → View → View → Type 0
 Rests Tells old new =
-    Tells → (config : Fields) (opened : Opened) (h : History) → StandsFor config opened h old → (s : Stored) → IsKnown config h old s → StandsFor config opened h new × IsKnown config h new s × IsWrittenOn old.flight new.flight
+    Tells → (config : Fields) (opened : Opened) (h : History) → StandsSince config opened h old → (s : Stored) → IsKnown config h old s → StandsSince config opened h new × IsKnown config h new s × IsWrittenOn old.flight new.flight
     × (new.retired ≡ old.retired)
 
 -- nothing was written yet
@@ -116,15 +116,15 @@ module _ (PortsFail : Type 0) (old mid new : View) (faults : old.faults ≤ mid.
 module _ {D Page Port : Type 0} {kind : Ghosts D Page Port} (Tells PortsFail : Type 0) (old mid new : View) (job after : Job D Page Port kind) where
   -- the next page is written, or none is left
   abbrev pub Turns : Result Bool Refused → Type 0
-  Turns result = Tells → (config : Fields) (opened : Opened) (h : History) → StandsFor config opened h mid → (s : Stored) → IsKnown config h mid s → (number fetches faults begun : ℕ)
-      → (t : Stored) × IsKnown config (behind h 0 (Serves Work) (result_err result)) new t × StandsFor config opened (behind h 0 (Serves Work) (result_err result)) new
+  Turns result = Tells → (config : Fields) (opened : Opened) (h : History) → StandsSince config opened h mid → (s : Stored) → IsKnown config h mid s → (number fetches faults begun : ℕ)
+      → (t : Stored) × IsKnown config (behind h 0 (Serves Work) (result_err result)) new t × StandsSince config opened (behind h 0 (Serves Work) (result_err result)) new
       × IsWriteOut PortsFail (going_of number job) h (moment_of mid s fetches faults begun (Some (going_of number job))) result
       (behind h 0 (Serves Work) (result_err result)) (moment_of new t fetches faults begun (Some (going_of number after)))
 
   -- what the turns come to
   abbrev pub Comes : ℕ → Result (Unit {0}) Refused → Type 0
-  Comes first result = Tells → (config : Fields) (opened : Opened) (h : History) → StandsFor config opened h old → (s : Stored) → IsKnown config h old s
-      → (t : Stored) × IsKnown config (behind h 0 (Serves Work) (result_err result)) new t × StandsFor config opened (behind h 0 (Serves Work) (result_err result)) new × IsWritingOn PortsFail old new first (kind.port_faults after.port) s t result
+  Comes first result = Tells → (config : Fields) (opened : Opened) (h : History) → StandsSince config opened h old → (s : Stored) → IsKnown config h old s
+      → (t : Stored) × IsKnown config (behind h 0 (Serves Work) (result_err result)) new t × StandsSince config opened (behind h 0 (Serves Work) (result_err result)) new × IsWritingOn PortsFail old new first (kind.port_faults after.port) s t result
 
   -- one more was acknowledged
   pub rests_on : (wrote : Bool) → Rests Tells old mid → Turns (Ok wrote) → Rests Tells old new

@@ -7,7 +7,7 @@ use Rattle.lethe_base.specs.History.{History}
 use Rattle.lethe_base.specs.declared.config.Fields.{Fields}
 use Rattle.lethe_stored.specs.Stored.{Stored}
 use Rattle.lethe_core.specs.View.{View}
-use Rattle.lethe_engine.specs.StandsFor.{Opened, StandsFor}
+use Rattle.lethe_engine.specs.StandsFor.{Opened, StandsSince}
 use Rattle.lethe_drive.specs.Driving.{IsDriven}
 use Rattle.lethe_drive.specs.Moments.{Going, IsKnown, IsLater, IsMomentOf, Moment, moment_of}
 use Rattle.lethe_drive.specs.Past.{AreEarlier, Run}
@@ -141,7 +141,7 @@ module _ (PortsFail : Type 0) (config : Fields) (h : History) (start : Moment) (
 module _ (PortsFail : Type 0) (config : Fields) (opened : Opened) (h : History) (start : Moment) (fetches faults : ℕ) where
   abbrev pub Ended : View → List Event → List Reply → Type 0
   Ended view events replies =
-      (g : History) × (t : Stored) × IsKnown config g view t × StandsFor config opened g view × (begun : ℕ) × IsDriven PortsFail config h start events replies g (moment_of view t fetches faults begun None)
+      (g : History) × (t : Stored) × IsKnown config g view t × StandsSince config opened g view × (begun : ℕ) × IsDriven PortsFail config h start events replies g (moment_of view t fetches faults begun None)
 
   pub ended_as : (view : View) (events : List Event) (replies : List Reply) → Ended view events replies → (same : View) (all : List Event) (whole : List Reply) → same ≡ view → all ≡ events → whole ≡ replies
       → Ended same all whole

@@ -14,6 +14,7 @@ use Rattle.lethe_base.specs.declared.refused.Refused.TheVariants.{Backwards, Exh
 use Rattle.lethe_base.proofs.Histories.{after-push}
 use Rattle.lethe_cover.specs.Steps.{with_done}
 use Rattle.lethe_follows.specs.Ticked.{ticked}
+use Rattle.lethe_manifest.specs.declared.manifest.Manifest.{Manifest}
 use Rattle.lethe_stored.specs.Clean.{IsClean}
 use Rattle.lethe_stored.specs.Stored.{Stored}
 use Rattle.lethe_state.specs.Room.{IsShortToFlush, IsShortToFreeze}
@@ -22,10 +23,12 @@ use Rattle.lethe_core.specs.Merges.{AreOutcomesBy, Outcome, due_choice, pages_of
 use Rattle.lethe_core.specs.Running.{Holds}
 use Rattle.lethe_core.specs.View.{Face, View, face_of}
 use Rattle.lethe_core.proofs.Asked.{refused_none}
+use Rattle.lethe_tick.specs.Certified.{IsCertificateAt}
 use Rattle.lethe_tick.specs.Ripened.{IsRipened, IsShortToTick, IsTickedInPart}
 use Rattle.lethe_engine.specs.Answers.{IsRefused, IsStill}
-use Rattle.lethe_engine.specs.StandsFor.{Opened, StandsFor}
+use Rattle.lethe_engine.specs.StandsFor.{Opened, StandsSince}
 use Rattle.lethe_engine.specs.Ticks as engine
+use Rattle.lethe_engine.specs.Certificates.{IsTrueCertificate}
 use Rattle.lethe_engine.specs.declared.ticking.Ticked.{Ticked}
 use Rattle.lethe_engine.proofs.Clean.{now_clean}
 use Rattle.lethe_drive.specs.Moments.{Going, IsAllButPort, IsKnown, Moment, moment_of}
@@ -80,7 +83,7 @@ pub record Tested (to : ℕ) (old new : View) (result : Result Ticked Refused) :
   pub last : old.state.stopped ≡ None → old.state.manifest.clock ≤ to → (old.state.count ≡ max_place) ⊎ (max_place ≤ old.rounds) → (result ≡ Err (Exhausted max_place)) × (new ≡ old)
 
 module _ (Tells PortsFail : Type 0) (told : Tells) (to : ℕ) (config : Fields) (opened : Opened) (h : History) (old new : View) (s : Stored) (known : IsKnown config h old s)
-    (fetches_before fetches_now faults_before faults_now begun : ℕ) (there gone : Option Going) (stands : StandsFor config opened h old) (face : face_of new ≡ engine.ticked_face old to new.retired) where
+    (fetches_before fetches_now faults_before faults_now begun : ℕ) (there gone : Option Going) (stands : StandsSince config opened h old) (face : face_of new ≡ engine.ticked_face old to new.retired) where
   abbrev before : Moment
   before = moment_of old s fetches_before faults_before begun there
 
@@ -175,11 +178,11 @@ module _ (Tells PortsFail : Type 0) (told : Tells) (to : ℕ) (config : Fields) 
     never : {A : Type 0} → passes before to ≡ false → A
     never not = absurd (let both : true ≡ false = sym all ∙ not in cc)
 
-    module _ (why : Refused) (stood : StandsFor config opened (refused_to h 0 (call.Tick to) why) new) where
+    module _ (why : Refused) (stood : StandsSince config opened (refused_to h 0 (call.Tick to) why) new) where
       -- what is refused for want of numbers is in no history, so nothing was stopped
       still_runs : (last : ℕ) → why ≡ Exhausted last → old.state.stopped ≡ None → new.state.stopped ≡ None
       still_runs last full runs =
-          let still = subst (λ (why : Refused). StandsFor config opened (refused_to h 0 (call.Tick to) why) new) full stood in
+          let still = subst (λ (why : Refused). StandsSince config opened (refused_to h 0 (call.Tick to) why) new) full stood in
           stopped_same config h old new stands.now still.now ∙ runs
 
       -- the merge for which numbers are short is one of what is stored
@@ -199,10 +202,11 @@ module _ (Tells PortsFail : Type 0) (told : Tells) (to : ℕ) (config : Fields) 
       tick_reason t is (inr (inr unread)) = inr (inr (unread.0, unreadable_told Tells PortsFail faults_before faults_now why told unread.1))
 
     -- the round ends, whatever the tick answers
-    pub tick_ends : (result : Result Ticked Refused) → Tested to old new result → StandsFor config opened (behind h 0 (Makes (call.Tick to)) (result_err result)) new → (IsSome old.state.stopped → IsStill Tells old new)
+    pub tick_ends : (result : Result Ticked Refused) → Tested to old new result → StandsSince config opened (behind h 0 (Makes (call.Tick to)) (result_err result)) new → (IsSome old.state.stopped → IsStill Tells old new)
         → IfSome (result_err result) (IsRefused Tells (Makes (call.Tick to)) old new) → IfOk result (λ answer. (answer.place ≡ old.state.count + 1) × (answer.clock ≡ to)) → (Holds old s → OnOk result Carried)
-        → IfErr result (engine.HasReasonOfTick Tells PortsFail to old new faults_before faults_now) → Ticks result
-    tick_ends (Ok answer) tested stood still refused told_as carried why =
+        → IfErr result (engine.HasReasonOfTick Tells PortsFail to old new faults_before faults_now) → IfOk result (λ answer. IsCertificateAt new.state.manifest.config.threshold to answer.certificate)
+        → IfOk result (λ answer. IfSome answer.certificate (λ certificate. IsTrueCertificate config.threshold certificate new.disk.directory (with_done h 0 (call.Tick to)))) → Ticks result
+    tick_ends (Ok answer) tested stood still refused told_as carried why due is_true =
         let made = carried (known.held (not_stopped old.state.stopped (λ at e. ok_or_err answer (Stopped at) (tested.stops at e).0))) in
         let g = with_done h 0 (call.Tick to) in
         let clean : IsClean config.threshold new.disk.directory g to = subst (IsClean config.threshold new.disk.directory g) (ticked_clock h to) (now_clean config g new stood.now made.6.running.current.runs) in (
@@ -223,6 +227,8 @@ module _ (Tells PortsFail : Type 0) (told : Tells) (to : ℕ) (config : Fields) 
               retired = made.8;
               fetches = made.7;
               clean = subst (λ (fields : Fields). IsClean fields.threshold new.disk.directory g to) (sym known.config_is) clean;
+              due = subst (λ n. IsCertificateAt n to answer.certificate) (ap (λ (m : Manifest). m.config.threshold) stood.now.remembers.manifest ∙ ap (λ (fields : Fields). fields.threshold) (stood.now.config_is ∙ sym known.config_is)) due;
+              is_true = subst (λ (fields : Fields). IfSome answer.certificate (λ certificate. IsTrueCertificate fields.threshold certificate new.disk.directory g)) (sym known.config_is) is_true;
             };
             stops = λ at e. (tested.stops at e).0;
             backwards = λ runs behind. (tested.backwards runs behind).0;
@@ -231,7 +237,7 @@ module _ (Tells PortsFail : Type 0) (told : Tells) (to : ℕ) (config : Fields) 
             same = λ not. never not;
           },
         )
-    tick_ends (Err why) tested stood still refused told_as carried reason =
+    tick_ends (Err why) tested stood still refused told_as carried reason due is_true =
         let comes = refused_known Tells config opened h old new s known (call.Tick to) why stood still (IsTickedInPart to s) (inl (inl refl)) (λ fine holds. refused.1 fine told s holds) in (
           comes.0,
           comes.1,

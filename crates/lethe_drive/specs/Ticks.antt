@@ -1,5 +1,5 @@
 -- What a tick answers in a run of events.
-use Rattle.std.specs.Prelude.{◌≡◌, ◌⊎◌, ◌≤◌, ◌<◌, ℕ, ◌+◌, Bool, true, false, ◌&&◌, is_none, nat_le, nat_lt, List, length, sum_by, None, Result, Ok, Err}
+use Rattle.std.specs.Prelude.{◌≡◌, ◌⊎◌, ◌≤◌, ◌<◌, ℕ, ◌+◌, Bool, true, false, ◌&&◌, is_none, nat_le, nat_lt, List, length, sum_by, None, IfSome, Result, Ok, Err}
 use Rattle.lethe_base.specs.History.{History}
 use Rattle.lethe_base.specs.Limits.{max_place}
 use Rattle.lethe_base.specs.declared.call.Call.TheVariants as call
@@ -16,7 +16,9 @@ use Rattle.lethe_state.specs.Room.{IsShortToFlush, IsShortToFreeze}
 use Rattle.lethe_core.specs.Asked.{failure_of, refused_to}
 use Rattle.lethe_core.specs.Merges.{AreOutcomesBy, IsBegunBy, Outcome, due_choice, pages_of, retired_behind}
 use Rattle.lethe_core.specs.Reasons.{HasReason, IsUnreadable}
+use Rattle.lethe_engine.specs.Certificates.{IsTrueCertificate}
 use Rattle.lethe_engine.specs.declared.ticking.Ticked.{Ticked}
+use Rattle.lethe_tick.specs.Certified.{IsCertificateAt}
 use Rattle.lethe_tick.specs.Ripened.{IsRipened, IsTickedInPart}
 use Rattle.lethe_drive.specs.Answers.{AreOutputsFor, StopsIn}
 use Rattle.lethe_drive.specs.Moments.{IsAllButPort, Moment}
@@ -34,7 +36,8 @@ pub record IsShortToRipen (to : ℕ) (m : Moment) : Type 0 where
   pub short : max_place ≤ m.state.next + sum_by numbers_for drafts
 
 -- It takes the next place. The buffers were flushed where a record was as old as level 0 may have it, exactly the merges that were due were carried out, each page of what was
--- merged was fetched once, and the clock moved. The directory is clean: no object is without a meaning, and none spells a value that was erased a threshold ago.
+-- merged was fetched once, and the clock moved. The directory is clean: no object is without a meaning, and none spells a value that was erased a threshold ago. Where the time
+-- is at least the threshold, and only there, it answers a certificate, which is true of the directory and the history.
 pub record IsTicked (to : ℕ) (h : History) (old : Moment) (answer : Ticked) (g : History) (new : Moment) : Type 0 where
   pub place_is : answer.place ≡ length h + 1
   pub clock_is : answer.clock ≡ to
@@ -49,6 +52,8 @@ pub record IsTicked (to : ℕ) (h : History) (old : Moment) (answer : Ticked) (g
   pub retired : new.retired ≡ retired_behind outcomes old.retired
   pub fetches : new.fetches ≡ old.fetches + pages_of outcomes
   pub clean : IsClean old.stored.manifest.config.threshold new.directory g to
+  pub due : IsCertificateAt old.stored.manifest.config.threshold to answer.certificate
+  pub is_true : IfSome answer.certificate (λ certificate. IsTrueCertificate old.stored.manifest.config.threshold certificate new.directory g)
 
 -- Its time is behind the clock; or an earlier call failed, the places or the rounds are used up or numbers are short, the disk failed, or there was no memory; or a page that was
 -- to be merged couldn't be read.

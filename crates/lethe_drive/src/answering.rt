@@ -6,7 +6,7 @@ ghost use Rattle.lethe_base.specs.declared.config.Fields.{Fields};
 ghost use Rattle.lethe_stored.specs.Stored.{Stored};
 ghost use Rattle.lethe_core.specs.Running.{IsSound};
 ghost use Rattle.lethe_core.specs.View.{view_of};
-ghost use Rattle.lethe_engine.specs.StandsFor.{Opened, StandsFor};
+ghost use Rattle.lethe_engine.specs.StandsFor.{Opened, StandsSince};
 ghost use Rattle.lethe_drive.specs.Driving.{IsTheirs};
 ghost use Rattle.lethe_drive.specs.Moments.{IsKnown, moment_of, there_of};
 ghost use Rattle.lethe_drive.specs.Past.{IsTickAsked};
@@ -35,8 +35,8 @@ pub(crate) fn answer<D: Disk>(
     requires room { jobs.old.begun < 2 ^ 63 }
     ensures sound { IsSound D.tells (view_of engine.new.core) }
     ensures jobs { IsTheirs D.tells (view_of engine.new.core) jobs.new }
-    ensures step { D.tells → (config : Fields) (opened : Opened) (h : History) → StandsFor config opened h (view_of engine.old.core) → (s : Stored) → IsKnown config h (view_of engine.old.core) s
-        → (g : History) × (t : Stored) × IsKnown config g (view_of engine.new.core) t × StandsFor config opened g (view_of engine.new.core)
+    ensures step { D.tells → (config : Fields) (opened : Opened) (h : History) → StandsSince config opened h (view_of engine.old.core) → (s : Stored) → IsKnown config h (view_of engine.old.core) s
+        → (g : History) × (t : Stored) × IsKnown config g (view_of engine.new.core) t × StandsSince config opened g (view_of engine.new.core)
         × IsStep D.ports_fail h (moment_of (view_of engine.old.core) s (D.fetches port.old) (D.port_faults port.old) jobs.old.begun (there_of jobs.old)) event result g (moment_of (view_of engine.new.core) t (D.fetches port.new) (D.port_faults port.new) jobs.new.begun (there_of jobs.new)) }
     ensures faults { D.faults engine.old.core.disk ≤ D.faults engine.new.core.disk }
     ensures port_faults { D.port_faults port.old ≤ D.port_faults port.new }
@@ -88,8 +88,8 @@ fn tick<D: Disk>(
     requires within { to ≤ max_time }
     ensures sound { IsSound D.tells (view_of engine.new.core) }
     ensures jobs { IsTheirs D.tells (view_of engine.new.core) jobs.new }
-    ensures step { D.tells → (config : Fields) (opened : Opened) (h : History) → StandsFor config opened h (view_of engine.old.core) → (s : Stored) → IsKnown config h (view_of engine.old.core) s
-        → (g : History) × (t : Stored) × IsKnown config g (view_of engine.new.core) t × StandsFor config opened g (view_of engine.new.core)
+    ensures step { D.tells → (config : Fields) (opened : Opened) (h : History) → StandsSince config opened h (view_of engine.old.core) → (s : Stored) → IsKnown config h (view_of engine.old.core) s
+        → (g : History) × (t : Stored) × IsKnown config g (view_of engine.new.core) t × StandsSince config opened g (view_of engine.new.core)
         × IsTick D.ports_fail to h (moment_of (view_of engine.old.core) s (D.fetches port.old) (D.port_faults port.old) jobs.old.begun (there_of jobs.old)) result g (moment_of (view_of engine.new.core) t (D.fetches port.new) (D.port_faults port.new) jobs.new.begun (there_of jobs.new)) }
     ensures faults { D.faults engine.old.core.disk ≤ D.faults engine.new.core.disk }
     ensures port_faults { D.port_faults port.old ≤ D.port_faults port.new }

@@ -2,9 +2,9 @@
 ghost use Rattle.std.specs.Prelude.{◌≡◌};
 ghost use Rattle.lethe_drive.specs.Past.{named_by};
 
-use crate::time::Time;
 use lethe_base::{Key, List, Refused, Value};
 use lethe_engine::Ticked;
+use lethe_time::Time;
 
 /// One event.
 #[derive(Debug, Drop)]

@@ -8,12 +8,11 @@ mod jobs;
 mod laws;
 mod past;
 mod rounds;
-mod time;
 mod working;
 
 pub use driving::drive;
 pub use event::{Event, Reply};
 pub use jobs::{Jobs, Numbered};
 pub use laws::{a_job_has_its_outcome, puts_are_read};
+pub use lethe_time::Time;
 pub use past::Past;
-pub use time::Time;

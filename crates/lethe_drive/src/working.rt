@@ -11,7 +11,7 @@ ghost use Rattle.lethe_core.specs.Asked.{Serves, behind};
 ghost use Rattle.lethe_core.specs.Jobs.{IsAtWork, IsInFlight, IsWhole};
 ghost use Rattle.lethe_core.specs.Running.{IsSound};
 ghost use Rattle.lethe_core.specs.View.{view_of};
-ghost use Rattle.lethe_engine.specs.StandsFor.{Opened, StandsFor};
+ghost use Rattle.lethe_engine.specs.StandsFor.{Opened, StandsSince};
 ghost use Rattle.lethe_drive.specs.Answers.{IsInstall, IsWriteOut};
 ghost use Rattle.lethe_drive.specs.Driving.{IsTheirs, IsWritingOn, pages_left};
 ghost use Rattle.lethe_drive.specs.Moments.{IsKnown, going_of, moment_of, there_of};
@@ -34,8 +34,8 @@ pub(crate) fn begin<D: Disk>(engine: &mut Engine<D>, alloc: Global, jobs: &mut J
     requires room { jobs.old.begun < 2 ^ 63 }
     ensures sound { IsSound D.tells (view_of engine.new.core) }
     ensures jobs { IsTheirs D.tells (view_of engine.new.core) jobs.new }
-    ensures step { D.tells → (config : Fields) (opened : Opened) (h : History) → StandsFor config opened h (view_of engine.old.core) → (s : Stored) → IsKnown config h (view_of engine.old.core) s → (fetches faults : ℕ)
-        → (g : History) × (t : Stored) × IsKnown config g (view_of engine.new.core) t × StandsFor config opened g (view_of engine.new.core)
+    ensures step { D.tells → (config : Fields) (opened : Opened) (h : History) → StandsSince config opened h (view_of engine.old.core) → (s : Stored) → IsKnown config h (view_of engine.old.core) s → (fetches faults : ℕ)
+        → (g : History) × (t : Stored) × IsKnown config g (view_of engine.new.core) t × StandsSince config opened g (view_of engine.new.core)
         × IsStep D.ports_fail h (moment_of (view_of engine.old.core) s fetches faults jobs.old.begun (there_of jobs.old)) event.Begin result g (moment_of (view_of engine.new.core) t fetches faults jobs.new.begun (there_of jobs.new)) }
     ensures rounds { engine.new.core.begun.rounds ≡ engine.old.core.begun.rounds }
     ensures faults { D.faults engine.old.core.disk ≤ D.faults engine.new.core.disk }
@@ -63,8 +63,8 @@ pub(crate) fn write_out<D: Disk>(
     requires jobs { IsTheirs D.tells (view_of engine.old.core) jobs.old }
     ensures sound { IsSound D.tells (view_of engine.new.core) }
     ensures jobs { IsTheirs D.tells (view_of engine.new.core) jobs.new }
-    ensures step { D.tells → (config : Fields) (opened : Opened) (h : History) → StandsFor config opened h (view_of engine.old.core) → (s : Stored) → IsKnown config h (view_of engine.old.core) s → (fetches faults : ℕ)
-        → (g : History) × (t : Stored) × IsKnown config g (view_of engine.new.core) t × StandsFor config opened g (view_of engine.new.core)
+    ensures step { D.tells → (config : Fields) (opened : Opened) (h : History) → StandsSince config opened h (view_of engine.old.core) → (s : Stored) → IsKnown config h (view_of engine.old.core) s → (fetches faults : ℕ)
+        → (g : History) × (t : Stored) × IsKnown config g (view_of engine.new.core) t × StandsSince config opened g (view_of engine.new.core)
         × IsStep D.ports_fail h (moment_of (view_of engine.old.core) s fetches faults jobs.old.begun (there_of jobs.old)) (event.WriteOut number) result g (moment_of (view_of engine.new.core) t fetches faults jobs.new.begun (there_of jobs.new)) }
     ensures rounds { engine.new.core.begun.rounds ≡ engine.old.core.begun.rounds }
     ensures faults { D.faults engine.old.core.disk ≤ D.faults engine.new.core.disk }
@@ -99,8 +99,8 @@ fn write_next<D: Disk>(
     // Once its outputs are made nothing is read.
     ensures read { IsSome job.old.drafts → (before now : ℕ) → IsErrOf result (ReadFault before now) → ⊥ }
     ensures made { OnOk result (IsSome job.new.drafts) }
-    ensures step { D.tells → (config : Fields) (opened : Opened) (h : History) → StandsFor config opened h (view_of engine.old.core) → (s : Stored) → IsKnown config h (view_of engine.old.core) s → (number fetches faults begun : ℕ)
-        → (t : Stored) × IsKnown config (behind h 0 (Serves Work) (result_err result)) (view_of engine.new.core) t × StandsFor config opened (behind h 0 (Serves Work) (result_err result)) (view_of engine.new.core)
+    ensures step { D.tells → (config : Fields) (opened : Opened) (h : History) → StandsSince config opened h (view_of engine.old.core) → (s : Stored) → IsKnown config h (view_of engine.old.core) s → (number fetches faults begun : ℕ)
+        → (t : Stored) × IsKnown config (behind h 0 (Serves Work) (result_err result)) (view_of engine.new.core) t × StandsSince config opened (behind h 0 (Serves Work) (result_err result)) (view_of engine.new.core)
         × IsWriteOut D.ports_fail (going_of number job.old) h (moment_of (view_of engine.old.core) s fetches faults begun (Some (going_of number job.old))) result
         (behind h 0 (Serves Work) (result_err result)) (moment_of (view_of engine.new.core) t fetches faults begun (Some (going_of number job.new))) }
     ensures rounds { engine.new.core.begun.rounds ≡ engine.old.core.begun.rounds }
@@ -126,8 +126,8 @@ pub(crate) fn install<D: Disk>(
     requires jobs { IsTheirs D.tells (view_of engine.old.core) jobs.old }
     ensures sound { IsSound D.tells (view_of engine.new.core) }
     ensures jobs { IsTheirs D.tells (view_of engine.new.core) jobs.new }
-    ensures step { D.tells → (config : Fields) (opened : Opened) (h : History) → StandsFor config opened h (view_of engine.old.core) → (s : Stored) → IsKnown config h (view_of engine.old.core) s → (fetches faults : ℕ)
-        → (g : History) × (t : Stored) × IsKnown config g (view_of engine.new.core) t × StandsFor config opened g (view_of engine.new.core)
+    ensures step { D.tells → (config : Fields) (opened : Opened) (h : History) → StandsSince config opened h (view_of engine.old.core) → (s : Stored) → IsKnown config h (view_of engine.old.core) s → (fetches faults : ℕ)
+        → (g : History) × (t : Stored) × IsKnown config g (view_of engine.new.core) t × StandsSince config opened g (view_of engine.new.core)
         × IsStep D.ports_fail h (moment_of (view_of engine.old.core) s fetches faults jobs.old.begun (there_of jobs.old)) (event.Install number) result g (moment_of (view_of engine.new.core) t fetches faults jobs.new.begun (there_of jobs.new)) }
     ensures rounds { engine.new.core.begun.rounds ≡ engine.old.core.begun.rounds }
     ensures faults { D.faults engine.old.core.disk ≤ D.faults engine.new.core.disk }
@@ -156,8 +156,8 @@ fn install_whole<D: Disk>(
     requires none { jobs.old.there ≡ None }
     ensures sound { IsSound D.tells (view_of engine.new.core) }
     ensures jobs { IsTheirs D.tells (view_of engine.new.core) jobs.new }
-    ensures step { D.tells → (config : Fields) (opened : Opened) (h : History) → StandsFor config opened h (view_of engine.old.core) → (s : Stored) → IsKnown config h (view_of engine.old.core) s → (fetches faults : ℕ)
-        → (t : Stored) × IsKnown config (behind h 0 (Serves Work) (result_err result)) (view_of engine.new.core) t × StandsFor config opened (behind h 0 (Serves Work) (result_err result)) (view_of engine.new.core)
+    ensures step { D.tells → (config : Fields) (opened : Opened) (h : History) → StandsSince config opened h (view_of engine.old.core) → (s : Stored) → IsKnown config h (view_of engine.old.core) s → (fetches faults : ℕ)
+        → (t : Stored) × IsKnown config (behind h 0 (Serves Work) (result_err result)) (view_of engine.new.core) t × StandsSince config opened (behind h 0 (Serves Work) (result_err result)) (view_of engine.new.core)
         × IsInstall D.ports_fail (going_of numbered.number numbered.job) h
         (moment_of (view_of engine.old.core) s fetches faults jobs.old.begun (Some (going_of numbered.number numbered.job))) result
         (behind h 0 (Serves Work) (result_err result)) (moment_of (view_of engine.new.core) t fetches faults jobs.new.begun (there_of jobs.new)) }
@@ -195,8 +195,8 @@ fn write_rest<D: Disk>(
     ensures refused { OnErr result (job.new.refused ≡ true) }
     ensures task { job.new.task.value ≡ job.old.task.value }
     ensures round { job.new.round ≡ job.old.round }
-    ensures step { D.tells → (config : Fields) (opened : Opened) (h : History) → StandsFor config opened h (view_of engine.old.core) → (s : Stored) → IsKnown config h (view_of engine.old.core) s
-        → (t : Stored) × IsKnown config (behind h 0 (Serves Work) (result_err result)) (view_of engine.new.core) t × StandsFor config opened (behind h 0 (Serves Work) (result_err result)) (view_of engine.new.core)
+    ensures step { D.tells → (config : Fields) (opened : Opened) (h : History) → StandsSince config opened h (view_of engine.old.core) → (s : Stored) → IsKnown config h (view_of engine.old.core) s
+        → (t : Stored) × IsKnown config (behind h 0 (Serves Work) (result_err result)) (view_of engine.new.core) t × StandsSince config opened (behind h 0 (Serves Work) (result_err result)) (view_of engine.new.core)
         × IsWritingOn D.ports_fail (view_of engine.old.core) (view_of engine.new.core) (D.port_faults job.old.port) (D.port_faults job.new.port) s t result }
     ensures rounds { engine.new.core.begun.rounds ≡ engine.old.core.begun.rounds }
     ensures faults { D.faults engine.old.core.disk ≤ D.faults engine.new.core.disk }
@@ -211,8 +211,8 @@ pub(crate) fn cancel<D: Disk>(engine: &mut Engine<D>, jobs: &mut Jobs<D>, number
     requires jobs { IsTheirs D.tells (view_of engine.old.core) jobs.old }
     ensures sound { IsSound D.tells (view_of engine.new.core) }
     ensures jobs { IsTheirs D.tells (view_of engine.new.core) jobs.new }
-    ensures step { D.tells → (config : Fields) (opened : Opened) (h : History) → StandsFor config opened h (view_of engine.old.core) → (s : Stored) → IsKnown config h (view_of engine.old.core) s → (fetches faults : ℕ)
-        → (g : History) × (t : Stored) × IsKnown config g (view_of engine.new.core) t × StandsFor config opened g (view_of engine.new.core)
+    ensures step { D.tells → (config : Fields) (opened : Opened) (h : History) → StandsSince config opened h (view_of engine.old.core) → (s : Stored) → IsKnown config h (view_of engine.old.core) s → (fetches faults : ℕ)
+        → (g : History) × (t : Stored) × IsKnown config g (view_of engine.new.core) t × StandsSince config opened g (view_of engine.new.core)
         × IsStep D.ports_fail h (moment_of (view_of engine.old.core) s fetches faults jobs.old.begun (there_of jobs.old)) (event.Cancel number) result g (moment_of (view_of engine.new.core) t fetches faults jobs.new.begun (there_of jobs.new)) }
     ensures rounds { engine.new.core.begun.rounds ≡ engine.old.core.begun.rounds }
     ensures faults { D.faults engine.old.core.disk ≤ D.faults engine.new.core.disk }

@@ -31,7 +31,7 @@ use Rattle.lethe_core.proofs.Roomed.{room_begun}
 use Rattle.lethe_core.proofs.Standing.{idle_back, moments_or, stands_moments}
 use Rattle.lethe_engine.specs.Answers.{Answers, IsBegun, IsReadyFor, IsRefused}
 use Rattle.lethe_engine.specs.Refusals.{HasReasonOfChange}
-use Rattle.lethe_engine.specs.StandsFor.{IsKeptFor, Opened, StandsFor}
+use Rattle.lethe_engine.specs.StandsFor.{IsKeptFor, Opened, StandsSince}
 use Rattle.lethe_engine.proofs.Onward.{answered_for, idle_for, worked_for}
 use Rattle.lethe_engine.proofs.Reasons.{IsTold, changes_told, reasons_told}
 
@@ -41,7 +41,7 @@ if_refused (Ok done) P is = tt
 if_refused (Err why) P is = is
 
 -- What stands for a history at the end has kept it since the beginning.
-pub goes_by : (P : Directory → Type 0) (config : Fields) (opened : Opened) (h g : History) (old new : View) → StandsFor config opened h old → StandsFor config opened g new → Goes P old.disk new.disk
+pub goes_by : (P : Directory → Type 0) (config : Fields) (opened : Opened) (h g : History) (old new : View) → StandsSince config opened h old → StandsSince config opened g new → Goes P old.disk new.disk
     → Goes (IsKeptFor config opened.history g) old.disk new.disk
 goes_by P config opened h g old new before after run = record {
   later = run.later;
@@ -49,7 +49,7 @@ goes_by P config opened h g old new before after run = record {
   each = λ m c low high left. let since = before.later in after.images m c (omega (arith, since, low)) high left;
 }
 
-pub idle_goes : (config : Fields) (opened : Opened) (h g : History) (old new : View) → StandsFor config opened h old → StandsFor config opened g new → IsIdle old.disk new.disk
+pub idle_goes : (config : Fields) (opened : Opened) (h g : History) (old new : View) → StandsSince config opened h old → StandsSince config opened g new → IsIdle old.disk new.disk
     → Goes (IsKeptFor config opened.history g) old.disk new.disk
 idle_goes config opened h g old new before after idle = record {
   later = let same = idle.moment in omega (arith, same);
@@ -108,8 +108,8 @@ itself_answers Tells asked why view sound none = record {
   face_is = refl;
 }
   where
-    same : (config : Fields) (opened : Opened) (h : History) → StandsFor config opened h view → (caller : ℕ) → StandsFor config opened (behind h caller asked why) view
-    same config opened h before caller = subst (λ g. StandsFor config opened g view) (sym (none.history h caller)) before
+    same : (config : Fields) (opened : Opened) (h : History) → StandsSince config opened h view → (caller : ℕ) → StandsSince config opened (behind h caller asked why) view
+    same config opened h before caller = subst (λ g. StandsSince config opened g view) (sym (none.history h caller)) before
 
     undone : (asked : Asked) (why : Option Refused) → IfSome why (IsRefused Tells asked view view)
     undone asked None = tt
@@ -137,9 +137,9 @@ idle_answers Tells why old new sound state levels retired faults idle now none =
     next : new.state.next ≡ old.state.next
     next = ap (λ (state : State). state.next) state
 
-    same : Tells → (config : Fields) (opened : Opened) (h : History) → StandsFor config opened h old → (caller : ℕ) → StandsFor config opened (behind h caller (Serves Work) why) new
+    same : Tells → (config : Fields) (opened : Opened) (h : History) → StandsSince config opened h old → (caller : ℕ) → StandsSince config opened (behind h caller (Serves Work) why) new
     same told config opened h before caller =
-        subst (λ g. StandsFor config opened g new) (sym (none.history h caller)) (idle_for config opened h old new (idle told) next faults (now told config h before.now) before)
+        subst (λ g. StandsSince config opened g new) (sym (none.history h caller)) (idle_for config opened h old new (idle told) next faults (now told config h before.now) before)
 
     undone : (why : Option Refused) → IfSome why (IsRefused Tells (Serves Work) old new)
     undone None = tt
@@ -169,7 +169,7 @@ step_answers Tells Short why old new before runs is keeps reason undone = record
   face_is = refl;
 }
   where
-    worked : Tells → (config : Fields) (opened : Opened) (h : History) → StandsFor config opened h old → (caller : ℕ) → StandsFor config opened (behind h caller (Serves Work) why) new
+    worked : Tells → (config : Fields) (opened : Opened) (h : History) → StandsSince config opened h old → (caller : ℕ) → StandsSince config opened (behind h caller (Serves Work) why) new
     worked told config opened h stands caller =
         worked_for config opened h old new stands runs keeps.faults (keeps.numbers told) caller why (reasons_told Short old.state old.faults new.faults why (subst (λ n. IfSome why (HasReason Short old.state n new.faults)) is reason))
         (keeps.any_moment told config h stands.now) (keeps.stands told config h stands.now caller Work)
@@ -198,7 +198,7 @@ module _ (Tells : Type 0) (call : Call) (works : call ≡ Work → ⊥) (old : V
     face_is = refl;
   }
     where
-      answered : Tells → (config : Fields) (opened : Opened) (h : History) → StandsFor config opened h old → (caller : ℕ) → StandsFor config opened (behind h caller (Makes call) why) new
+      answered : Tells → (config : Fields) (opened : Opened) (h : History) → StandsSince config opened h old → (caller : ℕ) → StandsSince config opened (behind h caller (Makes call) why) new
       answered told config opened h before caller =
           answered_for config opened h old new before runs faults (numbers told) caller call works why reason (moments told config h caller before.now) (stands told config h caller before.now)
 

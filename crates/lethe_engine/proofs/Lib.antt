@@ -12,3 +12,4 @@ pub mod Copying
 pub mod Clean
 pub mod Rounds
 pub mod Ticks
+pub mod Certified

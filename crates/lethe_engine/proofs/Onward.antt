@@ -25,7 +25,7 @@ use Rattle.lethe_core.specs.Asked.{Failure, Makes, Serves, behind, done_by, fail
 use Rattle.lethe_core.specs.StandsNow.{StandsNow}
 use Rattle.lethe_core.specs.View.{View}
 use Rattle.lethe_engine.specs.Opening.{opened_as}
-use Rattle.lethe_engine.specs.StandsFor.{HasCounts, IsKeptFor, IsPrefixFrom, Opened, StandsFor}
+use Rattle.lethe_engine.specs.StandsFor.{HasCounts, IsKeptFor, IsPrefixFrom, Opened, StandsSince}
 use Rattle.lethe_engine.proofs.Prefixes.{prefix_done, prefix_failed, prefix_itself, prefix_longer}
 use Rattle.lethe_engine.proofs.Reasons.{IsTold}
 use Rattle.lethe_core.proofs.Standing.{stands_done, stands_moments}
@@ -37,7 +37,7 @@ counts_later from f0 f1 (Failed before after) le is = (is.0, is.1, let upto = is
 
 -- a store that was just opened
 pub opened_for : (config : Fields) (h : History) (start : Seen) (next : ℕ) (view : View) → StandsNow config h view → view.state.stopped ≡ None → IsWritable view.state
-    → view.state.next + start.moment ≤ next + view.disk.moment → StandsFor config (opened_as h start view.disk next view.faults) h view
+    → view.state.next + start.moment ≤ next + view.disk.moment → StandsSince config (opened_as h start view.disk next view.faults) h view
 opened_for config h start next view now runs writable numbers = record {
   now = now;
   begins = ([], sym (append-nil h));
@@ -50,8 +50,8 @@ opened_for config h start next view now runs writable numbers = record {
 }
 
 -- a store whose disk wasn't touched
-pub idle_for : (config : Fields) (opened : Opened) (h : History) (old new : View) → IsIdle old.disk new.disk → new.state.next ≡ old.state.next → new.faults ≡ old.faults → StandsNow config h new → StandsFor config opened h old
-    → StandsFor config opened h new
+pub idle_for : (config : Fields) (opened : Opened) (h : History) (old new : View) → IsIdle old.disk new.disk → new.state.next ≡ old.state.next → new.faults ≡ old.faults → StandsNow config h new → StandsSince config opened h old
+    → StandsSince config opened h new
 idle_for config opened h old new idle next faults now before = record {
   now = now;
   begins = before.begins;
@@ -63,7 +63,7 @@ idle_for config opened h old new idle next faults now before = record {
   counts = subst (λ n. All (λ (change : Change). HasCounts opened.faults n change.did) before.begins.0) (sym faults) before.counts;
 }
 
-module _ (config : Fields) (opened : Opened) (h : History) (old new : View) (before : StandsFor config opened h old) (runs : old.state.stopped ≡ None) (later : old.faults ≤ new.faults)
+module _ (config : Fields) (opened : Opened) (h : History) (old new : View) (before : StandsSince config opened h old) (runs : old.state.stopped ≡ None) (later : old.faults ≤ new.faults)
     (numbers : new.state.next + old.disk.moment ≤ old.state.next + new.disk.moment) where
   abbrev Was : History
   Was = opened.history
@@ -73,7 +73,7 @@ module _ (config : Fields) (opened : Opened) (h : History) (old new : View) (bef
 
   -- It stands for the history with what was added, where each crash on the way left what is kept for a prefix of that.
   added_to : (P : Directory → Type 0) (g added : History) → g ≡ h ++ added → ((k : History) → IsPrefixFrom Was h k → IsPrefixFrom Was g k) → ((d : Directory) → P d → IsKeptFor config Was g d)
-      → All (λ (change : Change). HasCounts opened.faults new.faults change.did) added → GoesFrom old.state.next P old.disk new.disk → StandsNow config g new → StandsFor config opened g new
+      → All (λ (change : Change). HasCounts opened.faults new.faults change.did) added → GoesFrom old.state.next P old.disk new.disk → StandsNow config g new → StandsSince config opened g new
   added_to P g added is longer kept counted run now = record {
     now = now;
     begins = (before.begins.0 ++ added, is ∙ ap (λ l. l ++ added) before.begins.1 ∙ append_assoc Was before.begins.0 added);
@@ -100,10 +100,10 @@ module _ (config : Fields) (opened : Opened) (h : History) (old new : View) (bef
   now_kept more d kept = (h, prefix_longer Was h more before.now.legal done h (prefix_itself Was h done before.begins), kept)
 
   -- the same history
-  pub still_for : GoesFrom old.state.next (λ c. IsKept config c h) old.disk new.disk → StandsNow config h new → StandsFor config opened h new
+  pub still_for : GoesFrom old.state.next (λ c. IsKept config c h) old.disk new.disk → StandsNow config h new → StandsSince config opened h new
   still_for = added_to (λ c. IsKept config c h) h [] (sym (append-nil h)) (λ k of. of) (λ d kept. (h, prefix_itself Was h done before.begins, kept)) none_counted
 
-  none_for : GoesFrom old.state.next (IsKeptOr config h None) old.disk new.disk → StandsNow config h new → StandsFor config opened h new
+  none_for : GoesFrom old.state.next (IsKeptOr config h None) old.disk new.disk → StandsNow config h new → StandsSince config opened h new
   none_for = added_to (IsKeptOr config h None) h [] (sym (append-nil h)) (λ k of. of) (λ d kept. (h, prefix_itself Was h done before.begins, subst (IsKept config d) kept.1 kept.2)) none_counted
 
   failed_counts : (b a : ℕ) → b ≡ old.faults → a ≡ new.faults → Rose old.faults new.faults → HasCounts opened.faults new.faults (Failed b a)
@@ -112,49 +112,49 @@ module _ (config : Fields) (opened : Opened) (h : History) (old new : View) (bef
   module _ (caller : ℕ) where
     -- with work in which the disk failed
     failed_work : (b a : ℕ) → b ≡ old.faults → a ≡ new.faults → Rose old.faults new.faults → GoesFrom old.state.next (λ c. IsKept config c h) old.disk new.disk → StandsNow config (with_failed h caller Work b a) new
-        → StandsFor config opened (with_failed h caller Work b a) new
+        → StandsSince config opened (with_failed h caller Work b a) new
     failed_work b a b_is a_is rose =
         let change : Change = record { caller = caller; call = Work; did = Failed b a } in
         added_to (λ c. IsKept config c h) (with_failed h caller Work b a) (change ∷ []) refl (prefix_longer Was h (change ∷ []) before.now.legal done) (now_kept (change ∷ [])) (one_counted change (failed_counts b a b_is a_is rose))
 
     failed_or : (f : Option Failure) → IfSome f (λ failure. (failure.before ≡ old.faults) × (failure.after ≡ new.faults) × Rose old.faults new.faults) → GoesFrom old.state.next (λ c. IsKept config c h) old.disk new.disk
-        → StandsNow config (option_map_or (λ failure. with_failed h caller Work failure.before failure.after) f h) new → StandsFor config opened (option_map_or (λ failure. with_failed h caller Work failure.before failure.after) f h) new
+        → StandsNow config (option_map_or (λ failure. with_failed h caller Work failure.before failure.after) f h) new → StandsSince config opened (option_map_or (λ failure. with_failed h caller Work failure.before failure.after) f h) new
     failed_or None told = still_for
     failed_or (Some failure) told = failed_work failure.before failure.after told.0 told.1 told.2
 
     -- work
     pub worked_for : (why : Option Refused) → IfSome why (IsTold old.faults new.faults) → GoesFrom old.state.next (λ c. IsKept config c h) old.disk new.disk → StandsNow config (behind h caller (Serves Work) why) new
-        → StandsFor config opened (behind h caller (Serves Work) why) new
+        → StandsSince config opened (behind h caller (Serves Work) why) new
     worked_for None told = still_for
     worked_for (Some why) told = failed_or (failure_of why) told
 
     module _ (call : Call) (works : call ≡ Work → ⊥) where
       written_for : (change : Change) → IsPrefixFrom Was (h ++ change ∷ []) (with_done h caller call) → HasCounts opened.faults new.faults change.did → GoesFrom old.state.next (IsKeptOr config h (Some (done_by caller call))) old.disk new.disk
-          → StandsNow config (h ++ change ∷ []) new → StandsFor config opened (h ++ change ∷ []) new
+          → StandsNow config (h ++ change ∷ []) new → StandsSince config opened (h ++ change ∷ []) new
       written_for change of counted = added_to (IsKeptOr config h (Some (done_by caller call))) (h ++ change ∷ []) (change ∷ []) refl (prefix_longer Was h (change ∷ []) before.now.legal done)
           (λ d kept. elim kept.1 [
             | inl e ↦ now_kept (change ∷ []) d (subst (IsKept config d) e kept.2)
             | inr e ↦ (with_done h caller call, of, subst (IsKept config d) e kept.2)
           ]) (one_counted change counted)
 
-      done_for : GoesFrom old.state.next (IsKeptOr config h (Some (done_by caller call))) old.disk new.disk → StandsNow config (with_done h caller call) new → StandsFor config opened (with_done h caller call) new
+      done_for : GoesFrom old.state.next (IsKeptOr config h (Some (done_by caller call))) old.disk new.disk → StandsNow config (with_done h caller call) new → StandsSince config opened (with_done h caller call) new
       done_for = written_for (done_by caller call) (prefix_done Was h (done_by caller call) done refl before.begins) tt
 
       failed_for : (b a : ℕ) → b ≡ old.faults → a ≡ new.faults → Rose old.faults new.faults → GoesFrom old.state.next (IsKeptOr config h (Some (done_by caller call))) old.disk new.disk → StandsNow config (with_failed h caller call b a) new
-          → StandsFor config opened (with_failed h caller call b a) new
+          → StandsSince config opened (with_failed h caller call b a) new
       failed_for b a b_is a_is rose =
           let change : Change = record { caller = caller; call = call; did = Failed b a } in
           written_for change (prefix_failed Was h change before.now.legal done works before.begins) (failed_counts b a b_is a_is rose)
 
       tried_for : (f : Option Failure) → IfSome f (λ failure. (failure.before ≡ old.faults) × (failure.after ≡ new.faults) × Rose old.faults new.faults)
           → GoesFrom old.state.next (IsKeptOr config h (option_map (λ failure. done_by caller call) f)) old.disk new.disk → StandsNow config (option_map_or (λ failure. with_failed h caller call failure.before failure.after) f h) new
-          → StandsFor config opened (option_map_or (λ failure. with_failed h caller call failure.before failure.after) f h) new
+          → StandsSince config opened (option_map_or (λ failure. with_failed h caller call failure.before failure.after) f h) new
       tried_for None told = none_for
       tried_for (Some failure) told = failed_for failure.before failure.after told.0 told.1 told.2
 
       -- a change
       pub answered_for : (why : Option Refused) → IfSome why (IsTold old.faults new.faults) → GoesFrom old.state.next (IsKeptOr config h (written_by caller (Makes call) why)) old.disk new.disk
-          → StandsNow config (behind h caller (Makes call) why) new → StandsFor config opened (behind h caller (Makes call) why) new
+          → StandsNow config (behind h caller (Makes call) why) new → StandsSince config opened (behind h caller (Makes call) why) new
       answered_for None told = done_for
       answered_for (Some why) told = tried_for (failure_of why) told
 

@@ -19,7 +19,7 @@ use Rattle.lethe_core.specs.Steps.{IsDoneInPart, IsUndone}
 use Rattle.lethe_core.specs.View.{Face, Flying, View, face_of}
 use Rattle.lethe_tick.specs.Ripened.{IsTickedInPart}
 use Rattle.lethe_engine.specs.Refusals.{SeesRoom}
-use Rattle.lethe_engine.specs.StandsFor.{IsKeptFor, Opened, StandsFor}
+use Rattle.lethe_engine.specs.StandsFor.{IsKeptFor, Opened, StandsSince}
 
 -- the steps of a change that may have been done where it was refused
 abbrev pub IsBegun : Call → Option Flying → Stored → Stored → Type 0
@@ -56,10 +56,10 @@ pub record Answers (Tells : Type 0) (asked : Asked) (why : Option Refused) (face
   pub count : new.state.count ≡ counted asked why old.state.count
   pub stopped : new.state.stopped ≡ stopped_by why old.state.stopped
   -- over a store that stands for a history it stands for that with the call, done or failed, or for the same where it was refused
-  pub stands : Tells → (config : Fields) (opened : Opened) (h : History) → StandsFor config opened h old → (caller : ℕ) → StandsFor config opened (behind h caller asked why) new
+  pub stands : Tells → (config : Fields) (opened : Opened) (h : History) → StandsSince config opened h old → (caller : ℕ) → StandsSince config opened (behind h caller asked why) new
   -- A crash at any moment of the call leaves what is kept for a prefix of what a crash may make of that history, which is not shorter than the opened one; what a crash
   -- at an earlier moment may leave is as it was.
-  pub goes : Tells → (config : Fields) (opened : Opened) (h : History) → StandsFor config opened h old → (caller : ℕ) → Goes (IsKeptFor config opened.history (behind h caller asked why)) old.disk new.disk
+  pub goes : Tells → (config : Fields) (opened : Opened) (h : History) → StandsSince config opened h old → (caller : ℕ) → Goes (IsKeptFor config opened.history (behind h caller asked why)) old.disk new.disk
   -- Where no earlier call failed it is kept for the history, or for that with the change where this was written, and numbers keep pace with the calls.
   pub any_moment : Tells → (config : Fields) (h : History) → StandsNow config h old → old.state.stopped ≡ None → (caller : ℕ) → GoesFrom old.state.next (IsKeptOr config h (written_by caller asked why)) old.disk new.disk
   -- numbers are drawn no faster than device calls are made

@@ -10,3 +10,4 @@ pub mod Stats
 pub mod Opening
 pub mod Ticks
 pub mod Gone
+pub mod Certificates

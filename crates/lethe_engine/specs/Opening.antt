@@ -9,7 +9,7 @@ use Rattle.lethe_stored.specs.Kept.{IsKept}
 use Rattle.lethe_stored.specs.Left.{IsHistoryOr}
 use Rattle.lethe_stored.specs.Numbers.{IsNextNumber}
 use Rattle.lethe_core.specs.View.{View}
-use Rattle.lethe_engine.specs.StandsFor.{Opened, StandsFor}
+use Rattle.lethe_engine.specs.StandsFor.{Opened, StandsSince}
 
 -- what the store of a history was whose opening began at one time and answered at another, from the next object number on
 abbrev pub opened_as : History → Seen → Seen → ℕ → ℕ → Opened
@@ -20,7 +20,7 @@ pub record IsResumed (config : Fields) (h : History) (change : Option Change) (s
   pub history : History
   pub either : IsHistoryOr h change history
   pub was : IsKept config start.directory history
-  pub stands : (next : ℕ) → IsNextNumber start.directory next → StandsFor config (opened_as history start view.disk next view.faults) history view
+  pub stands : (next : ℕ) → IsNextNumber start.directory next → StandsSince config (opened_as history start view.disk next view.faults) history view
 
 -- the disk failed or there was no memory, so that nothing is known of what was done
 abbrev pub IsUntold : OpenWhy → Type 0

@@ -66,6 +66,7 @@ impl<D: Disk> Engine<D> {
         // Where a page is told as damaged, a fetch was made in this call, on any disk.
         ensures fetched { (name : Name) → IsErrOf result (Damaged name) → D.fetches port.old < D.fetches port.new }
         ensures fetches { D.fetches port.old ≤ D.fetches port.new }
+        ensures certificates { self.new.certificates ≡ self.old.certificates }
     {
         self.core.state.may_change()?;
         let before = self.core.disk.faults();
@@ -108,6 +109,7 @@ impl<D: Disk> Engine<D> {
         // Where a page is told as damaged, a fetch was made in this call, on any disk.
         ensures fetched { (name : Name) → IsErrOf result (Damaged name) → D.fetches port.old < D.fetches port.new }
         ensures fetches { D.fetches port.old ≤ D.fetches port.new }
+        ensures certificates { self.new.certificates ≡ self.old.certificates }
     {
         self.core.state.may_change()?;
         let before = self.core.disk.faults();

@@ -1,5 +1,5 @@
 //! A store on a disk.
-ghost use Rattle.std.specs.Prelude.{◌≡◌, ◌≤◌, ◌<◌, ◌+◌, ◌⊎◌, ℕ, Option, None, IfOk, IfErr, MatchResult, option_map};
+ghost use Rattle.std.specs.Prelude.{◌≡◌, ◌≤◌, ◌<◌, ◌+◌, ◌⊎◌, ℕ, [], Option, None, IfOk, IfErr, MatchResult, option_map};
 ghost use Rattle.std.specs.Result.{result_err};
 ghost use Rattle.lethe_base.specs.History.{History, Change};
 ghost use Rattle.lethe_base.specs.declared.call.Call.TheVariants.{Work};
@@ -22,6 +22,7 @@ ghost use Rattle.lethe_core.specs.View.{face_of, no_jobs, view_of};
 ghost use Rattle.lethe_engine.specs.Answers.{Answers};
 
 use lethe_base::{Config, NoMemory};
+use lethe_cert::Certificate;
 use lethe_core::Core;
 use lethe_disk::Disk;
 use lethe_job::Begun;
@@ -40,6 +41,8 @@ pub struct OpenRefused<D: Disk> {
 #[derive(Drop)]
 pub struct Engine<D: Disk> {
     pub(crate) core: Core<D>,
+    /// Those that were answered since the store was opened, in order.
+    pub(crate) certificates: Vec<Certificate>,
 }
 
 impl<D: Disk> Engine<D> {
@@ -52,6 +55,7 @@ impl<D: Disk> Engine<D> {
         ensures sound { IfOk result (λ engine. IsSound D.tells (view_of engine.core)) }
         ensures runs { IfOk result (λ engine. engine.core.state.stopped ≡ None) }
         ensures face { IfOk result (λ engine. face_of (view_of engine.core) ≡ no_jobs) }
+        ensures certificates { IfOk result (λ engine. engine.certificates.items ≡ []) }
 
         // What is stored is a new store where there was no gate, and else what the directory encoded, with the journal in files.
         ensures opened { D.tells → IfOk result (λ engine. (t : Stored) × Holds (view_of engine.core) t × IsOpenedAs config.now (D.seen disk).directory t) }
@@ -96,6 +100,7 @@ impl<D: Disk> Engine<D> {
                         flight: None,
                         begun: Begun::none(),
                     },
+                    certificates: Vec::new(alloc),
                 }),
                 Err(NoMemory) => Err(OpenRefused {
                     disk,
@@ -114,6 +119,7 @@ impl<D: Disk> Engine<D> {
         ensures idle { D.tells → IsIdle (D.seen self.old.core.disk) (D.seen self.new.core.disk) }
         ensures same { (self.new.core.state ≡ self.old.core.state) × (self.new.core.version ≡ self.old.core.version) × (self.new.core.flight ≡ self.old.core.flight) }
         ensures faults { D.faults self.new.core.disk ≡ D.faults self.old.core.disk }
+        ensures certificates { self.new.certificates ≡ self.old.certificates }
     {
         self.core.disk.port(alloc)
     }
@@ -130,6 +136,13 @@ impl<D: Disk> Engine<D> {
         ensures { result ≡ self.now.core.begun.rounds }
     {
         self.core.begun.rounds
+    }
+
+    /// The certificates that were answered since the store was opened, in order. It takes no memory.
+    pub fn certificates(&self) -> &[Certificate]
+        ensures { result.now ≡ self.now.certificates.items }
+    {
+        &self.certificates
     }
 
     /// The place in the history of the call in which the disk failed, if one has: then the store is stopped.

@@ -53,6 +53,7 @@ impl<D: Disk> Engine<D> {
         ensures same { (self.new.core.state ≡ self.old.core.state) × (self.new.core.version ≡ self.old.core.version) }
         ensures idle { D.tells → IsIdle (D.seen self.old.core.disk) (D.seen self.new.core.disk) }
         ensures faults { D.faults self.new.core.disk ≡ D.faults self.old.core.disk }
+        ensures certificates { self.new.certificates ≡ self.old.certificates }
     {
         if let Some(at) = self.core.state.stopped() {
             return Err(Refused::Stopped { at });
@@ -100,6 +101,7 @@ impl<D: Disk> Engine<D> {
             → IsErrOf result (refused.Cancelled job.old.round self.old.core.begun.rounds) × (self.new ≡ self.old) }
         ensures exhausted { self.old.core.state.stopped ≡ None → IsInFlight (view_of self.old.core) job.old → self.old.core.state.count ≡ max_place
             → IsErrOf result (refused.Exhausted max_place) × (self.new ≡ self.old) }
+        ensures certificates { self.new.certificates ≡ self.old.certificates }
     {
         // The piece says only that this page is the next one.
         drop(piece);
@@ -144,6 +146,7 @@ impl<D: Disk> Engine<D> {
             → IsErrOf result (refused.Cancelled job.now.round self.old.core.begun.rounds) × (self.new ≡ self.old) }
         ensures exhausted { self.old.core.state.stopped ≡ None → IsInFlight (view_of self.old.core) job.now → self.old.core.state.count ≡ max_place
             → IsErrOf result (refused.Exhausted max_place) × (self.new ≡ self.old) }
+        ensures certificates { self.new.certificates ≡ self.old.certificates }
     {
         self.check_round(job)?;
         self.core.state.may_change()?;
@@ -176,6 +179,7 @@ impl<D: Disk> Engine<D> {
             → IfErr result (λ back. back.1 ≡ refused.Cancelled job.round self.old.core.begun.rounds) × OnOk result ⊥ × (self.new ≡ self.old) }
         ensures exhausted { self.old.core.state.stopped ≡ None → IsInFlight (view_of self.old.core) job → self.old.core.state.count ≡ max_place
             → IfErr result (λ back. back.1 ≡ refused.Exhausted max_place) × OnOk result ⊥ × (self.new ≡ self.old) }
+        ensures certificates { self.new.certificates ≡ self.old.certificates }
     {
         let mut job = job;
         match self.install_whole(alloc, &mut job) {
@@ -202,6 +206,7 @@ impl<D: Disk> Engine<D> {
             → IsErrOf result (refused.Cancelled job.old.round self.old.core.begun.rounds) × (self.new ≡ self.old) }
         ensures exhausted { self.old.core.state.stopped ≡ None → IsInFlight (view_of self.old.core) job.old → self.old.core.state.count ≡ max_place
             → IsErrOf result (refused.Exhausted max_place) × (self.new ≡ self.old) }
+        ensures certificates { self.new.certificates ≡ self.old.certificates }
     {
         self.check_round(job)?;
         self.core.state.may_change()?;
@@ -232,6 +237,7 @@ impl<D: Disk> Engine<D> {
         ensures no_memory { IsErrOf result refused.NoMemory → ⊥ }
         ensures exhausted { (last : ℕ) → IsErrOf result (refused.Exhausted last) → ⊥ }
         ensures stopped { (at : ℕ) → self.old.core.state.stopped ≡ Some at → IsErrOf result (refused.Stopped at) × (self.new.core.state ≡ self.old.core.state) }
+        ensures certificates { self.new.certificates ≡ self.old.certificates }
     {
         if job.round() < self.rounds() {
             if let Some(at) = self.core.state.stopped() {

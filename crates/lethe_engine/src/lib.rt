@@ -11,6 +11,8 @@ mod ticking;
 mod working;
 
 pub use engine::{Engine, OpenRefused};
-pub use laws::standing_is_clean;
+pub use laws::{
+    certificates_stay, certified_is_gone, reopened_is_without_certified, standing_is_clean,
+};
 pub use telling::Stat;
 pub use ticking::Ticked;

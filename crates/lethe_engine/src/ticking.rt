@@ -1,5 +1,5 @@
 //! Ticks of a store.
-ghost use Rattle.std.specs.Prelude.{◌≡◌, ◌<◌, ◌≤◌, ◌+◌, ◌⊎◌, ℕ, List, Some, None, IfOk, IfErr, OnOk, IsErrOf};
+ghost use Rattle.std.specs.Prelude.{◌≡◌, ◌<◌, ◌≤◌, ◌+◌, ◌⊎◌, ◌++◌, ℕ, List, Some, None, IfOk, IfErr, IfSome, MatchResult, OnOk, IsErrOf, option_to_list};
 ghost use Rattle.std.specs.Result.{result_err};
 ghost use Rattle.lethe_base.specs.History.{History};
 ghost use Rattle.lethe_base.specs.Limits.{max_place, max_time};
@@ -12,20 +12,23 @@ ghost use Rattle.lethe_disk.specs.Disk.{IsSynced};
 ghost use Rattle.lethe_follows.specs.Ticked.{ticked};
 ghost use Rattle.lethe_stored.specs.Stored.{Stored};
 ghost use Rattle.lethe_state.specs.Writable.{IsWritable};
-ghost use Rattle.lethe_core.specs.Asked.{Makes};
+ghost use Rattle.lethe_core.specs.Asked.{Makes, behind};
 ghost use Rattle.lethe_core.specs.Merges.{AreOutcomesBy, Outcome, due_choice, pages_of, retired_behind};
 ghost use Rattle.lethe_core.specs.Running.{Holds, IsSound};
 ghost use Rattle.lethe_core.specs.StandsNow.{StandsNow};
 ghost use Rattle.lethe_core.specs.View.{view_of};
+ghost use Rattle.lethe_tick.specs.Certified.{IsCertificateAt, certificate_of};
 ghost use Rattle.lethe_tick.specs.Last.{HasLastStep};
 ghost use Rattle.lethe_tick.specs.Ripened.{IsRipened};
 ghost use Rattle.lethe_engine.specs.Answers.{Answers};
+ghost use Rattle.lethe_engine.specs.Certificates.{IsTrueCertificate};
 ghost use Rattle.lethe_engine.specs.Gone.{HoldsNothingErased};
-ghost use Rattle.lethe_engine.specs.StandsFor.{Opened, StandsFor};
+ghost use Rattle.lethe_engine.specs.StandsFor.{Opened, StandsFor, StandsSince};
 ghost use Rattle.lethe_engine.specs.Ticks.{HasReasonOfTick, MayRefuseTick, ticked_face};
 
 use crate::Engine;
 use lethe_base::{MAX_PLACE, Refused};
+use lethe_cert::Certificate;
 use lethe_disk::Disk;
 use lethe_tick::tick;
 use std::alloc::Global;
@@ -37,6 +40,8 @@ pub struct Ticked {
     pub place: u64,
     /// The clock, which is its time.
     pub clock: u64,
+    /// Where the time is at least the threshold: no object of the disk holds a value that was erased at its `before` or earlier.
+    pub certificate: Option<Certificate>,
 }
 
 impl<D: Disk> Engine<D> {
@@ -57,9 +62,20 @@ impl<D: Disk> Engine<D> {
         ensures place { IfOk result (λ told. (told.place ≡ self.old.core.state.count + 1) × (told.clock ≡ to)) }
 
         // Acknowledged: no object of the directory spells a value that was erased a threshold before the tick's time, or longer ago. The directory is the one image.
-        ensures gone { D.tells → (config : Fields) (opened : Opened) (h : History) → StandsFor config opened h (view_of self.old.core) → (caller : ℕ)
+        ensures gone { D.tells → (config : Fields) (opened : Opened) (h : History) → StandsSince config opened h (view_of self.old.core) → (caller : ℕ)
             → OnOk result (HoldsNothingErased config.threshold (D.seen self.new.core.disk).directory (with_done h caller (call.Tick to)) to) }
         ensures one_image { D.tells → OnOk result (IsSynced (D.seen self.new.core.disk)) }
+
+        // A certificate is answered exactly where the time is at least the threshold, and it is kept behind the others. It tells what the manifest prepared, and that manifest's digest.
+        ensures due { IfOk result (λ told. IsCertificateAt self.new.core.state.manifest.config.threshold to told.certificate) }
+        ensures certificate { IfOk result (λ told. told.certificate ≡ certificate_of self.new.core.state.manifest to) }
+        ensures kept { MatchResult result (λ told. self.new.certificates.items ≡ self.old.certificates.items ++ option_to_list told.certificate) (λ why. self.new.certificates.items ≡ self.old.certificates.items) }
+
+        // It is true of the directory and the history, and from then on the store stands for what it says, as it does for all that it answered before.
+        ensures is_true { D.tells → (config : Fields) (opened : Opened) (h : History) → StandsSince config opened h (view_of self.old.core) → (caller : ℕ)
+            → IfOk result (λ told. IfSome told.certificate (λ certificate. IsTrueCertificate config.threshold certificate (D.seen self.new.core.disk).directory (with_done h caller (call.Tick to)))) }
+        ensures certified { D.tells → (config : Fields) (opened : Opened) (h : History) → StandsFor config opened h (view_of self.old.core) self.old.certificates.items → (caller : ℕ)
+            → StandsFor config opened (behind h caller (Makes (call.Tick to)) (result_err result)) (view_of self.new.core) self.new.certificates.items }
 
         // It is in its last step alone that a crash may leave what is kept for the history with the tick: up to there all that is due was carried out.
         ensures last_step { D.tells → (config : Fields) (h : History) → (stands : StandsNow config h (view_of self.old.core))
@@ -89,10 +105,18 @@ impl<D: Disk> Engine<D> {
         self.may_tick(to)?;
         let before = self.core.disk.faults();
         self.core.begun.rounds += 1;
-        tick(&mut self.core, alloc, port, before, to)?;
+        let certificate = tick(
+            &mut self.core,
+            &mut self.certificates,
+            alloc,
+            port,
+            before,
+            to,
+        )?;
         Ok(Ticked {
             place: self.core.state.count(),
             clock: to,
+            certificate,
         })
     }
 

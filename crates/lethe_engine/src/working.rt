@@ -40,6 +40,7 @@ impl<D: Disk> Engine<D> {
         ensures why { IfErr result (HasReasonOfWork (IsShortToFreeze self.old.core.state) (view_of self.old.core) (view_of self.new.core)) }
         ensures stopped { (at : ℕ) → self.old.core.state.stopped ≡ Some at → IsErrOf result (Stopped at) × (self.new ≡ self.old) }
         ensures exhausted { self.old.core.state.stopped ≡ None → (HasNoFreeze self.old.core.state → ⊥) → self.old.core.state.count ≡ max_place → IsErrOf result (Exhausted max_place) × (self.new ≡ self.old) }
+        ensures certificates { self.new.certificates ≡ self.old.certificates }
     {
         if let Some(at) = self.core.state.stopped() {
             return Err(Refused::Stopped { at });
@@ -76,6 +77,7 @@ impl<D: Disk> Engine<D> {
         ensures why { IfErr result (HasReasonOfWork (IsShortToFlush self.old.core.state) (view_of self.old.core) (view_of self.new.core)) }
         ensures stopped { (at : ℕ) → self.old.core.state.stopped ≡ Some at → IsErrOf result (Stopped at) × (self.new ≡ self.old) }
         ensures exhausted { self.old.core.state.stopped ≡ None → (HasNoFlush self.old.core.state → ⊥) → self.old.core.state.count ≡ max_place → IsErrOf result (Exhausted max_place) × (self.new ≡ self.old) }
+        ensures certificates { self.new.certificates ≡ self.old.certificates }
     {
         if let Some(at) = self.core.state.stopped() {
             return Err(Refused::Stopped { at });

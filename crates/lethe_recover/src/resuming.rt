@@ -28,7 +28,7 @@ use lethe_advance::{Step, advance, number_behind};
 use lethe_base::{MAX_PLACE, Name};
 use lethe_disk::{Disk, DiskRefused};
 use lethe_file::FileView;
-use lethe_manifest::Manifest;
+use lethe_manifest::{Manifest, write_manifest};
 use std::alloc::Global;
 
 /// Reopens a store, where the numbers suffice: what it takes is made in memory before the disk is touched. `before` is the count of faults that a fault
@@ -109,7 +109,8 @@ fn reopen<D: Disk>(
     tidy(alloc, disk, names, &cited)?;
     let made = reopening_of(alloc, manifest, count, erases, drafts, number)?;
     let Reopening { headers, step } = made;
-    let reopened = advance(alloc, disk, &version, headers, &step)?;
+    let spelled = write_manifest(alloc, &step.manifest)?;
+    let reopened = advance(alloc, disk, &version, headers, &step, &spelled)?;
     let Step { manifest, .. } = step;
     Ok(Opened {
         manifest,

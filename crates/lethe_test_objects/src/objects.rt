@@ -113,8 +113,8 @@ impl Held {
     }
 }
 
-// The bytes of the object of that name.
-fn bytes_of(alloc: Global, disk: &mut MemDisk, name: Name) -> Result<Vec<u8>, Fail> {
+/// The bytes of the object of that name.
+pub fn bytes_of(alloc: Global, disk: &mut MemDisk, name: Name) -> Result<Vec<u8>, Fail> {
     let Ok(names) = disk.names(alloc) else {
         return Err(Fail::new("names"));
     };

@@ -78,6 +78,7 @@ fn a_job_of_an_earlier_round_is_cancelled(rt: HostRuntime) -> Result<(), Fail> {
         Told::Ticked(Ticked {
             place: 10,
             clock: 10,
+            certificate: None,
         }),
         CANCELLED,
         Told::NoSuch,
@@ -89,6 +90,7 @@ fn a_job_of_an_earlier_round_is_cancelled(rt: HostRuntime) -> Result<(), Fail> {
         Told::Ticked(Ticked {
             place: 11,
             clock: 10,
+            certificate: None,
         }),
     ];
     assert_eq!(rt; told.as_slice(), wanted.as_slice());

@@ -3,10 +3,12 @@ ghost use Rattle.lethe_core.specs.Running.{IsSound};
 ghost use Rattle.lethe_core.specs.View.{view_of};
 
 use crate::common::{Ask, answer, disk_of, opened, tick};
-use crate::objects::held_by;
-use lethe_base::{MAX_TIME, Refused};
+use crate::objects::{bytes_of, held_by};
+use lethe_base::{Kind, MAX_TIME, Refused};
 use lethe_disk::Disk;
 use lethe_engine::Engine;
+use lethe_memdisk::MemDisk;
+use sha2::{Digest, Sha256};
 use std::alloc::Global;
 use std::test::Fail;
 
@@ -14,8 +16,8 @@ use std::test::Fail;
 #[derive(Clone, Copy, Debug, PartialEq, Eq)]
 enum Told {
     Place(u64),
-    /// The place, and the clock.
-    Ticked(u64, u64),
+    /// The place, the clock, and of the certificate the number and the time up to which what was erased is gone.
+    Ticked(u64, u64, Option<(u64, u64)>),
     Backwards(u64),
 }
 
@@ -41,11 +43,27 @@ const EMPTY: Left = Left {
     timed: 0,
 };
 
-const ROWS: [Row; 5] = [
+const ROWS: [Row; 6] = [
+    // One tick before the threshold answers no certificate, and the one at it does.
+    Row {
+        asks: &[
+            Ask::Put("a", 5, "x"),
+            Ask::Delete("a"),
+            Ask::Tick(99),
+            Ask::Tick(100),
+        ],
+        told: &[
+            Told::Place(1),
+            Told::Place(2),
+            Told::Ticked(3, 99, None),
+            Told::Ticked(4, 100, Some((1, 0))),
+        ],
+        left: EMPTY,
+    },
     // The segment may hold the value for 33.
     Row {
         asks: &[Ask::Put("a", 5, "x"), Ask::Delete("a"), Ask::Tick(20)],
-        told: &[Told::Place(1), Told::Place(2), Told::Ticked(3, 20)],
+        told: &[Told::Place(1), Told::Place(2), Told::Ticked(3, 20, None)],
         left: Left {
             puts: &[1],
             pages: 0,
@@ -55,7 +73,7 @@ const ROWS: [Row; 5] = [
     },
     Row {
         asks: &[Ask::Put("a", 5, "x"), Ask::Delete("a"), Ask::Tick(33)],
-        told: &[Told::Place(1), Told::Place(2), Told::Ticked(3, 33)],
+        told: &[Told::Place(1), Told::Place(2), Told::Ticked(3, 33, None)],
         left: EMPTY,
     },
     // One page of level 1 holds the one put that is left, without a time.
@@ -73,10 +91,10 @@ const ROWS: [Row; 5] = [
             Told::Place(1),
             Told::Place(2),
             Told::Place(3),
-            Told::Ticked(4, 40),
+            Told::Ticked(4, 40, None),
             Told::Place(5),
             Told::Place(6),
-            Told::Ticked(7, 140),
+            Told::Ticked(7, 140, Some((1, 40))),
         ],
         left: Left {
             puts: &[6],
@@ -88,9 +106,9 @@ const ROWS: [Row; 5] = [
     Row {
         asks: &[Ask::Tick(50), Ask::Tick(49), Ask::Tick(50)],
         told: &[
-            Told::Ticked(1, 50),
+            Told::Ticked(1, 50, None),
             Told::Backwards(50),
-            Told::Ticked(2, 50),
+            Told::Ticked(2, 50, None),
         ],
         left: EMPTY,
     },
@@ -108,10 +126,10 @@ const ROWS: [Row; 5] = [
         told: &[
             Told::Place(1),
             Told::Place(2),
-            Told::Ticked(3, MAX_TIME),
+            Told::Ticked(3, MAX_TIME, Some((1, MAX_TIME - 100))),
             Told::Place(4),
             Told::Place(5),
-            Told::Ticked(6, MAX_TIME),
+            Told::Ticked(6, MAX_TIME, Some((2, MAX_TIME - 100))),
             Told::Backwards(MAX_TIME),
         ],
         left: Left {
@@ -130,7 +148,11 @@ fn told_of<D: Disk>(alloc: Global, engine: &mut Engine<D>, ask: Ask) -> Result<T
 {
     if let Ask::Tick(to) = ask {
         return match tick(alloc, engine, to)? {
-            Ok(ticked) => Ok(Told::Ticked(ticked.place, ticked.clock)),
+            Ok(ticked) => Ok(Told::Ticked(
+                ticked.place,
+                ticked.clock,
+                ticked.certificate.map(|is| (is.number, is.before)),
+            )),
             Err(Refused::Backwards { clock }) => Ok(Told::Backwards(clock)),
             Err(_) => Err(Fail::new(format_args!("tick {to}"))),
         };
@@ -164,4 +186,37 @@ fn ticks_leave_what_may_be_there(rt: HostRuntime) -> Result<(), Fail> {
         assert_eq!(rt; (held.pages, held.timed), (row.left.pages, row.left.timed));
     }
     Ok(())
+}
+
+/// The digest of the manifest that counts, and how many certificates the store has kept.
+#[test]
+fn a_certificate_has_the_digest_of_the_manifest(rt: HostRuntime) -> Result<(), Fail> {
+    let alloc = rt.alloc();
+    let mut engine = opened(alloc, disk_of(alloc, &[])?)?;
+    let first = tick(alloc, &mut engine, 100)??
+        .certificate
+        .ok_or("a certificate")?;
+    let second = tick(alloc, &mut engine, 100)??
+        .certificate
+        .ok_or("a certificate")?;
+    assert_eq!(rt; engine.certificates(), [first, second].as_slice());
+    assert_eq!(rt; (second.number, second.clock, second.before), (2, 100, 0));
+    let mut disk = engine.into_disk();
+    let manifests = manifests_of(alloc, &mut disk)?;
+    assert_eq!(rt; manifests.len(), 1);
+    let mut hasher = Sha256::new();
+    hasher.update(&manifests[0]);
+    assert_eq!(rt; hasher.finalize(), second.digest);
+    Ok(())
+}
+
+/// The bytes of the manifests.
+fn manifests_of(alloc: Global, disk: &mut MemDisk) -> Result<Vec<Vec<u8>>, Fail> {
+    let mut manifests = Vec::new(alloc);
+    for name in disk.names(alloc)? {
+        if name.kind == Kind::Manifest {
+            manifests.push(bytes_of(alloc, disk, name)?)?;
+        }
+    }
+    Ok(manifests)
 }

@@ -1,2 +1,3 @@
 pub mod Ripened
 pub mod Last
+pub mod Certified

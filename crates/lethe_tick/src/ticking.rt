@@ -1,5 +1,5 @@
 //! A tick.
-ghost use Rattle.std.specs.Prelude.{◌≡◌, ◌≤◌, ◌<◌, ◌+◌, ◌⊎◌, ℕ, List, None, IfErr, IsErrOf, OnOk};
+ghost use Rattle.std.specs.Prelude.{◌≡◌, ◌≤◌, ◌<◌, ◌+◌, ◌⊎◌, ◌++◌, ℕ, List, None, IfErr, IfOk, IsErrOf, MatchResult, OnOk, option_to_list};
 ghost use Rattle.std.specs.Result.{result_err};
 ghost use Rattle.lethe_base.specs.History.{History};
 ghost use Rattle.lethe_base.specs.Limits.{max_time};
@@ -19,30 +19,33 @@ ghost use Rattle.lethe_core.specs.Running.{Holds, IsSound};
 ghost use Rattle.lethe_core.specs.StandsNow.{StandsNow};
 ghost use Rattle.lethe_core.specs.Steps.{IsDoneInPart};
 ghost use Rattle.lethe_core.specs.View.{view_of};
+ghost use Rattle.lethe_tick.specs.Certified.{IsCertificateAt, certificate_of};
 ghost use Rattle.lethe_tick.specs.Last.{HasLastStep};
 ghost use Rattle.lethe_tick.specs.Ripened.{IsRipened, IsShortToTick, IsTickedInPart};
 
 use crate::clock::move_clock;
 use crate::ripening::ripen_buffers;
 use lethe_base::Refused;
+use lethe_cert::Certificate;
 use lethe_core::Core;
 use lethe_disk::Disk;
 use std::alloc::Global;
 
 /// Carries out a tick to a time that isn't behind the clock. The job in flight is given up. Where a record of a segment is as old at that time as level 0 may have it, both
-/// buffers are flushed. The merges that are due then are carried out, one after another until none is, and their inputs are read through the port. Then the clock moves.
-/// `before` is the count of faults from which a failure is told.
+/// buffers are flushed. The merges that are due then are carried out, one after another until none is, and their inputs are read through the port. Then the clock moves,
+/// and where the time is at least the threshold the certificate is added, which is answered. `before` is the count of faults from which a failure is told.
 ///
 /// # Errors
 ///
 /// `Exhausted` where numbers have run out, `NoMemory`, `Fault`, which stops the store, `ReadFault`, and on a disk that tells nothing `Damaged`. What was done before stays.
 pub fn tick<D: Disk>(
     core: &mut Core<D>,
+    certificates: &mut Vec<Certificate>,
     alloc: Global,
     port: &mut D::Port,
     before: u64,
     to: u64,
-) -> Result<(), Refused>
+) -> Result<Option<Certificate>, Refused>
     requires may { MayStep D.tells (view_of core.old) before }
     requires within { to ≤ max_time }
     requires forward { core.old.state.manifest.clock ≤ to }
@@ -73,9 +76,13 @@ pub fn tick<D: Disk>(
     // Where a page is told as damaged, a fetch was made in this call, on any disk.
     ensures fetched { (name : Name) → IsErrOf result (refused.Damaged name) → D.fetches port.old < D.fetches port.new }
     ensures fetches { D.fetches port.old ≤ D.fetches port.new }
+    ensures certificate { IfOk result (λ told. told ≡ certificate_of core.new.state.manifest to) }
+    ensures manifest { OnOk result ((core.new.state.manifest.clock ≡ to) × (core.new.state.manifest.count ≡ core.new.state.count)) }
+    ensures due { IfOk result (IsCertificateAt core.new.state.manifest.config.threshold to) }
+    ensures certified { MatchResult result (λ told. certificates.new.items ≡ certificates.old.items ++ option_to_list told) (λ why. certificates.new.items ≡ certificates.old.items) }
 {
     ripen_store(core, alloc, port, before, to)?;
-    move_clock(core, alloc, before, to)
+    move_clock(core, certificates, alloc, before, to)
 }
 
 /// Does all that a tick to this time does before the clock moves.

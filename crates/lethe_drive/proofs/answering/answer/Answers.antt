@@ -15,7 +15,7 @@ use Rattle.lethe_core.specs.Changes.{put_over}
 use Rattle.lethe_core.specs.View.{Face, View, view_of}
 use Rattle.lethe_engine.specs.Deletes.{IsDeleteOver}
 use Rattle.lethe_engine.specs.Reads.{listed}
-use Rattle.lethe_engine.specs.StandsFor.{Opened, StandsFor}
+use Rattle.lethe_engine.specs.StandsFor.{Opened, StandsSince}
 use Rattle.lethe_engine.specs.Work.{HasNoFlush, HasNoFreeze}
 use Rattle.lethe_drive.specs.Answers.{IsRead, ReadAnswers}
 use Rattle.lethe_drive.specs.Moments.{IsKnown, Moment, moment_of, there_of}
@@ -34,7 +34,7 @@ use Rattle.lethe_drive.proofs.answering.answer.Goals as goal
 
 -- what the call for an event comes to
 abbrev Comes : Type 0 → Fields → Opened → History → Moment → View → (Stored → Moment) → Reply → Event → Type 0
-Comes PortsFail config opened h before new behind reply event = (g : History) × (t : Stored) × IsKnown config g new t × StandsFor config opened g new × IsStep PortsFail h before event reply g (behind t)
+Comes PortsFail config opened h before new behind reply event = (g : History) × (t : Stored) × IsKnown config g new t × StandsSince config opened g new × IsStep PortsFail h before event reply g (behind t)
 
 -- what a read gives, seen as another value
 abbrev seen_as : {T U : Type 0} → (T → U) → Result T Refused → Result U Refused

@@ -36,7 +36,7 @@ returns-then-rounds-clause-step g c = λ told config opened h stands s known.
     let made =
     tick_ends g.D.Disk.tells g.D.Disk.ports_fail told to config opened h old new s known (g.D.Disk.fetches c.args.port.now) (g.D.Disk.fetches c.tick-answer.new.port) (g.D.Disk.port_faults c.args.port.now)
     (g.D.Disk.port_faults c.tick-answer.new.port) jobs.begun (there_of jobs) None stands face all refl result (tested g (goal.at.returns-then-rounds-clause-step g c).After-tick-answer) stood is.answers.still
-    is.answers.refused is.place (is.done told s) is.why in
+    is.answers.refused is.place (is.done told s) is.why is.due (is.is_true told config opened h stands 0) in
     (behind h 0 (Makes (call.Tick to)) (result_err result), made.0, made.1, stood, made.2)
 
 -- It goes on

@@ -6,7 +6,7 @@ use Rattle.lethe_advance.specs.Shown.{parts_by_level}
 use Rattle.lethe_job.specs.Tasks.{plain_task}
 use Rattle.lethe_core.specs.View.{Face, flying_of, view_of}
 use Rattle.lethe_core.proofs.Asked.{refused_none}
-use Rattle.lethe_engine.specs.StandsFor.{StandsFor}
+use Rattle.lethe_engine.specs.StandsFor.{StandsSince}
 use Rattle.lethe_engine.proofs.Reasons.{no_failure_of_begin}
 use Rattle.lethe_drive.specs.Moments.{there_of}
 use Rattle.lethe_drive.proofs.Freezing.{has_begun, has_not_begun, known_idle, some_mapped}
@@ -64,7 +64,7 @@ returns-in-Err-clause-step g c = λ told config opened h stands s known fetches 
       h,
       s,
       known_idle config h old new s (is.idle told) is.same.0 levels is.answers.face_is known,
-      subst (λ (g : History). StandsFor config opened g new) (refused_none h 0 Work why (no_failure_of_begin g.D.Disk.tells old why is.why)) (is.answers.stands told config opened h stands 0),
+      subst (λ (g : History). StandsSince config opened g new) (refused_none h 0 Work why (no_failure_of_begin g.D.Disk.tells old why is.why)) (is.answers.stands told config opened h stands 0),
       (
         Err why,
         refl,

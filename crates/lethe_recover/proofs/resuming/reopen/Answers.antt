@@ -22,6 +22,10 @@ pub returns-in_err-made-clause-any_moment : goal.returns-in_err-made-clause-any_
 returns-in_err-made-clause-any_moment g c = λ told s settled ready.
     goes_weaker (λ x. Encodes x s) (λ x. (h : History) → IsFor h s → IsKept s.manifest.config x h) (g.D.Disk.seen c.args.disk.now) (g.D.Disk.seen c.tidy.new.disk) (old_kept s settled.coherent) (c.tidy.ensures.any_moment told s settled)
 
+pub returns-in_err-spelled-clause-any_moment : goal.returns-in_err-spelled-clause-any_moment
+returns-in_err-spelled-clause-any_moment g c = λ told s settled ready.
+    goes_weaker (λ x. Encodes x s) (λ x. (h : History) → IsFor h s → IsKept s.manifest.config x h) (g.D.Disk.seen c.args.disk.now) (g.D.Disk.seen c.tidy.new.disk) (old_kept s settled.coherent) (c.tidy.ensures.any_moment told s settled)
+
 pub advance-requires-clause-levels : goal.advance-requires-clause-levels
 advance-requires-clause-levels g c κs within =
     let levels = length (levels_of c.args.made.version) in
@@ -98,6 +102,10 @@ returns-in_err-tidy-clause-pace g c = λ told s settled ready.
 
 pub returns-in_err-made-clause-pace : goal.returns-in_err-made-clause-pace
 returns-in_err-made-clause-pace g c = λ told s settled ready.
+    encoded_pace s c.args.manifest.now (g.D.Disk.seen c.args.disk.now) (g.D.Disk.seen c.tidy.new.disk) settled.coherent ready.manifest (c.tidy.ensures.any_moment told s settled)
+
+pub returns-in_err-spelled-clause-pace : goal.returns-in_err-spelled-clause-pace
+returns-in_err-spelled-clause-pace g c = λ told s settled ready.
     encoded_pace s c.args.manifest.now (g.D.Disk.seen c.args.disk.now) (g.D.Disk.seen c.tidy.new.disk) settled.coherent ready.manifest (c.tidy.ensures.any_moment told s settled)
 
 pub returns-in_err-reopened-clause-pace : goal.returns-in_err-reopened-clause-pace

@@ -1,8 +1,9 @@
-use Rattle.std.proofs.Common.{rules, ◌≡◌, None, Result, Err, sym, ap, ◌∙◌, subst, arith}
+use Rattle.std.proofs.Common.{rules, ◌≡◌, None, Option, Result, Err, sym, ap, ◌∙◌, subst, arith}
 use Rattle.std.specs.Prelude.{IfErr, option_map}
 use Rattle.std.specs.Result.{result_err}
 use Rattle.lethe_base.specs.declared.call.Call.TheVariants.{Tick}
 use Rattle.lethe_base.specs.declared.refused.Refused.{Refused}
+use Rattle.lethe_cert.specs.declared.certificate.Certificate.{Certificate}
 use Rattle.lethe_state.specs.Room.{IsStepFrom}
 use Rattle.lethe_state.specs.Ticking.{moved}
 use Rattle.lethe_state.specs.Writable.{segments_for}
@@ -27,28 +28,28 @@ returns-in_err-step-clause-count g c =
     let why = c.in_err-step.field-0.0 in
     let refusal : c.from_residual.result ≡ Err why = search rules in
     let count = c.args.core.now.state.count in
-    sym (ap (λ (r : Result (Unit {0}) Refused). counted (Makes (Tick c.args.to)) (result_err r) count) refusal ∙ counted_none (Makes (Tick c.args.to)) why count (not_failed why c.in_err-step.ensures.refused))
+    sym (ap (λ (r : Result (Option Certificate) Refused). counted (Makes (Tick c.args.to)) (result_err r) count) refusal ∙ counted_none (Makes (Tick c.args.to)) why count (not_failed why c.in_err-step.ensures.refused))
 
 pub returns-in_err-step-clause-stopped : goal.returns-in_err-step-clause-stopped
 returns-in_err-step-clause-stopped g c =
     let why = c.in_err-step.field-0.0 in
     let refusal : c.from_residual.result ≡ Err why = search rules in
     let stopped = c.args.core.now.state.stopped in
-    sym (ap (λ (r : Result (Unit {0}) Refused). stopped_by (result_err r) stopped) refusal ∙ stopped_none why stopped (not_failed why c.in_err-step.ensures.refused))
+    sym (ap (λ (r : Result (Option Certificate) Refused). stopped_by (result_err r) stopped) refusal ∙ stopped_none why stopped (not_failed why c.in_err-step.ensures.refused))
 
 pub returns-in_err-step-clause-undone : goal.returns-in_err-step-clause-undone
 returns-in_err-step-clause-undone g c =
     let why = c.in_err-step.field-0.0 in
     let refusal : c.from_residual.result ≡ Err why = search rules in
     let old = view_of c.args.core.now in
-    subst (λ (r : Result (Unit {0}) Refused). IfErr r (IsUndone g.D.Disk.tells old old)) (sym refusal) (λ none. as_itself g.D.Disk.tells old)
+    subst (λ (r : Result (Option Certificate) Refused). IfErr r (IsUndone g.D.Disk.tells old old)) (sym refusal) (λ none. as_itself g.D.Disk.tells old)
 
 pub returns-in_err-step-clause-stands : goal.returns-in_err-step-clause-stands
 returns-in_err-step-clause-stands g c = λ told config h stands forward due caller.
     let why = c.in_err-step.field-0.0 in
     let refusal : c.from_residual.result ≡ Err why = search rules in
     subst (λ h. StandsNow config h (view_of c.args.core.now))
-    (sym (ap (λ (r : Result (Unit {0}) Refused). behind h caller (Makes (Tick c.args.to)) (result_err r)) refusal ∙ behind_none h caller (Makes (Tick c.args.to)) why (not_failed why c.in_err-step.ensures.refused))) stands
+    (sym (ap (λ (r : Result (Option Certificate) Refused). behind h caller (Makes (Tick c.args.to)) (result_err r)) refusal ∙ behind_none h caller (Makes (Tick c.args.to)) why (not_failed why c.in_err-step.ensures.refused))) stands
 
 pub returns-in_err-step-clause-any_moment : goal.returns-in_err-step-clause-any_moment
 returns-in_err-step-clause-any_moment g c = λ told config h stands forward due caller.
@@ -56,13 +57,20 @@ returns-in_err-step-clause-any_moment g c = λ told config h stands forward due 
     let refusal : c.from_residual.result ≡ Err why = search rules in
     let old = view_of c.args.core.now in
     subst (λ change. GoesFrom old.state.next (IsKeptOr config h change) old.disk old.disk)
-    (sym (ap (λ (r : Result (Unit {0}) Refused). written_by caller (Makes (Tick c.args.to)) (result_err r)) refusal ∙ written_none caller (Makes (Tick c.args.to)) why (not_failed why c.in_err-step.ensures.refused)))
+    (sym (ap (λ (r : Result (Option Certificate) Refused). written_by caller (Makes (Tick c.args.to)) (result_err r)) refusal ∙ written_none caller (Makes (Tick c.args.to)) why (not_failed why c.in_err-step.ensures.refused)))
     (moments_or config h None old.state.next old.disk old.disk (stands_moments config h old stands c.requires.may.runs c.requires.may.sound.writable))
+
+-- There was no memory for the manifest or for the certificate
+
+pub returns-in_default-clause-any_moment : goal.returns-in_default-clause-any_moment
+returns-in_default-clause-any_moment g c = λ told config h stands forward due caller.
+    let old = view_of c.args.core.now in
+    moments_or config h None old.state.next old.disk old.disk (stands_moments config h old stands c.requires.may.runs c.requires.may.sound.writable)
 
 -- The step
 
-pub carry_out-requires-clause-step : goal.carry_out-requires-clause-step
-carry_out-requires-clause-step g c κs within =
+pub carry_out_spelled-requires-clause-step : goal.carry_out_spelled-requires-clause-step
+carry_out_spelled-requires-clause-step g c κs within =
     let old = view_of c.args.core.now in
     let step = c.in_ok-step.step in
     let from = subst (λ headers. IsStepFrom (segments_for old.state.frozen) old.state headers step) (sym c.new.ensures.items) c.in_ok-step.ensures.step in
@@ -70,76 +78,76 @@ carry_out-requires-clause-step g c κs within =
 
 -- It was hindered
 
-pub returns-in_err-carry_out-clause-sound : goal.returns-in_err-carry_out-clause-sound
-returns-in_err-carry_out-clause-sound g c =
-    hindered_sound g.D.Disk.tells (view_of c.args.core.now) (view_of c.carry_out.new.self) c.args.before c.requires.may.fits c.requires.may.sound c.in_err-carry_out.field-0.0 c.in_err-carry_out.ensures.refused
+pub returns-in_err-carry_out_spelled-clause-sound : goal.returns-in_err-carry_out_spelled-clause-sound
+returns-in_err-carry_out_spelled-clause-sound g c =
+    hindered_sound g.D.Disk.tells (view_of c.args.core.now) (view_of c.carry_out_spelled.new.self) c.args.before c.requires.may.fits c.requires.may.sound c.in_err-carry_out_spelled.field-0.0 c.in_err-carry_out_spelled.ensures.refused
 
-pub returns-in_err-carry_out-clause-count : goal.returns-in_err-carry_out-clause-count
-returns-in_err-carry_out-clause-count g c =
+pub returns-in_err-carry_out_spelled-clause-count : goal.returns-in_err-carry_out_spelled-clause-count
+returns-in_err-carry_out_spelled-clause-count g c =
     let old = view_of c.args.core.now in
-    let new = view_of c.carry_out.new.self in
-    let why = c.in_err-carry_out.field-0.0 in
-    let refusal : c.from_residual-in_err-carry_out.result ≡ Err why = search rules in
-    subst (λ (r : Result (Unit {0}) Refused). new.state.count ≡ counted (Makes (Tick c.args.to)) (result_err r) old.state.count) (sym refusal)
-    (hindered_count g.D.Disk.tells old new c.args.before why c.in_err-carry_out.ensures.refused)
+    let new = view_of c.carry_out_spelled.new.self in
+    let why = c.in_err-carry_out_spelled.field-0.0 in
+    let refusal : c.from_residual-in_err-carry_out_spelled.result ≡ Err why = search rules in
+    subst (λ (r : Result (Option Certificate) Refused). new.state.count ≡ counted (Makes (Tick c.args.to)) (result_err r) old.state.count) (sym refusal)
+    (hindered_count g.D.Disk.tells old new c.args.before why c.in_err-carry_out_spelled.ensures.refused)
 
-pub returns-in_err-carry_out-clause-stopped : goal.returns-in_err-carry_out-clause-stopped
-returns-in_err-carry_out-clause-stopped g c =
+pub returns-in_err-carry_out_spelled-clause-stopped : goal.returns-in_err-carry_out_spelled-clause-stopped
+returns-in_err-carry_out_spelled-clause-stopped g c =
     let old = view_of c.args.core.now in
-    let new = view_of c.carry_out.new.self in
-    let why = c.in_err-carry_out.field-0.0 in
-    let refusal : c.from_residual-in_err-carry_out.result ≡ Err why = search rules in
-    subst (λ (r : Result (Unit {0}) Refused). new.state.stopped ≡ stopped_by (result_err r) old.state.stopped) (sym refusal)
-    (hindered_stopped g.D.Disk.tells old new c.args.before why c.in_err-carry_out.ensures.refused)
+    let new = view_of c.carry_out_spelled.new.self in
+    let why = c.in_err-carry_out_spelled.field-0.0 in
+    let refusal : c.from_residual-in_err-carry_out_spelled.result ≡ Err why = search rules in
+    subst (λ (r : Result (Option Certificate) Refused). new.state.stopped ≡ stopped_by (result_err r) old.state.stopped) (sym refusal)
+    (hindered_stopped g.D.Disk.tells old new c.args.before why c.in_err-carry_out_spelled.ensures.refused)
 
-pub returns-in_err-carry_out-clause-undone : goal.returns-in_err-carry_out-clause-undone
-returns-in_err-carry_out-clause-undone g c =
+pub returns-in_err-carry_out_spelled-clause-undone : goal.returns-in_err-carry_out_spelled-clause-undone
+returns-in_err-carry_out_spelled-clause-undone g c =
     let old = view_of c.args.core.now in
-    let new = view_of c.carry_out.new.self in
-    let why = c.in_err-carry_out.field-0.0 in
-    let refusal : c.from_residual-in_err-carry_out.result ≡ Err why = search rules in
-    subst (λ (r : Result (Unit {0}) Refused). IfErr r (IsUndone g.D.Disk.tells old new)) (sym refusal) (hindered_undone g.D.Disk.tells old new c.args.before why c.in_err-carry_out.ensures.refused)
+    let new = view_of c.carry_out_spelled.new.self in
+    let why = c.in_err-carry_out_spelled.field-0.0 in
+    let refusal : c.from_residual-in_err-carry_out_spelled.result ≡ Err why = search rules in
+    subst (λ (r : Result (Option Certificate) Refused). IfErr r (IsUndone g.D.Disk.tells old new)) (sym refusal) (hindered_undone g.D.Disk.tells old new c.args.before why c.in_err-carry_out_spelled.ensures.refused)
 
-pub returns-in_err-carry_out-clause-any_moment : goal.returns-in_err-carry_out-clause-any_moment
-returns-in_err-carry_out-clause-any_moment g c = λ told config h stands forward due caller.
+pub returns-in_err-carry_out_spelled-clause-any_moment : goal.returns-in_err-carry_out_spelled-clause-any_moment
+returns-in_err-carry_out_spelled-clause-any_moment g c = λ told config h stands forward due caller.
     let old = view_of c.args.core.now in
-    let new = view_of c.carry_out.new.self in
+    let new = view_of c.carry_out_spelled.new.self in
     let headers = c.new.result.items in
     let step = c.in_ok-step.step in
-    let why = c.in_err-carry_out.field-0.0 in
-    let refusal : c.from_residual-in_err-carry_out.result ≡ Err why = search rules in
+    let why = c.in_err-carry_out_spelled.field-0.0 in
+    let refusal : c.from_residual-in_err-carry_out_spelled.result ≡ Err why = search rules in
     let from = subst (λ headers. IsStepFrom (segments_for old.state.frozen) old.state headers step) (sym c.new.ensures.items) c.in_ok-step.ensures.step in
     let ticks = c.in_ok-step.ensures.ticks in
     let tells = g.D.Disk.tells in
-    let goes = tick_moments tells old c.args.before c.args.to c.requires.may headers step c.new.ensures.items from ticks config h stands forward due caller new c.carry_out.ensures.moments told in
-    subst (λ (r : Result (Unit {0}) Refused). GoesFrom old.state.next (IsKeptOr config h (written_by caller (Makes (Tick c.args.to)) (result_err r))) old.disk new.disk) (sym refusal)
-    (hindered_moments tells old c.args.before c.args.to c.requires.may headers step c.new.ensures.items from ticks config h stands forward due caller new why c.in_err-carry_out.ensures.refused goes
+    let goes = tick_moments tells old c.args.before c.args.to c.requires.may headers step c.new.ensures.items from ticks config h stands forward due caller new c.carry_out_spelled.ensures.moments told in
+    subst (λ (r : Result (Option Certificate) Refused). GoesFrom old.state.next (IsKeptOr config h (written_by caller (Makes (Tick c.args.to)) (result_err r))) old.disk new.disk) (sym refusal)
+    (hindered_moments tells old c.args.before c.args.to c.requires.may headers step c.new.ensures.items from ticks config h stands forward due caller new why c.in_err-carry_out_spelled.ensures.refused goes
     (λ memory. tick_unmoved tells old c.args.before c.args.to c.requires.may headers step c.new.ensures.items from ticks config h stands forward due caller new
-    (λ told s t left running is h for below. c.carry_out.ensures.unmoved told s t left running is h for below (c.in_err-carry_out.was ∙ ap (λ (e : Refused). Err e) memory)) told))
+    (λ told s t left running is h for below. c.carry_out_spelled.ensures.unmoved told s t left running is h for below (c.in_err-carry_out_spelled.was ∙ ap (λ (e : Refused). Err e) memory)) told))
 
-pub returns-in_err-carry_out-clause-stands : goal.returns-in_err-carry_out-clause-stands
-returns-in_err-carry_out-clause-stands g c = λ told config h stands forward due caller.
+pub returns-in_err-carry_out_spelled-clause-stands : goal.returns-in_err-carry_out_spelled-clause-stands
+returns-in_err-carry_out_spelled-clause-stands g c = λ told config h stands forward due caller.
     let old = view_of c.args.core.now in
-    let new = view_of c.carry_out.new.self in
+    let new = view_of c.carry_out_spelled.new.self in
     let headers = c.new.result.items in
     let step = c.in_ok-step.step in
-    let why = c.in_err-carry_out.field-0.0 in
-    let refusal : c.from_residual-in_err-carry_out.result ≡ Err why = search rules in
+    let why = c.in_err-carry_out_spelled.field-0.0 in
+    let refusal : c.from_residual-in_err-carry_out_spelled.result ≡ Err why = search rules in
     let from = subst (λ headers. IsStepFrom (segments_for old.state.frozen) old.state headers step) (sym c.new.ensures.items) c.in_ok-step.ensures.step in
     let ticks = c.in_ok-step.ensures.ticks in
     let tells = g.D.Disk.tells in
     let laws = g.met.D.Disk g.world.𝓛 g.world.𝓜 g.world.𝓡 ((λ s x. x), (λ x. x), (λ x. x), λ x. x) in
-    let goes = tick_moments tells old c.args.before c.args.to c.requires.may headers step c.new.ensures.items from ticks config h stands forward due caller new c.carry_out.ensures.moments told in
-    subst (λ (r : Result (Unit {0}) Refused). StandsNow config (behind h caller (Makes (Tick c.args.to)) (result_err r)) new) (sym refusal)
-    (hindered_stands tells old c.args.before c.args.to c.requires.may headers step c.new.ensures.items from ticks config h stands forward due caller new why c.in_err-carry_out.ensures.refused goes told
-    (laws.itself told c.carry_out.new.self.disk))
+    let goes = tick_moments tells old c.args.before c.args.to c.requires.may headers step c.new.ensures.items from ticks config h stands forward due caller new c.carry_out_spelled.ensures.moments told in
+    subst (λ (r : Result (Option Certificate) Refused). StandsNow config (behind h caller (Makes (Tick c.args.to)) (result_err r)) new) (sym refusal)
+    (hindered_stands tells old c.args.before c.args.to c.requires.may headers step c.new.ensures.items from ticks config h stands forward due caller new why c.in_err-carry_out_spelled.ensures.refused goes told
+    (laws.itself told c.carry_out_spelled.new.self.disk))
 
-pub returns-in_err-carry_out-clause-numbers : goal.returns-in_err-carry_out-clause-numbers
-returns-in_err-carry_out-clause-numbers g c = λ told.
+pub returns-in_err-carry_out_spelled-clause-numbers : goal.returns-in_err-carry_out_spelled-clause-numbers
+returns-in_err-carry_out_spelled-clause-numbers g c = λ told.
     let old = view_of c.args.core.now in
-    let new = view_of c.carry_out.new.self in
-    let same = hindered_next g.D.Disk.tells old new c.args.before c.in_err-carry_out.field-0.0 c.in_err-carry_out.ensures.refused in
-    let on = c.carry_out.ensures.later told in
+    let new = view_of c.carry_out_spelled.new.self in
+    let same = hindered_next g.D.Disk.tells old new c.args.before c.in_err-carry_out_spelled.field-0.0 c.in_err-carry_out_spelled.ensures.refused in
+    let on = c.carry_out_spelled.ensures.later told in
     omega (arith, same, on)
 
 -- It was carried out
@@ -147,22 +155,22 @@ returns-in_err-carry_out-clause-numbers g c = λ told.
 pub returns-clause-done : goal.returns-clause-done
 returns-clause-done g c = λ told s holds.
     let old = view_of c.args.core.now in
-    let new = view_of (record c.carry_out.new.self { state = c.tick.new.self }) in
+    let new = view_of (record c.carry_out_spelled.new.self { state = c.tick.new.self }) in
     let headers = c.new.result.items in
     let step = c.in_ok-step.step in
     let laws = g.met.D.Disk g.world.𝓛 g.world.𝓜 g.world.𝓡 ((λ s x. x), (λ x. x), (λ x. x), λ x. x) in
-    let new_is : new.state ≡ moved step.manifest old.state = c.tick.ensures.is ∙ ap (moved step.manifest) c.in_ok-carry_out.ensures.state in
+    let new_is : new.state ≡ moved step.manifest old.state = c.tick.ensures.is ∙ ap (moved step.manifest) c.in_ok-carry_out_spelled.ensures.state in
     let carried : IsCarried g.D.Disk.tells old new headers step = record {
-      moments = c.carry_out.ensures.moments;
-      done = c.in_ok-carry_out.ensures.done;
-      kept = c.in_ok-carry_out.ensures.kept;
-      gate = c.in_ok-carry_out.ensures.gate;
-      files = c.in_ok-carry_out.ensures.files;
-      levels = c.carry_out.ensures.levels;
-      retired = λ i. (c.carry_out.ensures.retired i).items;
-      flight = ap (option_map flying_of) c.carry_out.ensures.flight;
-      calls = c.in_ok-carry_out.ensures.calls;
-      faults = c.carry_out.ensures.faults;
+      moments = c.carry_out_spelled.ensures.moments;
+      done = c.in_ok-carry_out_spelled.ensures.done;
+      kept = c.in_ok-carry_out_spelled.ensures.kept;
+      gate = c.in_ok-carry_out_spelled.ensures.gate;
+      files = c.in_ok-carry_out_spelled.ensures.files;
+      levels = c.carry_out_spelled.ensures.levels;
+      retired = λ i. (c.carry_out_spelled.ensures.retired i).items;
+      flight = ap (option_map flying_of) c.carry_out_spelled.ensures.flight;
+      calls = c.in_ok-carry_out_spelled.ensures.calls;
+      faults = c.carry_out_spelled.ensures.faults;
     } in
     let from = subst (λ headers. IsStepFrom (segments_for old.state.frozen) old.state headers step) (sym c.new.ensures.items) c.in_ok-step.ensures.step in
     ticked_holds g.D.Disk.tells old c.args.before c.args.to c.requires.may headers step c.new.ensures.items from c.in_ok-step.ensures.ticks new carried new_is (λ told. laws.itself told c.args.core.now.disk) told s holds
@@ -170,36 +178,36 @@ returns-clause-done g c = λ told s holds.
 pub returns-clause-sound : goal.returns-clause-sound
 returns-clause-sound g c =
     let old = view_of c.args.core.now in
-    let new = view_of (record c.carry_out.new.self { state = c.tick.new.self }) in
+    let new = view_of (record c.carry_out_spelled.new.self { state = c.tick.new.self }) in
     let step = c.in_ok-step.step in
-    let new_is : new.state ≡ moved step.manifest old.state = c.tick.ensures.is ∙ ap (moved step.manifest) c.in_ok-carry_out.ensures.state in
+    let new_is : new.state ≡ moved step.manifest old.state = c.tick.ensures.is ∙ ap (moved step.manifest) c.in_ok-carry_out_spelled.ensures.state in
     let from = subst (λ headers. IsStepFrom (segments_for old.state.frozen) old.state headers step) (sym c.new.ensures.items) c.in_ok-step.ensures.step in
-    ticked_sound g.D.Disk.tells old c.args.before c.args.to c.requires.may c.new.result.items step c.new.ensures.items from c.in_ok-step.ensures.ticks new new_is (λ i. (c.carry_out.ensures.retired i).items)
-    (ap (option_map flying_of) c.carry_out.ensures.flight) (returns-clause-done g c) c.carry_out.ensures.levels c.tick.ensures.writable
+    ticked_sound g.D.Disk.tells old c.args.before c.args.to c.requires.may c.new.result.items step c.new.ensures.items from c.in_ok-step.ensures.ticks new new_is (λ i. (c.carry_out_spelled.ensures.retired i).items)
+    (ap (option_map flying_of) c.carry_out_spelled.ensures.flight) (returns-clause-done g c) c.carry_out_spelled.ensures.levels c.tick.ensures.writable
 
 pub returns-clause-stands : goal.returns-clause-stands
 returns-clause-stands g c = λ told config h stands forward due caller.
     let old = view_of c.args.core.now in
-    let new = view_of (record c.carry_out.new.self { state = c.tick.new.self }) in
+    let new = view_of (record c.carry_out_spelled.new.self { state = c.tick.new.self }) in
     let step = c.in_ok-step.step in
-    let new_is : new.state ≡ moved step.manifest old.state = c.tick.ensures.is ∙ ap (moved step.manifest) c.in_ok-carry_out.ensures.state in
+    let new_is : new.state ≡ moved step.manifest old.state = c.tick.ensures.is ∙ ap (moved step.manifest) c.in_ok-carry_out_spelled.ensures.state in
     let from = subst (λ headers. IsStepFrom (segments_for old.state.frozen) old.state headers step) (sym c.new.ensures.items) c.in_ok-step.ensures.step in
-    ticked_stands g.D.Disk.tells old c.args.before c.args.to c.requires.may c.new.result.items step c.new.ensures.items from c.in_ok-step.ensures.ticks new new_is (λ i. (c.carry_out.ensures.retired i).items)
-    (ap (option_map flying_of) c.carry_out.ensures.flight) (returns-clause-done g c) told config h stands forward due caller
+    ticked_stands g.D.Disk.tells old c.args.before c.args.to c.requires.may c.new.result.items step c.new.ensures.items from c.in_ok-step.ensures.ticks new new_is (λ i. (c.carry_out_spelled.ensures.retired i).items)
+    (ap (option_map flying_of) c.carry_out_spelled.ensures.flight) (returns-clause-done g c) told config h stands forward due caller
 
 pub returns-clause-any_moment : goal.returns-clause-any_moment
 returns-clause-any_moment g c = λ told config h stands forward due caller.
     let old = view_of c.args.core.now in
-    let new = view_of (record c.carry_out.new.self { state = c.tick.new.self }) in
+    let new = view_of (record c.carry_out_spelled.new.self { state = c.tick.new.self }) in
     let headers = c.new.result.items in
     let step = c.in_ok-step.step in
     let from = subst (λ headers. IsStepFrom (segments_for old.state.frozen) old.state headers step) (sym c.new.ensures.items) c.in_ok-step.ensures.step in
-    tick_moments g.D.Disk.tells old c.args.before c.args.to c.requires.may headers step c.new.ensures.items from c.in_ok-step.ensures.ticks config h stands forward due caller new c.carry_out.ensures.moments told
+    tick_moments g.D.Disk.tells old c.args.before c.args.to c.requires.may headers step c.new.ensures.items from c.in_ok-step.ensures.ticks config h stands forward due caller new c.carry_out_spelled.ensures.moments told
 
 pub returns-clause-numbers : goal.returns-clause-numbers
 returns-clause-numbers g c = λ told.
     let next = ap (λ (state : State). state.next) c.tick.ensures.is in
     let number = c.in_ok-step.ensures.step.numbers in
     let above = c.in_ok-step.ensures.step.next in
-    let calls = c.in_ok-carry_out.ensures.calls told in
+    let calls = c.in_ok-carry_out_spelled.ensures.calls told in
     omega (arith, next, number, above, calls)

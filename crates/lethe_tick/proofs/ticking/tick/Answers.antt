@@ -1,10 +1,11 @@
-use Rattle.std.proofs.Common.{rules, ◌≡◌, ◌≤◌, ◌⊎◌, ◌+◌, inl, inr, ℕ, List, Result, Err, sym, ap, ◌∙◌, subst, arith}
+use Rattle.std.proofs.Common.{rules, ◌≡◌, ◌≤◌, ◌⊎◌, ◌+◌, inl, inr, ℕ, List, Option, Result, Err, sym, ap, ◌∙◌, subst, arith}
 use Rattle.std.specs.Prelude.{IfErr}
 use Rattle.std.specs.Result.{result_err}
 use Rattle.std.proofs.lemmas.Result.{IfErr-weaker}
 use Rattle.lethe_base.specs.Limits.{max_place}
 use Rattle.lethe_base.specs.declared.call.Call.TheVariants.{Tick}
 use Rattle.lethe_base.specs.declared.refused.Refused.{Refused}
+use Rattle.lethe_cert.specs.declared.certificate.Certificate.{Certificate}
 use Rattle.lethe_disk.proofs.Quieting.{on_ok}
 use Rattle.lethe_follows.specs.Ticked.{ticked}
 use Rattle.lethe_stored.specs.Left.{IsKeptOr}
@@ -38,7 +39,7 @@ returns-in_err-ripen_store-clause-count g c =
     let new = view_of c.ripen_store.new.core in
     let why = c.in_err-ripen_store.field-0.0 in
     let refusal : c.from_residual.result ≡ Err why = search rules in
-    subst (λ (r : Result (Unit {0}) Refused). new.state.count ≡ counted (Makes (Tick c.args.to)) (result_err r) old.state.count) (sym refusal) c.in_err-ripen_store.ensures.keeps.count
+    subst (λ (r : Result (Option Certificate) Refused). new.state.count ≡ counted (Makes (Tick c.args.to)) (result_err r) old.state.count) (sym refusal) c.in_err-ripen_store.ensures.keeps.count
 
 pub returns-in_err-ripen_store-clause-stopped : goal.returns-in_err-ripen_store-clause-stopped
 returns-in_err-ripen_store-clause-stopped g c =
@@ -46,14 +47,14 @@ returns-in_err-ripen_store-clause-stopped g c =
     let new = view_of c.ripen_store.new.core in
     let why = c.in_err-ripen_store.field-0.0 in
     let refusal : c.from_residual.result ≡ Err why = search rules in
-    subst (λ (r : Result (Unit {0}) Refused). new.state.stopped ≡ stopped_by (result_err r) old.state.stopped) (sym refusal) c.in_err-ripen_store.ensures.keeps.stopped
+    subst (λ (r : Result (Option Certificate) Refused). new.state.stopped ≡ stopped_by (result_err r) old.state.stopped) (sym refusal) c.in_err-ripen_store.ensures.keeps.stopped
 
 pub returns-in_err-ripen_store-clause-stands : goal.returns-in_err-ripen_store-clause-stands
 returns-in_err-ripen_store-clause-stands g c = λ told config h stands caller.
     let new = view_of c.ripen_store.new.core in
     let why = c.in_err-ripen_store.field-0.0 in
     let refusal : c.from_residual.result ≡ Err why = search rules in
-    subst (λ (r : Result (Unit {0}) Refused). StandsNow config (behind h caller (Makes (Tick c.args.to)) (result_err r)) new) (sym refusal)
+    subst (λ (r : Result (Option Certificate) Refused). StandsNow config (behind h caller (Makes (Tick c.args.to)) (result_err r)) new) (sym refusal)
     (c.in_err-ripen_store.ensures.keeps.stands told config h stands caller (Tick c.args.to))
 
 pub returns-in_err-ripen_store-clause-any_moment : goal.returns-in_err-ripen_store-clause-any_moment
@@ -66,7 +67,7 @@ pub returns-in_err-ripen_store-clause-partly : goal.returns-in_err-ripen_store-c
 returns-in_err-ripen_store-clause-partly g c =
     let why = c.in_err-ripen_store.field-0.0 in
     let refusal : c.from_residual.result ≡ Err why = search rules in
-    subst (λ (r : Result (Unit {0}) Refused). IfErr r (IsDoneInPart g.D.Disk.tells (IsTickedInPart c.args.to) (view_of c.args.core.now) (view_of c.ripen_store.new.core))) (sym refusal) c.in_err-ripen_store.ensures.partly
+    subst (λ (r : Result (Option Certificate) Refused). IfErr r (IsDoneInPart g.D.Disk.tells (IsTickedInPart c.args.to) (view_of c.args.core.now) (view_of c.ripen_store.new.core))) (sym refusal) c.in_err-ripen_store.ensures.partly
 
 -- The clock
 

@@ -3,12 +3,14 @@ use Rattle.std.specs.Prelude.{IfErr, option_map}
 use Rattle.std.specs.Result.{result_err}
 use Rattle.lethe_base.specs.declared.call.Call.TheVariants as call
 use Rattle.lethe_base.specs.declared.refused.Refused.{Refused}
-use Rattle.lethe_core.specs.Asked.{Makes}
+use Rattle.lethe_core.specs.Asked.{Makes, behind}
 use Rattle.lethe_core.specs.View.{View, flying_of, view_of}
 use Rattle.lethe_tick.specs.Ripened.{IsTickedInPart}
 use Rattle.lethe_engine.specs.Answers.{Answers}
+use Rattle.lethe_engine.specs.StandsFor.{StandsFor}
 use Rattle.lethe_engine.specs.Ticks.{HasReasonOfTick, ticked_face}
 use Rattle.lethe_engine.specs.declared.ticking.Ticked.{Ticked}
+use Rattle.lethe_engine.proofs.Certified.{answer_true, call_certified, with_answer}
 use Rattle.lethe_engine.proofs.Calls.{itself_answers, made_answers, refused_is_none}
 use Rattle.lethe_engine.proofs.Ticks.{holds_in_round, may_in_round, may_refuse_none, may_refuse_reason, partly_in_round, passes_all, reason_of_tick, stands_in_round, still_runs, tick_told, tick_works, ticked_gone, ticked_not, ticked_now}
 use Rattle.lethe_engine.proofs.engine.Engine.tick.Goals as goal
@@ -45,18 +47,18 @@ tick-requires-clause-may g c κs within =
     let may = c.in_ok-may_tick.ensures.may in
     may_in_round old (old.rounds + 1) g.D.Disk.tells c.faults-before.result c.requires.sound may.0 may.2 c.faults-before.ensures
 
-pub returns-in_err-tick-clause-answers : goal.returns-in_err-tick-clause-answers
-returns-in_err-tick-clause-answers g c =
+pub returns-in_err-certificate-clause-answers : goal.returns-in_err-certificate-clause-answers
+returns-in_err-certificate-clause-answers g c =
     let old = view_of c.args.self.now.core in
     let new : View = view_of c.tick.new.core in
     let to = c.args.to in
     let tells = g.D.Disk.tells in
-    let why = c.in_err-tick.field-0.0 in
-    let refusal : c.from_residual-in_err-tick.result ≡ Err why = search rules in
+    let why = c.in_err-certificate.field-0.0 in
+    let refusal : c.from_residual-in_err-certificate.result ≡ Err why = search rules in
     let may = c.in_ok-may_tick.ensures.may in
     let first = g.D.Disk.port_faults c.args.port.now in
     let last = g.D.Disk.port_faults c.tick.new.port in
-    let is = c.in_err-tick.ensures in
+    let is = c.in_err-certificate.ensures in
     let all = c.tick.ensures in
     let face = ticked_now old to new (passes_all old to may.0 may.1 may.2 may.3) (λ i. (all.begun i).jobs.count) (λ i. (all.begun i).rounds) (λ i. option_map flying_of (all.free i)) in
     let told = tick_told tells g.D.Disk.ports_fail to old new c.faults-before.result first last may.0 c.faults-before.ensures why is.why in
@@ -68,18 +70,18 @@ returns-in_err-tick-clause-answers g c =
     all.numbers all.faults told
     ((λ ready. absurd ready), partly_in_round old (old.rounds + 1) tells (IsTickedInPart to) new why is.partly)))
 
-pub returns-in_err-tick-clause-why : goal.returns-in_err-tick-clause-why
-returns-in_err-tick-clause-why g c =
+pub returns-in_err-certificate-clause-why : goal.returns-in_err-certificate-clause-why
+returns-in_err-certificate-clause-why g c =
     let old = view_of c.args.self.now.core in
     let new : View = view_of c.tick.new.core in
     let to = c.args.to in
-    let why = c.in_err-tick.field-0.0 in
-    let refusal : c.from_residual-in_err-tick.result ≡ Err why = search rules in
+    let why = c.in_err-certificate.field-0.0 in
+    let refusal : c.from_residual-in_err-certificate.result ≡ Err why = search rules in
     let may = c.in_ok-may_tick.ensures.may in
     let first = g.D.Disk.port_faults c.args.port.now in
     let last = g.D.Disk.port_faults c.tick.new.port in
     subst (λ (r : Result Ticked Refused). IfErr r (HasReasonOfTick g.D.Disk.tells g.D.Disk.ports_fail to old new first last)) (sym refusal)
-    (reason_of_tick g.D.Disk.tells g.D.Disk.ports_fail to old new c.faults-before.result first last may.0 c.faults-before.ensures why c.in_err-tick.ensures.why)
+    (reason_of_tick g.D.Disk.tells g.D.Disk.ports_fail to old new c.faults-before.result first last may.0 c.faults-before.ensures why c.in_err-certificate.ensures.why)
 
 -- A tick was carried out
 
@@ -90,7 +92,7 @@ returns-clause-answers g c =
     let to = c.args.to in
     let tells = g.D.Disk.tells in
     let may = c.in_ok-may_tick.ensures.may in
-    let is = c.in_ok-tick.ensures in
+    let is = c.in_ok-certificate.ensures in
     let all = c.tick.ensures in
     let face = ticked_now old to new (passes_all old to may.0 may.1 may.2 may.3) (λ i. (all.begun i).jobs.count) (λ i. (all.begun i).rounds) (λ i. option_map flying_of (all.free i)) in
     subst (λ face. Answers tells (Makes (call.Tick to)) None face old new) face
@@ -103,7 +105,7 @@ pub returns-clause-gone : goal.returns-clause-gone
 returns-clause-gone g c = λ told config opened h stands caller.
     let old = view_of c.args.self.now.core in
     let may = c.in_ok-may_tick.ensures.may in
-    let is = c.in_ok-tick.ensures in
+    let is = c.in_ok-certificate.ensures in
     let new : View = view_of c.tick.new.core in
     ticked_gone config h caller c.args.to new (is.stands told config h (stands_in_round old (old.rounds + 1) config h stands.now) caller) (still_runs old new is.stopped may.0)
 
@@ -112,16 +114,51 @@ returns-clause-one_image g c = λ told.
     let old = view_of c.args.self.now.core in
     let new : View = view_of c.tick.new.core in
     let may = c.in_ok-may_tick.ensures.may in
-    let is = c.in_ok-tick.ensures in
+    let is = c.in_ok-certificate.ensures in
     let held = c.tick.ensures.sound.held told in
     (held.2 (still_runs old new is.stopped may.0)).settled.synced
 
 pub returns-clause-done : goal.returns-clause-done
 returns-clause-done g c = λ told s holds.
     let old = view_of c.args.self.now.core in
-    c.in_ok-tick.ensures.done told s (holds_in_round old (old.rounds + 1) s holds)
+    c.in_ok-certificate.ensures.done told s (holds_in_round old (old.rounds + 1) s holds)
 
 pub returns-clause-last_step : goal.returns-clause-last_step
 returns-clause-last_step g c = λ told config h stands.
     let old = view_of c.args.self.now.core in
-    c.in_ok-tick.ensures.last_step told config h (stands_in_round old (old.rounds + 1) config h stands)
+    c.in_ok-certificate.ensures.last_step told config h (stands_in_round old (old.rounds + 1) config h stands)
+
+-- Certificates
+
+pub returns-clause-is_true : goal.returns-clause-is_true
+returns-clause-is_true g c = λ told config opened h stands caller.
+    let old = view_of c.args.self.now.core in
+    let new : View = view_of c.tick.new.core in
+    let may = c.in_ok-may_tick.ensures.may in
+    let is = c.in_ok-certificate.ensures in
+    let runs = still_runs old new is.stopped may.0 in
+    let answers = returns-clause-answers g c in
+    answer_true config opened h caller c.args.to new (answers.stands told config opened h stands caller) runs c.tick.ensures.sound.writable ((c.tick.ensures.sound.held told).2 runs).settled.synced
+    is.manifest.0 is.manifest.1 c.in_ok-certificate.certificate is.certificate is.due
+
+pub returns-clause-certified : goal.returns-clause-certified
+returns-clause-certified g c = λ told config opened h stands caller.
+    let old = view_of c.args.self.now.core in
+    let new : View = view_of c.tick.new.core in
+    let may = c.in_ok-may_tick.ensures.may in
+    let is = c.in_ok-certificate.ensures in
+    let runs = still_runs old new is.stopped may.0 in
+    let answers = returns-clause-answers g c in
+    let stood = call_certified g.D.Disk.tells (Makes (call.Tick c.args.to)) None (ticked_face old c.args.to new.retired) old new answers told config opened h caller c.args.self.now.certificates.items stands in
+    with_answer config opened h caller c.args.to new stood.since runs c.tick.ensures.sound.writable ((c.tick.ensures.sound.held told).2 runs).settled.synced is.manifest.0 is.manifest.1 stands.since.begins
+    c.in_ok-certificate.certificate is.certificate is.due c.args.self.now.certificates.items c.tick.new.certificates.items is.certified stood
+
+pub returns-in_err-certificate-clause-certified : goal.returns-in_err-certificate-clause-certified
+returns-in_err-certificate-clause-certified g c = λ told config opened h stands caller.
+    let old = view_of c.args.self.now.core in
+    let new : View = view_of c.tick.new.core in
+    let Asks = Makes (call.Tick c.args.to) in
+    let why = result_err c.from_residual-in_err-certificate.result in
+    let answers = returns-in_err-certificate-clause-answers g c in
+    subst (λ answered. StandsFor config opened (behind h caller Asks why) new answered) (sym c.in_err-certificate.ensures.certified)
+    (call_certified g.D.Disk.tells Asks why (ticked_face old c.args.to new.retired) old new answers told config opened h caller c.args.self.now.certificates.items stands)

@@ -1,0 +1,6 @@
+//! Times that a store's clock may show.
+#![tactic(auto)]
+
+mod time;
+
+pub use time::Time;
