@@ -1,0 +1,11 @@
+mod Reading
+mod Stepping
+mod Tiling
+mod Keeping
+mod Sorting
+mod Paging
+mod Told
+mod Agreed
+mod Fitting
+mod Outcome
+mod Lawful

@@ -1,0 +1,7 @@
+mod Places
+mod Rules
+mod Narrowing
+mod Fitting
+mod Loops
+mod Numbers
+mod Agreeing

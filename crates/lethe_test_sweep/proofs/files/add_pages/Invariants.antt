@@ -1,0 +1,5 @@
+use Rattle.std.proofs.Common.{◌≡◌, ◌+◌, length}
+use Rattle.lethe_test_sweep.proofs.files.add_pages.Given as goal
+
+abbrev pub invariant-loop-line : goal.invariant-loop-line
+invariant-loop-line l = length l.pages.items ≡ length l.fn.pages.items + l.line-index

@@ -1,0 +1,6 @@
+use Rattle.std.proofs.Common.{All}
+use Rattle.lethe_base.specs.Spelling.{HasSpelling}
+use Rattle.lethe_test_sweep.proofs.files.entries_of.Given as goal
+
+abbrev pub invariant-loop-word : goal.invariant-loop-word
+invariant-loop-word l = All HasSpelling l.entries.items

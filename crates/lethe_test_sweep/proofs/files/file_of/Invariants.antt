@@ -1,0 +1,6 @@
+use Rattle.std.proofs.Common.{◌≡◌, length, take}
+use Rattle.lethe_header.specs.Facts.{lines_of}
+use Rattle.lethe_test_sweep.proofs.files.file_of.Given as goal
+
+abbrev pub invariant-loop-tile : goal.invariant-loop-tile
+invariant-loop-tile l = length l.pages.items ≡ length (lines_of (take l.tile-index l.tile-items))
