@@ -9,7 +9,7 @@ use Rattle.lethe_base.specs.declared.refused.Refused.{Refused}
 use Rattle.lethe_base.specs.declared.refused.Refused.TheVariants as refused
 use Rattle.lethe_core.specs.Asked.{Makes}
 use Rattle.lethe_core.specs.Reasons.{HasReason, IsUnreadable}
-use Rattle.lethe_core.specs.View.{View, face_of}
+use Rattle.lethe_core.specs.View.{Face, View, face_of}
 use Rattle.lethe_engine.specs.Answers as engine
 use Rattle.lethe_engine.specs.Reads.{IsReadRefusal}
 use Rattle.lethe_engine.specs.Refusals.{HasReasonOfChange}
@@ -18,10 +18,10 @@ use Rattle.lethe_script.specs.declared.order.Order.{Order}
 use Rattle.lethe_run.specs.declared.reply.Line.{Line}
 use Rattle.lethe_run.specs.declared.reply.Line.TheVariants as line
 use Rattle.lethe_run.specs.declared.reply.Reply.{Reply}
-use Rattle.lethe_run.specs.declared.reply.Reply.TheVariants.{Done, Got, Scanned, Counted, Fault, Stopped, Exhausted, ReadFault, Damaged}
+use Rattle.lethe_run.specs.declared.reply.Reply.TheVariants.{Done, Ticked, Got, Scanned, Counted, Fault, Stopped, Exhausted, Backwards, ReadFault, Damaged}
 use Rattle.lethe_run.specs.Anywhere.{AreTold, AreToldThrough, IsTold, MayChange, Standing, standing_of}
 use Rattle.lethe_run.specs.Replies.{refusal_of, reply_of, unread_of}
-use Rattle.lethe_run.specs.Transcript.{call_of, read_of}
+use Rattle.lethe_run.specs.Transcript.{call_of, change_of, read_of}
 use Rattle.lethe_run.proofs.Steps.{asks_change}
 
 -- what a reply tells of the store before and behind; for want of memory both stand alike
@@ -37,22 +37,23 @@ none_of : (stopped : Option ℕ) → ((at : ℕ) → stopped ≡ Some at → ⊥
 none_of None never = refl
 none_of (Some at) never = absurd (never at refl)
 
--- A change
+-- where a call is answered that is refused where an earlier one failed, none has
+pub ok_runs : {T : Type 0} (old : View) (result : Result T Refused) (x : T) → result ≡ Ok x → ((at : ℕ) → old.state.stopped ≡ Some at → IsErrOf result (refused.Stopped at)) → old.state.stopped ≡ None
+ok_runs old result x ok stop = none_of old.state.stopped (λ at was. let clash : Ok x ≡ Err (refused.Stopped at) = sym ok ∙ stop at was in cc)
 
-module _ (Told Ports : Type 0) (act : Act) (call : Call) (is : call_of act ≡ Some call) (old new : View) where
+-- A call of any face
+
+module _ (Told Ports : Type 0) (act : Act) (call : Call) (is : call_of act ≡ Some call) (face : Face) (old new : View) where
   -- what it says of itself
-  abbrev Says : Option Refused → Type 0
-  Says why = engine.Answers Told (Makes call) why (record (face_of old) { retired = new.retired }) old new
+  abbrev pub Says : Option Refused → Type 0
+  Says why = engine.Answers Told (Makes call) why face old new
 
   -- it isn't made
-  still : new.state.count ≡ old.state.count → new.state.stopped ≡ old.state.stopped → standing_of new ≡ standing_of old
+  pub still : new.state.count ≡ old.state.count → new.state.stopped ≡ old.state.stopped → standing_of new ≡ standing_of old
   still count stopped = stands_so new old.state.count old.state.stopped count stopped
 
   may : old.state.stopped ≡ None → MayChange act (standing_of old)
   may runs = (asks_change act call is, runs)
-
-  made : (place : ℕ) → place ≡ old.state.count + 1 → old.state.stopped ≡ None → Says None → Tells Ports act (Ok (Done place)) old new
-  made place place_is runs says = (may runs, place_is, stands_so new place None (says.count ∙ sym place_is) (says.stopped ∙ runs))
 
   failed : (place b a : ℕ) → old.state.stopped ≡ None → place ≡ old.state.count + 1 → b ≡ old.faults → a ≡ new.faults → Rose old.faults new.faults → Says (Some (refused.Fault place b a)) → Tells Ports act (Ok (Fault place b a)) old new
   failed place b a runs place_is b_is a_is rose says = (
@@ -64,7 +65,7 @@ module _ (Told Ports : Type 0) (act : Act) (call : Call) (is : call_of act ≡ S
     stands_so new place (Some place) (says.count ∙ sym place_is) says.stopped,
   )
 
-  hindered : (Short : Type 0) (why : Refused) → HasReason Short old.state old.faults new.faults why → Says (Some why) → Tells Ports act (refusal_of why) old new
+  pub hindered : (Short : Type 0) (why : Refused) → HasReason Short old.state old.faults new.faults why → Says (Some why) → Tells Ports act (refusal_of why) old new
   hindered Short (refused.Fault place b a) reason says = failed place b a reason.0 reason.1 reason.2 reason.3 reason.4 says
   hindered Short (refused.Stopped at) reason says = (asks_change act call is, reason, still says.count says.stopped)
   hindered Short (refused.Exhausted last) reason says = (may reason.0, reason.1, still says.count says.stopped)
@@ -76,7 +77,7 @@ module _ (Told Ports : Type 0) (act : Act) (call : Call) (is : call_of act ≡ S
   hindered Short (refused.ReadFault b a) reason says = absurd reason
   hindered Short (refused.Damaged name) reason says = absurd reason
 
-  unreadable : (before now : ℕ) (why : Refused) → old.state.stopped ≡ None → IsUnreadable Told Ports before now why → Says (Some why) → Tells Ports act (refusal_of why) old new
+  pub unreadable : (before now : ℕ) (why : Refused) → old.state.stopped ≡ None → IsUnreadable Told Ports before now why → Says (Some why) → Tells Ports act (refusal_of why) old new
   unreadable before now (refused.ReadFault b a) runs reason says = (inr (may runs), reason.0, still says.count says.stopped)
   unreadable before now (refused.Damaged name) runs reason says = (inr (may runs), still says.count says.stopped)
   unreadable before now (refused.Fault place b a) runs reason says = absurd reason
@@ -88,11 +89,19 @@ module _ (Told Ports : Type 0) (act : Act) (call : Call) (is : call_of act ≡ S
   unreadable before now refused.NothingDue runs reason says = absurd reason
   unreadable before now (refused.Cancelled begun other) runs reason says = absurd reason
 
-  pub change_tells : (before now : ℕ) (result : Result ℕ Refused) → Says (result_err result) → IfOk result (λ place. place ≡ old.state.count + 1) → IfErr result (HasReasonOfChange Told Ports old new before now)
+-- A change
+
+module _ (Told Ports : Type 0) (act : Act) (call : Call) (is : call_of act ≡ Some call) (writes : change_of act ≡ Some call) (old new : View) where
+  abbrev face : Face
+  face = record (face_of old) { retired = new.retired }
+
+  pub change_tells : (before now : ℕ) (result : Result ℕ Refused) → Says Told Ports act call is face old new (result_err result) → IfOk result (λ place. place ≡ old.state.count + 1) → IfErr result (HasReasonOfChange Told Ports old new before now)
       → ((at : ℕ) → old.state.stopped ≡ Some at → IsErrOf result (refused.Stopped at)) → Tells Ports act (reply_of result) old new
-  change_tells before now (Ok place) says place_is why stop = made place place_is (none_of old.state.stopped (λ at was. let clash : Ok place ≡ Err (refused.Stopped at) = stop at was in cc)) says
-  change_tells before now (Err why) says place_is (inl reason) stop = hindered _ why reason says
-  change_tells before now (Err why) says place_is (inr reason) stop = unreadable before now why reason.1 reason.2 says
+  change_tells before now (Ok place) says place_is why stop =
+      let runs = ok_runs old (Ok place) place refl stop in
+      (subst IsSome (sym writes) refl, runs, place_is, stands_so new place None (says.count ∙ sym place_is) (says.stopped ∙ runs))
+  change_tells before now (Err why) says place_is (inl reason) stop = hindered Told Ports act call is face old new _ why reason says
+  change_tells before now (Err why) says place_is (inr reason) stop = unreadable Told Ports act call is face old new before now why reason.1 reason.2 says
 
 -- A read that is refused
 
@@ -113,6 +122,8 @@ unread_tells Ports act view is (refused.Cancelled begun other) reason fails = ab
 module _ (Ports : Type 0) (from upto low high : ℕ) (below : low ≤ from) (above : upto ≤ high) where
   wider : (act : Act) (s : Standing) (reply : Reply) (t : Standing) → IsTold Ports from upto act s reply t → IsTold Ports low high act s reply t
   wider act s (Done place) t told = told
+  wider act s (Ticked ticked) t told = told
+  wider act s (Backwards point clock) t told = told
   wider act s (Fault place b a) t told = let first = told.2 in let last = told.4 in (told.0, told.1, omega (arith, first, below), told.3, omega (arith, last, above), told.5)
   wider act s (Stopped at) t told = told
   wider act s (Exhausted last) t told = told

@@ -1,4 +1,4 @@
--- Where no count of faults rose and there are places, each change is done, and what was left for a history is opened.
+-- Where no count of faults rose and there are places, each change is done or is a tick behind the clock, and what was left for a history is opened.
 use Rattle.std.proofs.Common.{◌≡◌, ◌≤◌, ◌<◌, ℕ, ◌+◌, ◌-◌, Bool, true, false, ◌||◌, List, [], ◌∷◌, length, Option, Some, None, IsSomeAnd, inl, inr, refl, ap, ◌∙◌, arith}
 use Rattle.std.specs.Prelude.{sum_by}
 use Rattle.std.specs.List.{list_any}
@@ -36,6 +36,8 @@ module _ (told : Told) (calm : Rose told.course.before told.course.now → ⊥) 
 
   done_line : (n next : ℕ) (caller by : ℕ) (act : Act) (r : Reply) → n < most → Answers told by act r → Follows told.course n r next → (is_refusal (line.Answer caller r) ≡ false) × (next ≤ n + 1)
   done_line n next caller by act (reply.Done place) below a f = (refl, omega arith)
+  done_line n next caller by act (reply.Ticked ticked) below a f = (refl, omega arith)
+  done_line n next caller by act (reply.Backwards point clock) below a f = (refl, omega arith)
   done_line n next caller by act (reply.Got point held) below a f = (refl, omega arith)
   done_line n next caller by act (reply.Scanned point pairs) below a f = (refl, omega arith)
   done_line n next caller by act (reply.Counted point stat) below a f = (refl, omega arith)

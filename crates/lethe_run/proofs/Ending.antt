@@ -173,6 +173,7 @@ module _ (run : Run) (config : Fields) (asks : Asks run config) (phases : List (
       then = c.each;
     };
     lasting = c.lasting;
+    certified = c.certified;
     leaves = c.leaves;
     config_is = c.config_is;
     clean = c.clean;

@@ -5,7 +5,7 @@ use Rattle.lethe_base.specs.Keys.{Bytes}
 use Rattle.lethe_base.specs.History.{History}
 use Rattle.lethe_base.specs.declared.config.Fields.{Fields}
 use Rattle.lethe_disk.specs.Disk.{Image, IsIdle, Seen}
-use Rattle.lethe_engine.specs.StandsFor.{Opened, StandsFor}
+use Rattle.lethe_engine.specs.StandsFor.{Opened, StandsSince}
 use Rattle.lethe_core.specs.View.{View}
 use Rattle.lethe_state.specs.declared.state.State.{State}
 use Rattle.lethe_script.specs.declared.order.Order.{Order}
@@ -132,7 +132,7 @@ module _ (Tells Ports : Type 0) (start then : View) (itself : Tells → Image th
 -- Making a port is nothing on the disk
 
 module _ (Tells Ports : Type 0) (start mid : View) (idle : Tells → IsIdle start.disk mid.disk)
-    (stands : Tells → (config : Fields) (opened : Opened) (h : History) → StandsFor config opened h start → StandsFor config opened h mid) where
+    (stands : Tells → (config : Fields) (opened : Opened) (h : History) → StandsSince config opened h start → StandsSince config opened h mid) where
   on_idle : Tells → (begin : Start) (from : Point) → IsOn begin from from.history start → IsOn begin from from.history mid
   on_idle told begin from on = record {
     done = on.done;
@@ -152,6 +152,7 @@ module _ (Tells Ports : Type 0) (start mid : View) (idle : Tells → IsIdle star
           calls = calls_then start.disk mid.disk finish (record { later = let same = (idle told).moment in omega (arith, same); past = λ m c le. (idle told).left m c }) c.calls;
           each = c.each;
           lasting = c.lasting;
+          certified = c.certified;
           leaves = c.leaves;
           config_is = c.config_is;
           clean = c.clean;

@@ -4,6 +4,7 @@ use Rattle.std.specs.Prelude.{All, filter_map}
 use Rattle.std.proofs.lemmas.List.Elements.{All-cons, All-nil, All-weaker}
 use Rattle.lethe_base.specs.History.{History, Change, change_at, AreDone}
 use Rattle.lethe_base.specs.declared.call.Call.{Call}
+use Rattle.lethe_base.specs.declared.call.Call.TheVariants as call
 use Rattle.lethe_base.specs.declared.call.Did.TheVariants.{Done, Failed}
 use Rattle.lethe_base.proofs.Histories.{change_at_cases}
 use Rattle.lethe_disk.specs.Directory.{Directory}
@@ -21,12 +22,12 @@ use Rattle.lethe_run.specs.declared.reply.Line.TheVariants as line
 use Rattle.lethe_run.specs.declared.reply.Reply.TheVariants as reply
 use Rattle.lethe_run.specs.Carried.{HasDone, IsLasting}
 use Rattle.lethe_run.specs.Serving.{IsOn, Point}
-use Rattle.lethe_run.specs.Transcript.{Start, Told, Answered, IsDoneAt, call_of, ok_place}
+use Rattle.lethe_run.specs.Transcript.{Start, Told, Answered, IsDoneAt, change_of, ok_place}
 use Rattle.lethe_run.proofs.Images.{kept_open, retried_cases, stopped_added}
 
 -- Places
 
-within : (h : History) (place : ℕ) (change : Change) → change_at h place ≡ Some change → place ≤ length h
+pub within : (h : History) (place : ℕ) (change : Change) → change_at h place ≡ Some change → place ≤ length h
 within h zero change is = omega arith
 within [] (suc before) change is = absurd (let clash : None ≡ Some change = is in cc)
 within (x ∷ h) (suc zero) change is = omega arith
@@ -50,7 +51,10 @@ module _ (told : Told) (most : ℕ) (bound : (caller place : ℕ) (call : Call) 
   done_within [] [] a = All-nil (λ place. place ≤ most)
   done_within [] (l ∷ lines) a = absurd a
   done_within (order ∷ orders) [] a = absurd a
-  done_within (order ∷ orders) (line.Answer caller (reply.Done place) ∷ lines) a = All-cons (λ place. place ≤ most) place (filter_map ok_place lines) (asked_within order.caller place (call_of order.act) a.1) (done_within orders lines a.2)
+  done_within (order ∷ orders) (line.Answer caller (reply.Done place) ∷ lines) a = All-cons (λ place. place ≤ most) place (filter_map ok_place lines) (asked_within order.caller place (change_of order.act) a.1) (done_within orders lines a.2)
+  done_within (order ∷ orders) (line.Answer caller (reply.Ticked ticked) ∷ lines) a =
+      All-cons (λ place. place ≤ most) ticked.place (filter_map ok_place lines) (bound order.caller ticked.place (call.Tick a.1.0) a.1.2.done) (done_within orders lines a.2)
+  done_within (order ∷ orders) (line.Answer caller (reply.Backwards point clock) ∷ lines) a = done_within orders lines a.2
   done_within (order ∷ orders) (line.Answer caller (reply.Got point held) ∷ lines) a = done_within orders lines a.2
   done_within (order ∷ orders) (line.Answer caller (reply.Scanned point pairs) ∷ lines) a = done_within orders lines a.2
   done_within (order ∷ orders) (line.Answer caller (reply.Counted point stat) ∷ lines) a = done_within orders lines a.2

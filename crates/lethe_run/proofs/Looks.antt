@@ -1,6 +1,6 @@
 -- What only looks at the store is answered.
 use Rattle.std.proofs.Common.{◌≡◌, inl, ℕ, [], length, refl, sym, ap, ◌∙◌, subst, arith, append-nil}
-use Rattle.std.specs.Prelude.{IsSome}
+use Rattle.std.specs.Prelude.{IfSome, IsSome}
 use Rattle.std.proofs.lemmas.List.{take_all}
 use Rattle.lethe_base.specs.History.{History, after}
 use Rattle.lethe_base.specs.Read.{Read, Answer, answer}
@@ -20,7 +20,8 @@ use Rattle.lethe_script.specs.declared.order.Act.{Act}
 use Rattle.lethe_run.specs.declared.reply.Reply.{Reply}
 use Rattle.lethe_run.specs.declared.reply.Reply.TheVariants as reply
 use Rattle.lethe_run.specs.Replies.{unread_of}
-use Rattle.lethe_run.specs.Serving.{IsOn, IsAnswered, Point}
+use Rattle.lethe_run.specs.Carried.{certificate_in}
+use Rattle.lethe_run.specs.Serving.{IsBorneOn, IsOn, IsAnswered, Point}
 use Rattle.lethe_run.specs.Transcript.{Course, Start, course, Answers, Follows, read_of, IsAnswerAt, IsStatAt}
 use Rattle.lethe_run.proofs.Images.{still}
 use Rattle.lethe_run.proofs.Outcomes.{Outcome, told_of}
@@ -49,13 +50,13 @@ module _ (Ports : Type 0) (begin : Start) (from : Point) (h : History) (caller :
         shape = shape now.stored now.remembers;
       }
 
-  pub reads : (r : Reply) → Answers (told_of h Here) caller act r → Follows Here (length h) r (length h) → (g : History) × IsAnswered Ports begin h g caller act r view view
-  reads r what follows = (h, record { grows = ([], sym (append-nil h)); answers = what; follows = follows; goes = still begin h view })
+  pub reads : (r : Reply) → IfSome (certificate_in r) (IsBorneOn begin h view) → Answers (told_of h Here) caller act r → Follows Here (length h) r (length h) → (g : History) × IsAnswered Ports begin h g caller act r view view
+  reads r certified what follows = (h, record { grows = ([], sym (append-nil h)); answers = what; follows = follows; certified = certified; goes = still begin h view })
 
   -- a read that is refused
   pub unread : IsSome (read_of act) → (why : Refused) → IsReadRefusal why → ((before behind : ℕ) → why ≡ refused.ReadFault before behind → Ports) → ((name : Name) → why ≡ refused.Damaged name → ⊥)
       → Outcome Ports begin h caller act (unread_of why) view view
-  unread is (refused.ReadFault before behind) reason fails sound = reads reply.ReadFault (inl is, fails before behind refl) refl
+  unread is (refused.ReadFault before behind) reason fails sound = reads reply.ReadFault tt (inl is, fails before behind refl) refl
   unread is (refused.Damaged name) reason fails sound = absurd (sound name refl)
   unread is refused.NoMemory reason fails sound = still begin h view
   unread is (refused.Fault place before behind) reason fails sound = absurd reason

@@ -1,8 +1,9 @@
 -- One phase after another.
-use Rattle.std.proofs.Common.{◌≡◌, ◌≤◌, Bool, true, false, ◌||◌, List, [], ◌∷◌, ◌++◌, Option, Some, None, refl, sym, ap, ◌∙◌, subst, append_assoc, append-nil}
+use Rattle.std.proofs.Common.{◌≡◌, ◌≤◌, ℕ, Bool, true, false, ◌||◌, List, take, [], ◌∷◌, ◌++◌, Option, Some, None, refl, sym, ap, ◌∙◌, subst, append_assoc, append-nil}
 use Rattle.std.specs.Prelude.{All, length}
 use Rattle.std.specs.List.{list_any}
 use Rattle.std.specs.Io.KnownBytes.{Appends}
+use Rattle.std.proofs.Math.Seq.{take-append_seam}
 use Rattle.std.proofs.lemmas.List.Elements.{All-append, All-cons, All-nil, All-weaker}
 use Rattle.std.proofs.lemmas.List.Folds.{list_any-append}
 use Rattle.std.proofs.lemmas.Grind.{flat_map-append}
@@ -10,17 +11,20 @@ use Rattle.lethe_base.specs.History.{History}
 use Rattle.lethe_base.specs.Keys.{Bytes}
 use Rattle.lethe_core.specs.View.{View}
 use Rattle.lethe_disk.specs.Disk.{Image}
+use Rattle.lethe_stored.specs.Clean.{IsClean}
 use Rattle.lethe_stored.specs.Left.{without_failed}
+use Rattle.lethe_cert.specs.declared.certificate.Certificate.{Certificate}
+use Rattle.lethe_engine.specs.StandsFor.{IsKeptFor}
 use Rattle.lethe_script.specs.declared.order.Order.{Order}
 use Rattle.lethe_wire.specs.Causes.{AppendsFront}
 use Rattle.lethe_run.specs.declared.reply.Line.{Line}
 use Rattle.lethe_run.specs.Printed.{lines_text}
-use Rattle.lethe_run.specs.Carried.{IsLasting}
-use Rattle.lethe_run.specs.Serving.{Advances, IsOn, IsPhase, IsCarried, Point}
+use Rattle.lethe_run.specs.Carried.{IsBorneOut, IsLasting, certificates_in}
+use Rattle.lethe_run.specs.Serving.{Advances, IsBorneOn, IsOn, IsPhase, IsCarried, Point}
 use Rattle.lethe_run.specs.Transcript.{Course, Start, course, IsServed, AreServed, text_of, is_refusal, has_refusal}
 use Rattle.lethe_run.proofs.Images.{still, leaves, has_config, is_clean}
 use Rattle.lethe_run.proofs.Lasting.{Stays, begins_now, bound_now, done_within, here, seen_now, stays_lasting, stays_later}
-use Rattle.lethe_run.proofs.Serving.{advances_then, served_later}
+use Rattle.lethe_run.proofs.Serving.{advances_then, all_borne_later, served_later}
 
 -- what was written
 
@@ -60,6 +64,10 @@ or_false false = refl
 pub refusal_more : (lines : List (List Line)) (more : List Line) → has_refusal (lines ++ more ∷ []) ≡ (has_refusal lines || list_any is_refusal more)
 refusal_more lines more = list_any-append (list_any is_refusal) lines (more ∷ []) ∙ ap (λ b. has_refusal lines || b) (or_false (list_any is_refusal more))
 
+-- what the certificates of a phase say was so, and stays so
+abbrev pub AreBorneOn : Start → History → View → List Line → Type 0
+AreBorneOn begin h view lines = All (IsBorneOn begin h view) (certificates_in lines)
+
 -- the phases so far
 pub record SoFar (Ports : Type 0) (begin : Start) (from : Point) (phases : List (List Order)) (lines : List (List Line)) (start now : View) : Type 0 where
   pub history : History
@@ -67,9 +75,10 @@ pub record SoFar (Ports : Type 0) (begin : Start) (from : Point) (phases : List 
   pub goes : Advances begin from.history history start now
   pub on : IsOn begin from history now
   pub lasting : All (Stays begin from.history history now) lines
+  pub certified : All (AreBorneOn begin history now) lines
 
 pub so_far_start : (Ports : Type 0) (begin : Start) (from : Point) (view : View) → IsOn begin from from.history view → SoFar Ports begin from [] [] view view
-so_far_start Ports begin from view on = record { history = from.history; served = refl; goes = still begin from.history view; on = on; lasting = All-nil (Stays begin from.history from.history view) }
+so_far_start Ports begin from view on = record { history = from.history; served = refl; goes = still begin from.history view; on = on; lasting = All-nil (Stays begin from.history from.history view); certified = All-nil (AreBorneOn begin from.history view) }
 
 phases_more : (c : Course) (start middle h : History) (phases : List (List Order)) (lines : List (List Line)) (orders : List Order) (more : List Line)
     → AreServed c start phases lines middle → IsServed c middle orders more h → AreServed c start (phases ++ orders ∷ []) (lines ++ more ∷ []) h
@@ -102,6 +111,22 @@ so_far_more Ports begin from h phases lines part more start now then le so_far p
       lasting = All-append (Stays begin from.history h then) lines (more ∷ [])
           (All-weaker (Stays begin from.history so_far.history now) (Stays begin from.history h then) (λ ls is. stays_later begin from.history so_far.history h now then ls phase.goes.stands is) lines so_far.lasting)
           (All-cons (Stays begin from.history h then) more [] (stays_now Ports begin from so_far.history h part more then on phase.served) (All-nil (Stays begin from.history h then)));
+      certified = All-append (AreBorneOn begin h then) lines (more ∷ [])
+          (All-weaker (AreBorneOn begin so_far.history now) (AreBorneOn begin h then) (λ ls is. all_borne_later begin so_far.history h now then phase.goes (certificates_in ls) is) lines so_far.certified)
+          (All-cons (AreBorneOn begin h then) more [] phase.certified (All-nil (AreBorneOn begin h then)));
+    }
+
+-- at the end of a run what each certificate says was so at its moment
+borne_out : (begin : Start) (h : History) (view : View) (told : ℕ × Certificate) → IsBorneOn begin h view told → IsBorneOut begin.config begin.moment h view.disk told
+borne_out begin h view told is =
+    let begins = is.on.stands.begins in
+    let front : is.point.history ≡ take told.0 h = sym (take-append_seam is.point.history begins.0) ∙ ap (take (length is.point.history)) (sym begins.1) ∙ ap (λ n. take n h) is.place in
+    record {
+      moment = is.point.moment;
+      since = is.on.moment_since;
+      upto = is.on.stands.later;
+      each = λ c left. let each = is.each c left in (each.0, subst (λ l. IsClean begin.config.threshold c l told.1.clock) front each.1);
+      kept = λ m c low high left. subst (λ l. IsKeptFor begin.config l h c) front (is.on.stands.images m c low high left);
     }
 
 pub carried : (Ports : Type 0) (begin : Start) (from : Point) (phases : List (List Order)) (lines : List (List Line)) (start now : View) → Image now.disk now.disk.directory → SoFar Ports begin from phases lines start now
@@ -112,6 +137,8 @@ carried Ports begin from phases lines start now itself so_far = record {
   calls = so_far.goes.calls;
   each = so_far.on.stands.images;
   lasting = All-weaker (Stays begin from.history so_far.history now) (IsLasting begin.config from.history so_far.history now.disk) (λ ls is. stays_lasting begin from.history so_far.history now ls is) lines so_far.lasting;
+  certified = All-weaker (AreBorneOn begin so_far.history now) (λ line. All (IsBorneOut begin.config begin.moment so_far.history now.disk) (certificates_in line))
+      (λ line is. All-weaker (IsBorneOn begin so_far.history now) (IsBorneOut begin.config begin.moment so_far.history now.disk) (borne_out begin so_far.history now) (certificates_in line) is) lines so_far.certified;
   leaves = leaves begin from so_far.history now so_far.on itself;
   config_is = has_config begin from so_far.history now so_far.on;
   clean = is_clean begin from so_far.history now so_far.on;

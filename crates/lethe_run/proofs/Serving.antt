@@ -1,8 +1,10 @@
 -- A script's lines, one after another.
 use Rattle.std.proofs.Common.{◌≡◌, inl, inr, ℕ, ◌-◌, ◌≤◌, List, [], ◌∷◌, ◌++◌, length, Option, Some, None, IsSomeAnd, refl, sym, ap, ◌∙◌, subst, arith, append_assoc, append-nil}
-use Rattle.std.specs.Prelude.{IsPermutation}
+use Rattle.std.specs.Prelude.{All, IfSome, IsPermutation}
+use Rattle.std.specs.List.{cons_option}
 use Rattle.std.proofs.lemmas.List.Sorted.{IsPermutation-refl}
 use Rattle.std.proofs.lemmas.List.{length-append, take-append-le}
+use Rattle.std.proofs.lemmas.List.Elements.{All-append, All-cons, All-nil, All-weaker, filter_map-append}
 use Rattle.lethe_base.specs.declared.call.Call.{Call}
 use Rattle.lethe_base.specs.History.{History, IsLegal, after}
 use Rattle.lethe_base.specs.Read.{Read, Answer, answer}
@@ -10,20 +12,24 @@ use Rattle.lethe_base.specs.Read as answers
 use Rattle.lethe_base.proofs.Histories.{change_at-append}
 use Rattle.lethe_engine.specs.Reads.{listed}
 use Rattle.lethe_engine.specs.declared.telling.Stat.{Stat}
+use Rattle.lethe_engine.specs.declared.ticking.Ticked as engine
+use Rattle.lethe_cert.specs.declared.certificate.Certificate.{Certificate}
 use Rattle.lethe_core.specs.View.{View}
-use Rattle.lethe_stored.specs.Kept.{IsFor}
+use Rattle.lethe_stored.specs.Kept.{IsFor, certificates}
 use Rattle.lethe_stored.specs.Left.{without_failed}
 use Rattle.lethe_script.specs.declared.order.Order.{Order}
 use Rattle.lethe_script.specs.declared.order.Act.{Act}
 use Rattle.lethe_run.specs.declared.reply.Line.{Line}
 use Rattle.lethe_run.specs.declared.reply.Line.TheVariants as line
 use Rattle.lethe_run.specs.declared.reply.Reply.{Reply}
-use Rattle.lethe_run.specs.declared.reply.Reply.TheVariants.{Done, Got, Scanned, Counted, Fault, Stopped, Exhausted, ReadFault, Damaged}
-use Rattle.lethe_run.specs.Serving.{Advances, IsOn, IsAnswered, IsPhase, Point}
+use Rattle.lethe_run.specs.declared.reply.Reply.TheVariants.{Done, Ticked, Got, Scanned, Counted, Fault, Stopped, Exhausted, Backwards, ReadFault, Damaged}
+use Rattle.lethe_run.specs.Carried.{certificate_in, certificate_of, certificates_in}
+use Rattle.lethe_run.specs.Serving.{Advances, IsBorneOn, IsOn, IsAnswered, IsPhase, Point}
 use Rattle.lethe_run.proofs.Images.{calls_then, still}
+use Rattle.lethe_run.proofs.Lasting.{within}
 use Rattle.lethe_run.proofs.Outcomes.{told_of}
 use Rattle.lethe_run.proofs.Turns.{places_in_turn, sees_in_turn}
-use Rattle.lethe_run.specs.Transcript.{Course, Start, Told, IsShort, course, call_of, read_of, IsDoneAt, IsAnswerAt, IsStatAt, IsFailedAt, IsFaultOf, Answers, Answered, places_behind, is_of, Follows, InTurn, IsServed, AreServed}
+use Rattle.lethe_run.specs.Transcript.{Course, Start, Told, IsShort, course, call_of, change_of, read_of, IsAhead, IsDoneAt, IsAnswerAt, IsStatAt, IsTickAt, IsFailedAt, IsFaultOf, Answers, Answered, places_behind, is_of, Follows, InTurn, IsServed, AreServed}
 
 -- What a line says of a history it says of a longer one, and when the count of faults rises, unless the places were used up: then nothing follows.
 
@@ -82,8 +88,25 @@ module _ (h more : History) (legal : IsLegal (h ++ more)) (Ports : Type 0) (begi
   fault_before caller place b a None f = absurd f
   fault_before caller place b a (Some call) f = record { fails = failed_before place b a f.fails; who = f.who; what = f.what }
 
+  abbrev tick_before : (caller to : ℕ) (ticked : engine.Ticked) → IsTickAt (told_of h First) caller to ticked → IsTickAt (told_of (h ++ more) Last) caller to ticked
+  tick_before caller to ticked a = record {
+    clock = a.clock;
+    done = change_at-append h more ticked.place _ a.done;
+    due = a.due;
+    number = subst (λ l. IfSome ticked.certificate (λ certificate. certificate.number ≡ certificates begin.config.threshold l)) (sym (take-append-le ticked.place h more (within h ticked.place _ a.done))) a.number;
+  }
+
+  abbrev ahead_before : (point clock to : ℕ) → IsAhead (told_of h First) point clock to → IsAhead (told_of (h ++ more) Last) point clock to
+  ahead_before point clock to a = record {
+    within = omega (arith, a.within, length-append h more);
+    is = a.is ∙ ap (λ l. (after l).clock) (sym (take-append-le point h more a.within));
+    ahead = a.ahead;
+  }
+
   answers_before : (caller : ℕ) (act : Act) (reply : Reply) → Answers (told_of h First) caller act reply → Answers (told_of (h ++ more) Last) caller act reply
-  answers_before caller act (Done place) a = done_before h more caller place (call_of act) a
+  answers_before caller act (Done place) a = done_before h more caller place (change_of act) a
+  answers_before caller act (Ticked ticked) a = (a.0, a.1, tick_before caller a.0 ticked a.2)
+  answers_before caller act (Backwards point clock) a = (a.0, a.1, ahead_before point clock a.0 a.2)
   answers_before caller act (Got point held) a = read_before h more point (answers.Found held) (read_of act) a
   answers_before caller act (Scanned point pairs) a = read_before h more point (listed pairs) (read_of act) a
   answers_before caller act (Counted point stat) a = (a.0, stat_before h more First Last point stat refl a.1)
@@ -124,6 +147,8 @@ in_turn_more c n (line.Answer other r ∷ lines) m k caller reply t f = (t.0, t.
 module _ (Ports : Type 0) (begin : Start) (f0 f1 m0 m1 : ℕ) (on : m0 ≤ m1) where
   follows_later : (n m : ℕ) (reply : Reply) → Follows (course Ports begin f0 m0) n reply m → Follows (course Ports begin f1 m1) n reply m
   follows_later n m (Done place) f = f
+  follows_later n m (Ticked ticked) f = f
+  follows_later n m (Backwards point clock) f = f
   follows_later n m (Got point held) f = f
   follows_later n m (Scanned point pairs) f = f
   follows_later n m (Counted point stat) f = f
@@ -141,11 +166,34 @@ module _ (Ports : Type 0) (begin : Start) (f0 f1 m0 m1 : ℕ) (on : m0 ≤ m1) w
 pub advances_then : (begin : Start) (f g h : History) (old mid new : View) → Advances begin f g old mid → Advances begin g h mid new → Advances begin f h old new
 advances_then begin f g h old mid new first second = record { calls = calls_then old.disk mid.disk new.disk first.calls second.calls; stands = λ from on. second.stands from (first.stands from on) }
 
+-- what a certificate says stays so
+borne_later : (begin : Start) (h g : History) (old new : View) → Advances begin h g old new → (told : ℕ × Certificate) → IsBorneOn begin h old told → IsBorneOn begin g new told
+borne_later begin h g old new goes told is = record {
+  point = is.point;
+  place = is.place;
+  on = goes.stands is.point is.on;
+  each = λ c left. is.each c ((goes.calls.past is.point.moment c is.on.stands.later).0 left);
+}
+
+pub all_borne_later : (begin : Start) (h g : History) (old new : View) → Advances begin h g old new → (told : List (ℕ × Certificate)) → All (IsBorneOn begin h old) told → All (IsBorneOn begin g new) told
+all_borne_later begin h g old new goes = All-weaker (IsBorneOn begin h old) (IsBorneOn begin g new) (borne_later begin h g old new goes)
+
+-- one line more
+one_borne : (P : ℕ × Certificate → Type 0) (caller : ℕ) (reply : Reply) (told : Option (ℕ × Certificate)) → certificate_in reply ≡ told → IfSome told P → All P (certificates_in (line.Answer caller reply ∷ []))
+one_borne P caller reply None is borne = subst (λ o. All P (cons_option o [])) (sym is) (All-nil P)
+one_borne P caller reply (Some told) is borne = subst (λ o. All P (cons_option o [])) (sym is) (All-cons P told [] borne (All-nil P))
+
+borne_more : (P : ℕ × Certificate → Type 0) (lines : List Line) (caller : ℕ) (reply : Reply) → All P (certificates_in lines) → IfSome (certificate_in reply) P → All P (certificates_in (lines ++ line.Answer caller reply ∷ []))
+borne_more P lines caller reply all borne =
+    subst (All P) (sym (filter_map-append certificate_of lines (line.Answer caller reply ∷ [])))
+    (All-append P (certificates_in lines) (certificates_in (line.Answer caller reply ∷ [])) all (one_borne P caller reply (certificate_in reply) refl borne))
+
 -- the lines so far
 pub record IsBuilt (Ports : Type 0) (begin : Start) (start : History) (orders : List Order) (lines : List Line) (h : History) (old now : View) : Type 0 where
   pub begins : (added : History) × (h ≡ start ++ added)
   pub answered : Answered (told_of h (course Ports begin now.faults now.disk.moment)) orders lines
   pub alone : InTurn (course Ports begin now.faults now.disk.moment) (length start) lines (length h)
+  pub certified : All (IsBorneOn begin h now) (certificates_in lines)
   pub goes : Advances begin start h old now
 
 module _ (Ports : Type 0) (begin : Start) (from : Point) (start h : History) (orders : List Order) (lines : List Line) (old now then : View) (le : now.faults ≤ then.faults)
@@ -165,6 +213,7 @@ module _ (Ports : Type 0) (begin : Start) (from : Point) (start h : History) (or
         answered = answered_more (told_of g Then) orders lines order reply
             (subst (λ x. Answered (told_of x Then) orders lines) (sym whole) (answered_before h more (subst IsLegal whole legal) Ports begin now.faults then.faults now.disk.moment then.disk.moment le on orders lines built.answered)) is.answers;
         alone = in_turn_more Then (length start) lines (length h) (length g) order.caller reply (in_turn_later Ports begin now.faults then.faults now.disk.moment then.disk.moment on (length start) (length h) lines built.alone) is.follows;
+        certified = borne_more (IsBorneOn begin g then) lines order.caller reply (all_borne_later begin h g now then is.goes (certificates_in lines) built.certified) is.certified;
         goes = advances_then begin start h g old now then built.goes is.goes;
       }
 
@@ -177,6 +226,7 @@ module _ (Ports : Type 0) (begin : Start) (from : Point) (start h : History) (or
         begins = built.begins;
         answered = subst (λ x. Answered (told_of x Then) orders lines) (append-nil h) (answered_before h [] (subst IsLegal (sym (append-nil h)) legal) Ports begin now.faults then.faults now.disk.moment then.disk.moment le on orders lines built.answered);
         alone = in_turn_later Ports begin now.faults then.faults now.disk.moment then.disk.moment on (length start) (length h) lines built.alone;
+        certified = all_borne_later begin h h now then goes (certificates_in lines) built.certified;
         goes = advances_then begin start h h old now then built.goes goes;
       }
 
@@ -192,11 +242,12 @@ phase_of Ports begin from start h orders lines old now on built = record {
     seen = λ caller. sees_in_turn (course Ports begin now.faults now.disk.moment) (is_of caller) (length start) (length start) (length h) lines (omega arith) built.alone;
     alone = built.alone;
   };
+  certified = built.certified;
   goes = built.goes;
 }
 
 pub built_start : (Ports : Type 0) (begin : Start) (start : History) (view : View) → IsBuilt Ports begin start [] [] start view view
-built_start Ports begin start view = record { begins = ([], sym (append-nil start)); answered = tt; alone = refl; goes = still begin start view }
+built_start Ports begin start view = record { begins = ([], sym (append-nil start)); answered = tt; alone = refl; certified = All-nil (IsBorneOn begin start view); goes = still begin start view }
 
 -- the same when the counts have risen
 

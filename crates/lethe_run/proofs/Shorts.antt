@@ -11,7 +11,7 @@ use Rattle.lethe_core.specs.Reasons.{IsShortOfRoom}
 use Rattle.lethe_core.specs.Running.{IsSound}
 use Rattle.lethe_core.specs.StandsNow.{StandsNow}
 use Rattle.lethe_core.specs.View.{View}
-use Rattle.lethe_engine.specs.StandsFor.{StandsFor}
+use Rattle.lethe_engine.specs.StandsFor.{StandsSince}
 use Rattle.lethe_run.specs.Serving.{IsOn, Point, opened_in}
 use Rattle.lethe_run.specs.Transcript.{Course, Start, IsShort, course}
 use Rattle.lethe_run.proofs.Images.{done_runs}
@@ -37,7 +37,7 @@ module _ (Tells Ports : Type 0) (begin : Start) (from : Point) (h : History) (ol
       omega (arith, before, low, since, goes, drawn, reach, small)
 
   -- or for a merge behind that
-  pub short_of : AreDone h → StandsFor begin.config (opened_in begin from on.counted) h new → IsShortOfRoom Tells old.state new → IsShort (length h) Now
+  pub short_of : AreDone h → StandsSince begin.config (opened_in begin from on.counted) h new → IsShortOfRoom Tells old.state new → IsShort (length h) Now
   short_of done stands (inl few) = short_by old.state.frozen few
   short_of done stands (inr few) =
       let reach = merges stands.now (done_runs begin.config h new stands.now done) few in

@@ -4,7 +4,7 @@ use Rattle.std.specs.Prelude.{filter, filter_map}
 use Rattle.lethe_run.specs.declared.reply.Line.{Line}
 use Rattle.lethe_run.specs.declared.reply.Line.TheVariants as line
 use Rattle.lethe_run.specs.declared.reply.Reply.{Reply}
-use Rattle.lethe_run.specs.declared.reply.Reply.TheVariants.{Done, Got, Scanned, Counted, Fault, Stopped, Exhausted, ReadFault, Damaged}
+use Rattle.lethe_run.specs.declared.reply.Reply.TheVariants.{Done, Ticked, Got, Scanned, Counted, Fault, Stopped, Exhausted, Backwards, ReadFault, Damaged}
 use Rattle.lethe_run.specs.Transcript.{Course, place_of, places_behind, Sees, Follows, InTurn}
 
 module _ (c : Course) (caller : ℕ) (p : Line → Bool) where
@@ -12,6 +12,8 @@ module _ (c : Course) (caller : ℕ) (p : Line → Bool) where
   picked : (b : Bool) (seen n m next : ℕ) (reply : Reply) (lines : List Line) → seen ≤ n → Follows c n reply next → next ≤ m
       → ((seen : ℕ) → seen ≤ next → Sees seen m (filter p lines)) → Sees seen m (cond b (line.Answer caller reply ∷ filter p lines) (filter p lines))
   picked false seen n m next (Done place) lines le f end rest = rest seen (omega arith)
+  picked false seen n m next (Ticked ticked) lines le f end rest = rest seen (omega arith)
+  picked false seen n m next (Backwards point clock) lines le f end rest = rest seen (omega arith)
   picked false seen n m next (Got point held) lines le f end rest = rest seen (omega arith)
   picked false seen n m next (Scanned point pairs) lines le f end rest = rest seen (omega arith)
   picked false seen n m next (Counted point stat) lines le f end rest = rest seen (omega arith)
@@ -21,6 +23,8 @@ module _ (c : Course) (caller : ℕ) (p : Line → Bool) where
   picked false seen n m next ReadFault lines le f end rest = rest seen (omega arith)
   picked false seen n m next (Damaged page) lines le f end rest = rest seen (omega arith)
   picked true seen n m next (Done place) lines le f end rest = (omega arith, omega arith, rest (max seen place) (omega arith))
+  picked true seen n m next (Ticked ticked) lines le f end rest = (omega arith, omega arith, rest (max seen ticked.place) (omega arith))
+  picked true seen n m next (Backwards point clock) lines le f end rest = (omega arith, omega arith, rest (max seen 0) (omega arith))
   picked true seen n m next (Got point held) lines le f end rest = (omega arith, omega arith, rest (max seen point) (omega arith))
   picked true seen n m next (Scanned point pairs) lines le f end rest = (omega arith, omega arith, rest (max seen point) (omega arith))
   picked true seen n m next (Counted point stat) lines le f end rest = (omega arith, omega arith, rest (max seen point) (omega arith))
@@ -33,6 +37,8 @@ module _ (c : Course) (caller : ℕ) (p : Line → Bool) where
 module _ (c : Course) where
   follows_up : (n m : ℕ) (reply : Reply) → Follows c n reply m → n ≤ m
   follows_up n m (Done place) f = omega arith
+  follows_up n m (Ticked ticked) f = omega arith
+  follows_up n m (Backwards point clock) f = omega arith
   follows_up n m (Got point held) f = omega arith
   follows_up n m (Scanned point pairs) f = omega arith
   follows_up n m (Counted point stat) f = omega arith
@@ -60,7 +66,9 @@ module _ (c : Course) where
   place_next : (n next m : ℕ) (caller : ℕ) (reply : Reply) (lines : List Line) → Follows c n reply next → next ≤ m → filter_map place_of lines ≡ places_behind next (m - next)
       → filter_map place_of (line.Answer caller reply ∷ lines) ≡ places_behind n (m - n)
   place_next n next m caller (Done place) lines f end rest = place_taken n next m place lines f.0 f.1 end rest
+  place_next n next m caller (Ticked ticked) lines f end rest = place_taken n next m ticked.place lines f.0 f.1 end rest
   place_next n next m caller (Fault place b a) lines f end rest = place_taken n next m place lines f.0 f.1 end rest
+  place_next n next m caller (Backwards point clock) lines f end rest = rest ∙ ap (λ k. places_behind k (m - k)) f.1
   place_next n next m caller (Got point held) lines f end rest = rest ∙ ap (λ k. places_behind k (m - k)) f.1
   place_next n next m caller (Scanned point pairs) lines f end rest = rest ∙ ap (λ k. places_behind k (m - k)) f.1
   place_next n next m caller (Counted point stat) lines f end rest = rest ∙ ap (λ k. places_behind k (m - k)) f.1

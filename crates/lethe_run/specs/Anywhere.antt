@@ -1,18 +1,18 @@
 -- Which lines may answer a script on any disk, whether or not it tells what it holds: whose line each is, of which kind, at which place, and what stops a store. What a
--- read found isn't said.
-use Rattle.std.specs.Prelude.{◌≡◌, ◌⊎◌, ◌≤◌, ◌+◌, ℕ, List, [], ◌∷◌, Option, Some, None, IsSome}
+-- read found, and what a certificate says, isn't told.
+use Rattle.std.specs.Prelude.{◌≡◌, ◌⊎◌, ◌≤◌, ◌<◌, ◌+◌, ℕ, List, [], ◌∷◌, Option, Some, None, IsSome}
 use Rattle.lethe_base.specs.Counts.{Rose}
 use Rattle.lethe_base.specs.Keys.{Bytes}
 use Rattle.lethe_base.specs.Limits.{max_place}
 use Rattle.lethe_core.specs.View.{View}
 use Rattle.lethe_script.specs.declared.order.Act.{Act}
-use Rattle.lethe_script.specs.declared.order.Act.TheVariants.{Get, Scan, Stat}
+use Rattle.lethe_script.specs.declared.order.Act.TheVariants.{Get, Scan, Stat, Tick}
 use Rattle.lethe_script.specs.declared.order.Order.{Order}
 use Rattle.lethe_run.specs.declared.reply.Line.{Line}
 use Rattle.lethe_run.specs.declared.reply.Line.TheVariants as line
 use Rattle.lethe_run.specs.declared.reply.Reply.{Reply}
-use Rattle.lethe_run.specs.declared.reply.Reply.TheVariants.{Done, Got, Scanned, Counted, Fault, Stopped, Exhausted, ReadFault, Damaged}
-use Rattle.lethe_run.specs.Transcript.{call_of, read_of}
+use Rattle.lethe_run.specs.declared.reply.Reply.TheVariants.{Done, Ticked, Got, Scanned, Counted, Fault, Stopped, Exhausted, Backwards, ReadFault, Damaged}
+use Rattle.lethe_run.specs.Transcript.{call_of, change_of, read_of}
 
 -- how many places are taken, and the place of the change that failed, if one did
 pub record Standing : Type 0 where
@@ -29,7 +29,10 @@ MayChange act s = IsSome (call_of act) × (s.failed ≡ None)
 -- A reply of the act's kind. A change takes the next place, done or failed, and a read is made behind so many; behind a change that failed each change is told so. What
 -- the disk's counts of faults were when it failed lies within these two, and they rose. Ports can fail only where this says so.
 abbrev pub IsTold : Type 0 → ℕ → ℕ → Act → Standing → Reply → Standing → Type 0
-IsTold PortsFail from upto act s (Done place) t = MayChange act s × (place ≡ s.count + 1) × (t ≡ record { count = place; failed = None })
+IsTold PortsFail from upto act s (Done place) t = IsSome (change_of act) × (s.failed ≡ None) × (place ≡ s.count + 1) × (t ≡ record { count = place; failed = None })
+IsTold PortsFail from upto act s (Ticked ticked) t =
+    ((to : ℕ) × (act ≡ Tick to) × (ticked.clock ≡ to)) × (s.failed ≡ None) × (ticked.place ≡ s.count + 1) × (t ≡ record { count = ticked.place; failed = None })
+IsTold PortsFail from upto act s (Backwards point clock) t = ((to : ℕ) × (act ≡ Tick to) × (to < clock)) × (s.failed ≡ None) × (point ≡ s.count) × (t ≡ s)
 IsTold PortsFail from upto act s (Fault place before after) t =
     MayChange act s × (place ≡ s.count + 1) × (from ≤ before) × Rose before after × (after ≤ upto) × (t ≡ record { count = place; failed = Some place })
 IsTold PortsFail from upto act s (Stopped at) t = IsSome (call_of act) × (s.failed ≡ Some at) × (t ≡ s)

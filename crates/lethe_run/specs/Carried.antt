@@ -1,5 +1,5 @@
 -- What a script that was carried out leaves on the disk.
-use Rattle.std.specs.Prelude.{◌≡◌, ◌≤◌, ◌↔◌, ℕ, not, List, filter, filter_map, slice_get, All, Option, None}
+use Rattle.std.specs.Prelude.{◌≡◌, ◌≤◌, ◌↔◌, ℕ, not, List, filter, filter_map, slice_get, take, All, Option, None, option_map}
 use Rattle.lethe_base.specs.History.{History, Change, after, change_at}
 use Rattle.lethe_base.specs.declared.config.Fields.{Fields}
 use Rattle.lethe_disk.specs.Directory.{Directory}
@@ -11,9 +11,14 @@ use Rattle.lethe_stored.specs.Numbers.{KeepsPace}
 use Rattle.lethe_manifest.specs.declared.manifest.Manifest.{Manifest}
 use Rattle.lethe_load.specs.Damaged.{IsGated}
 use Rattle.lethe_recover.specs.Opening.{IsKeptInOpening}
+use Rattle.lethe_cert.specs.declared.certificate.Certificate.{Certificate}
+use Rattle.lethe_engine.specs.Certificates.{HasCommitted}
 use Rattle.lethe_engine.specs.StandsFor.{IsKeptFor, IsPrefixFrom}
 use Rattle.lethe_script.specs.declared.order.Order.{Order}
 use Rattle.lethe_run.specs.declared.reply.Line.{Line}
+use Rattle.lethe_run.specs.declared.reply.Line.TheVariants as line
+use Rattle.lethe_run.specs.declared.reply.Reply.{Reply}
+use Rattle.lethe_run.specs.declared.reply.Reply.TheVariants as reply
 use Rattle.lethe_run.specs.Transcript.{Course, AreServed, ok_place}
 
 -- the change that failed, if one did
@@ -44,6 +49,36 @@ pub record IsLasting (config : Fields) (opened h : History) (finish : Seen) (lin
   pub upto : since ≤ finish.moment
   pub each : (m : ℕ) (c : Directory) → since ≤ m → m ≤ finish.moment → finish.left m c → (g : History) × IsPrefixFrom opened h g × HasDone h lines g × IsKept config c g
 
+-- the certificate of a reply, with its tick's place
+abbrev pub certificate_in : Reply → Option (ℕ × Certificate)
+certificate_in (reply.Ticked ticked) = option_map (λ certificate. (ticked.place, certificate)) ticked.certificate
+certificate_in (reply.Done place) = None
+certificate_in (reply.Got point held) = None
+certificate_in (reply.Scanned point pairs) = None
+certificate_in (reply.Counted point stat) = None
+certificate_in (reply.Fault place before after) = None
+certificate_in (reply.Stopped at) = None
+certificate_in (reply.Exhausted last) = None
+certificate_in (reply.Backwards point clock) = None
+certificate_in reply.ReadFault = None
+certificate_in (reply.Damaged page) = None
+
+-- and of a line
+abbrev pub certificate_of : Line → Option (ℕ × Certificate)
+certificate_of (line.Answer caller told) = certificate_in told
+
+abbrev pub certificates_in : List Line → List (ℕ × Certificate)
+certificates_in lines = filter_map certificate_of lines
+
+-- At a moment since this one each image had a gated manifest of the certificate's clock and digest, with its tick's place as its count, and was clean for the changes up to there; and each
+-- later crash leaves what is kept for a history with the tick.
+pub record IsBorneOut (config : Fields) (from : ℕ) (h : History) (finish : Seen) (told : ℕ × Certificate) : Type 0 where
+  pub moment : ℕ
+  pub since : from ≤ moment
+  pub upto : moment ≤ finish.moment
+  pub each : (c : Directory) → finish.left moment c → HasCommitted c told.1 told.0 × IsClean config.threshold c (take told.0 h) told.1.clock
+  pub kept : (m : ℕ) (c : Directory) → moment ≤ m → m ≤ finish.moment → finish.left m c → IsKeptFor config (take told.0 h) h c
+
 -- On a disk that was left for a history and a change in one configuration, the lines answer the phases over a store of another, which may be the same. The history
 -- that was opened is the first, or that with the change carried out, whichever the directory is kept for. Up to the moment at which the store was opened a crash
 -- leaves what the disk was left for, or a new store where there was no gate, and from it on what is kept for a prefix of what a crash may make of the last history that
@@ -59,6 +94,8 @@ pub record IsCarriedOut (config : Fields) (course : Course) (start finish : Seen
   pub any_moment : GoesThen (IsKeptInOpening kept config left change start.directory) (IsKeptFor config opened history) moment start finish
   -- from a moment on no crash loses what was answered
   pub lasting : All (IsLasting config opened history finish) lines
+  -- at a moment of the run what each certificate says was so, and from there on no crash loses its tick
+  pub certified : All (λ line. All (IsBorneOut config start.moment history finish) (certificates_in line)) lines
   pub leaves : IsLeft config finish (without_failed history) (failed_in history)
   pub config_is : failed_in history ≡ None → HasConfig config finish.directory
   pub clean : failed_in history ≡ None → IsClean config.threshold finish.directory history (after history).clock

@@ -1,5 +1,5 @@
 -- The text of each line that is printed.
-use Rattle.std.specs.Prelude.{ℕ, List, [], ◌∷◌, ◌++◌, length, Some, None, codes}
+use Rattle.std.specs.Prelude.{ℕ, List, [], ◌∷◌, ◌++◌, length, Option, Some, None, codes}
 use Rattle.std.specs.List.{flat_map}
 use Rattle.std.specs.Fmt.{decimal}
 use Rattle.lethe_base.specs.Keys.{Bytes}
@@ -8,6 +8,8 @@ use Rattle.lethe_base.specs.declared.config.Pick.{Pick}
 use Rattle.lethe_base.specs.declared.config.Pick.TheVariants.{So, Sd}
 use Rattle.lethe_base.specs.declared.name.Kind.{Kind}
 use Rattle.lethe_base.specs.declared.name.Kind.TheVariants.{Gate, Manifest, Segment, File, Page}
+use Rattle.lethe_cert.specs.Text.{certificate_text}
+use Rattle.lethe_cert.specs.declared.certificate.Certificate.{Certificate}
 use Rattle.lethe_engine.specs.declared.telling.Stat.{Stat}
 use Rattle.lethe_recover.specs.declared.opening.OpenWhy.{OpenWhy}
 use Rattle.lethe_recover.specs.declared.opening.OpenWhy.TheVariants as open_why
@@ -17,7 +19,7 @@ use Rattle.lethe_script.specs.Words.{why_text}
 use Rattle.lethe_run.specs.declared.reply.Line.{Line}
 use Rattle.lethe_run.specs.declared.reply.Line.TheVariants.{Answer}
 use Rattle.lethe_run.specs.declared.reply.Reply.{Reply}
-use Rattle.lethe_run.specs.declared.reply.Reply.TheVariants.{Done, Got, Scanned, Counted, Fault, Stopped, Exhausted, ReadFault, Damaged}
+use Rattle.lethe_run.specs.declared.reply.Reply.TheVariants.{Done, Ticked, Got, Scanned, Counted, Fault, Stopped, Exhausted, Backwards, ReadFault, Damaged}
 
 -- with its end
 abbrev pub ended : Bytes → Bytes
@@ -33,9 +35,16 @@ stat_text s =
     codes "clock " ++ decimal s.clock ++ codes " pins " ++ decimal s.pins ++ codes " pending " ++ decimal s.pending
     ++ (codes " files " ++ decimal s.files ++ codes " tombs " ++ decimal s.tombs)
 
+-- a tick's certificate with a space before it, if there is one
+abbrev pub certificate_part : Option Certificate → Bytes
+certificate_part None = []
+certificate_part (Some certificate) = codes " " ++ certificate_text certificate
+
 -- a reply, without its caller
 abbrev pub reply_text : Reply → Bytes
 reply_text (Done place) = codes "ok " ++ decimal place
+reply_text (Ticked ticked) = codes "ok " ++ decimal ticked.place ++ codes " clock " ++ decimal ticked.clock ++ certificate_part ticked.certificate
+reply_text (Backwards point clock) = codes "backwards " ++ decimal clock
 reply_text (Got point None) = codes "at " ++ decimal point ++ codes " none"
 reply_text (Got point (Some pair)) = codes "at " ++ decimal point ++ codes " val " ++ decimal pair.0 ++ codes " " ++ field_text pair.1
 reply_text (Scanned point pairs) = codes "at " ++ decimal point ++ codes " scan " ++ decimal (length pairs) ++ flat_map pair_text pairs

@@ -1,9 +1,11 @@
 -- What carrying out orders over a store comes to.
-use Rattle.std.specs.Prelude.{◌≡◌, ◌≤◌, ◌↔◌, ℕ, List, ◌++◌, length, All, None}
+use Rattle.std.specs.Prelude.{◌≡◌, ◌≤◌, ◌↔◌, ℕ, List, ◌++◌, length, All, IfSome, None}
 use Rattle.lethe_base.specs.History.{History, AreDone, after}
 use Rattle.lethe_disk.specs.Directory.{Directory}
 use Rattle.lethe_disk.specs.Disk.{Seen}
-use Rattle.lethe_engine.specs.StandsFor.{IsKeptFor, Opened, StandsFor}
+use Rattle.lethe_cert.specs.declared.certificate.Certificate.{Certificate}
+use Rattle.lethe_engine.specs.Certificates.{HasCommitted}
+use Rattle.lethe_engine.specs.StandsFor.{IsKeptFor, Opened, StandsSince}
 use Rattle.lethe_stored.specs.Clean.{IsClean}
 use Rattle.lethe_stored.specs.Left.{IsLeft, without_failed}
 use Rattle.lethe_stored.specs.Numbers.{KeepsPace}
@@ -12,7 +14,7 @@ use Rattle.lethe_script.specs.declared.order.Act.{Act}
 use Rattle.lethe_script.specs.declared.order.Order.{Order}
 use Rattle.lethe_run.specs.declared.reply.Line.{Line}
 use Rattle.lethe_run.specs.declared.reply.Reply.{Reply}
-use Rattle.lethe_run.specs.Carried.{HasConfig, IsLasting, failed_in}
+use Rattle.lethe_run.specs.Carried.{HasConfig, IsBorneOut, IsLasting, certificate_in, certificates_in, failed_in}
 use Rattle.lethe_run.specs.Transcript.{Course, Start, course, Answers, Follows, IsServed, AreServed}
 
 -- a history for which a store stood, and a moment of its disk from which on each crash has it
@@ -29,9 +31,16 @@ pub record IsOn (begin : Start) (from : Point) (h : History) (view : View) : Typ
   pub done : AreDone from.history
   -- a count of faults of its disk since opening
   pub counted : ℕ
-  pub stands : StandsFor begin.config (opened_in begin from counted) h view
+  pub stands : StandsSince begin.config (opened_in begin from counted) h view
   pub faults_since : begin.faults ≤ counted
   pub moment_since : begin.moment ≤ from.moment
+
+-- What a certificate says was so at a point of the run, whose history has its tick as the last change, and since then each crash has that.
+pub record IsBorneOn (begin : Start) (h : History) (view : View) (told : ℕ × Certificate) : Type 0 where
+  pub point : Point
+  pub place : length point.history ≡ told.0
+  pub on : IsOn begin point h view
+  pub each : (c : Directory) → view.disk.left point.moment c → HasCommitted c told.1 told.0 × IsClean begin.config.threshold c point.history told.1.clock
 
 -- Device calls were made: what a crash before them may leave is neither more nor less.
 pub record Continues (old new : Seen) : Type 0 where
@@ -48,11 +57,13 @@ pub record IsAnswered (PortsFail : Type 0) (begin : Start) (h g : History) (call
   pub grows : (added : History) × (g ≡ h ++ added)
   pub answers : Answers (record { history = g; course = course PortsFail begin new.faults new.disk.moment }) caller act reply
   pub follows : Follows (course PortsFail begin new.faults new.disk.moment) (length h) reply (length g)
+  pub certified : IfSome (certificate_in reply) (IsBorneOn begin g new)
   pub goes : Advances begin h g old new
 
 -- the orders were answered by the lines, and the history went on from h to g
 pub record IsPhase (PortsFail : Type 0) (begin : Start) (h g : History) (orders : List Order) (lines : List Line) (old new : View) : Type 0 where
   pub served : IsServed (course PortsFail begin new.faults new.disk.moment) h orders lines g
+  pub certified : All (IsBorneOn begin g new) (certificates_in lines)
   pub goes : Advances begin h g old new
 
 -- the phases were answered by the lines, from the opened history on
@@ -62,6 +73,7 @@ pub record IsCarried (course : Course) (begin : Start) (from : Point) (phases : 
   pub calls : Continues start finish
   pub each : (m : ℕ) (c : Directory) → from.moment ≤ m → m ≤ finish.moment → finish.left m c → IsKeptFor begin.config from.history history c
   pub lasting : All (IsLasting begin.config from.history history finish) lines
+  pub certified : All (λ line. All (IsBorneOut begin.config begin.moment history finish) (certificates_in line)) lines
   pub leaves : IsLeft begin.config finish (without_failed history) (failed_in history)
   pub config_is : failed_in history ≡ None → HasConfig begin.config finish.directory
   pub clean : failed_in history ≡ None → IsClean begin.config.threshold finish.directory history (after history).clock

@@ -1,5 +1,5 @@
 -- Which lines may answer a script, and which text they print. The history is read off the lines: no other change is in it.
-use Rattle.std.specs.Prelude.{◌≡◌, ◌⊎◌, ℕ, zero, suc, ◌+◌, ◌-◌, ◌<◌, ◌≤◌, Bool, true, false, max, List, [], ◌∷◌, ◌++◌, length, take, filter, filter_map, Option, Some, None, IsSome, IsSomeAnd, IsPermutation, ◌==◌}
+use Rattle.std.specs.Prelude.{◌≡◌, ◌⊎◌, ℕ, zero, suc, ◌+◌, ◌-◌, ◌<◌, ◌≤◌, Bool, true, false, max, List, [], ◌∷◌, ◌++◌, length, take, filter, filter_map, Option, Some, None, IfSome, IsSome, IsSomeAnd, IsPermutation, ◌==◌}
 use Rattle.std.specs.List.{flat_map, list_any}
 use Rattle.lethe_base.specs.declared.call.Call.{Call}
 use Rattle.lethe_base.specs.declared.call.Call.TheVariants as call
@@ -17,15 +17,18 @@ use Rattle.lethe_base.specs.Read.{Read, Answer, answer}
 use Rattle.lethe_base.specs.Read as answers
 use Rattle.lethe_script.specs.declared.order.Order.{Order}
 use Rattle.lethe_script.specs.declared.order.Act.{Act}
-use Rattle.lethe_script.specs.declared.order.Act.TheVariants.{Put, Get, Scan, Delete, Stat}
+use Rattle.lethe_script.specs.declared.order.Act.TheVariants.{Put, Get, Scan, Delete, Stat, Tick}
 use Rattle.lethe_run.specs.declared.reply.Line.{Line}
 use Rattle.lethe_run.specs.declared.reply.Line.TheVariants as line
 use Rattle.lethe_run.specs.declared.reply.Reply.{Reply}
-use Rattle.lethe_run.specs.declared.reply.Reply.TheVariants.{Done, Got, Scanned, Counted, Fault, Stopped, Exhausted, ReadFault, Damaged}
-use Rattle.lethe_stored.specs.Kept.{IsFor}
+use Rattle.lethe_run.specs.declared.reply.Reply.TheVariants.{Done, Got, Scanned, Counted, Fault, Stopped, Exhausted, Backwards, ReadFault, Damaged}
+use Rattle.lethe_run.specs.declared.reply.Reply.TheVariants as reply
+use Rattle.lethe_stored.specs.Kept.{IsFor, certificates}
 use Rattle.lethe_stored.specs.Left.{without_failed}
 use Rattle.lethe_stored.specs.Stored.{Stored, IsCoherent, layout_of}
+use Rattle.lethe_tick.specs.Certified.{IsCertificateAt}
 use Rattle.lethe_engine.specs.Stats.{IsStatOf}
+use Rattle.lethe_engine.specs.declared.ticking.Ticked.{Ticked}
 use Rattle.lethe_engine.specs.declared.telling.Stat as stats
 use Rattle.lethe_engine.specs.Reads.{listed}
 use Rattle.lethe_run.specs.Printed.{lines_text}
@@ -66,6 +69,16 @@ call_of (Get key) = None
 call_of (Scan lo hi) = None
 call_of (Delete key) = Some (call.Delete key)
 call_of Stat = None
+call_of (Tick to) = Some (call.Tick to)
+
+-- the same, but for a tick
+abbrev pub change_of : Act → Option Call
+change_of (Put key dkey value) = Some (call.Put key dkey value)
+change_of (Get key) = None
+change_of (Scan lo hi) = None
+change_of (Delete key) = Some (call.Delete key)
+change_of Stat = None
+change_of (Tick to) = None
 
 -- the read that an act asks for
 abbrev pub read_of : Act → Option Read
@@ -74,6 +87,7 @@ read_of (Get key) = Some (answers.Get key)
 read_of (Scan lo hi) = Some (answers.Scan lo hi)
 read_of (Delete key) = None
 read_of Stat = None
+read_of (Tick to) = None
 
 -- the change of a caller stands done at a place
 abbrev pub IsDoneAt : History → ℕ → ℕ → Call → Type 0
@@ -95,6 +109,20 @@ pub record IsStatAt (told : Told) (point : ℕ) (stat : stats.Stat) : Type 0 whe
   pub coherent : IsCoherent stored
   pub stands : IsFor (without_failed (take point told.history)) stored
   pub shape : IsStatOf (shape_of (layout_of stored)) stat
+
+-- The tick to a time stands done at its place. A certificate is there exactly where the time is at least the threshold, with that clock and the time a threshold before it, and its
+-- number is that of the ticks at the threshold or later, up to its place.
+pub record IsTickAt (told : Told) (caller to : ℕ) (ticked : Ticked) : Type 0 where
+  pub clock : ticked.clock ≡ to
+  pub done : IsDoneAt told.history caller ticked.place (call.Tick to)
+  pub due : IsCertificateAt told.course.config.threshold to ticked.certificate
+  pub number : IfSome ticked.certificate (λ certificate. certificate.number ≡ certificates told.course.config.threshold (take ticked.place told.history))
+
+-- behind so many places the clock, which is this, is ahead of the time
+pub record IsAhead (told : Told) (point clock to : ℕ) : Type 0 where
+  pub within : point ≤ length told.history
+  pub is : clock ≡ (after (take point told.history)).clock
+  pub ahead : to < clock
 
 -- The disk failed in the change at a place, and these are its counts of faults before and after.
 pub record IsFailedAt (told : Told) (place before after : ℕ) : Type 0 where
@@ -133,7 +161,9 @@ IsUsedUp told last = (last ≡ max_place) × ((length told.history ≡ max_place
 -- What a reply means: a change stands at its place, done or failed, or isn't made; a read is a map's at its printed point, or isn't answered. A fetch may fail in both, since a
 -- change may merge files. A disk that tells what it holds has no damaged page.
 abbrev pub Answers : Told → ℕ → Act → Reply → Type 0
-Answers told caller act (Done place) = IsSomeAnd (call_of act) (IsDoneAt told.history caller place)
+Answers told caller act (Done place) = IsSomeAnd (change_of act) (IsDoneAt told.history caller place)
+Answers told caller act (reply.Ticked ticked) = (to : ℕ) × (act ≡ Tick to) × IsTickAt told caller to ticked
+Answers told caller act (Backwards point clock) = (to : ℕ) × (act ≡ Tick to) × IsAhead told point clock to
 Answers told caller act (Got point held) = IsSomeAnd (read_of act) (λ read. IsAnswerAt told.history point read (answers.Found held))
 Answers told caller act (Scanned point pairs) = IsSomeAnd (read_of act) (λ read. IsAnswerAt told.history point read (listed pairs))
 Answers told caller act (Counted point stat) = (act ≡ Stat) × IsStatAt told point stat
@@ -157,6 +187,8 @@ Answered told (order ∷ orders) [] = ⊥
 -- the place of the change that a line answers, done or failed
 abbrev pub place_of : Line → Option ℕ
 place_of (line.Answer caller (Done place)) = Some place
+place_of (line.Answer caller (reply.Ticked ticked)) = Some ticked.place
+place_of (line.Answer caller (Backwards point clock)) = None
 place_of (line.Answer caller (Got point held)) = None
 place_of (line.Answer caller (Scanned point pairs)) = None
 place_of (line.Answer caller (Counted point stat)) = None
@@ -169,6 +201,8 @@ place_of (line.Answer caller (Damaged page)) = None
 -- the place of the change that a line answers with `ok`
 abbrev pub ok_place : Line → Option ℕ
 ok_place (line.Answer caller (Done place)) = Some place
+ok_place (line.Answer caller (reply.Ticked ticked)) = Some ticked.place
+ok_place (line.Answer caller (Backwards point clock)) = None
 ok_place (line.Answer caller (Got point held)) = None
 ok_place (line.Answer caller (Scanned point pairs)) = None
 ok_place (line.Answer caller (Counted point stat)) = None
@@ -190,6 +224,8 @@ is_of caller (line.Answer other reply) = other == caller
 -- all places up to this one stood when the reply was made; what isn't made or answered shows none
 abbrev pub shown_by : Reply → ℕ
 shown_by (Done place) = place
+shown_by (reply.Ticked ticked) = ticked.place
+shown_by (Backwards point clock) = 0
 shown_by (Got point held) = point
 shown_by (Scanned point pairs) = point
 shown_by (Counted point stat) = point
@@ -202,6 +238,8 @@ shown_by (Damaged page) = 0
 -- a change stands above what its caller had seen, and what is told isn't below it
 abbrev pub IsBehind : ℕ → Reply → Type 0
 IsBehind seen (Done place) = seen < place
+IsBehind seen (reply.Ticked ticked) = seen < ticked.place
+IsBehind seen (Backwards point clock) = seen ≤ point
 IsBehind seen (Got point held) = seen ≤ point
 IsBehind seen (Scanned point pairs) = seen ≤ point
 IsBehind seen (Counted point stat) = seen ≤ point
@@ -220,6 +258,8 @@ Sees seen end (line.Answer caller reply ∷ lines) = IsBehind seen reply × (sho
 -- unless it is for want of numbers. Then there are m.
 abbrev pub Follows : Course → ℕ → Reply → ℕ → Type 0
 Follows course n (Done place) m = (place ≡ suc n) × (m ≡ suc n)
+Follows course n (reply.Ticked ticked) m = (ticked.place ≡ suc n) × (m ≡ suc n)
+Follows course n (Backwards point clock) m = (point ≡ n) × (m ≡ n)
 Follows course n (Got point held) m = (point ≡ n) × (m ≡ n)
 Follows course n (Scanned point pairs) m = (point ≡ n) × (m ≡ n)
 Follows course n (Counted point stat) m = (point ≡ n) × (m ≡ n)
@@ -256,9 +296,11 @@ AreServed course start (orders ∷ phases) [] h = ⊥
 abbrev pub text_of : List (List Line) → Bytes
 text_of lines = flat_map lines_text lines
 
--- a change that wasn't made or failed, or a read that wasn't answered
+-- a change that wasn't made or failed, or a read that wasn't answered; a tick behind the clock is none
 abbrev pub is_refusal : Line → Bool
 is_refusal (line.Answer caller (Done place)) = false
+is_refusal (line.Answer caller (reply.Ticked ticked)) = false
+is_refusal (line.Answer caller (Backwards point clock)) = false
 is_refusal (line.Answer caller (Got point held)) = false
 is_refusal (line.Answer caller (Scanned point pairs)) = false
 is_refusal (line.Answer caller (Counted point stat)) = false

@@ -1,19 +1,20 @@
 //! Answering one order.
-ghost use Rattle.std.specs.Prelude.{◌≡◌, ◌<◌, ◌≤◌, ℕ, IfErr, MatchResult, Ok};
+ghost use Rattle.std.specs.Prelude.{◌≡◌, ◌<◌, ◌≤◌, ◌+◌, ℕ, IfErr, MatchResult, Ok};
 ghost use Rattle.lethe_base.specs.History.{History};
+ghost use Rattle.lethe_base.specs.Limits.{max_place};
 ghost use Rattle.lethe_engine.specs.Reads.{IsReadRefusal};
 ghost use Rattle.lethe_core.specs.Running.{IsSound};
 ghost use Rattle.lethe_core.specs.View.{view_of};
 ghost use Rattle.lethe_run.specs.Anywhere.{IsTold, standing_of};
 ghost use Rattle.lethe_run.specs.declared.reply.Reply.TheVariants as reply;
-ghost use Rattle.lethe_run.specs.Replies.{IsOfChange, reply_of, unread_of};
+ghost use Rattle.lethe_run.specs.Replies.{IsOfChange, IsOfTick, refusal_of, reply_of, tick_reply_of, unread_of};
 ghost use Rattle.lethe_run.specs.Serving.{IsOn, IsAnswered, Advances, Point};
 ghost use Rattle.lethe_run.specs.Transcript.{Start};
 
 use crate::reply::Reply;
 use lethe_base::{List, NoMemory, Refused};
 use lethe_disk::Disk;
-use lethe_engine::Engine;
+use lethe_engine::{Engine, Ticked};
 use lethe_script::Act;
 use std::alloc::Global;
 
@@ -24,7 +25,8 @@ pub(crate) fn answer<D: Disk>(
     port: &mut D::Port,
     act: Act,
 ) -> Result<Reply, NoMemory>
-    requires { IsSound D.tells (view_of engine.old.core) }
+    requires sound { IsSound D.tells (view_of engine.old.core) }
+    requires rounds { engine.old.core.begun.rounds < max_place }
     ensures sound { IsSound D.tells (view_of engine.new.core) }
     // On any disk:
     ensures told { MatchResult result
@@ -36,6 +38,8 @@ pub(crate) fn answer<D: Disk>(
         (λ reply. (g : History) × IsAnswered D.ports_fail begin h g caller act reply (view_of engine.old.core) (view_of engine.new.core))
         (λ why. Advances begin h h (view_of engine.old.core) (view_of engine.new.core)) }
     ensures faults { D.faults engine.old.core.disk ≤ D.faults engine.new.core.disk }
+    // At most one round has ended in it.
+    ensures rounds { engine.new.core.begun.rounds ≤ engine.old.core.begun.rounds + 1 }
     // On any disk a page is told as damaged only where a fetch was made.
     ensures fetched { (no : ℕ) → result ≡ Ok (reply.Damaged no) → D.fetches port.old < D.fetches port.new }
 {
@@ -60,6 +64,10 @@ pub(crate) fn answer<D: Disk>(
             point: engine.count(),
             stat: engine.stat(),
         }),
+        Act::Tick { to } => {
+            let point = engine.count();
+            ticked(engine.tick(alloc, port, to.get()), point)
+        }
     }
 }
 
@@ -70,23 +78,43 @@ fn changed(answer: Result<u64, Refused>) -> Result<Reply, NoMemory>
 {
     match answer {
         Ok(place) => Ok(Reply::Done { place }),
-        Err(
-            Refused::Fault {
-                place,
-                before,
-                after,
-            },
-        ) => Ok(Reply::Fault {
+        Err(why) => unmade(why),
+    }
+}
+
+/// The reply to a tick, which was asked for behind `point` places.
+fn ticked(answer: Result<Ticked, Refused>, point: u64) -> Result<Reply, NoMemory>
+    requires { IfErr answer IsOfTick }
+    ensures { result ≡ tick_reply_of point answer }
+{
+    match answer {
+        Ok(ticked) => Ok(Reply::Ticked(ticked)),
+        Err(Refused::Backwards { clock }) => Ok(Reply::Backwards { point, clock }),
+        Err(why) => unmade(why),
+    }
+}
+
+/// The reply to a change that was refused.
+fn unmade(why: Refused) -> Result<Reply, NoMemory>
+    requires { IsOfChange why }
+    ensures { result ≡ refusal_of why }
+{
+    match why {
+        Refused::Fault {
+            place,
+            before,
+            after,
+        } => Ok(Reply::Fault {
             place,
             before,
             after,
         }),
-        Err(Refused::Stopped { at }) => Ok(Reply::Stopped { at }),
-        Err(Refused::Exhausted { last }) => Ok(Reply::Exhausted { last }),
-        Err(Refused::ReadFault { .. }) => Ok(Reply::ReadFault),
-        Err(Refused::Damaged { name }) => Ok(Reply::Damaged { no: name.no }),
-        Err(Refused::NoMemory) => Err(NoMemory),
-        Err(_) => unreachable!(),
+        Refused::Stopped { at } => Ok(Reply::Stopped { at }),
+        Refused::Exhausted { last } => Ok(Reply::Exhausted { last }),
+        Refused::ReadFault { .. } => Ok(Reply::ReadFault),
+        Refused::Damaged { name } => Ok(Reply::Damaged { no: name.no }),
+        Refused::NoMemory => Err(NoMemory),
+        _ => unreachable!(),
     }
 }
 

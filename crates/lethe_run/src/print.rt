@@ -8,7 +8,7 @@ ghost use Rattle.lethe_run.specs.Printed.{line_text, lines_text, reply_text, pai
 
 use crate::reply::{Line, Reply};
 use lethe_base::{Fields, Key, Kind, NoMemory, Pick, Value};
-use lethe_engine::Stat;
+use lethe_engine::{Stat, Ticked};
 use lethe_recover::OpenWhy;
 use lethe_script::BadLine;
 use std::alloc::Global;
@@ -63,6 +63,10 @@ fn push_reply(text: &mut Vec<u8>, alloc: Global, reply: &Reply) -> Result<(), No
         Reply::Done { place } => {
             text.extend_from_slice(format!(in alloc; "ok {place}")?.as_bytes())?;
         }
+        Reply::Ticked(ticked) => push_ticked(text, alloc, ticked)?,
+        Reply::Backwards { clock, .. } => {
+            text.extend_from_slice(format!(in alloc; "backwards {clock}")?.as_bytes())?;
+        }
         Reply::Got { point, held: None } => {
             text.extend_from_slice(format!(in alloc; "at {point} none")?.as_bytes())?;
         }
@@ -94,6 +98,19 @@ fn push_reply(text: &mut Vec<u8>, alloc: Global, reply: &Reply) -> Result<(), No
         Reply::Damaged { no } => {
             text.extend_from_slice(format!(in alloc; "damaged page {no}")?.as_bytes())?;
         }
+    }
+    Ok(())
+}
+
+fn push_ticked(text: &mut Vec<u8>, alloc: Global, ticked: &Ticked) -> Result<(), NoMemory>
+    ensures { OnOk result (text.new.items ≡ text.old.items ++ reply_text (Reply.Ticked ticked.now)) }
+{
+    let place = ticked.place;
+    let clock = ticked.clock;
+    text.extend_from_slice(format!(in alloc; "ok {place} clock {clock}")?.as_bytes())?;
+    if let Some(certificate) = &ticked.certificate {
+        text.push(b' ')?;
+        text.extend_from_slice(certificate.text(alloc)?.as_bytes())?;
     }
     Ok(())
 }

@@ -1,7 +1,7 @@
 //! What the lines of a script are answered.
 
 use lethe_base::{Key, List, Value};
-use lethe_engine::Stat;
+use lethe_engine::{Stat, Ticked};
 
 /// What one line is answered.
 #[derive(Debug, Drop)]
@@ -10,6 +10,8 @@ pub(crate) enum Reply {
     Done {
         place: u64,
     },
+    /// The clock was moved to its time, with a certificate where that is at least the threshold.
+    Ticked(Ticked),
     /// What a key had behind `point` places.
     Got {
         point: u64,
@@ -38,6 +40,11 @@ pub(crate) enum Reply {
     /// A change isn't made, since the places up to the last one are used up, or the numbers of objects are.
     Exhausted {
         last: u64,
+    },
+    /// A tick isn't made, since behind `point` places the clock, which is this, is ahead of its time.
+    Backwards {
+        point: u64,
+        clock: u64,
     },
     /// A read isn't answered, or a change isn't made, since a fetch of a page failed.
     ReadFault,

@@ -1,9 +1,10 @@
 //! Carrying out a script over a store.
-ghost use Rattle.std.specs.Prelude.{◌≡◌, ◌≤◌, ◌||◌, IsTrue, IfErr, OnOk, if◌then◌else◌};
+ghost use Rattle.std.specs.Prelude.{◌≡◌, ◌≤◌, ◌+◌, ◌||◌, length, sum_by, IsTrue, IfErr, OnOk, if◌then◌else◌};
 ghost use Rattle.std.specs.Io.KnownBytes.{Appends};
 ghost use Rattle.lethe_wire.specs.Causes.{AppendsFront};
 ghost use Rattle.std.specs.List.{list_any};
 ghost use Rattle.lethe_base.specs.Counts.{Rose};
+ghost use Rattle.lethe_base.specs.Limits.{max_place};
 ghost use Rattle.lethe_core.specs.Running.{IsSound};
 ghost use Rattle.lethe_core.specs.View.{view_of};
 ghost use Rattle.lethe_run.specs.Scripts.{ScriptEnds, IsCutBy};
@@ -28,7 +29,8 @@ pub(crate) fn serve_script<K: Sink, D: Disk>(
     phases: List<List<Order>>,
     mut engine: Engine<D>,
 ) -> (Status, D)
-    requires { IsSound D.tells (view_of engine.core) }
+    requires sound { IsSound D.tells (view_of engine.core) }
+    requires rounds { engine.core.begun.rounds + sum_by length phases ≤ max_place }
     ensures ends { ScriptEnds D.tells D.ports_fail (view_of engine.core) (D.seen result.1) (D.faults result.1)
         (K.taken sink.old) (K.taken sink.new) (Rose (K.faults sink.old) (K.faults sink.new)) phases result.0 }
     ensures faults { D.faults engine.core.disk ≤ D.faults result.1 }
@@ -47,7 +49,8 @@ fn serve_phases<K: Sink, D: Disk>(
     mut engine: Engine<D>,
     mut port: D::Port,
 ) -> (Status, D)
-    requires { IsSound D.tells (view_of engine.core) }
+    requires sound { IsSound D.tells (view_of engine.core) }
+    requires rounds { engine.core.begun.rounds + sum_by length phases ≤ max_place }
     ensures ends { ScriptEnds D.tells D.ports_fail (view_of engine.core) (D.seen result.1) (D.faults result.1)
         (K.taken sink.old) (K.taken sink.new) (Rose (K.faults sink.old) (K.faults sink.new)) phases result.0 }
     ensures faults { D.faults engine.core.disk ≤ D.faults result.1 }
@@ -114,8 +117,12 @@ fn is_refusal(line: &Line) -> bool
 {
     let Line::Answer { reply, .. } = line;
     match reply {
-        Reply::Done { .. } | Reply::Got { .. } | Reply::Scanned { .. } | Reply::Counted { .. } =>
-            false,
+        Reply::Done { .. }
+        | Reply::Ticked(_)
+        | Reply::Backwards { .. }
+        | Reply::Got { .. }
+        | Reply::Scanned { .. }
+        | Reply::Counted { .. } => false,
         Reply::Fault { .. }
         | Reply::Stopped { .. }
         | Reply::Exhausted { .. }

@@ -1,6 +1,7 @@
 //! Carrying out the orders of a phase.
-ghost use Rattle.std.specs.Prelude.{◌≡◌, ◌≤◌, List, [], ◌++◌, IsTrue};
+ghost use Rattle.std.specs.Prelude.{◌≡◌, ◌≤◌, ◌+◌, List, [], ◌++◌, length, IsTrue};
 ghost use Rattle.lethe_base.specs.History.{History};
+ghost use Rattle.lethe_base.specs.Limits.{max_place};
 ghost use Rattle.lethe_core.specs.Running.{IsSound};
 ghost use Rattle.lethe_core.specs.View.{view_of};
 ghost use Rattle.lethe_script.specs.declared.order.Order.{Order};
@@ -33,13 +34,15 @@ pub(crate) fn serve_phase<D: Disk>(
     port: &mut D::Port,
     orders: Vec<Order>,
 ) -> Served
-    requires { IsSound D.tells (view_of engine.old.core) }
+    requires sound { IsSound D.tells (view_of engine.old.core) }
+    requires rounds { engine.old.core.begun.rounds + length orders.items ≤ max_place }
     ensures sound { IsSound D.tells (view_of engine.new.core) }
     ensures served { (part : List Order) × (rest : List Order) × (orders.items ≡ part ++ rest) × (IsTrue result.whole → rest ≡ [])
         × AreTold D.ports_fail (D.faults engine.old.core.disk) (D.faults engine.new.core.disk) part (standing_of (view_of engine.old.core)) result.lines.items (standing_of (view_of engine.new.core))
         × (D.tells → (begin : Start) (from : Point) (start : History) → IsOn begin from start (view_of engine.old.core)
         → (h : History) × IsPhase D.ports_fail begin start h part result.lines.items (view_of engine.old.core) (view_of engine.new.core)) }
     ensures faults { D.faults engine.old.core.disk ≤ D.faults engine.new.core.disk }
+    ensures rounds { engine.new.core.begun.rounds ≤ engine.old.core.begun.rounds + length orders.items }
 {
     let Ok(mut lines) = Vec::with_capacity(alloc, orders.len()) else {
         return Served {

@@ -15,15 +15,15 @@ use Rattle.std.proofs.lemmas.List.Splits.{slice_split_at, slice_split_none}
 use Rattle.hex.specs.Hex.{lower_digits, encode_with, encode_lower}
 use Rattle.hex.proofs.HexLemmas.{decode_of-encode_lower}
 use Rattle.lethe_base.specs.Keys.{Bytes}
-use Rattle.lethe_base.specs.Limits.{IsKey, IsValue}
+use Rattle.lethe_base.specs.Limits.{IsKey, IsValue, max_time}
 use Rattle.lethe_base.specs.Numbers.{IsBytes}
 use Rattle.lethe_script.specs.declared.order.Act.{Act}
-use Rattle.lethe_script.specs.declared.order.Act.TheVariants.{Put, Get, Scan, Delete, Stat}
+use Rattle.lethe_script.specs.declared.order.Act.TheVariants.{Put, Get, Scan, Delete, Stat, Tick}
 use Rattle.lethe_script.specs.declared.order.Order.{Order}
 use Rattle.lethe_script.specs.declared.refused.Why.TheVariants.{Byte}
 use Rattle.lethe_base.specs.Results.{◌>>=◌}
-use Rattle.lethe_script.specs.Fields.{is_allowed, is_field, fields, caller_of, is_lower_digit, digit_bytes, field_bytes, text_of, key_of, value_of}
-use Rattle.lethe_script.specs.Grammar.{lines, put_fields, put_of, get_of, scan_fields, scan_of, del_of, stat_of, act_of, caller_and_act, request_of, line_of, order_of, orders_from, script_of}
+use Rattle.lethe_script.specs.Fields.{is_allowed, is_field, fields, caller_of, is_lower_digit, digit_bytes, field_bytes, text_of, key_of, time_of, value_of}
+use Rattle.lethe_script.specs.Grammar.{lines, put_fields, put_of, get_of, scan_fields, scan_of, del_of, stat_of, tick_of, act_of, caller_and_act, request_of, line_of, order_of, orders_from, script_of}
 use Rattle.lethe_script.specs.Spelling.{is_plain, marked, field_text, act_fields, spelling, IsWritableAct, IsWritable, IsNumbered}
 use Rattle.lethe_script.proofs.Numbers.{number_again}
 use Rattle.lethe_script.proofs.Lines.{orders_from-cons, lines_some}
@@ -179,12 +179,13 @@ value_again field value is v =
     rw (is, short) refl
 
 act_again : (act : Act) → IsWritableAct act → act_of (act_fields act) ≡ Ok act
-unfolding act_of put_of put_fields get_of scan_of scan_fields del_of stat_of
+unfolding act_of put_of put_fields get_of scan_of scan_fields del_of stat_of tick_of time_of
 act_again (Put key dkey value) w = rw (key_again (field_text key) key (text_again key w.0.1) w.0.0, number_again (decimal dkey) dkey w.1 refl, value_again (field_text value) value (text_again value w.2.1) w.2.0) refl
 act_again (Get key) w = rw (key_again (field_text key) key (text_again key w.1) w.0) refl
 act_again (Scan lo hi) w = rw (key_again (field_text lo) lo (text_again lo w.0.1) w.0.0, key_again (field_text hi) hi (text_again hi w.1.1) w.1.0) refl
 act_again (Delete key) w = rw (key_again (field_text key) key (text_again key w.1) w.0) refl
 act_again Stat w = refl
+act_again (Tick to) w = rw (number_again (decimal to) to (omega (arith, w)) refl, le-leb to max_time w) refl
 
 request_again : (act : Act) → IsWritableAct act → request_of (decimal 1 ∷ act_fields act) ≡ Ok (Some (1, act))
 unfolding request_of caller_and_act caller_of
@@ -196,6 +197,7 @@ act_texts (Get key) w = (command_field _ (lit< tt) refl, (text_field key w.1, tt
 act_texts (Scan lo hi) w = (command_field _ (lit< tt) refl, (text_field lo w.0.1, (text_field hi w.1.1, tt)))
 act_texts (Delete key) w = (command_field _ (lit< tt) refl, (text_field key w.1, tt))
 act_texts Stat w = (command_field _ (lit< tt) refl, tt)
+act_texts (Tick to) w = (command_field _ (lit< tt) refl, (decimal_field to (omega (arith, w)), tt))
 
 -- the line of an order, without its LF
 abbrev line_text : Order → Bytes

@@ -7,6 +7,7 @@ use Rattle.std.specs.Str.Parse.{digits_value}
 use Rattle.std.specs.Fmt.{decimal}
 use Rattle.hex.specs.Hex.{decode_of}
 use Rattle.lethe_base.specs.Keys.{Bytes}
+use Rattle.lethe_base.specs.Limits.{max_time}
 use Rattle.lethe_base.specs.Results.{◌>>=◌}
 use Rattle.lethe_script.specs.declared.refused.Why.{Why}
 use Rattle.lethe_script.specs.declared.refused.Why.TheVariants.{Caller, Number, Key, Value}
@@ -35,6 +36,12 @@ caller_of field = if bytes_eq field (codes "1") then Ok 1 else Err Caller
 unfoldable pub number_of : Bytes → Result ℕ Why
 number_of field = let n = digits_value 10 field in
     if bytes_eq field (decimal n) && nat_lt n (2 ^ 64) then Ok n else Err Number
+
+-- a time: a number that a clock may show
+unfoldable pub time_of : Bytes → Result ℕ Why
+time_of field = do
+  n ← number_of field
+  if nat_le n max_time then Ok n else Err Number
 
 -- a digit of a hexadecimal number, in lower case
 abbrev pub is_lower_digit : ℕ → Bool

@@ -5,13 +5,13 @@ use Rattle.std.specs.Str.{bytes_eq}
 use Rattle.std.specs.Str.Lines.{strip_carriage_return}
 use Rattle.lethe_base.specs.Keys.{Bytes}
 use Rattle.lethe_script.specs.declared.order.Act.{Act}
-use Rattle.lethe_script.specs.declared.order.Act.TheVariants.{Put, Get, Scan, Delete, Stat}
+use Rattle.lethe_script.specs.declared.order.Act.TheVariants.{Put, Get, Scan, Delete, Stat, Tick}
 use Rattle.lethe_script.specs.declared.order.Order.{Order}
 use Rattle.lethe_script.specs.declared.refused.BadLine.{BadLine}
 use Rattle.lethe_script.specs.declared.refused.Why.{Why}
 use Rattle.lethe_script.specs.declared.refused.Why.TheVariants.{Size, Byte, Command, Count}
 use Rattle.lethe_base.specs.Results.{◌>>=◌}
-use Rattle.lethe_script.specs.Fields.{fields, is_allowed, is_comment, caller_of, key_of, number_of, value_of}
+use Rattle.lethe_script.specs.Fields.{fields, is_allowed, is_comment, caller_of, key_of, number_of, time_of, value_of}
 
 unfoldable pub put_fields : Bytes → Bytes → Bytes → Result Act Why
 put_fields key dkey value = do
@@ -55,6 +55,13 @@ unfoldable pub stat_of : List Bytes → Result Act Why
 stat_of [] = Ok Stat
 stat_of _ = Err Count
 
+-- the fields behind `tick`
+unfoldable pub tick_of : List Bytes → Result Act Why
+tick_of (to ∷ []) = do
+  t ← time_of to
+  Ok (Tick t)
+tick_of _ = Err Count
+
 -- the fields behind the caller
 unfoldable pub act_of : List Bytes → Result Act Why
 act_of [] = Err Command
@@ -63,7 +70,8 @@ act_of (command ∷ rest) =
     if bytes_eq command (codes "get") then get_of rest else
     if bytes_eq command (codes "scan") then scan_of rest else
     if bytes_eq command (codes "del") then del_of rest else
-    if bytes_eq command (codes "stat") then stat_of rest else Err Command
+    if bytes_eq command (codes "stat") then stat_of rest else
+    if bytes_eq command (codes "tick") then tick_of rest else Err Command
 
 -- the first field of a line, and those behind it
 unfoldable pub caller_and_act : Bytes → List Bytes → Result (ℕ × Act) Why

@@ -1,13 +1,13 @@
 -- How an order is written as a line.
-use Rattle.std.specs.Prelude.{◌≡◌, ℕ, ◌+◌, ◌^◌, ◌<◌, Bool, ◌&&◌, not, List, [], ◌∷◌, ◌++◌, length, slice_index, nat_le, ◌==◌, if◌then◌else◌, codes}
+use Rattle.std.specs.Prelude.{◌≡◌, ℕ, ◌+◌, ◌^◌, ◌<◌, ◌≤◌, Bool, ◌&&◌, not, List, [], ◌∷◌, ◌++◌, length, slice_index, nat_le, ◌==◌, if◌then◌else◌, codes}
 use Rattle.std.specs.List.{join_with_byte, list_all}
 use Rattle.std.specs.Fmt.{decimal}
 use Rattle.hex.specs.Hex.{encode_lower}
 use Rattle.lethe_base.specs.Keys.{Bytes}
-use Rattle.lethe_base.specs.Limits.{IsKey, IsValue}
+use Rattle.lethe_base.specs.Limits.{IsKey, IsValue, max_time}
 use Rattle.lethe_base.specs.Numbers.{IsBytes}
 use Rattle.lethe_script.specs.declared.order.Act.{Act}
-use Rattle.lethe_script.specs.declared.order.Act.TheVariants.{Put, Get, Scan, Delete, Stat}
+use Rattle.lethe_script.specs.declared.order.Act.TheVariants.{Put, Get, Scan, Delete, Stat, Tick}
 use Rattle.lethe_script.specs.declared.order.Order.{Order}
 
 -- a byte that prints and is no space
@@ -33,6 +33,7 @@ act_fields (Get key) = codes "get" ∷ field_text key ∷ []
 act_fields (Scan lo hi) = codes "scan" ∷ field_text lo ∷ field_text hi ∷ []
 act_fields (Delete key) = codes "del" ∷ field_text key ∷ []
 act_fields Stat = codes "stat" ∷ []
+act_fields (Tick to) = codes "tick" ∷ decimal to ∷ []
 
 -- the line of an order, with a space between its fields and the LF that ends it
 abbrev pub spelling : Order → Bytes
@@ -51,6 +52,7 @@ IsWritableAct (Get key) = IsWritableKey key
 IsWritableAct (Scan lo hi) = IsWritableKey lo × IsWritableKey hi
 IsWritableAct (Delete key) = IsWritableKey key
 IsWritableAct Stat = Unit {0}
+IsWritableAct (Tick to) = to ≤ max_time
 
 -- an order that a line can ask for
 pub record IsWritable (order : Order) : Type 0 where

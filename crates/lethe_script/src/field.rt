@@ -1,12 +1,13 @@
 //! The fields of a line.
 ghost use Rattle.std.specs.Prelude.{◌≡◌, ◌↔◌, ◌∷◌, map, take, IsTrue, IfOk};
 ghost use Rattle.std.specs.List.{list_all};
-ghost use Rattle.lethe_script.specs.Fields.{number_of, text_of, key_of, value_of, fields, is_comment, caller_of, is_lower_digit};
+ghost use Rattle.lethe_script.specs.Fields.{number_of, time_of, text_of, key_of, value_of, fields, is_comment, caller_of, is_lower_digit};
 ghost use Rattle.lethe_script.specs.Reading.{GivesLine, BeginsNumber};
 
 use crate::refused::{LineRefused, Why};
 use hex::FromHexError;
 use lethe_base::{Key, MAX_KEY, MAX_VALUE, Value};
+use lethe_time::Time;
 use std::alloc::{AllocError, Global};
 use std::str;
 
@@ -55,6 +56,17 @@ pub fn read_number(field: &[u8]) -> Result<u64, Why>
             Err(_) => Err(Why::Number),
         },
         Err(_) => Err(Why::Number),
+    }
+}
+
+/// The time that a field of a line is: a number that a clock may show.
+#[tactic(auto, unfolding(crate::specs::Fields::time_of))]
+pub(crate) fn time(field: &[u8]) -> Result<Time, LineRefused>
+    ensures { GivesLine (λ time. time) result (time_of field.now) }
+{
+    match Time::new(read_number(field)?) {
+        Some(time) => Ok(time),
+        None => Err(LineRefused::Bad(Why::Number)),
     }
 }
 

@@ -2,10 +2,10 @@
 ghost use Rattle.std.specs.Prelude.{◌≡◌, map};
 ghost use Rattle.std.specs.List.{list_all};
 ghost use Rattle.lethe_script.specs.Fields.{is_allowed};
-ghost use Rattle.lethe_script.specs.Grammar.{line_of, request_of, caller_and_act, act_of, put_of, put_fields, get_of, scan_of, scan_fields, del_of, stat_of};
+ghost use Rattle.lethe_script.specs.Grammar.{line_of, request_of, caller_and_act, act_of, put_of, put_fields, get_of, scan_of, scan_fields, del_of, stat_of, tick_of};
 ghost use Rattle.lethe_script.specs.Reading.{GivesLine};
 
-use crate::field::{caller, fields_of, is_comment, key, read_number, value};
+use crate::field::{caller, fields_of, is_comment, key, read_number, time, value};
 use crate::order::Act;
 use crate::refused::{LineRefused, Why};
 use std::alloc::Global;
@@ -64,6 +64,7 @@ fn act(alloc: Global, fields: &[&[u8]]) -> Result<Act, LineRefused>
         [command, rest @ ..] if *command == b"scan".as_slice() => scan(alloc, rest),
         [command, rest @ ..] if *command == b"del".as_slice() => delete(alloc, rest),
         [command, rest @ ..] if *command == b"stat".as_slice() => stat(rest),
+        [command, rest @ ..] if *command == b"tick".as_slice() => tick(rest),
         _ => Err(LineRefused::Bad(Why::Command)),
     }
 }
@@ -147,6 +148,17 @@ fn stat(fields: &[&[u8]]) -> Result<Act, LineRefused>
 {
     match fields {
         [] => Ok(Act::Stat),
+        _ => Err(LineRefused::Bad(Why::Count)),
+    }
+}
+
+/// What the fields behind `tick` ask for.
+#[tactic(auto, unfolding(crate::specs::Grammar::tick_of))]
+fn tick(fields: &[&[u8]]) -> Result<Act, LineRefused>
+    ensures { GivesLine (λ act. act) result (tick_of (map (λ field. field.now) fields.now)) }
+{
+    match fields {
+        [to] => Ok(Act::Tick { to: time(to)? }),
         _ => Err(LineRefused::Bad(Why::Count)),
     }
 }

@@ -1,6 +1,7 @@
 //! What a script asks for.
 
 use lethe_base::{Key, List, Value};
+use lethe_time::Time;
 
 /// What one line asks for.
 #[derive(Debug, Drop)]
@@ -15,6 +16,8 @@ pub enum Act {
     Delete { key: Key },
     /// Tell of the store as a whole.
     Stat,
+    /// Move the clock to a time.
+    Tick { to: Time },
 }
 
 /// What one line asks for, and who asks.

@@ -47,6 +47,7 @@ fn act_shown(alloc: Global, act: &Act) -> Result<String, Fail> {
             Ok(format!(in alloc; "del {key}")?)
         }
         Act::Stat => Ok(format!(in alloc; "stat")?),
+        Act::Tick { to } => Ok(format!(in alloc; "tick {}", to.get())?),
     }
 }
 
@@ -94,6 +95,10 @@ const READ: &[(&[u8], &[u8])] = &[
     (b"#x\n1 get !~\n#1 get a", b"2:1 get !~;"),
     (b"\r\n\n 1 get a\r\n", b"3:1 get a;"),
     (b"1 stat\n 1   stat ", b"1:1 stat;2:1 stat;"),
+    (
+        b"1 tick 0\n1 tick 4611686018427387904",
+        b"1:1 tick 0;2:1 tick 4611686018427387904;",
+    ),
 ];
 
 #[test]
@@ -126,7 +131,11 @@ const BAD: &[(&[u8], u64, &[u8])] = &[
     (b"9 frob\n", 1, b"caller"),
     (b"1 frob\n", 1, b"command"),
     (b"1\n", 1, b"command"),
-    (b"1 tick 5\n", 1, b"command"),
+    (b"1 erase 1 2\n", 1, b"command"),
+    (b"1 tick\n", 1, b"count"),
+    (b"1 tick 5 5\n", 1, b"count"),
+    (b"1 tick 4611686018427387905\n", 1, b"number"),
+    (b"1 tick x\n", 1, b"number"),
     (b"1 PUT a 5 x\n", 1, b"command"),
     (b"1 # get a\n", 1, b"command"),
     (b"1 frob\n2 get a\n", 1, b"command"),

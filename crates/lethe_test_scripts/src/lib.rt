@@ -14,4 +14,6 @@ mod refusals;
 #[cfg(test)]
 mod scripts;
 #[cfg(test)]
+mod ticks;
+#[cfg(test)]
 mod unopened;

@@ -5,9 +5,13 @@ use std::alloc::Global;
 use std::test::Fail;
 
 /// Bytes that are no script, and what is said of them.
-const BAD_SCRIPTS: [(&[u8], &str); 21] = [
+const BAD_SCRIPTS: [(&[u8], &str); 25] = [
     (b"1 frob\n", "line 1 bad command\n"),
-    (b"1 tick 5\n", "line 1 bad command\n"),
+    (b"1 erase 1 2\n", "line 1 bad command\n"),
+    (b"1 tick\n", "line 1 bad count\n"),
+    (b"1 tick 5 5\n", "line 1 bad count\n"),
+    (b"1 tick 4611686018427387905\n", "line 1 bad number\n"),
+    (b"1 tick 05\n", "line 1 bad number\n"),
     (b"1\n", "line 1 bad command\n"),
     (b"2 get a\n", "line 1 bad caller\n"),
     (b"phase\n", "line 1 bad caller\n"),

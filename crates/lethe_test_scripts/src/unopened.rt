@@ -81,8 +81,8 @@ fn bytes_at(alloc: Global, disk: &mut MemDisk, name: Name) -> Result<Vec<u8>, Fa
     }
 }
 
-// Each name of what is there, with its bytes.
-fn objects_of(alloc: Global, disk: &mut MemDisk) -> Result<Vec<(Name, Vec<u8>)>, Fail> {
+/// Each name of what is there, with its bytes.
+pub fn objects_of(alloc: Global, disk: &mut MemDisk) -> Result<Vec<(Name, Vec<u8>)>, Fail> {
     let mut objects = Vec::new(alloc);
     for name in names_of(alloc, disk)? {
         objects.push((name, bytes_at(alloc, disk, name)?))?;

@@ -1,23 +1,26 @@
-use Rattle.std.proofs.Common.{rules, ◌≡◌, ◌||◌, ◌++◌, ◌∷◌, [], refl, sym, ap, ◌∙◌, subst, arith}
-use Rattle.std.specs.List.{list_any}
+use Rattle.std.proofs.Common.{rules, ◌≡◌, ◌||◌, ◌++◌, length, ◌∷◌, [], refl, sym, ap, ◌∙◌, subst, arith}
+use Rattle.std.specs.List.{list_any, sum_by}
 use Rattle.std.proofs.lemmas.List.{map-id}
+use Rattle.std.proofs.lemmas.List.Sums.{sum_by-append, sum_by-cons, sum_by_push}
 use Rattle.std.proofs.lemmas.Iterator.Consumers.{YieldsList-end}
 use Rattle.std.proofs.lemmas.Iterator.Adapters.{YieldsList-from_vec}
 use Rattle.lethe_base.specs.Counts.{Rose}
 use Rattle.lethe_core.specs.View.{view_of}
+use Rattle.lethe_script.specs.declared.order.Order.{Order}
 use Rattle.lethe_run.specs.Scripts.{ScriptEnds}
 use Rattle.lethe_run.specs.Transcript.{is_refusal}
 use Rattle.lethe_run.proofs.Endings.{Phase, Before, before_any, next_so_far, cut_ends, all_ends}
 use Rattle.lethe_run.proofs.Phases.{appends_none, whole_text, front_text, refusal_more}
-use Rattle.lethe_run.proofs.Runs.{taken_front}
+use Rattle.lethe_run.proofs.Runs.{taken_next}
 use Rattle.lethe_run.proofs.script.serve_phases.Goals as goal
 
 pub loop-orders-init : goal.loop-orders-init
 loop-orders-init g c =
     record {
-      sound = c.requires;
+      sound = c.requires.sound;
       sink = omega arith;
       faults = omega arith;
+      rounds = omega arith;
       lines = (
         [],
         appends_none (g.K.Sink.taken c.args.sink.now),
@@ -41,6 +44,12 @@ loop-orders-preserved g c =
       sound = c.serve_phase-served.ensures.sound;
       sink = let a = c.loop-orders.invariant.sink in let b = c.print_phase.ensures.faults in omega (arith, a, b);
       faults = let a = c.loop-orders.invariant.faults in let b = c.serve_phase-served.ensures.faults in omega (arith, a, b);
+      rounds =
+          let before = c.loop-orders.invariant.rounds in
+          let step = c.serve_phase-served.ensures.rounds in
+          let size = ap length c.into_vec.ensures in
+          let more = sum_by_push (length {A = Order}) c.loop-orders.yielded c.in-Some.orders in
+          omega (arith, before, step, size, more);
       lines = (
         so_far.0 ++ more ∷ [],
         whole_text (g.K.Sink.taken c.args.sink.now) (g.K.Sink.taken c.loop-orders.sink) (g.K.Sink.taken c.print_phase.new.sink) so_far.0 more so_far.1 c.in_default.ensures.ok.1,
@@ -69,7 +78,7 @@ returns-in-Err-clause-ends g c =
     let low = c.loop-orders.invariant.sink in
     let rest = c.next.new.self.rest.items in
     let are : c.args.phases ≡ c.loop-orders.yielded ++ c.in-Some.orders ∷ rest =
-    sym c.into_vec-orders-items.ensures ∙ sym c.into_iter-orders-iterator.ensures.into_iter_gives.0 ∙ taken_front c.into_iter-orders-iterator.result c.loop-orders.yielded c.loop-orders.orders-iterator c.loop-orders.yielded_by ∙ ap (λ r. c.loop-orders.yielded ++ r) c.in-Some.ensures.steps.0 in
+    taken_next c.args.phases c.into_iter-orders-iterator.result c.loop-orders.yielded c.loop-orders.orders-iterator c.in-Some.orders rest (c.into_iter-orders-iterator.ensures.into_iter_gives.0 ∙ c.into_vec-orders-items.ensures) c.loop-orders.yielded_by c.in-Some.ensures.steps.0 in
     subst (λ d. ScriptEnds g.D.Disk.tells g.D.Disk.ports_fail old (g.D.Disk.seen d) (g.D.Disk.faults d) t0 t2 (Rose s0 s2) c.args.phases c.in-Err.status) (sym c.into_disk.ensures)
     (cut_ends g.D.Disk.tells g.D.Disk.ports_fail old new (λ told. laws.itself told c.serve_phase-served.new.engine.core.disk) mid c.loop-orders.invariant.faults c.serve_phase-served.ensures.faults c.args.phases c.loop-orders.yielded rest c.in-Some.orders are so_far.0 more
     whole so_far.3 phase t0 t2 (Rose s1 s2) (Rose s0 s2) c.in-Err.status (λ rose. omega (arith, rose, low))
@@ -92,3 +101,16 @@ returns-clause-ends g c =
     (subst (λ st. ScriptEnds g.D.Disk.tells g.D.Disk.ports_fail old mid.disk mid.faults t0 t1 (Rose s0 s1) c.args.phases st) (sym c.status_of.ensures)
     (all_ends g.D.Disk.tells g.D.Disk.ports_fail old mid (λ told. laws.itself told c.loop-orders.engine.core.disk) c.args.phases so_far.0 t0 t1 (Rose s0 s1) c.loop-orders.refused
     (subst (λ p. Before g.D.Disk.tells g.D.Disk.ports_fail old mid p so_far.0) whole so_far.3) so_far.1 so_far.2))
+
+pub serve_phase-served-requires-clause-rounds : goal.serve_phase-served-requires-clause-rounds
+serve_phase-served-requires-clause-rounds g c =
+    let orders = c.in-Some.orders in
+    let rest = c.next.new.self.rest.items in
+    let are : c.args.phases ≡ c.loop-orders.yielded ++ orders ∷ rest =
+    taken_next c.args.phases c.into_iter-orders-iterator.result c.loop-orders.yielded c.loop-orders.orders-iterator orders rest (c.into_iter-orders-iterator.ensures.into_iter_gives.0 ∙ c.into_vec-orders-items.ensures) c.loop-orders.yielded_by c.in-Some.ensures.steps.0 in
+    let all = ap (sum_by (length {A = Order})) are ∙ sum_by-append (length {A = Order}) c.loop-orders.yielded (orders ∷ rest) in
+    let first = sum_by-cons (length {A = Order}) orders rest in
+    let size = ap length c.into_vec.ensures in
+    let so_far = c.loop-orders.invariant.rounds in
+    let most = c.requires.rounds in
+    omega (arith, all, first, size, so_far, most)

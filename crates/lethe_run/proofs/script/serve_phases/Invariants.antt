@@ -1,4 +1,5 @@
-use Rattle.std.proofs.Common.{◌≡◌, ◌≤◌, List}
+use Rattle.std.proofs.Common.{◌≡◌, ◌≤◌, ◌+◌, List, length}
+use Rattle.std.specs.List.{sum_by}
 use Rattle.std.specs.Io.KnownBytes.{Appends}
 use Rattle.lethe_core.specs.Running.{IsSound}
 use Rattle.lethe_core.specs.View.{view_of}
@@ -16,6 +17,7 @@ invariant-loop-orders g l =
       sound : IsSound g.D.Disk.tells now;
       sink : g.K.Sink.faults l.fn.sink ≤ g.K.Sink.faults l.sink;
       faults : old.faults ≤ now.faults;
+      rounds : now.rounds ≤ old.rounds + sum_by length l.yielded;
       lines : (lines : List (List Line)) × Appends (g.K.Sink.taken l.fn.sink) (g.K.Sink.taken l.sink) (text_of lines) × (has_refusal lines ≡ l.refused)
           × Before g.D.Disk.tells g.D.Disk.ports_fail old now l.yielded lines;
     }

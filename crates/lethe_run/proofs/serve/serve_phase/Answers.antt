@@ -1,15 +1,15 @@
-use Rattle.std.proofs.Common.{rules, ◌≡◌, ◌+◌, true, cond, ◌∷◌, ◌++◌, refl, sym, [], ap, subst, ◌∙◌, arith, append-nil}
+use Rattle.std.proofs.Common.{rules, ◌≡◌, ◌+◌, true, cond, ◌∷◌, ◌++◌, length, refl, sym, [], ap, subst, ◌∙◌, arith, append-nil}
 use Rattle.lethe_run.specs.declared.reply.Line.TheVariants.{Answer}
 use mathlib.Core.Bool.{false≢true}
 use Rattle.lethe_core.specs.View.{view_of}
 use Rattle.lethe_run.specs.Anywhere.{AreTold, standing_of}
 use Rattle.lethe_run.specs.Serving.{IsPhase}
 use Rattle.std.specs.Prelude.{is_ok, vec_len}
-use Rattle.std.proofs.lemmas.List.{length_push, map-id}
+use Rattle.std.proofs.lemmas.List.{length-append, length_push, map-id}
 use Rattle.std.proofs.lemmas.Iterator.Consumers.{YieldsList-end}
 use Rattle.std.proofs.lemmas.Iterator.Adapters.{YieldsList-from_vec}
 use Rattle.lethe_run.proofs.Anywhere.{told_more, told_still}
-use Rattle.lethe_run.proofs.Runs.{taken_front}
+use Rattle.lethe_run.proofs.Runs.{taken_next}
 use Rattle.lethe_run.proofs.Serving.{IsBuilt, built_start, built_more, built_still, phase_of}
 use Rattle.lethe_run.proofs.serve.serve_phase.Goals as goal
 
@@ -34,13 +34,14 @@ loop-order-init g c =
     let view = view_of c.args.engine.now.core in
     let Ports = g.D.Disk.ports_fail in
     record {
-      sound = c.requires;
+      sound = c.requires.sound;
       told = subst (λ l. AreTold Ports view.faults view.faults [] (standing_of view) l (standing_of view)) (sym c.in-Ok.ensures.items) refl;
       served = λ told begin from start on. (
         start,
         subst (λ l. IsBuilt Ports begin start [] l start view view) (sym c.in-Ok.ensures.items) (built_start Ports begin start view),
       );
       faults = omega arith;
+      rounds = omega arith;
       room = search rules;
       len = search rules;
     }
@@ -67,6 +68,11 @@ loop-order-preserved g c =
                 (built_more Ports begin from start so_far.0 c.loop-order.yielded c.loop-order.lines.items old mid new c.answer.ensures.faults on so_far.1 answered.0 order reply answered.1),
           );
       faults = let a = c.loop-order.invariant.faults in let b = c.answer.ensures.faults in omega (arith, a, b);
+      rounds =
+          let before = c.loop-order.invariant.rounds in
+          let step = c.answer.ensures.rounds in
+          let more = length_push c.loop-order.yielded order in
+          omega (arith, before, step, more);
       room = let room = c.loop-order.invariant.room in let more = c.push.ensures.capacity in omega (arith, room, more);
       len =
           let ok : is_ok c.push.result ≡ true = search rules in
@@ -81,7 +87,7 @@ returns-in-Err-clause-served g c =
     let order = c.in-Some.order in
     let Ports = g.D.Disk.ports_fail in
     let whole : c.args.orders.items ≡ c.loop-order.yielded ++ order ∷ c.next.new.self.rest.items =
-    sym c.into_iter-order-iterator.ensures.into_iter_gives.0 ∙ taken_front c.into_iter-order-iterator.result c.loop-order.yielded c.loop-order.order-iterator c.loop-order.yielded_by ∙ ap (λ r. c.loop-order.yielded ++ r) c.in-Some.ensures.steps.0 in (
+    taken_next c.args.orders.items c.into_iter-order-iterator.result c.loop-order.yielded c.loop-order.order-iterator order c.next.new.self.rest.items c.into_iter-order-iterator.ensures.into_iter_gives.0 c.loop-order.yielded_by c.in-Some.ensures.steps.0 in (
       c.loop-order.yielded,
       order ∷ c.next.new.self.rest.items,
       whole,
@@ -112,3 +118,33 @@ returns-clause-served g c =
           let so_far = c.loop-order.invariant.served told begin from start on in
           (so_far.0, phase_of g.D.Disk.ports_fail begin from start so_far.0 c.loop-order.yielded c.loop-order.lines.items old mid on so_far.1),
     )
+
+pub answer-requires-clause-rounds : goal.answer-requires-clause-rounds
+answer-requires-clause-rounds g c =
+    let order = c.in-Some.order in
+    let rest = c.next.new.self.rest.items in
+    let whole : c.args.orders.items ≡ c.loop-order.yielded ++ order ∷ rest =
+    taken_next c.args.orders.items c.into_iter-order-iterator.result c.loop-order.yielded c.loop-order.order-iterator order rest c.into_iter-order-iterator.ensures.into_iter_gives.0 c.loop-order.yielded_by c.in-Some.ensures.steps.0 in
+    let all = ap length whole ∙ length-append c.loop-order.yielded (order ∷ rest) in
+    let so_far = c.loop-order.invariant.rounds in
+    let most = c.requires.rounds in
+    omega (arith, all, so_far, most)
+
+pub returns-in-Err-clause-rounds : goal.returns-in-Err-clause-rounds
+returns-in-Err-clause-rounds g c =
+    let order = c.in-Some.order in
+    let rest = c.next.new.self.rest.items in
+    let whole : c.args.orders.items ≡ c.loop-order.yielded ++ order ∷ rest =
+    taken_next c.args.orders.items c.into_iter-order-iterator.result c.loop-order.yielded c.loop-order.order-iterator order rest c.into_iter-order-iterator.ensures.into_iter_gives.0 c.loop-order.yielded_by c.in-Some.ensures.steps.0 in
+    let all = ap length whole ∙ length-append c.loop-order.yielded (order ∷ rest) in
+    let so_far = c.loop-order.invariant.rounds in
+    let step = c.answer.ensures.rounds in
+    omega (arith, all, so_far, step)
+
+pub returns-clause-rounds : goal.returns-clause-rounds
+returns-clause-rounds g c =
+    let gives = c.into_iter-order-iterator.ensures.into_iter_gives in
+    let ended = YieldsList-end (YieldsList-from_vec c.args.orders.items gives.0 (gives.1 ∙ search rules)) c.loop-order.yielded c.loop-order.order-iterator c.loop-order.yielded_by c.next.result c.next.new.self c.in-None.is c.next.ensures.steps in
+    let all = ap length (sym ended.0 ∙ map-id c.loop-order.yielded) in
+    let so_far = c.loop-order.invariant.rounds in
+    omega (arith, all, so_far)

@@ -1,4 +1,4 @@
-use Rattle.std.proofs.Common.{◌≡◌, ◌≤◌, length}
+use Rattle.std.proofs.Common.{◌≡◌, ◌≤◌, ◌+◌, length}
 use Rattle.std.specs.Prelude.{vec_len, vec_capacity}
 use Rattle.lethe_base.specs.History.{History}
 use Rattle.lethe_core.specs.Running.{IsSound}
@@ -19,6 +19,7 @@ invariant-loop-order g l =
       told : AreTold g.D.Disk.ports_fail old.faults now.faults l.yielded (standing_of old) l.lines.items (standing_of now);
       served : g.D.Disk.tells → (begin : Start) (from : Point) (start : History) → IsOn begin from start old → (h : History) × IsBuilt g.D.Disk.ports_fail begin start l.yielded l.lines.items h old now;
       faults : old.faults ≤ now.faults;
+      rounds : now.rounds ≤ old.rounds + length l.yielded;
       room : length l.fn.orders.items ≤ vec_capacity l.lines;
       len : vec_len l.lines ≡ length l.yielded;
     }

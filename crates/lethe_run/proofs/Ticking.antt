@@ -1,0 +1,220 @@
+-- A tick is answered.
+use Rattle.std.proofs.Common.{◌≡◌, ◌⊎◌, inl, inr, ◌≤◌, ◌<◌, ℕ, suc, ◌+◌, [], ◌∷◌, length, take, Option, Some, None, Result, Ok, Err, refl, sym, ap, ◌∙◌, subst, arith}
+use Rattle.std.specs.Prelude.{IfErr, IfOk, IfSome, IsErrOf, OnOk, option_map}
+use Rattle.std.specs.Result.{result_err}
+use Rattle.std.proofs.lemmas.List.{take_all}
+use Rattle.std.proofs.lemmas.Option.{IfSome_then}
+use Rattle.lethe_base.specs.History.{AreDone, Change, History, State, after, change_at}
+use Rattle.lethe_base.specs.Limits.{max_place}
+use Rattle.lethe_base.specs.declared.call.Call.{Call}
+use Rattle.lethe_base.specs.declared.call.Call.TheVariants as calls
+use Rattle.lethe_base.specs.declared.config.Fields.{Fields}
+use Rattle.lethe_base.specs.declared.refused.Refused.{Refused}
+use Rattle.lethe_base.specs.declared.refused.Refused.TheVariants as refused
+use Rattle.lethe_base.proofs.Histories.{after-push, change_at-push}
+use Rattle.lethe_build.specs.Built.{most_numbers}
+use Rattle.lethe_cert.specs.declared.certificate.Certificate.{Certificate}
+use Rattle.lethe_core.specs.Asked.{done_by}
+use Rattle.lethe_core.specs.Merges.{IsShortToMergeBy, due_choice}
+use Rattle.lethe_core.specs.Reasons.{HasReason, IsUnreadable}
+use Rattle.lethe_core.specs.StandsNow.{IsOpenOrStopped, StandsNow}
+use Rattle.lethe_core.specs.View.{Face, View}
+use Rattle.lethe_core.proofs.Histories.{all_done}
+use Rattle.lethe_core.proofs.Standing.{stands_for}
+use Rattle.lethe_cover.specs.Steps.{with_done}
+use Rattle.lethe_disk.specs.Directory.{Directory}
+use Rattle.lethe_disk.specs.Disk.{IsSynced}
+use Rattle.lethe_engine.specs.Certificates.{HasCommitted, IsTrueCertificate}
+use Rattle.lethe_engine.specs.Ticks.{HasReasonOfTick, IsBehind, ticked_face}
+use Rattle.lethe_engine.specs.declared.ticking.Ticked.{Ticked}
+use Rattle.lethe_engine.proofs.Clean.{now_clean}
+use Rattle.lethe_manifest.specs.declared.manifest.Manifest.{Manifest}
+use Rattle.lethe_script.specs.declared.order.Act.{Act}
+use Rattle.lethe_script.specs.declared.order.Act.TheVariants as acts
+use Rattle.lethe_state.specs.Room.{frozen_len}
+use Rattle.lethe_stored.specs.Clean.{IsClean}
+use Rattle.lethe_stored.specs.Kept.{certificates}
+use Rattle.lethe_stored.specs.Left.{without_failed}
+use Rattle.lethe_tick.specs.Certified.{IsCertificateAt}
+use Rattle.lethe_tick.specs.Ripened.{IsShortToTick}
+use Rattle.lethe_run.specs.declared.reply.Reply.TheVariants as reply
+use Rattle.lethe_run.specs.Replies.{refusal_of, tick_refusal_of, tick_reply_of}
+use Rattle.lethe_run.specs.Serving.{IsBorneOn, IsOn, Point}
+use Rattle.lethe_run.specs.Transcript.{Course, IsShort, Start, course}
+use Rattle.lethe_run.proofs.Anywhere.{Tells, ok_runs, stands_so}
+use Rattle.lethe_run.proofs.Anywhere as anywhere
+use Rattle.lethe_run.proofs.Lasting.{here, seen_now}
+use Rattle.lethe_run.proofs.Outcomes.{Outcome}
+use Rattle.lethe_run.proofs.Steps.{Replied, Says, advances, hindered, longer, next_place, not_made, unreadable}
+
+-- But for its own refusal, where its time is behind the clock, a tick is refused as a change is
+
+not_behind : (point : ℕ) (why : Refused) → ((clock : ℕ) → why ≡ refused.Backwards clock → ⊥) → refusal_of why ≡ tick_refusal_of point why
+not_behind point (refused.Fault place before after) never = refl
+not_behind point (refused.Stopped at) never = refl
+not_behind point (refused.Exhausted last) never = refl
+not_behind point refused.NoMemory never = refl
+not_behind point (refused.Backwards clock) never = absurd (never clock refl)
+not_behind point (refused.Pinned pin limit) never = refl
+not_behind point refused.NothingDue never = refl
+not_behind point (refused.Cancelled begun now) never = refl
+not_behind point (refused.ReadFault before after) never = refl
+not_behind point (refused.Damaged name) never = refl
+
+module _ (point : ℕ) (why : Refused) where
+  hindered_not_behind : (Short : Type 0) (old : View) (upto : ℕ) → HasReason Short old.state old.faults upto why → refusal_of why ≡ tick_refusal_of point why
+  hindered_not_behind Short old upto reason = not_behind point why (λ clock is. subst (HasReason Short old.state old.faults upto) is reason)
+
+  unreadable_not_behind : (Told Ports : Type 0) (before now : ℕ) → IsUnreadable Told Ports before now why → refusal_of why ≡ tick_refusal_of point why
+  unreadable_not_behind Told Ports before now reason = not_behind point why (λ clock is. subst (IsUnreadable Told Ports before now) is reason)
+
+module _ (to : ℕ) (old new : View) where
+  abbrev act : Act
+  act = acts.Tick to
+
+  abbrev call : Call
+  call = calls.Tick to
+
+  abbrev face : Face
+  face = ticked_face old to new.retired
+
+  -- On any disk
+
+  module _ (Told Ports : Type 0) (point : ℕ) (at : point ≡ old.state.count) where
+    backwards_tells : (why : Refused) → IsBehind old to why → anywhere.Says Told Ports act call refl face old new (Some why) → Tells Ports act (tick_refusal_of point why) old new
+    backwards_tells why (runs, ahead, is) says =
+        let told = subst (λ e. anywhere.Says Told Ports act call refl face old new (Some e)) is says in
+        subst (λ e. Tells Ports act (tick_refusal_of point e) old new) (sym is)
+        ((to, refl, ahead), runs, at, anywhere.still Told Ports act call refl face old new told.count told.stopped)
+
+    pub tick_tells : (before now : ℕ) (result : Result Ticked Refused) → anywhere.Says Told Ports act call refl face old new (result_err result) → IfOk result (λ told. (told.place ≡ old.state.count + 1) × (told.clock ≡ to))
+        → IfErr result (HasReasonOfTick Told Ports to old new before now) → ((at : ℕ) → old.state.stopped ≡ Some at → IsErrOf result (refused.Stopped at)) → Tells Ports act (tick_reply_of point result) old new
+    tick_tells before now (Ok ticked) says is why stop =
+        let runs = ok_runs old (Ok ticked) ticked refl stop in
+        ((to, refl, is.1), runs, is.0, stands_so new ticked.place None (says.count ∙ sym is.0) (says.stopped ∙ runs))
+    tick_tells before now (Err why) says is (inl behind) stop = backwards_tells why behind says
+    tick_tells before now (Err why) says is (inr (inl reason)) stop =
+        subst (λ r. Tells Ports act r old new) (hindered_not_behind point why _ old new.faults reason) (anywhere.hindered Told Ports act call refl face old new _ why reason says)
+    tick_tells before now (Err why) says is (inr (inr reason)) stop =
+        subst (λ r. Tells Ports act r old new) (unreadable_not_behind point why Told Ports before now reason.1) (anywhere.unreadable Told Ports act call refl face old new before now why reason.0 reason.1 says)
+
+  -- Over a store that stands for a history
+
+  module _ (Tells Ports : Type 0) (told : Tells) (begin : Start) (from : Point) (h : History) (caller : ℕ) (on : IsOn begin from h old) where
+    abbrev Now : Course
+    Now = course Ports begin new.faults new.disk.moment
+
+    abbrev Telling : Option Refused → Type 0
+    Telling = Says Tells Ports told begin from h caller act call refl face old new on
+
+    -- It is done
+
+    abbrev change : Change
+    change = done_by caller call
+
+    abbrev g : History
+    g = with_done h caller call
+
+    module _ (says : Telling None) (runs : old.state.stopped ≡ None) where
+      on_g : IsOn begin from g new
+      on_g = (advances Tells Ports told begin from h caller act call refl face old new on None says).stands from on
+
+      now : StandsNow begin.config g new
+      now = on_g.stands.now
+
+      runs_now : new.state.stopped ≡ None
+      runs_now = says.stopped ∙ runs
+
+      done : AreDone g
+      done = (subst (IsOpenOrStopped begin.config new g now.stored) runs_now now.held).0
+
+      threshold_is : new.state.manifest.config.threshold ≡ begin.config.threshold
+      threshold_is = ap (λ (m : Manifest). m.config.threshold) now.remembers.manifest ∙ ap (λ (fields : Fields). fields.threshold) now.config_is
+
+      -- what its certificate says is so now, and each later crash has the tick
+      borne : IsSynced new.disk → (place : ℕ) → place ≡ length g → (certificate : Certificate) → certificate.clock ≡ to → IsTrueCertificate begin.config.threshold certificate new.disk.directory g → IsBorneOn begin g new (place, certificate)
+      borne synced place place_is certificate clock true =
+          let same : without_failed g ≡ g = all_done g done in
+          let clocks : (after g).clock ≡ certificate.clock = ap (λ (s : State). s.clock) (after-push h change) ∙ sym clock in
+          let clean : IsClean begin.config.threshold new.disk.directory g certificate.clock = subst (IsClean begin.config.threshold new.disk.directory g) clocks (now_clean begin.config g new now runs_now) in
+          record {
+            point = here begin from g new on_g;
+            place = ap length same ∙ sym place_is;
+            on = seen_now begin from g new on_g;
+            each = λ d left. subst (λ (d : Directory). HasCommitted d certificate place × IsClean begin.config.threshold d (without_failed g) certificate.clock) (sym (synced d left))
+                (subst (HasCommitted new.disk.directory certificate) (sym place_is) true.committed, subst (λ l. IsClean begin.config.threshold new.disk.directory l certificate.clock) (sym same) clean);
+          }
+
+      borne_if : IsSynced new.disk → (place : ℕ) → place ≡ length g → (answer : Option Certificate) → IsCertificateAt begin.config.threshold to answer
+          → IfSome answer (λ certificate. IsTrueCertificate begin.config.threshold certificate new.disk.directory g) → IfSome (option_map (λ certificate. (place, certificate)) answer) (IsBorneOn begin g new)
+      borne_if synced place place_is None due true = tt
+      borne_if synced place place_is (Some certificate) due true = borne synced place place_is certificate due.0 true
+
+      ticks_done : (ticked : Ticked) → (ticked.place ≡ old.state.count + 1) × (ticked.clock ≡ to) → IsSynced new.disk → IsCertificateAt new.state.manifest.config.threshold to ticked.certificate
+          → IfSome ticked.certificate (λ certificate. IsTrueCertificate begin.config.threshold certificate new.disk.directory g) → Replied Tells Ports told begin from h caller act call refl face old new on (reply.Ticked ticked)
+      ticks_done ticked is synced due true =
+          let at : ticked.place ≡ suc (length h) = next_place Tells Ports told begin from h caller act call refl face old new on ticked.place is.0 in
+          let all : length g ≡ suc (length h) = longer h change in
+          let due_by : IsCertificateAt begin.config.threshold to ticked.certificate = subst (λ n. IsCertificateAt n to ticked.certificate) threshold_is due in
+          let whole : take ticked.place g ≡ g = take_all ticked.place g (omega (arith, at, all)) in (
+            g,
+            record {
+              grows = (change ∷ [], refl);
+              answers = (
+                to,
+                refl,
+                record {
+                  clock = is.1;
+                  done = ap (change_at g) at ∙ change_at-push h change;
+                  due = due_by;
+                  number = subst (λ l. IfSome ticked.certificate (λ certificate. certificate.number ≡ certificates begin.config.threshold l)) (sym whole) (IfSome_then ticked.certificate true (λ certificate is. is.number));
+                },
+              );
+              follows = (at, all);
+              certified = borne_if synced ticked.place (at ∙ sym all) ticked.certificate due_by true;
+              goes = advances Tells Ports told begin from h caller act call refl face old new on None says;
+            },
+          )
+
+    -- It is refused
+
+    backwards : (point : ℕ) → point ≡ old.state.count → (why : Refused) → IsBehind old to why → Telling (Some why) → Outcome Ports begin h caller act (tick_refusal_of point why) old new
+    backwards point at why (runs, ahead, is) says =
+        let before = on.stands.now in
+        let all : point ≡ length h = at ∙ before.count in
+        let told_so = subst (λ e. Telling (Some e)) is says in
+        let clock : old.state.manifest.clock ≡ (after h).clock = ap (λ (m : Manifest). m.clock) before.remembers.manifest ∙ (stands_for begin.config h old before runs).clock in
+        subst (λ e. Outcome Ports begin h caller act (tick_refusal_of point e) old new) (sym is)
+        (not_made Tells Ports told begin from h caller act call refl face old new on (reply.Backwards point old.state.manifest.clock) tt
+        (advances Tells Ports told begin from h caller act call refl face old new on (Some (refused.Backwards old.state.manifest.clock)) told_so)
+        (to, refl, record { within = omega (arith, all); is = clock ∙ ap (λ (l : History). (after l).clock) (sym (take_all point h (omega (arith, all)))); ahead = ahead }) (all, refl))
+
+    module _ (rounds : old.rounds < max_place) (small : frozen_len new.state.frozen ≤ 16384)
+        (merges : StandsNow begin.config h new → new.state.stopped ≡ None → IsShortToMergeBy (due_choice to) Tells new → max_place ≤ new.state.next + most_numbers (length h)) where
+      -- numbers run out for a flush, for a freeze, or for a merge that is due
+      lacks : (last : ℕ) → old.state.stopped ≡ None → Telling (Some (refused.Exhausted last)) → (max_place ≤ old.rounds) ⊎ IsShortToTick Tells to new → IsShort (length h) Now
+      lacks last runs says (inl rounds_out) = absurd (omega (arith, rounds, rounds_out))
+      lacks last runs says (inr short) =
+          let on_now : IsOn begin from h new = (advances Tells Ports told begin from h caller act call refl face old new on (Some (refused.Exhausted last)) says).stands from on in
+          let drawn = on_now.stands.numbers in
+          let low = on.moment_since in
+          let since = on_now.stands.later in
+          elim short [
+            | inl flush ↦ let few = flush.drafted.few in let reach = flush.short in omega (arith, drawn, low, since, few, reach, small)
+            | inr (inl freeze) ↦ omega (arith, drawn, low, since, freeze)
+            | inr (inr merge) ↦ let reach = merges on_now.stands.now (says.stopped ∙ runs) merge in omega (arith, drawn, low, since, reach)
+          ]
+
+      pub ticks : (point : ℕ) → point ≡ old.state.count → (before now : ℕ) (result : Result Ticked Refused) → Telling (result_err result) → IfOk result (λ told. (told.place ≡ old.state.count + 1) × (told.clock ≡ to))
+          → OnOk result (IsSynced new.disk) → IfOk result (λ told. IsCertificateAt new.state.manifest.config.threshold to told.certificate)
+          → IfOk result (λ told. IfSome told.certificate (λ certificate. IsTrueCertificate begin.config.threshold certificate new.disk.directory g))
+          → IfErr result (HasReasonOfTick Tells Ports to old new before now) → ((at : ℕ) → old.state.stopped ≡ Some at → IsErrOf result (refused.Stopped at)) → Outcome Ports begin h caller act (tick_reply_of point result) old new
+      ticks point at before behind (Ok done) says is synced due true why stop = ticks_done says (ok_runs old (Ok done) done refl stop) done is synced due true
+      ticks point at before behind (Err e) says is synced due true (inl ahead) stop = backwards point at e ahead says
+      ticks point at before behind (Err e) says is synced due true (inr (inl reason)) stop =
+          let Short = (max_place ≤ old.rounds) ⊎ IsShortToTick Tells to new in
+          subst (λ r. Outcome Ports begin h caller act r old new) (hindered_not_behind point e Short old new.faults reason)
+          (hindered Tells Ports told begin from h caller act call refl face old new on Short lacks e reason says)
+      ticks point at before behind (Err e) says is synced due true (inr (inr reason)) stop =
+          subst (λ r. Outcome Ports begin h caller act r old new) (unreadable_not_behind point e Tells Ports before behind reason.1)
+          (unreadable Tells Ports told begin from h caller act call refl face old new on before behind e reason.1 says)

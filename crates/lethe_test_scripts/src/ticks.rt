@@ -1,0 +1,136 @@
+//! Ticks and their certificates.
+
+use crate::unopened::objects_of;
+use lethe_base::Kind;
+use lethe_memdisk::MemDisk;
+use lethe_rows::{SMALL, disk_of, run_over};
+use sha2::{Digest, Sha256};
+use std::alloc::Global;
+use std::test::Fail;
+
+/// A script, and what is printed of it, where H stands for the digest of the manifest that is there at the end; and whether an object still has the put of `a`.
+type Row = (&'static str, &'static str, bool);
+
+/// The put of the key `a` with the delete key 5 and the value `x`, as it stands in a segment or a page.
+const PUT: &[u8] = b"\x01a\0\0\0\0\0\0\0\x05\0\x01x";
+
+const ROWS: [Row; 9] = [
+    (
+        "1 put a 5 x\n1 del a\n1 tick 99\n1 get a\n1 tick 100\n",
+        "1 ok 1\n1 ok 2\n1 ok 3 clock 99\n1 at 3 none\n1 ok 4 clock 100 cert 1 before 0 sha256 H\n",
+        false,
+    ),
+    // A tick behind the clock isn't made, and the run goes on.
+    (
+        "1 tick 50\n1 tick 49\n1 tick 50\n",
+        "1 ok 1 clock 50\n1 backwards 50\n1 ok 2 clock 50\n",
+        false,
+    ),
+    (
+        "1 put a 1 old\n1 put z 2 q\n1 del z\n1 tick 40\n1 del a\n1 put a 3 new\n1 tick 140\n1 get a\n",
+        "1 ok 1\n1 ok 2\n1 ok 3\n1 ok 4 clock 40\n1 ok 5\n1 ok 6\n1 ok 7 clock 140 cert 1 before 40 sha256 H\n1 at 7 val 3 new\n",
+        false,
+    ),
+    // The segment may hold the value for 33.
+    (
+        "1 put a 5 x\n1 del a\n1 tick 20\n1 get a\n",
+        "1 ok 1\n1 ok 2\n1 ok 3 clock 20\n1 at 3 none\n",
+        true,
+    ),
+    (
+        "1 put a 5 x\n1 del a\n1 tick 33\n1 get a\n",
+        "1 ok 1\n1 ok 2\n1 ok 3 clock 33\n1 at 3 none\n",
+        false,
+    ),
+    // A value that wasn't erased stays.
+    (
+        "1 put a 5 x\n1 tick 100\n1 get a\n",
+        "1 ok 1\n1 ok 2 clock 100 cert 1 before 0 sha256 H\n1 at 2 val 5 x\n",
+        true,
+    ),
+    // The clock is told.
+    (
+        "1 tick 7\n1 stat\n1 tick 6\n1 stat\n",
+        "1 ok 1 clock 7\n1 at 1 stat clock 7 pins 0 pending 0 files 0 tombs 0\n1 backwards 7\n1 at 1 stat clock 7 pins 0 pending 0 files 0 tombs 0\n",
+        false,
+    ),
+    // The least and the greatest time.
+    ("1 tick 0\n", "1 ok 1 clock 0\n", false),
+    (
+        "1 tick 4611686018427387904\n1 tick 0\n",
+        "1 ok 1 clock 4611686018427387904 cert 1 before 4611686018427387804 sha256 H\n1 backwards 4611686018427387904\n",
+        false,
+    ),
+];
+
+/// The SHA-256 of the one manifest that is there, in hexadecimal digits.
+fn digest_of(alloc: Global, disk: &mut MemDisk) -> Result<String, Fail> {
+    let mut found = None;
+    for (name, bytes) in objects_of(alloc, disk)? {
+        if name.kind == Kind::Manifest {
+            if found.is_some() {
+                return Err(Fail::new("one manifest"));
+            }
+            let mut hasher = Sha256::new();
+            hasher.update(&bytes);
+            found = Some(hex::encode(alloc, hasher.finalize().as_slice())?);
+        }
+    }
+    Ok(found.ok_or("a manifest")?)
+}
+
+/// Whether an object has the put in it.
+fn has_put(alloc: Global, disk: &mut MemDisk) -> Result<bool, Fail> {
+    for (_, bytes) in objects_of(alloc, disk)? {
+        if bytes.windows(PUT.len()).any(|window| window == PUT) {
+            return Ok(true);
+        }
+    }
+    Ok(false)
+}
+
+/// The text with the digest in the place of H.
+fn with_digest(alloc: Global, text: &str, digest: &str) -> Result<String, Fail> {
+    match text.split_once('H') {
+        Some((front, behind)) => Ok(format!(in alloc; "{front}{digest}{behind}")?),
+        None => Ok(String::from_str(alloc, text)?),
+    }
+}
+
+#[test]
+fn ticks_print_the_clock_and_a_certificate(rt: HostRuntime) -> Result<(), Fail> {
+    let alloc = rt.alloc();
+    for (script, text, holds) in ROWS {
+        let disk = disk_of(alloc, &[])?;
+        let mut left = run_over(alloc, &SMALL, script.as_bytes(), &[], &[], disk)?;
+        let digest = digest_of(alloc, &mut left.disk)?;
+        left.printed
+            .must_be(0, &with_digest(alloc, text, &digest)?)?;
+        assert_eq!(rt; has_put(alloc, &mut left.disk)?, holds);
+    }
+    Ok(())
+}
+
+/// The second run of a script goes on with the clock and the number of the certificates.
+#[test]
+fn certificates_are_numbered_over_the_whole_life_of_a_store(rt: HostRuntime) -> Result<(), Fail> {
+    let alloc = rt.alloc();
+    let mut disk = disk_of(alloc, &[])?;
+    for (script, text) in [
+        (
+            "1 tick 100\n",
+            "1 ok 1 clock 100 cert 1 before 0 sha256 H\n",
+        ),
+        (
+            "1 tick 99\n1 tick 250\n",
+            "1 backwards 100\n1 ok 2 clock 250 cert 2 before 150 sha256 H\n",
+        ),
+    ] {
+        let mut left = run_over(alloc, &SMALL, script.as_bytes(), &[], &[], disk)?;
+        let digest = digest_of(alloc, &mut left.disk)?;
+        left.printed
+            .must_be(0, &with_digest(alloc, text, &digest)?)?;
+        disk = left.disk;
+    }
+    Ok(())
+}
