@@ -2,6 +2,7 @@ pub mod Histories
 pub mod ReadingSteps
 pub mod FieldLaws
 pub mod EntryLaws
+pub mod SkippingLaws
 pub mod Configurations
 pub mod CauseLaws
 pub mod LayoutLaws

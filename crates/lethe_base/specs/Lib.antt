@@ -10,6 +10,7 @@ pub mod Numbers
 pub mod Spelling
 pub mod Results
 pub mod Reading
+pub mod Skipping
 pub mod Configuration
 pub mod Causes
 pub mod Matching

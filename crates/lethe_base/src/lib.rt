@@ -18,6 +18,7 @@ mod range;
 mod reading;
 mod refused;
 mod shape;
+mod skipping;
 mod value;
 mod writing;
 
@@ -41,5 +42,6 @@ pub use range::Range;
 pub use reading::{EntryRefused, read_body, read_entry, read_front, read_key, read_place};
 pub use refused::Refused;
 pub use shape::{FileFacts, Shape};
+pub use skipping::{FrontEnd, skip_body, skip_front};
 pub use value::{MAX_VALUE, Value, ValueRefused};
 pub use writing::{entry_len, write_entry};

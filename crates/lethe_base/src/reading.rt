@@ -32,20 +32,20 @@ impl From<AllocError> for EntryRefused {
     }
 }
 
-fn byte_field(bytes: &[u8], at: usize) -> Result<u8, EntryRefused>
+pub(crate) fn byte_field(bytes: &[u8], at: usize) -> Result<u8, EntryRefused>
     ensures { result ≡ field_at w8 bytes.now at }
 {
     take_u8(bytes, at).ok_or(EntryRefused::Short { at: at as u64 })
 }
 
-fn long_field(bytes: &[u8], at: usize) -> Result<u64, EntryRefused>
+pub(crate) fn long_field(bytes: &[u8], at: usize) -> Result<u64, EntryRefused>
     ensures { result ≡ field_at w64 bytes.now at }
 {
     take_u64(bytes, at).ok_or(EntryRefused::Short { at: at as u64 })
 }
 
 #[tactic(auto, unfolding(crate::specs::Reading::kind_at))]
-fn read_kind(bytes: &[u8], at: usize) -> Result<(BodyKind, usize), EntryRefused>
+pub(crate) fn read_kind(bytes: &[u8], at: usize) -> Result<(BodyKind, usize), EntryRefused>
     ensures { result ≡ kind_at bytes.now at }
 {
     match byte_field(bytes, at)? {
@@ -69,7 +69,11 @@ pub fn read_place(bytes: &[u8], at: usize) -> Result<(u64, usize), EntryRefused>
 }
 
 #[tactic(auto, unfolding(crate::specs::Reading::since_at))]
-fn read_since(kind: BodyKind, bytes: &[u8], at: usize) -> Result<(Option<u64>, usize), EntryRefused>
+pub(crate) fn read_since(
+    kind: BodyKind,
+    bytes: &[u8],
+    at: usize,
+) -> Result<(Option<u64>, usize), EntryRefused>
     ensures { result ≡ since_at kind bytes.now at }
 {
     match (byte_field(bytes, at)?, kind) {

@@ -4,6 +4,7 @@ pub mod Pages
 pub mod Tiles
 pub mod Starts
 pub mod Damaged
+pub mod Looking
 pub mod Unique
 pub mod Sorting
 pub mod Joined

@@ -1,9 +1,8 @@
 -- The order of keys, and of the tiles of a file.
 use Rattle.std.proofs.Common.{◌≡◌, ℕ, zero, suc, ◌+◌, ◌<◌, Bool, true, false, List, [], ◌∷◌, length, get_or, take, Option, Some, None, IsTrue, ◌↔◌, refl, sym, ap, subst, ◌∙◌, arith, inl, inr}
-use Rattle.std.specs.Prelude.{◌==◌}
 use Rattle.std.specs.declared.cmp.Ordering.{Ordering}
 use Rattle.std.specs.declared.cmp.Ordering.TheVariants.{Less, Equal, Greater}
-use Rattle.std.specs.Ordering.{ordering_index, ordering_reverse, is_lt, is_le, is_eq}
+use Rattle.std.specs.Ordering.{ordering_reverse, is_lt, is_le, is_eq}
 use Rattle.std.specs.Cmp.{tied_itself}
 use Rattle.std.specs.Cmp.Lexicographic.{nat_list_cmp_total}
 use Rattle.std.specs.FinMap as finmap
@@ -59,11 +58,6 @@ not_less x y h = by (key_cmp x y) refl h
 
 pub own_key : (x : Bytes) → key_cmp x x ≡ Equal
 own_key x = tied_itself nat_list_cmp_total x
-
-pub index_is : (r : Ordering) → (ordering_index r == 1) ≡ is_eq r
-index_is Less = refl
-index_is Equal = refl
-index_is Greater = refl
 
 pub is_key : (x y : Bytes) (b : Bool) → b ≡ is_eq (key_cmp x y) → (IsTrue b ↔ (x ≡ y))
 is_key x y b is = (λ h. tied x y (equal_is (key_cmp x y) (sym is ∙ h)), λ e. is ∙ ap is_eq (subst (λ (z : Bytes). key_cmp x z ≡ Equal) e (own_key x)))

@@ -3,6 +3,8 @@ use Rattle.std.specs.Prelude.{◌≡◌, ℕ, IsTrue, List, zip, Any, Contains}
 use Rattle.lethe_base.specs.Keys.{Bytes}
 use Rattle.lethe_base.specs.declared.entry.Entry.{Entry}
 use Rattle.lethe_base.specs.declared.name.Name.{Name}
+use Rattle.lethe_disk.specs.declared.cursor.ReadRefused.{ReadRefused}
+use Rattle.lethe_disk.specs.declared.cursor.ReadRefused.TheVariants.{Damaged, NoMemory}
 use Rattle.lethe_header.specs.Facts.{lines_of}
 use Rattle.lethe_header.specs.declared.header.PageLine.{PageLine}
 use Rattle.lethe_header.specs.declared.header.TileLine.{TileLine}
@@ -11,12 +13,20 @@ use Rattle.lethe_file.specs.Agreement.{IsChecked, IsPage, check_of, page_name}
 use Rattle.lethe_file.specs.Finding.{allows, has_key}
 use Rattle.lethe_file.specs.Waiting.{Waiting, waiting}
 use Rattle.lethe_file.specs.declared.page.PageCheck.{PageCheck}
+use Rattle.lethe_file.specs.declared.page.PageFault.{PageFault}
+use Rattle.lethe_file.specs.declared.page.PageFault.TheVariants.{Other}
+use Rattle.lethe_file.specs.declared.page.PageFault.TheVariants as faults
 use Rattle.lethe_file.specs.declared.unread.Unread.{Unread}
 
 -- On a disk that tells what it holds these bytes are another page's: no entries have the class, the count and the digest that are told of, and these bytes as their
 -- spelling.
 abbrev pub IsOther : Type 0 → PageCheck → List ℕ → Type 0
 IsOther tells check bytes = tells → (entries : List Entry) → IsChecked check entries → bytes ≡ page_bytes check.class entries → ⊥
+
+-- what a read tells where the bytes aren't the page that is told of
+abbrev pub refused_as : PageFault → PageCheck → ReadRefused
+refused_as Other check = Damaged (page_name check.no)
+refused_as faults.NoMemory check = NoMemory
 
 -- another page than the line's
 abbrev pub IsOtherPage : Type 0 → PageLine → List ℕ → Type 0

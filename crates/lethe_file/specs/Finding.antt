@@ -5,10 +5,13 @@ use Rattle.std.specs.List.{list_all}
 use Rattle.std.specs.Ordering.{is_le}
 use Rattle.lethe_base.specs.Keys.{Bytes, key_cmp}
 use Rattle.lethe_base.specs.declared.entry.Entry.{Entry}
+use Rattle.lethe_page.specs.Pages.{page_bytes}
 use Rattle.lethe_tile.specs.Filters.{hash_of, start_of, step_of}
 use Rattle.lethe_header.specs.Facts.{lines_of}
 use Rattle.lethe_header.specs.declared.header.PageLine.{PageLine}
 use Rattle.lethe_header.specs.declared.header.TileLine.{TileLine}
+use Rattle.lethe_file.specs.Agreement.{IsChecked}
+use Rattle.lethe_file.specs.declared.page.PageCheck.{PageCheck}
 
 -- none of these has the key
 abbrev pub Lacks : Bytes → List Entry → Type 0
@@ -18,6 +21,13 @@ Lacks key entries = All (λ entry. entry.key ≢ key) entries
 abbrev pub IsEntryOf : Bytes → List (List Entry) → Option Entry → Type 0
 IsEntryOf key pages None = All (Lacks key) pages
 IsEntryOf key pages (Some entry) = Any (λ page. Contains page entry) pages × (entry.key ≡ key)
+
+-- it is the entry of the key in the page of these bytes, which the check tells of
+pub record IsFoundIn (check : PageCheck) (key : Bytes) (bytes : List ℕ) (found : Option Entry) : Type 0 where
+  pub entries : List Entry
+  pub page : IsChecked check entries
+  pub spelled : bytes ≡ page_bytes check.class entries
+  pub entry : IsEntryOf key (entries ∷ []) found
 
 -- the tile's fence has the key
 abbrev pub has_key : Bytes → TileLine → Bool

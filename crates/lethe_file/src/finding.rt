@@ -1,5 +1,5 @@
 //! Finding the entry of a key.
-ghost use Rattle.std.specs.Prelude.{◌≡◌, ◌≢◌, ◌+◌, ◌<◌, ◌≤◌, ◌^◌, ◌∷◌, [], List, ℕ, map, length, take, drop, slice_index_or, slice_get, Some, sum_by, zip, ◌↔◌, HoldsAt, IfNone, IfSome, Any, IfOk, IsErrOf, IsTrue};
+ghost use Rattle.std.specs.Prelude.{◌≡◌, ◌+◌, ◌<◌, ◌≤◌, ◌^◌, ◌∷◌, [], map, length, take, slice_index_or, slice_get, Some, zip, IfSome, Any, IfOk, IsErrOf, IsTrue};
 ghost use Rattle.std.specs.List.{AllZip};
 ghost use Rattle.std.specs.Ordering.{is_lt, is_le};
 ghost use Rattle.lethe_base.specs.Keys.{key_cmp};
@@ -12,9 +12,9 @@ ghost use Rattle.lethe_header.specs.Headers.{EachFollows, TileFollows};
 ghost use Rattle.lethe_header.specs.declared.header.TileLine.{TileLine};
 ghost use Rattle.lethe_file.specs.Agreement.{Agrees, entries_in};
 ghost use Rattle.lethe_file.specs.Damage.{IsDamagedAs, IsVouched};
-ghost use Rattle.lethe_file.specs.Finding.{AreStarts, Lacks, IsEntryOf, IsTileOf, allowed_in, allows, of_tile};
+ghost use Rattle.lethe_file.specs.Finding.{AreStarts, IsEntryOf, IsTileOf, allowed_in, allows, of_tile};
 
-use crate::fetching::fetch_line;
+use crate::fetching::find_line;
 use lethe_base::{Entry, Key, NoMemory};
 use lethe_disk::{Disk, ReadRefused};
 use lethe_header::{PageLine, TileLine};
@@ -22,35 +22,6 @@ use lethe_tile::Filter;
 use std::alloc::Global;
 use std::cmp::Ordering;
 use std::sync::Arc;
-
-/// Whether it is the entry of the key.
-fn has_key(entry: &Entry, key: &Key) -> bool
-    ensures { IsTrue result ↔ (entry.now.key ≡ key.now) }
-{
-    entry.key.cmp(key) == Ordering::Equal
-}
-
-/// The place of the entry of the key in a page.
-fn place_of(entries: &[Entry], key: &Key) -> Option<usize>
-    ensures none { IfNone result (Lacks key.now entries.now) }
-    ensures some { IfSome result (λ place. place < length entries.now) }
-    ensures key { IfSome result (HoldsAt (λ entry. entry.key ≡ key.now) entries.now) }
-{
-    for (place, entry) in entries.iter().enumerate() {
-        if has_key(entry, key) {
-            return Some(place);
-        }
-    }
-    None
-}
-
-/// The entry of the key in a page.
-fn entry_of(mut entries: Vec<Entry>, key: &Key) -> Option<Entry>
-    ensures { IsEntryOf key.now (entries.items ∷ []) result }
-{
-    let place = place_of(&entries, key)?;
-    Some(entries.swap_remove(place))
-}
 
 /// Whether the filter allows the key.
 fn is_allowed(filter: &Filter, key: &Key) -> bool
@@ -153,10 +124,7 @@ fn look<D: Disk>(
     ensures can_fail { IsFault result → D.ports_fail }
 {
     if is_allowed(&line.filter, key) {
-        match fetch_line::<D>(alloc, port, line, page) {
-            Ok(entries) => Ok(entry_of(entries, key)),
-            Err(why) => Err(why),
-        }
+        find_line::<D>(alloc, port, key, line, page)
     } else {
         Ok(None)
     }

@@ -66,7 +66,7 @@ above_if (e ∷ es) s = let rest = and_parts _ _ s in (refl, above_next e.key es
 
 -- ---- one entry
 
-part_ok : {A : Type 0} (r : Result A EntryRefused) (x : A) → part r ≡ Ok x → r ≡ Ok x
+pub part_ok : {A : Type 0} (r : Result A EntryRefused) (x : A) → part r ≡ Ok x → r ≡ Ok x
 part_ok (Ok y) x e = ap (λ y. Ok y) (ok_is y x e)
 part_ok (Err why) x e = absurd cc
 
@@ -88,7 +88,7 @@ byte_of Tombs = refl
 kind_there : (bytes : List ℕ) (at end : ℕ) (e : Entry) → StandsAt (entry_bytes e) bytes at end → number_at w8 bytes at ≡ Some (kind_byte (kind_of e.body))
 kind_there bytes at end e p = let first = entry_first e in first_byte (kind_byte (kind_of e.body)) first.0 bytes at end (subst (λ (l : List ℕ). StandsAt l bytes at end) first.1 p)
 
-front_ok : (class : Class) (last : Option Bytes) (bytes : List ℕ) (at : ℕ) (x : Front × ℕ) → front_above class last bytes at ≡ Ok x → (number_at w8 bytes at ≡ Some (class_byte class)) × (front_at bytes at ≡ Ok x) × (is_above last x.0.key ≡ true)
+pub front_ok : (class : Class) (last : Option Bytes) (bytes : List ℕ) (at : ℕ) (x : Front × ℕ) → front_above class last bytes at ≡ Ok x → (number_at w8 bytes at ≡ Some (class_byte class)) × (front_at bytes at ≡ Ok x) × (is_above last x.0.key ≡ true)
 unfolding front_above
 front_ok class last bytes at x e =
     let a = bind_ok (fixed_at w8 (class_byte class) bytes at) (λ _. part (front_at bytes at) >>= λ front. cond (is_above last front.0.key) (Ok front) (Err (Order (front.1 - length front.0.key - 1)))) x e in
@@ -97,7 +97,7 @@ front_ok class last bytes at x e =
     (fixed_ok w8 (class_byte class) bytes at a.0 a.1, part_ok (front_at bytes at) b.0 b.1 ∙ ap (λ y. Ok y) g.1, ap (λ (y : Front × ℕ). is_above last y.0.key) (sym g.1) ∙ g.0)
 
 -- an entry by its front and its body, as it is read of itself and in a page
-read_so : (bytes : List ℕ) (at : ℕ) (front : Front × ℕ) (body : Body × ℕ) → front_at bytes at ≡ Ok front → body_at front.0.kind bytes front.1 ≡ Ok body → entry_at bytes at ≡ Ok (entry_with front.0 body.0, body.1)
+pub read_so : (bytes : List ℕ) (at : ℕ) (front : Front × ℕ) (body : Body × ℕ) → front_at bytes at ≡ Ok front → body_at front.0.kind bytes front.1 ≡ Ok body → entry_at bytes at ≡ Ok (entry_with front.0 body.0, body.1)
 unfolding entry_at
 read_so bytes at front body f b = rw (f, b) refl
 

@@ -34,7 +34,7 @@ last_pushed : (entries : List Entry) (entry : Entry) → slice_get (entries ++ e
 last_pushed [] entry = refl
 last_pushed (e ∷ es) entry = last_pushed es entry
 
-last_key_pushed : (entries : List Entry) (entry : Entry) → last_key (entries ++ entry ∷ []) ≡ Some entry.key
+pub last_key_pushed : (entries : List Entry) (entry : Entry) → last_key (entries ++ entry ∷ []) ≡ Some entry.key
 last_key_pushed entries entry =
     let place : length (entries ++ entry ∷ []) - 1 ≡ length entries = omega (arith, length-append entries (entry ∷ [])) in
     ap (λ (n : ℕ). option_map (λ (e : Entry). e.key) (slice_get (entries ++ entry ∷ []) n)) place ∙ ap (λ (o : Option Entry). option_map (λ e. e.key) o) (last_pushed entries entry)
@@ -73,20 +73,17 @@ module _ (class : Class) (count : ℕ) (bytes : List ℕ) (entries : List Entry)
       }
 
   -- where it can't be read, they all can't
-  pub refused_there : (why : PageRefused) → length entries < count → IsRefused why (entry_above class (last_key entries) bytes at) → IsRefused why (entries_above class count None bytes 8)
-  refused_there why fewer = by why
-    where
-      as_err : (e : PageRefused) → entry_above class (last_key entries) bytes at ≡ Err e → entries_above class count None bytes 8 ≡ Err e
-      as_err e is =
-          let one = one_of fewer in
-          one.2 ∙ ap (λ (r : Result (Entry × ℕ) PageRefused). behind entries (r >>= λ first. entries_above class one.0 (Some first.0.key) bytes first.1 >>= λ rest. Ok (first.0 ∷ rest.0, rest.1))) is
+  pub fails_there : (why : PageRefused) → length entries < count → entry_above class (last_key entries) bytes at ≡ Err why → entries_above class count None bytes 8 ≡ Err why
+  fails_there why fewer is =
+      let one = one_of fewer in
+      one.2 ∙ ap (λ (r : Result (Entry × ℕ) PageRefused). behind entries (r >>= λ first. entries_above class one.0 (Some first.0.key) bytes first.1 >>= λ rest. Ok (first.0 ∷ rest.0, rest.1))) is
 
-      by : (e : PageRefused) → IsRefused e (entry_above class (last_key entries) bytes at) → IsRefused e (entries_above class count None bytes 8)
-      by (Short place) is = as_err (Short place) is
-      by (Kind place) is = as_err (Kind place) is
-      by (Order place) is = as_err (Order place) is
-      by (Trailing place) is = as_err (Trailing place) is
-      by NoMemory is = tt
+  pub refused_there : (why : PageRefused) → length entries < count → IsRefused why (entry_above class (last_key entries) bytes at) → IsRefused why (entries_above class count None bytes 8)
+  refused_there (Short place) fewer is = fails_there (Short place) fewer is
+  refused_there (Kind place) fewer is = fails_there (Kind place) fewer is
+  refused_there (Order place) fewer is = fails_there (Order place) fewer is
+  refused_there (Trailing place) fewer is = fails_there (Trailing place) fewer is
+  refused_there NoMemory fewer is = tt
 
   -- all that are counted are read
   pub at_last : (length entries < count → ⊥) → entries_above class count None bytes 8 ≡ Ok (entries, at)

@@ -3,6 +3,7 @@
 
 mod class;
 mod entries;
+mod finding;
 mod head;
 mod laws;
 mod reading;
@@ -10,6 +11,7 @@ mod refused;
 mod writing;
 
 pub use class::Class;
+pub use finding::{Found, find_entry};
 pub use laws::one_page;
 pub use reading::read_page;
 pub use refused::PageRefused;
