@@ -1,10 +1,10 @@
 -- Parts for files, one file after another.
 use Rattle.std.proofs.Common.{◌≡◌, ℕ, zero, suc, ◌+◌, ◌-◌, ◌<◌, ◌≤◌, List, [], ◌∷◌, ◌++◌, length, get_or, take, map, All, Contains, Some, ⊎_elim, inl, inr, refl, sym, ap, subst, ◌∙◌, arith}
-use Rattle.std.specs.Prelude.{Any, ◌⊎◌, flat_map}
+use Rattle.std.specs.Prelude.{Any, ◌⊎◌, ◌↔◌, flat_map}
 use Rattle.std.proofs.lemmas.Bool.{cases_lt}
 use Rattle.std.proofs.lemmas.Grind.{flat_map-append}
 use Rattle.std.proofs.lemmas.List.{append-nil, get_or-append-add, get_or_append_left, length-append, map-append, take_all, take_more}
-use Rattle.std.proofs.lemmas.List.Elements.{All-append, All-cons, All-head, All-nil, Contains-append_cases, Contains-append_left, Contains-append_right}
+use Rattle.std.proofs.lemmas.List.Elements.{All-head, All-push, All-tail, Contains-append_cases, Contains-append_left, Contains-append_right}
 use Rattle.lethe_base.specs.Keys.{Bytes}
 use Rattle.lethe_base.specs.Read.{is_between}
 use Rattle.lethe_base.specs.declared.entry.Entry.{Entry}
@@ -35,6 +35,10 @@ pub only_of : {X : Type 0} (P : X → Type 0) (x : X) → Any P (x ∷ []) → P
 only_of P x (zero, y, lt, is, holds) = subst P (sym is) holds
 only_of P x (suc k, y, lt, is, holds) = absurd (omega (arith, lt))
 
+-- what is left of parts with one more behind them
+pub left_with : {C : Type 0} (left : C → List Entry) (parts : List C) (part : C) → flat_map left (parts ++ part ∷ []) ≡ flat_map left parts ++ left part
+left_with left parts part = flat_map-append left parts (part ∷ []) ∙ ap (λ l. flat_map left parts ++ l) (append-nil (left part))
+
 -- one of the files' pages has the entry
 abbrev Has : Entry → List (List Entry) → Type 0
 Has entry file = Any (λ page. Contains page entry) file
@@ -49,16 +53,34 @@ module _ {C F : Type 0} (tells : Type 0) (sound : C → Type 0) (left : C → Li
     besides = λ agree entry. (λ has. inl has, ⊎_elim (λ has. has) (λ both. absurd (none_of (Has entry) both.0)));
   }
 
-  pub adds_one : (file : F) (old new : List C) (part : C) → new ≡ old ++ part ∷ [] → (tells → agrees file → sound part) → (agrees file → AreBetween lo (Some hi) (entries_of file) (left part)) → AddsHere (file ∷ []) old new
-  adds_one file old new part is sounds between = record {
-    sound_too = λ told agree all. subst (All sound) (sym is) (All-append sound old (part ∷ []) all (All-cons sound part [] (sounds told (All-head agrees file [] agree)) (All-nil sound)));
+  -- a part more that has nothing
+  pub adds_nothing : (files : List F) (old new wider : List C) (part : C) → wider ≡ new ++ part ∷ [] → left part ≡ [] → (tells → sound part) → AddsHere files old new → AddsHere files old wider
+  adds_nothing files old new wider part is none sounds adds =
+      let same : flat_map left wider ≡ flat_map left new = ap (flat_map left) is ∙ left_with left new part ∙ ap (λ l. flat_map left new ++ l) none ∙ append-nil (flat_map left new) in
+      record {
+        sound_too = λ told agree all. subst (All sound) (sym is) (All-push sound new part (adds.sound_too told agree all) (sounds told));
+        besides = λ agree entry. (
+          λ has. (adds.besides agree entry).0 (subst (λ l. Contains l entry) same has),
+          λ either. subst (λ l. Contains l entry) (sym same) ((adds.besides agree entry).1 either),
+        );
+      }
+
+  -- one file more in front of the others, whose entries of the range are these
+  pub adds_file : (file : F) (files : List F) (old mid new : List C) (own : List Entry) → AddsHere files old mid → (agrees file → AreBetween lo (Some hi) (entries_of file) own)
+      → ((entry : Entry) → Contains (flat_map left new) entry ↔ (Contains (flat_map left mid) entry ⊎ Contains own entry)) → (tells → All agrees (file ∷ files) → All sound mid → All sound new)
+      → AddsHere (file ∷ files) old new
+  adds_file file files old mid new own adds between more sounds = record {
+    sound_too = λ told agree all. sounds told agree (adds.sound_too told (All-tail agrees file files agree) all);
     besides = λ agree entry.
-        let next = (between (All-head agrees file [] agree)).each entry in
-        let both : flat_map left new ≡ flat_map left old ++ left part = ap (flat_map left) is ∙ flat_map-append left old (part ∷ []) ∙ ap (λ l. flat_map left old ++ l) (append-nil (left part)) in (
-          λ has. ⊎_elim (λ before. inl before) (λ here. inr ((0, entries_of file, omega arith, refl, (next.0 here).0), (next.0 here).1))
-              (Contains-append_cases (flat_map left old) (left part) entry (subst (λ l. Contains l entry) both has)),
-          λ either. subst (λ l. Contains l entry) (sym both) (⊎_elim (λ before. Contains-append_left (flat_map left old) (left part) entry before)
-              (λ here. Contains-append_right (flat_map left old) (left part) entry (next.1 (only_of (Has entry) (entries_of file) here.0, here.1))) either),
+        let before = adds.besides (All-tail agrees file files agree) entry in
+        let here = (between (All-head agrees file files agree)).each entry in
+        let first = entries_of file ∷ [] in
+        let others = map entries_of files in (
+          λ has. ⊎_elim (λ earlier. ⊎_elim (λ oldest. inl oldest) (λ filed. inr (Any-right (Has entry) first others filed.0, filed.1)) (before.0 earlier))
+              (λ its. let both = here.0 its in inr (Any-left (Has entry) first others (0, entries_of file, omega arith, refl, both.0), both.1)) ((more entry).0 has),
+          λ either. (more entry).1 (⊎_elim (λ oldest. inl (before.1 (inl oldest)))
+              (λ filed. ⊎_elim (λ its. inr (here.1 (only_of (Has entry) (entries_of file) its, filed.1))) (λ rest. inl (before.1 (inr (rest, filed.1)))) (Any-cases (Has entry) first others filed.0))
+              either),
         );
   }
 

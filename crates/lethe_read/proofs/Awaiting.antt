@@ -1,6 +1,6 @@
 -- The pages that parts have still to fetch, and the names that they may tell.
 use Rattle.std.proofs.Common.{◌≡◌, ℕ, ◌+◌, ◌<◌, ◌≤◌, List, [], ◌∷◌, ◌++◌, length, get_or, take, ⊎_elim, inl, inr, refl, sym, ap, subst, ◌∙◌, arith}
-use Rattle.std.specs.Prelude.{Any, flat_map, sum_by}
+use Rattle.std.specs.Prelude.{◌⊎◌, Any, flat_map, sum_by}
 use Rattle.std.specs.Global.{Vec}
 use Rattle.std.proofs.lemmas.Grind.{flat_map-append}
 use Rattle.std.proofs.lemmas.List.{append-nil, take_all, take_more}
@@ -25,11 +25,23 @@ module _ {C F : Type 0} (awaits : C → ℕ) (damages : C → Name → Type 0) (
   pub awaits_none : (parts : List C) → AwaitsHere [] parts parts
   awaits_none parts = record { count = omega arith; names = λ name any. inl any }
 
-  pub awaits_one : (file : F) (old new : List C) (part : C) → new ≡ old ++ part ∷ [] → awaits part ≡ between file → ((name : Name) → damages part name → IsDamaged file name) → AwaitsHere (file ∷ []) old new
-  awaits_one file old new part is count told = record {
-    count = omega (arith, ap (sum_by awaits) is, sum_by_push awaits old part, count, sum_by-cons between file []);
-    names = λ name any. ⊎_elim (λ before. inl before) (λ here. inr (0, file, omega arith, refl, told name (only_of (Tells name) part here)))
-        (Any-cases (Tells name) old (part ∷ []) (subst (Any (Tells name)) is any));
+  -- a part more that awaits nothing
+  pub awaits_nothing : (files : List F) (old new wider : List C) (part : C) → wider ≡ new ++ part ∷ [] → awaits part ≡ 0 → ((name : Name) → damages part name → ⊥) → AwaitsHere files old new → AwaitsHere files old wider
+  awaits_nothing files old new wider part is none untold awaited = record {
+    count = omega (arith, ap (sum_by awaits) is, sum_by_push awaits new part, none, awaited.count);
+    names = λ name any. ⊎_elim (λ before. awaited.names name before) (λ here. absurd (untold name (only_of (Tells name) part here)))
+        (Any-cases (Tells name) new (part ∷ []) (subst (Any (Tells name)) is any));
+  }
+
+  -- one file more in front of the others
+  pub awaits_file : (file : F) (files : List F) (old mid new : List C) → AwaitsHere files old mid → sum_by awaits new ≡ sum_by awaits mid + between file
+      → ((name : Name) → Any (Tells name) new → Any (Tells name) mid ⊎ IsDamaged file name) → AwaitsHere (file ∷ files) old new
+  awaits_file file files old mid new awaited count told = record {
+    count = omega (arith, awaited.count, count, sum_by-cons between file files);
+    names = λ name any. ⊎_elim
+        (λ before. ⊎_elim (λ earlier. inl earlier) (λ here. inr (Any-right (IsTold name) (file ∷ []) files here)) (awaited.names name before))
+        (λ here. inr (Any-left (IsTold name) (file ∷ []) files (0, file, omega arith, refl, here)))
+        (told name any);
   }
 
   pub awaits_more : (xs ys : List F) (a b c : List C) → AwaitsHere xs a b → AwaitsHere ys b c → AwaitsHere (xs ++ ys) a c

@@ -14,20 +14,7 @@ use Rattle.lethe_read.specs.declared.part.Part.TheVariants.{Buffered}
 use Rattle.lethe_read.proofs.Adding.{buffers_read}
 use Rattle.lethe_read.proofs.Ranges.{between_ascends, entries_between}
 
-module _ {C : Type 0} (sound : C → Type 0) (left : C → List Entry) (lo hi : Bytes) (active frozen : List Entry) where
-  -- the part holds the entries of a buffer
-  copies_ascend : (es : List Entry) (held : Vec Entry) → IsAscending es → reverse held.items ≡ entries_between lo hi es → IsAscending (reverse held.items)
-  copies_ascend es held ascending is = subst IsAscending (sym is) (between_ascends lo hi es ascending)
-
-  pub one_sound : (parts : List (Part C)) (first : Vec Entry) → IsAscending active → reverse first.items ≡ entries_between lo hi active → parts ≡ Buffered first ∷ [] → All (IsSound sound) parts
-  one_sound parts first ascending is all = subst (All (IsSound sound)) (sym all) (All-cons (IsSound sound) (Buffered first) [] (copies_ascend active first ascending is) (All-nil (IsSound sound)))
-
-  pub two_sound : (parts : List (Part C)) (first second : Vec Entry) → IsAscending active → IsAscending frozen → reverse first.items ≡ entries_between lo hi active → reverse second.items ≡ entries_between lo hi frozen → parts ≡ Buffered first ∷ Buffered second ∷ [] → All (IsSound sound) parts
-  two_sound parts first second ascending too is other all =
-      subst (All (IsSound sound)) (sym all)
-      (All-cons (IsSound sound) (Buffered first) (Buffered second ∷ []) (copies_ascend active first ascending is)
-      (All-cons (IsSound sound) (Buffered second) [] (copies_ascend frozen second too other) (All-nil (IsSound sound))))
-
+module _ {C : Type 0} (left : C → List Entry) (lo hi : Bytes) (active frozen : List Entry) where
   pub one_left : (parts : List (Part C)) (first : Vec Entry) → frozen ≡ [] → reverse first.items ≡ entries_between lo hi active → parts ≡ Buffered first ∷ [] → AreReadBetween lo hi active frozen [] (flat_map (left_in left) parts)
   one_left parts first none is all =
       subst (λ (l : List Entry). AreReadBetween lo hi active frozen [] l)
@@ -40,3 +27,22 @@ module _ {C : Type 0} (sound : C → Type 0) (left : C → List Entry) (lo hi : 
       subst (λ (l : List Entry). AreReadBetween lo hi active frozen [] l)
       (ap (λ (l : List Entry). l ++ entries_between lo hi frozen) (sym is) ∙ ap (λ (l : List Entry). reverse first.items ++ l) (sym other ∙ sym (append-nil (reverse second.items))) ∙ sym (ap (flat_map (left_in left)) all))
       (buffers_read lo hi active frozen)
+
+  -- the part holds the entries of a buffer
+  copies_ascend : (es : List Entry) (held : Vec Entry) → IsAscending es → reverse held.items ≡ entries_between lo hi es → IsAscending (reverse held.items)
+  copies_ascend es held ascending is = subst IsAscending (sym is) (between_ascends lo hi es ascending)
+
+  module _ (tells : Type 0) (sound : C → Type 0) (parts : List (Part C)) where
+    abbrev AreSound : List (Part C) → Type 0
+    AreSound parts = All (IsSound tells sound left) parts
+
+    one : (held : Vec Entry) (rest : List (Part C)) → IsAscending (reverse held.items) → AreSound rest → AreSound (Buffered held ∷ rest)
+    one held rest ascending sounds = All-cons (IsSound tells sound left) (Buffered held) rest ascending sounds
+
+    pub one_sound : (first : Vec Entry) → IsAscending active → reverse first.items ≡ entries_between lo hi active → parts ≡ Buffered first ∷ [] → AreSound parts
+    one_sound first ascending is all = subst AreSound (sym all) (one first [] (copies_ascend active first ascending is) (All-nil (IsSound tells sound left)))
+
+    pub two_sound : (first second : Vec Entry) → IsAscending active → IsAscending frozen → reverse first.items ≡ entries_between lo hi active → reverse second.items ≡ entries_between lo hi frozen
+        → parts ≡ Buffered first ∷ Buffered second ∷ [] → AreSound parts
+    two_sound first second ascending too is other all =
+        subst AreSound (sym all) (one first (Buffered second ∷ []) (copies_ascend active first ascending is) (one second [] (copies_ascend frozen second too other) (All-nil (IsSound tells sound left))))

@@ -1,10 +1,10 @@
 -- Parts of one kind of disk.
-use Rattle.std.proofs.Common.{◌≡◌, ℕ, List, [], ◌∷◌, ◌++◌, length, Some, ap, subst}
+use Rattle.std.proofs.Common.{ℕ, List, length, Some}
 use Rattle.lethe_base.specs.Keys.{Bytes}
 use Rattle.lethe_base.specs.declared.entry.Entry.{Entry}
 use Rattle.lethe_base.specs.declared.name.Name.{Name}
 use Rattle.lethe_disk.specs.declared.disk.Disk.{Ghosts}
-use Rattle.lethe_file.specs.Between.{AreBetween, numbers_between}
+use Rattle.lethe_file.specs.Between.{numbers_between}
 use Rattle.lethe_file.specs.Damage.{IsDamagedAmong, damages_in}
 use Rattle.lethe_file.specs.Waiting.{IsSoundIn, awaited_in}
 use Rattle.lethe_file.specs.Waiting as waiting
@@ -15,13 +15,10 @@ use Rattle.lethe_version.specs.Versions.{IsSound, bytes_of, entries_of}
 use Rattle.lethe_read.specs.Parts.{Adds, Awaits, left_in}
 use Rattle.lethe_read.specs.Parts as parts
 use Rattle.lethe_read.specs.declared.part.Part.{Part}
-use Rattle.lethe_read.specs.declared.part.Part.TheVariants.{Filed}
-use Rattle.lethe_read.proofs.Adding.{adds_one}
-use Rattle.lethe_read.proofs.Awaiting.{awaits_one}
 
 module _ {D Page Port : Type 0} (disk : Ghosts D Page Port) where
   abbrev pub part_sound : Part (FileCursor D Page Port) → Type 0
-  part_sound part = parts.IsSound (λ cursor. IsSoundIn disk.tells disk.page_bytes cursor.unread) part
+  part_sound part = parts.IsSound disk.tells (λ cursor. IsSoundIn disk.tells disk.page_bytes cursor.unread) (λ cursor. waiting.left_in disk.page_bytes cursor.unread) part
 
   abbrev pub part_left : Part (FileCursor D Page Port) → List Entry
   part_left part = left_in (λ cursor. waiting.left_in disk.page_bytes cursor.unread) part
@@ -45,17 +42,3 @@ module _ {D Page Port : Type 0} (disk : Ghosts D Page Port) where
 
   abbrev pub AddsFiles : Bytes → Bytes → List (FileView D Page Port disk) → List (Part (FileCursor D Page Port)) → List (Part (FileCursor D Page Port)) → Type 0
   AddsFiles lo hi files old new = Adds disk.tells part_sound part_left IsSound entries_of lo hi files old new
-
-  -- a part for one file more
-  pub file_added : (lo hi : Bytes) (file asked : FileView D Page Port disk) (old new : List (Part (FileCursor D Page Port))) (cursor : FileCursor D Page Port) → asked ≡ file → new ≡ old ++ Filed cursor ∷ []
-      → (disk.tells → IsSound asked → IsSoundIn disk.tells disk.page_bytes cursor.unread) → (IsSound asked → AreBetween lo (Some hi) (entries_of asked) (waiting.left_in disk.page_bytes cursor.unread))
-      → AddsFiles lo hi (file ∷ []) old new
-  file_added lo hi file asked old new cursor same is sounds between =
-      subst (λ (f : FileView D Page Port disk). AddsFiles lo hi (f ∷ []) old new) same (adds_one disk.tells part_sound part_left IsSound entries_of lo hi asked old new (Filed cursor) is sounds between)
-
-  -- and the pages that it awaits
-  pub file_awaited : (lo hi : Bytes) (file asked : FileView D Page Port disk) (old new : List (Part (FileCursor D Page Port))) (cursor : FileCursor D Page Port) → asked ≡ file → new ≡ old ++ Filed cursor ∷ []
-      → awaited_in disk.page_bytes cursor.unread ≡ numbers_between lo (Some hi) asked.header.tiles → ((name : Name) → damages_in disk.tells disk.page_bytes cursor.unread name → IsToldIn asked name)
-      → AwaitsFiles lo hi (file ∷ []) old new
-  file_awaited lo hi file asked old new cursor same is pages told =
-      subst (λ (f : FileView D Page Port disk). AwaitsFiles lo hi (f ∷ []) old new) same (awaits_one part_awaits part_damages (pages_in lo hi) IsToldIn asked old new (Filed cursor) is (ap length pages) told)

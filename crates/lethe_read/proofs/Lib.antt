@@ -2,6 +2,10 @@ pub mod Adding
 pub mod Awaiting
 pub mod Backed
 pub mod Buffered
+pub mod Fences
 pub mod Filed
+pub mod Following
 pub mod Nothing
 pub mod Ranges
+pub mod Refusals
+pub mod Runs

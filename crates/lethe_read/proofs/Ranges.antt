@@ -54,10 +54,12 @@ below_range lo hi key low = first_fails _ _ (ap is_le (turned key lo (key_cmp ke
 past_range : (lo hi key : Bytes) → is_lt (key_cmp key hi) ≡ false → is_between lo hi key ≡ false
 past_range lo hi key high = second_fails (is_le (key_cmp lo key)) _ high
 
+-- the order of two keys, seen from the other side
+pub not_less : (x y : Bytes) → is_lt (key_cmp x y) ≡ false → is_le (key_cmp y x) ≡ true
+not_less x y low = ap is_le (turned x y (key_cmp x y) refl) ∙ not_above (key_cmp x y) low
+
 in_range : (lo hi key : Bytes) → is_lt (key_cmp key lo) ≡ false → is_lt (key_cmp key hi) ≡ true → is_between lo hi key ≡ true
-in_range lo hi key low high =
-    let from : is_le (key_cmp lo key) ≡ true = ap is_le (turned key lo (key_cmp key lo) refl) ∙ not_above (key_cmp key lo) low in
-    rw from high
+in_range lo hi key low high = let from : is_le (key_cmp lo key) ≡ true = not_less key lo low in rw from high
 
 -- the entries below the range are left out anyway
 below_left_out : (lo hi : Bytes) (es : List Entry) → entries_between lo hi (filter (λ e. not (is_lt (key_cmp e.key lo))) es) ≡ entries_between lo hi es

@@ -1,40 +1,54 @@
 -- Cursors over the parts of a store, side by side.
-use Rattle.std.specs.Prelude.{◌≡◌, ◌⊎◌, ◌↔◌, ℕ, ◌+◌, IsTrue, List, map, flat_map, reverse, sum_by, All, Any, Contains}
+use Rattle.std.specs.Prelude.{◌≡◌, ◌⊎◌, ◌↔◌, ℕ, ◌+◌, Bool, true, IsTrue, List, ◌∷◌, map, flat_map, reverse, sum_by, All, Any, Contains}
+use Rattle.std.specs.Ordering.{is_lt}
 use Rattle.lethe_base.specs.Entries.{IsAscending}
-use Rattle.lethe_base.specs.Keys.{Bytes}
+use Rattle.lethe_base.specs.Keys.{Bytes, key_cmp}
 use Rattle.lethe_base.specs.Read.{is_between}
 use Rattle.lethe_base.specs.declared.entry.Entry.{Entry}
 use Rattle.lethe_base.specs.declared.name.Name.{Name}
+use Rattle.lethe_header.specs.Facts.{greatest_key, least_key}
+use Rattle.lethe_header.specs.declared.header.Header.{Header}
 use Rattle.lethe_read.specs.declared.part.Part.{Part}
 use Rattle.lethe_read.specs.declared.part.Part.TheVariants.{Buffered, Filed}
 
 -- the entries that a part has still to give, by what a cursor has
 abbrev pub left_in : {C : Type 0} → (C → List Entry) → Part C → List Entry
 left_in left (Buffered entries) = reverse entries.items
-left_in left (Filed cursor) = left cursor
+left_in left (Filed cursors) = flat_map left (reverse cursors.items)
 
 abbrev pub MayAsk : {C : Type 0} → (C → Type 0) → Part C → Type 0
 MayAsk may_ask (Buffered entries) = Unit {0}
-MayAsk may_ask (Filed cursor) = may_ask cursor
+MayAsk may_ask (Filed cursors) = All may_ask cursors.items
 
--- the entries of a buffer ascend, and a cursor over a file is sound
-abbrev pub IsSound : {C : Type 0} → (C → Type 0) → Part C → Type 0
-IsSound sound (Buffered entries) = IsAscending (reverse entries.items)
-IsSound sound (Filed cursor) = sound cursor
+-- Cursors are read one after another, the last first: the disk tells what it holds, each of them is sound, and what they have still to give ascends.
+pub record IsRun {C : Type 0} (tells : Type 0) (sound : C → Type 0) (left : C → List Entry) (cursors : List C) : Type 0 where
+  pub told : tells
+  pub each : All sound cursors
+  pub ascending : IsAscending (flat_map left (reverse cursors))
+
+-- the entries of a buffer ascend, and cursors over files may be read one after another
+abbrev pub IsSound : {C : Type 0} → Type 0 → (C → Type 0) → (C → List Entry) → Part C → Type 0
+IsSound tells sound left (Buffered entries) = IsAscending (reverse entries.items)
+IsSound tells sound left (Filed cursors) = IsRun tells sound left cursors.items
 
 -- how many fetches a part has still to make
 abbrev pub awaits_in : {C : Type 0} → (C → ℕ) → Part C → ℕ
 awaits_in awaits (Buffered entries) = 0
-awaits_in awaits (Filed cursor) = awaits cursor
+awaits_in awaits (Filed cursors) = sum_by awaits cursors.items
 
 -- the names that it may tell as damaged
 abbrev pub Damages : {C : Type 0} → (C → Name → Type 0) → Part C → Name → Type 0
 Damages damages (Buffered entries) name = ⊥
-Damages damages (Filed cursor) name = damages cursor name
+Damages damages (Filed cursors) name = Any (λ cursor. damages cursor name) cursors.items
 
-pub part_ascends : {C : Type 0} (may_ask sound : C → Type 0) (left : C → List Entry) → ((c : C) → may_ask c → sound c → IsAscending (left c)) → (part : Part C) → MayAsk may_ask part → IsSound sound part → IsAscending (left_in left part)
-part_ascends may_ask sound left ascends (Buffered entries) asked is = is
-part_ascends may_ask sound left ascends (Filed cursor) asked is = ascends cursor asked is
+pub part_ascends : {C : Type 0} (tells : Type 0) (may_ask sound : C → Type 0) (left : C → List Entry) → (part : Part C) → MayAsk may_ask part → IsSound tells sound left part → IsAscending (left_in left part)
+part_ascends tells may_ask sound left (Buffered entries) asked is = is
+part_ascends tells may_ask sound left (Filed cursors) asked is = is.ascending
+
+-- the first file's keys are below those of the one behind it, if there is one
+abbrev pub joins : {F : Type 0} → (F → Header) → List F → Bool
+joins header (file ∷ behind ∷ files) = is_lt (key_cmp (greatest_key (header file).tiles) (least_key (header behind).tiles))
+joins header files = true
 
 -- Parts for some files were added: where the files agree with their headers the parts are still sound, and have besides what they had
 -- the files' entries of the keys from the first up to the second, which is excluded.

@@ -13,14 +13,14 @@ use std::alloc::Global;
 pub enum Part<C> {
     /// Copies of a buffer's, of which the last comes first.
     Buffered(Vec<Entry>),
-    /// What a cursor over a file gives.
-    Filed(C),
+    /// What cursors over files give, one after another: the keys of each lie below those of the next, and the last is read first.
+    Filed(Vec<C>),
 }
 
-impl<D: Disk, C: Cursor<D>> Cursor<D> for Part<C> {
+impl<D: Disk, C: Cursor<D> + Drop> Cursor<D> for Part<C> {
     ghost may_ask = { MayAsk C.may_ask };
 
-    ghost sound = { IsSound C.sound };
+    ghost sound = { IsSound D.tells C.sound C.left };
 
     ghost left = { left_in C.left };
 
@@ -28,12 +28,22 @@ impl<D: Disk, C: Cursor<D>> Cursor<D> for Part<C> {
 
     ghost damages = { Damages C.damages };
 
-    ghost ascends = { part_ascends C.may_ask C.sound C.left C.ascends };
+    ghost ascends = { part_ascends D.tells C.may_ask C.sound C.left };
 
     fn next(&mut self, alloc: Global, port: &mut D::Port) -> Result<Option<Entry>, ReadRefused> {
         match self {
             Part::Buffered(entries) => Ok(entries.pop()),
-            Part::Filed(cursor) => cursor.next(alloc, port),
+            Part::Filed(cursors) => {
+                let before = D::port_faults(port);
+                while let Some(cursor) = cursors.last_mut() {
+                    match cursor.next(alloc, port) {
+                        Ok(Some(entry)) => return Ok(Some(entry)),
+                        Ok(None) => drop(cursors.pop()),
+                        Err(why) => return Err(why.since(before)),
+                    }
+                }
+                Ok(None)
+            }
         }
     }
 }

@@ -1,5 +1,5 @@
 //! The pairs of the keys between two.
-ghost use Rattle.std.specs.Prelude.{◌≡◌, ◌+◌, ◌<◌, ◌≤◌, ◌∷◌, [], ◌++◌, Some, true, false, length, map, flat_map, sum_by, List, All, Any, IfOk, OnOk, IsErrOf};
+ghost use Rattle.std.specs.Prelude.{◌≡◌, ◌+◌, ◌<◌, ◌≤◌, ◌∷◌, [], ◌++◌, Some, true, false, drop, length, map, flat_map, sum_by, List, All, Any, IfOk, OnOk, IsErrOf};
 ghost use Rattle.std.specs.Option.{option_copied};
 ghost use Rattle.std.specs.Ordering.{is_lt};
 ghost use Rattle.lethe_base.specs.Keys.{key_cmp};
@@ -9,22 +9,24 @@ ghost use Rattle.lethe_disk.specs.Reads.{HasReadCause, IsFault};
 ghost use Rattle.lethe_disk.specs.declared.cursor.ReadRefused.TheVariants.{Damaged};
 ghost use Rattle.lethe_file.specs.Between.{numbers_between};
 ghost use Rattle.lethe_file.specs.Damage.{IsDamagedAmong};
-ghost use Rattle.lethe_header.specs.Facts.{lines_of};
+ghost use Rattle.lethe_header.specs.Facts.{greatest_key, least_key, lines_of};
 ghost use Rattle.lethe_mem.specs.Pairs.{pairs_of};
 ghost use Rattle.lethe_merge.specs.Merge.{merged};
 ghost use Rattle.lethe_version.specs.Versions.{IsDamagedInAny, IsSound, bytes_of, entries_of, files_of, pages_between};
 ghost use Rattle.lethe_read.specs.Between.{AreReadBetween, by_keys};
 ghost use Rattle.lethe_read.specs.Found.{frozen_entries};
-ghost use Rattle.lethe_read.specs.Parts.{Adds, Awaits};
+ghost use Rattle.lethe_read.specs.Parts.{Adds, Awaits, joins};
 
 use crate::part::{Part, copies_between};
 use lethe_base::{Body, Entry, Key, NoMemory, Pending, Value};
 use lethe_disk::{Cursor, Disk, ReadRefused};
-use lethe_file::FileCursor;
+use lethe_file::{FileCursor, FileView};
 use lethe_mem::Buffer;
 use lethe_merge::Merger;
 use lethe_version::{Shared, Version};
 use std::alloc::Global;
+use std::cmp::Ordering;
+use std::mem;
 
 /// The keys that were put from `lo` up to `hi` excluded, ascending, with their delete keys and values. Where `lo` isn't below
 /// `hi` there is none.
@@ -63,7 +65,7 @@ pub fn scan<D: Disk, B: Buffer>(
     pairs_from::<D, Merger<D, Part<FileCursor<D>>>>(alloc, port, &mut merger)
 }
 
-/// The parts of the store, the newest first, each with its entries of the keys from `lo` up to `hi`, which is excluded.
+/// The parts of the store, each with its entries of the keys from `lo` up to `hi`, which is excluded.
 fn parts_of<D: Disk, B: Buffer>(
     alloc: Global,
     active: &B,
@@ -108,7 +110,7 @@ fn buffered_parts<D: Disk, B: Buffer>(
     Ok(parts)
 }
 
-/// Adds a part for each of the files.
+/// Adds parts for the files: one for neighbours whose keys follow one another, so that a merger compares one key of them.
 fn push_files<D: Disk>(
     alloc: Global,
     parts: &mut Vec<Part<FileCursor<D>>>,
@@ -122,10 +124,40 @@ fn push_files<D: Disk>(
     ensures adds { OnOk result (Adds D.tells ⟦<Part<FileCursor<D>> as Cursor<D>>⟧.sound ⟦<Part<FileCursor<D>> as Cursor<D>>⟧.left IsSound entries_of lo.now hi.now
         (map (λ shared. shared.file.value) files.now) parts.old.items parts.new.items) }
 {
-    for file in files {
-        parts.push(Part::Filed(file.file().cursor(alloc, lo, Some(hi))?))?;
+    if files.is_empty() {
+        return Ok(());
     }
+    // From the last to the first, since of a run the last cursor is read first.
+    let mut run = Vec::new(alloc);
+    for place in (0..files.len()).rev() {
+        if !joins_next(files, place) {
+            let ended = mem::replace(&mut run, Vec::new(alloc));
+            parts.push(Part::Filed(ended))?;
+        }
+        run.push(files[place].file().cursor(alloc, lo, Some(hi))?)?;
+    }
+    parts.push(Part::Filed(run))?;
     Ok(())
+}
+
+/// Whether the keys of the file at a place lie below those of the file behind it, if there is one.
+fn joins_next<D: Disk>(files: &[Shared<D>], place: usize) -> bool
+    requires { place < length files.now }
+    ensures { result ≡ joins (λ shared. shared.file.value.header) (drop place files.now) }
+{
+    match files.get(place + 1) {
+        Some(behind) => ends_below(files[place].file(), behind.file()),
+        None => true,
+    }
+}
+
+/// Whether the file's greatest key is below the other one's least.
+fn ends_below<D: Disk>(file: &FileView<D>, other: &FileView<D>) -> bool
+    ensures { result ≡ is_lt (key_cmp (greatest_key file.now.header.tiles) (least_key other.now.header.tiles)) }
+{
+    let tiles = file.header().tiles.items();
+    let others = other.header().tiles.items();
+    tiles[tiles.len() - 1].hi.cmp(&others[0].lo) == Ordering::Less
 }
 
 /// The pairs of the puts that a cursor gives.

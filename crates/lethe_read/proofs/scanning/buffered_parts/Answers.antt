@@ -21,12 +21,12 @@ returns-clause-sound g c =
     elim c.match-frozen.branch [
       | in-Some+in_ok-copies_between-2+in_ok-push-2 w ↦
           let second = w.in_ok-copies_between-2.field-0 in
-          rw w.parts-is (two_sound (λ cursor. IsSoundIn g.D.Disk.tells g.D.Disk.page_bytes cursor.unread) (λ cursor. left_in g.D.Disk.page_bytes cursor.unread) c.args.lo.now c.args.hi.now (g.B.Buffer.entries c.args.active.now)
-          (g.B.Buffer.entries w.in-Some.frozen.now) w.push-in-Some.new.self.items first second (laws.ascending c.args.active.now) (laws.ascending w.in-Some.frozen.now) c.in_ok-copies_between.ensures w.in_ok-copies_between-2.ensures
+          rw w.parts-is (two_sound (λ cursor. left_in g.D.Disk.page_bytes cursor.unread) c.args.lo.now c.args.hi.now (g.B.Buffer.entries c.args.active.now) (g.B.Buffer.entries w.in-Some.frozen.now)
+          g.D.Disk.tells (λ cursor. IsSoundIn g.D.Disk.tells g.D.Disk.page_bytes cursor.unread) w.push-in-Some.new.self.items first second (laws.ascending c.args.active.now) (laws.ascending w.in-Some.frozen.now) c.in_ok-copies_between.ensures w.in_ok-copies_between-2.ensures
           (second_part c.new-parts.result.items c.push.new.self.items w.push-in-Some.new.self.items (Buffered first) (Buffered second) c.new-parts.ensures.items c.in_ok-push.ensures.items w.in_ok-push-2.ensures.items))
       | in_default w ↦
-          rw w.parts-is (one_sound (λ cursor. IsSoundIn g.D.Disk.tells g.D.Disk.page_bytes cursor.unread) (λ cursor. left_in g.D.Disk.page_bytes cursor.unread) c.args.lo.now c.args.hi.now (g.B.Buffer.entries c.args.active.now) []
-          c.push.new.self.items first (laws.ascending c.args.active.now) c.in_ok-copies_between.ensures
+          rw w.parts-is (one_sound (λ cursor. left_in g.D.Disk.page_bytes cursor.unread) c.args.lo.now c.args.hi.now (g.B.Buffer.entries c.args.active.now) []
+          g.D.Disk.tells (λ cursor. IsSoundIn g.D.Disk.tells g.D.Disk.page_bytes cursor.unread) c.push.new.self.items first (laws.ascending c.args.active.now) c.in_ok-copies_between.ensures
           (first_part c.new-parts.result.items c.push.new.self.items (Buffered first) c.new-parts.ensures.items c.in_ok-push.ensures.items))
     ]
 
@@ -36,11 +36,11 @@ returns-clause-left g c =
     elim c.match-frozen.branch [
       | in-Some+in_ok-copies_between-2+in_ok-push-2 w ↦
           let second = w.in_ok-copies_between-2.field-0 in
-          rw (w.parts-is, w.in-Some.is) (two_left (λ cursor. IsSoundIn g.D.Disk.tells g.D.Disk.page_bytes cursor.unread) (λ cursor. left_in g.D.Disk.page_bytes cursor.unread) c.args.lo.now c.args.hi.now (g.B.Buffer.entries c.args.active.now)
+          rw (w.parts-is, w.in-Some.is) (two_left (λ cursor. left_in g.D.Disk.page_bytes cursor.unread) c.args.lo.now c.args.hi.now (g.B.Buffer.entries c.args.active.now)
           (g.B.Buffer.entries w.in-Some.frozen.now) w.push-in-Some.new.self.items first second c.in_ok-copies_between.ensures w.in_ok-copies_between-2.ensures
           (second_part c.new-parts.result.items c.push.new.self.items w.push-in-Some.new.self.items (Buffered first) (Buffered second) c.new-parts.ensures.items c.in_ok-push.ensures.items w.in_ok-push-2.ensures.items))
       | in_default w ↦
-          rw (w.parts-is, w.in_default.is) (one_left (λ cursor. IsSoundIn g.D.Disk.tells g.D.Disk.page_bytes cursor.unread) (λ cursor. left_in g.D.Disk.page_bytes cursor.unread) c.args.lo.now c.args.hi.now (g.B.Buffer.entries c.args.active.now) []
+          rw (w.parts-is, w.in_default.is) (one_left (λ cursor. left_in g.D.Disk.page_bytes cursor.unread) c.args.lo.now c.args.hi.now (g.B.Buffer.entries c.args.active.now) []
           c.push.new.self.items first refl c.in_ok-copies_between.ensures
           (first_part c.new-parts.result.items c.push.new.self.items (Buffered first) c.new-parts.ensures.items c.in_ok-push.ensures.items))
     ]

@@ -1,10 +1,7 @@
-use Rattle.std.proofs.Common.{map, take}
-use Rattle.lethe_read.proofs.Filed.{AddsFiles, AwaitsFiles}
+use Rattle.std.proofs.Common.{map, drop}
+use Rattle.lethe_read.proofs.Following.{AreAdded}
 use Rattle.lethe_read.proofs.scanning.push_files.Given as goal
 
--- a part for each of the files so far
-abbrev pub invariant-loop-file : goal.invariant-loop-file
-invariant-loop-file g l = record {
-  adds : AddsFiles g.D.Disk l.lo l.hi (map (λ shared. shared.file.value) (take l.file-index l.files)) l.fn.parts.items l.parts.items;
-  awaits : AwaitsFiles g.D.Disk l.lo l.hi (map (λ shared. shared.file.value) (take l.file-index l.files)) l.fn.parts.items l.parts.items;
-}
+-- cursors over the files from the place on were added
+abbrev pub invariant-loop-place : goal.invariant-loop-place
+invariant-loop-place g l = AreAdded g.D.Disk l.lo l.hi (map (λ shared. shared.file.value) (drop l.place l.files)) l.fn.parts.items l.parts.items l.run
