@@ -1,0 +1,4 @@
+mod Bytes
+mod Records
+mod Waiting
+mod Opening
