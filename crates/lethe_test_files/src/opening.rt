@@ -1,5 +1,6 @@
 //! Files on a disk in memory.
 ghost use Rattle.std.specs.Prelude.{◌≡◌, ◌+◌, length, IfOk, OnOk};
+ghost use Rattle.lethe_header.specs.Facts.{lines_of};
 ghost use Rattle.lethe_header.specs.Headers.{HasSpelling};
 
 use crate::common::key_of;
@@ -88,15 +89,16 @@ fn add_pages(
     Ok(())
 }
 
-/// The file of a header, with these bytes as its pages. Some of the pages are torn.
-pub fn add_file(
+/// The pages of a header, with these bytes. Some of them are torn.
+pub fn pages_on(
     alloc: Global,
     disk: &mut MemDisk,
-    header: &[u8],
+    header: &Header,
     pages: &[&[u8]],
     torn: &[u64],
-) -> Result<FileView<MemDisk>, Fail> {
-    let header = header_of(alloc, header)?;
+) -> Result<Vec<Arc<MemPage>>, Fail>
+    ensures { IfOk result (λ opened. length opened.items ≡ length (lines_of header.now.tiles)) }
+{
     let mut left = pages.iter();
     let mut opened = Vec::new(alloc);
     for tile in header.tiles.items() {
@@ -109,6 +111,19 @@ pub fn add_file(
             &mut opened,
         )?;
     }
+    Ok(opened)
+}
+
+/// The file of a header, with these bytes as its pages. Some of the pages are torn.
+pub fn add_file(
+    alloc: Global,
+    disk: &mut MemDisk,
+    header: &[u8],
+    pages: &[&[u8]],
+    torn: &[u64],
+) -> Result<FileView<MemDisk>, Fail> {
+    let header = header_of(alloc, header)?;
+    let opened = pages_on(alloc, disk, &header, pages, torn)?;
     Ok(FileView::new(alloc, header, opened)?)
 }
 

@@ -1,8 +1,8 @@
-use Rattle.std.proofs.Common.{◌≡◌, ◌+◌, take, length, sym, ap, ◌∙◌, arith, length-append}
+use Rattle.std.proofs.Common.{◌+◌, take, length, sym, ap, ◌∙◌, arith, length-append}
 use Rattle.std.proofs.lemmas.List.{take_all}
 use Rattle.lethe_header.specs.Facts.{lines_of}
 use Rattle.lethe_version.proofs.Opened.{lines_more}
-use Rattle.lethe_test_files.proofs.opening.add_file.Goals as goal
+use Rattle.lethe_test_files.proofs.opening.pages_on.Goals as goal
 
 pub loop-tile-preserved : goal.loop-tile-preserved
 loop-tile-preserved c =
@@ -11,6 +11,6 @@ loop-tile-preserved c =
     let more = lines_more tiles i c.tile-item.result c.loop-tile-test.true c.tile-item.is in
     c.in_ok-add_pages.ensures ∙ (λ k. c.loop-tile.invariant k + length (c.items.ensures k)) ∙ sym (length-append (lines_of (take i tiles)) c.tile-item.result.pages) ∙ ap length (sym more)
 
-pub new-requires-clause-paged : goal.new-requires-clause-paged
-new-requires-clause-paged c κs =
+pub returns : goal.returns
+returns c =
     c.loop-tile.invariant ∙ ap (λ tiles. length (lines_of tiles)) (take_all c.loop-tile.tile-index c.items-tile-items.result.now (omega (arith, c.loop-tile-test.false)) ∙ c.items-tile-items.ensures)
