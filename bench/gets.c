@@ -1,5 +1,5 @@
 // Reads files by pread, in the order of a list, and digests each with SHA-256 (FIPS 180-4): gets LIST TIMES. Each line of LIST is a file's path; the list is gone through TIMES times, which
-// may be a fraction. Each file is opened once, before all reading, but for those of which the system lets no more be open: these are opened and closed at each read.
+// may be a fraction. It prints the processor's seconds of the reading. Each file is opened once, before all reading, but for those of which the system lets no more be open: these are opened and closed at each read.
 #define _GNU_SOURCE
 #include <fcntl.h>
 #include <search.h>
@@ -8,6 +8,7 @@
 #include <stdlib.h>
 #include <string.h>
 #include <sys/resource.h>
+#include <time.h>
 #include <unistd.h>
 
 static const uint32_t K[64] = {
@@ -81,6 +82,8 @@ int main(int count, char **words) {
         all[files].path = met->key;
         all[files++].file = (int)(intptr_t)met->data;
     }
+    struct timespec begun, ended;
+    clock_gettime(CLOCK_PROCESS_CPUTIME_ID, &begun);
     uint32_t sum = 0;
     size_t reads = (size_t)(files * atof(words[2]));
     for (size_t at = 0; at < reads; at++) {
@@ -90,6 +93,8 @@ int main(int count, char **words) {
         sum ^= digest(bytes, length);
         if (kept < 0) close(file);
     }
+    clock_gettime(CLOCK_PROCESS_CPUTIME_ID, &ended);
+    printf("%.6f\n", ended.tv_sec - begun.tv_sec + (ended.tv_nsec - begun.tv_nsec) * 1e-9);
     // The sum is used, so no digest can be left out.
     return sum == 0x5eed5eed ? 3 : 0;
 }
