@@ -39,6 +39,10 @@ stands_parts x y bytes at end p =
       record { parts = behind; ends = ends; within = p.within },
     )
 
+-- a text and what stands behind it
+pub split : (x y bytes : List ℕ) (at mid end : ℕ) → at + length x ≡ mid → StandsAt (x ++ y) bytes at end → StandsAt x bytes at mid × StandsAt y bytes mid end
+split x y bytes at mid end is p = subst (λ (n : ℕ). StandsAt x bytes at n × StandsAt y bytes n end) is (stands_parts x y bytes at end p)
+
 -- a text stands where the bytes begin with it
 pub stands_where : (x rest bytes : List ℕ) (at : ℕ) → at ≤ length bytes → drop at bytes ≡ x ++ rest → StandsAt x bytes at (at + length x)
 stands_where x rest bytes at within e = record {

@@ -2,10 +2,9 @@
 use Rattle.std.proofs.Common.{◌≡◌, ℕ, zero, suc, ◌-◌, ◌<◌, ◌≤◌, ◌⊎◌, inl, inr, [], ◌∷◌, ◌++◌, length, Some, None, slice_get, refl, sym, ap, ◌∙◌, subst, arith}
 use Rattle.std.proofs.lemmas.List.{length-append, take-append-le, take_all}
 use Rattle.std.proofs.lemmas.List.Sums.{fold-append}
-use Rattle.lethe_base.specs.declared.call.Call.TheVariants.{Erase, Tick, Work}
+use Rattle.lethe_base.specs.declared.call.Call.TheVariants.{Tick, Work}
 use Rattle.lethe_base.specs.declared.call.Did.TheVariants.{Done}
 use Rattle.lethe_base.specs.Limits.{max_place}
-use Rattle.lethe_base.specs.Ranges.{Ends}
 use Rattle.lethe_base.specs.History.{History, Change, change_at, after, changed, nothing, clock_before, IsLegal, AreDone}
 
 -- one change more
@@ -66,8 +65,8 @@ done_push h new done is place change e = elim (change_at_cases h new change plac
 ]
 
 pub legal_push : (h : History) (new : Change) → IsLegal h → AreDone h → length h < max_place → (new.call ≡ Work → ⊥)
-    → ((to : ℕ) → new.call ≡ Tick to → (after h).clock ≤ to) → ((range : Ends) → new.call ≡ Erase range → ⊥) → IsLegal (h ++ new ∷ [])
-legal_push h new legal done few works forward erases = record {
+    → ((to : ℕ) → new.call ≡ Tick to → (after h).clock ≤ to) → IsLegal (h ++ new ∷ [])
+legal_push h new legal done few works forward = record {
   few = omega (arith, length-append h (new ∷ []));
   lasts = λ place change e before. elim (change_at_cases h new change place e) [
     | inl old ↦ done place change old.1
@@ -85,10 +84,6 @@ legal_push h new legal done few works forward erases = record {
         clock_before-append h (new ∷ []) place (omega arith) ∙ ap (clock_before h) is_end ∙ clock_before-end h in
         subst (λ clock. clock ≤ to) (sym clock) (forward to (sym (ap (λ c. c.call) last.1) ∙ is))
   ];
-  unerased = λ place range change e is did. elim (change_at_cases h new change place e) [
-    | inl old ↦ legal.unerased place range change old.1 is did
-    | inr last ↦ erases range (sym (ap (λ c. c.call) last.1) ∙ is)
-  ];
 }
 
 -- the history without any change is legal, and none in it has failed
@@ -98,7 +93,6 @@ legal_empty = record {
   lasts = λ place change e before. absurd (omega arith);
   work = λ place change e is did. absurd (none place change e);
   forward = λ place to change e is did. absurd (none place change e);
-  unerased = λ place range change e is did. none place change e;
 }
   where
     none : (place : ℕ) (change : Change) → change_at [] place ≡ Some change → ⊥

@@ -2,6 +2,7 @@ pub mod Histories
 pub mod ReadingSteps
 pub mod FieldLaws
 pub mod EntryLaws
+pub mod EraseLaws
 pub mod SkippingLaws
 pub mod Configurations
 pub mod CauseLaws
@@ -11,3 +12,5 @@ pub mod Overdue
 pub mod Newest
 pub mod FirstPut
 pub mod Shorter
+pub mod Filters
+pub mod LeftErases

@@ -82,10 +82,6 @@ clock_before h place = (after (take (place - 1) h)).clock
 abbrev pub AreDone : History → Type 0
 AreDone h = (place : ℕ) (change : Change) → change_at h place ≡ Some change → change.did ≡ Done
 
--- no erase of a range was done
-abbrev pub HasNoErase : History → Type 0
-HasNoErase h = (place : ℕ) (range : Ends) (change : Change) → change_at h place ≡ Some change → change.call ≡ Erase range → change.did ≡ Done → ⊥
-
 -- What a store may have accepted.
 pub record IsLegal (h : History) : Type 0 where
   pub few : length h ≤ max_place
@@ -95,5 +91,3 @@ pub record IsLegal (h : History) : Type 0 where
   pub work : (place : ℕ) (change : Change) → change_at h place ≡ Some change → change.call ≡ Work → change.did ≡ Done → ⊥
   -- the clock doesn't go back
   pub forward : (place to : ℕ) (change : Change) → change_at h place ≡ Some change → change.call ≡ Tick to → change.did ≡ Done → clock_before h place ≤ to
-  -- no call accepts an erase of a range yet
-  pub unerased : HasNoErase h

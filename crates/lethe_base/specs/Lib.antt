@@ -8,6 +8,7 @@ pub mod Read
 pub mod Entries
 pub mod Numbers
 pub mod Spelling
+pub mod Erases
 pub mod Results
 pub mod Reading
 pub mod Skipping

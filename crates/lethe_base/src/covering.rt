@@ -1,5 +1,5 @@
 //! Laws of what a store's layout stands for. The functions do nothing: their contracts are the laws.
-ghost use Rattle.std.specs.Prelude.{◌≡◌, ◌↔◌, ℕ, List, [], Some};
+ghost use Rattle.std.specs.Prelude.{◌≡◌, ◌↔◌, ℕ, List, [], Contains, Some};
 ghost use Rattle.lethe_base.specs.declared.entry.Entry.{Entry};
 ghost use Rattle.lethe_base.specs.declared.pending.Pending.{Pending};
 ghost use Rattle.lethe_base.specs.History.{History, after};
@@ -7,7 +7,7 @@ ghost use Rattle.lethe_base.specs.Causes.{IsCause, IsOverdue, cause_of};
 ghost use Rattle.lethe_base.specs.Matching.{IsPut};
 ghost use Rattle.lethe_base.specs.Layout.{Layout, new_layout};
 ghost use Rattle.lethe_base.specs.Held.{Holds};
-ghost use Rattle.lethe_base.specs.Spent.{IsShorter};
+ghost use Rattle.lethe_base.specs.Spent.{IsShorter, IsSpent, left_erases};
 ghost use Rattle.lethe_base.specs.Shapes.{IsValidShape, shape_of};
 ghost use Rattle.lethe_base.specs.Covers.{Covers};
 ghost use Rattle.lethe_base.specs.Examples.{put_alone, with_put};
@@ -52,4 +52,9 @@ pub fn spent_erases_may_go()
     ensures { (threshold : ℕ) (h : History) (l : Layout) → Covers threshold h l
         → (pending : List Pending) → IsShorter l pending
         → Covers threshold h (record l { pending = pending }) }
+{}
+
+/// The erases that are left are those that aren't spent.
+pub fn left_erases_are_unspent()
+    ensures { (l : Layout) (erase : Pending) → Contains (left_erases l) erase ↔ (Contains l.pending erase × (IsSpent l erase → ⊥)) }
 {}

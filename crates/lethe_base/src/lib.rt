@@ -19,14 +19,15 @@ mod reading;
 mod refused;
 mod shape;
 mod skipping;
+mod spent;
 mod value;
 mod writing;
 
 pub use call::{Call, Did};
 pub use config::{Config, ConfigRefused, Field, Fields, MAX_FILE_ENTRIES, Pick};
 pub use covering::{
-    cause_is_first, first_put_covers, layout_has_one_map, new_layout_covers, new_shape_is_valid,
-    none_is_overdue, spent_erases_may_go,
+    cause_is_first, first_put_covers, layout_has_one_map, left_erases_are_unspent,
+    new_layout_covers, new_shape_is_valid, none_is_overdue, spent_erases_may_go,
 };
 pub use entry::{Body, Entry};
 pub use front::{BodyKind, Front};
@@ -43,5 +44,6 @@ pub use reading::{EntryRefused, read_body, read_entry, read_front, read_key, rea
 pub use refused::Refused;
 pub use shape::{FileFacts, Shape};
 pub use skipping::{FrontEnd, skip_body, skip_front};
+pub use spent::erases_above;
 pub use value::{MAX_VALUE, Value, ValueRefused};
-pub use writing::{entry_len, write_entry};
+pub use writing::{entry_len, write_entry, write_erase};

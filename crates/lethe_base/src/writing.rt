@@ -1,8 +1,9 @@
-//! Writing entries.
+//! Writing entries and erases.
 ghost use Rattle.std.specs.Prelude.{◌≡◌, ◌++◌, length, OnOk};
 ghost use Rattle.lethe_base.specs.Spelling.{since_bytes, body_bytes, entry_bytes};
+ghost use Rattle.lethe_base.specs.Erases.{erase_bytes};
 
-use crate::{Body, BodyKind, Entry, NoMemory};
+use crate::{Body, BodyKind, Entry, NoMemory, Pending};
 
 /// How many bytes the entry's spelling has.
 #[tactic(auto, unfolding(crate::specs::Spelling::front_bytes, crate::specs::Spelling::entry_bytes))]
@@ -56,5 +57,17 @@ fn write_body(out: &mut Vec<u8>, body: &Body) -> Result<(), NoMemory>
         out.extend_from_slice(&(value.len() as u16).to_be_bytes())?;
         out.extend_from_slice(value)?;
     }
+    Ok(())
+}
+
+/// Appends the erase's spelling, of 32 bytes. On an error what was there before is still at the front.
+#[tactic(auto, unfolding(crate::specs::Erases::erase_bytes))]
+pub fn write_erase(out: &mut Vec<u8>, erase: &Pending) -> Result<(), NoMemory>
+    ensures { OnOk result (out.new.items ≡ out.old.items ++ erase_bytes erase.now) }
+{
+    out.extend_from_slice(&erase.seq.to_be_bytes())?;
+    out.extend_from_slice(&erase.time.to_be_bytes())?;
+    out.extend_from_slice(&erase.range.lo().to_be_bytes())?;
+    out.extend_from_slice(&erase.range.hi().to_be_bytes())?;
     Ok(())
 }

@@ -18,7 +18,7 @@ pub segment-front : (number : ℕ) (records : List Record) → segment_bytes num
 unfolding segment_bytes
 segment-front number records = refl
 
-open_records-push : (records : List Record) (next : Record) → open_records (records ++ next ∷ []) ≡ open_records records ++ 1 ∷ record_bytes next
+pub open_records-push : (records : List Record) (next : Record) → open_records (records ++ next ∷ []) ≡ open_records records ++ 1 ∷ record_bytes next
 open_records-push [] next = ap (λ (l : List ℕ). 1 ∷ l) (append-nil (record_bytes next))
 open_records-push (r ∷ records) next = ap (λ (l : List ℕ). (1 ∷ record_bytes r) ++ l) (open_records-push records next) ∙ sym (append_assoc (1 ∷ record_bytes r) (open_records records) (1 ∷ record_bytes next))
 

@@ -1,7 +1,7 @@
 pub mod Writes
-mod Bytes
+pub mod Bytes
 pub mod Removals
-mod Stages
+pub mod Stages
 pub mod Placing
 pub mod Greatest
 pub mod Listed

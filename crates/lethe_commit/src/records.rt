@@ -68,8 +68,12 @@ pub fn append<D: Disk>(
     write_and_sync(disk, segment, at, &[OPEN_GATE])
 }
 
-// Writes these bytes at a place of an object and syncs.
-fn write_and_sync<D: Disk>(
+/// Writes these bytes at a place of an object and syncs.
+///
+/// # Errors
+///
+/// `Failed` where a device call failed, and `NoMemory` where the disk had no memory for the write.
+pub fn write_and_sync<D: Disk>(
     disk: &mut D,
     name: Name,
     at: u64,

@@ -1,7 +1,8 @@
 -- A manifest of one segment, without erases and files, has the spelling of these lists.
 use Rattle.std.proofs.Common.{ℕ, ◌<◌, [], ◌∷◌, arith}
 use Rattle.std.proofs.lemmas.List.Elements.{All-nil, All-cons}
-use Rattle.lethe_manifest.specs.Manifests.{IsErase, AreErases, AreSegments, IsFile, AreFiles}
+use Rattle.lethe_base.specs.Erases.{IsErase}
+use Rattle.lethe_manifest.specs.Manifests.{AreErases, AreSegments, IsFile, AreFiles}
 
 pub none_erased : AreErases []
 none_erased = record { few = omega arith; each = All-nil IsErase; ascending = λ i j d lt inside. absurd (omega (arith, inside)) }

@@ -9,7 +9,7 @@ use Rattle.lethe_base.specs.Limits.{max_place, max_time}
 use Rattle.lethe_base.specs.Numbers.{IsBytes}
 use Rattle.lethe_base.specs.Reading.{StandsAt}
 use Rattle.lethe_base.specs.declared.config.Fields.{Fields}
-use Rattle.lethe_base.proofs.FieldLaws.{stands_then}
+use Rattle.lethe_base.proofs.FieldLaws.{stands_then, split}
 use Rattle.lethe_base.proofs.ReadingSteps.{bind_ok, past_test, ok_is}
 use Rattle.lethe_manifest.specs.Manifests.{head_bytes, times_bytes, sizes_bytes, config_bytes, counts_bytes, certificate_bytes, erases_bytes, segments_bytes, files_bytes, parts_bytes, manifest_bytes, IsCertificateOrNone, AreErases, AreSegments, AreFiles, HasSpelling}
 use Rattle.lethe_manifest.specs.Numbers.{Gives, number_within, number_above}
@@ -20,7 +20,7 @@ use Rattle.lethe_manifest.specs.declared.parts.Parts.{Parts}
 use Rattle.lethe_manifest.specs.declared.reading.Counts.{Counts}
 use Rattle.lethe_manifest.specs.declared.refused.ManifestRefused.{ManifestRefused}
 use Rattle.lethe_manifest.specs.declared.refused.ManifestRefused.TheVariants.{Short, Kind, Order, Trailing, NoMemory}
-use Rattle.lethe_manifest.proofs.Numbers.{split, long_ok, long_again, above_ok, above_again}
+use Rattle.lethe_manifest.proofs.Numbers.{long_ok, long_again, above_ok, above_again}
 use Rattle.lethe_manifest.proofs.ConfigLaws.{head_ok, head_again, config_ok, config_again}
 use Rattle.lethe_manifest.proofs.PartLaws.{marked_ok, marked_again, erases_ok, erases_again, segments_ok, segments_again, files_ok, files_again}
 

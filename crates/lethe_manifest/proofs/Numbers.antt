@@ -1,5 +1,5 @@
 -- A number that is read in its range stands there, and one that stands there is read.
-use Rattle.std.proofs.Common.{◌≡◌, ℕ, ◌+◌, ◌^◌, ◌<◌, ◌≤◌, Bool, true, cond, ltb, leb, List, [], ◌∷◌, ◌++◌, length, Option, Some, Result, Ok, Err, refl, ap, subst, arith}
+use Rattle.std.proofs.Common.{◌≡◌, ℕ, ◌+◌, ◌^◌, ◌<◌, ◌≤◌, Bool, true, cond, ltb, leb, List, [], ◌∷◌, Option, Some, Result, Ok, Err, refl, ap, subst, arith}
 use Rattle.std.specs.Prelude.{ok_or}
 use Rattle.std.specs.Int.{Width, w8, w32, w64, byte_len, to_be_bytes, is_in_range, IsInRange}
 use Rattle.std.proofs.lemmas.Bool.{and_from, le-leb, lt-ltb, ltb-true}
@@ -8,7 +8,7 @@ use Rattle.lethe_base.specs.Limits.{max_place}
 use Rattle.lethe_base.specs.Numbers.{number_at, IsBytes}
 use Rattle.lethe_base.specs.Reading.{StandsAt}
 use Rattle.lethe_base.specs.declared.reading.EntryRefused.TheVariants as entry
-use Rattle.lethe_base.proofs.FieldLaws.{IsWide, wide64, stands_parts, number_stands, number_again, byte_stands, first_byte}
+use Rattle.lethe_base.proofs.FieldLaws.{IsWide, wide64, number_stands, number_again, byte_stands, first_byte}
 use Rattle.lethe_base.proofs.Configurations.{in_range}
 use Rattle.lethe_base.specs.Results.{◌>>=◌}
 use Rattle.lethe_base.proofs.ReadingSteps.{bind_ok, met_test, field_ok}
@@ -64,10 +64,6 @@ wide32 = record {
 }
 
 -- ---- fields of eight bytes
-
--- a text and what stands behind it
-pub split : (x y bytes : List ℕ) (at mid end : ℕ) → at + length x ≡ mid → StandsAt (x ++ y) bytes at end → StandsAt x bytes at mid × StandsAt y bytes mid end
-split x y bytes at mid end is p = subst (λ (n : ℕ). StandsAt x bytes at n × StandsAt y bytes n end) is (stands_parts x y bytes at end p)
 
 pub long_ok : (lo hi : ℕ) (bytes : List ℕ) (at end n : ℕ) → at + 8 ≡ end → IsBytes bytes → number_within w64 lo hi bytes at ≡ Ok n → StandsAt (to_be_bytes w64 n) bytes at end × IsInRange lo hi n
 long_ok lo hi bytes at end n ends fits e =

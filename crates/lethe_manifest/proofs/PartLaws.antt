@@ -7,17 +7,19 @@ use Rattle.lethe_base.specs.Limits.{max_place, max_time}
 use Rattle.lethe_base.specs.Numbers.{IsBytes}
 use Rattle.lethe_base.specs.Reading.{StandsAt}
 use Rattle.lethe_base.specs.Results.{◌>>=◌}
+use Rattle.lethe_base.specs.Erases.{erase_bytes, IsErase}
 use Rattle.lethe_base.specs.declared.pending.Pending.{Pending}
-use Rattle.lethe_base.proofs.FieldLaws.{chosen, stands_then}
+use Rattle.lethe_base.proofs.FieldLaws.{chosen, stands_then, split}
+use Rattle.lethe_base.proofs.EraseLaws.{erase_stands, erase_parts}
 use Rattle.lethe_base.proofs.ReadingSteps.{bind_ok, met_test, ok_is}
-use Rattle.lethe_manifest.specs.Manifests.{cert_bytes, certificate_bytes, erase_bytes, erases_bytes, segments_bytes, file_bytes, files_bytes, IsCertificate, IsCertificateOrNone, IsErase, AreErases, AreSegments, IsFile, AreFiles}
+use Rattle.lethe_manifest.specs.Manifests.{cert_bytes, certificate_bytes, erases_bytes, segments_bytes, file_bytes, files_bytes, IsCertificate, IsCertificateOrNone, AreErases, AreSegments, IsFile, AreFiles}
 use Rattle.lethe_manifest.specs.Numbers.{number_within, number_above, cited_at}
 use Rattle.lethe_manifest.specs.Parts.{certificate_at, marked_at, erase_at, erases_at, segment_at, segments_at, level_at, digest_at, file_at, files_at}
 use Rattle.lethe_manifest.specs.declared.manifest.Cited.{Cited}
 use Rattle.lethe_manifest.specs.declared.manifest.LastCert.{LastCert}
 use Rattle.lethe_manifest.specs.declared.refused.ManifestRefused.{ManifestRefused}
 use Rattle.lethe_manifest.specs.declared.refused.ManifestRefused.TheVariants.{Short, Order}
-use Rattle.lethe_manifest.proofs.Numbers.{tested_ok, wide32, wide_ok, wide_again, byte_ok, byte_back, split, long_ok, long_again, above_ok, above_again, cited_ok, cited_again}
+use Rattle.lethe_manifest.proofs.Numbers.{tested_ok, wide32, wide_ok, wide_again, byte_ok, byte_back, long_ok, long_again, above_ok, above_again, cited_ok, cited_again}
 use Rattle.lethe_manifest.proofs.Items.{all_ok, all_again}
 
 -- ---- certificates
@@ -80,37 +82,33 @@ marked_again bytes end (Some cert) fits p =
 -- ---- erases
 
 erase_ok : (bytes : List ℕ) → IsBytes bytes → (last at : ℕ) (x : Pending × ℕ) → erase_at last bytes at ≡ Ok x → StandsAt (erase_bytes x.0) bytes at x.1 × IsErase x.0 × (last < x.0.seq)
-unfolding erase_at erase_bytes
+unfolding erase_at
 erase_ok bytes fits last at x e =
     let a = bind_ok (number_above last 1 max_place bytes at) _ x e in
     let b = bind_ok (number_within w64 0 max_time bytes (at + 8)) _ x a.2 in
     let c = bind_ok (number_within w64 0 (2 ^ 64 - 1) bytes (at + 16)) _ x b.2 in
     let d = bind_ok (number_above c.0 0 (2 ^ 64 - 1) bytes (at + 24)) _ x c.2 in
-    let t0 = above_ok last 1 max_place bytes at (at + 8) a.0 refl fits a.1 in
-    let t1 = long_ok 0 max_time bytes (at + 8) (at + 16) b.0 (omega arith) fits b.1 in
-    let t2 = long_ok 0 (2 ^ 64 - 1) bytes (at + 16) (at + 24) c.0 (omega arith) fits c.1 in
-    let t3 = above_ok c.0 0 (2 ^ 64 - 1) bytes (at + 24) (at + 32) d.0 (omega arith) fits d.1 in
-    let s2 = stands_then _ _ bytes (at + 16) (at + 24) (at + 32) t2.0 t3.0 in
-    let s1 = stands_then _ _ bytes (at + 8) (at + 16) (at + 32) t1.0 s2 in
-    let s0 = stands_then _ _ bytes at (at + 8) (at + 32) t0.0 s1 in
-    let read : Pending × ℕ = (record { seq = a.0; time = b.0; range = record { lo = c.0; hi = d.0 } }, at + 32) in
-    subst (λ (y : Pending × ℕ). StandsAt (erase_bytes y.0) bytes at y.1 × IsErase y.0 × (last < y.0.seq)) {x = read} (ok_is read x d.2)
-    (s0, record { place = (omega (arith, t0.1), t0.1.1); time = t1.1.1; some = t3.2; hi = omega (arith, t3.1) }, t0.2)
+    let seq = above_ok last 1 max_place bytes at (at + 8) a.0 refl fits a.1 in
+    let time = long_ok 0 max_time bytes (at + 8) (at + 16) b.0 (omega arith) fits b.1 in
+    let lo = long_ok 0 (2 ^ 64 - 1) bytes (at + 16) (at + 24) c.0 (omega arith) fits c.1 in
+    let hi = above_ok c.0 0 (2 ^ 64 - 1) bytes (at + 24) (at + 32) d.0 (omega arith) fits d.1 in
+    let erase : Pending = record { seq = a.0; time = b.0; range = record { lo = c.0; hi = d.0 } } in
+    let stands = erase_stands erase bytes at (record { seq = seq.0; time = time.0; lo = lo.0; hi = hi.0 }) in
+    subst (λ (y : Pending × ℕ). StandsAt (erase_bytes y.0) bytes at y.1 × IsErase y.0 × (last < y.0.seq)) {x = (erase, at + 32)} (ok_is (erase, at + 32) x d.2)
+    (stands, record { place = (omega (arith, seq.1), seq.1.1); time = time.1.1; some = hi.2; hi = omega (arith, hi.1) }, seq.2)
 
 erase_again : (bytes : List ℕ) (last at end : ℕ) (erase : Pending) → IsErase erase → last < erase.seq → StandsAt (erase_bytes erase) bytes at end → erase_at last bytes at ≡ Ok (erase, end)
-unfolding erase_at erase_bytes
+unfolding erase_at
 erase_again bytes last at end erase fits above p =
     let range = erase.range in
-    let p0 = split (to_be_bytes w64 erase.seq) (to_be_bytes w64 erase.time ++ (to_be_bytes w64 range.lo ++ to_be_bytes w64 range.hi)) bytes at (at + 8) end refl p in
-    let p1 = split (to_be_bytes w64 erase.time) (to_be_bytes w64 range.lo ++ to_be_bytes w64 range.hi) bytes (at + 8) (at + 16) end (omega arith) p0.1 in
-    let p2 = split (to_be_bytes w64 range.lo) (to_be_bytes w64 range.hi) bytes (at + 16) (at + 24) end (omega arith) p1.1 in
-    let ends : at + 32 ≡ end = omega (arith, p2.1.ends) in
+    let parts = erase_parts erase bytes at end p in
+    let fields = parts.0 in
     rw (
-      above_again last 1 max_place bytes at (at + 8) erase.seq (omega arith) (omega (arith, fits.place), fits.place.1) above p0.0,
-      long_again 0 max_time bytes (at + 8) (at + 16) erase.time (omega arith) (omega arith, fits.time) p1.0,
-      long_again 0 (2 ^ 64 - 1) bytes (at + 16) (at + 24) range.lo (omega arith) (omega arith, omega (arith, fits.some, fits.hi)) p2.0,
-      above_again range.lo 0 (2 ^ 64 - 1) bytes (at + 24) end range.hi (omega arith) (omega arith, omega (arith, fits.hi)) fits.some p2.1,
-      ends,
+      above_again last 1 max_place bytes at (at + 8) erase.seq (omega arith) (omega (arith, fits.place), fits.place.1) above fields.seq,
+      long_again 0 max_time bytes (at + 8) (at + 16) erase.time (omega arith) (omega arith, fits.time) fields.time,
+      long_again 0 (2 ^ 64 - 1) bytes (at + 16) (at + 24) range.lo (omega arith) (omega arith, omega (arith, fits.some, fits.hi)) fields.lo,
+      above_again range.lo 0 (2 ^ 64 - 1) bytes (at + 24) (at + 32) range.hi (omega arith) (omega arith, omega (arith, fits.hi)) fits.some fields.hi,
+      parts.1,
     ) refl
 
 pub erases_ok : (bytes : List ℕ) (at : ℕ) (x : List Pending × ℕ) → IsBytes bytes → erases_at bytes at ≡ Ok x → StandsAt (erases_bytes x.0) bytes at x.1 × AreErases x.0

@@ -3,6 +3,7 @@ use Rattle.std.specs.Prelude.{◌≡◌, ℕ, ◌<◌, ◌≤◌, ◌^◌, List,
 use Rattle.std.specs.Int.{w16, w32, w64, to_be_bytes}
 use Rattle.lethe_base.specs.Limits.{max_place, max_time}
 use Rattle.lethe_base.specs.Spelling.{IsPlace}
+use Rattle.lethe_base.specs.Erases.{erase_bytes, IsErase}
 use Rattle.lethe_base.specs.Configuration.{IsConfig}
 use Rattle.lethe_base.specs.declared.config.Fields.{Fields}
 use Rattle.lethe_base.specs.declared.config.Pick.{Pick}
@@ -44,9 +45,6 @@ abbrev pub certificate_bytes : Option LastCert → List ℕ
 certificate_bytes None = 0 ∷ []
 certificate_bytes (Some cert) = 1 ∷ cert_bytes cert
 
-unfoldable pub erase_bytes : Pending → List ℕ
-erase_bytes erase = to_be_bytes w64 erase.seq ++ (to_be_bytes w64 erase.time ++ (to_be_bytes w64 erase.range.lo ++ to_be_bytes w64 erase.range.hi))
-
 unfoldable pub file_bytes : Cited → List ℕ
 file_bytes file = (file.level ∷ []) ++ (to_be_bytes w64 file.no ++ (to_be_bytes w64 file.swept ++ file.digest))
 
@@ -77,13 +75,6 @@ pub record IsCertificate (cert : LastCert) : Type 0 where
 abbrev pub IsCertificateOrNone : Option LastCert → Type 0
 IsCertificateOrNone None = Unit {0}
 IsCertificateOrNone (Some cert) = IsCertificate cert
-
--- an erase by itself
-pub record IsErase (erase : Pending) : Type 0 where
-  pub place : IsPlace erase.seq
-  pub time : erase.time ≤ max_time
-  pub some : erase.range.lo < erase.range.hi
-  pub hi : erase.range.hi < 2 ^ 64
 
 -- not too many erases, by their places
 pub record AreErases (erases : List Pending) : Type 0 where

@@ -1,10 +1,10 @@
 //! Writing a manifest.
 ghost use Rattle.std.specs.Prelude.{◌≡◌, ◌<◌, ◌≤◌, ◌^◌, ◌++◌, length, All, IfOk, OnOk};
 ghost use Rattle.lethe_base.specs.Configuration.{IsConfig};
-ghost use Rattle.lethe_manifest.specs.Manifests.{manifest_bytes, head_bytes, times_bytes, sizes_bytes, counts_bytes, cert_bytes, certificate_bytes, erase_bytes, erases_bytes, segments_bytes, file_bytes, files_bytes, parts_bytes, HasSpelling, HasLowLevel};
+ghost use Rattle.lethe_manifest.specs.Manifests.{manifest_bytes, head_bytes, times_bytes, sizes_bytes, counts_bytes, cert_bytes, certificate_bytes, erases_bytes, segments_bytes, file_bytes, files_bytes, parts_bytes, HasSpelling, HasLowLevel};
 
 use crate::{Cited, LastCert, Manifest};
-use lethe_base::{Fields, NoMemory, Pending, Pick};
+use lethe_base::{Fields, NoMemory, Pending, Pick, write_erase};
 use std::alloc::Global;
 
 /// The manifest's one spelling.
@@ -111,17 +111,6 @@ fn write_erases(out: &mut Vec<u8>, erases: &[Pending]) -> Result<(), NoMemory>
     for erase in erases {
         write_erase(out, erase)?;
     }
-    Ok(())
-}
-
-#[tactic(auto, unfolding(crate::specs::Manifests::erase_bytes))]
-fn write_erase(out: &mut Vec<u8>, erase: &Pending) -> Result<(), NoMemory>
-    ensures { OnOk result (out.new.items ≡ out.old.items ++ erase_bytes erase.now) }
-{
-    out.extend_from_slice(&erase.seq.to_be_bytes())?;
-    out.extend_from_slice(&erase.time.to_be_bytes())?;
-    out.extend_from_slice(&erase.range.lo().to_be_bytes())?;
-    out.extend_from_slice(&erase.range.hi().to_be_bytes())?;
     Ok(())
 }
 

@@ -1,17 +1,17 @@
 -- Each run of a store ends in a layout that follows its history.
-use Rattle.std.proofs.Common.{◌≡◌, inl, inr, ℕ, ◌+◌, ◌<◌, ◌≤◌, Bool, true, false, List, [], ◌∷◌, ◌++◌, filter, length, AllPairs, get_or, Contains, Option, refl, ◌⊎◌, sym, ap, ◌∙◌, arith}
-use Rattle.lethe_cover.proofs.Common.{⊎_elim, Contains-push_cases, Covers, History, after, done, File, Layout, Record, Ends, Call, Done, Pending, after-push, none_in, first_or_rest, first_is, IsCounted, with_done, accepted}
-use Rattle.std.proofs.lemmas.Bool.{cond_both}
+use Rattle.std.proofs.Common.{◌≡◌, inl, ℕ, ◌+◌, ◌<◌, ◌≤◌, Bool, List, [], ◌∷◌, ◌++◌, filter, length, AllPairs, get_or, Contains, Option, refl, sym, ap, ◌∙◌, arith}
+use Rattle.lethe_cover.proofs.Common.{⊎_elim, Contains-push_cases, Covers, History, after, done, File, Layout, Record, Ends, Call, Done, Pending, after-push, none_in, IsCounted, with_done, accepted}
 use Rattle.std.proofs.lemmas.List.{length-append, length-replicate}
-use Rattle.std.proofs.lemmas.List.Elements.{All-contains, All-contains_itself, All-filter, Contains-get_or}
+use Rattle.std.proofs.lemmas.List.Elements.{Contains-get_or}
 use Rattle.std.proofs.lemmas.List.Kept.{AllPairs-filter}
 use Rattle.std.proofs.lemmas.List.Quantifiers.{all_pairs_push}
 use Rattle.lethe_base.specs.Configuration.{IsConfig}
 use Rattle.lethe_base.specs.Layout.{new_layout}
-use Rattle.lethe_base.specs.Spent.{IsSpent, IsShorter}
 use Rattle.lethe_base.specs.declared.call.Call.TheVariants as call
 use Rattle.lethe_base.specs.declared.config.Fields.{Fields}
+use Rattle.lethe_base.proofs.Filters.{from_filter}
 use Rattle.lethe_base.proofs.LayoutLaws.{no_file, new_covers, new_is_valid}
+use Rattle.lethe_base.proofs.LeftErases.{fewer_erases}
 use Rattle.lethe_base.proofs.Shorter.{shorter_covers}
 use Rattle.lethe_cover.specs.Flushes.{with_newest}
 use Rattle.lethe_cover.proofs.Bridge.{numbered_covers}
@@ -22,7 +22,6 @@ use Rattle.lethe_cover.proofs.Quiet.{tick_covers}
 use Rattle.lethe_cover.proofs.Unentered.{blind_covers, erase_covers}
 use Rattle.lethe_moves.specs.Reaches.{Follows, Reaches, New, Put, Delete, Blind, Erase, Tick, Freeze, Leave, Flush, Merge, Sweep, Number}
 use Rattle.lethe_moves.proofs.Fresh.{due_fresh}
-use Rattle.lethe_cover.proofs.Lists.{in_rest}
 use Rattle.lethe_moves.proofs.Flushing.{flush_follows}
 use Rattle.lethe_moves.proofs.MergeMoves.{merge_follows}
 use Rattle.lethe_moves.proofs.SweepMoves.{sweep_follows}
@@ -30,15 +29,6 @@ use Rattle.lethe_moves.proofs.SweepMoves.{sweep_follows}
 -- the clock after one more done call
 clock_more : (h : History) (caller : ℕ) (c : Call) → (after (with_done h caller c)).clock ≡ (done c (after h)).clock
 clock_more h caller c = ap (λ s. s.clock) (after-push h (record { caller = caller; call = c; did = Done }))
-
-from_filter : {X : Type 0} (p : X → Bool) (xs : List X) (x : X) → Contains (filter p xs) x → Contains xs x
-from_filter p xs x there = All-contains (Contains xs) (filter p xs) x (All-filter p (Contains xs) xs (All-contains_itself xs)) there
-
-in_filter : {X : Type 0} (p : X → Bool) (xs : List X) (x : X) → Contains xs x → p x ≡ true → Contains (filter p xs) x
-in_filter p [] x there passes = absurd (none_in x there)
-in_filter p (first ∷ xs) x there passes = cond_both (p first) (first ∷ filter p xs) (filter p xs) (λ kept. Contains kept x)
-    (λ at. ⊎_elim (first_is first (filter p xs) x) (λ rest. in_rest first (filter p xs) x (in_filter p xs x rest passes)) (first_or_rest first xs x there))
-    (λ at. ⊎_elim (λ (same : first ≡ x). absurd (let clash : false ≡ true = sym at ∙ ap p same ∙ passes in cc)) (λ rest. in_filter p xs x rest passes) (first_or_rest first xs x there))
 
 -- the places of pending erases rise, their times don't fall, and none is past the clock
 abbrev AreInOrder : ℕ → List Pending → Type 0
@@ -110,15 +100,8 @@ module _ (fields : Fields) (config : IsConfig fields) where
     fewer stays = (
       AllPairs-filter (λ erase later. erase.seq < later.seq) stays m.pending before.order.0,
       AllPairs-filter (λ erase later. erase.time ≤ later.time) stays m.pending before.order.1,
-      λ erase there. before.order.2 erase (from_filter stays m.pending erase there),
+      λ erase there. before.order.2 erase (from_filter stays m.pending erase there).0,
     )
-
-    shorter : (stays : Pending → Bool) → ((erase : Pending) → Contains m.pending erase → stays erase ≡ false → IsSpent m erase) → IsShorter m (filter stays m.pending)
-    shorter stays spent = record { known = from_filter stays m.pending; spent = λ erase there. by erase there (stays erase) refl }
-      where
-        by : (erase : Pending) → Contains m.pending erase → (t : Bool) → stays erase ≡ t → Contains (filter stays m.pending) erase ⊎ IsSpent m erase
-        by erase there true is = inl (in_filter stays m.pending erase there is)
-        by erase there false is = inr (spent erase there is)
 
     -- a step that moves files between as many levels
     moved : (frozen : Option (List Record)) (levels : List (List File)) → Follows fields.threshold g (record m { frozen = frozen; levels = levels }) → length levels ≡ length m.levels
@@ -152,7 +135,7 @@ module _ (fields : Fields) (config : IsConfig fields) where
       unmoved g m before g l old.clock before.order (freeze_covers fields.threshold g m old.covers old.counted free)
   reached h l (Leave g m stays spent run) = let before = reached g m run in let old = before.follows in
       unmoved g m before g l old.clock (fewer g m before stays)
-      (shorter_covers fields.threshold g m old.covers (filter stays m.pending) (shorter g m before stays spent), record { count = old.counted.count; places = old.counted.places })
+      (shorter_covers fields.threshold g m old.covers (filter stays m.pending) (fewer_erases m stays spent), record { count = old.counted.count; places = old.counted.places })
   reached h l (Flush g m made flush run) = let before = reached g m run in
       moved g m before l.frozen l.levels (flush_follows fields.threshold g m before.follows made flush) (newest_level made m.levels before.follows.ordered.deep)
   reached h l (Merge g m applied swept move is run) = let before = reached g m run in

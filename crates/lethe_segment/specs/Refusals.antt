@@ -2,6 +2,8 @@
 use Rattle.std.specs.Prelude.{◌≡◌, ℕ, ◌+◌, ◌≤◌, List, ◌∷◌, ◌++◌, length}
 use Rattle.lethe_base.specs.Reading.{StandsAt}
 use Rattle.lethe_base.specs.Spelling.{IsPlace}
+use Rattle.lethe_base.specs.Erases.{IsErase}
+use Rattle.lethe_base.specs.declared.pending.Pending.{Pending}
 use Rattle.lethe_base.specs.declared.reading.EntryRefused.{EntryRefused}
 use Rattle.lethe_base.specs.declared.reading.EntryRefused.TheVariants.{Short, Kind, NoMemory}
 use Rattle.lethe_segment.specs.declared.record.Record.{Record}
@@ -61,3 +63,10 @@ IsBlindAt bytes at seq end = IsPlace seq × StandsAt (record_bytes (of.Blind seq
 
 abbrev pub IsNoBlindAt : List ℕ → ℕ → Type 0
 IsNoBlindAt bytes at = (seq end : ℕ) → IsBlindAt bytes at seq end → ⊥
+
+-- this erase stands there
+abbrev pub IsEraseAt : List ℕ → ℕ → Pending → ℕ → Type 0
+IsEraseAt bytes at erase end = IsErase erase × StandsAt (record_bytes (of.Erase erase)) bytes at end
+
+abbrev pub IsNoEraseAt : List ℕ → ℕ → Type 0
+IsNoEraseAt bytes at = (erase : Pending) (end : ℕ) → IsEraseAt bytes at erase end → ⊥

@@ -7,6 +7,9 @@ use lethe_base::{Entry, Pending};
 /// The kind byte of a blind delete, beside those of entries.
 pub(crate) const BLIND: u8 = 3;
 
+/// The kind byte of an erase, beside those of entries.
+pub(crate) const ERASE: u8 = 4;
+
 /// One accepted change.
 #[derive(Debug, Drop)]
 pub enum Record {
@@ -14,7 +17,7 @@ pub enum Record {
     Entry(Entry),
     /// A delete that had nothing to hide.
     Blind { seq: u64 },
-    /// An erase by a range. It has no spelling yet.
+    /// An erase by a range.
     Erase(Pending),
 }
 
@@ -26,7 +29,7 @@ impl Record {
         match self {
             Record::Entry(entry) => entry.seq,
             Record::Blind { seq } => *seq,
-            Record::Erase(pending) => pending.seq,
+            Record::Erase(erase) => erase.seq,
         }
     }
 }

@@ -5,8 +5,8 @@ ghost use Rattle.lethe_segment.specs.Segments.{segment_bytes, Ascends};
 
 use crate::Record;
 use crate::head::head;
-use crate::record::BLIND;
-use lethe_base::{NoMemory, entry_len, write_entry};
+use crate::record::{BLIND, ERASE};
+use lethe_base::{NoMemory, entry_len, write_entry, write_erase};
 use std::alloc::Global;
 
 /// The byte of a gate behind which a record counts.
@@ -33,7 +33,12 @@ pub fn write_record(alloc: Global, item: &Record) -> Result<Vec<u8>, NoMemory>
             out.extend_from_slice(&seq.to_be_bytes())?;
             Ok(out)
         }
-        Record::Erase(_) => unreachable!(),
+        Record::Erase(erase) => {
+            let mut out = Vec::with_capacity(alloc, 33)?;
+            out.push(ERASE)?;
+            write_erase(&mut out, erase)?;
+            Ok(out)
+        }
     }
 }
 

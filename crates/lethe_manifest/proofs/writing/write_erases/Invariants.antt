@@ -1,6 +1,6 @@
 use Rattle.std.proofs.Common.{◌≡◌, ◌++◌, take}
 use Rattle.std.specs.List.{flat_map}
-use Rattle.lethe_manifest.specs.Manifests.{erase_bytes}
+use Rattle.lethe_base.specs.Erases.{erase_bytes}
 use Rattle.lethe_manifest.proofs.writing.write_erases.Given as goal
 
 -- those so far, behind their number

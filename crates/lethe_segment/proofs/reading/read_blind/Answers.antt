@@ -1,23 +1,14 @@
-use Rattle.std.proofs.Common.{◌≡◌, ℕ, Option, Some, None, arith, ap, sym, ◌∙◌}
+use Rattle.std.proofs.Common.{◌≡◌, Some, arith, ap, sym, ◌∙◌}
 use Rattle.std.specs.Int.{w8}
 use Rattle.lethe_base.specs.Numbers.{number_at}
-use Rattle.lethe_segment.proofs.Standing.{blind_at, no_blind}
+use Rattle.lethe_segment.proofs.Standing.{here, same_read, none_read, blind_at, no_blind}
 use Rattle.lethe_segment.proofs.reading.read_blind.Goals as goal
 
-abbrev here : ℕ → Option ℕ
-here n = Some n
-
-same_byte : (a b : ℕ) → here a ≡ here b → a ≡ b
-same_byte a b e = cc
-
-no_byte : (b : ℕ) → None ≡ here b → ⊥
-no_byte b e = cc
-
 pub returns-in_err-take_u8 : goal.returns-in_err-take_u8
-returns-in_err-take_u8 c = rw c.from_residual.ensures (no_blind c.args.bytes.now c.args.at (λ e. no_byte 3 (c.in_err-take_u8.ensures ∙ e)))
+returns-in_err-take_u8 c = rw c.from_residual.ensures (no_blind c.args.bytes.now c.args.at (none_read _ 3 c.in_err-take_u8.ensures))
 
 pub returns-then-branch-ne-BLIND : goal.returns-then-branch-ne-BLIND
-returns-then-branch-ne-BLIND c = no_blind c.args.bytes.now c.args.at (λ e. c.if-branch-ne-BLIND.true (same_byte _ 3 (c.in_ok-take_u8.ensures ∙ e)))
+returns-then-branch-ne-BLIND c = no_blind c.args.bytes.now c.args.at (λ e. c.if-branch-ne-BLIND.true (same_read _ _ 3 c.in_ok-take_u8.ensures e))
 
 pub returns : goal.returns
 returns c =

@@ -7,4 +7,4 @@ unfolding record_bytes
 returns-in-Ok-clause-found c = c.in-Ok.ensures.found
 
 pub returns-in-Err-clause-refused : goal.returns-in-Err-clause-refused
-returns-in-Err-clause-refused c = rw c.refusal_at.ensures (unread_entry c.args.bytes.now c.args.at c.in-Err.why c.in_default.ensures c.in-Err.ensures.only)
+returns-in-Err-clause-refused c = rw c.refusal_at.ensures (unread_entry c.args.bytes.now c.args.at c.in-Err.why c.in_default.ensures c.in_default-read_erase.ensures c.in-Err.ensures.only)
