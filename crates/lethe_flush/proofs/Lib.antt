@@ -8,3 +8,4 @@ pub mod Pushed
 pub mod Adding
 pub mod Weaving
 pub mod Finishing
+pub mod Leasts

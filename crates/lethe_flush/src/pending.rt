@@ -1,9 +1,11 @@
-//! The erases that are still to be carried out.
-ghost use Rattle.std.specs.Prelude.{◌≡◌, ◌++◌, filter_map, IfOk, OnOk};
+//! The pending erases, and the place up to which files have been swept.
+ghost use Rattle.std.specs.Prelude.{◌≡◌, ◌++◌, filter_map, map, IfOk, OnOk};
+ghost use Rattle.lethe_base.specs.Spent.{least};
 ghost use Rattle.lethe_stored.specs.Stored.{erase_of, in_order};
 ghost use Rattle.lethe_flush.specs.ByPlace.{with_erases};
 
 use lethe_base::{NoMemory, Pending};
+use lethe_manifest::Cited;
 use lethe_segment::Record;
 use std::alloc::Global;
 use std::collections::BTreeMap;
@@ -41,4 +43,11 @@ fn add_recorded(by_place: &mut BTreeMap<u64, Pending>, records: &[Record]) -> Re
         }
     }
     Ok(())
+}
+
+/// The place up to which all of the files are swept. None where there is no file.
+pub fn swept_upto(files: &[Cited]) -> Option<u64>
+    ensures { result ≡ least (map (λ file. file.swept) files.now) }
+{
+    files.iter().map(|file| file.swept).min()
 }

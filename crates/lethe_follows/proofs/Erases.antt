@@ -1,58 +1,32 @@
 -- The pending erases, in the order of their places.
-use Rattle.std.proofs.Common.{◌≡◌, ℕ, ◌<◌, ◌^◌, Bool, true, false, cond, IsTrue, List, [], ◌∷◌, ◌++◌, length, map, All, AllPairs, Contains, Some, None, refl, sym, ap, ◌∙◌, subst, arith}
+use Rattle.std.proofs.Common.{◌≡◌, ℕ, ◌<◌, ◌^◌, Bool, true, false, cond, T, IsTrue, List, [], ◌∷◌, ◌++◌, length, map, filter, All, AllPairs, Contains, Some, None, refl, sym, ap, ◌∙◌, subst, arith}
 use Rattle.std.specs.Prelude.{filter_map}
+use Rattle.std.specs.Option.{option_or}
 use Rattle.std.specs.Cmp.{nat_cmp_total, ranked}
 use Rattle.std.specs.FinMap as finmap
-use Rattle.std.specs.FinMap.{nat_cmp-IsAntisymmetric, len-entries, len-empty, entries_sorted, entries-insert, get-entries, get-from_entries, same_map}
-use Rattle.std.specs.FinMap.Entries.{by_order, put, find, below_all, is_sorted}
-use Rattle.std.specs.Ordering.{nat_cmp, eq_by_cmp, is_lt}
+use Rattle.std.specs.FinMap.{nat_cmp-IsAntisymmetric, entries_sorted, entries-from_sorted, get-entries, get-from_entries, get-from_sorted, same_map}
+use Rattle.std.specs.FinMap.Entries.{find, find-where_key, below_all, is_sorted, is_sorted-where_key, where_key}
+use Rattle.std.specs.Ordering.{nat_cmp, eq_by_cmp, is_eq, is_lt}
 use Rattle.std.specs.declared.cmp.Ordering.{Ordering}
 use Rattle.std.specs.declared.cmp.Ordering.TheVariants.{Less, Equal, Greater}
 use Rattle.std.proofs.lemmas.Bool.{and_parts}
-use Rattle.std.proofs.lemmas.List.{nil_from_length, map-append}
-use Rattle.std.proofs.lemmas.List.Elements.{All-nil, All-cons, All-head, All-tail, All-append, All-contains, All-map, Contains-append_right, filter_map-append}
+use Rattle.std.proofs.lemmas.List.{map-append}
+use Rattle.std.proofs.lemmas.List.Elements.{All-nil, All-cons, All-head, All-tail, All-append, All-contains, All-filter, Contains-append_right, filter_map-append}
+use Rattle.lethe_base.specs.Erases.{IsErase}
 use Rattle.lethe_base.specs.declared.pending.Pending.{Pending}
+use Rattle.lethe_base.proofs.Filters.{filter_all}
 use Rattle.lethe_base.proofs.LayoutLaws.{none_in}
 use Rattle.lethe_base.proofs.Newest.{first_is, first_or_rest}
 use Rattle.lethe_cover.proofs.Common.{⊎_elim}
 use Rattle.lethe_cover.proofs.Lists.{Pairs, in_rest, pairs_map, pairs_to}
-use Rattle.lethe_manifest.specs.Manifests.{AreErases, IsErase}
+use Rattle.lethe_manifest.specs.Manifests.{AreErases}
 use Rattle.lethe_mem.proofs.Places.{from_T}
 use Rattle.lethe_segment.specs.Segments.{Ascends}
 use Rattle.lethe_segment.specs.declared.record.Record.{Record}
 use Rattle.lethe_segment.specs.declared.record.Record.TheVariants as of
 use Rattle.lethe_stored.specs.Stored.{Stored, IsCoherent, records_in, erase_of, in_order, pending_of}
-
-abbrev placed : Pending → ℕ × Pending
-placed erase = (erase.seq, erase)
-
-abbrev by_place : List Pending → finmap.FinMap nat_cmp Pending
-by_place erases = finmap.from_entries {R = nat_cmp} (map placed erases)
-
--- What stands in the map
-
-all_put : (P : ℕ × Pending → Type 0) (place : ℕ) (erase : Pending) (es : List (ℕ × Pending)) → P (place, erase) → All P es → All P (put nat_cmp place erase es)
-all_put P place erase [] new all = All-cons P (place, erase) [] new (All-nil P)
-all_put P place erase (e ∷ es) new all = by (nat_cmp place e.0) refl (all_put P place erase es new (All-tail P e es all))
-  where
-    by : (o : Ordering) → nat_cmp place e.0 ≡ o → All P (put nat_cmp place erase es) → All P (by_order o ((place, erase) ∷ e ∷ es) ((e.0, erase) ∷ es) (e ∷ put nat_cmp place erase es))
-    by Less at rest = All-cons P (place, erase) (e ∷ es) new all
-    by Equal at rest = All-cons P (e.0, erase) es (subst (λ k. P (k, erase)) (nat_cmp-IsAntisymmetric place e.0 at) new) (All-tail P e es all)
-    by Greater at rest = All-cons P e (put nat_cmp place erase es) (All-head P e es all) rest
-
-all_placed : (P : ℕ × Pending → Type 0) (erases : List Pending) → ((erase : Pending) → Contains erases erase → P (placed erase)) → All P (finmap.entries (by_place erases))
-all_placed P [] each = subst (All P) (sym (nil_from_length (finmap.entries (by_place [])) (sym (len-entries (by_place [])) ∙ len-empty nat_cmp Pending))) (All-nil P)
-all_placed P (erase ∷ erases) each = subst (All P) (sym (entries-insert nat_cmp_total (by_place erases) erase.seq erase))
-    (all_put P erase.seq erase (finmap.entries (by_place erases)) (each erase (first_is erase erases erase refl)) (all_placed P erases (λ other there. each other (in_rest erase erases other there))))
-
-abbrev IsOwn : ℕ × Pending → Type 0
-IsOwn e = (e.1).seq ≡ e.0
-
-own_places : (erases : List Pending) → All IsOwn (finmap.entries (by_place erases))
-own_places erases = all_placed IsOwn erases (λ erase there. refl)
-
-pub all_in_order : (P : Pending → Type 0) (erases : List Pending) → ((erase : Pending) → Contains erases erase → P erase) → All P (in_order erases)
-all_in_order P erases each = All-map P (λ (e : ℕ × Pending). e.1) (finmap.entries (by_place erases)) (all_placed (λ e. P e.1) erases each)
+use Rattle.lethe_stored.proofs.InOrder.{IsOwn, by_place, own_places, placed}
+pub use Rattle.lethe_stored.proofs.InOrder.{all_in_order}
 
 -- Their places ascend
 
@@ -112,16 +86,93 @@ placed_again : (es : List (ℕ × Pending)) → All IsOwn es → map placed (map
 placed_again [] own = refl
 placed_again (e ∷ es) own = let here : (e.1).seq ≡ e.0 = All-head IsOwn e es own in λ i. (here i, e.1) ∷ placed_again es (All-tail IsOwn e es own) i
 
+apart : (place other : ℕ) → (place ≡ other → ⊥) → eq_by_cmp nat_cmp place other ≡ false
+apart place other differ = by (nat_cmp place other) refl
+  where
+    by : (o : Ordering) → nat_cmp place other ≡ o → is_eq o ≡ false
+    by Less at = refl
+    by Equal at = absurd (differ (nat_cmp-IsAntisymmetric place other at))
+    by Greater at = refl
+
+-- Some of them stay, by their places
+
+module _ (stays : ℕ → Bool) where
+  abbrev staying : List Pending → List Pending
+  staying erases = filter (λ erase. stays erase.seq) erases
+
+  values_kept : (es : List (ℕ × Pending)) → All IsOwn es → map (λ (e : ℕ × Pending). e.1) (where_key nat_cmp stays es) ≡ staying (map (λ (e : ℕ × Pending). e.1) es)
+  values_kept [] own = refl
+  values_kept (e ∷ es) own = by (stays e.0) (ap stays (All-head IsOwn e es own)) (values_kept es (All-tail IsOwn e es own))
+    where
+      values : List (ℕ × Pending) → List Pending
+      values es = map (λ e. e.1) es
+
+      by : (b : Bool) → stays (e.1).seq ≡ b → values (where_key nat_cmp stays es) ≡ staying (values es)
+          → values (cond b (e ∷ where_key nat_cmp stays es) (where_key nat_cmp stays es)) ≡ cond (stays (e.1).seq) (e.1 ∷ staying (values es)) (staying (values es))
+      by true at rest = ap (λ list. e.1 ∷ list) rest ∙ ap (λ b. cond b (e.1 ∷ staying (values es)) (staying (values es))) (sym at)
+      by false at rest = rest ∙ ap (λ b. cond b (e.1 ∷ staying (values es)) (staying (values es))) (sym at)
+
+  pub in_order_kept : (erases known : List Pending) → ((erase : Pending) → Contains known erase → Contains erases erase) → ((erase : Pending) → Contains known erase → stays erase.seq ≡ true)
+      → in_order (staying (in_order erases) ++ known) ≡ staying (in_order erases)
+  in_order_kept erases known there passes = ap (λ l. finmap.values (finmap.from_entries {R = nat_cmp} l)) list ∙ ap finmap.values same ∙ ap (map (λ (e : ℕ × Pending). e.1)) (entries-from_sorted nat_cmp left sorted) ∙ values_left
+    where
+      es : List (ℕ × Pending)
+      es = finmap.entries (by_place erases)
+
+      left : List (ℕ × Pending)
+      left = where_key nat_cmp stays es
+
+      sorted : T (is_sorted nat_cmp left)
+      sorted = is_sorted-where_key nat_cmp stays es (entries_sorted (by_place erases))
+
+      values_left : map (λ (e : ℕ × Pending). e.1) left ≡ staying (in_order erases)
+      values_left = values_kept es (own_places erases)
+
+      list : map placed (staying (in_order erases) ++ known) ≡ left ++ map placed known
+      list = map-append placed (staying (in_order erases)) known ∙ ap (λ l. map placed l ++ map placed known) (sym values_left)
+          ∙ ap (λ l. l ++ map placed known) (placed_again left (All-filter (λ (e : ℕ × Pending). stays e.0) IsOwn es (own_places erases)))
+
+      found : (place : ℕ) → find nat_cmp place left ≡ cond (stays place) (find nat_cmp place es) None
+      found place = find-where_key nat_cmp stays place (λ x tied. ap stays (sym (nat_cmp-IsAntisymmetric place x tied))) es
+
+      none : (place : ℕ) → find nat_cmp place left ≡ None → find nat_cmp place (map placed known) ≡ None
+      none place gone = by (stays place) refl (sym (found place) ∙ gone)
+        where
+          by : (b : Bool) → stays place ≡ b → cond b (find nat_cmp place es) None ≡ None → find nat_cmp place (map placed known) ≡ None
+          by true at unheld = none_found place known (λ erase is. missed place erases (sym (get-from_entries nat_cmp_total (map placed erases) place) ∙ get-entries (by_place erases) place ∙ unheld) erase (there erase is))
+          by false at unheld = none_found place known (λ erase is. apart place erase.seq (λ same. absurd (let clash : false ≡ true = sym at ∙ ap stays same ∙ passes erase is in cc)))
+
+      same : finmap.from_entries {R = nat_cmp} (left ++ map placed known) ≡ finmap.from_sorted {R = nat_cmp} left
+      same = same_map nat_cmp_total nat_cmp-IsAntisymmetric (finmap.from_entries {R = nat_cmp} (left ++ map placed known)) (finmap.from_sorted {R = nat_cmp} left) (λ place.
+          get-from_entries nat_cmp_total (left ++ map placed known) place ∙ find_more place left (map placed known) (none place) ∙ sym (get-from_sorted nat_cmp left place sorted))
+
 pub in_order_again : (erases known : List Pending) → ((erase : Pending) → Contains known erase → Contains erases erase) → in_order (in_order erases ++ known) ≡ in_order erases
-in_order_again erases known there =
+in_order_again erases known there = subst (λ l. in_order (l ++ known) ≡ l) (filter_all (λ (erase : Pending). true) (in_order erases) (λ k d within. refl)) (in_order_kept (λ place. true) erases known there (λ erase is. refl))
+
+find_append : (place : ℕ) (es more : List (ℕ × Pending)) → find nat_cmp place (es ++ more) ≡ option_or (find nat_cmp place es) (find nat_cmp place more)
+find_append place [] more = refl
+find_append place (e ∷ es) more = by (eq_by_cmp nat_cmp place e.0) (find_append place es more)
+  where
+    by : (b : Bool) → find nat_cmp place (es ++ more) ≡ option_or (find nat_cmp place es) (find nat_cmp place more)
+        → cond b (Some e.1) (find nat_cmp place (es ++ more)) ≡ option_or (cond b (Some e.1) (find nat_cmp place es)) (find nat_cmp place more)
+    by true rest = refl
+    by false rest = rest
+
+-- more erases may come to those that are in order already
+pub in_order_then : (erases more : List Pending) → in_order (in_order erases ++ more) ≡ in_order (erases ++ more)
+in_order_then erases more =
     let m = by_place erases in
     let es = finmap.entries m in
-    let list : map placed (in_order erases ++ known) ≡ es ++ map placed known = map-append placed (in_order erases) known ∙ ap (λ l. l ++ map placed known) (placed_again es (own_places erases)) in
-    let same : finmap.from_entries {R = nat_cmp} (es ++ map placed known) ≡ m = same_map nat_cmp_total nat_cmp-IsAntisymmetric (finmap.from_entries {R = nat_cmp} (es ++ map placed known)) m (λ place.
-    get-from_entries nat_cmp_total (es ++ map placed known) place
-    ∙ find_more place es (map placed known) (λ none. none_found place known (λ erase is. missed place erases (sym (get-from_entries nat_cmp_total (map placed erases) place) ∙ get-entries m place ∙ none) erase (there erase is)))
-    ∙ sym (get-entries m place)) in
-    ap (λ l. finmap.values (finmap.from_entries {R = nat_cmp} l)) list ∙ ap finmap.values same
+    let behind = map placed more in
+    let ordered : List (ℕ × Pending) → List Pending = λ l. finmap.values (finmap.from_entries {R = nat_cmp} l) in
+    let list : map placed (in_order erases ++ more) ≡ es ++ behind = map-append placed (in_order erases) more ∙ ap (λ l. l ++ behind) (placed_again es (own_places erases)) in
+    let same = same_map nat_cmp_total nat_cmp-IsAntisymmetric (finmap.from_entries {R = nat_cmp} (es ++ behind)) (finmap.from_entries {R = nat_cmp} (map placed erases ++ behind)) (λ place.
+    get-from_entries nat_cmp_total (es ++ behind) place
+    ∙ find_append place es behind
+    ∙ ap (λ found. option_or found (find nat_cmp place behind)) (sym (get-entries m place) ∙ get-from_entries nat_cmp_total (map placed erases) place)
+    ∙ sym (find_append place (map placed erases) behind)
+    ∙ sym (get-from_entries nat_cmp_total (map placed erases ++ behind) place)) in
+    ap ordered list ∙ ap finmap.values same ∙ ap ordered (sym (map-append placed erases more))
 
 -- the pending erases stay as they are where the manifest gets them and some of the records go
 pub pending_again : (s : Stored) (records : List Record) → ((erase : Pending) → Contains (filter_map erase_of records) erase → Contains (filter_map erase_of s.active.records) erase)
@@ -133,11 +184,11 @@ pending_again s records there = in_order_again (s.manifest.erases ++ filter_map 
 
 -- Their spelling
 
-erases_in : (last : ℕ) (records : List Record) → Ascends last records → All IsErase (filter_map erase_of records)
+pub erases_in : (last : ℕ) (records : List Record) → Ascends last records → All IsErase (filter_map erase_of records)
 erases_in last [] up = All-nil IsErase
 erases_in last (of.Entry entry ∷ records) up = erases_in entry.seq records up.2
 erases_in last (of.Blind place ∷ records) up = erases_in place records up.2
-erases_in last (of.Erase erase ∷ records) up = absurd up.0
+erases_in last (of.Erase erase ∷ records) up = All-cons IsErase erase (filter_map erase_of records) up.0 (erases_in erase.seq records up.2)
 
 pub erases_spelled : (erases : List Pending) (older newer : List Record) → All IsErase erases → Ascends 0 older → Ascends 0 newer → length (in_order (erases ++ filter_map erase_of (older ++ newer))) < 2 ^ 32
     → AreErases (in_order (erases ++ filter_map erase_of (older ++ newer)))

@@ -1,19 +1,16 @@
--- Where no merge is due at a time, nothing is due.
-use Rattle.std.proofs.Common.{◌≡◌, inl, ℕ, ◌+◌, ◌-◌, ◌<◌, ◌≤◌, Bool, true, false, cond, List, [], ◌∷◌, ◌++◌, map, filter, length, Contains, Option, Some, None, IsSomeAnd, refl, sym, ap, ◌∙◌, subst, arith}
-use Rattle.std.specs.Prelude.{nat_lt, slice_get, option_map, option_and_then, flat_map}
-use Rattle.std.proofs.lemmas.Bool.{leb-false, lt-ltb}
+-- Where no merge is due at a time, and what is still to be done is young, nothing is due once the erases that are done have left.
+use Rattle.std.proofs.Common.{◌≡◌, ℕ, ◌+◌, ◌-◌, ◌<◌, ◌≤◌, Bool, true, false, cond, List, [], ◌∷◌, ◌++◌, map, filter, length, Contains, Option, Some, None, IsSomeAnd, refl, sym, ap, ◌∙◌, subst, arith}
+use Rattle.std.specs.Prelude.{nat_lt, slice_get, option_map, flat_map}
+use Rattle.std.proofs.lemmas.Bool.{leb-false, lt-ltb, or_cases}
 use Rattle.std.proofs.lemmas.List.{length-map}
-use Rattle.std.proofs.lemmas.List.Elements.{Contains-append_cases}
+use Rattle.std.proofs.lemmas.List.Elements.{All-contains, Contains-append_cases}
 use Rattle.std.proofs.lemmas.List.Sorted.{length_permutation}
-use Rattle.lethe_base.specs.Causes.{done_at, done_call}
-use Rattle.lethe_base.specs.History.{Change, History, HasNoErase, change_at}
-use Rattle.lethe_base.specs.Layout.{File}
-use Rattle.lethe_base.specs.Ranges.{Ends}
+use Rattle.lethe_base.specs.History.{History}
+use Rattle.lethe_base.specs.Layout.{Erasing, File}
 use Rattle.lethe_base.specs.Shapes.{all_files, facts_from, facts_of, shape_of}
-use Rattle.lethe_base.specs.declared.call.Call.TheVariants.{Erase}
-use Rattle.lethe_base.specs.declared.call.Did.{Did}
-use Rattle.lethe_base.specs.declared.call.Did.TheVariants.{Done, Failed}
+use Rattle.lethe_base.specs.Spent.{done_upto, is_above, left_erases}
 use Rattle.lethe_base.specs.declared.config.Fields.{Fields}
+use Rattle.lethe_base.specs.declared.pending.Pending.{Pending}
 use Rattle.lethe_base.specs.declared.shape.FileFacts.{FileFacts}
 use Rattle.lethe_base.proofs.LayoutLaws.{none_in}
 use Rattle.lethe_cover.proofs.Common.{⊎_elim}
@@ -26,9 +23,12 @@ use Rattle.lethe_fade.proofs.OrderLaws.{expired_come_in_order}
 use Rattle.lethe_fade.proofs.Powers.{deadlines_rise}
 use Rattle.lethe_moves.specs.Due.{HasNothingDue, IsExpired}
 use Rattle.lethe_stored.specs.Kept.{IsFor}
-use Rattle.lethe_stored.specs.Stored.{Stored, IsCoherent, layout_of}
-use Rattle.lethe_stored.proofs.Leveled.{in_filter}
-use Rattle.lethe_follows.specs.Young.{AreYoung}
+use Rattle.lethe_stored.specs.Stored.{Stored, IsCoherent, layout_of, pending_of}
+use Rattle.lethe_stored.proofs.Leveled.{from_filter, in_filter}
+use Rattle.lethe_follows.specs.Leaving.{first_erase, is_from, is_kept, kept_erases, let_go}
+use Rattle.lethe_follows.specs.Young.{AreLeftYoung, AreYoung}
+use Rattle.lethe_follows.proofs.LettingGo.{pending_kept}
+use Rattle.lethe_follows.proofs.Recorded.{no_older}
 
 no_first : (merges : List Candidate) → option_map (λ (c : Candidate). c.plan) (slice_get merges 0) ≡ None → merges ≡ []
 no_first [] none = refl
@@ -83,31 +83,32 @@ none_expired fields clock first (files ∷ deeper) none file there above =
         let young = none_at fields clock first facts (first_files behind) (sym (ap timed has) ∙ empty) file own in
         subst (λ n. IsSomeAnd file.oldest (λ oldest. oldest + level_deadline fields n ≤ clock) → ⊥) level (not_passed fields clock first file.oldest young)
 
--- Erases
-
-none_erased : (h : History) → HasNoErase h → (place : ℕ) (range : Ends) → done_at h place ≡ Some (Erase range) → ⊥
-none_erased h unerased place range done = by (change_at h place) refl done
-  where
-    at_change : (change : Change) → change_at h place ≡ Some change → (did : Did) → change.did ≡ did → done_call did change.call ≡ Some (Erase range) → ⊥
-    at_change change is Done did call = unerased place range change is (cc) did
-    at_change change is (Failed before behind) did call = absurd (let clash : None ≡ Some (Erase range) = call in cc)
-
-    by : (o : Option Change) → change_at h place ≡ o → option_and_then (λ change. done_call change.did change.call) o ≡ Some (Erase range) → ⊥
-    by None is done = absurd (let clash : None ≡ Some (Erase range) = done in cc)
-    by (Some change) is done = at_change change is change.did refl done
-
 -- What is stored
 
-pub nothing_due : (h : History) (s : Stored) → IsCoherent s → IsFor h s → (to : ℕ) → due s.manifest.config (shape_of (layout_of s)) to ≡ None → AreYoung s to → HasNothingDue s.manifest.config to (layout_of s)
-nothing_due h s coherent stands to none young = record {
-  files = all_from _ (all_files (shape_of (layout_of s))) (none_expired s.manifest.config to 0 (layout_of s).levels (no_first (expired s.manifest.config to (shape_of (layout_of s))) none));
-  records = λ r time recorded has. let fresh = young r time recorded has in omega (arith, fresh, least_time);
-  erases = λ erase there. absurd (none_erased h stands.legal.unerased erase.seq erase.range (stands.covers.places.erases erase (inl there)).done);
-}
-  where
-    least_time : level_deadline s.manifest.config 0 ≤ s.manifest.config.threshold
-    least_time =
-        let rises = deadlines_rise s.manifest.config coherent.spelled.config in
-        let upto : level_deadline s.manifest.config 0 ≤ level_deadline s.manifest.config (s.manifest.config.levels - 1) = rises.rise 0 (s.manifest.config.levels - 1) (omega arith) in
-        let whole : level_deadline s.manifest.config (s.manifest.config.levels - 1) ≡ s.manifest.config.threshold = rises.whole in
-        omega (arith, upto, whole)
+module _ (h : History) (s : Stored) (coherent : IsCoherent s) (stands : IsFor h s) (to : ℕ) (none : due s.manifest.config (shape_of (layout_of s)) to ≡ None) (young : AreYoung s to) (left : AreLeftYoung s to) where
+  abbrev threshold : ℕ
+  threshold = s.manifest.config.threshold
+
+  least_time : level_deadline s.manifest.config 0 ≤ threshold
+  least_time =
+      let rises = deadlines_rise s.manifest.config coherent.spelled.config in
+      let upto : level_deadline s.manifest.config 0 ≤ level_deadline s.manifest.config (s.manifest.config.levels - 1) = rises.rise 0 (s.manifest.config.levels - 1) (omega arith) in
+      let whole : level_deadline s.manifest.config (s.manifest.config.levels - 1) ≡ threshold = rises.whole in
+      omega (arith, upto, whole)
+
+  -- an erase that is kept is still to be done, or is no older than one that a segment records
+  kept_young : (erase : Pending) → Contains (kept_erases s) erase → to < erase.time + threshold
+  kept_young erase there =
+      let stays : Pending → Bool = λ erase. is_kept (done_upto (layout_of s)) (first_erase s) erase.seq in
+      let found = from_filter stays (pending_of s) erase there in
+      ⊎_elim
+      (λ above. All-contains (λ (erase : Pending). to < erase.time + threshold) (left_erases (layout_of s)) erase left (in_filter (λ (erase : Pending). is_above (done_upto (layout_of s)) erase.seq) (pending_of s) erase found.0 above))
+      (λ from. let older = no_older s h stands erase found.0 from in let fresh = young (Erasing older.0) (older.0).time older.1 refl in omega (arith, fresh, least_time, older.2))
+      (or_cases (is_above (done_upto (layout_of s)) erase.seq) (is_from (first_erase s) erase.seq) found.1)
+
+  pub nothing_due : HasNothingDue s.manifest.config to (layout_of (let_go s))
+  nothing_due = record {
+    files = all_from _ (all_files (shape_of (layout_of s))) (none_expired s.manifest.config to 0 (layout_of s).levels (no_first (expired s.manifest.config to (shape_of (layout_of s))) none));
+    records = λ r time recorded has. let fresh = young r time recorded has in omega (arith, fresh, least_time);
+    erases = λ erase there. kept_young erase (subst (λ erases. Contains erases erase) (pending_kept s) there);
+  }

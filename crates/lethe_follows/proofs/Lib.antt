@@ -8,8 +8,13 @@ pub mod Permuted
 pub mod MergeLevels
 pub mod MergeFiles
 pub mod MergeRising
+pub mod MergeErases
 pub mod Merging
 pub mod Staying
+pub mod ErasesStaying
 pub mod Ticking
 pub mod Expired
 pub mod Young
+pub mod LettingGo
+pub mod Recorded
+pub mod Bounds

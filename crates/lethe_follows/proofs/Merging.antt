@@ -1,10 +1,11 @@
 -- What is stored after a merge stands for the same history.
 use Rattle.std.proofs.Common.{◌≡◌, ◌≢◌, inl, inr, ℕ, ◌+◌, ◌-◌, ◌<◌, ◌≤◌, Bool, IsTrue, List, [], ◌∷◌, ◌++◌, map, length, All, Contains, refl, sym, ap, ◌∙◌, subst, arith}
-use Rattle.std.specs.Prelude.{filter_map, flat_map}
+use Rattle.std.specs.Prelude.{flat_map}
 use Rattle.std.specs.List.{range_with_len}
 use Rattle.std.specs.declared.cmp.Ordering.TheVariants.{Less}
+use Rattle.std.proofs.lemmas.Bool.{le-leb}
 use Rattle.std.proofs.lemmas.List.{length-map, map-append}
-use Rattle.std.proofs.lemmas.List.Elements.{All-contains, All-map, Contains-append_right}
+use Rattle.std.proofs.lemmas.List.Elements.{All-contains, All-map}
 use Rattle.std.proofs.lemmas.List.Folds.{flat_map-map}
 use Rattle.std.proofs.lemmas.List.FromFn.{length-map-range_with_len}
 use Rattle.lethe_base.specs.Covers.{Covers}
@@ -14,6 +15,8 @@ use Rattle.lethe_base.specs.Keys.{key_cmp}
 use Rattle.lethe_base.specs.Layout.{File, Layout, entries_of, files_of}
 use Rattle.lethe_base.specs.Shapes.{IsValidShape, shape_of}
 use Rattle.lethe_base.specs.declared.entry.Entry.{Entry}
+use Rattle.lethe_base.specs.declared.pending.Pending.{Pending}
+use Rattle.lethe_base.proofs.LeftErases.{is_upto}
 use Rattle.lethe_cover.specs.Outcomes.{IsApplied}
 use Rattle.lethe_cover.proofs.Common.{⊎_map}
 use Rattle.lethe_cover.proofs.Grown.{placed_within}
@@ -30,14 +33,14 @@ use Rattle.lethe_moves.proofs.MergeMoves.{merge_follows}
 use Rattle.lethe_moves.proofs.Orders.{IsOther}
 use Rattle.lethe_stored.specs.Files.{StoredFile, file_of, at_level, levels_of}
 use Rattle.lethe_stored.specs.Kept.{IsFor}
-use Rattle.lethe_stored.specs.Stored.{Stored, IsCoherent, count_of, erase_of, layout_of, pending_of, records_of}
-use Rattle.lethe_stored.proofs.Leveled.{from_level, low_level, of_level}
+use Rattle.lethe_stored.specs.Stored.{Stored, IsCoherent, count_of, layout_of, pending_of}
+use Rattle.lethe_stored.proofs.Leveled.{from_filter, from_level, in_filter, low_level, of_level}
 use Rattle.lethe_stored.proofs.Numbered.{covers_numbered}
-use Rattle.lethe_follows.specs.Merged.{IsAlone, IsMergeIn, IsMerged, StoredMerge, IsWhole, entries_in, hull_of, inputs_of}
-use Rattle.lethe_follows.proofs.Erases.{in_order_again}
+use Rattle.lethe_follows.specs.Merged.{IsAlone, IsMergeIn, IsMerged, StoredMerge, IsWhole, entries_in, erases_upto, hull_of, inputs_of}
 use Rattle.lethe_follows.proofs.Filing.{old_number}
 use Rattle.lethe_follows.proofs.Following.{file_from, file_in, follows}
-use Rattle.lethe_follows.proofs.MergeFiles.{renewed, same_stored}
+use Rattle.lethe_follows.proofs.LettingGo.{kept_for}
+use Rattle.lethe_follows.proofs.MergeErases.{left_is, pending_all, with_all}
 use Rattle.lethe_follows.proofs.MergeLevels.{levels_are, levels_become, merge_of, range_from}
 
 -- The inputs as a layout has them
@@ -55,7 +58,7 @@ none_mapped f (x ∷ xs) none = absurd cc
 module _ (h : History) (s : Stored) (coherent : IsCoherent s) (stands : IsFor h s) (m : StoredMerge) (begun : IsMergeIn s m) (alone : Bool)
     (lone : IsTrue alone → IsAlone s m.level (hull_of (inputs_of m))) (last : m.level + 1 ≡ s.manifest.config.levels → IsTrue alone)
     (upto : ℕ) (within : upto ≤ count_of s) (low : All (λ (entry : Entry). entry.seq ≤ upto) (entries_in (inputs_of m)))
-    (t : Stored) (is : IsMerged s m (pending_of s) alone upto t)
+    (t : Stored) (is : IsMerged s m (erases_upto upto (pending_of s)) alone upto t)
   where
     abbrev deepest : ℕ
     deepest = s.manifest.config.levels
@@ -109,16 +112,22 @@ module _ (h : History) (s : Stored) (coherent : IsCoherent s) (stands : IsFor h 
           omega (arith, high, below, one, two)));
     }
 
-    -- all that is pending is applied
-    applies : IsApplied threshold h l.clock (Holds l) l.pending l.pending (InFiles (moves.inputs_of laid)) upto
+    abbrev applied : List Pending
+    applied = erases_upto upto (pending_of s)
+
+    was_pending : (erase : Pending) → Contains applied erase → Contains l.pending erase
+    was_pending erase there = (from_filter (is_upto upto) (pending_of s) erase there).0
+
+    -- all that is pending up to the place is applied
+    applies : IsApplied threshold h l.clock (Holds l) l.pending applied (InFiles (moves.inputs_of laid)) upto
     applies = record {
-      complete = λ erase input there below own. inl there;
-      accepted = λ erase there. stands.covers.places.erases erase (inl there);
-      fresh = λ erase there. (stands.covers.times_fresh.erases erase (inl there)).fresh;
-      sound = λ erase input dkey value there own put matched. inl there;
+      complete = λ erase input there below own. inl (in_filter (is_upto upto) (pending_of s) erase there (le-leb erase.seq upto below));
+      accepted = λ erase there. stands.covers.places.erases erase (inl (was_pending erase there));
+      fresh = λ erase there. (stands.covers.times_fresh.erases erase (inl (was_pending erase there))).fresh;
+      sound = λ erase input dkey value there own put matched. inl (was_pending erase there);
     }
 
-    merges : Merges threshold h l (pending_of s) upto laid
+    merges : Merges threshold h l applied upto laid
     merges = record {
       levels = levels_are deepest s.files m is.made begun.level begun.from begun.into;
       sources = is_whole begun.whole;
@@ -129,7 +138,7 @@ module _ (h : History) (s : Stored) (coherent : IsCoherent s) (stands : IsFor h 
       clear = λ holds. subst (λ files. All (IsClearOf (hull_of_files files)) (flat_map (λ files. files) laid.deeper)) (laid_inputs m)
           (all_from (IsClearOf (hull_of (inputs_of m))) (flat_map (λ files. files) laid.deeper) (clear_below holds));
       bottom = no_deeper;
-      made = subst (λ entries. AreMade (merged entries (pending_of s) alone) upto (map file_of is.made)) (entries_laid m) is.woven.made;
+      made = subst (λ entries. AreMade (merged entries applied alone) upto (map file_of is.made)) (entries_laid m) is.woven.made;
       ascending = is.woven.ascending;
       new = new_files;
       applies = applies;
@@ -139,13 +148,10 @@ module _ (h : History) (s : Stored) (coherent : IsCoherent s) (stands : IsFor h 
     }
 
     after : Follows threshold h (record l { levels = moves.levels_then laid })
-    after = merge_follows threshold h l (follows h s coherent stands) (pending_of s) upto laid merges
+    after = merge_follows threshold h l (follows h s coherent stands) applied upto laid merges
 
     abbrev next : Stored
-    next = renewed s coherent m (pending_of s) alone upto t is
-
-    pending_merged : pending_of next ≡ pending_of s
-    pending_merged = in_order_again (s.manifest.erases ++ filter_map erase_of (records_of s)) (filter_map erase_of (records_of s)) (λ erase there. Contains-append_right s.manifest.erases (filter_map erase_of (records_of s)) erase there)
+    next = with_all s m applied alone upto t is
 
     levels_merged : levels_of deepest t.files ≡ moves.levels_then laid
     levels_merged = levels_become deepest s.files t.files m is.made begun.level is.from is.into is.rest
@@ -154,10 +160,11 @@ module _ (h : History) (s : Stored) (coherent : IsCoherent s) (stands : IsFor h 
     count_merged = omega arith
 
     layout_merged : layout_of next ≡ record l { levels = moves.levels_then laid; count = count_of next; next = is.number + 1 }
-    layout_merged = λ i. record l { count = count_of next; next = is.number + 1; pending = pending_merged i; levels = levels_merged i }
+    layout_merged = λ i. record l { count = count_of next; next = is.number + 1; pending = pending_all s m applied alone upto t is i; levels = levels_merged i }
 
+    -- with all that was pending, what is stored stands for the history, and so it does without what is spent
     pub merged_for : IsFor h t
-    merged_for = subst (IsFor h) (same_stored s coherent m (pending_of s) alone upto t is) (record {
+    merged_for = subst (IsFor h) (left_is s m applied alone upto t is) (kept_for next h (record {
       legal = stands.legal;
       done = stands.done;
       covers = subst (Covers threshold h) (sym layout_merged) (covers_numbered threshold h (record l { levels = moves.levels_then laid }) (count_of next) (is.number + 1) after.covers);
@@ -165,7 +172,7 @@ module _ (h : History) (s : Stored) (coherent : IsCoherent s) (stands : IsFor h 
       clock = stands.clock;
       count = count_merged ∙ stands.count;
       certificate = stands.certificate;
-    })
+    }))
 
 -- The places of all entries
 

@@ -4,3 +4,4 @@ pub mod Woven
 pub mod Merged
 pub mod Ticked
 pub mod Young
+pub mod Leaving

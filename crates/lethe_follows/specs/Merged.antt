@@ -1,8 +1,9 @@
 -- A merge of stored files: which of them it reads, and what is stored once it is installed.
-use Rattle.std.specs.Prelude.{◌≡◌, ◌≢◌, ◌⊎◌, ℕ, ◌+◌, ◌<◌, ◌≤◌, ◌==◌, Bool, IsTrue, List, [], ◌++◌, length, map, filter, flat_map, All, AllPairs, Contains, IsPermutation}
+use Rattle.std.specs.Prelude.{◌≡◌, ◌≢◌, ◌⊎◌, ℕ, ◌+◌, ◌<◌, ◌≤◌, ◌==◌, nat_le, Bool, IsTrue, List, [], ◌++◌, length, map, filter, flat_map, All, AllPairs, Contains, IsPermutation}
 use Rattle.std.specs.declared.cmp.Ordering.TheVariants.{Less}
 use Rattle.lethe_base.specs.Keys.{key_cmp}
 use Rattle.lethe_base.specs.Layout.{entries_of}
+use Rattle.lethe_base.specs.Spent.{done_upto}
 use Rattle.lethe_base.specs.declared.entry.Entry.{Entry}
 use Rattle.lethe_base.specs.declared.pending.Pending.{Pending}
 use Rattle.lethe_fade.specs.Spans.{KeyRange, overlaps}
@@ -11,9 +12,10 @@ use Rattle.lethe_manifest.specs.declared.manifest.Manifest.{Manifest}
 use Rattle.lethe_merge.specs.Merge.{merged}
 use Rattle.lethe_moves.specs.Files.{IsClearOf, keys_of, hull_of_files}
 use Rattle.lethe_stored.specs.Files.{StoredFile, IsFile, lines_in, cited_of, file_of}
-use Rattle.lethe_stored.specs.Stored.{Stored, pending_of, count_of, part_names}
+use Rattle.lethe_stored.specs.Stored.{Stored, layout_of, pending_of, count_of, part_names}
 use Rattle.lethe_version.specs.Order.{is_kept}
 use Rattle.lethe_follows.specs.Filed.{AreInOrder}
+use Rattle.lethe_follows.specs.Leaving.{first_erase, kept_of}
 use Rattle.lethe_follows.specs.Woven.{AreWovenOf}
 
 -- of a level and the next one, the files in their order
@@ -79,15 +81,23 @@ pub record AreNewIn (s : Stored) (last : ℕ) (made : List StoredFile) : Type 0 
   pub files_once : AllPairs (λ a b. a.header.no ≢ b.header.no) made
   pub pages_once : AllPairs (λ a b. a.no ≢ b.no) (flat_map lines_in made)
 
--- the next manifest, of this number, which cites these files and has the erases that are pending
+-- the pending erases that are still to be done beside these files, and those from the first on that a segment records
+abbrev pub erases_kept : Stored → List StoredFile → List Pending
+erases_kept s files = kept_of (pending_of s) (done_upto (layout_of (record s { files = files }))) (first_erase s)
+
+-- the next manifest, of this number, which cites these files and has the erases that are kept beside them
 abbrev pub merging_manifest : Stored → List StoredFile → ℕ → Manifest
 merging_manifest s files number = record s.manifest {
   no = number;
   count = count_of s;
   next = number + 1;
-  erases = pending_of s;
+  erases = erases_kept s files;
   files = map cited_of files;
 }
+
+-- of some erases, those up to a place
+abbrev pub erases_upto : ℕ → List Pending → List Pending
+erases_upto upto erases = filter (λ erase. nat_le erase.seq upto) erases
 
 -- The inputs went, and files of the next level came in their place: what is left of the inputs' entries where the erases are applied.
 pub record IsMerged (s : Stored) (m : StoredMerge) (applied : List Pending) (alone : Bool) (upto : ℕ) (t : Stored) : Type 0 where

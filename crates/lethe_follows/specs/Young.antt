@@ -1,8 +1,9 @@
--- How old the records of the segments are.
-use Rattle.std.specs.Prelude.{ℕ, ◌+◌, ◌<◌, List, [], ◌∷◌, Option, Some, None}
+-- How old the records of the segments are, and the erases that are still to be done.
+use Rattle.std.specs.Prelude.{ℕ, ◌+◌, ◌<◌, List, [], ◌∷◌, All, Option, Some, None}
 use Rattle.lethe_base.specs.Held.{IsRecorded}
 use Rattle.lethe_base.specs.Layout as layout
 use Rattle.lethe_base.specs.Shapes.{earlier}
+use Rattle.lethe_base.specs.Spent.{left_erases}
 use Rattle.lethe_cover.specs.Changes.{HasTime}
 use Rattle.lethe_fade.specs.LevelTimes.{level_deadline}
 use Rattle.lethe_segment.specs.declared.record.Record.{Record}
@@ -12,6 +13,10 @@ use Rattle.lethe_stored.specs.Stored.{Stored, layout_of}
 -- no record of a segment is as old as level 0 may have it
 abbrev pub AreYoung : Stored → ℕ → Type 0
 AreYoung s to = (r : layout.Record) (time : ℕ) → IsRecorded (layout_of s) r → HasTime r time → to < time + level_deadline s.manifest.config 0
+
+-- no erase that is still to be done is a threshold old
+abbrev pub AreLeftYoung : Stored → ℕ → Type 0
+AreLeftYoung s to = All (λ erase. to < erase.time + s.manifest.config.threshold) (left_erases (layout_of s))
 
 -- the time that a record has
 abbrev pub time_of : Record → Option ℕ

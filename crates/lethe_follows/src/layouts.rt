@@ -2,7 +2,8 @@
 ghost use Rattle.std.specs.Prelude.{ℕ, ◌<◌, ◌^◌, ◌++◌, List, All, filter_map, length};
 ghost use Rattle.lethe_base.specs.History.{History};
 ghost use Rattle.lethe_base.specs.declared.pending.Pending.{Pending};
-ghost use Rattle.lethe_manifest.specs.Manifests.{AreErases, IsErase};
+ghost use Rattle.lethe_base.specs.Erases.{IsErase};
+ghost use Rattle.lethe_manifest.specs.Manifests.{AreErases};
 ghost use Rattle.lethe_moves.specs.Reaches.{Follows};
 ghost use Rattle.lethe_segment.specs.Segments.{Ascends};
 ghost use Rattle.lethe_segment.specs.declared.record.Record.{Record};

@@ -6,24 +6,26 @@ ghost use Rattle.lethe_base.specs.Shapes.{shape_of};
 ghost use Rattle.lethe_base.specs.declared.call.Call.TheVariants.{Tick};
 ghost use Rattle.lethe_cover.specs.Steps.{with_done};
 ghost use Rattle.lethe_fade.specs.Expired.{due, is_passed};
+ghost use Rattle.lethe_follows.specs.Leaving.{let_go};
 ghost use Rattle.lethe_follows.specs.Ticked.{ticked};
-ghost use Rattle.lethe_follows.specs.Young.{AreYoung, oldest_in};
+ghost use Rattle.lethe_follows.specs.Young.{AreLeftYoung, AreYoung, oldest_in};
 ghost use Rattle.lethe_manifest.specs.Manifests.{HasSpelling};
 ghost use Rattle.lethe_moves.specs.Due.{HasNothingDue};
 ghost use Rattle.lethe_stored.specs.Kept.{IsFor};
 ghost use Rattle.lethe_stored.specs.Stored.{IsCoherent, Stored, layout_of, records_in};
 
-/// At a time at which nothing is due, what is stored with its clock there stands for the history with the tick.
+/// At a time at which nothing is due once the erases that are done have left, what is stored with its clock there stands for the history with the tick.
 pub fn tick_follows()
     ensures coherent { (s : Stored) → IsCoherent s → (to number : ℕ) → s.manifest.next ≤ number → HasSpelling (ticked s to number).manifest → IsCoherent (ticked s to number) }
     ensures stands { (h : History) (s : Stored) → IsCoherent s → IsFor h s → length h < max_place → (to : ℕ) → s.manifest.clock ≤ to
-        → HasNothingDue s.manifest.config to (layout_of s) → (caller number : ℕ) → IsFor (with_done h caller (Tick to)) (ticked s to number) }
+        → HasNothingDue s.manifest.config to (layout_of (let_go s)) → (caller number : ℕ) → IsFor (with_done h caller (Tick to)) (ticked s to number) }
 {}
 
-/// Where no file is expired at a time and no record is as old as level 0 may have it, nothing is due.
+/// Where no file is expired at a time, no record is as old as level 0 may have it, and no erase that is still to be done is a threshold old, nothing is due
+/// once the erases that are done have left.
 pub fn nothing_is_due()
-    ensures { (h : History) (s : Stored) → IsCoherent s → IsFor h s → (to : ℕ) → due s.manifest.config (shape_of (layout_of s)) to ≡ None → AreYoung s to
-        → HasNothingDue s.manifest.config to (layout_of s) }
+    ensures { (h : History) (s : Stored) → IsCoherent s → IsFor h s → (to : ℕ) → due s.manifest.config (shape_of (layout_of s)) to ≡ None → AreYoung s to → AreLeftYoung s to
+        → HasNothingDue s.manifest.config to (layout_of (let_go s)) }
 {}
 
 /// No record is as old as level 0 may have it exactly where the least time of neither segment is.

@@ -1,15 +1,15 @@
 -- With the record of a change, what is stored stands for the history with that change.
-use Rattle.std.proofs.Common.{◌≡◌, ◌<◌, ◌≤◌, ◌^◌, inl, inr, ℕ, ◌+◌, false, cond, List, [], ◌∷◌, ◌++◌, length, map, min, Option, Some, None, refl, sym, ap, ◌∙◌, subst, arith, append-nil, append_assoc}
-use Rattle.std.specs.Prelude.{Contains, filter_map, unwrap_or, option_and_then}
-use Rattle.std.specs.List.{cons_option}
+use Rattle.std.proofs.Common.{◌≡◌, ◌<◌, ◌≤◌, ◌^◌, inl, inr, ℕ, ◌+◌, false, cond, List, [], ◌∷◌, ◌++◌, length, get_or, map, min, Option, Some, None, refl, sym, ap, ◌∙◌, subst, arith}
+use Rattle.std.specs.Prelude.{Contains, unwrap_or, option_and_then}
 use Rattle.std.specs.FinMap as finmap
-use Rattle.std.proofs.lemmas.List.Elements.{filter_map-append}
+use Rattle.std.proofs.lemmas.List.Elements.{Contains-get_or}
+use Rattle.std.proofs.lemmas.List.Quantifiers.{all_pairs_push}
 use Rattle.lethe_base.specs.Keys.{Bytes}
 use Rattle.lethe_base.specs.Limits.{IsKey, IsValue, max_place, max_time}
 use Rattle.lethe_base.specs.Spelling.{IsTimeOrNone, HasSpelling}
 use Rattle.lethe_base.specs.History.{History, Change, after, done}
 use Rattle.lethe_base.specs.Layout as layout
-use Rattle.lethe_base.specs.Layout.{Layout, Written, Blind, place_of, buffer_of, frozen_records}
+use Rattle.lethe_base.specs.Layout.{Layout, Written, Blind, place_of, buffer_of}
 use Rattle.lethe_base.specs.Held.{Shows}
 use Rattle.lethe_base.specs.Shapes.{IsValidShape, shape_of}
 use Rattle.lethe_base.specs.Covers.{Covers}
@@ -29,24 +29,21 @@ use Rattle.lethe_segment.specs.declared.record.Record.{Record}
 use Rattle.lethe_segment.specs.declared.record.Record.TheVariants as of
 use Rattle.lethe_segment.specs.Records.{record_seq, RecordHasSpelling}
 use Rattle.lethe_segment.specs.Segments.{Ascends, last_seq}
-use Rattle.lethe_cover.specs.Steps.{IsCounted, next_place, with_done, recorded, time_of, put_entry, tomb_entry}
+use Rattle.lethe_cover.specs.Changes.{followed}
+use Rattle.lethe_cover.specs.Steps.{IsCounted, accepted, erasing, next_place, with_done, time_of, put_entry, tomb_entry}
+use Rattle.lethe_cover.proofs.Grown.{done_within}
 use Rattle.lethe_cover.proofs.Records.{buffer_keyed}
 use Rattle.lethe_cover.proofs.Entered.{put_covers, delete_covers}
-use Rattle.lethe_cover.proofs.Unentered.{blind_covers}
-use Rattle.lethe_stored.specs.Stored.{Stored, IsCoherent, records_in, records_of, plain, erase_of, in_order, pending_of, layout_of, count_of, appended}
+use Rattle.lethe_cover.proofs.Unentered.{blind_covers, erase_covers}
+use Rattle.lethe_stored.specs.Stored.{Stored, IsCoherent, records_in, plain, pending_of, layout_of, count_of, appended}
 use Rattle.lethe_stored.specs.Kept.{IsFor, certifies, certificates}
+use Rattle.lethe_stored.proofs.Appended.{pending_appended, same_pending}
+use Rattle.lethe_stored.proofs.Clocks.{clock_within}
 use Rattle.lethe_stored.proofs.Numbered.{covers_numbered}
 use Rattle.lethe_stored.proofs.Meanings.{plain_place, frozen_are}
 use Rattle.lethe_stored.proofs.Steps.{stored_appended}
 
 -- Lists
-
-erases_push : (records : List Record) (r : Record) → erase_of r ≡ None → filter_map erase_of (records ++ r ∷ []) ≡ filter_map erase_of records
-erases_push records r none = filter_map-append erase_of records (r ∷ []) ∙ ap (λ l. filter_map erase_of records ++ l) (by (erase_of r) none) ∙ append-nil (filter_map erase_of records)
-  where
-    by : (o : Option Pending) → o ≡ None → cons_option o [] ≡ []
-    by None is = refl
-    by (Some erase) is = let clash : Some erase ≡ None = is in cc
 
 last_push : (last : ℕ) (records : List Record) (r : Record) → last_seq last (records ++ r ∷ []) ≡ record_seq r
 last_push last [] r = refl
@@ -109,14 +106,37 @@ module _ (h : History) (s : Stored) (coherent : IsCoherent s) (stands : IsFor h 
       by None is = tt
       by (Some entry) is = (spelled_in 0 s.active.records entry coherent.active (buffer_recorded l.active entry (subst (λ k. finmap.get (buffer_of l.active) k ≡ Some entry) (sym (buffer_keyed l.active key entry is)) is))).front.time
 
+module _ (h : History) (s : Stored) (stands : IsFor h s) where
+  -- each erase was accepted
+  pending_within : (erase : Pending) → Contains (pending_of s) erase → erase.seq ≤ length h
+  pending_within erase there = done_within h erase.seq (Erase erase.range) (stands.covers.places.erases erase (inl there)).done
+
+  -- at a time up to the clock
+  pending_timed : (erase : Pending) → Contains (pending_of s) erase → erase.time ≤ s.manifest.clock
+  pending_timed erase there =
+      let timed = (stands.covers.places.erases erase (inl there)).timed in
+      let within = clock_within h stands.legal erase.seq (pending_within erase there) in
+      let clock = stands.clock in
+      omega (arith, timed, within, clock)
+
+  -- an erase with the next place and the clock may come behind them
+  shape_erased : (range : Ends) → IsValidShape (shape_of (erasing (layout_of s) (accepted h (layout_of s) range)))
+  shape_erased range =
+      let erase = accepted h (layout_of s) range in
+      let there = Contains-get_or (pending_of s) in
+      record {
+        numbers = stands.shape.numbers;
+        ranges = stands.shape.ranges;
+        levels = stands.shape.levels;
+        deepest = stands.shape.deepest;
+        places = all_pairs_push (λ a b. a.seq < b.seq) (pending_of s) erase stands.shape.places (λ k d within. let below = pending_within (get_or (pending_of s) k d) (there k d within) in omega (arith, below));
+        times = all_pairs_push (λ a b. a.time ≤ b.time) (pending_of s) erase stands.shape.times (λ k d within. pending_timed (get_or (pending_of s) k d) (there k d within));
+      }
+
 -- The layout with a record more
 
-module _ (s : Stored) (r : Record) (none : erase_of r ≡ None) where
-  same_pending : pending_of (appended s r) ≡ pending_of s
-  same_pending = ap (λ l. in_order (s.manifest.erases ++ l)) (ap (filter_map erase_of) (sym (append_assoc (records_in s.frozen) s.active.records (r ∷ []))) ∙ erases_push (records_of s) r none)
-
-  pub layout_appended : layout_of (appended s r) ≡ record (layout_of s) { count = count_of (appended s r); active = (layout_of s).active ++ plain r ∷ [] }
-  layout_appended = λ i. record (layout_of s) { count = count_of (appended s r); active = map_push plain s.active.records r i; pending = same_pending i }
+layout_appended : (s : Stored) (r : Record) (pending : List Pending) → pending_of (appended s r) ≡ pending → layout_of (appended s r) ≡ record (followed (layout_of s) (plain r) pending) { count = count_of (appended s r) }
+layout_appended s r pending same = λ i. record (layout_of s) { count = count_of (appended s r); active = map_push plain s.active.records r i; pending = same i }
 
 certificates_push : (threshold : ℕ) (h : History) (change : Change) → certifies threshold change.did change.call ≡ false → certificates threshold (h ++ change ∷ []) ≡ certificates threshold h
 certificates_push threshold h change no_more = fold-append count 0 h (change ∷ []) ∙ ap (λ b. certificates threshold h + cond b 1 0) no_more ∙ plus_none (certificates threshold h)
@@ -129,27 +149,30 @@ certificates_push threshold h change no_more = fold-append count 0 h (change ∷
 
 -- A change that doesn't move the clock
 
-module _ (h : History) (s : Stored) (coherent : IsCoherent s) (stands : IsFor h s) (caller : ℕ) (call : Call) (r : Record) where
-  pub recorded_for : length h < max_place → erase_of r ≡ None → record_seq r ≡ next_place h → (done call (after h)).clock ≡ (after h).clock → ((to : ℕ) → call ≡ Tick to → ⊥) → (call ≡ Work → ⊥) → ((range : Ends) → call ≡ Erase range → ⊥) → certifies s.manifest.config.threshold Done call ≡ false
-      → Covers s.manifest.config.threshold (with_done h caller call) (recorded (layout_of s) (plain r)) → IsFor (with_done h caller call) (appended s r)
-  recorded_for few none place clock ticks works erases certified covers =
+module _ (h : History) (s : Stored) (coherent : IsCoherent s) (stands : IsFor h s) (caller : ℕ) (call : Call) (r : Record) (pending : List Pending) where
+  abbrev followed_by : Layout
+  followed_by = followed (layout_of s) (plain r) pending
+
+  pub recorded_for : length h < max_place → record_seq r ≡ next_place h → (done call (after h)).clock ≡ (after h).clock → ((to : ℕ) → call ≡ Tick to → ⊥) → (call ≡ Work → ⊥) → certifies s.manifest.config.threshold Done call ≡ false
+      → pending_of (appended s r) ≡ pending → IsValidShape (shape_of followed_by) → Covers s.manifest.config.threshold (with_done h caller call) followed_by → IsFor (with_done h caller call) (appended s r)
+  recorded_for few place clock ticks works certified same shape covers =
       let change : Change = record { caller = caller; call = call; did = Done } in
-      let is = layout_appended s r none in
+      let is = layout_appended s r pending same in
       let more : last_seq 0 (s.active.records ++ r ∷ []) ≡ length h + 1 = last_push 0 s.active.records r ∙ place in
       let within = count_within h s coherent stands in
       let older = frozen_within h s coherent stands in
       let count_more : count_of (appended s r) ≡ length (h ++ change ∷ []) = omega (arith, more, within, older, length_push h change) in
       record {
-        legal = legal_push h change stands.legal stands.done few works (λ to is. absurd (ticks to is)) erases;
+        legal = legal_push h change stands.legal stands.done few works (λ to is. absurd (ticks to is));
         done = done_push h change stands.done refl;
-        covers = subst (Covers s.manifest.config.threshold (with_done h caller call)) (sym is) (covers_numbered s.manifest.config.threshold (with_done h caller call) (recorded (layout_of s) (plain r)) (count_of (appended s r)) s.manifest.next covers);
-        shape = subst (λ x. IsValidShape (shape_of x)) (sym is) stands.shape;
+        covers = subst (Covers s.manifest.config.threshold (with_done h caller call)) (sym is) (covers_numbered s.manifest.config.threshold (with_done h caller call) followed_by (count_of (appended s r)) s.manifest.next covers);
+        shape = subst (λ x. IsValidShape (shape_of x)) (sym is) shape;
         clock = stands.clock ∙ sym clock ∙ sym (ap (λ st. st.clock) (after-push h change));
         count = count_more;
         certificate = stands.certificate ∙ sym (certificates_push s.manifest.config.threshold h change certified);
       }
 
--- Puts and deletes
+-- Puts, deletes and erases
 
 module _ (h : History) (s : Stored) (coherent : IsCoherent s) (stands : IsFor h s) (few : length h < max_place) (caller : ℕ) where
   abbrev threshold : ℕ
@@ -163,7 +186,9 @@ module _ (h : History) (s : Stored) (coherent : IsCoherent s) (stands : IsFor h 
       (record { front = record { place = (omega arith, omega (arith, few)); marked = tt; time = time_fits h s coherent stands key; named = named }; body = (fits, short) }) above
 
   pub put_for : (key : Bytes) (dkey : ℕ) (value : Bytes) → IsFor (with_done h caller (Put key dkey value)) (appended s (of.Entry (put_entry h (layout_of s) key dkey value)))
-  put_for key dkey value = recorded_for h s coherent stands caller (Put key dkey value) (of.Entry (put_entry h (layout_of s) key dkey value)) few refl refl refl (λ to e. cc) (λ e. cc) (λ range e. cc) refl
+  put_for key dkey value =
+      let r = of.Entry (put_entry h (layout_of s) key dkey value) in
+      recorded_for h s coherent stands caller (Put key dkey value) r (pending_of s) few refl refl (λ to e. cc) (λ e. cc) refl (same_pending s r refl) stands.shape
       (put_covers threshold caller h (layout_of s) stands.covers (counted h s coherent stands) key dkey value).0
 
   tomb_time : (key : Bytes) → min s.manifest.clock (unwrap_or (time_of key (layout_of s)) s.manifest.clock) ≤ max_time
@@ -174,12 +199,24 @@ module _ (h : History) (s : Stored) (coherent : IsCoherent s) (stands : IsFor h 
       (record { front = record { place = (omega arith, omega (arith, few)); marked = refl; time = tomb_time key; named = named }; body = tt }) above
 
   pub delete_for : (key : Bytes) → IsFor (with_done h caller (Delete key)) (appended s (of.Entry (tomb_entry h (layout_of s) key)))
-  delete_for key = recorded_for h s coherent stands caller (Delete key) (of.Entry (tomb_entry h (layout_of s) key)) few refl refl refl (λ to e. cc) (λ e. cc) (λ range e. cc) refl
+  delete_for key =
+      let r = of.Entry (tomb_entry h (layout_of s) key) in
+      recorded_for h s coherent stands caller (Delete key) r (pending_of s) few refl refl (λ to e. cc) (λ e. cc) refl (same_pending s r refl) stands.shape
       (delete_covers threshold caller h (layout_of s) stands.covers (counted h s coherent stands) key (coherent.spelled.config.threshold.0) stands.clock).0
 
   pub blind_stored : IsCoherent (appended s (of.Blind (next_place h)))
   blind_stored = stored_appended s (of.Blind (next_place h)) coherent (omega arith, omega (arith, few)) above
 
   pub blind_for : (key : Bytes) → ((entry : Entry) → Shows (layout_of s) entry → entry.key ≡ key → ⊥) → IsFor (with_done h caller (Delete key)) (appended s (of.Blind (next_place h)))
-  blind_for key none = recorded_for h s coherent stands caller (Delete key) (of.Blind (next_place h)) few refl refl refl (λ to e. cc) (λ e. cc) (λ range e. cc) refl
+  blind_for key none = recorded_for h s coherent stands caller (Delete key) (of.Blind (next_place h)) (pending_of s) few refl refl (λ to e. cc) (λ e. cc) refl (same_pending s (of.Blind (next_place h)) refl) stands.shape
       (blind_covers threshold caller h (layout_of s) stands.covers (counted h s coherent stands) key none).0
+
+  pub erase_stored : (range : Ends) → range.lo < range.hi → range.hi < 2 ^ 64 → IsCoherent (appended s (of.Erase (accepted h (layout_of s) range)))
+  erase_stored range some short = stored_appended s (of.Erase (accepted h (layout_of s) range)) coherent (record { place = (omega arith, omega (arith, few)); time = coherent.spelled.clock; some = some; hi = short }) above
+
+  pub erase_for : (range : Ends) → IsFor (with_done h caller (Erase range)) (appended s (of.Erase (accepted h (layout_of s) range)))
+  erase_for range =
+      let erase = accepted h (layout_of s) range in
+      let shape = shape_erased h s stands range in
+      recorded_for h s coherent stands caller (Erase range) (of.Erase erase) (pending_of s ++ erase ∷ []) few refl refl (λ to e. cc) (λ e. cc) refl (pending_appended s (of.Erase erase) shape.places) shape
+      (erase_covers threshold caller h (layout_of s) stands.covers (counted h s coherent stands) (coherent.spelled.config.threshold.0) stands.clock range).0

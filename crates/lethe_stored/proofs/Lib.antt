@@ -7,6 +7,9 @@ pub mod Numbers
 pub mod Meanings
 pub mod Numbered
 pub mod Leveled
+pub mod InOrder
+pub mod Appended
+pub mod Clocks
 pub mod Changes
 pub mod Freezing
 pub mod FileFacts

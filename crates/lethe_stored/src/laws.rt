@@ -1,13 +1,14 @@
 //! Laws of what a disk is kept for. The functions do nothing: their contracts are the laws.
-ghost use Rattle.std.specs.Prelude.{◌≡◌, ◌≢◌, ◌⊎◌, ◌<◌, ◌≤◌, ◌^◌, ℕ, List, [], length, Some, None};
+ghost use Rattle.std.specs.Prelude.{◌≡◌, ◌≢◌, ◌⊎◌, ◌<◌, ◌≤◌, ◌^◌, ◌++◌, AllPairs, ℕ, List, [], length, option_to_list, Some, None};
 ghost use Rattle.lethe_base.specs.Causes.{IsOverdue};
 ghost use Rattle.lethe_base.specs.Held.{Holds, Shows};
 ghost use Rattle.lethe_base.specs.History.{History, after};
 ghost use Rattle.lethe_base.specs.Keys.{Bytes};
 ghost use Rattle.lethe_base.specs.Limits.{IsKey, IsValue, max_place};
 ghost use Rattle.lethe_base.specs.Matching.{IsPut};
+ghost use Rattle.lethe_base.specs.Ranges.{Ends};
 ghost use Rattle.lethe_base.specs.Shapes as shapes;
-ghost use Rattle.lethe_base.specs.declared.call.Call.TheVariants.{Put, Delete};
+ghost use Rattle.lethe_base.specs.declared.call.Call.TheVariants.{Put, Delete, Erase};
 ghost use Rattle.lethe_base.specs.declared.config.Fields.{Fields};
 ghost use Rattle.lethe_base.specs.declared.entry.Entry.{Entry};
 ghost use Rattle.lethe_base.specs.declared.name.Kind.TheVariants as kinds;
@@ -20,9 +21,9 @@ ghost use Rattle.lethe_manifest.specs.Manifests.{manifest_bytes, HasSpelling};
 ghost use Rattle.lethe_commit.specs.Append.{IsAppended};
 ghost use Rattle.lethe_commit.specs.Clear.{IsCleared};
 ghost use Rattle.lethe_commit.specs.Switch.{HasGreatest, IsSwitched};
-ghost use Rattle.lethe_cover.specs.Steps.{next_place, with_done, put_entry, tomb_entry};
+ghost use Rattle.lethe_cover.specs.Steps.{accepted, next_place, with_done, put_entry, tomb_entry};
 ghost use Rattle.lethe_stored.specs.Files.{StoredFile, IsFile, file_of};
-ghost use Rattle.lethe_stored.specs.Stored.{Stored, IsCoherent, segment_name, layout_of, appended, froze};
+ghost use Rattle.lethe_stored.specs.Stored.{Stored, IsCoherent, segment_name, layout_of, appended, froze, erase_of, pending_of};
 ghost use Rattle.lethe_stored.specs.Encodes.{Encodes, HasParts, Agrees, IsBeside, AreSpare};
 ghost use Rattle.lethe_stored.specs.Steps.{addition};
 ghost use Rattle.lethe_stored.specs.Kept.{IsFor, IsKept};
@@ -100,6 +101,20 @@ pub fn delete_follows()
     ensures blind { (h : History) (s : Stored) → IsCoherent s → IsFor h s → length h < max_place → (caller : ℕ) (key : Bytes)
         → ((entry : Entry) → Shows (layout_of s) entry → entry.key ≡ key → ⊥)
         → IsCoherent (appended s (of.Blind (next_place h))) × IsFor (with_done h caller (Delete key)) (appended s (of.Blind (next_place h))) }
+{}
+
+/// An erase whose place is above those of the pending ones is pending behind them, and another record leaves them as they are.
+pub fn erase_is_pending()
+    ensures { (s : Stored) (next : Record) → AllPairs (λ a b. a.seq < b.seq) (pending_of s ++ option_to_list (erase_of next))
+        → pending_of (appended s next) ≡ pending_of s ++ option_to_list (erase_of next) }
+{}
+
+/// With the record of an erase, what is stored stands for the history with that erase.
+pub fn erase_follows()
+    ensures { (h : History) (s : Stored) → IsCoherent s → IsFor h s → length h < max_place
+        → (caller : ℕ) (range : Ends) → range.lo < range.hi → range.hi < 2 ^ 64
+        → IsCoherent (appended s (of.Erase (accepted h (layout_of s) range)))
+        × IsFor (with_done h caller (Erase range)) (appended s (of.Erase (accepted h (layout_of s) range))) }
 {}
 
 /// With the active segment frozen and an empty one active, what is stored stands for the same history, where no segment was frozen.
