@@ -1,7 +1,8 @@
 -- A job that was begun is in flight.
-use Rattle.std.proofs.Common.{◌≡◌, ◌≤◌, ◌<◌, ◌+◌, ◌++◌, ℕ, [], All, Some, None, refl, subst, sym, arith}
+use Rattle.std.proofs.Common.{◌≡◌, ◌≤◌, ◌<◌, ◌+◌, ◌++◌, ℕ, List, [], All, Some, None, refl, subst, sym, arith}
 use Rattle.std.specs.Prelude.{Contains}
-use Rattle.std.proofs.lemmas.List.Elements.{All-contains, All-weaker}
+use Rattle.std.specs.Prelude.{nat_le}
+use Rattle.std.proofs.lemmas.List.Elements.{All-contains, All-filter, All-weaker}
 use Rattle.lethe_base.specs.History.{History}
 use Rattle.lethe_base.specs.Layout.{entries_of}
 use Rattle.lethe_base.specs.Limits.{max_time}
@@ -9,16 +10,18 @@ use Rattle.lethe_base.specs.declared.config.Fields.{Fields}
 use Rattle.lethe_base.specs.declared.entry.Entry.{Entry}
 use Rattle.lethe_base.specs.declared.pending.Pending.{Pending}
 use Rattle.lethe_disk.specs.Disk.{IsIdle, Seen}
-use Rattle.lethe_manifest.specs.Manifests.{IsErase}
+use Rattle.lethe_base.specs.Erases.{IsErase}
 use Rattle.lethe_stored.specs.Files.{StoredFile, file_of}
 use Rattle.lethe_stored.specs.Kept.{IsFor}
 use Rattle.lethe_stored.specs.Stored.{IsCoherent, Stored, count_of}
 use Rattle.lethe_stored.proofs.Lists.{all_from, from_flat, in_flat}
 use Rattle.lethe_advance.specs.Settled.{AreDrawn, AreUncited, HasOnly, names_in}
 use Rattle.lethe_clean.specs.Copied.{IsCopied}
-use Rattle.lethe_follows.specs.Merged.{entries_in, inputs_of}
+use Rattle.lethe_follows.specs.Merged.{entries_in, erases_upto, inputs_of}
 use Rattle.lethe_follows.proofs.Merging.{all_counted}
 use Rattle.lethe_install.proofs.Beside.{input_in}
+use Rattle.lethe_state.specs.Writable.{IsWritable}
+use Rattle.lethe_state.specs.declared.state.State.{State}
 use Rattle.lethe_job.specs.Tasks.{IsBegunIn, PlainTask, inputs_in}
 use Rattle.lethe_core.specs.Running.{Holds, IsFlying, IsRunning, IsSound}
 use Rattle.lethe_core.specs.StandsNow.{IsCounted, StandsNow}
@@ -36,6 +39,12 @@ begun_counted h s task coherent stands is =
     (in_flat (λ (file : StoredFile). entries_of (file_of file)) s.files found.0 entry file found.2) in
     let upto = is.counted in
     omega (arith, counted, upto))
+
+-- the times of its erases are within their limit
+pub all_timed : (state : State) → IsWritable state → (erases : List Pending) → erases ≡ erases_upto state.count state.pending → All (λ (erase : Pending). erase.time ≤ max_time) erases
+all_timed state writable erases is = subst (All (λ (erase : Pending). erase.time ≤ max_time)) (sym is)
+    (All-filter (λ (erase : Pending). nat_le erase.seq state.count) (λ (erase : Pending). erase.time ≤ max_time) state.pending
+    (All-weaker IsErase (λ (erase : Pending). erase.time ≤ max_time) (λ erase is. is.time) state.pending writable.pending.each))
 
 module _ (Tells : Type 0) (old : View) (task : PlainTask) (free : old.flight ≡ None) (runs : old.state.stopped ≡ None) (sound : IsSound Tells old) (begun : (s : Stored) → Holds old s → IsBegunIn s task) where
   abbrev flying : Flying
@@ -70,15 +79,14 @@ module _ (Tells : Type 0) (old : View) (task : PlainTask) (free : old.flight ≡
       let for = stands_for config h old stands runs in
       next_stands_now config h old now stands runs s refl refl for (begun_holds s holds) (begun_counted h s task holds.remembers.coherent for (begun s holds))
 
-  begun_flies : task.level < old.state.manifest.config.levels → task.upto ≡ old.state.count → task.erases ≡ old.state.pending → IsFlying old.state flying
+  begun_flies : task.level < old.state.manifest.config.levels → task.upto ≡ old.state.count → task.erases ≡ erases_upto old.state.count old.state.pending → IsFlying old.state flying
   begun_flies level upto erases = record {
     level = level;
     upto = let few = sound.writable.count in omega (arith, upto, few);
-    erases = subst (All (λ (erase : Pending). erase.time ≤ max_time)) (sym erases)
-        (All-weaker IsErase (λ (erase : Pending). erase.time ≤ max_time) (λ erase is. is.time) old.state.pending sound.writable.pending.each);
+    erases = all_timed old.state sound.writable task.erases erases;
   }
 
-  pub begun_sound : task.level < old.state.manifest.config.levels → task.upto ≡ old.state.count → task.erases ≡ old.state.pending → IsSound Tells now
+  pub begun_sound : task.level < old.state.manifest.config.levels → task.upto ≡ old.state.count → task.erases ≡ erases_upto old.state.count old.state.pending → IsSound Tells now
   begun_sound level upto erases = record {
     writable = sound.writable;
     small = sound.small;

@@ -63,8 +63,10 @@ halted_remembered s state levels is = record {
   active = is.active;
   records = is.records;
   oldest = is.oldest;
+  firsts = is.firsts;
   frozen = is.frozen;
   frozen_oldest = is.frozen_oldest;
+  frozen_firsts = is.frozen_firsts;
   files = is.files;
   counted = let le = is.counted in omega (arith, le);
 }
@@ -98,7 +100,21 @@ sound_halted Tells old new fits sound = record {
 -- A step that was hindered
 
 like_itself : (state : State) → IsLike state state
-like_itself state = record { manifest = refl; count = refl; pending = refl; active = refl; records = refl; end_is = refl; oldest = refl; frozen = refl; frozen_oldest = refl; stopped = refl; next = refl }
+like_itself state = record {
+  manifest = refl;
+  count = refl;
+  pending = refl;
+  active = refl;
+  records = refl;
+  end_is = refl;
+  oldest = refl;
+  firsts = refl;
+  frozen = refl;
+  frozen_oldest = refl;
+  frozen_firsts = refl;
+  stopped = refl;
+  next = refl;
+}
 
 pub like_of : (old new : State) → new ≡ old → IsLike old new
 like_of old new same = subst (IsLike old) (sym same) (like_itself old)

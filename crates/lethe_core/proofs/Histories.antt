@@ -63,8 +63,4 @@ legal_failed h new before behind legal done few failed = record {
         subst (λ clock. clock ≤ to) (sym (clock_before-append h (new ∷ []) place (omega arith))) (legal.forward place to change old.1 is did)
     | inr last ↦ absurd (undone new change before behind last.1 failed did)
   ];
-  unerased = λ place range change e is did. elim (change_at_cases h new change place e) [
-    | inl old ↦ legal.unerased place range change old.1 is did
-    | inr last ↦ undone new change before behind last.1 failed did
-  ];
 }

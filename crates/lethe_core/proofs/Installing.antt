@@ -15,7 +15,7 @@ use Rattle.lethe_clean.specs.Copied.{IsCopied}
 use Rattle.lethe_file.specs.Agreement.{FileAgrees}
 use Rattle.lethe_file.proofs.Joined.{filter_none}
 use Rattle.lethe_flush.specs.Made.{written_pages}
-use Rattle.lethe_follows.specs.Merged.{IsMerged, StoredMerge, entries_in, inputs_of}
+use Rattle.lethe_follows.specs.Merged.{IsMerged, StoredMerge, entries_in, erases_upto, inputs_of}
 use Rattle.lethe_follows.proofs.Merging.{all_counted}
 use Rattle.lethe_install.specs.Inputs.{numbered}
 use Rattle.lethe_install.specs.Left.{is_needed, left_of}
@@ -65,8 +65,8 @@ module _ (s : Stored) (coherent : IsCoherent s) (m : StoredMerge) (task : PlainT
 -- what the installing of a task's outputs promises, the first of whose pages were written under these names, where these pages are retired and those are needed
 abbrev pub Installs : State → List (List Parts) → PlainTask → List Draft → List Name → List Name → List Name → Installation → Type 0
 Installs state levels task drafts written retired needed made = (s : Stored) (m : StoredMerge) (beside : List (Name × List ℕ)) → Remembers s state levels → IsCurrent s state → AreRising s.files → IsTaskIn s m task
-    → names_in beside ≡ retired → AreUncited s (beside ++ written_pages written drafts) → AreDraftsOf s.manifest.config (merged (entries_in (inputs_of m)) (pending_of s) task.alone) drafts
-    → (t : Stored) × IsMerged s m (pending_of s) task.alone task.upto t
+    → names_in beside ≡ retired → AreUncited s (beside ++ written_pages written drafts) → AreDraftsOf s.manifest.config (merged (entries_in (inputs_of m)) (erases_upto task.upto (pending_of s)) task.alone) drafts
+    → (t : Stored) × IsMerged s m (erases_upto task.upto (pending_of s)) task.alone task.upto t
     × IsStep s (beside ++ written_pages written drafts) t (left_of needed (numbered made.step.merged.items s.files) beside) made.headers.items made.step
     × (made.left.items ≡ names_in (left_of needed (numbered made.step.merged.items s.files) beside))
 
@@ -78,12 +78,13 @@ none_left files retired = filter_none (λ (named : Name × List ℕ). is_needed 
 -- where these pages are those of the job in flight, and the retired ones those of the store, it is a step that may be carried out
 pub next_merge : (view : View) (task : PlainTask) (drafts : List Draft) (written retired : List Name) (made : Installation) → Installs view.state view.levels task drafts written retired [] made
     → view.retired ≡ retired → loose_in view.flight ≡ written_pages written drafts → AreDraftsOf task.config (merged (entries_in (inputs_in task)) task.erases task.alone) drafts
-    → (s : Stored) (m : StoredMerge) → Holds view s → IsTaskIn s m task → (t : Stored) × IsMerged s m (pending_of s) task.alone task.upto t × MayMerge view s task t made
+    → (s : Stored) (m : StoredMerge) → Holds view s → IsTaskIn s m task → (t : Stored) × IsMerged s m (erases_upto task.upto (pending_of s)) task.alone task.upto t × MayMerge view s task t made
 next_merge view task drafts written retired made installs there loose of s m holds is =
     let Are : Fields → List StoredFile → List Pending → Type 0 = λ config files erases. AreDraftsOf config (merged (entries_in files) erases task.alone) drafts in
-    let erased : Are task.config (inputs_in task) (pending_of s) = subst (Are task.config (inputs_in task)) is.erases of in
-    let filed : Are task.config (inputs_of m) (pending_of s) = subst (λ files. Are task.config files (pending_of s)) (inputs_same s m task is) erased in
-    let all : Are s.manifest.config (inputs_of m) (pending_of s) = subst (λ config. Are config (inputs_of m) (pending_of s)) is.config filed in
+    let applied = erases_upto task.upto (pending_of s) in
+    let erased : Are task.config (inputs_in task) applied = subst (Are task.config (inputs_in task)) is.erases of in
+    let filed : Are task.config (inputs_of m) applied = subst (λ files. Are task.config files applied) (inputs_same s m task is) erased in
+    let all : Are s.manifest.config (inputs_of m) applied = subst (λ config. Are config (inputs_of m) applied) is.config filed in
     let beside = named_in view.disk.directory view.retired in
     let left = left_of [] (numbered made.step.merged.items s.files) beside in
     let next = installs s m beside holds.remembers holds.running.current holds.running.rising is (names_named view.disk.directory view.retired ∙ there)
@@ -125,7 +126,7 @@ module _ (view : View) (task : PlainTask) (plans : (s : Stored) → Holds view s
   module _ (free : view.flight ≡ None) (Tells : Type 0) (drafts : List Draft) (retired : List Name) (made : Installation)
       (installs : Installs view.state view.levels task drafts [] retired [] made) (there : view.retired ≡ retired)
       (of : Tells → AreSound (inputs_in task) → AreDraftsOf task.config (merged (entries_in (inputs_in task)) task.erases task.alone) drafts) where
-    pub next_outcome : Tells → (s : Stored) (holds : Holds view s) → (t : Stored) × IsMerged s (plans s holds).m (pending_of s) task.alone task.upto t × MayMerge view s task t made
+    pub next_outcome : Tells → (s : Stored) (holds : Holds view s) → (t : Stored) × IsMerged s (plans s holds).m (erases_upto task.upto (pending_of s)) task.alone task.upto t × MayMerge view s task t made
     next_outcome told s holds =
         let planned = plans s holds in
         next_merge view task drafts [] retired made installs there (ap loose_in free) (of told (planned_sound s holds)) s planned.m holds planned.is

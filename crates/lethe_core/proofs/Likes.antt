@@ -34,8 +34,10 @@ like_remembered s old new levels like is = record {
   active = subst (AreNewestOf s.active.records) (sym like.active) is.active;
   records = like.records ∙ is.records;
   oldest = like.oldest ∙ is.oldest;
+  firsts = like.firsts ∙ is.firsts;
   frozen = subst (IsFrozenIn s.frozen) (sym like.frozen) is.frozen;
   frozen_oldest = like.frozen_oldest ∙ is.frozen_oldest;
+  frozen_firsts = like.frozen_firsts ∙ is.frozen_firsts;
   files = is.files;
   counted = let le = is.counted in let same = like.count in omega (arith, le, same);
 }

@@ -7,7 +7,8 @@ use Rattle.lethe_base.specs.declared.name.Name.{Name}
 use Rattle.lethe_disk.specs.Disk.{Seen}
 use Rattle.lethe_manifest.specs.declared.manifest.Manifest.{Manifest}
 use Rattle.lethe_commit.specs.Append.{EndsAt}
-use Rattle.lethe_follows.specs.Merged.{StoredMerge, entries_in, inputs_of}
+use Rattle.lethe_follows.specs.Merged.{StoredMerge, entries_in, erases_upto, inputs_of}
+use Rattle.lethe_follows.proofs.LettingGo.{kept_are_erases}
 use Rattle.lethe_follows.proofs.MergeRising.{merged_rises}
 use Rattle.lethe_follows.proofs.Merging.{merged_for}
 use Rattle.lethe_stored.specs.Files.{Parts}
@@ -21,8 +22,9 @@ use Rattle.lethe_advance.specs.Untorn.{IsUntorn}
 use Rattle.lethe_clean.specs.Copied.{IsCopied}
 use Rattle.lethe_advance.specs.declared.new_header.NewHeader.{NewHeader}
 use Rattle.lethe_advance.specs.declared.step.Step.{Step}
+use Rattle.lethe_state.specs.Left.{done_with, first_recorded, installed}
 use Rattle.lethe_state.specs.Remembered.{IsCurrent, Remembers}
-use Rattle.lethe_state.specs.Room.{IsStepFrom, under}
+use Rattle.lethe_state.specs.Room.{IsStepFrom}
 use Rattle.lethe_state.specs.Writable.{IsWritable, segments_for}
 use Rattle.lethe_state.specs.declared.state.State.{State}
 use Rattle.lethe_install.specs.declared.steps.Installation.{Installation}
@@ -48,13 +50,13 @@ installed_for h s task t coherent stands counted is =
     let low = subst (λ files. All (λ (entry : Entry). entry.seq ≤ task.upto) (entries_in files)) (inputs_same s is.m task is.tasked) counted in
     merged_for h s coherent stands is.m is.tasked.merge task.alone is.tasked.clear is.tasked.bottom task.upto is.tasked.upto low t is.merged_is
 
--- The state under the manifest of a step
+-- The state under the manifest of a step, with the erases that this keeps
 
-writable_under : (state : State) (headers : List NewHeader) (step : Step) → IsStepFrom (segments_for state.frozen) state headers step → IsWritable state → IsWritable (under step.manifest state)
-writable_under state headers step from is = record {
+writable_installed : (state : State) (headers : List NewHeader) (step : Step) → IsStepFrom (segments_for state.frozen) state headers step → IsWritable state → IsWritable (installed step.manifest state)
+writable_installed state headers step from is = record {
   manifest = from.spelled;
   segments = from.segments_are;
-  pending = is.pending;
+  pending = kept_are_erases (done_with state step.manifest.files) (first_recorded state) state.pending is.pending;
   active = is.active;
   frozen = is.frozen;
   count = is.count;
@@ -63,8 +65,8 @@ writable_under state headers step from is = record {
   last = from.spelled.next;
 }
 
-small_under : (manifest : Manifest) (state : State) → manifest.config ≡ state.manifest.config → IsSmall state → IsSmall (under manifest state)
-small_under manifest state config is =
+small_installed : (manifest : Manifest) (state : State) → manifest.config ≡ state.manifest.config → IsSmall state → IsSmall (installed manifest state)
+small_installed manifest state config is =
     let same : manifest.config.buffer ≡ state.manifest.config.buffer = ap (λ (f : Fields). f.buffer) config in
     let records = is.records in
     let frozen = is.frozen in
@@ -74,7 +76,7 @@ small_under manifest state config is =
 
 abbrev pub merged_view : View → Seen → ℕ → List (List Parts) → ℕ → ℕ → Installation → View
 merged_view old disk faults levels begun rounds made =
-    record { disk = disk; faults = faults; state = under made.step.manifest old.state; levels = levels; retired = made.left.items; flight = None; begun = begun; rounds = rounds }
+    record { disk = disk; faults = faults; state = installed made.step.manifest old.state; levels = levels; retired = made.left.items; flight = None; begun = begun; rounds = rounds }
 
 module _ (old : View) (disk : Seen) (faults : ℕ) (levels : List (List Parts)) (begun rounds : ℕ) (made : Installation) where
   abbrev new : View
@@ -85,8 +87,8 @@ module _ (old : View) (disk : Seen) (faults : ℕ) (levels : List (List Parts)) 
 
   module _ (s t : Stored) (task : PlainTask) (holds : Holds old s) (may : MayMerge old s task t made) (files : HasFiles t levels) where
     merged_both : Remembers t new.state levels × IsCurrent t new.state
-    merged_both = subst (λ manifest. Remembers t (under manifest old.state) levels × IsCurrent t (under manifest old.state)) (sym may.step_is.manifest)
-        (install_remembered s t may.installed.m (pending_of s) task.alone task.upto old.state old.levels levels holds.remembers holds.running.current may.installed.merged_is refl
+    merged_both = subst (λ manifest. Remembers t (installed manifest old.state) levels × IsCurrent t (installed manifest old.state)) (sym may.step_is.manifest)
+        (install_remembered s t may.installed.m (erases_upto task.upto (pending_of s)) task.alone task.upto old.state old.levels levels holds.remembers holds.running.current may.installed.merged_is
         may.step_is.coherent.spelled may.step_is.coherent files)
 
     pub merged_holds : IsSettled disk t → HasOnly t may.left disk.directory → IsUntorn t disk.directory → EndsAt disk (segment_name t.active.no) t.active.no t.active.records old.state.end → Holds new t
@@ -103,7 +105,7 @@ module _ (old : View) (disk : Seen) (faults : ℕ) (levels : List (List Parts)) 
             uncited = subst (AreUncited t) (sym same) may.step_is.left_uncited;
             untorn = untorn;
             copied = subst (All (IsCopied t)) (sym same) may.copied;
-            rising = merged_rises s coherent holds.running.rising m merge (pending_of s) task.alone task.upto t may.installed.merged_is;
+            rising = merged_rises s coherent holds.running.rising m merge (erases_upto task.upto (pending_of s)) task.alone task.upto t may.installed.merged_is;
             ends = ends;
             current = merged_both.1;
             tasked = tt;
@@ -144,8 +146,8 @@ module _ (old : View) (disk : Seen) (faults : ℕ) (levels : List (List Parts)) 
           → (Tells → old.disk.moment + length step.objects.items + 4 ≤ disk.moment) → old.faults ≤ faults → Keeps Tells old new None
       merge_keeps drawn count moments calls rise = record {
         sound = record {
-          writable = writable_under old.state made.headers.items step from can.sound.writable;
-          small = small_under step.manifest old.state from.config can.sound.small;
+          writable = writable_installed old.state made.headers.items step from can.sound.writable;
+          small = small_installed step.manifest old.state from.config can.sound.small;
           count = count ∙ can.sound.count ∙ ap (λ (f : Fields). f.levels + 1) (sym from.config);
           flies = tt;
           drawn = subst (AreDrawn step.manifest.next) (sym (append-nil made.left.items)) drawn;

@@ -7,6 +7,7 @@ use Rattle.lethe_base.specs.declared.name.Name.{Name}
 use Rattle.lethe_fade.specs.declared.plan.Plan.{Plan}
 use Rattle.lethe_manifest.specs.declared.manifest.Manifest.{Manifest}
 use Rattle.lethe_stored.specs.Stored.{Stored, pending_of}
+use Rattle.lethe_follows.specs.Merged.{erases_upto}
 use Rattle.lethe_job.specs.Tasks.{inputs_in, pages_in}
 use Rattle.lethe_core.specs.Descent.{steps_down}
 use Rattle.lethe_core.specs.Keeps.{Keeps, MayStep}
@@ -93,7 +94,7 @@ module _ (chosen : Stored → Option Plan) (Tells : Type 0) (old mid : View) (be
         let is = made.1 in
         let more = pages_in (inputs_in next.task) in
         let lower : steps_down t.manifest.config.levels next.to.files < steps_down t.manifest.config.levels t.files =
-        goes_down t is.begun.m are.holds.remembers.coherent is.begun.is.merge next.to (pending_of t) next.task.alone next.task.upto is.merged_is in
+        goes_down t is.begun.m are.holds.remembers.coherent is.begun.is.merge next.to (erases_upto next.task.upto (pending_of t)) next.task.alone next.task.upto is.merged_is in
         let below = subst (λ levels. steps_down levels next.to.files < steps_down levels t.files) (levels_same s t holds are.holds) lower in
         let down = are.down in
         let all = sum_by-append (λ (outcome : Outcome). pages_in (inputs_in outcome.task)) are.outcomes (next ∷ []) in

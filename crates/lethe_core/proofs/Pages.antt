@@ -83,8 +83,10 @@ drawn_remembered s state levels is = record {
   active = is.active;
   records = is.records;
   oldest = is.oldest;
+  firsts = is.firsts;
   frozen = is.frozen;
   frozen_oldest = is.frozen_oldest;
+  frozen_firsts = is.frozen_firsts;
   files = is.files;
   counted = is.counted;
 }

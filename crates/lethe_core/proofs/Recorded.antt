@@ -1,6 +1,6 @@
 -- The record of a change is appended.
 use Rattle.std.proofs.Common.{◌≡◌, ◌⊎◌, ◌<◌, inl, inr, ℕ, ◌+◌, ◌-◌, List, [], ◌∷◌, ◌++◌, map, length, get_or, cond, Option, Some, None, refl, sym, ap, ◌∙◌, subst, arith}
-use Rattle.std.specs.Prelude.{All, Contains, IfSome, IsSome, false, option_to_list, slice_index}
+use Rattle.std.specs.Prelude.{All, AllPairs, Contains, IfSome, IsSome, false, option_to_list, slice_index}
 use Rattle.std.specs.FinMap.{insert}
 use Rattle.std.proofs.lemmas.List.Elements.{All-weaker}
 use Rattle.lethe_base.specs.History.{History, Change}
@@ -9,6 +9,7 @@ use Rattle.lethe_base.specs.declared.call.Call.{Call}
 use Rattle.lethe_base.specs.declared.call.Did.TheVariants.{Failed}
 use Rattle.lethe_base.specs.declared.config.Fields.{Fields}
 use Rattle.lethe_base.specs.declared.name.Name.{Name}
+use Rattle.lethe_base.specs.declared.pending.Pending.{Pending}
 use Rattle.lethe_disk.specs.Directory.{Directory, object}
 use Rattle.lethe_disk.specs.Disk.{Seen, Image, IsSynced}
 use Rattle.lethe_disk.specs.Goes.{Goes}
@@ -26,7 +27,7 @@ use Rattle.lethe_stored.specs.Kept.{IsFor}
 use Rattle.lethe_stored.specs.Left.{IsLeft, IsKeptOr, is_work}
 use Rattle.lethe_stored.specs.Numbers.{GoesFrom, KeepsPace}
 use Rattle.lethe_stored.specs.Steps.{addition}
-use Rattle.lethe_stored.specs.Stored.{Stored, Segment, IsCited, IsCoherent, number_of, segment_name, part_names, appended, erase_of}
+use Rattle.lethe_stored.specs.Stored.{Stored, Segment, IsCited, IsCoherent, number_of, segment_name, part_names, appended, count_of, pending_of}
 use Rattle.lethe_stored.proofs.Numbers.{goes_from_encoded, next_of}
 use Rattle.lethe_stored.proofs.Parts.{active_part}
 use Rattle.lethe_stored.proofs.Steps.{append_encodes, append_keeps, active_changed, stored_appended}
@@ -35,9 +36,10 @@ use Rattle.lethe_advance.specs.Untorn.{IsUntorn}
 use Rattle.lethe_clean.specs.Copied.{IsCopied}
 use Rattle.lethe_clean.proofs.Copied.{all_copied}
 use Rattle.lethe_clean.proofs.Stays.{record_untorn}
+use Rattle.lethe_manifest.specs.Manifests.{AreErases}
 use Rattle.lethe_manifest.specs.declared.manifest.Manifest.{Manifest}
 use Rattle.lethe_state.proofs.Recording.{entered_remembered}
-use Rattle.lethe_state.specs.Records.{IsNext, halted}
+use Rattle.lethe_state.specs.Records.{IsNext, halted, pending_with}
 use Rattle.lethe_state.specs.Remembered.{Remembers}
 use Rattle.lethe_state.specs.Writable.{IsWritable}
 use Rattle.lethe_state.specs.declared.state.State.{State}
@@ -59,10 +61,11 @@ last_number (Some older) number = refl
 active_number : (s : Stored) (view : View) → Remembers s view.state view.levels → slice_index view.state.manifest.segments (length view.state.manifest.segments - 1) ≡ s.active.no
 active_number s view is = ap (λ l. slice_index l (length l - 1)) (ap (λ (m : Manifest). m.segments) is.manifest ∙ is.coherent.cites) ∙ last_number s.frozen s.active.no
 
--- a job in flight merges the same files
-tasked_appended : (s : Stored) (next : Record) → erase_of next ≡ None → IsCoherent (appended s next) → (flight : Option Flying) → IfSome flight (IsTasked s) → IfSome flight (IsTasked (appended s next))
-tasked_appended s next no_erase coherent None is = tt
-tasked_appended s next no_erase coherent (Some flying) is = (is.0, task_appended s is.0 flying.task is.1 next no_erase coherent)
+-- a job in flight merges the same files and applies the same erases
+tasked_appended : (s : Stored) (next : Record) → count_of s < record_seq next → AllPairs (λ a b. a.seq < b.seq) (pending_with (pending_of s) next) → IsCoherent (appended s next)
+    → (flight : Option Flying) → IfSome flight (IsTasked s) → IfSome flight (IsTasked (appended s next))
+tasked_appended s next behind rise coherent None is = tt
+tasked_appended s next behind rise coherent (Some flying) is = (is.0, task_appended s is.0 flying.task is.1 next behind rise coherent)
 
 -- objects beside the one that is written
 all_beside : (d : Directory) (name : Name) (bytes : List ℕ) (objects : List (Name × List ℕ)) → All (λ named. named.0 ≡ name → ⊥) objects → All (HasObject d) objects → All (HasObject (insert d name bytes)) objects
@@ -73,7 +76,7 @@ abbrev pub moved : View → Seen → ℕ → State → View
 moved view disk' faults' state' = record view { disk = disk'; faults = faults'; state = state' }
 
 -- The store may have taken memory for the record first.
-module _ (view : View) (s : Stored) (holds : Holds view s) (next : Record) (spelled : RecordHasSpelling next) (place : record_seq next ≡ view.state.count + 1) (no_erase : erase_of next ≡ None)
+module _ (view : View) (s : Stored) (holds : Holds view s) (next : Record) (spelled : RecordHasSpelling next) (place : record_seq next ≡ view.state.count + 1)
     (number : ℕ) (number_is : number ≡ slice_index view.state.manifest.segments (length view.state.manifest.segments - 1)) where
   running : IsRunning view s
   running = holds.running
@@ -83,6 +86,9 @@ module _ (view : View) (s : Stored) (holds : Holds view s) (next : Record) (spel
 
   name_is : segment_name number ≡ segment_name s.active.no
   name_is = ap segment_name (number_is ∙ active_number s view holds.remembers)
+
+  behind : count_of s < record_seq next
+  behind = let count = running.current.count in omega (arith, count, place)
 
   above : last_seq 0 s.active.records < record_seq next
   above = let count = running.current.count in omega (arith, count, place)
@@ -165,9 +171,11 @@ module _ (view : View) (s : Stored) (holds : Holds view s) (next : Record) (spel
     same_beside : beside_in (moved view disk' faults' state') ≡ beside_in view
     same_beside = beside_stays view.disk.directory disk'.directory view.retired view.flight beside_there
 
-    pub holds_longer : (end : ℕ) → IsSynced disk' → EndsAt disk' (segment_name number) s.active.no (longer (addition s next)) end → IsNext next end view.state state' → Holds (moved view disk' faults' state') (appended s next)
-    holds_longer end synced ends is =
-        let both = entered_remembered s view.state state' view.levels next end holds.remembers running.current is place coherent_next in
+    pub holds_longer : (end : ℕ) → IsSynced disk' → EndsAt disk' (segment_name number) s.active.no (longer (addition s next)) end → IsNext next end view.state state'
+        → AreErases (pending_with view.state.pending next) → Holds (moved view disk' faults' state') (appended s next)
+    holds_longer end synced ends is erases =
+        let both = entered_remembered s view.state state' view.levels next end holds.remembers running.current is place (subst AreErases (sym is.pending) erases) coherent_next in
+        let rise = subst (λ pending. AllPairs (λ (a b : Pending). a.seq < b.seq) (pending_with pending next)) holds.remembers.pending erases.ascending in
         record {
           remembers = both.0;
           running = record {
@@ -187,7 +195,7 @@ module _ (view : View) (s : Stored) (holds : Holds view s) (next : Record) (spel
             rising = running.rising;
             ends = subst (EndsAt disk' (segment_name s.active.no) s.active.no (longer (addition s next))) (sym is.end_is) (subst (λ n. EndsAt disk' n s.active.no (longer (addition s next)) end) name_is ends);
             current = both.1;
-            tasked = tasked_appended s next no_erase coherent_next view.flight running.tasked;
+            tasked = tasked_appended s next behind rise coherent_next view.flight running.tasked;
           };
         }
 

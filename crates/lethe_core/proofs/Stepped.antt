@@ -117,8 +117,10 @@ other_files s state levels next files is = record {
   active = is.active;
   records = is.records;
   oldest = is.oldest;
+  firsts = is.firsts;
   frozen = is.frozen;
   frozen_oldest = is.frozen_oldest;
+  frozen_firsts = is.frozen_firsts;
   files = files;
   counted = is.counted;
 }

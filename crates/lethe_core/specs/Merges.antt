@@ -5,14 +5,13 @@ use Rattle.lethe_base.specs.Limits.{max_place}
 use Rattle.lethe_base.specs.declared.config.Fields.{Fields}
 use Rattle.lethe_base.specs.declared.name.Name.{Name}
 use Rattle.lethe_base.specs.declared.shape.Shape.{Shape}
-use Rattle.lethe_base.specs.Shapes.{shape_of}
 use Rattle.lethe_build.specs.Built.{most_numbers}
 use Rattle.lethe_build.specs.Drafts.{AreDraftsOf, numbers_for}
 use Rattle.lethe_build.specs.declared.draft.Draft.{Draft}
 use Rattle.lethe_fade.specs.Choice.{choice}
 use Rattle.lethe_fade.specs.Expired.{due}
 use Rattle.lethe_fade.specs.declared.plan.Plan.{Plan}
-use Rattle.lethe_follows.specs.Merged.{StoredMerge, IsMerged, at, entries_in}
+use Rattle.lethe_follows.specs.Merged.{StoredMerge, IsMerged, at, entries_in, erases_upto}
 use Rattle.lethe_merge.specs.Merge.{merged}
 use Rattle.lethe_stored.specs.Files.{StoredFile}
 use Rattle.lethe_stored.specs.Stored.{Stored, layout_of, pending_of}
@@ -21,6 +20,7 @@ use Rattle.lethe_advance.specs.Steps.{IsStep}
 use Rattle.lethe_clean.specs.Copied.{IsCopied}
 use Rattle.lethe_install.specs.declared.steps.Installation.{Installation}
 use Rattle.lethe_state.specs.Room.{HasRoom, IsFrozen, IsUnfrozen}
+use Rattle.lethe_job.specs.Shapes.{due_shape}
 use Rattle.lethe_job.specs.Tasks.{PlainTask, IsCitedAs, IsPlanned, IsTaskIn, counted_in, inputs_in, pages_in}
 use Rattle.lethe_core.specs.Running.{Holds}
 use Rattle.lethe_core.specs.declared.choosing.Choice.{Choice}
@@ -34,7 +34,7 @@ picked (DueAt to) config shape clock = due config shape to
 
 -- the plan that is picked in what is stored, at its own clock
 abbrev pub chosen_by : Choice → Stored → Option Plan
-chosen_by by s = picked by s.manifest.config (shape_of (layout_of s)) s.manifest.clock
+chosen_by by s = picked by s.manifest.config (due_shape (layout_of s)) s.manifest.clock
 
 -- that of the merges that make room
 abbrev pub room_choice : Stored → Option Plan
@@ -57,11 +57,11 @@ pub record Outcome : Type 0 where
   pub task : PlainTask
   pub to : Stored
 
--- the outcome of a task is stored in the place of what it merges
+-- the outcome of a task is stored in the place of what it merges, and the erases that are done then have left
 pub record IsInstalled (s : Stored) (task : PlainTask) (t : Stored) : Type 0 where
   pub m : StoredMerge
   pub tasked : IsTaskIn s m task
-  pub merged_is : IsMerged s m (pending_of s) task.alone task.upto t
+  pub merged_is : IsMerged s m (erases_upto task.upto (pending_of s)) task.alone task.upto t
 
 -- The step from what is stored to the outcome of a task, behind which no page of a job is loose, and what is left has no put but those of stored files.
 pub record MayMerge (view : View) (s : Stored) (task : PlainTask) (t : Stored) (made : Installation) : Type 0 where
@@ -80,7 +80,7 @@ pub record IsBegunBy (chosen : Stored → Option Plan) (s : Stored) (task : Plai
 -- the merge that is chosen, with its outcome
 pub record IsOutcomeBy (chosen : Stored → Option Plan) (s : Stored) (outcome : Outcome) : Type 0 where
   pub begun : IsBegunBy chosen s outcome.task
-  pub merged_is : IsMerged s begun.m (pending_of s) outcome.task.alone outcome.task.upto outcome.to
+  pub merged_is : IsMerged s begun.m (erases_upto outcome.task.upto (pending_of s)) outcome.task.alone outcome.task.upto outcome.to
 
 -- the merges that are chosen, one after another, until none is
 abbrev pub AreOutcomesBy : (Stored → Option Plan) → Stored → List Outcome → Stored → Type 0

@@ -1,5 +1,6 @@
 //! What a store has.
 ghost use Rattle.std.specs.Prelude.{◌≡◌, ◌<◌, ◌-◌, None, Ok, length, slice_index, IfOk, IfSome};
+ghost use Rattle.lethe_follows.specs.Merged.{erases_upto};
 ghost use Rattle.lethe_stored.specs.Stored.{Stored};
 ghost use Rattle.lethe_state.specs.Writable.{IsWritable};
 ghost use Rattle.lethe_job.specs.Tasks.{plain_task};
@@ -44,7 +45,7 @@ impl<D: Disk> Core<D> {
         // On any disk:
         ensures level { IfOk result (λ found. IfSome found (λ task. task.level < self.now.state.manifest.config.levels)) }
         ensures upto { IfOk result (λ found. IfSome found (λ task. task.upto ≡ self.now.state.count)) }
-        ensures erases { IfOk result (λ found. IfSome found (λ task. task.erases ≡ self.now.state.pending)) }
+        ensures erases { IfOk result (λ found. IfSome found (λ task. task.erases ≡ erases_upto self.now.state.count self.now.state.pending)) }
         ensures config { IfOk result (λ found. IfSome found (λ task. task.config ≡ self.now.state.manifest.config)) }
         ensures of { IfOk result (λ found. IfSome found (λ task. IsTaskOf (view_of self.now) (plain_task task))) }
     {
@@ -52,7 +53,12 @@ impl<D: Disk> Core<D> {
         let config = &manifest.config;
         let erases = self.state.pending();
         let files = cited_files(alloc, &self.version, manifest.files.items())?;
-        let shape = shape_of(alloc, &files, config.fields().levels, erases)?;
+        let shape = shape_of(
+            alloc,
+            &files,
+            config.fields().levels,
+            self.state.left_erases(),
+        )?;
         let Some(plan) = choice.pick(&shape, config, manifest.clock) else {
             return Ok(None);
         };

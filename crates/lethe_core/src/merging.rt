@@ -230,7 +230,7 @@ impl<D: Disk> Core<D> {
             left,
         } = made;
         self.carry_out(alloc, before, headers, &step)?;
-        self.state.install(step);
+        self.state.install(alloc, step);
         self.retired = left;
         self.flight = None;
         Ok(())

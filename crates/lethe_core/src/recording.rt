@@ -10,7 +10,7 @@ ghost use Rattle.lethe_cover.specs.Steps.{with_done};
 ghost use Rattle.lethe_stored.specs.Kept.{IsFor};
 ghost use Rattle.lethe_stored.specs.Left.{IsKeptOr, is_work};
 ghost use Rattle.lethe_stored.specs.Numbers.{GoesFrom};
-ghost use Rattle.lethe_stored.specs.Stored.{Stored, appended, erase_of};
+ghost use Rattle.lethe_stored.specs.Stored.{Stored, appended};
 ghost use Rattle.lethe_core.specs.Asked.{Makes, behind, counted, stopped_by, written_by};
 ghost use Rattle.lethe_core.specs.Changes.{with_record};
 ghost use Rattle.lethe_core.specs.Keeps.{MayStep};
@@ -25,6 +25,7 @@ use lethe_base::{Kind, Name, Refused};
 use lethe_commit::append;
 use lethe_disk::{Disk, DiskRefused};
 use lethe_segment::Record;
+use lethe_state::Prepared;
 use std::alloc::Global;
 
 impl<D: Disk> Core<D> {
@@ -34,7 +35,6 @@ impl<D: Disk> Core<D> {
         requires room { self.old.state.records < self.old.state.manifest.config.buffer }
         requires spelled { RecordHasSpelling next }
         requires place { record_seq next ≡ self.old.state.count + 1 }
-        requires entry { erase_of next ≡ None }
         ensures sound { IsSound D.tells (view_of self.new) }
         ensures count { (call : Call) → self.new.state.count ≡ counted (Makes call) (result_err result) self.old.state.count }
         ensures stopped { self.new.state.stopped ≡ stopped_by (result_err result) self.old.state.stopped }
@@ -57,7 +57,7 @@ impl<D: Disk> Core<D> {
         ensures numbers { D.tells → self.new.state.next + (D.seen self.old.disk).moment ≤ self.old.state.next + (D.seen self.new.disk).moment }
         ensures faults { D.faults self.old.disk ≤ D.faults self.new.disk }
     {
-        let Ok((body, end)) = self.state.prepare(alloc, &next) else {
+        let Ok(Prepared { body, end, pending }) = self.state.prepare(alloc, &next) else {
             return Err(Refused::NoMemory);
         };
         let no = self.active_number();
@@ -67,7 +67,7 @@ impl<D: Disk> Core<D> {
         };
         match append(alloc, &mut self.disk, segment, self.state.end(), &body) {
             Ok(()) => {
-                self.state.enter(next, end);
+                self.state.enter(next, end, pending);
                 Ok(self.state.count())
             }
             Err(DiskRefused::Failed) => {

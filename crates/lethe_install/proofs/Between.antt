@@ -12,9 +12,11 @@ use Rattle.lethe_advance.proofs.Lists.{map-filter}
 use Rattle.lethe_cover.proofs.Common.{⊎_elim}
 use Rattle.lethe_cover.proofs.Lists.{Pairs, pairs_append, pairs_from, pairs_to}
 use Rattle.lethe_flush.specs.declared.made.MadeFiles.{MadeFiles}
+use Rattle.lethe_follows.proofs.LettingGo.{kept_are_erases}
 use Rattle.lethe_manifest.specs.Manifests.{HasSpelling, IsFile}
 use Rattle.lethe_manifest.specs.declared.manifest.Cited.{Cited}
 use Rattle.lethe_manifest.specs.declared.manifest.Manifest.{Manifest}
+use Rattle.lethe_state.specs.Left.{done_with, first_recorded}
 use Rattle.lethe_state.specs.Room.{IsStepFrom}
 use Rattle.lethe_state.specs.Writable.{IsWritable, segments_for}
 use Rattle.lethe_state.specs.declared.state.State.{State}
@@ -119,7 +121,7 @@ module _ (state : State) (is : IsWritable state) (level : ℕ) (inputs : Inputs)
     count = is.count;
     next = omega (arith, fits);
     certificate = (is.manifest).certificate;
-    erases = is.pending;
+    erases = kept_are_erases (done_with state files) (first_recorded state) state.pending is.pending;
     segments = record {
       some = ((is.manifest).segments).some;
       few = ((is.manifest).segments).few;

@@ -13,6 +13,7 @@ use Rattle.lethe_advance.proofs.Lists.{map-filter}
 use Rattle.lethe_base.specs.declared.entry.Entry.{Entry}
 use Rattle.lethe_base.specs.declared.name.Kind.TheVariants as kinds
 use Rattle.lethe_base.specs.declared.name.Name.{Name}
+use Rattle.lethe_base.specs.declared.pending.Pending.{Pending}
 use Rattle.lethe_build.specs.Drafts.{AreDraftsOf}
 use Rattle.lethe_build.specs.declared.draft.Draft.{Draft}
 use Rattle.lethe_commit.specs.declared.objects.Object.{Object}
@@ -22,16 +23,18 @@ use Rattle.lethe_file.specs.Agreement.{page_name}
 use Rattle.lethe_flush.specs.Made.{AreFilesOf, named_of, pages_in, written_pages}
 use Rattle.lethe_flush.specs.declared.made.MadeFiles.{MadeFiles}
 use Rattle.lethe_flush.proofs.Weaving.{are_woven, files_agree}
-use Rattle.lethe_follows.specs.Merged.{AreNewIn, IsMerged, IsMergeIn, StoredMerge, entries_in, inputs_of, merging_manifest, others_of}
+use Rattle.lethe_follows.specs.Merged.{AreNewIn, IsMerged, IsMergeIn, StoredMerge, entries_in, erases_upto, inputs_of, merging_manifest, others_of}
 use Rattle.lethe_follows.proofs.MergeFiles.{merged_coherent}
 use Rattle.lethe_follows.proofs.Permuted.{pairs_kept}
 use Rattle.lethe_header.specs.declared.header.PageLine.{PageLine}
 use Rattle.lethe_job.specs.Tasks.{IsTaskIn, PlainTask, inputs_in}
-use Rattle.lethe_manifest.specs.Manifests.{HasSpelling}
+use Rattle.lethe_manifest.specs.Manifests.{AreErases, HasSpelling}
 use Rattle.lethe_manifest.specs.declared.manifest.Manifest.{Manifest}
 use Rattle.lethe_merge.specs.Merge.{merged}
 use Rattle.lethe_merge.proofs.Merges.{merged_ascends}
+use Rattle.lethe_state.specs.Left.{kept_with}
 use Rattle.lethe_state.specs.Remembered.{IsCurrent, Remembers}
+use Rattle.lethe_state.specs.Writable.{IsWritable}
 use Rattle.lethe_state.specs.declared.state.State.{State}
 use Rattle.lethe_state.proofs.Shared.{loose_apart, loose_pages}
 use Rattle.lethe_stored.specs.Files.{Parts, StoredFile, IsFile, cited_of, file_name, lines_in, objects_in, objects_of}
@@ -47,6 +50,7 @@ use Rattle.lethe_install.specs.declared.steps.Installation.{Installation}
 use Rattle.lethe_install.proofs.Beside.{placed, placed_from, placed_into, placed_rest}
 use Rattle.lethe_install.proofs.Named.{Differ, all_names_are, file_no_page, line_name, name_in, name_kinds, names_are, names_once, number_in, pages_differ}
 use Rattle.lethe_install.proofs.Between.{with_made_laid}
+use Rattle.lethe_install.proofs.Keeping.{kept_beside, kept_spelled}
 
 -- the names of what was written before
 zip_firsts : (names : List Name) (pages : List (List ℕ)) → length names ≤ length pages → map name_in (zip names (take (length names) pages)) ≡ names
@@ -72,11 +76,11 @@ page_kind name page = subst (λ kind. (kind ≢ kinds.Gate) × (kind ≢ kinds.M
 goes_not : (b : Bool) → not b ≡ true → b ≡ true → ⊥
 goes_not b stays goes = let clash : false ≡ true = ap not (sym goes) ∙ stays in cc
 
-module _ (s : Stored) (state : State) (levels : List (List Parts)) (is : Remembers s state levels) (current : IsCurrent s state) (fits : state.manifest.next ≤ state.next)
-    (m : StoredMerge) (begun : IsMergeIn s m) (alone : Bool) (upto : ℕ) (retired written : List Name) (drafts : List Draft)
+module _ (s : Stored) (state : State) (levels : List (List Parts)) (is : Remembers s state levels) (current : IsCurrent s state) (writable : IsWritable state)
+    (m : StoredMerge) (begun : IsMergeIn s m) (applied : List Pending) (alone : Bool) (upto : ℕ) (retired written : List Name) (drafts : List Draft)
     (drawn : AreDrawn state.next (retired ++ written)) (few : length written ≤ length (pages_in drafts))
     (beside : List (Name × List ℕ)) (named : names_in beside ≡ retired) (uncited : AreUncited s (beside ++ written_pages written drafts))
-    (of : AreDraftsOf s.manifest.config (merged (entries_in (inputs_of m)) (pending_of s) alone) drafts)
+    (of : AreDraftsOf s.manifest.config (merged (entries_in (inputs_of m)) applied alone) drafts)
     (parts : MadeFiles) (risen : state.next ≤ parts.next) (made : List StoredFile) (are : AreFilesOf drafts (m.level + 1) upto written state.next parts made)
     (inputs : Inputs) (numbers : inputs.numbers.items ≡ map number_of (inputs_of m)) (found : AreInputs (m.level + 1) m.sources s.files inputs) where
   abbrev number : ℕ
@@ -104,7 +108,7 @@ module _ (s : Stored) (state : State) (levels : List (List Parts)) (is : Remembe
   next_is = ap (λ (m : Manifest). m.next) is.manifest
 
   drawn_before : s.manifest.next ≤ state.next
-  drawn_before = omega (arith, fits, next_is)
+  drawn_before = let fits = writable.drawn in omega (arith, fits, next_is)
 
   later : s.manifest.next ≤ number
   later = omega (arith, risen, drawn_before)
@@ -169,13 +173,13 @@ module _ (s : Stored) (state : State) (levels : List (List Parts)) (is : Remembe
   line_unretired line (inr fresh) name there same = let low = (retired_page name there).1 in let high = fresh.0 in let number = number_in (page_name line.no) name same in omega (arith, low, high, number)
 
   abbrev left : List Entry
-  left = merged (entries_in (inputs_of m)) (pending_of s) alone
+  left = merged (entries_in (inputs_of m)) applied alone
 
   new : AreNewIn s number made
   new = record {
     each = λ k d lt. record {
       spelled = are.spelled k d lt;
-      agrees = files_agree s.manifest.config left (merged_ascends (entries_in (inputs_of m)) (pending_of s) alone) drafts of made are.each k d lt;
+      agrees = files_agree s.manifest.config left (merged_ascends (entries_in (inputs_of m)) applied alone) drafts of made are.each k d lt;
       below = all_from (λ (line : PageLine). line.no < number) (lines_in (get_or made k d)) (λ line there. line_below line (made_line line (flat_in lines_in made (get_or made k d) line (Contains-get_or made k d lt) there)));
     };
     headers = λ k d lt. let own = are.headers_drawn k d lt in let low = own.0 in (omega (arith, low, drawn_before), own.1);
@@ -184,7 +188,7 @@ module _ (s : Stored) (state : State) (levels : List (List Parts)) (is : Remembe
     pages_once = are.lines_once;
   }
 
-  is_merged : IsMerged s m (pending_of s) alone upto t
+  is_merged : IsMerged s m applied alone upto t
   is_merged = record {
     made = made;
     number = number;
@@ -199,7 +203,7 @@ module _ (s : Stored) (state : State) (levels : List (List Parts)) (is : Remembe
     level = are.level_is;
     new = new;
     order = are.headers_ascend;
-    woven = are_woven s.manifest.config left (merged_ascends (entries_in (inputs_of m)) (pending_of s) alone) drafts of made are.each upto are.spelled are.swept;
+    woven = are_woven s.manifest.config left (merged_ascends (entries_in (inputs_of m)) applied alone) drafts of made are.each upto are.spelled are.swept;
   }
 
   -- The step
@@ -216,11 +220,17 @@ module _ (s : Stored) (state : State) (levels : List (List Parts)) (is : Remembe
         (λ i. with_made (m.level + 1) (numbers i) above (are.cited i) ((ap (λ (m : Manifest). m.files) is.manifest ∙ (is.coherent).files) i))
         ∙ with_made_laid (m.level + 1) (map number_of (inputs_of m)) above made s.files
 
-    manifest_is : step.manifest ≡ t.manifest
-    manifest_is = stepped.manifest ∙ (λ i. record (is.manifest i) { no = number; count = current.count i; next = number + 1; erases = is.pending i; files = cited_same i })
+    abbrev kept : List Pending
+    kept = kept_with state (map cited_of files)
+
+    manifest_as_kept : step.manifest ≡ record t.manifest { erases = kept }
+    manifest_as_kept = stepped.manifest ∙ (λ i. record (is.manifest i) { no = number; count = current.count i; next = number + 1; erases = kept_with state (cited_same i); files = cited_same i })
 
     coherent_then : IsCoherent t
-    coherent_then = merged_coherent s is.coherent m (pending_of s) alone upto t is_merged (subst HasSpelling manifest_is spelled)
+    coherent_then = merged_coherent s is.coherent m applied alone upto t is_merged (kept_spelled s files number (subst AreErases is.pending writable.pending) kept (subst HasSpelling manifest_as_kept spelled))
+
+    manifest_is : step.manifest ≡ t.manifest
+    manifest_is = manifest_as_kept ∙ (λ i. record t.manifest { erases = kept_beside s files number state levels is coherent_then i })
 
     abbrev goes : StoredFile → Bool
     goes file = is_among (map number_of (inputs_of m)) file.header.no
@@ -461,24 +471,26 @@ module _ (s : Stored) (state : State) (levels : List (List Parts)) (is : Remembe
         (sym (stepped.merged ∙ numbers)) (is_step, left_is)
 
 -- as a task has it
-pub install_steps : (s : Stored) (m : StoredMerge) (state : State) (levels : List (List Parts)) (task : PlainTask) → Remembers s state levels → IsCurrent s state → state.manifest.next ≤ state.next
+pub install_steps : (s : Stored) (m : StoredMerge) (state : State) (levels : List (List Parts)) (task : PlainTask) → Remembers s state levels → IsCurrent s state → IsWritable state
     → IsTaskIn s m task → (retired written : List Name) (drafts : List Draft) → AreDrawn state.next (retired ++ written) → length written ≤ length (pages_in drafts)
     → (beside : List (Name × List ℕ)) → names_in beside ≡ retired → AreUncited s (beside ++ written_pages written drafts)
-    → AreDraftsOf s.manifest.config (merged (entries_in (inputs_of m)) (pending_of s) task.alone) drafts
+    → AreDraftsOf s.manifest.config (merged (entries_in (inputs_of m)) (erases_upto task.upto (pending_of s)) task.alone) drafts
     → (parts : MadeFiles) → state.next ≤ parts.next → (made : List StoredFile) → AreFilesOf drafts (task.level + 1) task.upto written state.next parts made
     → (inputs : Inputs) → inputs.numbers.items ≡ map number_of (inputs_in task) → AreInputs (task.level + 1) task.sources s.files inputs
     → (needed : List Name) (installing : Installation) → IsInstallStep state (task.level + 1) inputs parts retired needed installing → HasSpelling installing.step.manifest
-    → (t : Stored) × IsMerged s m (pending_of s) task.alone task.upto t
+    → (t : Stored) × IsMerged s m (erases_upto task.upto (pending_of s)) task.alone task.upto t
     × IsStep s (beside ++ written_pages written drafts) t (left_of needed (numbered installing.step.merged.items s.files) beside) installing.headers.items installing.step
     × (installing.left.items ≡ names_in (left_of needed (numbered installing.step.merged.items s.files) beside))
-install_steps s m state levels task is current fits begun retired written drafts drawn few beside named uncited of parts risen made are inputs numbers found needed installing stepped spelled =
+install_steps s m state levels task is current writable begun retired written drafts drawn few beside named uncited of parts risen made are inputs numbers found needed installing stepped spelled =
     let numbers_are = numbers ∙ (λ i. map number_of (begun.sources i ++ begun.met i)) in
     let of_level = subst (λ l. AreFilesOf drafts (l + 1) task.upto written state.next parts made) begun.level are in
     let inputs_are = subst (λ l. AreInputs (l + 1) m.sources s.files inputs) begun.level (subst (λ sources. AreInputs (task.level + 1) sources s.files inputs) begun.sources found) in
     let made_step = subst (λ l. IsInstallStep state (l + 1) inputs parts retired needed installing) begun.level stepped in
-    let settled = step_and_left s state levels is current fits m begun.merge task.alone task.upto retired written drafts drawn few beside named uncited of parts risen made of_level inputs numbers_are inputs_are needed installing made_step spelled in (
-      t s state levels is current fits m begun.merge task.alone task.upto retired written drafts drawn few beside named uncited of parts risen made of_level inputs numbers_are inputs_are,
-      is_merged s state levels is current fits m begun.merge task.alone task.upto retired written drafts drawn few beside named uncited of parts risen made of_level inputs numbers_are inputs_are,
+    let applied = erases_upto task.upto (pending_of s) in
+    let settled = step_and_left s state levels is current writable m begun.merge applied task.alone task.upto retired written drafts drawn few beside named uncited of parts risen made of_level inputs numbers_are inputs_are
+    needed installing made_step spelled in (
+      t s state levels is current writable m begun.merge applied task.alone task.upto retired written drafts drawn few beside named uncited of parts risen made of_level inputs numbers_are inputs_are,
+      is_merged s state levels is current writable m begun.merge applied task.alone task.upto retired written drafts drawn few beside named uncited of parts risen made of_level inputs numbers_are inputs_are,
       settled.0,
       settled.1,
     )

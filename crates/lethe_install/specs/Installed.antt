@@ -5,18 +5,19 @@ use Rattle.lethe_manifest.specs.Followers.{follower}
 use Rattle.lethe_manifest.specs.declared.manifest.Cited.{Cited}
 use Rattle.lethe_manifest.specs.declared.manifest.Manifest.{Manifest}
 use Rattle.lethe_flush.specs.declared.made.MadeFiles.{MadeFiles}
+use Rattle.lethe_state.specs.Left.{kept_with}
 use Rattle.lethe_state.specs.declared.state.State.{State}
 use Rattle.lethe_install.specs.Placed.{with_made}
 use Rattle.lethe_install.specs.Left.{needed_of, unneeded_of}
 use Rattle.lethe_install.specs.declared.inputs.Inputs.{Inputs}
 use Rattle.lethe_install.specs.declared.steps.Installation.{Installation}
 
--- it cites these files and has the pending erases
+-- it cites these files and has the pending erases that are kept beside them
 abbrev pub installing_manifest : State → List Cited → ℕ → Manifest
 installing_manifest state files number = follower state.manifest (record {
   no = number;
   count = state.count;
-  erases = state.pending;
+  erases = kept_with state files;
   segments = state.manifest.segments;
   files = files;
 })

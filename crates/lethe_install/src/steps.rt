@@ -10,7 +10,7 @@ ghost use Rattle.lethe_advance.specs.Shown.{parts_by_level};
 ghost use Rattle.lethe_advance.specs.Steps.{IsStep};
 ghost use Rattle.lethe_build.specs.Drafts.{AreDraftsOf, IsDraft, numbers_for};
 ghost use Rattle.lethe_flush.specs.Made.{pages_in, written_pages};
-ghost use Rattle.lethe_follows.specs.Merged.{IsMerged, StoredMerge, entries_in, inputs_of};
+ghost use Rattle.lethe_follows.specs.Merged.{IsMerged, StoredMerge, entries_in, erases_upto, inputs_of};
 ghost use Rattle.lethe_header.specs.Headers as headers;
 ghost use Rattle.lethe_install.specs.Inputs.{numbered};
 ghost use Rattle.lethe_install.specs.Installed.{IsInstallStep};
@@ -58,7 +58,7 @@ struct Pages<'a> {
     needed: &'a [Name],
 }
 
-/// What installs a job's outputs: the step writes what isn't written of them yet, cites them in the place of the inputs, and removes what isn't needed of these and of the
+/// What installs a job's outputs: the step writes what isn't written of them yet, cites them in the place of the inputs, lets the erases go that are done then, and removes what isn't needed of these and of the
 /// pages that were retired before. The first of the outputs' pages were written before, under these names; for the other pages, the headers and the manifest numbers are
 /// drawn.
 ///
@@ -97,8 +97,8 @@ pub fn installing<D: Disk>(
     // What is stored next is the merge's outcome. Of the pages that were written before none is left loose, and of the inputs' and the retired ones just those that are needed.
     ensures installs { (s : Stored) (m : StoredMerge) (beside : prelude.List (name.Name × prelude.List ℕ)) → Remembers s state.now (parts_by_level version.now) → IsCurrent s state.now
         → AreRising s.files → IsTaskIn s m (plain_task task.now) → names_in beside ≡ retired.now → AreUncited s (beside ++ written_pages written.now drafts.items)
-        → AreDraftsOf s.manifest.config (merged (entries_in (inputs_of m)) (pending_of s) task.now.alone) drafts.items
-        → IfOk result (λ made. (t : Stored) × IsMerged s m (pending_of s) task.now.alone task.now.upto t
+        → AreDraftsOf s.manifest.config (merged (entries_in (inputs_of m)) (erases_upto task.now.upto (pending_of s)) task.now.alone) drafts.items
+        → IfOk result (λ made. (t : Stored) × IsMerged s m (erases_upto task.now.upto (pending_of s)) task.now.alone task.now.upto t
         × IsStep s (beside ++ written_pages written.now drafts.items) t (left_of needed.now (numbered made.step.merged.items s.files) beside) made.headers.items made.step
         × (made.left.items ≡ names_in (left_of needed.now (numbered made.step.merged.items s.files) beside))) }
 {
@@ -144,8 +144,8 @@ fn install<D: Disk>(
     ensures pages { IfOk result (λ made. All (λ name. name.kind ≡ Page) made.left.items) }
     ensures installs { (s : Stored) (m : StoredMerge) (beside : prelude.List (name.Name × prelude.List ℕ)) → Remembers s state.now (parts_by_level version.now) → IsCurrent s state.now
         → AreRising s.files → IsTaskIn s m (plain_task task.now) → names_in beside ≡ pages.entry.retired.now → AreUncited s (beside ++ written_pages pages.entry.written.now drafts.items)
-        → AreDraftsOf s.manifest.config (merged (entries_in (inputs_of m)) (pending_of s) task.now.alone) drafts.items
-        → IfOk result (λ made. (t : Stored) × IsMerged s m (pending_of s) task.now.alone task.now.upto t
+        → AreDraftsOf s.manifest.config (merged (entries_in (inputs_of m)) (erases_upto task.now.upto (pending_of s)) task.now.alone) drafts.items
+        → IfOk result (λ made. (t : Stored) × IsMerged s m (erases_upto task.now.upto (pending_of s)) task.now.alone task.now.upto t
         × IsStep s (beside ++ written_pages pages.entry.written.now drafts.items) t (left_of pages.entry.needed.now (numbered made.step.merged.items s.files) beside) made.headers.items made.step
         × (made.left.items ≡ names_in (left_of pages.entry.needed.now (numbered made.step.merged.items s.files) beside))) }
 {
@@ -188,7 +188,7 @@ fn step_of(
     let change = Change {
         no: number,
         count: state.count(),
-        erases: List::of(state.pending().to_vec(alloc)?),
+        erases: state.kept_erases(alloc, &files)?,
         segments: List::of(old.segments.items().to_vec(alloc)?),
         files: List::of(files),
     };

@@ -16,7 +16,7 @@ use Rattle.lethe_cover.proofs.Common.{none_in}
 use Rattle.lethe_cover.proofs.Lists.{all_from, pairs_from}
 use Rattle.lethe_fade.specs.Spans.{KeyRange, hull, joined, overlaps}
 use Rattle.lethe_fade.specs.declared.plan.Plan.{Plan}
-use Rattle.lethe_follows.specs.Merged.{StoredMerge, IsAlone, IsMergeIn, at, hull_of, range_of}
+use Rattle.lethe_follows.specs.Merged.{StoredMerge, IsAlone, IsMergeIn, at, erases_upto, hull_of, range_of}
 use Rattle.lethe_follows.proofs.Tiled.{file_tiled}
 use Rattle.lethe_header.specs.Facts.{greatest_key, least_key}
 use Rattle.lethe_moves.specs.Files.{IsClearOf}
@@ -203,7 +203,7 @@ module _ (s : Stored) (coherent : IsCoherent s) (rising : AreRising s.files) (le
       met = refl;
       clear = λ alone. alone_from (not-true (list_any below s.files) alone);
       bottom = λ last. alone_to (λ f inside deeper. let most = low_level s coherent f inside in absurd (omega (arith, last, most, deeper)));
-      erases = pending;
+      erases = ap (erases_upto upto) pending;
       upto = omega (arith, counted);
       config = sym configured;
     }

@@ -1,37 +1,20 @@
 -- A task stays one while the store goes on.
-use Rattle.std.proofs.Common.{◌≡◌, ℕ, ◌+◌, ◌<◌, ◌≤◌, List, [], ◌∷◌, ◌++◌, Option, Some, None, refl, sym, ap, ◌∙◌, arith, append-nil, append_assoc}
-use Rattle.std.specs.Prelude.{All, filter_map}
-use Rattle.std.specs.List.{cons_option}
-use Rattle.std.proofs.lemmas.List.Elements.{All-append, All-weaker, filter_map-append}
-use Rattle.lethe_base.specs.declared.pending.Pending.{Pending}
+use Rattle.std.proofs.Common.{◌≡◌, ℕ, ◌+◌, ◌<◌, ◌≤◌, List, [], ◌∷◌, ◌++◌, None, AllPairs, sym, ap, ◌∙◌, arith}
+use Rattle.std.specs.Prelude.{All, option_to_list}
+use Rattle.std.proofs.lemmas.List.Elements.{All-append, All-weaker}
 use Rattle.lethe_fade.specs.Spans.{KeyRange}
 use Rattle.lethe_follows.specs.Filed.{flushed}
-use Rattle.lethe_follows.specs.Merged.{StoredMerge, IsAlone, with_newer}
-use Rattle.lethe_follows.proofs.Erases.{pending_again}
+use Rattle.lethe_follows.specs.Merged.{StoredMerge, IsAlone, erases_upto, with_newer}
+use Rattle.lethe_follows.proofs.ErasesStaying.{pending_flushed, pending_frozen, upto_appended}
 use Rattle.lethe_follows.proofs.Staying.{stays_appended, stays_flushed, stays_frozen}
 use Rattle.lethe_moves.specs.Files.{IsClearOf}
 use Rattle.lethe_segment.specs.Records.{record_seq}
 use Rattle.lethe_segment.specs.Segments.{Ascends, last_seq}
 use Rattle.lethe_segment.specs.declared.record.Record.{Record}
 use Rattle.lethe_stored.specs.Files.{StoredFile, file_of}
-use Rattle.lethe_stored.specs.Stored.{Stored, IsCoherent, appended, erase_of, froze, in_order, pending_of, records_in, records_of}
+use Rattle.lethe_stored.specs.Stored.{Stored, IsCoherent, appended, count_of, erase_of, froze, pending_of}
+use Rattle.lethe_stored.proofs.Appended.{pending_appended}
 use Rattle.lethe_job.specs.Tasks.{IsTaskIn, PlainTask}
-
--- The pending erases
-
-erases_push : (records : List Record) (r : Record) → erase_of r ≡ None → filter_map erase_of (records ++ r ∷ []) ≡ filter_map erase_of records
-erases_push records r none = filter_map-append erase_of records (r ∷ []) ∙ ap (λ l. filter_map erase_of records ++ l) (by (erase_of r) none) ∙ append-nil (filter_map erase_of records)
-  where
-    by : (o : Option Pending) → o ≡ None → cons_option o [] ≡ []
-    by None is = refl
-    by (Some erase) is = let clash : Some erase ≡ None = is in cc
-
-pending_appended : (s : Stored) (r : Record) → erase_of r ≡ None → pending_of (appended s r) ≡ pending_of s
-pending_appended s r none = ap (λ l. in_order (s.manifest.erases ++ l)) (ap (filter_map erase_of) (sym (append_assoc (records_in s.frozen) s.active.records (r ∷ []))) ∙ erases_push (records_of s) r none)
-
-pending_frozen : (s : Stored) (segment number : ℕ) → s.frozen ≡ None → pending_of (froze s segment number) ≡ pending_of s
-pending_frozen s segment number none =
-    ap (λ records. in_order (s.manifest.erases ++ filter_map erase_of records)) (append-nil s.active.records ∙ sym (ap (λ o. records_in o ++ s.active.records) none))
 
 -- How many changes there are
 
@@ -42,8 +25,8 @@ last_push last (first ∷ records) r up = last_push (record_seq first) records r
 -- What is stored
 
 module _ (s : Stored) (m : StoredMerge) (task : PlainTask) (is : IsTaskIn s m task) where
-  pub task_appended : (next : Record) → erase_of next ≡ None → IsCoherent (appended s next) → IsTaskIn (appended s next) m task
-  task_appended next none coherent =
+  pub task_appended : (next : Record) → count_of s < record_seq next → AllPairs (λ a b. a.seq < b.seq) (pending_of s ++ option_to_list (erase_of next)) → IsCoherent (appended s next) → IsTaskIn (appended s next) m task
+  task_appended next behind rise coherent =
       let more = last_push 0 s.active.records next coherent.active in
       let before = is.upto in
       record {
@@ -53,7 +36,7 @@ module _ (s : Stored) (m : StoredMerge) (task : PlainTask) (is : IsTaskIn s m ta
         met = is.met;
         clear = is.clear;
         bottom = is.bottom;
-        erases = is.erases ∙ sym (pending_appended s next none);
+        erases = is.erases ∙ sym (upto_appended s task.upto next (omega (arith, before, behind)) (pending_appended s next rise));
         upto = omega (arith, more, before);
         config = is.config;
       }
@@ -68,7 +51,7 @@ module _ (s : Stored) (m : StoredMerge) (task : PlainTask) (is : IsTaskIn s m ta
         met = is.met;
         clear = is.clear;
         bottom = is.bottom;
-        erases = is.erases ∙ sym (pending_frozen s segment number none);
+        erases = is.erases ∙ ap (erases_upto task.upto) (sym (pending_frozen s segment number none));
         upto = omega (arith, before);
         config = is.config;
       }
@@ -88,7 +71,7 @@ module _ (s : Stored) (m : StoredMerge) (task : PlainTask) (is : IsTaskIn s m ta
           met = is.met;
           clear = λ alone. still_alone m.level _ (is.clear alone);
           bottom = is.bottom;
-          erases = is.erases ∙ sym (pending_again s s.active.records (λ erase there. there));
+          erases = is.erases ∙ ap (erases_upto task.upto) (sym (pending_flushed s made number));
           upto = omega (arith, before);
           config = is.config;
         }

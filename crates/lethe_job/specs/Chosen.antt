@@ -5,6 +5,7 @@ use Rattle.lethe_base.specs.declared.config.Fields.{Fields}
 use Rattle.lethe_base.specs.declared.pending.Pending.{Pending}
 use Rattle.lethe_fade.specs.Spans.{KeyRange, joined, overlaps}
 use Rattle.lethe_fade.specs.declared.plan.Plan.{Plan}
+use Rattle.lethe_follows.specs.Merged.{erases_upto}
 use Rattle.lethe_header.specs.Facts.{least_key, greatest_key}
 use Rattle.lethe_stored.specs.Files.{StoredFile}
 use Rattle.lethe_job.specs.Tasks.{PlainTask}
@@ -48,7 +49,7 @@ is_below level keys file = nat_lt level file.level && overlaps keys (range_in fi
 abbrev pub lies_below : ℕ → KeyRange → List StoredFile → Bool
 lies_below level keys files = list_any (is_below level keys) files
 
--- the task with these sources, which meets those files of the next level that they overlap
+-- the task with these sources, which meets those files of the next level that they overlap, and applies the erases up to the place
 abbrev pub task_from : ℕ → Plan → List StoredFile → List StoredFile → List StoredFile → Fields → List Pending → ℕ → PlainTask
 task_from level plan files sources met config erases upto = record {
   plan = plan;
@@ -56,7 +57,7 @@ task_from level plan files sources met config erases upto = record {
   sources = sources;
   met = met;
   alone = not (lies_below (level + 1) (hull_in (sources ++ met)) files);
-  erases = erases;
+  erases = erases_upto upto erases;
   upto = upto;
   config = config;
 }

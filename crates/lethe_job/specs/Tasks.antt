@@ -1,6 +1,5 @@
 -- What a job is to do.
 use Rattle.std.specs.Prelude.{◌≡◌, ◌≤◌, ℕ, ◌+◌, Bool, IsTrue, List, [], ◌++◌, length, map, slice_index_or, sum_by, All, Any, Contains, Some}
-use Rattle.lethe_base.specs.Shapes.{shape_of}
 use Rattle.lethe_base.specs.declared.config.Fields.{Fields}
 use Rattle.lethe_base.specs.declared.name.Name.{Name}
 use Rattle.lethe_base.specs.declared.pending.Pending.{Pending}
@@ -9,13 +8,14 @@ use Rattle.lethe_fade.specs.Choice.{choice}
 use Rattle.lethe_fade.specs.declared.plan.Plan.{Plan}
 use Rattle.lethe_file.specs.Agreement.{FileAgrees}
 use Rattle.lethe_file.specs.Damage.{IsDamagedAmong}
-use Rattle.lethe_follows.specs.Merged.{StoredMerge, IsAlone, IsMergeIn, hull_of, inputs_of}
+use Rattle.lethe_follows.specs.Merged.{StoredMerge, IsAlone, IsMergeIn, erases_upto, hull_of, inputs_of}
 use Rattle.lethe_header.specs.Headers.{entries_in}
 use Rattle.lethe_manifest.specs.declared.manifest.Cited.{Cited}
 use Rattle.lethe_stored.specs.Files.{StoredFile, Parts, lines_in, parts_of}
 use Rattle.lethe_stored.specs.Levels.{AreRising}
 use Rattle.lethe_stored.specs.Stored.{Stored, IsCoherent, count_of, layout_of, pending_of}
 use Rattle.lethe_version.specs.Versions.{bytes_of}
+use Rattle.lethe_job.specs.Shapes.{due_shape}
 use Rattle.lethe_job.specs.declared.filed.Filed.{Filed}
 use Rattle.lethe_job.specs.declared.task.Task.{Task}
 
@@ -73,7 +73,7 @@ abbrev pub HasDamaged : Type 0 → Name → StoredFile → Type 0
 HasDamaged tells name file = IsDamagedAmong tells (lines_in file) file.pages name
 
 -- It merges files that are stored. Outputs that are alone have no file below them, as those of the last level always have; the erases are those
--- that are pending, and the outputs don't count as swept further than there are changes.
+-- that are pending up to the place up to which the outputs count as swept, which is no further than there are changes: whatever came since it began.
 pub record IsTaskIn (s : Stored) (m : StoredMerge) (task : PlainTask) : Type 0 where
   pub merge : IsMergeIn s m
   pub level : task.level ≡ m.level
@@ -81,7 +81,7 @@ pub record IsTaskIn (s : Stored) (m : StoredMerge) (task : PlainTask) : Type 0 w
   pub met : task.met ≡ m.met
   pub clear : IsTrue task.alone → IsAlone s m.level (hull_of (inputs_of m))
   pub bottom : m.level + 1 ≡ s.manifest.config.levels → IsTrue task.alone
-  pub erases : task.erases ≡ pending_of s
+  pub erases : task.erases ≡ erases_upto task.upto (pending_of s)
   pub upto : task.upto ≤ count_of s
   pub config : task.config ≡ s.manifest.config
 
@@ -96,7 +96,7 @@ pub record IsPlanned (s : Stored) (task : PlainTask) : Type 0 where
 
 -- the task of the choice at the clock, where no other claim stands
 pub record IsBegunIn (s : Stored) (task : PlainTask) : Type 0 where
-  pub chosen : choice s.manifest.config (shape_of (layout_of s)) s.manifest.clock [] ≡ Some task.plan
+  pub chosen : choice s.manifest.config (due_shape (layout_of s)) s.manifest.clock [] ≡ Some task.plan
   pub planned : IsPlanned s task
   pub open planned use *
 

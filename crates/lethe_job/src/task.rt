@@ -1,5 +1,6 @@
 //! What a job is to do.
 ghost use Rattle.std.specs.Prelude.{◌≡◌, ◌<◌, ◌≤◌, ◌^◌, length, map, IfOk, IsSome};
+ghost use Rattle.lethe_follows.specs.Merged.{erases_upto};
 ghost use Rattle.lethe_stored.specs.Stored.{Stored};
 ghost use Rattle.lethe_job.specs.Chosen.{level_named, sources_in, task_in};
 ghost use Rattle.lethe_job.specs.Tasks.{IsPlanned, IsStore, counted_in, inputs_in, plain_file, plain_task};
@@ -25,7 +26,7 @@ pub struct Task<D: Disk> {
     pub met: Vec<Filed<D>>,
     /// Nothing lies below the outputs, so that they have no tombstone and no time.
     pub alone: bool,
-    /// The erases that are applied.
+    /// The erases that are applied: those that were pending when it began, up to `upto`.
     pub erases: List<Pending>,
     /// The place up to which the outputs count as swept: how many changes there were when it began.
     pub upto: u64,
@@ -48,7 +49,7 @@ pub fn task_of<D: Disk>(
     // On any disk:
     ensures level { IfOk result (λ task. task.level < config.now.levels) }
     ensures upto { IfOk result (λ task. task.upto ≡ count) }
-    ensures erases { IfOk result (λ task. task.erases ≡ erases.now) }
+    ensures erases { IfOk result (λ task. task.erases ≡ erases_upto count erases.now) }
     ensures config { IfOk result (λ task. task.config ≡ config.now) }
     // Its inputs' headers count no more entries than those of all the files.
     ensures some_of { IfOk result (λ task. counted_in (inputs_in (plain_task task)) ≤ counted_in (map plain_file files.now)) }
@@ -77,7 +78,7 @@ fn task_in<D: Disk>(
     let reach = Reach::of_all(&sources);
     let met = met_in(alloc, files, level + 1, &reach)?;
     let alone = !lies_below(files, level + 1, &reach.with(&met));
-    let erases = List::of(Vec::from_slice(alloc, erases)?);
+    let erases = erases_upto(alloc, erases, upto)?;
     Ok(Task {
         plan,
         level,
@@ -88,4 +89,16 @@ fn task_in<D: Disk>(
         upto,
         config: *config,
     })
+}
+
+/// Of some erases, those up to a place.
+fn erases_upto(alloc: Global, erases: &[Pending], upto: u64) -> Result<List<Pending>, NoMemory>
+    ensures { IfOk result (λ kept. kept ≡ erases_upto upto erases.now) }
+{
+    let kept = erases
+        .iter()
+        .copied()
+        .filter(|erase| erase.seq <= upto)
+        .collect(alloc)?;
+    Ok(List::of(kept))
 }

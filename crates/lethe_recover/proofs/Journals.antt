@@ -72,7 +72,7 @@ last_is (x ∷ y ∷ records) r is last =
 pub place_fits : (r : Record) → RecordHasSpelling r → record_seq r ≤ max_place
 place_fits (of.Entry entry) spelled = spelled.front.place.1
 place_fits (of.Blind seq) place = place.1
-place_fits (of.Erase erase) spelled = absurd spelled
+place_fits (of.Erase erase) spelled = spelled.place.1
 
 pub last_fits : (last : ℕ) (records : List Record) → Ascends last records → last ≤ max_place → last_seq last records ≤ max_place
 last_fits last [] up fits = fits

@@ -10,7 +10,6 @@ use Rattle.std.specs.List.{AllZip}
 use Rattle.lethe_base.specs.History.{History, Change}
 use Rattle.lethe_base.specs.declared.config.Fields.{Fields}
 use Rattle.lethe_base.specs.declared.name.Name.{Name}
-use Rattle.lethe_base.proofs.LayoutLaws.{none_in}
 use Rattle.lethe_disk.specs.Directory.{Directory, object}
 use Rattle.lethe_disk.specs.Disk.{Seen, IsSynced}
 use Rattle.lethe_disk.specs.Goes.{Goes}
@@ -18,7 +17,7 @@ use Rattle.lethe_disk.specs.Quiet.{IsQuiet}
 use Rattle.lethe_disk.specs.declared.disk.Disk.{Ghosts}
 use Rattle.lethe_disk.proofs.Going.{goes_quiet, goes_weaker}
 use Rattle.lethe_disk.proofs.Quieting.{quiet_itself}
-use Rattle.lethe_segment.specs.Segments.{Ascends, head_bytes, segment_bytes}
+use Rattle.lethe_segment.specs.Segments.{head_bytes, segment_bytes}
 use Rattle.lethe_segment.specs.declared.record.Record.{Record}
 use Rattle.lethe_header.specs.Headers as headers
 use Rattle.lethe_header.specs.declared.header.Header.{Header}
@@ -43,7 +42,8 @@ use Rattle.lethe_stored.proofs.Numbers.{next_of, next_of_none, pace_encoded, pac
 use Rattle.lethe_stored.proofs.Parts.{active_part}
 use Rattle.lethe_stored.proofs.Unique.{none_or_some, one_stored}
 use Rattle.lethe_follows.specs.Filed.{reopened}
-use Rattle.lethe_follows.proofs.Erases.{pending_again}
+use Rattle.lethe_follows.specs.Leaving.{let_go}
+use Rattle.lethe_follows.proofs.LettingGo.{pending_kept}
 use Rattle.lethe_advance.specs.Settled.{IsSettled, HasOnly}
 use Rattle.lethe_advance.specs.Shown.{parts_by_level}
 use Rattle.lethe_advance.proofs.Placed.{written_absent}
@@ -197,11 +197,11 @@ pub read_none : (config : Fields) (d : Directory) (read : Read) → read.manifes
 read_none config d read is (inl none) = none.0
 read_none config d read is (inr there) = absurd (no_manifest there.s.manifest (sym (ap (λ (r : Read). r.manifest) there.all) ∙ is))
 
-short_for : (s : Stored) (journal : Journal) (m : Manifest) → s.manifest ≡ m → IsJournalOf s journal → Ascends 0 journal.older → Ascends 0 journal.newer → IsShort m journal.older journal.newer (erases_of m journal)
+short_for : (s : Stored) (journal : Journal) (m : Manifest) → s.manifest ≡ m → IsJournalOf s journal → IsShort m journal.older journal.newer (erases_of m journal)
     → IsShort s.manifest (records_in s.frozen) s.active.records (pending_of s)
-short_for s journal m same is older newer short =
+short_for s journal m same is short =
     let erases : erases_of m journal ≡ pending_of s =
-    ap (λ (m : Manifest). erases_of m journal) (sym same) ∙ pending_is s journal.older journal.newer older newer is.older is.newer in
+    ap (λ (m : Manifest). erases_of m journal) (sym same) ∙ pending_is s journal.older journal.newer is.older is.newer in
     subst (IsShort s.manifest (records_in s.frozen) s.active.records) erases
     (subst (λ (records : List Record). IsShort s.manifest (records_in s.frozen) records (erases_of m journal)) is.newer
     (subst (λ (records : List Record). IsShort s.manifest records journal.newer (erases_of m journal)) is.older
@@ -214,10 +214,10 @@ module _ (config : Fields) (d : Directory) (read : Read) (there : IsRead config 
   pub loaded_as : IsLoadedAs there.s m journal read.files
   loaded_as = record { manifest = manifest_of; journal = journal_is there.s (ap (λ (r : Read). r.segments) there.all); files = ap (λ (r : Read). r.files) there.all; rising = there.rising }
 
-  pub exhausted_of : Ascends 0 journal.older → Ascends 0 journal.newer → IsShort m journal.older journal.newer (erases_of m journal) → IsExhausted d
-  exhausted_of older newer short =
+  pub exhausted_of : IsShort m journal.older journal.newer (erases_of m journal) → IsExhausted d
+  exhausted_of short =
       let is_journal = journal_is there.s (ap (λ (r : Read). r.segments) there.all) in
-      record { s = there.s; coherent = there.coherent; encodes = there.encodes; short = short_for there.s journal m manifest_of is_journal older newer short }
+      record { s = there.s; coherent = there.coherent; encodes = there.encodes; short = short_for there.s journal m manifest_of is_journal short }
 
 pub settled_again : (old new : Seen) → IsQuiet old new → IsSynced old → (s : Stored) → IsCoherent s → Encodes old.directory s → IsSettled new s
 settled_again old new quiet synced s coherent e = record { synced = quiet_synced old new quiet synced; coherent = coherent; encodes = subst (λ x. Encodes x s) (sym quiet.directory) e }
@@ -293,11 +293,11 @@ still_rising made files zeroth rising level above =
         ∙ rest made (All-tail (λ (file : StoredFile). file.level ≡ 0) file made each)
 
 abbrev pub next_stored : (s : Stored) (made : Reopening) → Reopens s made → Stored
-next_stored s made is = reopened s is.files is.segment (is.segment + 1)
+next_stored s made is = let_go (reopened s is.files is.segment (is.segment + 1))
 
 module _ {D Page Port : Type 0} {kind : Ghosts D Page Port} (s : Stored) (made : Reopening) (is : Reopens s made) (coherent : IsCoherent s) where
   told_next : (version : Version D Page Port kind) → HasFiles (next_stored s made is) (parts_by_level version) → IsTold (record { manifest = made.step.manifest; version = version }) (next_stored s made is)
-  told_next version files = record { manifest = is.step.manifest; files = files; frozen = refl; active = refl; erases = sym (pending_again s [] (λ erase none. absurd (none_in erase none))) }
+  told_next version files = record { manifest = is.step.manifest; files = files; frozen = refl; active = refl; erases = sym (pending_kept (reopened s is.files is.segment (is.segment + 1))) }
 
   pub reopened_of : (d : Directory) → HasOnly s [] d → AreRising s.files → (disk : Seen) (version : Version D Page Port kind) → IsSettled disk (next_stored s made is) → HasOnly (next_stored s made is) [] disk.directory
       → ((name : Name) → Contains (part_names (next_stored s made is)) name → object disk.directory name ≡ object (insert_all made.step.objects.items d) name) → object disk.directory (gate_name (next_stored s made is).manifest.no) ≡ Some []

@@ -5,7 +5,8 @@ use Rattle.lethe_base.specs.Limits.{max_place}
 use Rattle.lethe_base.specs.declared.pending.Pending.{Pending}
 use Rattle.lethe_base.proofs.Newest.{first_is}
 use Rattle.lethe_cover.proofs.Lists.{Pairs, in_rest, pairs_append, pairs_from, pairs_to}
-use Rattle.lethe_manifest.specs.Manifests.{HasSpelling, IsErase, IsFile}
+use Rattle.lethe_base.specs.Erases.{IsErase}
+use Rattle.lethe_manifest.specs.Manifests.{HasSpelling, IsFile}
 use Rattle.lethe_manifest.specs.declared.manifest.Cited.{Cited}
 use Rattle.lethe_manifest.specs.declared.manifest.Manifest.{Manifest}
 use Rattle.lethe_flush.specs.declared.made.MadeFiles.{MadeFiles}

@@ -31,7 +31,9 @@ use Rattle.lethe_stored.proofs.Lists.{all_from, all_left, all_right, from_map}
 use Rattle.lethe_stored.proofs.Parts.{active_part, object_apart, object_part, part_below}
 use Rattle.lethe_version.specs.Order.{is_kept}
 use Rattle.lethe_follows.specs.Filed.{AreNewFiles, reopened}
-use Rattle.lethe_follows.proofs.Stepping.{reopened_coherent, reopened_for}
+use Rattle.lethe_follows.specs.Leaving.{kept_erases, leaving, let_go}
+use Rattle.lethe_follows.proofs.LettingGo.{kept_for}
+use Rattle.lethe_follows.proofs.Stepping.{reopened_for}
 use Rattle.lethe_flush.specs.Clear as clear
 use Rattle.lethe_flush.specs.Flushed.{IsFlushOf}
 use Rattle.lethe_flush.specs.Made.{headers_of, named_of}
@@ -42,11 +44,12 @@ use Rattle.lethe_flush.proofs.Finishing.{headers_made}
 use Rattle.lethe_recover.specs.Flushing.{AreFlushesOf, IsWritable}
 use Rattle.lethe_recover.specs.Journals.{IsJournalOf}
 use Rattle.lethe_advance.specs.Segment.{empty_segment}
-use Rattle.lethe_recover.specs.Reopening.{AreFiled, AreHeadersOf, IsReopenedAs, IsStepOf, Reopens, successor}
+use Rattle.lethe_recover.specs.Reopening.{AreFiled, AreHeadersOf, IsReopenedAs, IsStepOf, Reopens, cited_with, left_beside, successor}
 use Rattle.lethe_recover.specs.declared.flushing.Flushes as both
 use Rattle.lethe_recover.specs.declared.journal.Journal.{Journal}
 use Rattle.lethe_recover.specs.declared.reopening.Reopening.{Reopening}
 use Rattle.lethe_recover.proofs.Filed.{filed_of, flushes_of, frozen_are, heads_more, heads_same, new_clear, stored_below, stored_clear}
+use Rattle.lethe_recover.proofs.Leaving.{kept_reopened, leaving_coherent}
 use Rattle.lethe_recover.proofs.NewFiles.{both_new, numbers_of, object_from, object_to}
 
 -- One alone, and none
@@ -89,8 +92,12 @@ module _ (s : Stored) (coherent : IsCoherent s) (m : Manifest) (same : s.manifes
   abbrev segment : ℕ
   segment = flushes.newer.next
 
+  -- with all the erases that are pending, and without those that are done
+  abbrev whole : Stored
+  whole = reopened s files segment (segment + 1)
+
   abbrev t : Stored
-  t = reopened s files segment (segment + 1)
+  t = let_go whole
 
   abbrev olds : List Object
   olds = flushes.older.objects.items
@@ -110,14 +117,27 @@ module _ (s : Stored) (coherent : IsCoherent s) (m : Manifest) (same : s.manifes
   new_files : AreNewFiles s.manifest.next segment files
   new_files = subst (λ n. AreNewFiles n segment files) (sym next_is) (both_new m.next flushes.older.next segment older newer older_is.new newer_is.new low high)
 
-  manifest_is : made.step.manifest ≡ t.manifest
-  manifest_is =
-      let cited : flushes.newer.cited.items ++ flushes.older.cited.items ++ m.files ≡ map cited_of files ++ s.manifest.files =
+  abbrev undone : List Pending
+  undone = left_beside whole.manifest.files (pending_of s)
+
+  undone_is : made.step.manifest ≡ (leaving whole undone).manifest
+  undone_is =
+      let cited : cited_with flushes m ≡ whole.manifest.files =
       (λ i. newer_is.cited i ++ older_is.cited i ++ (sym same i).files) ∙ ap (λ l. l ++ s.manifest.files) (sym (map-append cited_of newer older)) in
-      is.manifest ∙ (λ i. successor (sym same i) (count_is i) (erases_are i) (cited i) segment)
+      is.manifest ∙ (λ i. successor (sym same i) (count_is i) (left_beside (cited i) (erases_are i)) (cited i) segment)
+
+  abbrev undone_spelled : HasSpelling (leaving whole undone).manifest
+  undone_spelled = subst HasSpelling undone_is spelled
+
+  erases_are_kept : kept_erases whole ≡ undone
+  erases_are_kept = kept_reopened s coherent files segment (segment + 1) (omega (arith, next_is, low, high)) (omega arith) new_files undone undone_spelled
+
+  manifest_is : made.step.manifest ≡ t.manifest
+  manifest_is = undone_is ∙ ap (λ l. (leaving whole l).manifest) (sym erases_are_kept)
 
   next_coherent : IsCoherent t
-  next_coherent = reopened_coherent s coherent files segment (segment + 1) (omega (arith, next_is, low, high)) (omega arith) new_files (subst HasSpelling manifest_is spelled)
+  next_coherent = subst (λ l. IsCoherent (leaving whole l)) (sym erases_are_kept)
+      (leaving_coherent s coherent files segment (segment + 1) (omega (arith, next_is, low, high)) (omega arith) new_files undone undone_spelled)
 
   -- What is written
 
@@ -293,7 +313,7 @@ module _ (s : Stored) (coherent : IsCoherent s) (m : Manifest) (same : s.manifes
       (λ keys free. subst (All (moves.IsClearOf keys)) (sym files_are) (All-append (moves.IsClearOf keys) (map file_of older) (files_of (layout_of s))
       (new_clear keys older (subst (All (clear.IsClearOf keys)) headers_older (all_right (clear.IsClearOf keys) heads (headers_of flushes.older) free)))
       (stored_clear s coherent heads heads_are.each keys (all_left (clear.IsClearOf keys) heads (headers_of flushes.older) free)))) below in
-      reopened_for s older newer segment (segment + 1) h coherent for older_is.new.level newer_is.new.level flushes_older flushes_newer
+      kept_for whole h (reopened_for s older newer segment (segment + 1) h coherent for older_is.new.level newer_is.new.level flushes_older flushes_newer)
 
   -- What is stored next
 

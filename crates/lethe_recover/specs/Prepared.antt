@@ -6,7 +6,7 @@ use Rattle.lethe_base.specs.Names.{name_cmp}
 use Rattle.lethe_base.specs.declared.name.Name.{Name}
 use Rattle.lethe_build.specs.Drafts.{IsDraft}
 use Rattle.lethe_disk.specs.declared.disk.Disk.{Ghosts}
-use Rattle.lethe_manifest.specs.Manifests.{IsErase}
+use Rattle.lethe_base.specs.Erases.{IsErase}
 use Rattle.lethe_manifest.specs.declared.manifest.Manifest.{Manifest}
 use Rattle.lethe_stored.specs.Levels.{AreRising, HasFiles}
 use Rattle.lethe_stored.specs.Stored.{Stored, IsCited, count_of, pending_of}

@@ -4,7 +4,8 @@ ghost use Rattle.std.specs.Prelude.{◌≡◌, ℕ, ◌+◌, ◌<◌, ◌≤◌,
 ghost use Rattle.lethe_base.specs.Limits.{max_place};
 ghost use Rattle.lethe_build.specs.Drafts.{IsDraft};
 ghost use Rattle.lethe_header.specs.Headers as headers;
-ghost use Rattle.lethe_manifest.specs.Manifests.{HasSpelling, IsErase};
+ghost use Rattle.lethe_base.specs.Erases.{IsErase};
+ghost use Rattle.lethe_manifest.specs.Manifests.{HasSpelling};
 ghost use Rattle.lethe_header.specs.declared.header.Header as header;
 ghost use Rattle.lethe_stored.specs.Stored.{Stored, IsCoherent, count_of, pending_of};
 ghost use Rattle.lethe_recover.specs.Flushing.{AreDraftsOfJournal, IsWritable, numbers_of};
@@ -16,8 +17,9 @@ ghost use Rattle.lethe_recover.specs.Reopening.{AreHeadersOf, IsStepOf, Reopens}
 use crate::cited::push_segments;
 use crate::flushing::{Drafts, Flushes, flush_journal};
 use lethe_advance::{NewHeader, Step, empty_segment};
-use lethe_base::{List, NoMemory, Pending};
+use lethe_base::{List, NoMemory, Pending, erases_above};
 use lethe_commit::Object;
+use lethe_flush::swept_upto;
 use lethe_manifest::{Change, Manifest};
 use std::alloc::Global;
 
@@ -29,7 +31,8 @@ pub struct Reopening {
     pub step: Step,
 }
 
-/// The step that writes the files of these drafts and puts an empty segment in the place of the journal, to a manifest of this count, these erases and this number.
+/// The step that writes the files of these drafts and puts an empty segment in the place of the journal, to a manifest of this count and this number, with those of these
+/// erases that are still to be done then.
 pub fn reopening_of(
     alloc: Global,
     manifest: &Manifest,
@@ -87,10 +90,11 @@ fn step_of(
     let mut files = newer.cited;
     files.extend_from_slice(&older.cited)?;
     files.extend_from_slice(manifest.files.items())?;
+    let left = erases_above(&erases, swept_upto(&files));
     let change = Change {
         no: number,
         count,
-        erases: List::of(erases),
+        erases: List::of(left.to_vec(alloc)?),
         segments: List::of(vec![in alloc; segment]?),
         files: List::of(files),
     };

@@ -6,3 +6,5 @@ pub mod Shared
 pub mod FreezeStep
 pub mod FlushStep
 pub mod TickStep
+pub mod Left
+pub mod Pending

@@ -1,5 +1,5 @@
 -- The records of changes, and a state once they are entered.
-use Rattle.std.proofs.Common.{◌≡◌, ◌<◌, ◌+◌, ◌^◌, inl, inr, ℕ, List, [], ◌∷◌, ◌++◌, length, min, Option, Some, None, refl, sym, ap, ◌∙◌, subst, arith}
+use Rattle.std.proofs.Common.{◌≡◌, ◌<◌, ◌+◌, ◌^◌, inl, inr, ℕ, List, [], ◌∷◌, ◌++◌, length, min, AllPairs, Option, Some, None, refl, sym, ap, ◌∙◌, subst, arith}
 use Rattle.std.specs.Prelude.{IsSome, unwrap_or, option_and_then}
 use Rattle.std.specs.Option.{option_or}
 use Rattle.lethe_base.specs.Entries.{IsAscending, entry_of}
@@ -7,14 +7,17 @@ use Rattle.lethe_base.specs.Held.{Shows}
 use Rattle.lethe_base.specs.History.{History}
 use Rattle.lethe_base.specs.Keys.{Bytes}
 use Rattle.lethe_base.specs.Limits.{IsKey, IsValue, max_place}
-use Rattle.lethe_base.specs.declared.call.Call.TheVariants.{Put, Delete}
+use Rattle.lethe_base.specs.Ranges.{Ends}
+use Rattle.lethe_base.specs.declared.call.Call.TheVariants.{Put, Delete, Erase}
 use Rattle.lethe_base.specs.declared.entry.Body.TheVariants as bodies
 use Rattle.lethe_base.specs.declared.entry.Entry.{Entry}
+use Rattle.lethe_base.specs.declared.pending.Pending.{Pending}
+use Rattle.lethe_manifest.specs.Manifests.{AreErases}
 use Rattle.lethe_segment.specs.Records.{RecordHasSpelling, record_seq}
 use Rattle.lethe_segment.specs.Segments.{Ascends, last_seq}
 use Rattle.lethe_segment.specs.declared.record.Record.{Record}
 use Rattle.lethe_segment.specs.declared.record.Record.TheVariants as of
-use Rattle.lethe_cover.specs.Steps.{next_place, put_entry, time_of, tomb_entry, with_done}
+use Rattle.lethe_cover.specs.Steps.{accepted, next_place, put_entry, time_of, tomb_entry, with_done}
 use Rattle.lethe_mem.specs.Buffered.{Buffered}
 use Rattle.lethe_stored.specs.Files.{Parts}
 use Rattle.lethe_stored.specs.Kept.{IsFor}
@@ -22,18 +25,21 @@ use Rattle.lethe_base.specs.Shapes.{earlier}
 use Rattle.lethe_follows.specs.Young.{time_of as record_time}
 use Rattle.lethe_follows.proofs.Young.{oldest-push}
 use Rattle.lethe_stored.specs.Replayed.{AreNewestOf}
-use Rattle.lethe_stored.specs.Stored.{Stored, Segment, IsCoherent, appended, count_of, erase_of, layout_of, records_in}
-use Rattle.lethe_stored.proofs.Changes.{blind_for, blind_stored, delete_for, delete_stored, layout_appended, put_for, put_stored}
+use Rattle.lethe_stored.specs.Stored.{Stored, Segment, IsCoherent, appended, count_of, layout_of, pending_of, records_in}
+use Rattle.lethe_stored.proofs.Appended.{pending_appended}
+use Rattle.lethe_stored.proofs.Changes.{blind_for, blind_stored, delete_for, delete_stored, erase_for, erase_stored, put_for, put_stored}
 use Rattle.lethe_flush.proofs.Newest.{newest_none}
 use Rattle.lethe_follows.specs.Holders.{IsHeldBy}
 use Rattle.lethe_follows.proofs.Answering.{lacking}
-use Rattle.lethe_state.specs.Records.{IsDeleteRecord, IsNext, MayBeHeld, frozen_entry, headers_in, put_record, since_of, tomb_record}
+use Rattle.lethe_state.specs.Firsts.{firsts_with}
+use Rattle.lethe_state.specs.Records.{IsDeleteRecord, IsNext, MayBeHeld, erase_record, frozen_entry, headers_in, pending_with, put_record, since_of, tomb_record}
 use Rattle.lethe_state.specs.Remembered.{IsCurrent, IsFrozenIn, Remembers}
 use Rattle.lethe_state.specs.declared.state.State.{State}
 use Rattle.lethe_state.proofs.Entering.{newest_next}
+use Rattle.lethe_state.proofs.Left.{firsts-push}
 use Rattle.lethe_state.proofs.Leveled.{paged_may}
 
--- Puts and tombstones
+-- Puts, tombstones and erases
 
 module _ (h : History) (s : Stored) (state : State) (levels : List (List Parts)) (is : Remembers s state levels) (current : IsCurrent s state) (stands : IsFor h s) where
   place_is : state.count + 1 ≡ next_place h
@@ -51,6 +57,9 @@ module _ (h : History) (s : Stored) (state : State) (levels : List (List Parts))
   tomb_is : (key : Bytes) → tomb_record state key ≡ of.Entry (tomb_entry h (layout_of s) key)
   tomb_is key = λ i. of.Entry (record { seq = place_is i; key = key; body = bodies.Tomb; since = Some (min (clock_is i) (unwrap_or (time_is key i) (clock_is i))) })
 
+  erase_is : (range : Ends) → erase_record state range ≡ of.Erase (accepted h (layout_of s) range)
+  erase_is range = λ i. of.Erase (record { seq = place_is i; time = clock_is i; range = range })
+
   abbrev IsRecorded : History → Record → Type 0
   IsRecorded g next = IsCoherent (appended s next) × IsFor g (appended s next)
 
@@ -66,6 +75,10 @@ module _ (h : History) (s : Stored) (state : State) (levels : List (List Parts))
     blind_recorded : ((entry : Entry) → Shows (layout_of s) entry → entry.key ≡ key → ⊥) → IsRecorded (with_done h caller (Delete key)) (of.Blind (state.count + 1))
     blind_recorded none = subst (λ place. IsRecorded (with_done h caller (Delete key)) (of.Blind place)) (sym place_is)
         (blind_stored h s is.coherent stands few caller, blind_for h s is.coherent stands few caller key none)
+
+  pub erase_recorded : length h < max_place → (caller : ℕ) (range : Ends) → range.lo < range.hi → range.hi < 2 ^ 64 → IsRecorded (with_done h caller (Erase range)) (erase_record state range)
+  erase_recorded few caller range some short = subst (IsRecorded (with_done h caller (Erase range))) (sym (erase_is range))
+      (erase_stored h s is.coherent stands few caller range some short, erase_for h s is.coherent stands few caller range)
 
 -- A delete that has nothing to hide
 
@@ -123,11 +136,6 @@ last_spelled : (last : ℕ) (records : List Record) (next : Record) → Ascends 
 last_spelled last [] next up = up.0
 last_spelled last (r ∷ records) next up = last_spelled (record_seq r) records next up.2
 
-no_erase : (next : Record) → RecordHasSpelling next → erase_of next ≡ None
-no_erase (of.Entry entry) spelled = refl
-no_erase (of.Blind place) spelled = refl
-no_erase (of.Erase erase) spelled = absurd spelled
-
 last_is : (last : ℕ) (records : List Record) (next : Record) → last_seq last (records ++ next ∷ []) ≡ record_seq next
 last_is last [] next = refl
 last_is last (r ∷ records) next = last_is (record_seq r) records next
@@ -137,9 +145,11 @@ length_more [] next = refl
 length_more (r ∷ records) next = let rest = length_more records next in omega (arith, rest)
 
 pub entered_remembered : (s : Stored) (old new : State) (levels : List (List Parts)) (next : Record) (end : ℕ) → Remembers s old levels → IsCurrent s old
-    → IsNext next end old new → record_seq next ≡ old.count + 1 → IsCoherent (appended s next)
+    → IsNext next end old new → record_seq next ≡ old.count + 1 → AreErases new.pending → IsCoherent (appended s next)
     → Remembers (appended s next) new levels × IsCurrent (appended s next) new
-entered_remembered s old new levels next end is current step place coherent =
+entered_remembered s old new levels next end is current step place erases coherent =
+    let pending : new.pending ≡ pending_with (pending_of s) next = step.pending ∙ ap (λ pending. pending_with pending next) is.pending in
+    let rise = subst (AllPairs (λ (a : Pending) (b : Pending). a.seq < b.seq)) pending erases.ascending in
     let spelled = last_spelled 0 s.active.records next coherent.active in
     let last = last_is 0 s.active.records next in
     let before = current.count in
@@ -148,12 +158,14 @@ entered_remembered s old new levels next end is current step place coherent =
       record {
         coherent = coherent;
         manifest = step.manifest ∙ is.manifest;
-        pending = step.pending ∙ is.pending ∙ sym (ap (λ l. l.pending) (layout_appended s next (no_erase next spelled)));
+        pending = pending ∙ sym (pending_appended s next rise);
         active = newest_next s.active.records next old.active.entries new.active.entries spelled is.active step.active;
         records = step.records ∙ ap (λ n. n + 1) is.records ∙ sym (length_more s.active.records next);
         oldest = step.oldest ∙ ap (λ time. earlier time (record_time next)) is.oldest ∙ sym (oldest-push s.active.records next);
+        firsts = step.firsts ∙ ap (λ firsts. firsts_with firsts next) is.firsts ∙ sym (firsts-push s.active.records next);
         frozen = subst (IsFrozenIn s.frozen) (sym step.frozen) is.frozen;
         frozen_oldest = step.frozen_oldest ∙ is.frozen_oldest;
+        frozen_firsts = step.frozen_firsts ∙ is.frozen_firsts;
         files = record { count = (is.files).count; each = (is.files).each };
         counted = omega (arith, count_is, counted);
       },

@@ -31,6 +31,7 @@ use Rattle.lethe_follows.specs.Young.{oldest_in}
 use Rattle.lethe_follows.proofs.Erases.{pending_again}
 use Rattle.lethe_follows.proofs.Following.{file_from}
 use Rattle.lethe_follows.proofs.Stepping.{flushed_coherent, flushed_for}
+use Rattle.lethe_state.specs.Firsts.{firsts_in, no_firsts}
 use Rattle.lethe_state.specs.Remembered.{IsCurrent, IsFrozenIn, Remembers}
 use Rattle.lethe_state.specs.Room.{IsFlushed, IsFrozen, IsFrozenWith, IsRoomMade, IsUnfrozen, unfrozen}
 use Rattle.lethe_state.specs.declared.state.State.{State}
@@ -39,9 +40,9 @@ use Rattle.lethe_state.specs.declared.state.State.{State}
 
 pub opened_remembered : (s : Stored) (state : State) (levels : List (List Parts)) → IsCoherent s → HasFiles s levels → s.frozen ≡ None → s.active.records ≡ [] → s.manifest.erases ≡ pending_of s
     → state.manifest ≡ s.manifest → state.pending ≡ s.manifest.erases → state.active.entries ≡ [] → state.records ≡ 0 → state.frozen ≡ None → state.oldest ≡ None → state.frozen_oldest ≡ None
-    → state.count ≡ s.manifest.count → state.stopped ≡ None
+    → state.firsts ≡ no_firsts → state.frozen_firsts ≡ no_firsts → state.count ≡ s.manifest.count → state.stopped ≡ None
     → Remembers s state levels × IsCurrent s state
-opened_remembered s state levels coherent files none empty erases manifest pending active records unfrozen_is ageless frozen_ageless count runs =
+opened_remembered s state levels coherent files none empty erases manifest pending active records unfrozen_is ageless frozen_ageless placeless frozen_placeless count runs =
     let older : last_seq 0 (records_in s.frozen) ≡ 0 = ap (λ o. last_seq 0 (records_in o)) none in
     let newer : last_seq 0 s.active.records ≡ 0 = ap (last_seq 0) empty in
     let counts : state.count ≡ count_of s = omega (arith, older, newer, count) in (
@@ -52,8 +53,10 @@ opened_remembered s state levels coherent files none empty erases manifest pendi
         active = subst (λ records. AreNewestOf records state.active.entries) (sym empty) (newest_none state.active.entries active);
         records = records ∙ sym (ap length empty);
         oldest = ageless ∙ sym (ap oldest_in empty);
+        firsts = placeless ∙ sym (ap firsts_in empty);
         frozen = let P : Option Segment → Type 0 = λ o. IsFrozenIn o state.frozen in subst P (sym none) (subst (IsFrozenIn None) (sym unfrozen_is) tt);
         frozen_oldest = frozen_ageless ∙ sym (ap (λ o. oldest_in (records_in o)) none);
+        frozen_firsts = frozen_placeless ∙ sym (ap (λ o. firsts_in (records_in o)) none);
         files = files;
         counted = omega (arith, counts);
       },
@@ -82,8 +85,10 @@ module _ (s : Stored) (old new : State) (levels : List (List Parts)) (is : Remem
           active = newest_none new.active.entries with.active;
           records = with.records;
           oldest = with.oldest;
+          firsts = with.firsts;
           frozen = subst (IsFrozenIn (Some s.active)) (sym with.frozen) is.active;
           frozen_oldest = with.frozen_oldest ∙ is.oldest;
+          frozen_firsts = with.frozen_firsts ∙ is.firsts;
           files = record { count = (is.files).count; each = (is.files).each };
           counted = omega (arith, counts);
         },
@@ -115,8 +120,10 @@ module _ (s : Stored) (state : State) (levels next : List (List Parts)) (is : Re
           active = is.active;
           records = is.records;
           oldest = is.oldest;
+          firsts = is.firsts;
           frozen = tt;
           frozen_oldest = refl;
+          frozen_firsts = refl;
           files = files;
           counted = omega (arith, counts);
         },

@@ -10,9 +10,11 @@ use Rattle.lethe_base.proofs.LayoutLaws.{none_in}
 use Rattle.lethe_commit.specs.declared.objects.Object.{Object}
 use Rattle.lethe_cover.proofs.Lists.{all_from}
 use Rattle.lethe_fade.specs.Expired.{is_passed}
-use Rattle.lethe_follows.specs.Ticked.{certificate_at, ticked}
+use Rattle.lethe_follows.specs.Leaving.{kept_erases}
+use Rattle.lethe_follows.specs.Ticked.{certificate_at, clocked, ticked}
 use Rattle.lethe_follows.specs.Young.{AreYoung, oldest_in}
-use Rattle.lethe_follows.proofs.Ticking.{count_ticked, pending_ticked, ticked_coherent}
+use Rattle.lethe_follows.proofs.LettingGo.{kept_are_erases}
+use Rattle.lethe_follows.proofs.Ticking.{count_ticked, kept_clocked, pending_ticked, ticked_coherent}
 use Rattle.lethe_follows.proofs.Young.{young_by}
 use Rattle.lethe_manifest.specs.Manifests.{HasSpelling, IsCertificateOrNone}
 use Rattle.lethe_manifest.specs.declared.manifest.Manifest.{Manifest}
@@ -24,12 +26,14 @@ use Rattle.lethe_advance.specs.Settled.{AreDrawn, AreUncited, names_in}
 use Rattle.lethe_advance.specs.Steps.{IsObjectFrom, IsSegmentFrom, IsSettledBy, IsStep, IsUncited}
 use Rattle.lethe_advance.specs.declared.new_header.NewHeader.{NewHeader}
 use Rattle.lethe_advance.specs.declared.step.Step.{Step}
+use Rattle.lethe_state.specs.Left.{done_with, first_recorded, kept_with}
 use Rattle.lethe_state.specs.Remembered.{IsCurrent, Remembers}
 use Rattle.lethe_state.specs.Room.{IsStepFrom}
 use Rattle.lethe_state.specs.Ticking.{moved, ticking_manifest}
 use Rattle.lethe_state.specs.Writable.{IsWritable, segments_for}
 use Rattle.lethe_state.specs.declared.state.State.{State}
 use Rattle.lethe_state.proofs.FreezeStep.{later_files}
+use Rattle.lethe_state.proofs.Left.{installed_writable, kept_remembered, same_files}
 use Rattle.lethe_state.proofs.Shared.{all_kept, all_left, left_stays, left_there, loose_pages, none_all, none_once, still_uncited}
 
 -- On any disk
@@ -50,7 +54,7 @@ ticking_spelled state to is free fits within =
       count = omega (arith, fits);
       next = omega (arith, free);
       certificate = certificate_spelled state.manifest to within (is.manifest).certificate;
-      erases = is.pending;
+      erases = kept_are_erases (done_with state state.manifest.files) (first_recorded state) state.pending is.pending;
       segments = record {
         some = ((is.manifest).segments).some;
         few = ((is.manifest).segments).few;
@@ -89,6 +93,10 @@ module _ (s : Stored) (state : State) (levels : List (List Parts)) (is : Remembe
   abbrev t : Stored
   t = ticked s to n
 
+  -- what the manifest keeps is what is kept of what is stored then
+  kept_is : kept_with state state.manifest.files ≡ kept_erases (clocked s to n)
+  kept_is = ap (λ (m : Manifest). kept_with state m.files) is.manifest ∙ kept_remembered s s state levels is (same_files s is.coherent) ∙ sym (kept_clocked s to n)
+
   manifest_is : step.manifest ≡ t.manifest
   manifest_is = manifest ∙ (λ i. record (is.manifest i) {
     no = n;
@@ -96,7 +104,7 @@ module _ (s : Stored) (state : State) (levels : List (List Parts)) (is : Remembe
     count = current.count i + 1;
     next = n + 1;
     certificate = certificate_at (is.manifest i) to;
-    erases = is.pending i;
+    erases = kept_is i;
   })
 
   later : s.manifest.next ≤ n
@@ -140,17 +148,34 @@ tick_remembered s state levels next to number is current later spelled files =
       record {
         coherent = ticked_coherent s to number is.coherent later spelled;
         manifest = refl;
-        pending = is.pending ∙ sym (pending_ticked s to number);
+        pending = kept_remembered s s state levels is (same_files s is.coherent) ∙ sym (pending_ticked s to number);
         active = is.active;
         records = is.records;
         oldest = is.oldest;
+        firsts = is.firsts;
         frozen = is.frozen;
         frozen_oldest = is.frozen_oldest;
+        frozen_firsts = is.frozen_firsts;
         files = files;
         counted = omega (arith, counted, count_ticked s to number);
       },
       record { runs = current.runs; count = counts },
     )
+
+pub moved_writable : (manifest : Manifest) (state : State) → IsWritable state → HasSpelling manifest → length manifest.segments ≡ segments_for state.frozen → state.count < max_place → IsWritable (moved manifest state)
+moved_writable manifest state is spelled segments fits =
+    let kept = installed_writable manifest state is spelled segments in
+    let records = is.records in record {
+      manifest = kept.manifest;
+      segments = kept.segments;
+      pending = kept.pending;
+      active = kept.active;
+      frozen = kept.frozen;
+      count = omega (arith, fits);
+      records = omega (arith, records);
+      drawn = kept.drawn;
+      last = kept.last;
+    }
 
 -- no record is old exactly where neither least time that is remembered is
 pub young_by_least : (s : Stored) (state : State) (levels : List (List Parts)) → Remembers s state levels → (to : ℕ)

@@ -1,21 +1,25 @@
 -- The records of changes, and what they make of a state.
-use Rattle.std.specs.Prelude.{◌≡◌, ◌⊎◌, ◌<◌, ℕ, ◌+◌, min, List, map, flat_map, Any, IsSome, Option, Some, None, unwrap_or, option_and_then}
+use Rattle.std.specs.Prelude.{◌≡◌, ◌⊎◌, ◌<◌, ℕ, ◌+◌, min, List, ◌++◌, map, flat_map, option_to_list, Any, IsSome, Option, Some, None, unwrap_or, option_and_then}
 use Rattle.std.specs.Option.{option_or}
 use Rattle.lethe_base.specs.Keys.{Bytes}
 use Rattle.lethe_base.specs.Limits.{max_place}
+use Rattle.lethe_base.specs.Ranges.{Ends}
 use Rattle.lethe_base.specs.Shapes.{earlier}
 use Rattle.lethe_base.specs.Entries.{entry_of, Inserts}
 use Rattle.lethe_base.specs.declared.entry.Body.TheVariants.{Put, Tomb}
 use Rattle.lethe_base.specs.declared.entry.Entry.{Entry}
+use Rattle.lethe_base.specs.declared.pending.Pending.{Pending}
 use Rattle.lethe_base.specs.declared.refused.Refused.{Refused}
-use Rattle.lethe_base.specs.declared.refused.Refused.TheVariants.{Fault, Stopped, Backwards, Pinned, NothingDue, Cancelled, Exhausted, ReadFault, NoMemory, Damaged}
+use Rattle.lethe_base.specs.declared.refused.Refused.TheVariants.{Fault, Stopped, Backwards, Pinned, NothingDue, Cancelled, Exhausted, ReadFault, NoMemory, Damaged, Undone}
 use Rattle.lethe_header.specs.declared.header.Header.{Header}
 use Rattle.lethe_mem.specs.Buffered.{Buffered}
 use Rattle.lethe_segment.specs.declared.record.Record.{Record}
 use Rattle.lethe_segment.specs.declared.record.Record.TheVariants as of
 use Rattle.lethe_stored.specs.Files.{Parts}
+use Rattle.lethe_stored.specs.Stored.{erase_of}
 use Rattle.lethe_follows.specs.Young.{time_of}
 use Rattle.lethe_version.specs.Probing.{bound}
+use Rattle.lethe_state.specs.Firsts.{firsts_with}
 use Rattle.lethe_state.specs.declared.state.State.{State}
 
 -- why no change is begun: an earlier one failed at that place, or the places are used up
@@ -30,6 +34,7 @@ MayRefuse state (Cancelled begun now) = ⊥
 MayRefuse state (ReadFault before after) = ⊥
 MayRefuse state NoMemory = ⊥
 MayRefuse state (Damaged name) = ⊥
+MayRefuse state (Undone erase) = ⊥
 
 -- the time of the entry of a key
 abbrev pub since_of : Bytes → List Entry → Option ℕ
@@ -61,6 +66,14 @@ IsDeleteRecord state headers key next =
     (MayBeHeld state headers key × (next ≡ tomb_record state key))
     ⊎ ((MayBeHeld state headers key → ⊥) × (next ≡ of.Blind (state.count + 1)))
 
+-- the record of an erase, with the clock
+abbrev pub erase_record : State → Ends → Record
+erase_record state range = of.Erase (record { seq = state.count + 1; time = state.manifest.clock; range = range })
+
+-- the pending erases with the record's, where it is an erase
+abbrev pub pending_with : List Pending → Record → List Pending
+pending_with pending next = pending ++ option_to_list (erase_of next)
+
 -- what a record makes of the newest entries
 abbrev pub Enters : Record → List Entry → List Entry → Type 0
 Enters (of.Entry entry) old new = Inserts entry old new
@@ -76,8 +89,10 @@ pub record IsLike (old new : State) : Type 0 where
   pub records : new.records ≡ old.records
   pub end_is : new.end ≡ old.end
   pub oldest : new.oldest ≡ old.oldest
+  pub firsts : new.firsts ≡ old.firsts
   pub frozen : new.frozen ≡ old.frozen
   pub frozen_oldest : new.frozen_oldest ≡ old.frozen_oldest
+  pub frozen_firsts : new.frozen_firsts ≡ old.frozen_firsts
   pub stopped : new.stopped ≡ old.stopped
   pub next : new.next ≡ old.next
 
@@ -85,13 +100,15 @@ pub record IsLike (old new : State) : Type 0 where
 pub record IsNext (next : Record) (end : ℕ) (old new : State) : Type 0 where
   pub manifest : new.manifest ≡ old.manifest
   pub count : new.count ≡ old.count + 1
-  pub pending : new.pending ≡ old.pending
+  pub pending : new.pending ≡ pending_with old.pending next
   pub active : Enters next old.active.entries new.active.entries
   pub records : new.records ≡ old.records + 1
   pub end_is : new.end ≡ end
   pub oldest : new.oldest ≡ earlier old.oldest (time_of next)
+  pub firsts : new.firsts ≡ firsts_with old.firsts next
   pub frozen : new.frozen ≡ old.frozen
   pub frozen_oldest : new.frozen_oldest ≡ old.frozen_oldest
+  pub frozen_firsts : new.frozen_firsts ≡ old.frozen_firsts
   pub stopped : new.stopped ≡ old.stopped
   pub drawn : new.next ≡ old.next
 

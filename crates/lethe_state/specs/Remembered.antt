@@ -7,6 +7,7 @@ use Rattle.lethe_stored.specs.Levels.{HasFiles}
 use Rattle.lethe_stored.specs.Replayed.{AreNewestOf}
 use Rattle.lethe_stored.specs.Stored.{Stored, Segment, IsCoherent, pending_of, count_of, records_in}
 use Rattle.lethe_follows.specs.Young.{oldest_in}
+use Rattle.lethe_state.specs.Firsts.{firsts_in, no_firsts}
 use Rattle.lethe_state.specs.declared.state.State.{State}
 
 -- the frozen buffer has the newest entries of the frozen segment, where there is one
@@ -16,7 +17,7 @@ IsFrozenIn (Some segment) (Some buffer) = AreNewestOf segment.records buffer.ent
 IsFrozenIn None (Some buffer) = ⊥
 IsFrozenIn (Some segment) None = ⊥
 
--- the manifest, the erases, the newest entries and the least times of the segments, and the files by level as their readers have them
+-- the manifest, the erases, the newest entries, the least times and the first places of the segments, and the files by level as their readers have them
 pub record Remembers (s : Stored) (state : State) (levels : List (List Parts)) : Type 0 where
   pub coherent : IsCoherent s
   pub manifest : state.manifest ≡ s.manifest
@@ -24,8 +25,10 @@ pub record Remembers (s : Stored) (state : State) (levels : List (List Parts)) :
   pub active : AreNewestOf s.active.records state.active.entries
   pub records : state.records ≡ length s.active.records
   pub oldest : state.oldest ≡ oldest_in s.active.records
+  pub firsts : state.firsts ≡ firsts_in s.active.records
   pub frozen : IsFrozenIn s.frozen state.frozen
   pub frozen_oldest : state.frozen_oldest ≡ oldest_in (records_in s.frozen)
+  pub frozen_firsts : state.frozen_firsts ≡ firsts_in (records_in s.frozen)
   pub files : HasFiles s levels
   -- all places of what is stored are counted
   pub counted : count_of s ≤ state.count
@@ -41,7 +44,9 @@ pub record IsFresh (manifest : Manifest) (state : State) : Type 0 where
   pub active : state.active.entries ≡ []
   pub records : state.records ≡ 0
   pub oldest : state.oldest ≡ None
+  pub firsts : state.firsts ≡ no_firsts
   pub frozen : state.frozen ≡ None
   pub frozen_oldest : state.frozen_oldest ≡ None
+  pub frozen_firsts : state.frozen_firsts ≡ no_firsts
   pub stopped : state.stopped ≡ None
   pub next : state.next ≡ manifest.next

@@ -18,6 +18,7 @@ use Rattle.lethe_stored.specs.Files.{StoredFile, file_of}
 use Rattle.lethe_stored.specs.Stored.{Stored, pending_of, count_of, layout_of, froze}
 use Rattle.lethe_advance.specs.declared.new_header.NewHeader.{NewHeader}
 use Rattle.lethe_advance.specs.declared.step.Step.{Step}
+use Rattle.lethe_state.specs.Firsts.{no_firsts}
 use Rattle.lethe_state.specs.declared.state.State.{State}
 
 -- the active segment has fewer records than a buffer may have
@@ -99,8 +100,10 @@ pub record IsFrozenWith (manifest : Manifest) (old new : State) : Type 0 where
   pub records : new.records ≡ 0
   pub end_is : new.end ≡ 11
   pub oldest : new.oldest ≡ None
+  pub firsts : new.firsts ≡ no_firsts
   pub frozen : new.frozen ≡ Some old.active
   pub frozen_oldest : new.frozen_oldest ≡ old.oldest
+  pub frozen_firsts : new.frozen_firsts ≡ old.firsts
   pub stopped : new.stopped ≡ old.stopped
   pub next : new.next ≡ manifest.next
 
@@ -110,4 +113,4 @@ under manifest state = record state { manifest = manifest; next = manifest.next 
 
 -- the frozen buffer is gone, under this manifest
 abbrev pub unfrozen : Manifest → State → State
-unfrozen manifest state = record (under manifest state) { frozen = None; frozen_oldest = None }
+unfrozen manifest state = record (under manifest state) { frozen = None; frozen_oldest = None; frozen_firsts = no_firsts }

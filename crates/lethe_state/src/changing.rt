@@ -1,23 +1,39 @@
 //! The records of changes, and what they make of a state.
-ghost use Rattle.std.specs.Prelude.{◌≡◌, ◌↔◌, ◌+◌, ◌<◌, ◌≤◌, ◌^◌, length, IfOk, IfSome, IsSome, IsTrue, OnOk};
+ghost use Rattle.std.specs.Prelude.{◌≡◌, ◌↔◌, ◌+◌, ◌<◌, ◌≤◌, ◌^◌, [], ◌∷◌, ◌++◌, length, option_map, IfOk, IfSome, IsSome, IsTrue, OnOk};
 ghost use Rattle.std.specs.Option.{option_or};
 ghost use Rattle.lethe_base.specs.Entries.{entry_of};
 ghost use Rattle.lethe_base.specs.Limits.{IsKey, IsValue, max_place};
-ghost use Rattle.lethe_base.specs.Shapes.{earlier};
 ghost use Rattle.lethe_base.specs.Spelling.{IsTimeOrNone};
 ghost use Rattle.lethe_segment.specs.Records.{RecordHasSpelling, record_bytes};
+ghost use Rattle.lethe_manifest.specs.Manifests.{AreErases};
+ghost use Rattle.lethe_stored.specs.Stored.{erase_of};
 ghost use Rattle.lethe_advance.specs.Shown.{parts_by_level};
 ghost use Rattle.lethe_follows.specs.Young.{time_of};
-ghost use Rattle.lethe_state.specs.Records.{IsDeleteRecord, IsLike, IsNext, frozen_entry, halted, headers_in, put_record, since_of, tomb_record};
+ghost use Rattle.lethe_state.specs.Records.{IsDeleteRecord, IsLike, IsNext, erase_record, frozen_entry, halted, headers_in, pending_with, put_record, since_of, tomb_record};
 ghost use Rattle.lethe_state.specs.Writable.{IsWritable};
 
 use crate::State;
-use lethe_base::{Body, Entry, Key, NoMemory, Value};
+use crate::firsts::earlier;
+use lethe_base::{Body, Entry, Key, List, NoMemory, Pending, Range, Value};
 use lethe_disk::Disk;
 use lethe_mem::Buffer;
 use lethe_segment::{Record, write_record};
 use lethe_version::Version;
 use std::alloc::Global;
+
+/// The greatest number of pending erases: a manifest counts them by 32 bits.
+const MAX_ERASES: usize = u32::MAX as usize;
+
+/// What the record of the next change needs.
+#[derive(Debug, Drop)]
+pub struct Prepared {
+    /// The record's spelling.
+    pub body: Vec<u8>,
+    /// The place of the gate byte that ends the segment behind it.
+    pub end: u64,
+    /// Where the record is an erase, the pending erases with it.
+    pub pending: Option<List<Pending>>,
+}
 
 impl State {
     /// The time of the active buffer's entry of a key.
@@ -92,33 +108,78 @@ impl State {
         }
     }
 
-    /// Takes the memory that the record of the next change needs, and answers its spelling and the place at which the segment ends
-    /// behind it. A segment that would pass 2^64 bytes counts as one for which there is no memory.
-    pub fn prepare(&mut self, alloc: Global, next: &Record) -> Result<(Vec<u8>, u64), NoMemory>
+    /// The record of an erase of a range of delete keys. Its time is the clock.
+    pub fn erase_record(&self, range: Range) -> Record
+        requires writable { IsWritable self.now }
+        requires fits { self.now.count < max_place }
+        ensures spelled { RecordHasSpelling result }
+        ensures is { result ≡ erase_record self.now range }
+    {
+        Record::Erase(Pending {
+            seq: self.count + 1,
+            time: self.manifest.clock,
+            range,
+        })
+    }
+
+    /// Takes the memory that the record of the next change needs. A segment that would pass 2^64 bytes, and an erase where 2^32 - 1 are pending already,
+    /// count as ones for which there is no memory.
+    pub fn prepare(&mut self, alloc: Global, next: &Record) -> Result<Prepared, NoMemory>
         requires writable { IsWritable self.old }
         requires spelled { RecordHasSpelling next.now }
-        ensures body { IfOk result (λ made. made.0.items ≡ record_bytes next.now) }
-        ensures end { IfOk result (λ made. made.1 ≡ self.old.end + length made.0.items + 1) }
+        ensures body { IfOk result (λ made. made.body.items ≡ record_bytes next.now) }
+        ensures end { IfOk result (λ made. made.end ≡ self.old.end + length made.body.items + 1) }
+        ensures pending { IfOk result (λ made. made.pending ≡ option_map (λ erase. self.old.pending ++ erase ∷ []) (erase_of next.now)) }
+        ensures erases { OnOk result (AreErases (pending_with self.old.pending next.now)) }
         ensures room { OnOk result (1 ≤ self.new.active.spare) }
         ensures same { IsLike self.old self.new }
         ensures writable { IsWritable self.new }
     {
         let body = write_record(alloc, next)?;
+        let pending = self.pending_with(alloc, next)?;
         self.active.reserve()?;
         let end = behind(self.end, &body).ok_or(NoMemory)?;
-        Ok((body, end))
+        Ok(Prepared { body, end, pending })
     }
 
-    /// Enters the record of the next change, behind which the active segment ends there. Its memory was reserved.
-    pub fn enter(&mut self, next: Record, end: u64)
+    /// The pending erases with that of the record. None where the record is no erase.
+    fn pending_with(&self, alloc: Global, next: &Record) -> Result<Option<List<Pending>>, NoMemory>
+        requires writable { IsWritable self.now }
+        requires spelled { RecordHasSpelling next.now }
+        ensures is { IfOk result (λ made. made ≡ option_map (λ erase. self.now.pending ++ erase ∷ []) (erase_of next.now)) }
+        ensures erases { OnOk result (AreErases (pending_with self.now.pending next.now)) }
+    {
+        let Record::Erase(erase) = next else {
+            return Ok(None);
+        };
+        let pending = self.pending.items();
+        // The places ascend: no manifest of a store has an erase behind all that are counted.
+        let is_behind = pending.last().is_none_or(|last| last.seq < erase.seq);
+        if !is_behind || pending.len() >= MAX_ERASES {
+            return Err(NoMemory);
+        }
+        let mut all = Vec::with_capacity(alloc, pending.len() + 1)?;
+        all.extend_from_slice(pending)?;
+        all.push(*erase)?;
+        Ok(Some(List::of(all)))
+    }
+
+    /// Enters the record of the next change, behind which the active segment ends there, and these erases are pending where it is one. Its memory was taken.
+    pub fn enter(&mut self, next: Record, end: u64, pending: Option<List<Pending>>)
         requires writable { IsWritable self.old }
         requires room { 1 ≤ self.old.active.spare }
         requires fits { self.old.count < max_place }
         requires spelled { RecordHasSpelling next }
+        requires pending { pending ≡ option_map (λ erase. self.old.pending ++ erase ∷ []) (erase_of next) }
+        requires erases { AreErases (pending_with self.old.pending next) }
         ensures is { IsNext next end self.old self.new }
         ensures writable { IsWritable self.new }
     {
-        self.oldest = first_time(self.oldest, time_of(&next));
+        self.oldest = earlier(self.oldest, time_of(&next));
+        self.firsts = self.firsts.with(&next);
+        if let Some(pending) = pending {
+            self.pending = pending;
+        }
         if let Record::Entry(entry) = next {
             self.active.insert(entry);
         }
@@ -150,16 +211,6 @@ fn time_of(next: &Record) -> Option<u64>
         Record::Entry(entry) => entry.since,
         Record::Blind { .. } => None,
         Record::Erase(erase) => Some(erase.time),
-    }
-}
-
-/// The smaller of two times, where there are any.
-fn first_time(time: Option<u64>, other: Option<u64>) -> Option<u64>
-    ensures { result ≡ earlier time other }
-{
-    match (time, other) {
-        (Some(time), Some(other)) => Some(time.min(other)),
-        (time, other) => time.or(other),
     }
 }
 

@@ -24,7 +24,7 @@ ghost use Rattle.lethe_state.specs.Remembered.{Remembers, IsCurrent};
 ghost use Rattle.lethe_state.specs.Room.{AreDrafted, IsFlushed, IsShortToFlush, IsStepFrom, unfrozen};
 ghost use Rattle.lethe_state.specs.Writable.{IsWritable};
 
-use crate::State;
+use crate::{Firsts, State};
 use lethe_advance::{NewHeader, Step, number_behind};
 use lethe_base::{Kind, List, MAX_PLACE, Name, NoMemory, Refused};
 use lethe_build::{Draft, numbers_for};
@@ -166,5 +166,6 @@ impl State {
         self.manifest = step.manifest;
         self.frozen = None;
         self.frozen_oldest = None;
+        self.frozen_firsts = Firsts::default();
     }
 }

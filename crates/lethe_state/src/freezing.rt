@@ -85,6 +85,7 @@ impl State {
         let active = std::mem::replace(&mut self.active, VecBuffer::new(alloc));
         self.frozen = Some(active);
         self.frozen_oldest = self.oldest.take();
+        self.frozen_firsts = std::mem::take(&mut self.firsts);
         self.next = step.manifest.next;
         self.manifest = step.manifest;
         self.records = 0;

@@ -3,10 +3,11 @@ ghost use Rattle.std.specs.Prelude.{◌≡◌, ◌<◌, ◌≤◌, ◌+◌, ◌^
 ghost use Rattle.lethe_base.specs.History.{History};
 ghost use Rattle.lethe_base.specs.Keys.{Bytes};
 ghost use Rattle.lethe_base.specs.Limits.{IsKey, IsValue, max_place};
-ghost use Rattle.lethe_base.specs.declared.call.Call.TheVariants.{Put, Delete};
+ghost use Rattle.lethe_base.specs.Ranges.{Ends};
+ghost use Rattle.lethe_base.specs.declared.call.Call.TheVariants.{Put, Delete, Erase};
 ghost use Rattle.lethe_segment.specs.Records.{record_seq};
 ghost use Rattle.lethe_segment.specs.declared.record.Record.{Record};
-ghost use Rattle.lethe_manifest.specs.Manifests.{HasSpelling};
+ghost use Rattle.lethe_manifest.specs.Manifests.{AreErases, HasSpelling};
 ghost use Rattle.lethe_cover.specs.Steps.{with_done};
 ghost use Rattle.lethe_moves.specs.Flushes.{Flushes};
 ghost use Rattle.lethe_stored.specs.Files.{Parts, file_of};
@@ -14,7 +15,7 @@ ghost use Rattle.lethe_stored.specs.Kept.{IsFor};
 ghost use Rattle.lethe_stored.specs.Levels.{HasFiles};
 ghost use Rattle.lethe_stored.specs.Stored.{Stored, IsCoherent, appended, layout_of};
 ghost use Rattle.lethe_follows.specs.Ticked.{ticked};
-ghost use Rattle.lethe_state.specs.Records.{IsDeleteRecord, IsLike, IsNext, halted, headers_in, put_record};
+ghost use Rattle.lethe_state.specs.Records.{IsDeleteRecord, IsLike, IsNext, erase_record, halted, headers_in, put_record};
 ghost use Rattle.lethe_state.specs.Remembered.{Remembers, IsCurrent};
 ghost use Rattle.lethe_state.specs.Room.{IsFlushed, IsFrozen, IsFrozenWith, IsRoomMade, unfrozen};
 ghost use Rattle.lethe_state.specs.Ticking.{moved};
@@ -35,10 +36,17 @@ pub fn delete_is_recorded()
         → IsCoherent (appended s next) × IsFor (with_done h caller (Delete key)) (appended s next) }
 {}
 
+/// With the record of an erase, what is stored stands for the history with that erase.
+pub fn erase_is_recorded()
+    ensures { (h : History) (s : Stored) (state : State) (levels : List (List Parts)) → Remembers s state levels → IsCurrent s state → IsFor h s → length h < max_place
+        → (caller : ℕ) (range : Ends) → range.lo < range.hi → range.hi < 2 ^ 64
+        → IsCoherent (appended s (erase_record state range)) × IsFor (with_done h caller (Erase range)) (appended s (erase_record state range)) }
+{}
+
 /// With the record of the next change entered, what is stored with it is remembered.
 pub fn entered_is_remembered()
     ensures { (s : Stored) (old new : State) (levels : List (List Parts)) (next : Record) (end : ℕ) → Remembers s old levels → IsCurrent s old
-        → IsNext next end old new → record_seq next ≡ old.count + 1 → IsCoherent (appended s next)
+        → IsNext next end old new → record_seq next ≡ old.count + 1 → AreErases new.pending → IsCoherent (appended s next)
         → Remembers (appended s next) new levels × IsCurrent (appended s next) new }
 {}
 

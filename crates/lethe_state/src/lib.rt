@@ -2,6 +2,8 @@
 #![tactic(auto)]
 
 mod changing;
+mod erases;
+mod firsts;
 mod flushing;
 mod freezing;
 mod laws;
@@ -10,9 +12,11 @@ mod state;
 mod ticking;
 mod told;
 
+pub use changing::Prepared;
+pub use firsts::Firsts;
 pub use laws::{
-    delete_is_recorded, entered_is_remembered, files_are_remembered, flush_is_remembered,
-    flush_stands, flushed_flushes, freeze_is_remembered, halted_is_remembered, like_is_remembered,
-    put_is_recorded, room_stands, tick_is_remembered,
+    delete_is_recorded, entered_is_remembered, erase_is_recorded, files_are_remembered,
+    flush_is_remembered, flush_stands, flushed_flushes, freeze_is_remembered, halted_is_remembered,
+    like_is_remembered, put_is_recorded, room_stands, tick_is_remembered,
 };
 pub use state::State;

@@ -2,11 +2,12 @@
 ghost use Rattle.std.specs.Prelude.{◌≡◌, ◌+◌, ◌≤◌, ◌<◌, ◌↔◌, IfSome, IsNone, length};
 ghost use Rattle.lethe_base.specs.Limits.{max_place};
 ghost use Rattle.lethe_manifest.specs.Manifests.{HasSpelling};
-ghost use Rattle.lethe_state.specs.Room.{under};
+ghost use Rattle.lethe_state.specs.Left.{installed};
 ghost use Rattle.lethe_state.specs.Writable.{IsWritable, segments_for};
 
 use crate::State;
 use lethe_advance::{Step, number_behind};
+use std::alloc::Global;
 
 impl State {
     /// The next number, for a page that a job writes. None where it has run out.
@@ -26,15 +27,16 @@ impl State {
         self.next += 1;
     }
 
-    /// Takes the manifest of a merge's step. The buffers stay.
-    pub fn install(&mut self, step: Step)
+    /// Takes the manifest of a merge's step, and forgets the erases that it doesn't keep. The buffers stay. It takes no memory.
+    pub fn install(&mut self, alloc: Global, step: Step)
         requires writable { IsWritable self.old }
         requires spelled { HasSpelling step.manifest }
         requires segments { length step.manifest.segments ≡ segments_for self.old.frozen }
-        ensures is { self.new ≡ under step.manifest self.old }
+        ensures is { self.new ≡ installed step.manifest self.old }
         ensures writable { IsWritable self.new }
     {
         self.next = step.manifest.next;
         self.manifest = step.manifest;
+        self.let_go(alloc);
     }
 }

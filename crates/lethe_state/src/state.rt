@@ -10,6 +10,7 @@ ghost use Rattle.lethe_state.specs.Records.{MayRefuse};
 ghost use Rattle.lethe_state.specs.Remembered.{IsCurrent, IsFresh, Remembers};
 ghost use Rattle.lethe_state.specs.Writable.{IsWritable};
 
+use crate::Firsts;
 use lethe_base::{List, MAX_PLACE, NoMemory, Pending, Refused};
 use lethe_manifest::Manifest;
 use lethe_mem::VecBuffer;
@@ -27,7 +28,7 @@ pub struct State {
     pub(crate) next: u64,
     /// How many changes there were. One that failed counts.
     pub(crate) count: u64,
-    /// The erases that are still to be carried out, by their places.
+    /// The pending erases, by their places: the manifest's and those that the segments record.
     pub(crate) pending: List<Pending>,
     /// The newest entry of each key that the active segment has.
     pub(crate) active: VecBuffer,
@@ -37,10 +38,14 @@ pub struct State {
     pub(crate) end: u64,
     /// The least time of all records of the active segment, of replaced ones too, where one has a time.
     pub(crate) oldest: Option<u64>,
+    /// The first places of the active segment.
+    pub(crate) firsts: Firsts,
     /// The newest entry of each key of the frozen segment, where there is one.
     pub(crate) frozen: Option<VecBuffer>,
     /// The least time of all records of the frozen segment.
     pub(crate) frozen_oldest: Option<u64>,
+    /// The first places of the frozen segment.
+    pub(crate) frozen_firsts: Firsts,
     /// The place of the change or the work in which the disk failed. Nothing is changed behind it.
     pub(crate) stopped: Option<u64>,
 }
@@ -66,8 +71,10 @@ impl State {
             records: 0,
             end: FIRST_GATE,
             oldest: None,
+            firsts: Firsts::default(),
             frozen: None,
             frozen_oldest: None,
+            frozen_firsts: Firsts::default(),
             stopped: None,
         })
     }

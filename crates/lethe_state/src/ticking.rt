@@ -24,7 +24,7 @@ use lethe_manifest::{Change, LastCert, Manifest};
 use std::alloc::Global;
 
 impl State {
-    /// The step that moves the clock to a time and counts one more change. It writes a manifest alone, under the next number.
+    /// The step that moves the clock to a time and counts one more change. It writes a manifest alone, under the next number, from which the erases that are done leave.
     ///
     /// # Errors
     ///
@@ -66,7 +66,7 @@ impl State {
         let change = Change {
             no: number,
             count: self.count + 1,
-            erases: List::of(self.pending.items().to_vec(alloc)?),
+            erases: self.kept_erases(alloc, manifest.files.items())?,
             segments: List::of(manifest.segments.items().to_vec(alloc)?),
             files: List::of(manifest.files.items().to_vec(alloc)?),
         };
@@ -77,8 +77,8 @@ impl State {
         Ok(step)
     }
 
-    /// Takes the manifest of a tick's step, and counts the tick. The buffers stay.
-    pub fn tick(&mut self, step: Step)
+    /// Takes the manifest of a tick's step, counts the tick, and forgets the erases that the manifest doesn't keep. The buffers stay. It takes no memory.
+    pub fn tick(&mut self, alloc: Global, step: Step)
         requires writable { IsWritable self.old }
         requires spelled { HasSpelling step.manifest }
         requires segments { length step.manifest.segments ≡ segments_for self.old.frozen }
@@ -88,6 +88,7 @@ impl State {
     {
         self.next = step.manifest.next;
         self.manifest = step.manifest;
+        self.let_go(alloc);
         self.count += 1;
     }
 

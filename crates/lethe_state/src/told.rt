@@ -29,7 +29,7 @@ impl State {
         self.count
     }
 
-    /// The erases that are still to be carried out, by their places.
+    /// The pending erases, by their places: the manifest's and those that the segments record. Some may be done.
     pub fn pending(&self) -> &[Pending]
         ensures { result.now ≡ self.now.pending }
     {
@@ -57,11 +57,25 @@ impl State {
         self.end
     }
 
+    /// The least time of all records of the active segment, of replaced ones too, where one has a time.
+    pub fn oldest(&self) -> Option<u64>
+        ensures { result ≡ self.now.oldest }
+    {
+        self.oldest
+    }
+
     /// The newest entry of each key of the frozen segment, where there is one.
     pub fn frozen(&self) -> Option<&VecBuffer>
         ensures { option_copied result ≡ self.now.frozen }
     {
         self.frozen.as_ref()
+    }
+
+    /// The least time of all records of the frozen segment.
+    pub fn frozen_oldest(&self) -> Option<u64>
+        ensures { result ≡ self.now.frozen_oldest }
+    {
+        self.frozen_oldest
     }
 
     /// The place of the change or the work in which the disk failed.

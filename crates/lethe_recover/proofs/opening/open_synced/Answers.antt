@@ -173,10 +173,9 @@ returns-in-Some-clause-refused g c =
     let journal = c.of-journal.result in
     let now = g.D.Disk.faults c.resume.new.disk in
     let IsFull : Type 0 = IsShort m journal.older journal.newer (erases_of m journal) in
-    let up = c.of-journal.ensures.ascends (spelled_some config read m c.in-Some.is c.in-Ok.ensures.spelled).ascends in
     err_weaker c.resume.result (IsCut IsFull c.args.before now) (MayNotOpen g.D.Disk.tells config d c.args.before now) c.resume.ensures.refused
     (cut_may g.D.Disk.tells IsFull config d c.args.before now (λ full told.
-    exhausted_of config d read (read_some config d read m c.in-Some.is (c.in-Ok.ensures.found told)) m c.in-Some.is journal c.of-journal.ensures.is up.0 up.1 full))
+    exhausted_of config d read (read_some config d read m c.in-Some.is (c.in-Ok.ensures.found told)) m c.in-Some.is journal c.of-journal.ensures.is full))
 
 pub returns-in-Some-clause-exact : goal.returns-in-Some-clause-exact
 returns-in-Some-clause-exact g c = λ told why reason. absurd (c.in-Ok.ensures.exact told why reason)

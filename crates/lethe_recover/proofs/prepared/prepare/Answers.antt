@@ -3,7 +3,7 @@ use Rattle.std.proofs.lemmas.List.Elements.{All-weaker}
 use Rattle.lethe_base.specs.Limits.{max_time}
 use Rattle.lethe_base.specs.declared.pending.Pending.{Pending}
 use Rattle.lethe_header.specs.declared.header.Header.{Header}
-use Rattle.lethe_manifest.specs.Manifests.{IsErase}
+use Rattle.lethe_base.specs.Erases.{IsErase}
 use Rattle.lethe_manifest.specs.declared.manifest.Manifest.{Manifest}
 use Rattle.lethe_version.specs.Versions.{files_of}
 use Rattle.lethe_follows.proofs.Erases.{in_order_ascends}
@@ -53,7 +53,7 @@ returns-clause-for_stored g c = λ s coherent loaded.
       files = c.in_ok-version.ensures.files s coherent loaded.manifest loaded.files;
       count = c.count-count.ensures ∙ count_is s m journal loaded.manifest loaded.journal;
       erases = c.in_ok-erases.ensures ∙ (λ i. pending_under ((c.items.ensures ∙ ap (λ (x : Manifest). x.erases) (sym loaded.manifest)) i) journal.older journal.newer)
-          ∙ pending_is s journal.older journal.newer c.requires.older c.requires.newer loaded.journal.older loaded.journal.newer;
+          ∙ pending_is s journal.older journal.newer loaded.journal.older loaded.journal.newer;
       journal = journal;
       is_journal = loaded.journal;
       drafts = subst (λ (erases : List Pending). AreDraftsOfJournal m.config journal erases (map (λ file. file.header) (files_of c.in_ok-version.version)) c.in_ok-drafts.drafts) c.deref-2.ensures.value c.in_ok-drafts.ensures.made;

@@ -1,5 +1,6 @@
 use Rattle.std.proofs.Common.{◌≡◌, ◌<◌, ◌+◌, [], Some, length, refl, sym, ap, ◌∙◌, subst}
 use Rattle.std.specs.Prelude.{IfSome, option_map}
+use Rattle.lethe_follows.specs.Merged.{erases_upto}
 use Rattle.lethe_stored.specs.Stored.{Stored}
 use Rattle.lethe_job.specs.declared.number.BegunJobs.{BegunJobs}
 use Rattle.lethe_job.specs.Tasks.{IsBegunIn, plain_task}
@@ -57,7 +58,7 @@ returns-clause-sound g c =
     let begun : (s : Stored) → Holds old s → IsBegunIn s task = λ s holds. begun_in s task (subst (λ found. IfSome found (λ task. IsBegunBy room_choice s (plain_task task))) c.in-Some.is (c.in_ok-task.ensures.some s holds)) in
     let level = subst (λ found. IfSome found (λ task. task.level < old.state.manifest.config.levels)) c.in-Some.is c.in_ok-task.ensures.level in
     let upto = subst (λ found. IfSome found (λ task. task.upto ≡ old.state.count)) c.in-Some.is c.in_ok-task.ensures.upto in
-    let erases = subst (λ found. IfSome found (λ task. task.erases ≡ old.state.pending)) c.in-Some.is c.in_ok-task.ensures.erases in
+    let erases = subst (λ found. IfSome found (λ task. task.erases ≡ erases_upto old.state.count old.state.pending)) c.in-Some.is c.in_ok-task.ensures.erases in
     subst (λ (face : Face). IsSound g.D.Disk.tells (record old { disk = seen; faults = faults; flight = face.flight; begun = face.begun; rounds = face.rounds })) (sym now)
     (idle_sound g.D.Disk.tells (record old { flight = Some flying; begun = old.begun + 1 }) seen faults c.port.ensures.idle
     (begun_sound g.D.Disk.tells old task (ap (option_map flying_of) c.requires.free) c.requires.runs c.requires.sound begun level upto erases))

@@ -3,6 +3,7 @@ use Rattle.std.specs.Prelude.{Bool, IfErr, IfSome, option_map}
 use Rattle.std.specs.Result.{result_err}
 use Rattle.lethe_base.specs.declared.refused.Refused.{Refused}
 use Rattle.lethe_base.specs.declared.refused.Refused.TheVariants.{Damaged, NoMemory}
+use Rattle.lethe_follows.specs.Merged.{erases_upto}
 use Rattle.lethe_stored.specs.Stored.{Stored}
 use Rattle.lethe_job.specs.Tasks.{plain_task}
 use Rattle.lethe_core.specs.Asked.{failure_of}
@@ -13,6 +14,7 @@ use Rattle.lethe_core.specs.Running.{Holds}
 use Rattle.lethe_core.specs.Steps.{IsUndone}
 use Rattle.lethe_core.specs.View.{flying_of, view_of}
 use Rattle.lethe_core.proofs.Asked.{not_failed}
+use Rattle.lethe_core.proofs.Begun.{all_timed}
 use Rattle.lethe_core.proofs.Fetched.{damaged_as, not_damaged, not_short}
 use Rattle.lethe_core.proofs.Hindered.{as_itself, keeps_itself}
 use Rattle.lethe_core.proofs.Installing.{next_outcome, planned_counted, planned_sound}
@@ -27,6 +29,12 @@ returns-in-Err-clause-keeps g c = keeps_itself g.D.Disk.tells (view_of c.args.se
 
 pub returns-in-Err-clause-undone : goal.returns-in-Err-clause-undone
 returns-in-Err-clause-undone g c = λ none. as_itself g.D.Disk.tells (view_of c.args.self.now)
+
+pub outcome-requires-after_bounds : goal.outcome-requires-after_bounds
+outcome-requires-after_bounds g c κs within =
+    let state = c.args.self.now.state in
+    let found : c.in-Ok-Some.field-0 ≡ Some c.in-Ok-Some.task = cc in
+    all_timed state c.requires.may.sound.writable c.in-Ok-Some.task.erases (subst (λ found. IfSome found (λ task. task.erases ≡ erases_upto state.count state.pending)) found c.in-Ok-Some.ensures.erases)
 
 pub returns-in-Err-outcome-clause-keeps : goal.returns-in-Err-outcome-clause-keeps
 returns-in-Err-outcome-clause-keeps g c =

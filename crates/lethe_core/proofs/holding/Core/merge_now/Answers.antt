@@ -3,7 +3,7 @@ use Rattle.std.specs.Prelude.{IfErr, OnErr}
 use Rattle.std.specs.Result.{result_err}
 use Rattle.lethe_base.specs.declared.refused.Refused.{Refused}
 use Rattle.lethe_stored.specs.Stored.{Stored}
-use Rattle.lethe_state.specs.Room.{under}
+use Rattle.lethe_state.specs.Left.{installed}
 use Rattle.lethe_state.specs.declared.state.State.{State}
 use Rattle.lethe_job.specs.Tasks.{PlainTask}
 use Rattle.lethe_clean.proofs.Stays.{step_untorn}
@@ -65,7 +65,7 @@ returns-clause-done g c = λ told s task t holds may.
     let gate = c.in_ok-carry_out.ensures.gate told s t may.left running is in
     let untorn = step_untorn s t (beside_in old) may.left made.headers.items made.step old.disk.directory mid.disk.directory holds.remembers.coherent is running.only running.untorn kept gate in
     let ends = active_ends s t (beside_in old) may.left made.headers.items made.step is holds.remembers.coherent old.disk mid.disk done.0 kept old.state.end may.installed.merged_is.active (laws.itself told c.args.self.now.disk) running.ends in
-    let state = c.install.ensures.is ∙ ap (under made.step.manifest) c.in_ok-carry_out.ensures.state in
+    let state = c.install.ensures.is ∙ ap (installed made.step.manifest) c.in_ok-carry_out.ensures.state in
     subst (λ (state : State). Holds (record (merged_view old mid.disk mid.faults mid.levels mid.begun mid.rounds made) { state = state }) t) (sym state)
     (merged_holds old mid.disk mid.faults mid.levels mid.begun mid.rounds made s t task holds may files done.0 done.1 untorn ends)
 
@@ -77,7 +77,7 @@ returns-clause-keeps g c =
     let moments = merge_moments old mid.disk mid.faults mid.levels mid.begun mid.rounds made g.D.Disk.tells c.args.before c.requires.may c.requires.from c.requires.merges c.carry_out.ensures.moments in
     let view : State → View = λ state. record (merged_view old mid.disk mid.faults mid.levels mid.begun mid.rounds made) { state = state } in
     let P : State → Type 0 = λ state. (g.D.Disk.tells → (s : Stored) (task : PlainTask) (t : Stored) → Holds old s → MayMerge old s task t made → Holds (view state) t) → Keeps g.D.Disk.tells old (view state) None in
-    subst P (sym (c.install.ensures.is ∙ ap (under made.step.manifest) c.in_ok-carry_out.ensures.state))
+    subst P (sym (c.install.ensures.is ∙ ap (installed made.step.manifest) c.in_ok-carry_out.ensures.state))
     (λ behind. merge_keeps old mid.disk mid.faults mid.levels mid.begun mid.rounds made g.D.Disk.tells c.args.before c.requires.may c.requires.from c.requires.merges behind c.requires.drawn c.carry_out.ensures.levels moments
     c.in_ok-carry_out.ensures.calls c.carry_out.ensures.faults)
     (returns-clause-done g c)

@@ -11,23 +11,23 @@ pub returns-in_default-clause-none : goal.returns-in_default-clause-none
 returns-in_default-clause-none g c = λ s holds ended.
     let cited = ap (λ (m : Manifest). m.files) (sym (c.manifest-manifest.ensures ∙ holds.remembers.manifest)) ∙ sym c.items.ensures in
     let files = c.in_ok-files.ensures.stored s holds.remembers.coherent cited holds.remembers.files in
-    sym (c.in_default.ensures ∙ picked_chosen c.args.choice c.manifest-manifest.result.now c.pending-erases.result.now c.fields.result.now c.fields.ensures.fields c.in_ok-files.files.items c.deref.result.now
-    c.deref.ensures.value c.in_ok-shape.shape c.in_ok-shape.ensures.shape (view_of c.args.self.now) c.manifest-manifest.ensures c.pending-erases.ensures s holds files)
+    sym (c.in_default.ensures ∙ picked_chosen c.args.choice c.manifest-manifest.result.now c.left_erases.result.now c.fields.result.now c.fields.ensures.fields c.in_ok-files.files.items c.deref.result.now
+    c.deref.ensures.value c.in_ok-shape.shape c.in_ok-shape.ensures.shape (view_of c.args.self.now) c.manifest-manifest.ensures s holds files)
 
 pub task_of-requires-clause-named : goal.task_of-requires-clause-named
 task_of-requires-clause-named g c κs within =
-    plan_named c.args.choice c.manifest-manifest.result.now c.pending-erases.result.now c.fields.result.now c.fields.ensures.fields c.in_ok-files.files.items c.deref.result.now c.deref.ensures.value
+    plan_named c.args.choice c.manifest-manifest.result.now c.left_erases.result.now c.fields.result.now c.fields.ensures.fields c.in_ok-files.files.items c.deref.result.now c.deref.ensures.value
     c.in_ok-shape.shape c.in_ok-shape.ensures.shape c.fields.ensures.limits c.in-Some.plan c.in-Some.ensures c.deref-2.result.now c.deref-2.ensures.value
 
 pub returns-clause-some : goal.returns-clause-some
 returns-clause-some g c = λ s holds.
     let cited = ap (λ (m : Manifest). m.files) (sym (c.manifest-manifest.ensures ∙ holds.remembers.manifest)) ∙ sym c.items.ensures in
     let files = c.in_ok-files.ensures.stored s holds.remembers.coherent cited holds.remembers.files in
-    let chosen = picked_chosen c.args.choice c.manifest-manifest.result.now c.pending-erases.result.now c.fields.result.now c.fields.ensures.fields c.in_ok-files.files.items c.deref.result.now
-    c.deref.ensures.value c.in_ok-shape.shape c.in_ok-shape.ensures.shape (view_of c.args.self.now) c.manifest-manifest.ensures c.pending-erases.ensures s holds files in
-    let store = stored_in c.args.choice c.manifest-manifest.result.now c.pending-erases.result.now c.fields.result.now c.fields.ensures.fields c.in_ok-files.files.items c.deref.result.now
-    c.deref.ensures.value c.in_ok-shape.shape c.in_ok-shape.ensures.shape (view_of c.args.self.now) c.manifest-manifest.ensures c.pending-erases.ensures s holds files c.deref-2.result.now c.deref-2.ensures.value
-    c.count.result c.count.ensures in
+    let chosen = picked_chosen c.args.choice c.manifest-manifest.result.now c.left_erases.result.now c.fields.result.now c.fields.ensures.fields c.in_ok-files.files.items c.deref.result.now
+    c.deref.ensures.value c.in_ok-shape.shape c.in_ok-shape.ensures.shape (view_of c.args.self.now) c.manifest-manifest.ensures s holds files in
+    let store = stored_in c.args.choice c.manifest-manifest.result.now c.left_erases.result.now c.fields.result.now c.fields.ensures.fields c.in_ok-files.files.items c.deref.result.now
+    c.deref.ensures.value c.in_ok-shape.shape c.in_ok-shape.ensures.shape (view_of c.args.self.now) c.manifest-manifest.ensures s holds files c.deref-2.result.now c.deref-2.ensures.value
+    c.pending-erases.result.now c.pending-erases.ensures c.count.result c.count.ensures in
     record { is_chosen = sym (c.in-Some.ensures ∙ chosen) ∙ ap Some (sym c.in_ok-task.ensures.plan); planned = c.in_ok-task.ensures.planned s store }
 
 pub returns-clause-of : goal.returns-clause-of

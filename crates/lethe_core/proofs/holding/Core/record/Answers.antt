@@ -2,12 +2,14 @@ use Rattle.std.proofs.Common.{◌≡◌, ◌<◌, ◌+◌, Err, None, Some, leng
 use Rattle.lethe_base.specs.Limits.{max_place}
 use Rattle.lethe_commit.specs.Append.{EndsAt, IsAppended, longer}
 use Rattle.lethe_commit.proofs.Placing.{refused_at_once}
+use Rattle.lethe_manifest.specs.Manifests.{AreErases}
 use Rattle.lethe_manifest.specs.declared.manifest.Manifest.{Manifest}
 use Rattle.lethe_stored.specs.Left.{IsKeptOr}
 use Rattle.lethe_stored.specs.Numbers.{GoesFrom}
 use Rattle.lethe_stored.specs.Steps.{addition}
 use Rattle.lethe_cover.specs.Steps.{with_done, with_failed}
 use Rattle.lethe_stored.specs.Stored.{appended, segment_name}
+use Rattle.lethe_state.specs.Records.{pending_with}
 use Rattle.lethe_state.specs.declared.state.State.{State}
 use Rattle.lethe_core.specs.Asked.{done_by}
 use Rattle.lethe_core.specs.Running.{Holds, IsSound}
@@ -26,7 +28,7 @@ append-requires-after_bounds g c κs within = λ told.
     let holds : Holds old held.0 = record { remembers = held.1; running = held.2 c.requires.may.runs } in
     let same = c.prepare.ensures.same in (
       addition held.0 c.args.next,
-      rw (sym c.end.ensures) at (ready (with_state old c.prepare.new.self) held.0 (like_holds old c.prepare.new.self same held.0 holds) c.args.next c.requires.spelled (c.requires.place ∙ ap (λ n. n + 1) (sym same.count)) c.requires.entry
+      rw (sym c.end.ensures) at (ready (with_state old c.prepare.new.self) held.0 (like_holds old c.prepare.new.self same held.0 holds) c.args.next c.requires.spelled (c.requires.place ∙ ap (λ n. n + 1) (sym same.count))
           c.active_number-no.result c.active_number-no.ensures c.deref.result.now (c.deref.ensures.value ∙ c.in-Ok.ensures.body)),
     )
 
@@ -55,13 +57,14 @@ returns-in-Ok-append-clause-written g c = λ told s holds.
     let number = c.active_number-no.result in
     let mid_holds = like_holds (view_of c.args.self.now) c.prepare.new.self same s holds in
     let place = c.requires.place ∙ ap (λ n. n + 1) (sym same.count) in
-    let is_ready = rw (sym c.end.ensures) at (ready mid s mid_holds next c.requires.spelled place c.requires.entry number c.active_number-no.ensures c.deref.result.now (c.deref.ensures.value ∙ c.in-Ok.ensures.body)) in
-    let end_is : c.end.result + length c.deref.result.now + 1 ≡ c.in-Ok.end =
+    let is_ready = rw (sym c.end.ensures) at (ready mid s mid_holds next c.requires.spelled place number c.active_number-no.ensures c.deref.result.now (c.deref.ensures.value ∙ c.in-Ok.ensures.body)) in
+    let end_is : c.end.result + length c.deref.result.now + 1 ≡ c.in-Ok.field-0.end =
     ap (λ n. n + length c.deref.result.now + 1) (c.end.ensures ∙ same.end_is) ∙ ap (λ l. c.args.self.now.state.end + length l + 1) c.deref.ensures.value ∙ sym c.in-Ok.ensures.end in
     let done = c.in-Ok-append.ensures.done told (addition s next) is_ready in (
-      holds_longer mid s mid_holds next c.requires.spelled place c.requires.entry number c.active_number-no.ensures disk faults c.enter.new.self done c.in-Ok.end (c.in-Ok-append.ensures.synced told)
-          (subst (EndsAt disk (segment_name number) s.active.no (longer (addition s next))) end_is (c.in-Ok-append.ensures.ready told (addition s next) is_ready)) c.enter.ensures.is,
-      inserted mid s mid_holds next c.requires.spelled place c.requires.entry number c.active_number-no.ensures disk faults c.enter.new.self done,
+      holds_longer mid s mid_holds next c.requires.spelled place number c.active_number-no.ensures disk faults c.enter.new.self done c.in-Ok.field-0.end (c.in-Ok-append.ensures.synced told)
+          (subst (EndsAt disk (segment_name number) s.active.no (longer (addition s next))) end_is (c.in-Ok-append.ensures.ready told (addition s next) is_ready)) c.enter.ensures.is
+          (subst (λ pending. AreErases (pending_with pending next)) (sym same.pending) c.in-Ok.ensures.erases),
+      inserted mid s mid_holds next c.requires.spelled place number c.active_number-no.ensures disk faults c.enter.new.self done,
     )
 
 pub returns-in-Ok-append-clause-sound : goal.returns-in-Ok-append-clause-sound
@@ -76,7 +79,7 @@ returns-in-Ok-append-clause-sound g c =
     let old = view_of c.args.self.now in
     record {
       writable = c.enter.ensures.writable;
-      small = next_small c.args.next c.in-Ok.end c.prepare.new.self c.enter.new.self c.enter.ensures.is room (like_small c.args.self.now.state c.prepare.new.self like sound.small);
+      small = next_small c.args.next c.in-Ok.field-0.end c.prepare.new.self c.enter.new.self c.enter.ensures.is room (like_small c.args.self.now.state c.prepare.new.self like sound.small);
       count = sound.count ∙ ap (λ (m : Manifest). m.config.levels + 1) (sym manifest);
       flies = flies_on old.state c.enter.new.self (ap (λ (m : Manifest). m.config.levels) manifest) old.flight sound.flies;
       drawn = drawn_on old.state.next c.enter.new.self.next (names_beside old) (omega (arith, drawn)) sound.drawn;
@@ -101,10 +104,10 @@ returns-in-Ok-append-clause-any_moment g c = λ told config h caller call stands
     let mid_holds = like_holds old c.prepare.new.self same stands.stored (stands_holds config h old stands c.requires.may.runs) in
     let place = c.requires.place ∙ ap (λ n. n + 1) (sym same.count) in
     let number = c.active_number-no.result in
-    let is_ready = rw (sym c.end.ensures) at (ready mid stands.stored mid_holds c.args.next c.requires.spelled place c.requires.entry number c.active_number-no.ensures c.deref.result.now (c.deref.ensures.value ∙ c.in-Ok.ensures.body)) in
+    let is_ready = rw (sym c.end.ensures) at (ready mid stands.stored mid_holds c.args.next c.requires.spelled place number c.active_number-no.ensures c.deref.result.now (c.deref.ensures.value ∙ c.in-Ok.ensures.body)) in
     let first : mid.state.next ≡ old.state.next = same.next in
     subst (λ n. GoesFrom n (IsKeptOr config h (Some (done_by caller call))) old.disk (g.D.Disk.seen c.append.new.disk)) first
-    (moments mid stands.stored mid_holds c.args.next c.requires.spelled place c.requires.entry number c.active_number-no.ensures h caller call (stands_for config h old stands c.requires.may.runs) with config stands.config_is
+    (moments mid stands.stored mid_holds c.args.next c.requires.spelled place number c.active_number-no.ensures h caller call (stands_for config h old stands c.requires.may.runs) with config stands.config_is
     c.prepare.ensures.writable (g.D.Disk.seen c.append.new.disk) (rw c.end.ensures at (c.append.ensures.any_moment told (addition stands.stored c.args.next) is_ready)))
 
 -- The disk failed
@@ -126,10 +129,10 @@ returns-in-Err-Failed-clause-any_moment g c = λ told config h caller call stand
     let mid_holds = like_holds old c.prepare.new.self same stands.stored (stands_holds config h old stands c.requires.may.runs) in
     let place = c.requires.place ∙ ap (λ n. n + 1) (sym same.count) in
     let number = c.active_number-no.result in
-    let is_ready = rw (sym c.end.ensures) at (ready mid stands.stored mid_holds c.args.next c.requires.spelled place c.requires.entry number c.active_number-no.ensures c.deref.result.now (c.deref.ensures.value ∙ c.in-Ok.ensures.body)) in
+    let is_ready = rw (sym c.end.ensures) at (ready mid stands.stored mid_holds c.args.next c.requires.spelled place number c.active_number-no.ensures c.deref.result.now (c.deref.ensures.value ∙ c.in-Ok.ensures.body)) in
     let first : mid.state.next ≡ old.state.next = same.next in
     subst (λ n. GoesFrom n (IsKeptOr config h (Some (done_by caller call))) old.disk (g.D.Disk.seen c.append.new.disk)) first
-    (moments mid stands.stored mid_holds c.args.next c.requires.spelled place c.requires.entry number c.active_number-no.ensures h caller call (stands_for config h old stands c.requires.may.runs) with config stands.config_is
+    (moments mid stands.stored mid_holds c.args.next c.requires.spelled place number c.active_number-no.ensures h caller call (stands_for config h old stands c.requires.may.runs) with config stands.config_is
     c.prepare.ensures.writable (g.D.Disk.seen c.append.new.disk) (rw c.end.ensures at (c.append.ensures.any_moment told (addition stands.stored c.args.next) is_ready)))
 
 pub returns-in-Err-Failed-clause-stands : goal.returns-in-Err-Failed-clause-stands
@@ -151,7 +154,7 @@ returns-in-Err-Failed-clause-numbers g c = λ told.
     let old = view_of c.args.self.now in
     let holds : Holds old held.0 = record { remembers = held.1; running = held.2 c.requires.may.runs } in
     let same = c.prepare.ensures.same in
-    let is_ready = rw (sym c.end.ensures) at (ready (with_state old c.prepare.new.self) held.0 (like_holds old c.prepare.new.self same held.0 holds) c.args.next c.requires.spelled (c.requires.place ∙ ap (λ n. n + 1) (sym same.count)) c.requires.entry
+    let is_ready = rw (sym c.end.ensures) at (ready (with_state old c.prepare.new.self) held.0 (like_holds old c.prepare.new.self same held.0 holds) c.args.next c.requires.spelled (c.requires.place ∙ ap (λ n. n + 1) (sym same.count))
     c.active_number-no.result c.active_number-no.ensures c.deref.result.now (c.deref.ensures.value ∙ c.in-Ok.ensures.body)) in
     let later = (c.append.ensures.any_moment told (addition held.0 c.args.next) is_ready).later in
     let next : c.stop-place.new.self.next ≡ c.args.self.now.state.next = ap (λ (state : State). state.next) c.stop-place.ensures.is ∙ same.next in
@@ -181,9 +184,9 @@ returns-clause-any_moment g c = λ told config h caller call stands with.
     let mid_holds = like_holds old c.prepare.new.self same stands.stored (stands_holds config h old stands c.requires.may.runs) in
     let place = c.requires.place ∙ ap (λ n. n + 1) (sym same.count) in
     let number = c.active_number-no.result in
-    let is_ready = rw (sym c.end.ensures) at (ready mid stands.stored mid_holds c.args.next c.requires.spelled place c.requires.entry number c.active_number-no.ensures c.deref.result.now (c.deref.ensures.value ∙ c.in-Ok.ensures.body)) in
+    let is_ready = rw (sym c.end.ensures) at (ready mid stands.stored mid_holds c.args.next c.requires.spelled place number c.active_number-no.ensures c.deref.result.now (c.deref.ensures.value ∙ c.in-Ok.ensures.body)) in
     let first : mid.state.next ≡ old.state.next = same.next in
     subst (λ n. GoesFrom n (IsKeptOr config h None) old.disk (g.D.Disk.seen c.append.new.disk)) first
-    (untouched_moments mid stands.stored mid_holds c.args.next c.requires.spelled place c.requires.entry number c.active_number-no.ensures config stands.config_is c.prepare.ensures.writable h (stands_for config h old stands c.requires.may.runs)
+    (untouched_moments mid stands.stored mid_holds c.args.next c.requires.spelled place number c.active_number-no.ensures config stands.config_is c.prepare.ensures.writable h (stands_for config h old stands c.requires.may.runs)
     (IsAppended (segment_name number) mid.state.end (addition stands.stored c.args.next)) (g.D.Disk.seen c.append.new.disk)
     (rw c.end.ensures at (c.append.ensures.any_moment told (addition stands.stored c.args.next) is_ready)) (c.in-Err-NoMemory.ensures.no_memory told (ap Err c.in-Err-NoMemory.field-0-is)))

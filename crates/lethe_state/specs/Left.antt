@@ -1,0 +1,39 @@
+-- The erases that are still to be done, and those that a manifest keeps, by what is remembered.
+use Rattle.std.specs.Prelude.{◌≡◌, ◌≤◌, ℕ, ◌+◌, Any, List, map, Option}
+use Rattle.lethe_base.specs.Shapes.{earlier}
+use Rattle.lethe_base.specs.Spent.{least, left_erases}
+use Rattle.lethe_base.specs.declared.pending.Pending.{Pending}
+use Rattle.lethe_manifest.specs.declared.manifest.Cited.{Cited}
+use Rattle.lethe_manifest.specs.declared.manifest.Manifest.{Manifest}
+use Rattle.lethe_stored.specs.Stored.{Stored, IsCoherent, layout_of, pending_of}
+use Rattle.lethe_follows.specs.Leaving.{kept_of}
+use Rattle.lethe_state.specs.Room.{under}
+use Rattle.lethe_state.specs.declared.state.State.{State}
+
+-- the place up to which all pending erases are done where a manifest cites these files: the least of those up to which the files are swept, and of
+-- those of the segments' first puts
+abbrev pub done_with : State → List Cited → Option ℕ
+done_with state files = earlier (least (map (λ file. file.swept) files)) (earlier state.firsts.put state.frozen_firsts.put)
+
+-- the place of the first erase that a segment records
+abbrev pub first_recorded : State → Option ℕ
+first_recorded state = earlier state.frozen_firsts.erase state.firsts.erase
+
+-- the pending erases that a manifest which cites these files keeps
+abbrev pub kept_with : State → List Cited → List Pending
+kept_with state files = kept_of state.pending (done_with state files) (first_recorded state)
+
+-- another manifest counts, and the erases that it doesn't keep are forgotten
+abbrev pub installed : Manifest → State → State
+installed manifest state = record (under manifest state) { pending = kept_with state manifest.files }
+
+-- what is stored has the same segments and the same pending erases, and whatever files
+pub record HasOtherFiles (s t : Stored) : Type 0 where
+  pub coherent : IsCoherent t
+  pub frozen : t.frozen ≡ s.frozen
+  pub active : t.active ≡ s.active
+  pub pending : pending_of t ≡ pending_of s
+
+-- an erase of that place is still to be done, and is a threshold old at the time
+abbrev pub IsLeftOverdue : Stored → ℕ → ℕ → Type 0
+IsLeftOverdue s to place = Any (λ erase. (erase.seq ≡ place) × (erase.time + s.manifest.config.threshold ≤ to)) (left_erases (layout_of s))
