@@ -12,7 +12,7 @@ use Rattle.lethe_drive.specs.Moments.{Going, going_of, there_of}
 use Rattle.lethe_drive.specs.Past.{AreEarlier, IsNoneOf, IsPastGivenUp, IsPastRefused, IsRoundEnded, IsRoundKept, IsTickAsked, Run, all_left, left_of, named_by}
 use Rattle.lethe_drive.specs.Steps.{IsEvent, IsStep}
 use Rattle.lethe_drive.specs.declared.event.Event.{Event}
-use Rattle.lethe_drive.specs.declared.event.Event.TheVariants.{Put, Delete, Tick, Get, Scan, Freeze, Flush, Begin, WriteOut, Install, Cancel}
+use Rattle.lethe_drive.specs.declared.event.Event.TheVariants.{Put, Delete, Erase, Tick, Get, Scan, Freeze, Flush, Begin, WriteOut, Install, Cancel}
 use Rattle.lethe_drive.specs.declared.event.Reply.{Reply}
 use Rattle.lethe_drive.specs.declared.jobs.Jobs.{Jobs}
 use Rattle.lethe_drive.specs.declared.jobs.Numbered.{Numbered}
@@ -38,6 +38,7 @@ module _ (PortsFail : Type 0) (h : History) (old : Run) (reply : Reply) (g : His
     refused_event (Cancel job) other named refused = absurd (other job refl)
     refused_event (Put key dkey value) other named refused = absurd (none-some number named)
     refused_event (Delete key) other named refused = absurd (none-some number named)
+    refused_event (Erase range) other named refused = absurd (none-some number named)
     refused_event (Tick to) other named refused = absurd (none-some number named)
     refused_event (Get key) other named refused = absurd (none-some number named)
     refused_event (Scan lo hi) other named refused = absurd (none-some number named)
@@ -57,6 +58,7 @@ module _ (PortsFail : Type 0) (h : History) (old : Run) (reply : Reply) (g : His
   present_event (Tick to) none step (inl kept) = (step, inl kept)
   present_event (Put key dkey value) none step (inl kept) = (step, kept)
   present_event (Delete key) none step (inl kept) = (step, kept)
+  present_event (Erase range) none step (inl kept) = (step, kept)
   present_event (Get key) none step (inl kept) = (step, kept)
   present_event (Scan lo hi) none step (inl kept) = (step, kept)
   present_event Freeze none step (inl kept) = (step, kept)
@@ -68,6 +70,7 @@ module _ (PortsFail : Type 0) (h : History) (old : Run) (reply : Reply) (g : His
   present_event (Cancel job) none step (inr ended) = absurd ended.0
   present_event (Put key dkey value) none step (inr ended) = absurd ended.0
   present_event (Delete key) none step (inr ended) = absurd ended.0
+  present_event (Erase range) none step (inr ended) = absurd ended.0
   present_event (Get key) none step (inr ended) = absurd ended.0
   present_event (Scan lo hi) none step (inr ended) = absurd ended.0
   present_event Freeze none step (inr ended) = absurd ended.0

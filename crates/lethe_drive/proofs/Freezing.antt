@@ -9,7 +9,7 @@ use Rattle.lethe_base.specs.Limits.{max_place}
 use Rattle.lethe_base.specs.declared.call.Call.TheVariants.{Work}
 use Rattle.lethe_base.specs.declared.config.Fields.{Fields}
 use Rattle.lethe_base.specs.declared.refused.Refused.{Refused}
-use Rattle.lethe_base.specs.declared.refused.Refused.TheVariants.{Fault, Stopped, Backwards, Pinned, NothingDue, Cancelled, Exhausted, ReadFault, NoMemory, Damaged}
+use Rattle.lethe_base.specs.declared.refused.Refused.TheVariants.{Fault, Stopped, Backwards, Pinned, NothingDue, Cancelled, Exhausted, ReadFault, NoMemory, Damaged, Undone}
 use Rattle.lethe_disk.specs.Disk.{IsIdle}
 use Rattle.lethe_disk.specs.declared.disk.Disk.{Ghosts}
 use Rattle.lethe_stored.specs.Files.{Parts}
@@ -190,6 +190,7 @@ module _ (config : Fields) (h : History) (old new : View) (s : Stored) (fetches 
       none_due (inl busy) = inl busy
       none_due (inr none) = inr (none told s (known.held is.0))
   unbegun Tells told known NoMemory is = tt
+  unbegun Tells told known (Undone erase) is = is
   unbegun Tells told known (Fault place before after) is = is
   unbegun Tells told known (Backwards clock) is = is
   unbegun Tells told known (Pinned pin limit) is = is

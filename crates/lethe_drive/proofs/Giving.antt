@@ -8,7 +8,7 @@ use Rattle.lethe_base.specs.Limits.{max_place}
 use Rattle.lethe_base.specs.declared.call.Call.TheVariants.{Work}
 use Rattle.lethe_base.specs.declared.config.Fields.{Fields}
 use Rattle.lethe_base.specs.declared.refused.Refused.{Refused}
-use Rattle.lethe_base.specs.declared.refused.Refused.TheVariants.{Fault, Stopped, Backwards, Pinned, NothingDue, Cancelled, Exhausted, ReadFault, NoMemory, Damaged}
+use Rattle.lethe_base.specs.declared.refused.Refused.TheVariants.{Fault, Stopped, Backwards, Pinned, NothingDue, Cancelled, Exhausted, ReadFault, NoMemory, Damaged, Undone}
 use Rattle.lethe_disk.specs.declared.disk.Disk.{Ghosts}
 use Rattle.lethe_stored.specs.Stored.{Stored}
 use Rattle.lethe_state.specs.declared.state.State.{State}
@@ -144,6 +144,7 @@ must_fail state before now (Exhausted last) is memory numbers runs none = number
 must_fail state before now (Backwards clock) is memory numbers runs none = is
 must_fail state before now (Pinned pin limit) is memory numbers runs none = is
 must_fail state before now NothingDue is memory numbers runs none = is
+must_fail state before now (Undone erase) is memory numbers runs none = is
 must_fail state before now (Cancelled first other) is memory numbers runs none = is
 must_fail state before now (ReadFault b a) is memory numbers runs none = is
 must_fail state before now (Damaged name) is memory numbers runs none = is
@@ -159,6 +160,7 @@ module _ (Tells : Type 0) (told : Tells) (config : Fields) (opened : Opened) (h 
   kept_up t (Backwards clock) is memory numbers = is
   kept_up t (Pinned pin limit) is memory numbers = is
   kept_up t NothingDue is memory numbers = is
+  kept_up t (Undone erase) is memory numbers = is
   kept_up t (Cancelled first now) is memory numbers = is
   kept_up t (ReadFault before after) is memory numbers = is
   kept_up t (Damaged name) is memory numbers = is

@@ -9,7 +9,7 @@ use Rattle.lethe_base.specs.declared.call.Call.TheVariants.{Work}
 use Rattle.lethe_base.specs.declared.config.Fields.{Fields}
 use Rattle.lethe_base.specs.declared.name.Name.{Name}
 use Rattle.lethe_base.specs.declared.refused.Refused.{Refused}
-use Rattle.lethe_base.specs.declared.refused.Refused.TheVariants.{Fault, Stopped, Backwards, Pinned, NothingDue, Cancelled, Exhausted, ReadFault, NoMemory, Damaged}
+use Rattle.lethe_base.specs.declared.refused.Refused.TheVariants.{Fault, Stopped, Backwards, Pinned, NothingDue, Cancelled, Exhausted, ReadFault, NoMemory, Damaged, Undone}
 use Rattle.lethe_disk.specs.declared.disk.Disk.{Ghosts}
 use Rattle.lethe_file.specs.Agreement.{page_name}
 use Rattle.lethe_stored.specs.Stored.{Stored}
@@ -87,6 +87,7 @@ unread PortsFail first before now NoMemory never is = is
 unread PortsFail first before now (Backwards clock) never is = is
 unread PortsFail first before now (Pinned pin limit) never is = is
 unread PortsFail first before now NothingDue never is = is
+unread PortsFail first before now (Undone erase) never is = is
 unread PortsFail first before now (Cancelled begun other) never is = is
 
 unread_since : (PortsFail : Type 0) (first before now : ℕ) (why : Refused) → (before ≡ first) ⊎ ((b n : ℕ) → why ≡ ReadFault b n → ⊥)

@@ -14,7 +14,7 @@ use Rattle.lethe_base.specs.declared.call.Call.TheVariants as call
 use Rattle.lethe_base.specs.declared.call.Did.TheVariants.{Done}
 use Rattle.lethe_base.specs.declared.config.Fields.{Fields}
 use Rattle.lethe_base.specs.declared.refused.Refused.{Refused}
-use Rattle.lethe_base.specs.declared.refused.Refused.TheVariants.{Fault, Stopped, Backwards, Pinned, NothingDue, Cancelled, Exhausted, ReadFault, NoMemory, Damaged}
+use Rattle.lethe_base.specs.declared.refused.Refused.TheVariants.{Fault, Stopped, Backwards, Pinned, NothingDue, Cancelled, Exhausted, ReadFault, NoMemory, Damaged, Undone}
 use Rattle.lethe_base.proofs.Histories.{done_push}
 use Rattle.lethe_cover.specs.Steps.{with_done}
 use Rattle.lethe_header.specs.declared.header.Header.{Header}
@@ -61,6 +61,7 @@ never_unread PortsFail before now NoMemory calm is = is
 never_unread PortsFail before now (Backwards clock) calm is = is
 never_unread PortsFail before now (Pinned pin limit) calm is = is
 never_unread PortsFail before now NothingDue calm is = is
+never_unread PortsFail before now (Undone erase) calm is = is
 never_unread PortsFail before now (Cancelled begun other) calm is = is
 
 module _ (PortsFail : Type 0) (config : Fields) (h : History) (old : Moment) (is : IsMomentOf config h old) (done : AreDone h) (few : length h + 1 ≤ max_place) where
@@ -105,6 +106,7 @@ module _ (PortsFail : Type 0) (config : Fields) (h : History) (old : Moment) (is
           by (Backwards clock) same reason = reason
           by (Pinned pin limit) same reason = reason
           by NothingDue same reason = reason
+          by (Undone erase) same reason = reason
           by (Cancelled begun other) same reason = reason
           by (ReadFault before behind) same reason = reason
           by (Damaged name) same reason = reason

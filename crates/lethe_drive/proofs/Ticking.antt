@@ -199,7 +199,8 @@ module _ (Tells PortsFail : Type 0) (told : Tells) (to : ℕ) (config : Fields) 
       tick_reason t is (inl behind) = inl behind
       tick_reason t is (inr (inl reason)) = inr (inl (reason_on IsShort (IsShortBehind t) old.state old.state old.faults new.faults refl refl why reason
           (λ last full runs short. short_on t (is.held (still_runs last full runs)) short)))
-      tick_reason t is (inr (inr unread)) = inr (inr (unread.0, unreadable_told Tells PortsFail faults_before faults_now why told unread.1))
+      tick_reason t is (inr (inr (inl unread))) = inr (inr (inl (unread.0, unreadable_told Tells PortsFail faults_before faults_now why told unread.1)))
+      tick_reason t is (inr (inr (inr left))) = let undone = left.1 in inr (inr (inr (left.0, undone.0, undone.1, undone.3 told t (is.held undone.2))))
 
     -- the round ends, whatever the tick answers
     pub tick_ends : (result : Result Ticked Refused) → Tested to old new result → StandsSince config opened (behind h 0 (Makes (call.Tick to)) (result_err result)) new → (IsSome old.state.stopped → IsStill Tells old new)

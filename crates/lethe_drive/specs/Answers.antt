@@ -9,7 +9,7 @@ use Rattle.lethe_base.specs.declared.call.Call.{Call}
 use Rattle.lethe_base.specs.declared.call.Call.TheVariants as call
 use Rattle.lethe_base.specs.declared.name.Name.{Name}
 use Rattle.lethe_base.specs.declared.refused.Refused.{Refused}
-use Rattle.lethe_base.specs.declared.refused.Refused.TheVariants.{Fault, Stopped, Backwards, Pinned, NothingDue, Cancelled, Exhausted, ReadFault, NoMemory, Damaged}
+use Rattle.lethe_base.specs.declared.refused.Refused.TheVariants.{Fault, Stopped, Backwards, Pinned, NothingDue, Cancelled, Exhausted, ReadFault, NoMemory, Damaged, Undone}
 use Rattle.lethe_build.specs.Drafts.{AreDraftsOf, numbers_for}
 use Rattle.lethe_build.specs.declared.draft.Draft.{Draft}
 use Rattle.lethe_cover.specs.Steps.{with_done}
@@ -129,6 +129,7 @@ pub record HasBegun (old : Moment) (number : ℕ) (new : Moment) : Type 0 where
 abbrev pub IsUnbegun : Moment → Refused → Type 0
 IsUnbegun old (Stopped at) = old.state.stopped ≡ Some at
 IsUnbegun old NothingDue = (old.state.stopped ≡ None) × (IsSome old.flight ⊎ HasNoMerge old.stored)
+IsUnbegun old (Undone erase) = ⊥
 IsUnbegun old NoMemory = Unit {0}
 IsUnbegun old (Fault place before after) = ⊥
 IsUnbegun old (Backwards clock) = ⊥
@@ -257,6 +258,7 @@ IsKeptUp old new (Stopped at) = old.state.stopped ≡ Some at
 IsKeptUp old new (Backwards clock) = ⊥
 IsKeptUp old new (Pinned pin limit) = ⊥
 IsKeptUp old new NothingDue = ⊥
+IsKeptUp old new (Undone erase) = ⊥
 IsKeptUp old new (Cancelled begun now) = ⊥
 IsKeptUp old new (Exhausted last) = ⊥
 IsKeptUp old new (ReadFault before after) = ⊥

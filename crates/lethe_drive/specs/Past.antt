@@ -5,7 +5,7 @@ use Rattle.lethe_base.specs.declared.refused.Refused.{Refused}
 use Rattle.lethe_base.specs.declared.refused.Refused.TheVariants.{Cancelled, Stopped}
 use Rattle.lethe_drive.specs.Moments.{Going, Moment}
 use Rattle.lethe_drive.specs.declared.event.Event.{Event}
-use Rattle.lethe_drive.specs.declared.event.Event.TheVariants.{Put, Delete, Tick, Get, Scan, Freeze, Flush, Begin, WriteOut, Install, Cancel}
+use Rattle.lethe_drive.specs.declared.event.Event.TheVariants.{Put, Delete, Erase, Tick, Get, Scan, Freeze, Flush, Begin, WriteOut, Install, Cancel}
 use Rattle.lethe_drive.specs.declared.event.Reply.{Reply}
 use Rattle.lethe_drive.specs.declared.event.Reply.TheVariants as reply
 use Rattle.lethe_drive.specs.declared.past.Past.{Past}
@@ -17,6 +17,7 @@ named_by (Install job) = Some job
 named_by (Cancel job) = Some job
 named_by (Put key dkey value) = None
 named_by (Delete key) = None
+named_by (Erase range) = None
 named_by (Tick to) = None
 named_by (Get key) = None
 named_by (Scan lo hi) = None
@@ -29,6 +30,7 @@ abbrev pub IsTickAsked : Event → Type 0
 IsTickAsked (Tick to) = Unit {0}
 IsTickAsked (Put key dkey value) = ⊥
 IsTickAsked (Delete key) = ⊥
+IsTickAsked (Erase range) = ⊥
 IsTickAsked (Get key) = ⊥
 IsTickAsked (Scan lo hi) = ⊥
 IsTickAsked Freeze = ⊥

@@ -7,7 +7,7 @@ use Rattle.lethe_base.specs.declared.call.Call.TheVariants as call
 use Rattle.lethe_base.specs.declared.config.Fields.{Fields}
 use Rattle.lethe_base.specs.declared.refused.Refused.{Refused}
 use Rattle.lethe_state.specs.Room.{IsFlushed, IsFrozen, IsShortToFlush, IsShortToFreeze}
-use Rattle.lethe_core.specs.Changes.{put_over}
+use Rattle.lethe_core.specs.Changes.{erase_over, put_over}
 use Rattle.lethe_engine.specs.Deletes.{IsDeleteOver}
 use Rattle.lethe_engine.specs.Reads.{listed}
 use Rattle.lethe_engine.specs.Work.{HasNoFlush, HasNoFreeze}
@@ -18,7 +18,7 @@ use Rattle.lethe_drive.specs.Past.{AreEarlier, IsNoneOf, IsPastGivenUp, IsPastRe
 use Rattle.lethe_drive.specs.Replies.{flagged, got, numbered, paired, placed, told, united}
 use Rattle.lethe_drive.specs.Ticks.{IsTick}
 use Rattle.lethe_drive.specs.declared.event.Event.{Event}
-use Rattle.lethe_drive.specs.declared.event.Event.TheVariants.{Put, Delete, Tick, Get, Scan, Freeze, Flush, Begin, WriteOut, Install, Cancel}
+use Rattle.lethe_drive.specs.declared.event.Event.TheVariants.{Put, Delete, Erase, Tick, Get, Scan, Freeze, Flush, Begin, WriteOut, Install, Cancel}
 use Rattle.lethe_drive.specs.declared.event.Reply.{Reply}
 use Rattle.lethe_drive.specs.declared.event.Reply.TheVariants.{NoSuch}
 
@@ -43,6 +43,8 @@ IsStep PortsFail h old (Put key dkey value) reply g new =
     (result : Result ℕ Refused) × (reply ≡ placed result) × IsChange PortsFail (call.Put key dkey value) (λ s headers next. next ≡ put_over s key dkey value) h old result g new
 IsStep PortsFail h old (Delete key) reply g new =
     (result : Result ℕ Refused) × (reply ≡ placed result) × IsChange PortsFail (call.Delete key) (λ s headers next. IsDeleteOver s headers key next) h old result g new
+IsStep PortsFail h old (Erase range) reply g new =
+    (result : Result ℕ Refused) × (reply ≡ placed result) × IsChange PortsFail (call.Erase range) (λ s headers next. next ≡ erase_over s range) h old result g new
 IsStep PortsFail h old (Tick to) reply g new = (result : Result Ticked Refused) × (reply ≡ told result) × IsTick PortsFail to h old result g new
 IsStep PortsFail h old (Get key) reply g new = (result : Result (Option (ℕ × Bytes)) Refused) × (reply ≡ got result) × IsRead PortsFail (reads.Get key) reads.Found h old result g new
 IsStep PortsFail h old (Scan lo hi) reply g new = (result : Result (List (Bytes × ℕ × Bytes)) Refused) × (reply ≡ paired result) × IsRead PortsFail (reads.Scan lo hi) listed h old result g new
@@ -71,6 +73,7 @@ IsEvent PortsFail h old (Cancel job) reply g new = IsPastGivenUp job h old reply
 IsEvent PortsFail h old (Tick to) reply g new = IsStep PortsFail h old.now (Tick to) reply g new.now × (IsRoundKept old new ⊎ IsRoundEnded old new)
 IsEvent PortsFail h old (Put key dkey value) reply g new = IsPresent PortsFail h old (Put key dkey value) reply g new
 IsEvent PortsFail h old (Delete key) reply g new = IsPresent PortsFail h old (Delete key) reply g new
+IsEvent PortsFail h old (Erase range) reply g new = IsPresent PortsFail h old (Erase range) reply g new
 IsEvent PortsFail h old (Get key) reply g new = IsPresent PortsFail h old (Get key) reply g new
 IsEvent PortsFail h old (Scan lo hi) reply g new = IsPresent PortsFail h old (Scan lo hi) reply g new
 IsEvent PortsFail h old Freeze reply g new = IsPresent PortsFail h old Freeze reply g new

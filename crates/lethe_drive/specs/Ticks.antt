@@ -4,7 +4,7 @@ use Rattle.lethe_base.specs.History.{History}
 use Rattle.lethe_base.specs.Limits.{max_place}
 use Rattle.lethe_base.specs.declared.call.Call.TheVariants as call
 use Rattle.lethe_base.specs.declared.refused.Refused.{Refused}
-use Rattle.lethe_base.specs.declared.refused.Refused.TheVariants.{Backwards, Exhausted}
+use Rattle.lethe_base.specs.declared.refused.Refused.TheVariants.{Backwards, Exhausted, Undone}
 use Rattle.lethe_build.specs.Drafts.{numbers_for}
 use Rattle.lethe_build.specs.declared.draft.Draft.{Draft}
 use Rattle.lethe_cover.specs.Steps.{with_done}
@@ -12,6 +12,7 @@ use Rattle.lethe_follows.specs.Ticked.{ticked}
 use Rattle.lethe_job.specs.Tasks.{PlainTask}
 use Rattle.lethe_stored.specs.Clean.{IsClean}
 use Rattle.lethe_stored.specs.Stored.{Stored}
+use Rattle.lethe_state.specs.Left.{IsLeftOverdue}
 use Rattle.lethe_state.specs.Room.{IsShortToFlush, IsShortToFreeze}
 use Rattle.lethe_core.specs.Asked.{failure_of, refused_to}
 use Rattle.lethe_core.specs.Merges.{AreOutcomesBy, IsBegunBy, Outcome, due_choice, pages_of, retired_behind}
@@ -56,12 +57,13 @@ pub record IsTicked (to : ℕ) (h : History) (old : Moment) (answer : Ticked) (g
   pub is_true : IfSome answer.certificate (λ certificate. IsTrueCertificate old.stored.manifest.config.threshold certificate new.directory g)
 
 -- Its time is behind the clock; or an earlier call failed, the places or the rounds are used up or numbers are short, the disk failed, or there was no memory; or a page that was
--- to be merged couldn't be read.
+-- to be merged couldn't be read; or an erase that the merges didn't do is a threshold old at the time.
 abbrev pub HasReasonOfTick : Type 0 → ℕ → Moment → Moment → Refused → Type 0
 HasReasonOfTick PortsFail to old new why =
     ((old.state.stopped ≡ None) × (to < old.state.manifest.clock) × (why ≡ Backwards old.state.manifest.clock))
     ⊎ HasReason ((max_place ≤ old.rounds) ⊎ IsShortToFlush new.state ⊎ IsShortToFreeze new.state ⊎ IsShortToRipen to new) old.state old.faults new.faults why
     ⊎ ((old.state.stopped ≡ None) × IsUnreadable (Unit {0}) PortsFail old.port_faults new.port_faults why)
+    ⊎ ((old.state.stopped ≡ None) × (erase : ℕ) × (why ≡ Undone erase) × IsLeftOverdue new.stored to erase)
 
 -- It is refused for a reason, and is in the history where the disk failed in it. Else some of the steps before its last may have been done.
 pub record IsUnticked (PortsFail : Type 0) (to : ℕ) (h : History) (old : Moment) (why : Refused) (g : History) (new : Moment) : Type 0 where

@@ -47,6 +47,7 @@ pub(crate) fn answer<D: Disk>(
     match event {
         Event::Put { key, dkey, value } => placed(engine.put(alloc, port, key, dkey, value)),
         Event::Delete { key } => placed(engine.delete(alloc, port, key)),
+        Event::Erase { range } => placed(engine.erase(alloc, port, range)),
         Event::Tick { to } => told(tick(engine, alloc, port, jobs, to.get())),
         Event::Get { key } => match engine.get(alloc, port, &key) {
             Ok(held) => Reply::Got(held),

@@ -2,7 +2,7 @@
 ghost use Rattle.std.specs.Prelude.{◌≡◌};
 ghost use Rattle.lethe_drive.specs.Past.{named_by};
 
-use lethe_base::{Key, List, Refused, Value};
+use lethe_base::{Key, List, Range, Refused, Value};
 use lethe_engine::Ticked;
 use lethe_time::Time;
 
@@ -11,6 +11,8 @@ use lethe_time::Time;
 pub enum Event {
     Put { key: Key, dkey: u64, value: Value },
     Delete { key: Key },
+    /// Erases the values whose delete keys lie in the range.
+    Erase { range: Range },
     /// Moves the clock.
     Tick { to: Time },
     Get { key: Key },

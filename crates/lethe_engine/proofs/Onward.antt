@@ -7,8 +7,9 @@ use Rattle.std.proofs.lemmas.List.Elements.{All-append, All-cons, All-nil, All-w
 use Rattle.lethe_base.specs.Counts.{Rose}
 use Rattle.lethe_base.specs.History.{History, Change, AreDone}
 use Rattle.lethe_base.specs.Keys.{Bytes}
+use Rattle.lethe_base.specs.Ranges.{Ends}
 use Rattle.lethe_base.specs.declared.call.Call.{Call}
-use Rattle.lethe_base.specs.declared.call.Call.TheVariants.{Put, Delete, Work}
+use Rattle.lethe_base.specs.declared.call.Call.TheVariants.{Put, Delete, Erase, Work}
 use Rattle.lethe_base.specs.declared.call.Did.{Did}
 use Rattle.lethe_base.specs.declared.call.Did.TheVariants.{Done, Failed}
 use Rattle.lethe_base.specs.declared.config.Fields.{Fields}
@@ -163,3 +164,6 @@ put_works key dkey value e = cc
 
 pub delete_works : (key : Bytes) → Delete key ≡ Work → ⊥
 delete_works key e = cc
+
+pub erase_works : (range : Ends) → Erase range ≡ Work → ⊥
+erase_works range e = cc

@@ -6,6 +6,7 @@ use Rattle.std.specs.Option.{option_or}
 use Rattle.lethe_base.specs.History.{History}
 use Rattle.lethe_base.specs.Keys.{Bytes, key_cmp}
 use Rattle.lethe_base.specs.Limits.{IsKey, IsValue, max_place}
+use Rattle.lethe_base.specs.Ranges.{Ends}
 use Rattle.lethe_base.specs.Entries.{entry_of}
 use Rattle.lethe_base.specs.Layout.{buffer_of, frozen_records}
 use Rattle.lethe_base.specs.declared.call.Call.TheVariants as call
@@ -21,11 +22,11 @@ use Rattle.lethe_cover.specs.Steps.{with_done}
 use Rattle.lethe_stored.specs.Kept.{IsFor}
 use Rattle.lethe_stored.specs.Stored.{Stored, Segment, appended, count_of, layout_of, plain, records_in}
 use Rattle.lethe_stored.proofs.Meanings.{frozen_are}
-use Rattle.lethe_state.specs.Records.{IsDeleteRecord, MayBeHeld, frozen_entry, headers_in, put_record, tomb_record}
+use Rattle.lethe_state.specs.Records.{IsDeleteRecord, MayBeHeld, erase_record, frozen_entry, headers_in, put_record, tomb_record}
 use Rattle.lethe_state.specs.Remembered.{IsCurrent, IsFrozenIn, Remembers}
 use Rattle.lethe_state.specs.declared.state.State.{State}
-use Rattle.lethe_state.proofs.Recording.{delete_recorded, put_recorded}
-use Rattle.lethe_core.specs.Changes.{put_over}
+use Rattle.lethe_state.proofs.Recording.{delete_recorded, erase_recorded, put_recorded}
+use Rattle.lethe_core.specs.Changes.{erase_over, put_over}
 use Rattle.lethe_core.specs.Running.{Holds}
 use Rattle.lethe_core.specs.StandsNow.{StandsNow}
 use Rattle.lethe_core.specs.View.{View}
@@ -53,6 +54,9 @@ module _ (view : View) (s : Stored) (holds : Holds view s) where
       let newest = is.active key in
       made ∙ (λ i. of.Entry (record { seq = count i + 1; key = key; body = body.Put dkey value; since = option_and_then (λ (entry : Entry). entry.since) (newest i) }))
 
+  pub erase_same : (range : Ends) (next : Record) → next ≡ erase_record state range → next ≡ erase_over s range
+  erase_same range next made = made ∙ (λ i. of.Erase (record { seq = count i + 1; time = (is.manifest i).clock; range = range }))
+
   tomb_same : (key : Bytes) → tomb_record state key ≡ tomb_over s key
   tomb_same key =
       let newest = is.active key in
@@ -79,16 +83,21 @@ module _ (view : View) (s : Stored) (holds : Holds view s) where
 
 -- Over a store that stands for a history, the records stand for that with the change.
 
-module _ (config : Fields) (h : History) (view : View) (stands : StandsNow config h view) (runs : view.state.stopped ≡ None) (fits : view.state.count < max_place) (caller : ℕ) (key : Bytes) (named : IsKey key) where
+module _ (config : Fields) (h : History) (view : View) (stands : StandsNow config h view) (runs : view.state.stopped ≡ None) (fits : view.state.count < max_place) (caller : ℕ) where
   few : length h < max_place
   few = subst (λ n. n < max_place) stands.count fits
 
   current : IsCurrent stands.stored view.state
   current = (stands_holds config h view stands runs).running.current
 
-  pub put_for : (dkey : ℕ) (value : Bytes) → dkey < 2 ^ 64 → IsValue value → (next : Record) → next ≡ put_record view.state key dkey value → IsFor (with_done h caller (call.Put key dkey value)) (appended stands.stored next)
-  put_for dkey value small short next is = subst (λ made. IsFor (with_done h caller (call.Put key dkey value)) (appended stands.stored made)) (sym is)
-      (put_recorded h stands.stored view.state view.levels stands.remembers current (stands_for config h view stands runs) few caller key named dkey value small short).1
+  pub erase_for : (range : Ends) → range.lo < range.hi → range.hi < 2 ^ 64 → (next : Record) → next ≡ erase_record view.state range → IsFor (with_done h caller (call.Erase range)) (appended stands.stored next)
+  erase_for range some small next is = subst (λ made. IsFor (with_done h caller (call.Erase range)) (appended stands.stored made)) (sym is)
+      (erase_recorded h stands.stored view.state view.levels stands.remembers current (stands_for config h view stands runs) few caller range some small).1
 
-  pub delete_for : (next : Record) → IsDeleteRecord view.state (headers_in view.levels) key next → IsFor (with_done h caller (call.Delete key)) (appended stands.stored next)
-  delete_for next is = (delete_recorded h stands.stored view.state view.levels stands.remembers current (stands_for config h view stands runs) few caller key next named is).1
+  module _ (key : Bytes) (named : IsKey key) where
+    pub put_for : (dkey : ℕ) (value : Bytes) → dkey < 2 ^ 64 → IsValue value → (next : Record) → next ≡ put_record view.state key dkey value → IsFor (with_done h caller (call.Put key dkey value)) (appended stands.stored next)
+    put_for dkey value small short next is = subst (λ made. IsFor (with_done h caller (call.Put key dkey value)) (appended stands.stored made)) (sym is)
+        (put_recorded h stands.stored view.state view.levels stands.remembers current (stands_for config h view stands runs) few caller key named dkey value small short).1
+
+    pub delete_for : (next : Record) → IsDeleteRecord view.state (headers_in view.levels) key next → IsFor (with_done h caller (call.Delete key)) (appended stands.stored next)
+    delete_for next is = (delete_recorded h stands.stored view.state view.levels stands.remembers current (stands_for config h view stands runs) few caller key next named is).1

@@ -1,7 +1,7 @@
 -- Why the calls of a store are refused.
 use Rattle.std.specs.Prelude.{◌≡◌, ◌<◌, ◌⊎◌, ℕ, Some, None, IsSome}
 use Rattle.lethe_base.specs.declared.refused.Refused.{Refused}
-use Rattle.lethe_base.specs.declared.refused.Refused.TheVariants.{Fault, Stopped, Backwards, Pinned, NothingDue, Cancelled, Exhausted, ReadFault, NoMemory, Damaged}
+use Rattle.lethe_base.specs.declared.refused.Refused.TheVariants.{Fault, Stopped, Backwards, Pinned, NothingDue, Cancelled, Exhausted, ReadFault, NoMemory, Damaged, Undone}
 use Rattle.lethe_disk.specs.declared.disk.Disk.{Ghosts}
 use Rattle.lethe_stored.specs.Stored.{Stored}
 use Rattle.lethe_state.specs.declared.state.State.{State}
@@ -35,6 +35,7 @@ HasReasonOfChange Tells PortsFail old new before now why =
 abbrev pub HasReasonOfBegin : Type 0 → View → Refused → Type 0
 HasReasonOfBegin Tells view (Stopped at) = view.state.stopped ≡ Some at
 HasReasonOfBegin Tells view NothingDue = (view.state.stopped ≡ None) × (IsSome view.flight ⊎ (Tells → (s : Stored) → Holds view s → HasNoMerge s))
+HasReasonOfBegin Tells view (Undone erase) = ⊥
 HasReasonOfBegin Tells view NoMemory = Unit {0}
 HasReasonOfBegin Tells view (Fault place before after) = ⊥
 HasReasonOfBegin Tells view (Backwards clock) = ⊥

@@ -10,7 +10,7 @@ ghost use Rattle.lethe_stored.specs.Stored.{Stored, appended};
 ghost use Rattle.lethe_state.specs.Records.{headers_in};
 ghost use Rattle.lethe_state.specs.Room.{HasRoom};
 ghost use Rattle.lethe_core.specs.Asked.{Makes};
-ghost use Rattle.lethe_core.specs.Changes.{put_over, with_record};
+ghost use Rattle.lethe_core.specs.Changes.{erase_over, put_over, with_record};
 ghost use Rattle.lethe_core.specs.Merges.{IsRoomMadeBy, Outcome, pages_of, retired_behind};
 ghost use Rattle.lethe_core.specs.Running.{Holds, IsSound};
 ghost use Rattle.lethe_core.specs.View.{face_of, view_of};
@@ -19,7 +19,7 @@ ghost use Rattle.lethe_engine.specs.Deletes.{IsDeleteOver};
 ghost use Rattle.lethe_engine.specs.Refusals.{HasReasonOfChange};
 
 use crate::Engine;
-use lethe_base::{Key, Refused, Value};
+use lethe_base::{Key, Range, Refused, Value};
 use lethe_disk::Disk;
 use std::alloc::Global;
 
@@ -72,6 +72,51 @@ impl<D: Disk> Engine<D> {
         let before = self.core.disk.faults();
         self.core.make_room(alloc, port, before)?;
         let next = self.core.state.put_record(key, dkey, value);
+        self.core.record(alloc, before, next)
+    }
+
+    /// Erases the values whose delete keys lie in a range: no read finds one that was put before, and the range is applied to the files as they are merged. It answers the
+    /// place of the change in the store's history. Where the active segment is full, room is made first: the frozen buffer is flushed, if there is one, and the active one is
+    /// frozen. Where level 0 has at least twice as many files as the ratio then, and no job is in flight, the merges that are due are carried out, and their inputs are read
+    /// through the port.
+    ///
+    /// # Errors
+    ///
+    /// `Stopped`, `Exhausted`, `NoMemory`, `Fault`, which stops the store, and where a merge is carried out `ReadFault`, and on a disk that tells nothing `Damaged`. Want of
+    /// memory for the record comes before its first device call. Room that was made stays made.
+    pub fn erase(&mut self, alloc: Global, port: &mut D::Port, range: Range) -> Result<u64, Refused>
+        // Opening gives this, and each call leaves it so.
+        requires { IsSound D.tells (view_of self.old.core) }
+        ensures answers { Answers D.tells (Makes (call.Erase range)) (result_err result) (record (face_of (view_of self.old.core)) { retired = (view_of self.new.core).retired }) (view_of self.old.core) (view_of self.new.core) }
+        ensures place { IfOk result (λ place. place ≡ self.old.core.state.count + 1) }
+
+        // A refusal has its reason, and a store that is stopped or whose places are used up is as it was.
+        ensures why { IfErr result (HasReasonOfChange D.tells D.ports_fail (view_of self.old.core) (view_of self.new.core) (D.port_faults port.old) (D.port_faults port.new)) }
+        ensures stopped { (at : ℕ) → self.old.core.state.stopped ≡ Some at → IsErrOf result (Stopped at) × (self.new ≡ self.old) }
+        ensures exhausted { self.old.core.state.stopped ≡ None → self.old.core.state.count ≡ max_place → IsErrOf result (Exhausted max_place) × (self.new ≡ self.old) }
+
+        // Acknowledged: room was made, the port has fetched each page of the merges' inputs once, and the record is behind the others in the active segment.
+        ensures written { D.tells → (s : Stored) → Holds (view_of self.old.core) s
+            → OnOk result ((t : Stored) × (outcomes : List Outcome) × IsRoomMadeBy (view_of self.old.core).flight s outcomes t
+            × Holds (view_of self.new.core) (appended t (erase_over t range)) × (D.fetches port.new ≡ D.fetches port.old + pages_of outcomes)
+            × ((view_of self.new.core).retired ≡ retired_behind outcomes (view_of self.old.core).retired)) }
+
+        // Where there was room, the active segment is the one object that changes, and nothing is fetched.
+        ensures room { D.tells → (s : Stored) → Holds (view_of self.old.core) s → HasRoom s
+            → OnOk result (((D.seen self.new.core.disk).directory ≡ with_record (D.seen self.old.core.disk).directory s (erase_over s range))
+            × ((D.seen self.new.core.disk).moment ≡ (D.seen self.old.core.disk).moment + 4) × (port.new ≡ port.old)) }
+
+        ensures port_faults { D.port_faults port.old ≤ D.port_faults port.new }
+
+        // Where a page is told as damaged, a fetch was made in this call, on any disk.
+        ensures fetched { (name : Name) → IsErrOf result (Damaged name) → D.fetches port.old < D.fetches port.new }
+        ensures fetches { D.fetches port.old ≤ D.fetches port.new }
+        ensures certificates { self.new.certificates ≡ self.old.certificates }
+    {
+        self.core.state.may_change()?;
+        let before = self.core.disk.faults();
+        self.core.make_room(alloc, port, before)?;
+        let next = self.core.state.erase_record(range);
         self.core.record(alloc, before, next)
     }
 

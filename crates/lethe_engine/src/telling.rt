@@ -1,7 +1,7 @@
 //! What a store tells of itself as a whole.
 ghost use Rattle.std.specs.Prelude.{◌≡◌, length, sum_by};
 ghost use Rattle.lethe_base.specs.History.{History, after};
-ghost use Rattle.lethe_base.specs.Shapes.{shape_of};
+ghost use Rattle.lethe_job.specs.Shapes.{due_shape};
 ghost use Rattle.lethe_base.specs.declared.config.Fields.{Fields};
 ghost use Rattle.lethe_header.specs.Facts.{lines_of, tombs_in};
 ghost use Rattle.lethe_stored.specs.Stored.{Stored, layout_of};
@@ -38,7 +38,7 @@ impl<D: Disk> Engine<D> {
     pub fn stat(&self) -> Stat
         ensures stat { (config : Fields) (h : History) → StandsNow config h (view_of self.now.core)
             → result.clock ≡ (after h).clock }
-        ensures shape { (s : Stored) → Remembers s self.now.core.state (view_of self.now.core).levels → IsStatOf (shape_of (layout_of s)) result }
+        ensures shape { (s : Stored) → Remembers s self.now.core.state (view_of self.now.core).levels → IsStatOf (due_shape (layout_of s)) result }
         ensures pins { result.pins ≡ 0 }
     {
         let mut files: u64 = 0;
@@ -51,7 +51,7 @@ impl<D: Disk> Engine<D> {
         Stat {
             clock: self.core.state.manifest().clock,
             pins: 0,
-            pending: self.core.state.pending().len() as u64,
+            pending: self.core.state.left_count(),
             files,
             tombs,
         }

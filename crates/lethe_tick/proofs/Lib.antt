@@ -2,3 +2,4 @@ pub mod Buffers
 pub mod Moving
 pub mod Ripe
 pub mod Last
+pub mod Undone

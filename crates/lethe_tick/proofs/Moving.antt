@@ -1,5 +1,5 @@
--- The clock moves: what is stored next is held, and stands for the history with the tick.
-use Rattle.std.proofs.Common.{◌≡◌, ◌≤◌, ◌<◌, ◌+◌, ◌⊎◌, inl, inr, ℕ, List, [], ◌++◌, length, All, Option, Some, None, refl, sym, ap, ◌∙◌, subst, arith}
+-- The clock moves: where no job is in flight what is stored next is held, and stands for the history with the tick.
+use Rattle.std.proofs.Common.{◌≡◌, ◌≤◌, ◌<◌, ◌+◌, ◌⊎◌, inl, inr, ℕ, List, [], ◌++◌, length, All, Some, None, refl, sym, ap, ◌∙◌, subst, arith}
 use Rattle.std.specs.Prelude.{IfSome}
 use Rattle.lethe_base.specs.History.{History, after}
 use Rattle.lethe_base.specs.Limits.{max_place}
@@ -19,10 +19,9 @@ use Rattle.lethe_clean.specs.Copied.{IsCopied}
 use Rattle.lethe_commit.specs.Append.{EndsAt}
 use Rattle.lethe_cover.specs.Steps.{with_done}
 use Rattle.lethe_disk.specs.Disk.{Image}
-use Rattle.lethe_follows.proofs.Ticking.{count_ticked, pending_ticked, ticked_for}
-use Rattle.lethe_follows.specs.Merged.{StoredMerge}
+use Rattle.lethe_follows.proofs.Ticking.{ticked_for}
+use Rattle.lethe_follows.specs.Leaving.{let_go}
 use Rattle.lethe_follows.specs.Ticked.{ticked}
-use Rattle.lethe_job.specs.Tasks.{IsTaskIn, PlainTask}
 use Rattle.lethe_manifest.specs.declared.manifest.Manifest.{Manifest}
 use Rattle.lethe_moves.specs.Due.{HasNothingDue}
 use Rattle.lethe_state.proofs.TickStep.{tick_remembered}
@@ -51,28 +50,6 @@ use Rattle.lethe_core.proofs.Hindered.{drawn_on, flies_on}
 use Rattle.lethe_core.proofs.Next.{beside_drawn}
 use Rattle.lethe_core.proofs.Recorded.{failed_stands}
 use Rattle.lethe_core.proofs.Standing.{is_beside, moments_or, next_drawn, open_stands, stands_back, stands_for, stands_holds}
-
--- The job in flight
-
--- it merges the same files, which are stored as before
-task_ticked : (s : Stored) (m : StoredMerge) (task : PlainTask) → IsTaskIn s m task → (to number : ℕ) → IsTaskIn (ticked s to number) m task
-task_ticked s m task is to number =
-    let before = is.upto in
-    record {
-      merge = record { level = is.merge.level; from = is.merge.from; whole = is.merge.whole; into = is.merge.into; lower = is.merge.lower; met = is.merge.met; higher = is.merge.higher };
-      level = is.level;
-      sources = is.sources;
-      met = is.met;
-      clear = is.clear;
-      bottom = is.bottom;
-      erases = is.erases ∙ sym (pending_ticked s to number);
-      upto = omega (arith, before, count_ticked s to number);
-      config = is.config;
-    }
-
-tasked_ticked : (s : Stored) (to number : ℕ) (flight : Option Flying) → IfSome flight (IsTasked s) → IfSome flight (IsTasked (ticked s to number))
-tasked_ticked s to number None is = tt
-tasked_ticked s to number (Some flying) is = (is.0, task_ticked s is.0 flying.task is.1 to number)
 
 -- The state
 
@@ -104,7 +81,7 @@ module _ (Tells : Type 0) (old : View) (before to : ℕ) (may : MayStep Tells ol
 
   -- A crash leaves what is kept for the history, or for it with the tick
 
-  module _ (config : Fields) (h : History) (stands : StandsNow config h old) (forward : (after h).clock ≤ to) (due : HasNothingDue stands.stored.manifest.config to (layout_of stands.stored)) (caller : ℕ) where
+  module _ (config : Fields) (h : History) (stands : StandsNow config h old) (forward : (after h).clock ≤ to) (due : HasNothingDue stands.stored.manifest.config to (layout_of (let_go stands.stored))) (caller : ℕ) where
     abbrev s : Stored
     s = stands.stored
 
@@ -121,7 +98,7 @@ module _ (Tells : Type 0) (old : View) (before to : ℕ) (may : MayStep Tells ol
     later = let clock = for.clock in omega (arith, clock, forward)
 
     pub then_for : IsFor (with_done h caller (Tick to)) (t s)
-    then_for = ticked_for s to old.state.next h holds.remembers.coherent for few later due caller
+    then_for = ticked_for s h holds.remembers.coherent for few to later due caller old.state.next
 
     pub tick_moments : (new : View) → (Tells → (s t : Stored) (left : List (Name × List ℕ)) → IsRunning old s → IsStep s (beside_in old) t left headers step → (h g : History) → IsFor h s → IsFor g t
         → s.manifest.next ≤ old.state.next → t.manifest.next ≤ old.state.next + length step.objects.items + 1
@@ -159,7 +136,7 @@ module _ (Tells : Type 0) (old : View) (before to : ℕ) (may : MayStep Tells ol
 
   -- It was carried out
 
-  module _ (new : View) (carried : IsCarried Tells old new headers step) (new_is : new.state ≡ moved step.manifest old.state) (here : Tells → Image old.disk old.disk.directory) where
+  module _ (new : View) (carried : IsCarried Tells old new headers step) (new_is : new.state ≡ moved step.manifest old.state) (free : old.flight ≡ None) (here : Tells → Image old.disk old.disk.directory) where
     module _ (told : Tells) (s : Stored) (holds : Holds old s) where
       is : IsStep s (beside_in old) (t s) (beside_in old) headers step
       is = tick_is s holds
@@ -199,7 +176,7 @@ module _ (Tells : Type 0) (old : View) (before to : ℕ) (may : MayStep Tells ol
           rising = holds.running.rising;
           ends = subst (EndsAt new.disk (segment_name s.active.no) s.active.no s.active.records) (sym (ap (λ (state : State). state.end) new_is)) ends;
           current = both.1;
-          tasked = subst (λ flight. IfSome flight (IsTasked (t s))) (sym carried.flight) (tasked_ticked s to old.state.next old.flight holds.running.tasked);
+          tasked = subst (λ flight. IfSome flight (IsTasked (t s))) (sym (carried.flight ∙ free)) tt;
         };
       }
 
@@ -221,7 +198,7 @@ module _ (Tells : Type 0) (old : View) (before to : ℕ) (may : MayStep Tells ol
       held = λ told. let now = held_now told in let holds = held told now.0 now.1 in (t now.0, holds.remembers, λ runs. holds.running);
     }
 
-    pub ticked_stands : Tells → (config : Fields) (h : History) (stands : StandsNow config h old) → (after h).clock ≤ to → HasNothingDue stands.stored.manifest.config to (layout_of stands.stored) → (caller : ℕ)
+    pub ticked_stands : Tells → (config : Fields) (h : History) (stands : StandsNow config h old) → (after h).clock ≤ to → HasNothingDue stands.stored.manifest.config to (layout_of (let_go stands.stored)) → (caller : ℕ)
         → StandsNow config (with_done h caller (Tick to)) new
     ticked_stands told config h stands forward due caller =
         let for = then_for config h stands forward due caller in

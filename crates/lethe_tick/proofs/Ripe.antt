@@ -1,4 +1,4 @@
--- What is stored once a tick has done all but move the clock: nothing is due.
+-- What is stored once a tick has done all but move the clock: nothing is due once the erases that are done have left.
 use Rattle.std.proofs.Common.{◌≡◌, ◌≤◌, inl, inr, ℕ, List, [], ◌∷◌, Option, Some, None, refl, sym, ap, ◌∙◌, subst, arith}
 use Rattle.lethe_base.specs.History.{History, after}
 use Rattle.lethe_base.specs.Limits.{max_place}
@@ -10,7 +10,8 @@ use Rattle.lethe_fade.specs.Expired.{is_passed}
 use Rattle.lethe_fade.specs.declared.plan.Plan.{Plan}
 use Rattle.lethe_follows.proofs.Expired.{nothing_due}
 use Rattle.lethe_follows.proofs.Young.{young_by}
-use Rattle.lethe_follows.specs.Young.{AreYoung, oldest_in}
+use Rattle.lethe_follows.specs.Leaving.{let_go}
+use Rattle.lethe_follows.specs.Young.{AreLeftYoung, AreYoung, oldest_in}
 use Rattle.lethe_manifest.specs.declared.manifest.Manifest.{Manifest}
 use Rattle.lethe_moves.specs.Due.{HasNothingDue}
 use Rattle.lethe_state.specs.Room.{IsUnfrozen}
@@ -97,16 +98,16 @@ module _ (Tells : Type 0) (old new : View) (before to : ℕ) (may : MayStep Tell
       let same : old.state.manifest.clock ≡ stands.stored.manifest.clock = ap (λ (m : Manifest). m.clock) stands.remembers.manifest in
       omega (arith, clock, same, forward)
 
-  pub due_nothing : HasNothingDue stands_then.stored.manifest.config to (layout_of stands_then.stored)
-  due_nothing =
+  pub due_nothing : (left : Tells → (s : Stored) → Holds new s → AreLeftYoung s to) → HasNothingDue stands_then.stored.manifest.config to (layout_of (let_go stands_then.stored))
+  due_nothing left =
       let runs = keeps.stopped ∙ may.runs in
       let is = done told stands.stored (stands_holds config h old stands may.runs) in
       let ripe = is.0 in
       let t = is.1 in
       let same = one_held new t stands_then.stored is.5 (stands_holds config h new stands_then runs) in
-      subst (λ (x : Stored). HasNothingDue x.manifest.config to (layout_of x)) same
+      subst (λ (x : Stored). HasNothingDue x.manifest.config to (layout_of (let_go x))) same
       (nothing_due h t is.5.remembers.coherent (subst (IsFor h) (sym same) (stands_for config h new stands_then runs)) to (none_more (due_choice to) ripe is.2 t is.4)
-      (outcomes_young to (due_choice to) ripe is.2 t is.4 (ripened_young to stands.stored ripe is.3)))
+      (outcomes_young to (due_choice to) ripe is.2 t is.4 (ripened_young to stands.stored ripe is.3)) (left told t is.5))
 
 -- A refusal
 

@@ -6,6 +6,7 @@ ghost use Rattle.lethe_base.specs.History.{History, after};
 ghost use Rattle.lethe_base.specs.Limits.{max_place, max_time};
 ghost use Rattle.lethe_base.specs.declared.call.Call.TheVariants.{Tick};
 ghost use Rattle.lethe_base.specs.declared.config.Fields.{Fields};
+ghost use Rattle.lethe_follows.specs.Leaving.{let_go};
 ghost use Rattle.lethe_follows.specs.Ticked.{ticked};
 ghost use Rattle.lethe_manifest.specs.Manifests.{HasSpelling, manifest_bytes};
 ghost use Rattle.lethe_moves.specs.Due.{HasNothingDue};
@@ -29,8 +30,8 @@ use lethe_manifest::{Manifest, write_manifest};
 use sha2::{Digest, Sha256};
 use std::alloc::Global;
 
-/// Moves the clock to a time at which nothing is due, and adds the certificate, which it answers, where the time is at least the threshold. It writes a manifest alone, and counts the
-/// tick. `before` is the count of faults from which a failure is told.
+/// Moves the clock to a time at which nothing is due once the erases that are done have left, which they do, and adds the certificate, which it answers, where the time is
+/// at least the threshold. It writes a manifest alone, and counts the tick. `before` is the count of faults from which a failure is told.
 pub(crate) fn move_clock<D: Disk>(
     core: &mut Core<D>,
     certificates: &mut Vec<Certificate>,
@@ -40,6 +41,7 @@ pub(crate) fn move_clock<D: Disk>(
 ) -> Result<Option<Certificate>, Refused>
     requires may { MayStep D.tells (view_of core.old) before }
     requires within { to ≤ max_time }
+    requires free { core.old.flight ≡ None }
     ensures sound { IsSound D.tells (view_of core.new) }
     ensures count { core.new.state.count ≡ counted (Makes (Tick to)) (result_err result) core.old.state.count }
     ensures stopped { core.new.state.stopped ≡ stopped_by (result_err result) core.old.state.stopped }
@@ -47,14 +49,14 @@ pub(crate) fn move_clock<D: Disk>(
     ensures done { D.tells → (s : Stored) → Holds (view_of core.old) s → OnOk result (Holds (view_of core.new) (ticked s to core.old.state.next)) }
     ensures why { IfErr result (HasReason (max_place ≤ core.old.state.next) core.old.state before (D.faults core.new.disk)) }
 
-    // At a time at which nothing is due it stands for the history with the tick, done or failed.
+    // At a time at which nothing is due then it stands for the history with the tick, done or failed.
     ensures stands { D.tells → (config : Fields) (h : History) → (stands : StandsNow config h (view_of core.old)) → (after h).clock ≤ to
-        → HasNothingDue stands.stored.manifest.config to (layout_of stands.stored) → (caller : ℕ)
+        → HasNothingDue stands.stored.manifest.config to (layout_of (let_go stands.stored)) → (caller : ℕ)
         → StandsNow config (behind h caller (Makes (Tick to)) (result_err result)) (view_of core.new) }
 
     // And a crash at any moment leaves what is kept for the history, or for it with the tick.
     ensures any_moment { D.tells → (config : Fields) (h : History) → (stands : StandsNow config h (view_of core.old)) → (after h).clock ≤ to
-        → HasNothingDue stands.stored.manifest.config to (layout_of stands.stored) → (caller : ℕ)
+        → HasNothingDue stands.stored.manifest.config to (layout_of (let_go stands.stored)) → (caller : ℕ)
         → GoesFrom core.old.state.next (IsKeptOr config h (written_by caller (Makes (Tick to)) (result_err result))) (D.seen core.old.disk) (D.seen core.new.disk) }
     ensures numbers { D.tells → core.new.state.next + (D.seen core.old.disk).moment ≤ core.old.state.next + (D.seen core.new.disk).moment }
     ensures faults { D.faults core.old.disk ≤ D.faults core.new.disk }
@@ -76,7 +78,7 @@ pub(crate) fn move_clock<D: Disk>(
         certificate,
     } = certified;
     core.carry_out_spelled(alloc, before, Vec::new(alloc), &step, &manifest)?;
-    core.state.tick(step);
+    core.state.tick(alloc, step);
     keep(certificates, certificate);
     Ok(certificate)
 }

@@ -11,7 +11,7 @@ use Rattle.lethe_disk.proofs.Quieting.{on_ok}
 use Rattle.lethe_stored.specs.Stored.{Stored}
 use Rattle.lethe_state.specs.Room.{IsFlushed, IsFrozen, IsShortToFlush, IsShortToFreeze}
 use Rattle.lethe_core.specs.Asked.{Makes, Serves, behind}
-use Rattle.lethe_core.specs.Changes.{put_over}
+use Rattle.lethe_core.specs.Changes.{erase_over, put_over}
 use Rattle.lethe_core.specs.View.{Face, View, view_of}
 use Rattle.lethe_engine.specs.Deletes.{IsDeleteOver}
 use Rattle.lethe_engine.specs.Reads.{listed}
@@ -97,6 +97,32 @@ returns-in-Delete-clause-step g c = λ told config opened h stands s known.
     (λ at e. (c.delete.ensures.stopped at e).0) (λ runs full. (c.delete.ensures.exhausted runs full).0) in
     subst (Comes g.D.Disk.ports_fail config opened h before new (λ t. moment_of new t fetches faults jobs.begun (there_of jobs)) c.placed-in-Delete.result) (sym c.in-Delete.is)
     (behind h 0 (Makes Delete) (result_err result), is.0, is.1, stood, (result, c.placed-in-Delete.ensures, is.2))
+
+-- Erase
+
+pub returns-in-Erase-clause-jobs : goal.returns-in-Erase-clause-jobs
+returns-in-Erase-clause-jobs g c =
+    let face = c.erase.ensures.answers.face_is in
+    theirs_on g.D.Disk.tells (view_of c.args.engine.now.core) (view_of c.erase.new.self.core) c.args.jobs.now (ap (λ (face : Face). face.flight) face) (ap (λ (face : Face). face.rounds) face) c.requires.jobs
+
+pub returns-in-Erase-clause-step : goal.returns-in-Erase-clause-step
+returns-in-Erase-clause-step g c = λ told config opened h stands s known.
+    let old = view_of c.args.engine.now.core in
+    let new = view_of c.erase.new.self.core in
+    let jobs = c.args.jobs.now in
+    let Erase = call.Erase c.in-Erase.range in
+    let result = c.erase.result in
+    let fetches = g.D.Disk.fetches c.erase.new.port in
+    let faults = g.D.Disk.port_faults c.erase.new.port in
+    let before = moment_of old s (g.D.Disk.fetches c.args.port.now) (g.D.Disk.port_faults c.args.port.now) jobs.begun (there_of jobs) in
+    let stood = c.erase.ensures.answers.stands told config opened h stands 0 in
+    let is = changed g.D.Disk.tells g.D.Disk.ports_fail told Erase (λ s headers next. next ≡ erase_over s c.in-Erase.range) config opened h old new s known
+    (g.D.Disk.fetches c.args.port.now) fetches (g.D.Disk.port_faults c.args.port.now) faults jobs.begun (there_of jobs) stands (ap (λ (face : Face). face.flight) c.erase.ensures.answers.face_is)
+    (λ room. room) (λ t begun. begun) result stood c.erase.ensures.answers.still c.erase.ensures.answers.refused c.erase.ensures.place c.erase.ensures.why
+    (λ holds. on_ok result _ _ (c.erase.ensures.written told s holds) (λ done. (done.0, done.1, erase_over done.0 c.in-Erase.range, done.2, refl, done.3, done.4, done.5)))
+    (λ at e. (c.erase.ensures.stopped at e).0) (λ runs full. (c.erase.ensures.exhausted runs full).0) in
+    subst (Comes g.D.Disk.ports_fail config opened h before new (λ t. moment_of new t fetches faults jobs.begun (there_of jobs)) c.placed-in-Erase.result) (sym c.in-Erase.is)
+    (behind h 0 (Makes Erase) (result_err result), is.0, is.1, stood, (result, c.placed-in-Erase.ensures, is.2))
 
 -- Tick
 
@@ -267,6 +293,9 @@ returns-in-Put-clause-rounds g c = inl (ap (λ (face : Face). face.rounds) c.put
 
 pub returns-in-Delete-clause-rounds : goal.returns-in-Delete-clause-rounds
 returns-in-Delete-clause-rounds g c = inl (ap (λ (face : Face). face.rounds) c.delete.ensures.answers.face_is)
+
+pub returns-in-Erase-clause-rounds : goal.returns-in-Erase-clause-rounds
+returns-in-Erase-clause-rounds g c = inl (ap (λ (face : Face). face.rounds) c.erase.ensures.answers.face_is)
 
 pub returns-in-Freeze-clause-rounds : goal.returns-in-Freeze-clause-rounds
 returns-in-Freeze-clause-rounds g c = inl (ap (λ (face : Face). face.rounds) c.freeze.ensures.answers.face_is)

@@ -173,7 +173,8 @@ returns-clause-done g c = λ told s holds.
       faults = c.carry_out_spelled.ensures.faults;
     } in
     let from = subst (λ headers. IsStepFrom (segments_for old.state.frozen) old.state headers step) (sym c.new.ensures.items) c.in_ok-step.ensures.step in
-    ticked_holds g.D.Disk.tells old c.args.before c.args.to c.requires.may headers step c.new.ensures.items from c.in_ok-step.ensures.ticks new carried new_is (λ told. laws.itself told c.args.core.now.disk) told s holds
+    ticked_holds g.D.Disk.tells old c.args.before c.args.to c.requires.may headers step c.new.ensures.items from c.in_ok-step.ensures.ticks new carried new_is (ap (option_map flying_of) c.requires.free)
+    (λ told. laws.itself told c.args.core.now.disk) told s holds
 
 pub returns-clause-sound : goal.returns-clause-sound
 returns-clause-sound g c =

@@ -2,6 +2,7 @@ use Rattle.std.proofs.Common.{◌≤◌, ◌<◌, ◌+◌, ◌-◌, ◌^◌, len
 use Rattle.std.specs.Prelude.{sum_by, flat_map}
 use Rattle.std.proofs.lemmas.List.{take_all, length-map}
 use Rattle.lethe_base.specs.History.{State}
+use Rattle.lethe_advance.specs.Shown.{parts_by_level}
 use Rattle.lethe_header.specs.Facts.{lines_of, tombs_in}
 use Rattle.lethe_manifest.specs.declared.manifest.Manifest.{Manifest}
 use Rattle.lethe_version.specs.Versions.{levels_of}
@@ -43,7 +44,7 @@ returns-clause-shape g c = λ s is.
     let all : length levels ≤ c.loop-level.level = omega (arith, c.loop-level-test.false, c.levels-level-end.ensures) in
     let whole = take_all c.loop-level.level levels all in
     record {
-      pending = ap length (c.pending.ensures ∙ is.pending);
+      pending = c.left_count.ensures s (parts_by_level version) is;
       files = c.loop-level.invariant.files ∙ ap (λ l. capped (length (flat_map (λ files. files) l))) whole ∙ ap capped (count_files version s is.coherent is.files);
       tombs = c.loop-level.invariant.tombs ∙ ap (λ l. capped (sum_by (λ file. tombs_in (lines_of file.header.tiles)) (flat_map (λ files. files) l))) whole
           ∙ ap capped (count_tombs version s is.coherent is.files);
