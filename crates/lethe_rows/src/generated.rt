@@ -134,6 +134,22 @@ impl Plain {
         Ok(())
     }
 
+    // Erases the delete keys from `low` up to `high`, which is excluded.
+    fn erase(&mut self, lines: &mut Lines, low: usize, high: usize) -> Result<(), Fail> {
+        let place = self.place.saturating_add(1);
+        let line = format!(in self.alloc; "1 erase {low} {high}\n")?;
+        lines.add(&line, &format!(in self.alloc; "1 ok {place}\n")?)?;
+        let mut left = BTreeMap::new(self.alloc);
+        for (key, (due, put)) in self.map.iter() {
+            if *due < low || high <= *due {
+                left.insert(key.clone()?, (*due, *put))?;
+            }
+        }
+        self.map = left;
+        self.place = place;
+        Ok(())
+    }
+
     fn get(&self, lines: &mut Lines, key: String) -> Result<(), Fail> {
         let at = self.place;
         let line = format!(in self.alloc; "1 get {key}\n")?;
@@ -156,6 +172,23 @@ impl Plain {
             }
         }
         Ok(format!(in self.alloc; "1 at {at} scan {count}{pairs}\n")?)
+    }
+
+    // One more line of one that erases in a tenth of its lines.
+    fn add_erasing_line(
+        &mut self,
+        dice: &mut Dice,
+        letters: &[&'static str],
+        lines: &mut Lines,
+    ) -> Result<(), Fail>
+        requires { 0 < length letters.now }
+    {
+        if dice.below(10) != 0 {
+            return self.add_line(dice, letters, lines);
+        }
+        let low = dice.below(9);
+        let high = low.saturating_add(dice.below(3)).saturating_add(1);
+        self.erase(lines, low, high)
     }
 
     // One more line: a change three times of five.
@@ -198,8 +231,17 @@ pub struct Generated {
 }
 
 impl Generated {
-    /// The script of a seed, of so many times ten lines.
+    /// The script of a seed, of so many times ten lines, without erases.
     pub fn of(alloc: Global, seed: u64, parts: usize) -> Result<Generated, Fail> {
+        Generated::with(alloc, seed, parts, false)
+    }
+
+    /// The script of a seed, of so many times ten lines, of which a tenth are erases.
+    pub fn erasing(alloc: Global, seed: u64, parts: usize) -> Result<Generated, Fail> {
+        Generated::with(alloc, seed, parts, true)
+    }
+
+    fn with(alloc: Global, seed: u64, parts: usize, erases: bool) -> Result<Generated, Fail> {
         let mut dice = Dice(seed);
         let mut made = Generated {
             seed,
@@ -222,7 +264,11 @@ impl Generated {
         for _ in 0..parts {
             let mut lines = Lines::new(alloc);
             for _ in 0..10 {
-                plain.add_line(&mut dice, letters, &mut lines)?;
+                if erases {
+                    plain.add_erasing_line(&mut dice, letters, &mut lines)?;
+                } else {
+                    plain.add_line(&mut dice, letters, &mut lines)?;
+                }
                 if made.scans.len() == plain.place {
                     made.scans.push(plain.scanned(ALL.0, ALL.1)?)?;
                 }

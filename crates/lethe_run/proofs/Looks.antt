@@ -4,7 +4,6 @@ use Rattle.std.specs.Prelude.{IfSome, IsSome}
 use Rattle.std.proofs.lemmas.List.{take_all}
 use Rattle.lethe_base.specs.History.{History, after}
 use Rattle.lethe_base.specs.Read.{Read, Answer, answer}
-use Rattle.lethe_base.specs.Shapes.{shape_of}
 use Rattle.lethe_base.specs.declared.name.Name.{Name}
 use Rattle.lethe_base.specs.declared.refused.Refused.{Refused}
 use Rattle.lethe_base.specs.declared.refused.Refused.TheVariants as refused
@@ -12,6 +11,7 @@ use Rattle.lethe_core.specs.View.{View}
 use Rattle.lethe_engine.specs.Reads.{IsReadRefusal}
 use Rattle.lethe_engine.specs.Stats.{IsStatOf}
 use Rattle.lethe_engine.specs.declared.telling.Stat.{Stat}
+use Rattle.lethe_job.specs.Shapes.{due_shape}
 use Rattle.lethe_state.specs.Remembered.{Remembers}
 use Rattle.lethe_stored.specs.Kept.{IsFor}
 use Rattle.lethe_stored.specs.Left.{without_failed}
@@ -34,7 +34,7 @@ module _ (Ports : Type 0) (begin : Start) (from : Point) (h : History) (caller :
   read_answer read point given at is = let all = at ∙ on.stands.now.count in record { within = omega (arith, all); is = sym is ∙ ap (λ l. answer (after l) read) (sym (take_all point h (omega (arith, all)))) }
 
   pub stat_answer : (point : ℕ) (stat : Stat) → point ≡ view.state.count → stat.clock ≡ (after h).clock → stat.pins ≡ 0
-      → ((s : Stored) → Remembers s view.state view.levels → IsStatOf (shape_of (layout_of s)) stat) → IsStatAt (told_of h Here) point stat
+      → ((s : Stored) → Remembers s view.state view.levels → IsStatOf (due_shape (layout_of s)) stat) → IsStatAt (told_of h Here) point stat
   stat_answer point stat at clock pins shape =
       let all = at ∙ on.stands.now.count in
       let whole = sym (take_all point h (omega (arith, all))) in
@@ -65,4 +65,5 @@ module _ (Ports : Type 0) (begin : Start) (from : Point) (h : History) (caller :
   unread is (refused.Backwards clock) reason fails sound = absurd reason
   unread is (refused.Pinned pin limit) reason fails sound = absurd reason
   unread is refused.NothingDue reason fails sound = absurd reason
+  unread is (refused.Undone erase) reason fails sound = absurd reason
   unread is (refused.Cancelled begun other) reason fails sound = absurd reason

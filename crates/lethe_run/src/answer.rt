@@ -46,6 +46,7 @@ pub(crate) fn answer<D: Disk>(
     match act {
         Act::Put { key, dkey, value } => changed(engine.put(alloc, port, key, dkey, value)),
         Act::Delete { key } => changed(engine.delete(alloc, port, key)),
+        Act::Erase { range } => changed(engine.erase(alloc, port, range)),
         Act::Get { key } => match engine.get(alloc, port, &key) {
             Ok(held) => Ok(Reply::Got {
                 point: engine.count(),
@@ -90,6 +91,7 @@ fn ticked(answer: Result<Ticked, Refused>, point: u64) -> Result<Reply, NoMemory
     match answer {
         Ok(ticked) => Ok(Reply::Ticked(ticked)),
         Err(Refused::Backwards { clock }) => Ok(Reply::Backwards { point, clock }),
+        Err(Refused::Undone { erase }) => Ok(Reply::Undone { point, erase }),
         Err(why) => unmade(why),
     }
 }

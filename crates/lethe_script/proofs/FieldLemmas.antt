@@ -1,7 +1,7 @@
 -- The first six fields of a line tell as much as all of them.
 use Rattle.std.proofs.Common.{◌≡◌, List, [], ◌∷◌, take, refl}
 use Rattle.lethe_base.specs.Keys.{Bytes}
-use Rattle.lethe_script.specs.Grammar.{request_of, caller_and_act, act_of, put_of, get_of, scan_of, del_of, stat_of, tick_of}
+use Rattle.lethe_script.specs.Grammar.{request_of, caller_and_act, act_of, put_of, get_of, scan_of, del_of, erase_of, stat_of, tick_of}
 
 put_of_kept : (fields : List Bytes) → put_of (take 4 fields) ≡ put_of fields
 unfolding put_of
@@ -30,6 +30,13 @@ del_of_kept [] = refl
 del_of_kept (a ∷ []) = refl
 del_of_kept (a ∷ b ∷ more) = refl
 
+erase_of_kept : (fields : List Bytes) → erase_of (take 4 fields) ≡ erase_of fields
+unfolding erase_of
+erase_of_kept [] = refl
+erase_of_kept (a ∷ []) = refl
+erase_of_kept (a ∷ b ∷ []) = refl
+erase_of_kept (a ∷ b ∷ c ∷ more) = refl
+
 stat_of_kept : (fields : List Bytes) → stat_of (take 4 fields) ≡ stat_of fields
 unfolding stat_of
 stat_of_kept [] = refl
@@ -44,7 +51,7 @@ tick_of_kept (a ∷ b ∷ more) = refl
 act_of_kept : (fields : List Bytes) → act_of (take 5 fields) ≡ act_of fields
 unfolding act_of
 act_of_kept [] = refl
-act_of_kept (command ∷ rest) = rw (put_of_kept rest, get_of_kept rest, scan_of_kept rest, del_of_kept rest, stat_of_kept rest, tick_of_kept rest) refl
+act_of_kept (command ∷ rest) = rw (put_of_kept rest, get_of_kept rest, scan_of_kept rest, del_of_kept rest, erase_of_kept rest, stat_of_kept rest, tick_of_kept rest) refl
 
 pub request_of_kept : (fields : List Bytes) → request_of (take 6 fields) ≡ request_of fields
 unfolding request_of caller_and_act

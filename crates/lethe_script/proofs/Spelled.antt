@@ -1,12 +1,13 @@
 -- Lines that are spelled are read as what they spell.
-use Rattle.std.proofs.Common.{◌≡◌, ◌≢◌, ℕ, suc, ◌+◌, ◌-◌, ◌/◌, ◌%◌, ◌^◌, ◌<◌, ◌≤◌, ◌&&◌, Bool, true, false, not, List, [], ◌∷◌, ◌++◌, length, get_or, take, filter, eqb, ltb, leb, cond, Some, Ok, Err, lit<, lit≤, inl, inr, refl, sym, ap, ◌∙◌, arith, append_assoc}
+use Rattle.std.proofs.Common.{◌≡◌, ◌≢◌, ℕ, suc, ◌+◌, ◌-◌, ◌/◌, ◌%◌, ◌^◌, ◌<◌, ◌≤◌, ◌&&◌, Bool, true, false, not, List, [], ◌∷◌, ◌++◌, length, get_or, take, filter, eqb, ltb, leb, cond, Some, Ok, Err}
+use Rattle.std.proofs.Common.{lit<, lit≤, inl, inr, refl, sym, ap, ◌∙◌, arith, append_assoc}
 use Rattle.std.specs.List.{All, AllByRecursion, list_all, slice_split, join_with_byte, flat_map, cons_option}
 use Rattle.std.specs.Fmt.{decimal}
 use Rattle.std.specs.Str.Lines.{strip_carriage_return}
 use Rattle.std.proofs.lemmas.Bool.Decides.{nat_tests}
 use Rattle.std.proofs.lemmas.List.Sums.{AllPass-from_list_all}
 use mathlib.Core.Bool.{false≢true}
-use Rattle.std.proofs.lemmas.Bool.{not-true, and_parts, cases_lt, ne_eqb, le-leb, leb-true, le-ltb}
+use Rattle.std.proofs.lemmas.Bool.{not-true, and_parts, cases_lt, ne_eqb, le-leb, leb-true, le-ltb, lt-ltb}
 use Rattle.std.proofs.lemmas.Fmt.{decimal_is_IsNumeral, decimal_digit}
 use Rattle.std.proofs.lemmas.Str.Parse.{digit_at}
 use Rattle.std.proofs.lemmas.List.{take_all, get_or_past}
@@ -18,12 +19,12 @@ use Rattle.lethe_base.specs.Keys.{Bytes}
 use Rattle.lethe_base.specs.Limits.{IsKey, IsValue, max_time}
 use Rattle.lethe_base.specs.Numbers.{IsBytes}
 use Rattle.lethe_script.specs.declared.order.Act.{Act}
-use Rattle.lethe_script.specs.declared.order.Act.TheVariants.{Put, Get, Scan, Delete, Stat, Tick}
+use Rattle.lethe_script.specs.declared.order.Act.TheVariants.{Put, Get, Scan, Delete, Erase, Stat, Tick}
 use Rattle.lethe_script.specs.declared.order.Order.{Order}
 use Rattle.lethe_script.specs.declared.refused.Why.TheVariants.{Byte}
 use Rattle.lethe_base.specs.Results.{◌>>=◌}
 use Rattle.lethe_script.specs.Fields.{is_allowed, is_field, fields, caller_of, is_lower_digit, digit_bytes, field_bytes, text_of, key_of, time_of, value_of}
-use Rattle.lethe_script.specs.Grammar.{lines, put_fields, put_of, get_of, scan_fields, scan_of, del_of, stat_of, tick_of, act_of, caller_and_act, request_of, line_of, order_of, orders_from, script_of}
+use Rattle.lethe_script.specs.Grammar.{lines, put_fields, put_of, get_of, scan_fields, scan_of, del_of, erase_fields, erase_of, stat_of, tick_of, act_of, caller_and_act, request_of, line_of, order_of, orders_from, script_of}
 use Rattle.lethe_script.specs.Spelling.{is_plain, marked, field_text, act_fields, spelling, IsWritableAct, IsWritable, IsNumbered}
 use Rattle.lethe_script.proofs.Numbers.{number_again}
 use Rattle.lethe_script.proofs.Lines.{orders_from-cons, lines_some}
@@ -179,11 +180,14 @@ value_again field value is v =
     rw (is, short) refl
 
 act_again : (act : Act) → IsWritableAct act → act_of (act_fields act) ≡ Ok act
-unfolding act_of put_of put_fields get_of scan_of scan_fields del_of stat_of tick_of time_of
+unfolding act_of put_of put_fields get_of scan_of scan_fields del_of erase_of erase_fields stat_of tick_of time_of
 act_again (Put key dkey value) w = rw (key_again (field_text key) key (text_again key w.0.1) w.0.0, number_again (decimal dkey) dkey w.1 refl, value_again (field_text value) value (text_again value w.2.1) w.2.0) refl
 act_again (Get key) w = rw (key_again (field_text key) key (text_again key w.1) w.0) refl
 act_again (Scan lo hi) w = rw (key_again (field_text lo) lo (text_again lo w.0.1) w.0.0, key_again (field_text hi) hi (text_again hi w.1.1) w.1.0) refl
 act_again (Delete key) w = rw (key_again (field_text key) key (text_again key w.1) w.0) refl
+act_again (Erase range) w =
+    let low : range.lo < 2 ^ 64 = omega (arith, w.0, w.1) in
+    rw (number_again (decimal range.lo) range.lo low refl, number_again (decimal range.hi) range.hi w.1 refl, lt-ltb range.lo range.hi w.0) refl
 act_again Stat w = refl
 act_again (Tick to) w = rw (number_again (decimal to) to (omega (arith, w)) refl, le-leb to max_time w) refl
 
@@ -196,6 +200,7 @@ act_texts (Put key dkey value) w = (command_field _ (lit< tt) refl, (text_field 
 act_texts (Get key) w = (command_field _ (lit< tt) refl, (text_field key w.1, tt))
 act_texts (Scan lo hi) w = (command_field _ (lit< tt) refl, (text_field lo w.0.1, (text_field hi w.1.1, tt)))
 act_texts (Delete key) w = (command_field _ (lit< tt) refl, (text_field key w.1, tt))
+act_texts (Erase range) w = (command_field _ (lit< tt) refl, (decimal_field range.lo (omega (arith, w.0, w.1)), (decimal_field range.hi w.1, tt)))
 act_texts Stat w = (command_field _ (lit< tt) refl, tt)
 act_texts (Tick to) w = (command_field _ (lit< tt) refl, (decimal_field to (omega (arith, w)), tt))
 

@@ -5,11 +5,11 @@ use Rattle.std.specs.Str.{bytes_eq}
 use Rattle.std.specs.Str.Lines.{strip_carriage_return}
 use Rattle.lethe_base.specs.Keys.{Bytes}
 use Rattle.lethe_script.specs.declared.order.Act.{Act}
-use Rattle.lethe_script.specs.declared.order.Act.TheVariants.{Put, Get, Scan, Delete, Stat, Tick}
+use Rattle.lethe_script.specs.declared.order.Act.TheVariants.{Put, Get, Scan, Delete, Erase, Stat, Tick}
 use Rattle.lethe_script.specs.declared.order.Order.{Order}
 use Rattle.lethe_script.specs.declared.refused.BadLine.{BadLine}
 use Rattle.lethe_script.specs.declared.refused.Why.{Why}
-use Rattle.lethe_script.specs.declared.refused.Why.TheVariants.{Size, Byte, Command, Count}
+use Rattle.lethe_script.specs.declared.refused.Why.TheVariants.{Size, Byte, Command, Count, Range}
 use Rattle.lethe_base.specs.Results.{◌>>=◌}
 use Rattle.lethe_script.specs.Fields.{fields, is_allowed, is_comment, caller_of, key_of, number_of, time_of, value_of}
 
@@ -50,6 +50,17 @@ del_of (key ∷ []) = do
   Ok (Delete k)
 del_of _ = Err Count
 
+unfoldable pub erase_fields : Bytes → Bytes → Result Act Why
+erase_fields lo hi = do
+  l ← number_of lo
+  h ← number_of hi
+  if nat_lt l h then Ok (Erase (record { lo = l; hi = h })) else Err Range
+
+-- the fields behind `erase`: the ends of a range, which has a number in it
+unfoldable pub erase_of : List Bytes → Result Act Why
+erase_of (lo ∷ hi ∷ []) = erase_fields lo hi
+erase_of _ = Err Count
+
 -- behind `stat` there is no field
 unfoldable pub stat_of : List Bytes → Result Act Why
 stat_of [] = Ok Stat
@@ -70,6 +81,7 @@ act_of (command ∷ rest) =
     if bytes_eq command (codes "get") then get_of rest else
     if bytes_eq command (codes "scan") then scan_of rest else
     if bytes_eq command (codes "del") then del_of rest else
+    if bytes_eq command (codes "erase") then erase_of rest else
     if bytes_eq command (codes "stat") then stat_of rest else
     if bytes_eq command (codes "tick") then tick_of rest else Err Command
 

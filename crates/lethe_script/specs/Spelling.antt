@@ -7,7 +7,7 @@ use Rattle.lethe_base.specs.Keys.{Bytes}
 use Rattle.lethe_base.specs.Limits.{IsKey, IsValue, max_time}
 use Rattle.lethe_base.specs.Numbers.{IsBytes}
 use Rattle.lethe_script.specs.declared.order.Act.{Act}
-use Rattle.lethe_script.specs.declared.order.Act.TheVariants.{Put, Get, Scan, Delete, Stat, Tick}
+use Rattle.lethe_script.specs.declared.order.Act.TheVariants.{Put, Get, Scan, Delete, Erase, Stat, Tick}
 use Rattle.lethe_script.specs.declared.order.Order.{Order}
 
 -- a byte that prints and is no space
@@ -32,6 +32,7 @@ act_fields (Put key dkey value) = codes "put" ∷ field_text key ∷ decimal dke
 act_fields (Get key) = codes "get" ∷ field_text key ∷ []
 act_fields (Scan lo hi) = codes "scan" ∷ field_text lo ∷ field_text hi ∷ []
 act_fields (Delete key) = codes "del" ∷ field_text key ∷ []
+act_fields (Erase range) = codes "erase" ∷ decimal range.lo ∷ decimal range.hi ∷ []
 act_fields Stat = codes "stat" ∷ []
 act_fields (Tick to) = codes "tick" ∷ decimal to ∷ []
 
@@ -51,6 +52,7 @@ IsWritableAct (Put key dkey value) = IsWritableKey key × (dkey < 2 ^ 64) × IsW
 IsWritableAct (Get key) = IsWritableKey key
 IsWritableAct (Scan lo hi) = IsWritableKey lo × IsWritableKey hi
 IsWritableAct (Delete key) = IsWritableKey key
+IsWritableAct (Erase range) = (range.lo < range.hi) × (range.hi < 2 ^ 64)
 IsWritableAct Stat = Unit {0}
 IsWritableAct (Tick to) = to ≤ max_time
 

@@ -2,7 +2,7 @@
 use Rattle.std.specs.Prelude.{codes}
 use Rattle.lethe_base.specs.Keys.{Bytes}
 use Rattle.lethe_script.specs.declared.refused.Why.{Why}
-use Rattle.lethe_script.specs.declared.refused.Why.TheVariants.{Size, Byte, Caller, Command, Count, Number, Key, Value}
+use Rattle.lethe_script.specs.declared.refused.Why.TheVariants.{Size, Byte, Caller, Command, Count, Number, Key, Value, Range}
 
 -- what is wrong with a line, as it is printed
 abbrev pub why_text : Why → Bytes
@@ -14,3 +14,4 @@ why_text Count = codes "count"
 why_text Number = codes "number"
 why_text Key = codes "key"
 why_text Value = codes "value"
+why_text Range = codes "range"

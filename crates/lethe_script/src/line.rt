@@ -2,12 +2,13 @@
 ghost use Rattle.std.specs.Prelude.{◌≡◌, map};
 ghost use Rattle.std.specs.List.{list_all};
 ghost use Rattle.lethe_script.specs.Fields.{is_allowed};
-ghost use Rattle.lethe_script.specs.Grammar.{line_of, request_of, caller_and_act, act_of, put_of, put_fields, get_of, scan_of, scan_fields, del_of, stat_of, tick_of};
+ghost use Rattle.lethe_script.specs.Grammar.{line_of, request_of, caller_and_act, act_of, put_of, put_fields, get_of, scan_of, scan_fields, del_of, erase_fields, erase_of, stat_of, tick_of};
 ghost use Rattle.lethe_script.specs.Reading.{GivesLine};
 
 use crate::field::{caller, fields_of, is_comment, key, read_number, time, value};
 use crate::order::Act;
 use crate::refused::{LineRefused, Why};
+use lethe_base::Range;
 use std::alloc::Global;
 
 /// The caller and the act of a line, or nothing where the line is skipped.
@@ -63,6 +64,7 @@ fn act(alloc: Global, fields: &[&[u8]]) -> Result<Act, LineRefused>
         [command, rest @ ..] if *command == b"get".as_slice() => get(alloc, rest),
         [command, rest @ ..] if *command == b"scan".as_slice() => scan(alloc, rest),
         [command, rest @ ..] if *command == b"del".as_slice() => delete(alloc, rest),
+        [command, rest @ ..] if *command == b"erase".as_slice() => erase(rest),
         [command, rest @ ..] if *command == b"stat".as_slice() => stat(rest),
         [command, rest @ ..] if *command == b"tick".as_slice() => tick(rest),
         _ => Err(LineRefused::Bad(Why::Command)),
@@ -138,6 +140,29 @@ fn delete(alloc: Global, fields: &[&[u8]]) -> Result<Act, LineRefused>
             key: key(alloc, key_field)?,
         }),
         _ => Err(LineRefused::Bad(Why::Count)),
+    }
+}
+
+/// What the fields behind `erase` ask for.
+#[tactic(auto, unfolding(crate::specs::Grammar::erase_of))]
+fn erase(fields: &[&[u8]]) -> Result<Act, LineRefused>
+    ensures { GivesLine (λ act. act) result (erase_of (map (λ field. field.now) fields.now)) }
+{
+    match fields {
+        [lo, hi] => erase_fields(lo, hi),
+        _ => Err(LineRefused::Bad(Why::Count)),
+    }
+}
+
+#[tactic(auto, unfolding(crate::specs::Grammar::erase_fields))]
+fn erase_fields(lo_field: &[u8], hi_field: &[u8]) -> Result<Act, LineRefused>
+    ensures { GivesLine (λ act. act) result (erase_fields lo_field.now hi_field.now) }
+{
+    let lo = read_number(lo_field)?;
+    let hi = read_number(hi_field)?;
+    match Range::new(lo, hi) {
+        Some(range) => Ok(Act::Erase { range }),
+        None => Err(LineRefused::Bad(Why::Range)),
     }
 }
 

@@ -1,6 +1,6 @@
 //! What a script asks for.
 
-use lethe_base::{Key, List, Value};
+use lethe_base::{Key, List, Range, Value};
 use lethe_time::Time;
 
 /// What one line asks for.
@@ -14,6 +14,8 @@ pub enum Act {
     Scan { lo: Key, hi: Key },
     /// Remove a key.
     Delete { key: Key },
+    /// Remove the keys whose delete keys lie in a range.
+    Erase { range: Range },
     /// Tell of the store as a whole.
     Stat,
     /// Move the clock to a time.

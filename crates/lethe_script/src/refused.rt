@@ -23,6 +23,8 @@ pub enum Why {
     Key,
     /// A field should be a value: at most 4,096 bytes, or `=` and two lower-case hexadecimal digits for each.
     Value,
+    /// The first number of an erase isn't below its second. This is tested behind all fields.
+    Range,
 }
 
 impl Why {
@@ -41,6 +43,7 @@ impl Why {
             Why::Number => "number",
             Why::Key => "key",
             Why::Value => "value",
+            Why::Range => "range",
         }
     }
 }

@@ -69,6 +69,31 @@ returns-in-Delete-clause-told g c =
     (change_tells g.D.Disk.tells Ports act call refl refl old new (g.D.Disk.port_faults c.args.port.now) (g.D.Disk.port_faults c.delete.new.port) c.delete.result c.delete.ensures.answers c.delete.ensures.place c.delete.ensures.why
     (λ at was. (c.delete.ensures.stopped at was).0)))
 
+pub returns-in-Erase-clause-served : goal.returns-in-Erase-clause-served
+returns-in-Erase-clause-served g c = λ told begin from h caller on.
+    let old = view_of c.args.engine.now.core in
+    let new = view_of c.erase.new.self.core in
+    let Tells = g.D.Disk.tells in
+    let Ports = g.D.Disk.ports_fail in
+    let act = acts.Erase c.in-Erase.range in
+    let call = calls.Erase c.in-Erase.range in
+    subst (λ r. Outcome Ports begin h caller c.args.act r old new) (sym c.changed-in-Erase.ensures)
+    (subst (λ a. Outcome Ports begin h caller a (reply_of c.erase.result) old new) (sym c.in-Erase.is)
+    (changes Tells Ports told begin from h caller act call refl refl old new on (few_frozen Tells old c.requires.sound) (merges_are_short Tells begin.config h new told)
+    (g.D.Disk.port_faults c.args.port.now) (g.D.Disk.port_faults c.erase.new.port) c.erase.result c.erase.ensures.answers c.erase.ensures.place c.erase.ensures.why))
+
+pub returns-in-Erase-clause-told : goal.returns-in-Erase-clause-told
+returns-in-Erase-clause-told g c =
+    let old = view_of c.args.engine.now.core in
+    let new = view_of c.erase.new.self.core in
+    let Ports = g.D.Disk.ports_fail in
+    let act = acts.Erase c.in-Erase.range in
+    let call = calls.Erase c.in-Erase.range in
+    subst (λ r. Tells Ports c.args.act r old new) (sym c.changed-in-Erase.ensures)
+    (subst (λ a. Tells Ports a (reply_of c.erase.result) old new) (sym c.in-Erase.is)
+    (change_tells g.D.Disk.tells Ports act call refl refl old new (g.D.Disk.port_faults c.args.port.now) (g.D.Disk.port_faults c.erase.new.port) c.erase.result c.erase.ensures.answers c.erase.ensures.place c.erase.ensures.why
+    (λ at was. (c.erase.ensures.stopped at was).0)))
+
 pub returns-in-Ok-clause-served : goal.returns-in-Ok-clause-served
 returns-in-Ok-clause-served g c = λ told begin from h caller on.
     let view = view_of c.args.engine.now.core in
