@@ -46,6 +46,7 @@ fn act_shown(alloc: Global, act: &Act) -> Result<String, Fail> {
             let key = text_of(key.bytes())?;
             Ok(format!(in alloc; "del {key}")?)
         }
+        Act::Erase { range } => Ok(format!(in alloc; "erase {} {}", range.lo(), range.hi())?),
         Act::Stat => Ok(format!(in alloc; "stat")?),
         Act::Tick { to } => Ok(format!(in alloc; "tick {}", to.get())?),
     }
@@ -99,6 +100,10 @@ const READ: &[(&[u8], &[u8])] = &[
         b"1 tick 0\n1 tick 4611686018427387904",
         b"1:1 tick 0;2:1 tick 4611686018427387904;",
     ),
+    (
+        b"1 erase 1 2\n1 erase 0 18446744073709551615",
+        b"1:1 erase 1 2;2:1 erase 0 18446744073709551615;",
+    ),
 ];
 
 #[test]
@@ -131,7 +136,18 @@ const BAD: &[(&[u8], u64, &[u8])] = &[
     (b"9 frob\n", 1, b"caller"),
     (b"1 frob\n", 1, b"command"),
     (b"1\n", 1, b"command"),
-    (b"1 erase 1 2\n", 1, b"command"),
+    (b"1 ERASE 1 2\n", 1, b"command"),
+    (b"1 erase\n", 1, b"count"),
+    (b"1 erase 1\n", 1, b"count"),
+    (b"1 erase x 3 4\n", 1, b"count"),
+    (b"1 erase 1 z\n", 1, b"number"),
+    (b"1 erase 5 z\n", 1, b"number"),
+    (b"1 erase z 0\n", 1, b"number"),
+    (b"1 erase 01 2\n", 1, b"number"),
+    (b"1 erase 0 18446744073709551616\n", 1, b"number"),
+    (b"1 erase 20 10\n", 1, b"range"),
+    (b"1 erase 5 5\n", 1, b"range"),
+    (b"1 erase 18446744073709551615 0\n", 1, b"range"),
     (b"1 tick\n", 1, b"count"),
     (b"1 tick 5 5\n", 1, b"count"),
     (b"1 tick 4611686018427387905\n", 1, b"number"),

@@ -105,3 +105,16 @@ fn a_generated_script_that_is_stopped_loses_nothing_that_was_answered(
     }
     Ok(())
 }
+
+#[test]
+fn a_generated_script_with_erases_that_is_stopped_loses_nothing_that_was_answered(
+    rt: HostRuntime,
+) -> Result<(), Fail> {
+    let alloc = rt.alloc();
+    let made = Generated::erasing(alloc, 14, 4)?;
+    let whole = vec![in alloc; made.whole(alloc)?]?;
+    for runs in [whole.as_slice(), made.parts.as_slice()] {
+        assert!(rt; stop_at_each(alloc, &made, runs)? > 200);
+    }
+    Ok(())
+}

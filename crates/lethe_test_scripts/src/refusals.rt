@@ -5,9 +5,13 @@ use std::alloc::Global;
 use std::test::Fail;
 
 /// Bytes that are no script, and what is said of them.
-const BAD_SCRIPTS: [(&[u8], &str); 25] = [
+const BAD_SCRIPTS: [(&[u8], &str); 29] = [
     (b"1 frob\n", "line 1 bad command\n"),
-    (b"1 erase 1 2\n", "line 1 bad command\n"),
+    (b"1 erase 20 10\n", "line 1 bad range\n"),
+    (b"1 erase 5 5\n", "line 1 bad range\n"),
+    (b"1 erase x 3 4\n", "line 1 bad count\n"),
+    (b"1 erase 1 z\n", "line 1 bad number\n"),
+    (b"1 unerase 1 2\n", "line 1 bad command\n"),
     (b"1 tick\n", "line 1 bad count\n"),
     (b"1 tick 5 5\n", "line 1 bad count\n"),
     (b"1 tick 4611686018427387905\n", "line 1 bad number\n"),

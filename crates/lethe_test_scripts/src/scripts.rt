@@ -4,7 +4,7 @@ use lethe_rows::must_print;
 use std::test::Fail;
 
 /// Scripts, and what is printed of them.
-const ROWS: [(&str, &str); 16] = [
+const ROWS: [(&str, &str); 20] = [
     ("", ""),
     (
         "1 put a 5 x\n1 get a\n1 get b\n",
@@ -61,6 +61,25 @@ const ROWS: [(&str, &str); 16] = [
     (
         "1 stat\n1 put a 5 x\n1   stat \n",
         "1 at 0 stat clock 0 pins 0 pending 0 files 0 tombs 0\n1 ok 1\n1 at 1 stat clock 0 pins 0 pending 0 files 0 tombs 0\n",
+    ),
+    // The upper end of an erase is excluded, and what is put behind it stays.
+    (
+        "1 put a 9 p\n1 put b 10 q\n1 put c 19 r\n1 put d 20 s\n1 erase 10 20\n1 scan a e\n",
+        "1 ok 1\n1 ok 2\n1 ok 3\n1 ok 4\n1 ok 5\n1 at 5 scan 2 a 9 p d 20 s\n",
+    ),
+    (
+        "1 put a 15 x\n1 erase 10 20\n1 put a 15 y\n1 get a\n",
+        "1 ok 1\n1 ok 2\n1 ok 3\n1 at 3 val 15 y\n",
+    ),
+    // An erase is still to be done while a put in front of it may be there.
+    (
+        "1 erase 10 20\n1 stat\n1 put a 15 x\n1 erase 10 20\n1 erase 5 6\n1 stat\n",
+        "1 ok 1\n1 at 1 stat clock 0 pins 0 pending 0 files 0 tombs 0\n1 ok 2\n1 ok 3\n1 ok 4\n1 at 4 stat clock 0 pins 0 pending 2 files 0 tombs 0\n",
+    ),
+    // Where retention is in days.
+    (
+        "# retention in days\n1 put user:17 20240 =7b7d\n1 put user:18 20241 alice\n1 erase 20240 20241\n1 scan user:0 user:9\n",
+        "1 ok 1\n1 ok 2\n1 ok 3\n1 at 3 scan 1 user:18 20241 alice\n",
     ),
     (
         "1 put user:17 20240 rent\n1 put user:18 20241 alice\n1 del user:17\n1 scan user:0 user:9\n",

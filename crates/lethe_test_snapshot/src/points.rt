@@ -1,80 +1,13 @@
 //! Snapshots that are read once the state has changed.
-ghost use Rattle.std.specs.Prelude.{◌<◌, IfOk, OnOk};
-ghost use Rattle.lethe_base.specs.Limits.{max_place};
-ghost use Rattle.lethe_segment.specs.Records.{RecordHasSpelling};
 ghost use Rattle.lethe_state.specs.Writable.{IsWritable};
 
-use crate::common::{erased_state, key_of, new_state};
-use lethe_base::Value;
+use crate::common::{delete, filled, key_of, new_state, put, state_at};
 use lethe_memdisk::{MemDisk, MemPort};
-use lethe_segment::Record;
 use lethe_snapshot::Snapshot;
 use lethe_state::State;
 use lethe_version::Version;
 use std::alloc::Global;
 use std::test::Fail;
-
-fn enter(alloc: Global, state: &mut State, next: Record) -> Result<(), Fail>
-    requires writable { IsWritable state.old }
-    requires fits { state.old.count < max_place }
-    requires spelled { RecordHasSpelling next }
-    ensures { OnOk result (IsWritable state.new) }
-{
-    let (_, end) = state.prepare(alloc, &next)?;
-    state.enter(next, end);
-    Ok(())
-}
-
-/// A put of the key, with the delete key 5 and itself as its value.
-fn put(alloc: Global, state: &mut State, text: &str) -> Result<(), Fail>
-    requires { IsWritable state.old }
-    ensures { OnOk result (IsWritable state.new) }
-{
-    state.may_change()?;
-    let value = Value::new(text.as_bytes().to_vec(alloc)?)?;
-    let next = state.put_record(key_of(alloc, text)?, 5, value);
-    enter(alloc, state, next)
-}
-
-fn delete(
-    alloc: Global,
-    state: &mut State,
-    version: &Version<MemDisk>,
-    text: &str,
-) -> Result<(), Fail>
-    requires { IsWritable state.old }
-    ensures { OnOk result (IsWritable state.new) }
-{
-    state.may_change()?;
-    let next = state.delete_record(version, key_of(alloc, text)?);
-    enter(alloc, state, next)
-}
-
-fn freeze(alloc: Global, state: &mut State) -> Result<(), Fail>
-    requires { IsWritable state.old }
-    ensures { OnOk result (IsWritable state.new) }
-{
-    match state.frozen() {
-        None => {
-            let step = state.freezing(alloc)?;
-            state.freeze(alloc, step);
-            Ok(())
-        }
-        Some(_) => Err(Fail::new("no frozen buffer")),
-    }
-}
-
-/// The put of `a` is in the frozen buffer, that of `b` in the active one.
-fn filled(alloc: Global, new: State) -> Result<State, Fail>
-    requires { IsWritable new }
-    ensures { IfOk result IsWritable }
-{
-    let mut state = new;
-    put(alloc, &mut state, "a")?;
-    freeze(alloc, &mut state)?;
-    put(alloc, &mut state, "b")?;
-    Ok(state)
-}
 
 /// Both are deleted, and `c` is put.
 fn change(alloc: Global, state: &mut State, version: &Version<MemDisk>) -> Result<(), Fail>
@@ -144,7 +77,7 @@ fn shows_past(
 fn a_snapshot_shows_what_was_there_at_its_point(rt: HostRuntime) -> Result<(), Fail> {
     let alloc = rt.alloc();
     let version = Version::of(alloc, Vec::new(alloc))?;
-    let mut state = filled(alloc, new_state(alloc)?)?;
+    let mut state = filled(alloc, new_state(alloc)?, "a", "b")?;
     let snapshot = Snapshot::of(alloc, &state, &version, 7, 90)?;
     let shown = shows_past(alloc, &mut state, &version, &snapshot);
     let (point, limit) = (snapshot.point(), snapshot.limit());
@@ -159,7 +92,7 @@ fn a_snapshot_shows_what_was_there_at_its_point(rt: HostRuntime) -> Result<(), F
 fn a_snapshot_has_the_erases_that_are_pending(rt: HostRuntime) -> Result<(), Fail> {
     let alloc = rt.alloc();
     let version = Version::of(alloc, Vec::new(alloc))?;
-    let state = filled(alloc, erased_state(alloc)?)?;
+    let state = filled(alloc, state_at(alloc, 0, Some(0))?, "a", "b")?;
     assert!(rt; shows_now(alloc, &state, &version, "b")?);
     Ok(())
 }

@@ -4,7 +4,7 @@ ghost use Rattle.lethe_core.specs.Running.{IsSound};
 ghost use Rattle.lethe_core.specs.View.{view_of};
 
 use crate::common::{key_of, opened};
-use lethe_base::{Refused, Value};
+use lethe_base::{Range, Refused, Value};
 use lethe_disk::Disk;
 use lethe_drive::{Event, Reply, Time, drive};
 use lethe_engine::Engine;
@@ -17,6 +17,7 @@ use std::test::Fail;
 enum Ask {
     Put(&'static str),
     Delete(&'static str),
+    Erase(u64, u64),
     Tick(u64),
     Get(&'static str),
     Scan(&'static str, &'static str),
@@ -83,6 +84,9 @@ fn event_of(alloc: Global, ask: Ask) -> Result<Event, Fail> {
         },
         Ask::Delete(text) => Event::Delete {
             key: key_of(alloc, text)?,
+        },
+        Ask::Erase(lo, hi) => Event::Erase {
+            range: Range::new(lo, hi).ok_or("a range")?,
         },
         Ask::Tick(to) => Event::Tick {
             to: Time::new(to).ok_or("a time")?,
@@ -240,6 +244,42 @@ fn a_tick_takes_a_place(rt: HostRuntime) -> Result<(), Fail> {
     let alloc = rt.alloc();
     let disk = MemDisk::new(alloc, 1000, Vec::new(alloc))?;
     run_over_two_files(alloc, disk, &[(&TICKS, &TICKS_TOLD, 1)])
+}
+
+/// A job that was begun before an erase doesn't apply it, and no file is swept for it.
+const ERASED: [Ask; 11] = [
+    Ask::Begin,
+    Ask::Erase(7, 8),
+    Ask::Get("a"),
+    Ask::WriteOut(0),
+    Ask::Install(0),
+    Ask::Get("a"),
+    Ask::Scan("a", "z"),
+    Ask::Freeze,
+    Ask::Flush,
+    Ask::Tick(99),
+    Ask::Tick(100),
+];
+
+const ERASED_TOLD: [Told; 11] = [
+    Told::Job(0),
+    Told::Place(9),
+    Told::Found(None),
+    Told::Flag(true),
+    Told::Unit,
+    Told::Found(None),
+    Told::Pairs(0),
+    Told::Flag(true),
+    Told::Flag(true),
+    Told::Ticked(10, 99),
+    Told::Refused(Refused::Undone { erase: 9 }),
+];
+
+#[test]
+fn a_job_keeps_the_erases_of_its_begin(rt: HostRuntime) -> Result<(), Fail> {
+    let alloc = rt.alloc();
+    let disk = MemDisk::new(alloc, 1000, Vec::new(alloc))?;
+    run_over_two_files(alloc, disk, &[(&ERASED, &ERASED_TOLD, 1)])
 }
 
 const ENDS: [Ask; 11] = [

@@ -14,7 +14,7 @@ use lethe_manifest::{Manifest, read_manifest};
 use lethe_mem::Buffer;
 use lethe_memdisk::MemDisk;
 use lethe_segment::{Record, new_segment};
-use lethe_state::State;
+use lethe_state::{Prepared, State};
 use lethe_version::Version;
 use std::alloc::Global;
 use std::process::Abort;
@@ -40,8 +40,8 @@ fn enter(alloc: Global, state: &mut State, next: Record) -> Result<(), Fail>
     requires spelled { RecordHasSpelling next }
     ensures { OnOk result (IsWritable state.new) }
 {
-    let (_, end) = state.prepare(alloc, &next)?;
-    state.enter(next, end);
+    let Prepared { end, pending, .. } = state.prepare(alloc, &next)?;
+    state.enter(next, end, pending);
     Ok(())
 }
 

@@ -1,0 +1,5 @@
+use Rattle.lethe_state.specs.Writable.{IsWritable}
+use Rattle.lethe_test_snapshot.proofs.places.reads_again.Given as goal
+
+abbrev pub invariant-loop-text : goal.invariant-loop-text
+invariant-loop-text l = IsWritable l.state

@@ -1,0 +1,104 @@
+//! The limit of a pin, by what is older than the clock.
+
+use crate::common::{freeze, put_since, state_at};
+use crate::files::version_of;
+use lethe_memdisk::MemDisk;
+use lethe_snapshot::limit_of;
+use lethe_version::Version;
+use std::alloc::Global;
+use std::test::Fail;
+
+/// What a store holds at time 50, with a threshold of 100, and the limit of a pin that is made then.
+struct Row {
+    /// The time of the active buffer's put, where it has one.
+    active: Option<u8>,
+    /// The time of the frozen buffer's put.
+    frozen: Option<u8>,
+    /// The time of the pending erase, where there is one.
+    erase: Option<u8>,
+    /// Whether there is the file, one of whose puts has the time 20.
+    file: bool,
+    limit: u64,
+}
+
+const ROWS: [Row; 8] = [
+    // Nothing but puts without a time.
+    Row {
+        active: None,
+        frozen: None,
+        erase: None,
+        file: false,
+        limit: 150,
+    },
+    Row {
+        active: Some(45),
+        frozen: None,
+        erase: None,
+        file: false,
+        limit: 145,
+    },
+    Row {
+        active: Some(45),
+        frozen: Some(40),
+        erase: None,
+        file: false,
+        limit: 140,
+    },
+    Row {
+        active: None,
+        frozen: Some(40),
+        erase: Some(30),
+        file: false,
+        limit: 130,
+    },
+    Row {
+        active: Some(45),
+        frozen: Some(40),
+        erase: Some(30),
+        file: true,
+        limit: 120,
+    },
+    // Each alone.
+    Row {
+        active: None,
+        frozen: Some(0),
+        erase: None,
+        file: false,
+        limit: 100,
+    },
+    Row {
+        active: None,
+        frozen: None,
+        erase: Some(0),
+        file: false,
+        limit: 100,
+    },
+    Row {
+        active: None,
+        frozen: None,
+        erase: None,
+        file: true,
+        limit: 120,
+    },
+];
+
+fn limit_with(alloc: Global, row: &Row) -> Result<u64, Fail> {
+    let mut state = state_at(alloc, 50, row.erase)?;
+    put_since(alloc, &mut state, "e", row.frozen)?;
+    freeze(alloc, &mut state)?;
+    put_since(alloc, &mut state, "f", row.active)?;
+    let version = if row.file {
+        version_of::<MemDisk>(alloc)?
+    } else {
+        Version::of(alloc, Vec::new(alloc))?
+    };
+    Ok(limit_of(&state, &version))
+}
+
+#[test]
+fn a_limit_is_a_threshold_later_than_the_oldest_obligation(rt: HostRuntime) -> Result<(), Fail> {
+    for row in &ROWS {
+        assert_eq!(rt; limit_with(rt.alloc(), row)?, row.limit);
+    }
+    Ok(())
+}
