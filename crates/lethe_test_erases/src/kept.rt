@@ -1,0 +1,98 @@
+//! Which erases are still to be done, and which of them a manifest keeps.
+
+use crate::common::{empty_disk, erases_of, key_of, opened};
+use lethe_base::{Range, Value};
+use lethe_drive::{Event, drive};
+use lethe_memdisk::MemDisk;
+use std::alloc::Global;
+use std::test::Fail;
+
+/// What is done to a store. A put has the delete key 15, and an erase the range from 10 up to 20.
+#[derive(Clone, Copy, Debug)]
+enum Step {
+    Put(&'static str),
+    Erase,
+    Freeze,
+    Flush,
+    Begin,
+    Install,
+}
+
+/// A step, how many erases are still to be done behind it, and the places of those that the manifest has then.
+type Row = (Step, u64, &'static [u64]);
+
+const ROWS: [Row; 14] = [
+    // Nothing waits for an erase with no put in front of it.
+    (Step::Erase, 0, &[]),
+    (Step::Put("a"), 0, &[]),
+    // A freeze leaves the manifest's erases as they are, and a flush adds those that the segments record.
+    (Step::Freeze, 0, &[]),
+    (Step::Flush, 0, &[1]),
+    // The file is swept of the first erase, and the put in the segment waits for the second.
+    (Step::Put("b"), 0, &[1]),
+    (Step::Erase, 1, &[1]),
+    (Step::Erase, 2, &[1]),
+    (Step::Freeze, 2, &[1]),
+    // The second put is gone with the flush, and the file still waits for both.
+    (Step::Flush, 2, &[1, 4, 5]),
+    (Step::Put("c"), 2, &[1, 4, 5]),
+    (Step::Freeze, 2, &[1, 4, 5]),
+    (Step::Flush, 2, &[1, 4, 5]),
+    // None leaves while a job is in flight, and with its outputs all are done.
+    (Step::Begin, 2, &[1, 4, 5]),
+    (Step::Install, 0, &[]),
+];
+
+fn event_of(alloc: Global, step: Step) -> Result<Event, Fail> {
+    Ok(match step {
+        Step::Put(key) => Event::Put {
+            key: key_of(alloc, key)?,
+            dkey: 15,
+            value: Value::new(b"x".as_slice().to_vec(alloc)?)?,
+        },
+        Step::Erase => Event::Erase {
+            range: Range::new(10, 20).ok_or("a range")?,
+        },
+        Step::Freeze => Event::Freeze,
+        Step::Flush => Event::Flush,
+        Step::Begin => Event::Begin,
+        Step::Install => Event::Install { job: 0 },
+    })
+}
+
+/// How many erases are still to be done behind the first steps, and the disk then.
+fn behind(alloc: Global, count: usize) -> Result<(u64, MemDisk), Fail> {
+    let mut engine = opened(alloc, empty_disk(alloc)?)?;
+    let mut events = Vec::new(alloc);
+    for (step, _, _) in ROWS.iter().take(count) {
+        events.push(event_of(alloc, *step)?)?;
+    }
+    let mut port = engine.new_port(alloc)?;
+    drive(&mut engine, alloc, &mut port, events)?;
+    Ok((engine.stat().pending, engine.into_disk()))
+}
+
+#[test]
+fn erases_leave_with_an_install_once_nothing_waits_for_them(rt: HostRuntime) -> Result<(), Fail> {
+    let alloc = rt.alloc();
+    let mut count: usize = 0;
+    for (_, pending, kept) in &ROWS {
+        count = count.saturating_add(1);
+        let (told, mut disk) = behind(alloc, count)?;
+        assert_eq!(rt; told, *pending);
+        assert_eq!(rt; erases_of(alloc, &mut disk)?.as_slice(), *kept);
+    }
+    Ok(())
+}
+
+/// An opening keeps those for which the file waits.
+#[test]
+fn erases_that_are_done_leave_with_an_opening(rt: HostRuntime) -> Result<(), Fail> {
+    let alloc = rt.alloc();
+    let (_, disk) = behind(alloc, 9)?;
+    let engine = opened(alloc, disk)?;
+    assert_eq!(rt; engine.stat().pending, 2);
+    let mut disk = engine.into_disk();
+    assert_eq!(rt; erases_of(alloc, &mut disk)?.as_slice(), [4, 5].as_slice());
+    Ok(())
+}
