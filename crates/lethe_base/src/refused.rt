@@ -26,7 +26,4 @@ pub enum Refused {
     NoMemory,
     /// A page has other bytes than its file says.
     Damaged { name: Name },
-    /// A tick's time is a threshold or more above that of the erase at this place, which is still to be done: a file isn't swept up to it, or a put of
-    /// a segment is older than it. Such an erase is done by merges alone, until files are swept for it.
-    Undone { erase: u64 },
 }

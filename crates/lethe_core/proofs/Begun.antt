@@ -1,50 +1,18 @@
 -- A job that was begun is in flight.
-use Rattle.std.proofs.Common.{◌≡◌, ◌≤◌, ◌<◌, ◌+◌, ◌++◌, ℕ, List, [], All, Some, None, refl, subst, sym, arith}
-use Rattle.std.specs.Prelude.{Contains}
-use Rattle.std.specs.Prelude.{nat_le}
-use Rattle.std.proofs.lemmas.List.Elements.{All-contains, All-filter, All-weaker}
+use Rattle.std.proofs.Common.{◌≡◌, ◌≤◌, ◌+◌, ◌++◌, ℕ, [], All, Some, None, refl, subst}
 use Rattle.lethe_base.specs.History.{History}
-use Rattle.lethe_base.specs.Layout.{entries_of}
-use Rattle.lethe_base.specs.Limits.{max_time}
+use Rattle.lethe_base.specs.Limits.{max_place, max_time}
 use Rattle.lethe_base.specs.declared.config.Fields.{Fields}
-use Rattle.lethe_base.specs.declared.entry.Entry.{Entry}
-use Rattle.lethe_base.specs.declared.pending.Pending.{Pending}
 use Rattle.lethe_disk.specs.Disk.{IsIdle, Seen}
-use Rattle.lethe_base.specs.Erases.{IsErase}
-use Rattle.lethe_stored.specs.Files.{StoredFile, file_of}
-use Rattle.lethe_stored.specs.Kept.{IsFor}
-use Rattle.lethe_stored.specs.Stored.{IsCoherent, Stored, count_of}
-use Rattle.lethe_stored.proofs.Lists.{all_from, from_flat, in_flat}
+use Rattle.lethe_stored.specs.Stored.{Stored}
 use Rattle.lethe_advance.specs.Settled.{AreDrawn, AreUncited, HasOnly, names_in}
 use Rattle.lethe_clean.specs.Copied.{IsCopied}
-use Rattle.lethe_follows.specs.Merged.{entries_in, erases_upto, inputs_of}
-use Rattle.lethe_follows.proofs.Merging.{all_counted}
-use Rattle.lethe_install.proofs.Beside.{input_in}
-use Rattle.lethe_state.specs.Writable.{IsWritable}
-use Rattle.lethe_state.specs.declared.state.State.{State}
-use Rattle.lethe_job.specs.Tasks.{IsBegunIn, PlainTask, inputs_in}
+use Rattle.lethe_job.specs.Works.{IsBegunIn, IsInLevels, PlainTask, applied_upto, erases_of}
 use Rattle.lethe_core.specs.Running.{Holds, IsFlying, IsRunning, IsSound}
-use Rattle.lethe_core.specs.StandsNow.{IsCounted, StandsNow}
+use Rattle.lethe_core.specs.StandsNow.{StandsNow}
 use Rattle.lethe_core.specs.View.{Flying, View, beside_at, loose_in}
+use Rattle.lethe_core.proofs.Installing.{planned_counted, planned_for}
 use Rattle.lethe_core.proofs.Standing.{idle_back, next_stands_now, running_back, sound_back, stands_back, stands_for, stands_holds}
-
--- the inputs are files that are stored, whose entries' places are all counted
-begun_counted : (h : History) (s : Stored) (task : PlainTask) → IsCoherent s → IsFor h s → IsBegunIn s task → IsCounted task
-begun_counted h s task coherent stands is =
-    let inputs : inputs_in task ≡ inputs_of is.m = λ i. is.is.sources i ++ is.is.met i in
-    all_from (λ (entry : Entry). entry.seq ≤ task.upto) (entries_in (inputs_in task)) (λ entry there.
-    let found = from_flat (λ (file : StoredFile). entries_of (file_of file)) (inputs_in task) entry there in
-    let file = input_in s coherent is.m is.is.merge found.0 (subst (λ files. Contains files found.0) inputs found.1) in
-    let counted = All-contains (λ (entry : Entry). entry.seq ≤ count_of s) (entries_in s.files) entry (all_counted h s coherent stands)
-    (in_flat (λ (file : StoredFile). entries_of (file_of file)) s.files found.0 entry file found.2) in
-    let upto = is.counted in
-    omega (arith, counted, upto))
-
--- the times of its erases are within their limit
-pub all_timed : (state : State) → IsWritable state → (erases : List Pending) → erases ≡ erases_upto state.count state.pending → All (λ (erase : Pending). erase.time ≤ max_time) erases
-all_timed state writable erases is = subst (All (λ (erase : Pending). erase.time ≤ max_time)) (sym is)
-    (All-filter (λ (erase : Pending). nat_le erase.seq state.count) (λ (erase : Pending). erase.time ≤ max_time) state.pending
-    (All-weaker IsErase (λ (erase : Pending). erase.time ≤ max_time) (λ erase is. is.time) state.pending writable.pending.each))
 
 module _ (Tells : Type 0) (old : View) (task : PlainTask) (free : old.flight ≡ None) (runs : old.state.stopped ≡ None) (sound : IsSound Tells old) (begun : (s : Stored) → Holds old s → IsBegunIn s task) where
   abbrev flying : Flying
@@ -66,7 +34,7 @@ module _ (Tells : Type 0) (old : View) (task : PlainTask) (free : old.flight ≡
         rising = running.rising;
         ends = running.ends;
         current = running.current;
-        tasked = (is.m, is.is);
+        tasked = planned_for s task is.planned;
       }
 
   pub begun_holds : (s : Stored) → Holds old s → Holds now s
@@ -77,21 +45,18 @@ module _ (Tells : Type 0) (old : View) (task : PlainTask) (free : old.flight ≡
       let s = stands.stored in
       let holds = stands_holds config h old stands runs in
       let for = stands_for config h old stands runs in
-      next_stands_now config h old now stands runs s refl refl for (begun_holds s holds) (begun_counted h s task holds.remembers.coherent for (begun s holds))
+      next_stands_now config h old now stands runs s refl refl for (begun_holds s holds) (planned_counted h s task holds.remembers.coherent for (begun s holds).planned)
+      stands.recorded
 
-  begun_flies : task.level < old.state.manifest.config.levels → task.upto ≡ old.state.count → task.erases ≡ erases_upto old.state.count old.state.pending → IsFlying old.state flying
-  begun_flies level upto erases = record {
-    level = level;
-    upto = let few = sound.writable.count in omega (arith, upto, few);
-    erases = all_timed old.state sound.writable task.erases erases;
-  }
+  begun_flies : IsInLevels old.state.manifest.config.levels task → applied_upto task ≤ max_place → All (λ erase. erase.time ≤ max_time) (erases_of task) → IsFlying old.state flying
+  begun_flies levels upto times = record { levels = levels; upto = upto; erases = times }
 
-  pub begun_sound : task.level < old.state.manifest.config.levels → task.upto ≡ old.state.count → task.erases ≡ erases_upto old.state.count old.state.pending → IsSound Tells now
-  begun_sound level upto erases = record {
+  pub begun_sound : IsInLevels old.state.manifest.config.levels task → applied_upto task ≤ max_place → All (λ erase. erase.time ≤ max_time) (erases_of task) → IsSound Tells now
+  begun_sound levels upto times = record {
     writable = sound.writable;
     small = sound.small;
     count = sound.count;
-    flies = begun_flies level upto erases;
+    flies = begun_flies levels upto times;
     drawn = subst (λ flight. AreDrawn old.state.next (old.retired ++ names_in (loose_in flight))) free sound.drawn;
     held = λ told. let held = sound.held told in (held.0, held.1, λ runs. begun_running held.0 (record { remembers = held.1; running = held.2 runs }));
   }

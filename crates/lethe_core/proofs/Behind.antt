@@ -3,7 +3,7 @@ use Rattle.std.proofs.Common.{◌≡◌, ◌≤◌, ◌⊎◌, inl, inr, ℕ, �
 use Rattle.std.specs.Prelude.{option_map}
 use Rattle.std.specs.Option.{option_map_or, option_or}
 use Rattle.lethe_base.specs.declared.refused.Refused.{Refused}
-use Rattle.lethe_base.specs.declared.refused.Refused.TheVariants.{Fault, Stopped, Backwards, Pinned, NothingDue, Cancelled, Exhausted, ReadFault, NoMemory, Damaged, Undone}
+use Rattle.lethe_base.specs.declared.refused.Refused.TheVariants.{Fault, Stopped, Backwards, Pinned, NothingDue, Cancelled, Exhausted, ReadFault, NoMemory, Damaged}
 use Rattle.lethe_cover.specs.Steps.{with_failed}
 use Rattle.lethe_state.specs.declared.state.State.{State}
 use Rattle.lethe_core.specs.Asked.{failure_of}
@@ -34,7 +34,6 @@ reason_behind Short Other old mid before now stopped count wider NoMemory is = t
 reason_behind Short Other old mid before now stopped count wider (Backwards clock) is = is
 reason_behind Short Other old mid before now stopped count wider (Pinned pin limit) is = is
 reason_behind Short Other old mid before now stopped count wider NothingDue is = is
-reason_behind Short Other old mid before now stopped count wider (Undone erase) is = is
 reason_behind Short Other old mid before now stopped count wider (Cancelled begun other) is = is
 reason_behind Short Other old mid before now stopped count wider (ReadFault b a) is = is
 reason_behind Short Other old mid before now stopped count wider (Damaged name) is = is
@@ -48,7 +47,6 @@ failure_since earlier (Stopped at) = refl
 failure_since earlier (Backwards clock) = refl
 failure_since earlier (Pinned pin limit) = refl
 failure_since earlier NothingDue = refl
-failure_since earlier (Undone erase) = refl
 failure_since earlier (Cancelled begun now) = refl
 failure_since earlier (Exhausted last) = refl
 failure_since earlier (ReadFault before now) = refl
@@ -82,7 +80,6 @@ reason_since Short state before now earlier NoMemory is = is
 reason_since Short state before now earlier (Backwards clock) is = is
 reason_since Short state before now earlier (Pinned pin limit) is = is
 reason_since Short state before now earlier NothingDue is = is
-reason_since Short state before now earlier (Undone erase) is = is
 reason_since Short state before now earlier (Cancelled begun other) is = is
 reason_since Short state before now earlier (ReadFault b a) is = absurd is
 reason_since Short state before now earlier (Damaged name) is = is
@@ -97,7 +94,6 @@ unreadable_since Tells PortsFail earlier mid now later NoMemory is = absurd is
 unreadable_since Tells PortsFail earlier mid now later (Backwards clock) is = absurd is
 unreadable_since Tells PortsFail earlier mid now later (Pinned pin limit) is = absurd is
 unreadable_since Tells PortsFail earlier mid now later NothingDue is = absurd is
-unreadable_since Tells PortsFail earlier mid now later (Undone erase) is = absurd is
 unreadable_since Tells PortsFail earlier mid now later (Cancelled begun other) is = absurd is
 
 pub either_since : (Short Tells PortsFail : Type 0) (old mid : State) (before now earlier between later : ℕ) → IsSteady old mid → earlier ≤ between → (why : Refused)

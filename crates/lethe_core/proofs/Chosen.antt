@@ -1,22 +1,29 @@
 -- What a choice picks in what is stored.
-use Rattle.std.proofs.Common.{◌≡◌, ℕ, List, map, Some, sym, ap, ◌∙◌, subst, arith}
-use Rattle.std.specs.Prelude.{IsSome}
+use Rattle.std.proofs.Common.{◌≡◌, ◌≤◌, ℕ, List, [], ◌∷◌, map, Option, Some, None, sym, ap, ◌∙◌, subst, arith}
+use Rattle.std.specs.Prelude.{All, Any, IfSome}
+use Rattle.std.specs.List.{AllZip}
+use Rattle.std.proofs.lemmas.List.Elements.{All-cons, All-head, All-nil, All-tail, All-weaker}
 use Rattle.lethe_base.specs.Configuration.{IsConfig}
+use Rattle.lethe_base.specs.Erases.{IsErase}
+use Rattle.lethe_base.specs.Limits.{max_place, max_time}
 use Rattle.lethe_base.specs.Spent.{left_erases}
 use Rattle.lethe_base.specs.declared.config.Fields.{Fields}
 use Rattle.lethe_base.specs.declared.pending.Pending.{Pending}
-use Rattle.lethe_base.specs.declared.shape.FileFacts.{FileFacts}
 use Rattle.lethe_base.specs.declared.shape.Shape.{Shape}
 use Rattle.lethe_disk.specs.declared.disk.Disk.{Ghosts}
 use Rattle.lethe_fade.specs.declared.plan.Plan.{Plan}
+use Rattle.lethe_manifest.specs.Manifests as manifests
+use Rattle.lethe_manifest.specs.declared.manifest.Cited.{Cited}
 use Rattle.lethe_manifest.specs.declared.manifest.Manifest.{Manifest}
-use Rattle.lethe_stored.specs.Files.{StoredFile}
-use Rattle.lethe_stored.specs.Stored.{Stored, layout_of}
-use Rattle.lethe_job.specs.Chosen.{level_named}
+use Rattle.lethe_state.specs.Writable.{IsWritable}
+use Rattle.lethe_state.specs.declared.state.State.{State}
+use Rattle.lethe_stored.specs.Files.{Parts, StoredFile}
+use Rattle.lethe_stored.specs.Stored.{IsCoherent, Stored, layout_of}
 use Rattle.lethe_job.specs.Shapes.{shape_of}
-use Rattle.lethe_job.specs.Tasks.{IsBegunIn, IsStore, PlainTask, plain_file}
+use Rattle.lethe_job.specs.Tasks.{IsCitedAs, IsStore, plain_file}
+use Rattle.lethe_job.specs.Works.{IsBegunIn, IsNamedBy, IsPlanIn, PlainTask}
 use Rattle.lethe_job.specs.declared.filed.Filed.{Filed}
-use Rattle.lethe_job.proofs.Named.{chosen_file, due_is_named, has_level}
+use Rattle.lethe_job.proofs.Named.{chosen_in_store, chosen_is_named, due_in_store, due_is_named}
 use Rattle.lethe_job.proofs.Shaped.{shape_same}
 use Rattle.lethe_core.specs.Merges.{IsBegunBy, chosen_by, picked, room_choice}
 use Rattle.lethe_core.specs.Running.{Holds}
@@ -24,40 +31,71 @@ use Rattle.lethe_core.specs.View.{View}
 use Rattle.lethe_core.specs.declared.choosing.Choice.{Choice}
 use Rattle.lethe_core.specs.declared.choosing.Choice.TheVariants.{Room, DueAt}
 
--- the plan names a file above the last level
-pub picked_named : (by : Choice) (config : Fields) (files : List StoredFile) (erases : List Pending) (clock : ℕ) (plan : Plan) → IsConfig config
-    → picked by config (shape_of config.levels files erases) clock ≡ Some plan → IsSome (level_named config.levels plan.file files)
-picked_named Room config files erases clock plan limits is =
+-- files that a manifest cites stand in its levels
+pub cited_low : (levels : List (List Parts)) (next deepest : ℕ) (cited : List Cited) (files : List StoredFile) → AllZip (IsCitedAs levels) cited files
+    → All (manifests.IsFile next deepest) cited → All (λ file. file.level ≤ deepest) files
+cited_low levels next deepest [] [] zipped each = All-nil (λ (file : StoredFile). file.level ≤ deepest)
+cited_low levels next deepest [] (file ∷ files) zipped each = absurd zipped
+cited_low levels next deepest (one ∷ cited) [] zipped each = absurd zipped
+cited_low levels next deepest (one ∷ cited) (file ∷ files) zipped each =
+    let low = (All-head (manifests.IsFile next deepest) one cited each).level in
+    let same = zipped.0.level in
+    let rest = cited_low levels next deepest cited files zipped.1 (All-tail (manifests.IsFile next deepest) one cited each) in
+    All-cons (λ (file : StoredFile). file.level ≤ deepest) file files (omega (arith, low, same)) rest
+
+-- the plan names one of the files, and for a sweep one of the erases
+picked_named : (by : Choice) (config : Fields) (files : List StoredFile) → All (λ file. file.level ≤ config.levels) files → (erases : List Pending) (clock : ℕ) (plan : Plan)
+    → IsConfig config → picked by config (shape_of config.levels files erases) clock ≡ Some plan → IsNamedBy config.levels files erases plan.file plan.erase
+picked_named Room config files low erases clock plan limits is =
     let some = limits.levels in
-    let file = chosen_file config (omega (arith, some)) files erases clock plan is in
-    has_level config.levels plan.file files file.0 file.1 file.2 file.3
-picked_named (DueAt to) config files erases clock plan limits is = due_is_named config files erases to plan is
+    chosen_is_named config (omega (arith, some)) files low erases clock plan is
+picked_named (DueAt to) config files low erases clock plan limits is = due_is_named config files low erases to plan is
 
--- a choice doesn't look at the erases
-picked_levels : (by : Choice) (config : Fields) (levels other : List (List FileFacts)) (erases fewer : List Pending) (clock : ℕ) → levels ≡ other
-    → picked by config (record { levels = levels; erases = erases }) clock ≡ picked by config (record { levels = other; erases = fewer }) clock
-picked_levels Room config levels other erases fewer clock same = λ i. picked Room config (record { levels = same i; erases = erases }) clock
-picked_levels (DueAt to) config levels other erases fewer clock same = λ i. picked (DueAt to) config (record { levels = same i; erases = erases }) clock
+-- of others it names one where they have its place
+named_among : (levels : ℕ) (files : List StoredFile) (erases others : List Pending) (number : ℕ) (place : Option ℕ)
+    → IfSome place (λ place. Any (λ erase. erase.seq ≡ place) others) → IsNamedBy levels files erases number place → IsNamedBy levels files others number place
+named_among levels files erases others number None known is = is
+named_among levels files erases others number (Some place) known is = (is.0, known)
 
--- the shape is that of the files of a store, as they are told, whatever erases it has
+-- where it names a sweep that is one of what is stored
+pub picked_in_store : (by : Choice) (s : Stored) → IsCoherent s → (plan : Plan) → chosen_by by s ≡ Some plan → IsPlanIn s plan.file plan.erase
+picked_in_store Room s coherent plan is = chosen_in_store s coherent plan is
+picked_in_store (DueAt to) s coherent plan is = due_in_store s coherent plan to is
+
+-- the places and the times of the erases that a state remembers are within their limits
+module _ (state : State) (writable : IsWritable state) (erases : List Pending) (same : erases ≡ state.pending) where
+  pub all_placed : All (λ (erase : Pending). erase.seq ≤ max_place) erases
+  all_placed = subst (All (λ (erase : Pending). erase.seq ≤ max_place)) (sym same)
+      (All-weaker IsErase (λ (erase : Pending). erase.seq ≤ max_place) (λ erase is. is.place.1) state.pending writable.pending.each)
+
+  pub all_timed : All (λ (erase : Pending). erase.time ≤ max_time) erases
+  all_timed = subst (All (λ (erase : Pending). erase.time ≤ max_time)) (sym same)
+      (All-weaker IsErase (λ (erase : Pending). erase.time ≤ max_time) (λ erase is. is.time) state.pending writable.pending.each)
+
+-- the shape is that of the files of a store, as they are told
 module _ {D Page Port : Type 0} {disk : Ghosts D Page Port} (by : Choice) (m : Manifest) (erases : List Pending) (fields : Fields) (fields_is : fields ≡ m.config)
     (files seen : List (Filed D Page Port disk)) (seen_is : seen ≡ files) (shape : Shape) (shape_is : shape ≡ shape_of fields.levels (map plain_file seen) erases) where
   picked_in : picked by m.config shape m.clock ≡ picked by m.config (shape_of m.config.levels (map plain_file files) erases) m.clock
   picked_in = ap (λ shape. picked by m.config shape m.clock) (shape_is ∙ (λ i. shape_of (fields_is i).levels (map plain_file (seen_is i)) erases))
 
-  pub plan_named : IsConfig m.config → (plan : Plan) → Some plan ≡ picked by m.config shape m.clock → (again : List (Filed D Page Port disk)) → again ≡ files → IsSome (level_named m.config.levels plan.file (map plain_file again))
-  plan_named limits plan is again same =
-      subst (λ l. IsSome (level_named m.config.levels plan.file (map plain_file l))) (sym same) (picked_named by m.config (map plain_file files) erases m.clock plan limits (sym (is ∙ picked_in)))
+  pub plan_named : IsConfig m.config → All (λ file. file.level ≤ m.config.levels) (map plain_file files) → (plan : Plan) → Some plan ≡ picked by m.config shape m.clock
+      → (again : List (Filed D Page Port disk)) → again ≡ files → (others : List Pending) → IfSome plan.erase (λ place. Any (λ erase. erase.seq ≡ place) others)
+      → IsNamedBy m.config.levels (map plain_file again) others plan.file plan.erase
+  plan_named limits low plan is again same others known =
+      let named = picked_named by m.config (map plain_file files) low erases m.clock plan limits (sym (is ∙ picked_in)) in
+      named_among m.config.levels (map plain_file again) erases others plan.file plan.erase known
+      (subst (λ l. IsNamedBy m.config.levels (map plain_file l) erases plan.file plan.erase) (sym same) named)
 
   module _ (view : View) (m_is : m ≡ view.state.manifest) (s : Stored) (holds : Holds view s) (files_are : map plain_file files ≡ s.files) where
     manifest_is : m ≡ s.manifest
     manifest_is = m_is ∙ holds.remembers.manifest
 
-    pub picked_chosen : picked by m.config shape m.clock ≡ chosen_by by s
-    picked_chosen =
+    -- and its erases are those that are still to be done
+    pub picked_chosen : erases ≡ left_erases (layout_of s) → picked by m.config shape m.clock ≡ chosen_by by s
+    picked_chosen left =
         picked_in
-        ∙ (λ i. picked by (manifest_is i).config (shape_of (manifest_is i).config.levels (files_are i) erases) (manifest_is i).clock)
-        ∙ picked_levels by s.manifest.config _ _ erases (left_erases (layout_of s)) s.manifest.clock (ap (λ (shape : Shape). shape.levels) (shape_same s holds.remembers.coherent))
+        ∙ (λ i. picked by (manifest_is i).config (shape_of (manifest_is i).config.levels (files_are i) (left i)) (manifest_is i).clock)
+        ∙ ap (λ (shape : Shape). picked by s.manifest.config (record shape { erases = left_erases (layout_of s) }) s.manifest.clock) (shape_same s holds.remembers.coherent)
 
     pub stored_in : (again : List (Filed D Page Port disk)) → again ≡ files → (pending : List Pending) → pending ≡ view.state.pending → (count : ℕ) → count ≡ view.state.count
         → IsStore s again m.config pending count

@@ -1,18 +1,14 @@
--- How many entries files have, and how many objects their drafts make.
+-- How many entries files have.
 use Rattle.std.proofs.Common.{◌≡◌, ℕ, ◌<◌, ◌≤◌, List, [], ◌∷◌, ◌++◌, map, length, All, refl, sym, ap, ◌∙◌, length-append, arith}
 use Rattle.std.specs.Prelude.{flat_map, sum_by}
 use Rattle.std.specs.List.{AllZip}
 use Rattle.std.proofs.lemmas.List.Concat.{flat_map-append}
 use Rattle.std.proofs.lemmas.List.Elements.{All-head, All-tail}
-use Rattle.std.proofs.lemmas.List.Folds.{flat_map-map}
 use Rattle.std.proofs.lemmas.List.Sums.{sum_by-cons}
 use Rattle.lethe_base.specs.Layout.{File, Tile, entries_of}
 use Rattle.lethe_base.specs.declared.config.Fields.{Fields}
 use Rattle.lethe_base.specs.declared.entry.Entry.{Entry}
 use Rattle.lethe_base.specs.declared.shape.FileFacts.{FileFacts}
-use Rattle.lethe_build.specs.Built.{most_numbers, pages_of}
-use Rattle.lethe_build.specs.Drafts.{AreDraftsOf, IsDraftOf, numbers_for}
-use Rattle.lethe_build.specs.declared.draft.Draft.{Draft}
 use Rattle.lethe_build.proofs.Whole.{tile_long}
 use Rattle.lethe_file.specs.Agreement.{Agrees}
 use Rattle.lethe_file.specs.Agreement as agreement
@@ -90,36 +86,3 @@ in_tiles (file ∷ files) = ap (λ rest. entries_of (file_of file) ++ rest) (in_
 -- files that are cut of some entries have as many
 pub cut_long : (fields : Fields) (entries : List Entry) (files : List StoredFile) → AreCutOf fields entries (map file_of files) → length (entries_in files) ≡ length entries
 cut_long fields entries files cut = ap length (in_tiles files) ∙ woven_long fields entries (joined (map (λ (file : File). file.tiles) (map file_of files))) cut.woven
-
--- The numbers of drafts
-
--- the pages of some tiles have the tiles' entries
-in_pages : (tiles : List Tile) → flat_map (λ page. page) (pages_of tiles) ≡ flat_map in_tile tiles
-in_pages [] = refl
-in_pages (tile ∷ tiles) = flat_map-append (λ (page : List Entry). page) tile.pages (pages_of tiles) ∙ ap (λ rest. in_tile tile ++ rest) (in_pages tiles)
-
-draft_fits : (tiles : List Tile) (draft : Draft) → IsDraftOf tiles draft → numbers_for draft ≤ most_numbers (length (flat_map in_tile tiles))
-draft_fits tiles draft is =
-    let some = some_line _ is.is.spelled in
-    let paged = is.is.paged in
-    let each = some_entries (lines_of draft.tiles) draft.pages is.agrees.pages in
-    let same : length (flat_map agreement.entries_in draft.pages) ≡ length (flat_map in_tile tiles) =
-    ap length (sym (flat_map-map (λ (page : List Entry). page) agreement.entries_in draft.pages) ∙ ap (flat_map (λ (page : List Entry). page)) is.entries ∙ in_pages tiles) in
-    omega (arith, some, paged, each, same)
-
-drafts_fit : (groups : List (List Tile)) (drafts : List Draft) → AllZip IsDraftOf groups drafts → sum_by numbers_for drafts ≤ most_numbers (length (flat_map in_tile (joined groups)))
-drafts_fit [] [] zipped = omega arith
-drafts_fit [] (draft ∷ drafts) zipped = absurd zipped
-drafts_fit (group ∷ groups) [] zipped = absurd zipped
-drafts_fit (group ∷ groups) (draft ∷ drafts) zipped =
-    let here = draft_fits group draft zipped.0 in
-    let rest = drafts_fit groups drafts zipped.1 in
-    let both = ap length (flat_map-append in_tile group (joined groups)) in
-    omega (arith, here, rest, sum_by-cons numbers_for draft drafts, both, length-append (flat_map in_tile group) (flat_map in_tile (joined groups)))
-
--- entries make at most so many objects
-pub numbers_fit : (fields : Fields) (entries : List Entry) (drafts : List Draft) → AreDraftsOf fields entries drafts → sum_by numbers_for drafts ≤ most_numbers (length entries)
-numbers_fit fields entries drafts are =
-    let fit = drafts_fit are.groups drafts are.each in
-    let same = ap (λ (tiles : List Tile). length (flat_map in_tile tiles)) are.consecutive in
-    omega (arith, fit, same, woven_long fields entries are.tiles are.woven)

@@ -1,8 +1,7 @@
--- How far entries have to go down: a merge makes it less, and there is a bound on it.
+-- How much merges and sweeps have still to do: each makes it less, and there is a bound on it.
 use Rattle.std.proofs.Common.{◌≡◌, ◌≢◌, ℕ, ◌+◌, ◌-◌, ◌*◌, ◌^◌, ◌<◌, ◌≤◌, Bool, cond, List, [], ◌∷◌, ◌++◌, map, length, All, Contains, refl, sym, ap, ◌∙◌, subst, arith}
 use Rattle.std.specs.Prelude.{filter, not, sum_by}
 use Rattle.std.proofs.Math.Nat.{mul-le-mul_left}
-use Rattle.std.proofs.lemmas.List.{length-map}
 use Rattle.std.proofs.lemmas.List.Elements.{All-head, All-tail, All-contains, Contains-append_left, Contains-append_right}
 use Rattle.std.proofs.lemmas.List.Filters.{sum_by-filter_both}
 use Rattle.std.proofs.lemmas.List.Sorted.{sum_by-IsPermutation}
@@ -10,22 +9,26 @@ use Rattle.std.proofs.lemmas.List.Sums.{sum_by-append, sum_by-cons, sum_by-le}
 use Rattle.lethe_base.specs.declared.pending.Pending.{Pending}
 use Rattle.lethe_cover.proofs.Common.{⊎_elim, first_is}
 use Rattle.lethe_cover.proofs.Lists.{all_from, in_middle, in_rest}
-use Rattle.lethe_follows.specs.Merged.{IsMerged, IsMergeIn, StoredMerge, entries_in, inputs_of, others_of}
+use Rattle.lethe_follows.specs.Merged.{IsMerged, IsMergeIn, StoredMerge, entries_in, erases_upto, inputs_of, others_of}
 use Rattle.lethe_header.specs.Facts.{lines_of}
 use Rattle.lethe_header.specs.Headers as headers
 use Rattle.lethe_header.specs.declared.header.PageLine.{PageLine}
 use Rattle.lethe_header.specs.declared.header.TileLine.{TileLine}
 use Rattle.lethe_header.proofs.Lines.{have_few_entries}
+use Rattle.lethe_install.specs.Outcomes.{IsInstalled}
 use Rattle.lethe_install.proofs.Beside.{input_goes, input_in}
+use Rattle.lethe_job.specs.Works.{Merges, PlainTask, Sweeps}
+use Rattle.lethe_manifest.specs.declared.manifest.Manifest.{Manifest}
 use Rattle.lethe_merge.specs.Merge.{merged}
 use Rattle.lethe_merge.proofs.Gathers.{length-merged}
-use Rattle.lethe_stored.specs.Files.{StoredFile, IsFile, cited_of}
-use Rattle.lethe_stored.specs.Stored.{Stored, IsCoherent}
+use Rattle.lethe_stored.specs.Files.{StoredFile, IsFile}
+use Rattle.lethe_stored.specs.Stored.{Stored, IsCoherent, pending_of}
 use Rattle.lethe_stored.proofs.Leveled.{from_level}
 use Rattle.lethe_version.specs.Order.{is_kept}
-use Rattle.lethe_core.specs.Descent.{steps_down}
+use Rattle.lethe_core.specs.Descent.{jobs_left, steps_down, unswept_pairs}
 use Rattle.lethe_core.proofs.Counted.{entries_by, all_counted, cut_long, some_counted}
 use Rattle.lethe_core.proofs.Sums.{kept_sum, part_sum, scaled, two_levels}
+use Rattle.lethe_core.proofs.Unswept.{files_few, no_steps_up, pairs_fall, pairs_few, pairs_kept, pending_few}
 
 -- The bound
 
@@ -41,7 +44,7 @@ file_few file spelled =
     let each = lines_few file.header.tiles (have_few_entries file.header.tiles spelled.tiles) in
     omega (arith, each, spelled.few)
 
-pub few_steps : (s : Stored) → IsCoherent s → steps_down s.manifest.config.levels s.files < 2 ^ 63
+few_steps : (s : Stored) → IsCoherent s → steps_down s.manifest.config.levels s.files < 2 ^ 63
 few_steps s coherent =
     let deepest = s.manifest.config.levels in
     let each : All (λ file. (deepest - file.level) * entries_by file ≤ 6 * 2 ^ 24) s.files = all_from (λ file. (deepest - file.level) * entries_by file ≤ 6 * 2 ^ 24) s.files (λ file there.
@@ -50,8 +53,10 @@ few_steps s coherent =
     let steps : deepest - file.level ≤ 6 = omega (arith, levels) in
     grind (arith, few, steps)) in
     let all = sum_by-le (λ file. (deepest - file.level) * entries_by file) (6 * 2 ^ 24) s.files each in
-    let files = ap length coherent.files in
-    omega (arith, all, files, length-map s.files cited_of, coherent.spelled.files.few)
+    omega (arith, all, files_few s coherent)
+
+pub few_jobs : (s : Stored) → IsCoherent s → length (pending_of s) < 2 ^ 32 → jobs_left s < 2 ^ 127
+few_jobs s coherent few = omega (arith, few_steps s coherent, pairs_few s.files (pending_of s) (files_few s coherent) few)
 
 -- A merge
 
@@ -140,7 +145,7 @@ module _ (s : Stored) (m : StoredMerge) (coherent : IsCoherent s) (begun : IsMer
         let cut = cut_long s.manifest.config entries is.made is.woven.cut in
         omega (arith, made, cut, length-merged applied alone (entries_in (inputs_of m)), inputs_counted)
 
-    pub goes_down : steps_down deepest t.files < steps_down deepest s.files
+    goes_down : steps_down deepest t.files < steps_down deepest s.files
     goes_down =
         let others = others_of s m in
         let new = sum_by-IsPermutation weight (is.made ++ others) t.files is.files in
@@ -156,3 +161,29 @@ module _ (s : Stored) (m : StoredMerge) (coherent : IsCoherent s) (begun : IsMer
         let least : (steps + 1) * sum_by entries_by m.sources + steps * sum_by entries_by m.met ≤ sum_by weight (filter gone s.files) = omega (arith, lost_least, sources_more, met) in
         let less = descends steps (sum_by entries_by is.made) (sum_by entries_by m.sources) (sum_by entries_by m.met) (sum_by weight others) (sum_by weight (filter gone s.files)) made_counted some_source least in
         omega (arith, new, parts, old, made, less)
+
+-- A job
+
+-- steps count for more than pairs
+falls : (steps before pairs others : ℕ) → steps < before → pairs < 2 ^ 64 → steps * 2 ^ 64 + pairs < before * 2 ^ 64 + others
+falls steps before pairs others less few = omega (arith, less, few)
+
+falls_beside : (steps before pairs others : ℕ) → steps ≤ before → pairs < others → steps * 2 ^ 64 + pairs < before * 2 ^ 64 + others
+falls_beside steps before pairs others up less = omega (arith, up, less)
+
+pub goes_on : (s t : Stored) (task : PlainTask) → IsCoherent s → length (pending_of s) < 2 ^ 32 → IsInstalled s task t → IsCoherent t → jobs_left t < jobs_left s
+goes_on s t (Merges task) coherent few is then =
+    let levels = ap (λ (m : Manifest). steps_down m.config.levels t.files) is.merged_is.manifest in
+    let down = goes_down s is.m coherent is.tasked.merge t (erases_upto task.upto (pending_of s)) task.alone task.upto is.merged_is in
+    let fewer = pending_few s (Merges task) t is in
+    falls (steps_down t.manifest.config.levels t.files) (steps_down s.manifest.config.levels s.files)
+    (unswept_pairs t.files (pending_of t)) (unswept_pairs s.files (pending_of s))
+    (subst (λ n. n < steps_down s.manifest.config.levels s.files) (sym levels) down) (pairs_few t.files (pending_of t) (files_few t then) (omega (arith, fewer, few)))
+goes_on s t (Sweeps task) coherent few is then =
+    let levels = ap (λ (m : Manifest). steps_down m.config.levels t.files) is.swept_is.manifest in
+    let up = no_steps_up s coherent is.w task.erase task.alone is.tasked.sweep t is.swept_is s.manifest.config.levels in
+    let kept = pairs_kept s (Sweeps task) t is t.files in
+    let fall = pairs_fall s coherent is.w task.erase task.alone is.tasked.sweep t is.swept_is in
+    falls_beside (steps_down t.manifest.config.levels t.files) (steps_down s.manifest.config.levels s.files)
+    (unswept_pairs t.files (pending_of t)) (unswept_pairs s.files (pending_of s))
+    (subst (λ n. n ≤ steps_down s.manifest.config.levels s.files) (sym levels) up) (omega (arith, kept, fall))

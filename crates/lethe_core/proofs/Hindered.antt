@@ -23,6 +23,7 @@ use Rattle.lethe_state.specs.Records.{IsLike, halted}
 use Rattle.lethe_state.specs.Remembered.{Remembers}
 use Rattle.lethe_state.specs.Writable.{IsWritable}
 use Rattle.lethe_state.specs.declared.state.State.{State}
+use Rattle.lethe_job.specs.Works.{IsInLevels}
 use Rattle.lethe_core.specs.Asked.{Serves, counted, failure_of, refused_to, stopped_by}
 use Rattle.lethe_core.specs.Keeps.{Keeps, MayStep}
 use Rattle.lethe_core.specs.Reasons.{HasReason}
@@ -45,7 +46,7 @@ drawn_on first next names more is = record {
 pub flies_on : (old new : State) → new.manifest.config.levels ≡ old.manifest.config.levels → (flight : Option Flying) → IfSome flight (IsFlying old) → IfSome flight (IsFlying new)
 flies_on old new levels None is = tt
 flies_on old new levels (Some flying) is = record {
-  level = let below = is.level in omega (arith, below, levels);
+  levels = subst (λ deepest. IsInLevels deepest flying.task) (sym levels) is.levels;
   upto = is.upto;
   erases = is.erases;
 }
@@ -161,7 +162,7 @@ module _ (Tells : Type 0) (old new : View) (before : ℕ) where
         let s = stands.stored in
         stopped_stands config h change b a (beside old new (halted old.state)) s stands.legal (stands_done config h old stands runs) (subst (λ n. n < max_place) stands.count fits)
         refl (ap (λ n. n + 1) stands.count) (ap (λ n. Some (n + 1)) stands.count) (halted_remembered s old.state old.levels stands.remembers) stands.config_is
-        (stands_for config h old stands runs) (left_at_end config h (retried change) old.disk new.disk here (moments_or config h (retried change) old.state.next old.disk new.disk goes).goes) stands.counted
+        (stands_for config h old stands runs) (left_at_end config h (retried change) old.disk new.disk here (moments_or config h (retried change) old.state.next old.disk new.disk goes).goes) stands.counted stands.recorded
 
     pub hindered_stands : Tells → old.state.count < max_place → GoesFrom old.state.next (λ c. IsKept config c h) old.disk new.disk → Image new.disk new.disk.directory → (caller : ℕ) (call : Call) (why : Refused)
         → IsHindered Tells old new before why → StandsNow config (refused_to h caller call why) new

@@ -14,6 +14,8 @@ pub mod Likes
 pub mod Recorded
 pub mod Counted
 pub mod Sums
+pub mod Fewer
+pub mod Unswept
 pub mod Descending
 pub mod Keyed
 pub mod Places
@@ -26,3 +28,5 @@ pub mod Unread
 pub mod Fetched
 pub mod Roomed
 pub mod Chosen
+pub mod SweptPuts
+pub mod Copying

@@ -90,7 +90,7 @@ module _ (view : View) (new : State) (like : IsLike view.state new) where
 
   pub like_stands : (config : Fields) (h : History) → StandsNow config h view → view.state.stopped ≡ None → StandsNow config h (with_state view new)
   like_stands config h stands runs = next_stands_now config h view (with_state view new) stands runs stands.stored like.count refl (stands_for config h view stands runs)
-      (like_holds stands.stored (stands_holds config h view stands runs)) stands.counted
+      (like_holds stands.stored (stands_holds config h view stands runs)) stands.counted stands.recorded
 
 -- With one record more
 

@@ -1,21 +1,27 @@
--- The step of a merge that was carried out.
-use Rattle.std.proofs.Common.{◌≡◌, ◌≤◌, ◌⊎◌, ℕ, ◌+◌, List, ◌++◌, append-nil, length, All, None, refl, sym, ap, ◌∙◌, subst, arith}
+-- The step of a job that was carried out.
+use Rattle.std.proofs.Common.{◌≡◌, ◌≤◌, ◌⊎◌, ℕ, ◌+◌, List, ◌++◌, append-nil, length, All, Contains, Option, None, refl, sym, ap, ◌∙◌, subst, arith}
 use Rattle.lethe_base.specs.History.{History}
+use Rattle.lethe_base.specs.Spent.{done_upto}
 use Rattle.lethe_base.specs.declared.config.Fields.{Fields}
 use Rattle.lethe_base.specs.declared.entry.Entry.{Entry}
 use Rattle.lethe_base.specs.declared.name.Name.{Name}
+use Rattle.lethe_base.specs.declared.pending.Pending.{Pending}
 use Rattle.lethe_disk.specs.Disk.{Seen}
 use Rattle.lethe_manifest.specs.declared.manifest.Manifest.{Manifest}
 use Rattle.lethe_commit.specs.Append.{EndsAt}
+use Rattle.lethe_follows.specs.Leaving.{first_erase, is_kept, kept_of}
 use Rattle.lethe_follows.specs.Merged.{StoredMerge, entries_in, erases_upto, inputs_of}
+use Rattle.lethe_follows.specs.Young.{AreLaterRecorded}
+use Rattle.lethe_follows.proofs.Behind.{later_others}
 use Rattle.lethe_follows.proofs.LettingGo.{kept_are_erases}
 use Rattle.lethe_follows.proofs.MergeRising.{merged_rises}
 use Rattle.lethe_follows.proofs.Merging.{merged_for}
 use Rattle.lethe_stored.specs.Files.{Parts}
 use Rattle.lethe_stored.specs.Kept.{IsFor, IsKept}
 use Rattle.lethe_stored.specs.Numbers.{GoesFrom}
-use Rattle.lethe_stored.specs.Levels.{HasFiles}
-use Rattle.lethe_stored.specs.Stored.{IsCoherent, Stored, pending_of, segment_name}
+use Rattle.lethe_stored.specs.Levels.{AreRising, HasFiles}
+use Rattle.lethe_stored.specs.Stored.{IsCoherent, Stored, layout_of, pending_of, segment_name}
+use Rattle.lethe_stored.proofs.Leveled.{from_filter}
 use Rattle.lethe_advance.specs.Settled.{AreDrawn, AreUncited, HasOnly, IsSettled}
 use Rattle.lethe_advance.specs.Steps.{IsStep}
 use Rattle.lethe_advance.specs.Untorn.{IsUntorn}
@@ -27,11 +33,15 @@ use Rattle.lethe_state.specs.Remembered.{IsCurrent, Remembers}
 use Rattle.lethe_state.specs.Room.{IsStepFrom}
 use Rattle.lethe_state.specs.Writable.{IsWritable, segments_for}
 use Rattle.lethe_state.specs.declared.state.State.{State}
+use Rattle.lethe_install.specs.Outcomes.{IsInstalled}
 use Rattle.lethe_install.specs.declared.steps.Installation.{Installation}
 use Rattle.lethe_install.proofs.Remembering.{install_remembered}
-use Rattle.lethe_job.specs.Tasks.{IsTaskIn, PlainTask, inputs_in}
+use Rattle.lethe_job.specs.Tasks.{IsMergeTask, PlainMerge, merge_inputs}
+use Rattle.lethe_job.specs.Works.{Merges, PlainTask, Sweeps}
+use Rattle.lethe_sweeps.proofs.SweptFor.{swept_for}
+use Rattle.lethe_sweeps.proofs.SweptRising.{swept_rises}
 use Rattle.lethe_core.specs.Keeps.{Keeps, MayStep}
-use Rattle.lethe_core.specs.Merges.{IsInstalled, MayMerge}
+use Rattle.lethe_core.specs.Merges.{MayMerge}
 use Rattle.lethe_core.specs.Running.{Holds, IsRunning, IsSmall}
 use Rattle.lethe_core.specs.StandsNow.{IsCounted, StandsNow}
 use Rattle.lethe_core.specs.View.{View, beside_in}
@@ -41,14 +51,41 @@ use Rattle.lethe_core.proofs.Standing.{next_drawn, next_stands_now, stands_for, 
 
 -- Its outcome stands for the same history
 
--- the files that the task merges, as the merge has them
-pub inputs_same : (s : Stored) (m : StoredMerge) (task : PlainTask) → IsTaskIn s m task → inputs_in task ≡ inputs_of m
+-- the files that a merge takes, as what is stored has them
+pub inputs_same : (s : Stored) (m : StoredMerge) (task : PlainMerge) → IsMergeTask s m task → merge_inputs task ≡ inputs_of m
 inputs_same s m task is = λ i. is.sources i ++ is.met i
 
 pub installed_for : (h : History) (s : Stored) (task : PlainTask) (t : Stored) → IsCoherent s → IsFor h s → IsCounted task → IsInstalled s task t → IsFor h t
-installed_for h s task t coherent stands counted is =
+installed_for h s (Merges task) t coherent stands counted is =
     let low = subst (λ files. All (λ (entry : Entry). entry.seq ≤ task.upto) (entries_in files)) (inputs_same s is.m task is.tasked) counted in
     merged_for h s coherent stands is.m is.tasked.merge task.alone is.tasked.clear is.tasked.bottom task.upto is.tasked.upto low t is.merged_is
+installed_for h s (Sweeps task) t coherent stands counted is = swept_for h s coherent stands is.w task.erase task.alone is.tasked.sweep t is.swept_is
+
+-- its files are in order, and the active segment stays
+
+installed_rises : (s : Stored) (task : PlainTask) (t : Stored) → IsCoherent s → AreRising s.files → IsInstalled s task t → AreRising t.files
+installed_rises s (Merges task) t coherent rising is =
+    merged_rises s coherent rising is.m is.tasked.merge (erases_upto task.upto (pending_of s)) task.alone task.upto t is.merged_is
+installed_rises s (Sweeps task) t coherent rising is = swept_rises s coherent rising is.w task.erase task.alone is.tasked.sweep t is.swept_is
+
+pub same_active : (s : Stored) (task : PlainTask) (t : Stored) → IsInstalled s task t → t.active ≡ s.active
+same_active s (Merges task) t is = is.merged_is.active
+same_active s (Sweeps task) t is = is.swept_is.active
+
+-- the erases of its manifest were pending, and the segments record what they did
+
+kept_there : (pending : List Pending) (done first : Option ℕ) (erase : Pending) → Contains (kept_of pending done first) erase → Contains pending erase
+kept_there pending done first erase there = (from_filter (λ (e : Pending). is_kept done first e.seq) pending erase there).0
+
+installed_recorded : (s : Stored) (task : PlainTask) (t : Stored) → IsInstalled s task t → AreLaterRecorded s → AreLaterRecorded t
+installed_recorded s (Merges task) t is recorded =
+    let merged = is.merged_is in
+    later_others s t recorded merged.frozen merged.active (λ erase there. kept_there (pending_of s) (done_upto (layout_of (record s { files = t.files }))) (first_erase s) erase
+    (subst (λ (m : Manifest). Contains m.erases erase) merged.manifest there))
+installed_recorded s (Sweeps task) t is recorded =
+    let swept = is.swept_is in
+    later_others s t recorded swept.frozen swept.active (λ erase there. kept_there (pending_of s) (done_upto (layout_of (record s { files = t.files }))) (first_erase s) erase
+    (subst (λ (m : Manifest). Contains m.erases erase) swept.manifest there))
 
 -- The state under the manifest of a step, with the erases that this keeps
 
@@ -88,14 +125,10 @@ module _ (old : View) (disk : Seen) (faults : ℕ) (levels : List (List Parts)) 
   module _ (s t : Stored) (task : PlainTask) (holds : Holds old s) (may : MayMerge old s task t made) (files : HasFiles t levels) where
     merged_both : Remembers t new.state levels × IsCurrent t new.state
     merged_both = subst (λ manifest. Remembers t (installed manifest old.state) levels × IsCurrent t (installed manifest old.state)) (sym may.step_is.manifest)
-        (install_remembered s t may.installed.m (erases_upto task.upto (pending_of s)) task.alone task.upto old.state old.levels levels holds.remembers holds.running.current may.installed.merged_is
-        may.step_is.coherent.spelled may.step_is.coherent files)
+        (install_remembered s t old.state old.levels levels holds.remembers holds.running.current task may.installed may.step_is.coherent files)
 
     pub merged_holds : IsSettled disk t → HasOnly t may.left disk.directory → IsUntorn t disk.directory → EndsAt disk (segment_name t.active.no) t.active.no t.active.records old.state.end → Holds new t
     merged_holds settled only untorn ends =
-        let m = may.installed.m in
-        let coherent = holds.remembers.coherent in
-        let merge = may.installed.tasked.merge in
         let same : beside_in new ≡ may.left = append-nil _ ∙ named_left disk.directory made.left.items may.left only.there may.left_is in
         record {
           remembers = merged_both.0;
@@ -105,7 +138,7 @@ module _ (old : View) (disk : Seen) (faults : ℕ) (levels : List (List Parts)) 
             uncited = subst (AreUncited t) (sym same) may.step_is.left_uncited;
             untorn = untorn;
             copied = subst (All (IsCopied t)) (sym same) may.copied;
-            rising = merged_rises s coherent holds.running.rising m merge (erases_upto task.upto (pending_of s)) task.alone task.upto t may.installed.merged_is;
+            rising = installed_rises s task t holds.remembers.coherent holds.running.rising may.installed;
             ends = ends;
             current = merged_both.1;
             tasked = tt;
@@ -141,6 +174,7 @@ module _ (old : View) (disk : Seen) (faults : ℕ) (levels : List (List Parts)) 
           let next = merges told s holds in
           next_stands_now config h old new stands can.runs next.1 refl next.2.step_is.config
           (installed_for h s next.0 next.1 holds.remembers.coherent (stands_for config h old stands can.runs) (next.3 config h stands) next.2.installed) (behind told s next.0 next.1 holds next.2) tt
+          (installed_recorded s next.0 next.1 next.2.installed stands.recorded)
 
       pub merge_keeps : AreDrawn step.manifest.next made.left.items → length levels ≡ length old.levels → (Tells → (config : Fields) (h : History) → StandsNow config h old → GoesFrom old.state.next (λ c. IsKept config c h) old.disk disk)
           → (Tells → old.disk.moment + length step.objects.items + 4 ≤ disk.moment) → old.faults ≤ faults → Keeps Tells old new None

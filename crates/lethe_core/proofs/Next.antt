@@ -4,6 +4,8 @@ use Rattle.std.specs.Prelude.{IfSome}
 use Rattle.lethe_base.specs.History.{History}
 use Rattle.lethe_base.specs.declared.config.Fields.{Fields}
 use Rattle.lethe_base.specs.declared.name.Name.{Name}
+use Rattle.lethe_follows.proofs.Behind.{later_flushed, later_frozen}
+use Rattle.lethe_follows.specs.Young.{AreLaterRecorded}
 use Rattle.lethe_manifest.specs.declared.manifest.Manifest.{Manifest}
 use Rattle.lethe_stored.specs.Files.{Parts}
 use Rattle.lethe_stored.specs.Kept.{IsFor, IsKept}
@@ -29,6 +31,13 @@ use Rattle.lethe_core.proofs.Standing.{next_drawn, next_stands_now, stands_for, 
 
 pub frozen_for : (h : History) (s t : Stored) (state : State) (levels : List (List Parts)) → Remembers s state levels → s.frozen ≡ None → IsFor h s → IsFrozen s t → IsFor h t
 frozen_for h s t state levels remembers none stands is = subst (IsFor h) (sym is.is) (froze_for s remembers.coherent is.segment (is.segment + 1) none h stands)
+
+-- the segments go on to record what they did
+pub frozen_recorded : (s t : Stored) → s.frozen ≡ None → AreLaterRecorded s → IsFrozen s t → AreLaterRecorded t
+frozen_recorded s t none recorded is = subst AreLaterRecorded (sym is.is) (later_frozen s none recorded is.segment (is.segment + 1))
+
+pub flushed_recorded : (h : History) (s t : Stored) → IsFor h s → AreLaterRecorded s → IsFlushed s t → AreLaterRecorded t
+flushed_recorded h s t stands recorded is = subst AreLaterRecorded (sym is.is) (later_flushed h s stands recorded is.made is.number)
 
 -- the numbers of the pages that lie beside what is stored were drawn
 pub beside_drawn : (view : View) → AreDrawn view.state.next (names_beside view) → AreDrawn view.state.next (names_in (beside_in view))
@@ -91,17 +100,19 @@ module _ (P : Stored → Stored → Type 0) (Tells : Type 0) (old : View) (heade
       pub next_done : Tells → (s : Stored) → Holds old s → (t : Stored) × P s t × Holds new t
       next_done told s holds = let t = next_is s holds in (t.0, t.1, behind told s t.0 holds t.1 t.2)
 
-      next_stands : Tells → new.state.count ≡ old.state.count → (config : Fields) (h : History) → StandsNow config h old → StandsNow config h new
-      next_stands told count config h stands =
+      next_stands : ((h : History) (s t : Stored) → Holds old s → IsFor h s → AreLaterRecorded s → P s t → AreLaterRecorded t)
+          → Tells → new.state.count ≡ old.state.count → (config : Fields) (h : History) → StandsNow config h old → StandsNow config h new
+      next_stands later told count config h stands =
           let s = stands.stored in
           let holds = stands_holds config h old stands may.runs in
           let t = next_is s holds in
           next_stands_now config h old new stands may.runs t.0 count t.2.config (stays h s t.0 holds (stands_for config h old stands may.runs) t.1) (behind told s t.0 holds t.1 t.2)
           (subst (λ flight. IfSome flight (λ (flying : Flying). IsCounted flying.task)) (sym carried.flight) stands.counted)
+          (later h s t.0 holds (stands_for config h old stands may.runs) stands.recorded t.1)
 
-      pub next_keeps : (segments : ℕ) → IsStepFrom segments old.state headers step → new.state.manifest ≡ step.manifest → new.state.next ≡ step.manifest.next → new.state.count ≡ old.state.count
+      pub next_keeps : ((h : History) (s t : Stored) → Holds old s → IsFor h s → AreLaterRecorded s → P s t → AreLaterRecorded t) → (segments : ℕ) → IsStepFrom segments old.state headers step → new.state.manifest ≡ step.manifest → new.state.next ≡ step.manifest.next → new.state.count ≡ old.state.count
           → new.state.stopped ≡ old.state.stopped → IsWritable new.state → IsSmall new.state → Keeps Tells old new None
-      next_keeps segments from manifest next count stopped writable small =
+      next_keeps later segments from manifest next count stopped writable small =
           let config : new.state.manifest.config ≡ old.state.manifest.config = ap (λ (m : Manifest). m.config) manifest ∙ from.config in
           let number = from.numbers in
           let above = from.next in
@@ -121,7 +132,7 @@ module _ (P : Stored → Stored → Type 0) (Tells : Type 0) (old : View) (heade
             };
             count = count;
             stopped = stopped;
-            stands = λ told config h stands caller call. next_stands told count config h stands;
+            stands = λ told config h stands caller call. next_stands later told count config h stands;
             any_moment = next_moments segments from carried.moments;
             numbers = λ told. let made = carried.calls told in omega (arith, made, number, above, next);
             faults = carried.faults;

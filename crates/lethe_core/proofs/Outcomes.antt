@@ -1,25 +1,23 @@
--- Merges one after another.
-use Rattle.std.proofs.Common.{◌≡◌, ◌≤◌, ◌<◌, ℕ, ◌+◌, ◌^◌, ◌-◌, min, List, [], ◌∷◌, ◌++◌, None, refl, sym, ap, ◌∙◌, subst, arith}
+-- Merges and sweeps one after another.
+use Rattle.std.proofs.Common.{◌≡◌, ◌≤◌, ◌<◌, ℕ, ◌+◌, ◌^◌, List, [], ◌∷◌, ◌++◌, length, None, refl, sym, ◌∙◌, subst, arith}
 use Rattle.std.specs.Prelude.{Option}
 use Rattle.std.proofs.lemmas.List.Sums.{sum_by-append}
-use Rattle.lethe_base.specs.declared.config.Fields.{Fields}
 use Rattle.lethe_base.specs.declared.name.Name.{Name}
+use Rattle.lethe_base.specs.declared.pending.Pending.{Pending}
 use Rattle.lethe_fade.specs.declared.plan.Plan.{Plan}
-use Rattle.lethe_manifest.specs.declared.manifest.Manifest.{Manifest}
 use Rattle.lethe_stored.specs.Stored.{Stored, pending_of}
-use Rattle.lethe_follows.specs.Merged.{erases_upto}
-use Rattle.lethe_job.specs.Tasks.{inputs_in, pages_in}
-use Rattle.lethe_core.specs.Descent.{steps_down}
+use Rattle.lethe_job.specs.Works.{reads_of}
+use Rattle.lethe_core.specs.Descent.{jobs_left}
 use Rattle.lethe_core.specs.Keeps.{Keeps, MayStep}
 use Rattle.lethe_core.specs.Merges.{AreOutcomesBy, AreSomeOutcomesBy, HasNoMergeBy, IsOutcomeBy, Outcome, pages_of, retired_behind}
-use Rattle.lethe_core.specs.Running.{Holds}
+use Rattle.lethe_core.specs.Running.{Holds, IsSound}
 use Rattle.lethe_core.specs.Steps.{IsSteady}
 use Rattle.lethe_core.specs.View.{View}
 use Rattle.lethe_core.proofs.Behind.{next_may}
-use Rattle.lethe_core.proofs.Descending.{few_steps, goes_down}
+use Rattle.lethe_core.proofs.Descending.{few_jobs, goes_on}
 use Rattle.lethe_core.proofs.Hindered.{keeps_itself, keeps_then}
 
--- Some of the merges that are chosen
+-- Some of the jobs that are chosen
 
 module _ (chosen : Stored → Option Plan) where
   some_more : (s : Stored) (outcomes : List Outcome) (t : Stored) (next : Outcome) → AreSomeOutcomesBy chosen s outcomes t → IsOutcomeBy chosen t next → AreSomeOutcomesBy chosen s (outcomes ++ next ∷ []) next.to
@@ -30,12 +28,12 @@ module _ (chosen : Stored → Option Plan) where
   some_ended s [] t are none = (subst (HasNoMergeBy chosen) are none, are)
   some_ended s (outcome ∷ more) t are none = (are.0, some_ended outcome.to more t are.1 none)
 
--- a merge leaves no page retired
+-- a job leaves no page retired
 none_behind : (outcomes : List Outcome) (next : Outcome) (retired : List Name) → retired_behind (outcomes ++ next ∷ []) retired ≡ []
 none_behind [] next retired = refl
 none_behind (outcome ∷ more) next retired = refl
 
--- what is stored behind so many merges, whose pages were fetched, and the pages that are retired then
+-- what is stored behind so many jobs, whose pages were fetched, and the pages that are retired then
 pub record AreBehind (chosen : Stored → Option Plan) (s : Stored) (old new : View) (count fetched : ℕ) : Type 0 where
   pub outcomes : List Outcome
   pub to : Stored
@@ -43,9 +41,9 @@ pub record AreBehind (chosen : Stored → Option Plan) (s : Stored) (old new : V
   pub holds : Holds new to
   pub pages : pages_of outcomes ≡ fetched
   pub retired : new.retired ≡ retired_behind outcomes old.retired
-  pub down : steps_down s.manifest.config.levels to.files + count ≤ steps_down s.manifest.config.levels s.files
+  pub down : jobs_left to + count ≤ jobs_left s
 
--- Of a store that has carried out so many merges: what it keeps and what is stored, by its port's counts of fetches and of faults.
+-- Of a store that has carried out so many jobs: what it keeps and what is stored, by its port's counts of fetches and of faults.
 pub record HasMerged (chosen : Stored → Option Plan) (Tells : Type 0) (old new : View) (count fetches fetches' faults faults' : ℕ) : Type 0 where
   pub keeps : Keeps Tells old new None
   pub steady : IsSteady old.state new.state
@@ -60,9 +58,9 @@ none_merged chosen Tells view before fetches faults may = record {
   port_faults = omega arith;
 }
 
--- what is stored has the configuration of the store that remembers it
-config_held : (view : View) (s : Stored) → Holds view s → s.manifest.config ≡ view.state.manifest.config
-config_held view s holds = ap (λ (m : Manifest). m.config) (sym holds.remembers.manifest)
+-- what is stored has no more pending erases than a manifest may have
+few_pending : (Tells : Type 0) (view : View) (s : Stored) → IsSound Tells view → Holds view s → length (pending_of s) < 2 ^ 32
+few_pending Tells view s sound holds = subst (λ (pending : List Pending). length pending < 2 ^ 32) holds.remembers.pending sound.writable.pending.few
 
 module _ (chosen : Stored → Option Plan) (Tells : Type 0) (old mid : View) (before count f0 f1 p0 p1 : ℕ) (merged : HasMerged chosen Tells old mid count f0 f1 p0 p1) where
   pub merged_may : MayStep Tells old before → MayStep Tells mid before
@@ -76,11 +74,8 @@ module _ (chosen : Stored → Option Plan) (Tells : Type 0) (old mid : View) (be
     config = steady.config ∙ merged.steady.config;
   }
 
-  levels_same : (s t : Stored) → Holds old s → Holds mid t → t.manifest.config.levels ≡ s.manifest.config.levels
-  levels_same s t first then = ap (λ (fields : Fields). fields.levels) (config_held mid t then ∙ merged.steady.config ∙ sym (config_held old s first))
-
   pub once_more : (new : View) (f2 p2 : ℕ) → Keeps Tells mid new None → IsSteady mid.state new.state
-      → (Tells → (t : Stored) → Holds mid t → (next : Outcome) × IsOutcomeBy chosen t next × Holds new next.to × (f2 ≡ f1 + pages_in (inputs_in next.task))) → new.retired ≡ [] → p1 ≤ p2
+      → (Tells → (t : Stored) → Holds mid t → (next : Outcome) × IsOutcomeBy chosen t next × Holds new next.to × (f2 ≡ f1 + reads_of next.task)) → new.retired ≡ [] → p1 ≤ p2
       → HasMerged chosen Tells old new (count + 1) f0 f2 p0 p2
   once_more new f2 p2 keeps steady done none faults = record {
     keeps = keeps_then Tells old mid new merged.keeps None keeps;
@@ -92,12 +87,11 @@ module _ (chosen : Stored → Option Plan) (Tells : Type 0) (old mid : View) (be
         let made = done told t are.holds in
         let next = made.0 in
         let is = made.1 in
-        let more = pages_in (inputs_in next.task) in
-        let lower : steps_down t.manifest.config.levels next.to.files < steps_down t.manifest.config.levels t.files =
-        goes_down t is.begun.m are.holds.remembers.coherent is.begun.is.merge next.to (erases_upto next.task.upto (pending_of t)) next.task.alone next.task.upto is.merged_is in
-        let below = subst (λ levels. steps_down levels next.to.files < steps_down levels t.files) (levels_same s t holds are.holds) lower in
+        let more = reads_of next.task in
+        let few = few_pending Tells mid t merged.keeps.sound are.holds in
+        let below : jobs_left next.to < jobs_left t = goes_on t next.to next.task are.holds.remembers.coherent few is.installed made.2.remembers.coherent in
         let down = are.down in
-        let all = sum_by-append (λ (outcome : Outcome). pages_in (inputs_in outcome.task)) are.outcomes (next ∷ []) in
+        let all = sum_by-append (λ (outcome : Outcome). reads_of outcome.task) are.outcomes (next ∷ []) in
         let pages = are.pages in
         let first = had.2 in
         let then = made.3 in (
@@ -116,7 +110,7 @@ module _ (chosen : Stored → Option Plan) (Tells : Type 0) (old mid : View) (be
     port_faults = let early = merged.port_faults in omega (arith, early, faults);
   }
 
-  -- no merge is chosen any more
+  -- no job is chosen any more
   pub no_more : Tells → (s : Stored) → Holds old s → ((t : Stored) → Holds mid t → HasNoMergeBy chosen t)
       → (t : Stored) × (outcomes : List Outcome) × AreOutcomesBy chosen s outcomes t × Holds mid t × (f1 ≡ f0 + pages_of outcomes) × (mid.retired ≡ retired_behind outcomes old.retired)
   no_more told s holds none =
@@ -130,9 +124,9 @@ module _ (chosen : Stored → Option Plan) (Tells : Type 0) (old mid : View) (be
   pub some_merged : Tells → (s : Stored) → Holds old s → (t : Stored) × ((outcomes : List Outcome) × AreSomeOutcomesBy chosen s outcomes t) × Holds mid t
   some_merged told s holds = let are = (merged.behind told s holds).1 in (are.to, (are.outcomes, are.are), are.holds)
 
-  -- there are no more merges than steps down
-  pub too_many : Tells → (s : Stored) → Holds old s → (most : ℕ) → most ≡ steps_down s.manifest.config.levels s.files → min (most + 1) (2 ^ 64 - 1) ≤ count → ⊥
-  too_many told s holds most most_is many =
+  -- there are no more jobs than there is to do
+  pub too_many : MayStep Tells old before → Tells → (s : Stored) → Holds old s → 2 ^ 127 ≤ count → ⊥
+  too_many may told s holds many =
       let down = (merged.behind told s holds).1.down in
-      let few = few_steps s holds.remembers.coherent in
-      omega (arith, down, few, most_is, many)
+      let few = few_jobs s holds.remembers.coherent (few_pending Tells old s may.sound holds) in
+      omega (arith, down, few, many)

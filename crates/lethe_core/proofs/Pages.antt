@@ -198,7 +198,7 @@ module _ (Tells : Type 0) (old : View) (flying : Flying) (is : old.flight ≡ So
       writable = drawn_writable old.state fits sound.writable;
       small = record { active = sound.small.active; records = sound.small.records; frozen = sound.small.frozen };
       count = sound.count;
-      flies = record { level = flies.level; upto = flies.upto; erases = flies.erases };
+      flies = record { levels = flies.levels; upto = flies.upto; erases = flies.erases };
       drawn = subst (AreDrawn (old.state.next + 1)) (names_beside_at old.disk.directory old.retired now.flight) (more drawn_written);
       held = λ told.
           let held = sound.held told in
@@ -214,7 +214,7 @@ module _ (Tells : Type 0) (old : View) (flying : Flying) (is : old.flight ≡ So
       stands = λ told config h stands caller call.
           let holds = stands_holds config h old stands runs in
           next_stands_now config h old now stands runs stands.stored refl refl (stands_for config h old stands runs) (written_holds told stands.stored holds)
-          (subst (λ f. IfSome f (λ (flying : Flying). IsCounted flying.task)) is stands.counted);
+          (subst (λ f. IfSome f (λ (flying : Flying). IsCounted flying.task)) is stands.counted) stands.recorded;
       any_moment = λ told. kept_moments Tells old sound disk runs (λ s holds. goes told s (may_write s holds));
       numbers = λ told. let two = calls told in omega (arith, two);
       faults = rose;

@@ -43,7 +43,7 @@ use Rattle.lethe_state.specs.Records.{IsNext, halted, pending_with}
 use Rattle.lethe_state.specs.Remembered.{Remembers}
 use Rattle.lethe_state.specs.Writable.{IsWritable}
 use Rattle.lethe_state.specs.declared.state.State.{State}
-use Rattle.lethe_job.proofs.Staying.{task_appended}
+use Rattle.lethe_job.proofs.Staying.{stays_appended}
 use Rattle.lethe_core.specs.Asked.{done_by}
 use Rattle.lethe_core.specs.Changes.{with_record}
 use Rattle.lethe_core.specs.Running.{Holds, IsRunning, IsTasked}
@@ -61,11 +61,11 @@ last_number (Some older) number = refl
 active_number : (s : Stored) (view : View) → Remembers s view.state view.levels → slice_index view.state.manifest.segments (length view.state.manifest.segments - 1) ≡ s.active.no
 active_number s view is = ap (λ l. slice_index l (length l - 1)) (ap (λ (m : Manifest). m.segments) is.manifest ∙ is.coherent.cites) ∙ last_number s.frozen s.active.no
 
--- a job in flight merges the same files and applies the same erases
+-- a job in flight merges or sweeps the same files and applies the same erases
 tasked_appended : (s : Stored) (next : Record) → count_of s < record_seq next → AllPairs (λ a b. a.seq < b.seq) (pending_with (pending_of s) next) → IsCoherent (appended s next)
     → (flight : Option Flying) → IfSome flight (IsTasked s) → IfSome flight (IsTasked (appended s next))
 tasked_appended s next behind rise coherent None is = tt
-tasked_appended s next behind rise coherent (Some flying) is = (is.0, task_appended s is.0 flying.task is.1 next behind rise coherent)
+tasked_appended s next behind rise coherent (Some flying) is = stays_appended s flying.task is next behind rise coherent
 
 -- objects beside the one that is written
 all_beside : (d : Directory) (name : Name) (bytes : List ℕ) (objects : List (Name × List ℕ)) → All (λ named. named.0 ≡ name → ⊥) objects → All (HasObject d) objects → All (HasObject (insert d name bytes)) objects
@@ -209,4 +209,4 @@ failed_stands config h view stands runs fits disk' faults' caller call change_is
     let retry : IsLeft config disk' h (Some change) = record { now = left.now; images = left.images } in
     stopped_stands config h change b a (moved view disk' faults' (halted view.state)) stands.stored stands.legal (stands_done config h view stands runs) (subst (λ n. n < max_place) stands.count fits)
     refl (ap (λ n. n + 1) stands.count) (ap (λ n. Some (n + 1)) stands.count) (halted_remembered stands.stored view.state view.levels stands.remembers) stands.config_is
-    (stands_for config h view stands runs) (subst (IsLeft config disk' h) (ap (λ t. cond t None (Some change)) (sym change_is)) retry) stands.counted
+    (stands_for config h view stands runs) (subst (IsLeft config disk' h) (ap (λ t. cond t None (Some change)) (sym change_is)) retry) stands.counted stands.recorded

@@ -95,7 +95,7 @@ module _ (Tells : Type 0) (old : View) (flying : Flying) (is : old.flight ≡ So
         count = refl;
         stopped = refl;
         stands = λ told config h stands caller call.
-            next_stands_now config h old alone stands runs stands.stored refl refl (stands_for config h old stands runs) (removed_holds told stands.stored (stands_holds config h old stands runs)) tt;
+            next_stands_now config h old alone stands runs stands.stored refl refl (stands_for config h old stands runs) (removed_holds told stands.stored (stands_holds config h old stands runs)) tt stands.recorded;
         any_moment = λ told. kept_moments Tells old sound disk runs (moments told);
         numbers = λ told. let held = held_now Tells old sound told runs in let on = (moments told held.0 held.1).later in omega (arith, on);
         faults = rose;
@@ -113,6 +113,7 @@ grounded_stands config h view at stopped stands = record {
   stands = stands.stands;
   held = subst (IsOpenOrStopped config (record view { flight = None }) h stands.stored) (sym stopped) (subst (IsOpenOrStopped config view h stands.stored) stopped stands.held);
   counted = tt;
+  recorded = stands.recorded;
 }
 
 pub grounded_keeps : (Tells : Type 0) (old new : View) (why : Option Refused) (at : ℕ) → new.state.stopped ≡ Some at → Keeps Tells old new why → Keeps Tells old (record new { flight = None }) why

@@ -12,6 +12,7 @@ use Rattle.lethe_disk.specs.Goes.{Goes}
 use Rattle.lethe_disk.proofs.Going.{goes_quiet}
 use Rattle.lethe_disk.proofs.Quieting.{quiet_itself}
 use Rattle.lethe_commit.specs.Switch.{IsTakenBack}
+use Rattle.lethe_follows.specs.Young.{AreLaterRecorded}
 use Rattle.lethe_manifest.specs.declared.manifest.Manifest.{Manifest}
 use Rattle.lethe_stored.specs.Encodes.{Encodes}
 use Rattle.lethe_stored.specs.Kept.{IsFor, IsKept}
@@ -90,8 +91,8 @@ module _ (config : Fields) (h : History) (view : View) (stands : StandsNow confi
 
 -- what a store that takes changes stands for
 pub open_stands : (config : Fields) (h : History) (view : View) (s : Stored) → IsLegal h → AreDone h → view.state.count ≡ length h → s.manifest.config ≡ config → IsFor h s → Holds view s
-    → IfSome view.flight (λ flying. IsCounted flying.task) → StandsNow config h view
-open_stands config h view s legal done count config_is stands holds counted = record {
+    → IfSome view.flight (λ flying. IsCounted flying.task) → AreLaterRecorded s → StandsNow config h view
+open_stands config h view s legal done count config_is stands holds counted recorded = record {
   legal = legal;
   count = count;
   stored = s;
@@ -100,19 +101,21 @@ open_stands config h view s legal done count config_is stands holds counted = re
   stands = subst (λ g. IsFor g s) (sym (all_done h done)) stands;
   held = subst (IsOpenOrStopped config view h s) (sym holds.running.current.runs) (done, holds.running);
   counted = counted;
+  recorded = recorded;
 }
 
 -- it stands for the same history where what is stored next does
 pub next_stands_now : (config : Fields) (h : History) (old new : View) (stands : StandsNow config h old) → old.state.stopped ≡ None → (t : Stored) → new.state.count ≡ old.state.count
-    → t.manifest.config ≡ stands.stored.manifest.config → IsFor h t → Holds new t → IfSome new.flight (λ flying. IsCounted flying.task) → StandsNow config h new
-next_stands_now config h old new stands runs t count same for holds counted =
-    open_stands config h new t stands.legal (stands_done config h old stands runs) (count ∙ stands.count) (same ∙ stands.config_is) for holds counted
+    → t.manifest.config ≡ stands.stored.manifest.config → IsFor h t → Holds new t → IfSome new.flight (λ flying. IsCounted flying.task) → AreLaterRecorded t
+    → StandsNow config h new
+next_stands_now config h old new stands runs t count same for holds counted recorded =
+    open_stands config h new t stands.legal (stands_done config h old stands runs) (count ∙ stands.count) (same ∙ stands.config_is) for holds counted recorded
 
 -- and one in which the disk failed in one more change
 pub stopped_stands : (config : Fields) (h : History) (change : Change) (before behind : ℕ) (view : View) (s : Stored) → IsLegal h → AreDone h → length h < max_place → change.did ≡ Failed before behind
     → view.state.count ≡ length h + 1 → view.state.stopped ≡ Some (length h + 1) → Remembers s view.state view.levels → s.manifest.config ≡ config → IsFor h s → IsLeft config view.disk h (retried change)
-    → IfSome view.flight (λ flying. IsCounted flying.task) → StandsNow config (h ++ change ∷ []) view
-stopped_stands config h change before behind view s legal done few failed count stopped remembers config_is stands left counted = record {
+    → IfSome view.flight (λ flying. IsCounted flying.task) → AreLaterRecorded s → StandsNow config (h ++ change ∷ []) view
+stopped_stands config h change before behind view s legal done few failed count stopped remembers config_is stands left counted recorded = record {
   legal = legal_failed h change before behind legal done few failed;
   count = count ∙ sym (length_push h change);
   stored = s;
@@ -132,6 +135,7 @@ stopped_stands config h change before behind view s legal done few failed count 
     left = left;
   });
   counted = counted;
+  recorded = recorded;
 }
 
 -- A disk that has what it had
@@ -196,6 +200,7 @@ module _ (old new : View) (back : IsTakenBack old.disk new.disk) where
     stands = stands.stands;
     held = held_back config h stands.stored old.state.stopped stands.held;
     counted = stands.counted;
+    recorded = stands.recorded;
   })
 
 pub sound_back : (Tells : Type 0) (old new : View) → (Tells → IsTakenBack old.disk new.disk) → new.state ≡ old.state → IsBeside old new → IsSound Tells old → IsSound Tells new

@@ -13,8 +13,7 @@ use Rattle.lethe_header.specs.Facts.{least_key, greatest_key}
 use Rattle.lethe_manifest.specs.declared.manifest.Manifest.{Manifest}
 use Rattle.lethe_mem.specs.Buffered.{Buffered}
 use Rattle.lethe_commit.specs.Append.{EndsAt}
-use Rattle.lethe_follows.specs.Merged.{with_newer}
-use Rattle.lethe_job.proofs.Staying.{task_flushed, task_frozen}
+use Rattle.lethe_job.proofs.Staying.{stays_flushed, stays_frozen}
 use Rattle.lethe_stored.specs.Files.{Parts, StoredFile}
 use Rattle.lethe_stored.specs.Levels.{AreRising, HasFiles}
 use Rattle.lethe_stored.specs.Stored.{Stored, Segment, segment_name}
@@ -89,10 +88,10 @@ frozen_rising : (s t : Stored) → IsFrozen s t → AreRising s.files → AreRis
 frozen_rising s t is rising = subst (λ (x : Stored). AreRising x.files) (sym is.is) rising
 
 flushed_tasked : (s t : Stored) → IsFlushed s t → (flying : Flying) → IsTasked s flying → IsTasked t flying
-flushed_tasked s t is flying tasked = subst (λ x. IsTasked x flying) (sym is.is) (with_newer is.made tasked.0, task_flushed s tasked.0 flying.task tasked.1 is.made is.number is.new.level)
+flushed_tasked s t is flying tasked = subst (λ x. IsTasked x flying) (sym is.is) (stays_flushed s flying.task tasked is.made is.number is.new.level)
 
 frozen_tasked : (s t : Stored) → s.frozen ≡ None → IsFrozen s t → (flying : Flying) → IsTasked s flying → IsTasked t flying
-frozen_tasked s t none is flying tasked = subst (λ x. IsTasked x flying) (sym is.is) (tasked.0, task_frozen s tasked.0 flying.task tasked.1 none is.segment (is.segment + 1))
+frozen_tasked s t none is flying tasked = subst (λ x. IsTasked x flying) (sym is.is) (stays_frozen s flying.task tasked none is.segment (is.segment + 1))
 
 -- copied pages stay so
 flushed_copied : (s t : Stored) → IsFlushed s t → (loose : List (Name × List ℕ)) → All (IsCopied s) loose → All (IsCopied t) loose

@@ -5,7 +5,7 @@ use Rattle.lethe_base.specs.History.{History, Change}
 use Rattle.lethe_base.specs.declared.call.Call.{Call}
 use Rattle.lethe_base.specs.declared.call.Did.TheVariants.{Done}
 use Rattle.lethe_base.specs.declared.refused.Refused.{Refused}
-use Rattle.lethe_base.specs.declared.refused.Refused.TheVariants.{Fault, Stopped, Backwards, Pinned, NothingDue, Cancelled, Exhausted, ReadFault, NoMemory, Damaged, Undone}
+use Rattle.lethe_base.specs.declared.refused.Refused.TheVariants.{Fault, Stopped, Backwards, Pinned, NothingDue, Cancelled, Exhausted, ReadFault, NoMemory, Damaged}
 use Rattle.lethe_cover.specs.Steps.{with_done, with_failed}
 
 pub data Asked : Type 0 where
@@ -32,7 +32,6 @@ failure_of (Stopped at) = None
 failure_of (Backwards clock) = None
 failure_of (Pinned pin limit) = None
 failure_of NothingDue = None
-failure_of (Undone erase) = None
 failure_of (Cancelled begun now) = None
 failure_of (Exhausted last) = None
 failure_of (ReadFault before after) = None

@@ -1,8 +1,18 @@
--- How far entries have still to go down.
-use Rattle.std.specs.Prelude.{ℕ, ◌*◌, ◌-◌, List, sum_by}
+-- How much merges and sweeps have still to do.
+use Rattle.std.specs.Prelude.{ℕ, ◌+◌, ◌*◌, ◌-◌, ◌^◌, nat_lt, List, count_by, sum_by}
+use Rattle.lethe_base.specs.declared.pending.Pending.{Pending}
 use Rattle.lethe_header.specs.Headers.{entries_in}
 use Rattle.lethe_stored.specs.Files.{StoredFile, lines_in}
+use Rattle.lethe_stored.specs.Stored.{Stored, pending_of}
 
 -- of each entry of the files, how many levels it is above the deepest
 abbrev pub steps_down : ℕ → List StoredFile → ℕ
 steps_down deepest files = sum_by (λ file. (deepest - file.level) * entries_in (lines_in file)) files
+
+-- of each file, how many of the erases it isn't swept of
+abbrev pub unswept_pairs : List StoredFile → List Pending → ℕ
+unswept_pairs files erases = sum_by (λ file. count_by (λ erase. nat_lt file.swept erase.seq) erases) files
+
+-- A merge brings an entry a level down, whatever is unswept then; a sweep brings none up, and makes a pair less. There are fewer than 2^64 pairs.
+abbrev pub jobs_left : Stored → ℕ
+jobs_left s = steps_down s.manifest.config.levels s.files * 2 ^ 64 + unswept_pairs s.files (pending_of s)

@@ -1,4 +1,4 @@
--- The merges that a store carries out itself, one after another, where a caller makes room and where the clock goes on.
+-- The merges and sweeps that a store carries out itself, one after another, where a caller makes room and where the clock goes on.
 use Rattle.std.specs.Prelude.{◌≡◌, ◌⊎◌, ◌≤◌, ℕ, ◌+◌, ◌*◌, List, [], ◌∷◌, length, sum_by, All, Option, Some, None}
 use Rattle.std.specs.List.{AllZip}
 use Rattle.lethe_base.specs.Limits.{max_place}
@@ -6,22 +6,23 @@ use Rattle.lethe_base.specs.declared.config.Fields.{Fields}
 use Rattle.lethe_base.specs.declared.name.Name.{Name}
 use Rattle.lethe_base.specs.declared.shape.Shape.{Shape}
 use Rattle.lethe_build.specs.Built.{most_numbers}
-use Rattle.lethe_build.specs.Drafts.{AreDraftsOf, numbers_for}
-use Rattle.lethe_build.specs.declared.draft.Draft.{Draft}
 use Rattle.lethe_fade.specs.Choice.{choice}
-use Rattle.lethe_fade.specs.Expired.{due}
+use Rattle.lethe_fade.specs.Due.{due}
 use Rattle.lethe_fade.specs.declared.plan.Plan.{Plan}
-use Rattle.lethe_follows.specs.Merged.{StoredMerge, IsMerged, at, entries_in, erases_upto}
-use Rattle.lethe_merge.specs.Merge.{merged}
+use Rattle.lethe_follows.specs.Merged.{at}
 use Rattle.lethe_stored.specs.Files.{StoredFile}
-use Rattle.lethe_stored.specs.Stored.{Stored, layout_of, pending_of}
+use Rattle.lethe_stored.specs.Stored.{Stored, layout_of}
 use Rattle.lethe_advance.specs.Settled.{names_in}
 use Rattle.lethe_advance.specs.Steps.{IsStep}
 use Rattle.lethe_clean.specs.Copied.{IsCopied}
+use Rattle.lethe_install.specs.Outcomes.{IsInstalled}
 use Rattle.lethe_install.specs.declared.steps.Installation.{Installation}
 use Rattle.lethe_state.specs.Room.{HasRoom, IsFrozen, IsUnfrozen}
 use Rattle.lethe_job.specs.Shapes.{due_shape}
-use Rattle.lethe_job.specs.Tasks.{PlainTask, IsCitedAs, IsPlanned, IsTaskIn, counted_in, inputs_in, pages_in}
+use Rattle.lethe_job.specs.MadeOf.{numbers_in}
+use Rattle.lethe_job.specs.Tasks.{IsCitedAs, counted_in}
+use Rattle.lethe_job.specs.Works.{AreOutputs, IsPlanned, PlainTask, inputs_in, plan_of, reads_of}
+use Rattle.lethe_job.specs.declared.made.Made.{Made}
 use Rattle.lethe_core.specs.Running.{Holds}
 use Rattle.lethe_core.specs.declared.choosing.Choice.{Choice}
 use Rattle.lethe_core.specs.declared.choosing.Choice.TheVariants.{Room, DueAt}
@@ -36,32 +37,26 @@ picked (DueAt to) config shape clock = due config shape to
 abbrev pub chosen_by : Choice → Stored → Option Plan
 chosen_by by s = picked by s.manifest.config (due_shape (layout_of s)) s.manifest.clock
 
--- that of the merges that make room
+-- that of the jobs that make room
 abbrev pub room_choice : Stored → Option Plan
 room_choice = chosen_by Room
 
--- that of the merges that are due at a time
+-- that of the jobs that are due at a time
 abbrev pub due_choice : ℕ → Stored → Option Plan
 due_choice to = chosen_by (DueAt to)
 
--- no merge is chosen
+-- no job is chosen
 abbrev pub HasNoMergeBy : (Stored → Option Plan) → Stored → Type 0
 HasNoMergeBy chosen s = chosen s ≡ None
 
--- no merge is due at its clock
+-- no job is due at its clock
 abbrev pub HasNoMerge : Stored → Type 0
 HasNoMerge = HasNoMergeBy room_choice
 
--- a merge, and what is stored behind it
+-- a merge or a sweep, and what is stored behind it
 pub record Outcome : Type 0 where
   pub task : PlainTask
   pub to : Stored
-
--- the outcome of a task is stored in the place of what it merges, and the erases that are done then have left
-pub record IsInstalled (s : Stored) (task : PlainTask) (t : Stored) : Type 0 where
-  pub m : StoredMerge
-  pub tasked : IsTaskIn s m task
-  pub merged_is : IsMerged s m (erases_upto task.upto (pending_of s)) task.alone task.upto t
 
 -- The step from what is stored to the outcome of a task, behind which no page of a job is loose, and what is left has no put but those of stored files.
 pub record MayMerge (view : View) (s : Stored) (task : PlainTask) (t : Stored) (made : Installation) : Type 0 where
@@ -73,21 +68,20 @@ pub record MayMerge (view : View) (s : Stored) (task : PlainTask) (t : Stored) (
 
 -- the task of the plan that is chosen
 pub record IsBegunBy (chosen : Stored → Option Plan) (s : Stored) (task : PlainTask) : Type 0 where
-  pub is_chosen : chosen s ≡ Some task.plan
+  pub is_chosen : chosen s ≡ Some (plan_of task)
   pub planned : IsPlanned s task
-  pub open planned use *
 
--- the merge that is chosen, with its outcome
+-- the job that is chosen, with its outcome
 pub record IsOutcomeBy (chosen : Stored → Option Plan) (s : Stored) (outcome : Outcome) : Type 0 where
   pub begun : IsBegunBy chosen s outcome.task
-  pub merged_is : IsMerged s begun.m (erases_upto outcome.task.upto (pending_of s)) outcome.task.alone outcome.task.upto outcome.to
+  pub installed : IsInstalled s outcome.task outcome.to
 
--- the merges that are chosen, one after another, until none is
+-- the jobs that are chosen, one after another, until none is
 abbrev pub AreOutcomesBy : (Stored → Option Plan) → Stored → List Outcome → Stored → Type 0
 AreOutcomesBy chosen s [] t = HasNoMergeBy chosen s × (t ≡ s)
 AreOutcomesBy chosen s (outcome ∷ more) t = IsOutcomeBy chosen s outcome × AreOutcomesBy chosen outcome.to more t
 
--- some of the merges that are chosen, one after another
+-- some of the jobs that are chosen, one after another
 abbrev pub AreSomeOutcomesBy : (Stored → Option Plan) → Stored → List Outcome → Stored → Type 0
 AreSomeOutcomesBy chosen s [] t = t ≡ s
 AreSomeOutcomesBy chosen s (outcome ∷ more) t = IsOutcomeBy chosen s outcome × AreSomeOutcomesBy chosen outcome.to more t
@@ -106,7 +100,7 @@ AreSomeOutcomes = AreSomeOutcomesBy room_choice
 abbrev pub IsCrowded : Stored → Type 0
 IsCrowded s = 2 * s.manifest.config.ratio ≤ length (at 0 s.files)
 
--- the merges that are due were carried out where level 0 is crowded and no job is in flight, and none else
+-- the jobs that are due were carried out where level 0 is crowded and no job is in flight, and none else
 abbrev pub IsUncrowded : Option Flying → Stored → List Outcome → Stored → Type 0
 IsUncrowded None s outcomes t = (IsCrowded s × AreOutcomes s outcomes t) ⊎ ((IsCrowded s → ⊥) × (outcomes ≡ []) × (t ≡ s))
 IsUncrowded (Some flying) s outcomes t = (outcomes ≡ []) × (t ≡ s)
@@ -116,7 +110,7 @@ abbrev pub IsMergedInPart : Option Flying → Stored → Stored → Type 0
 IsMergedInPart None s t = (t ≡ s) ⊎ (IsCrowded s × (outcomes : List Outcome) × AreSomeOutcomes s outcomes t)
 IsMergedInPart (Some flying) s t = t ≡ s
 
--- Room was made for a record where there was none: the frozen segment was flushed, if there was one, the active one was frozen, and then the merges were carried
+-- Room was made for a record where there was none: the frozen segment was flushed, if there was one, the active one was frozen, and then the jobs were carried
 -- out.
 pub record IsCleared (flight : Option Flying) (s : Stored) (outcomes : List Outcome) (t : Stored) : Type 0 where
   pub middle : Stored
@@ -130,7 +124,7 @@ abbrev pub IsRoomMadeBy : Option Flying → Stored → List Outcome → Stored �
 IsRoomMadeBy flight s outcomes t = (HasRoom s × (outcomes ≡ []) × (t ≡ s)) ⊎ ((HasRoom s → ⊥) × IsCleared flight s outcomes t)
 
 -- Of the steps that make room the first was done, which flushes the frozen segment, if there is one, and maybe the second, which freezes the active one, and behind that some
--- of the merges.
+-- of the jobs.
 pub record IsClearedInPart (flight : Option Flying) (s t : Stored) : Type 0 where
   pub middle : Stored
   pub unfrozen : IsUnfrozen s middle
@@ -140,14 +134,14 @@ pub record IsClearedInPart (flight : Option Flying) (s t : Stored) : Type 0 wher
 abbrev pub IsRoomBegun : Option Flying → Stored → Stored → Type 0
 IsRoomBegun flight s t = (t ≡ s) ⊎ ((HasRoom s → ⊥) × IsClearedInPart flight s t)
 
--- The pages that are retired behind merges. A merge leaves none while nothing needs any, and without one they are as they were.
+-- The pages that are retired behind jobs. A job leaves none while nothing needs any, and without one they are as they were.
 abbrev pub retired_behind : List Outcome → List Name → List Name
 retired_behind [] retired = retired
 retired_behind (outcome ∷ more) retired = []
 
--- how many pages these merges read
+-- how many pages these merges and sweeps fetch
 abbrev pub pages_of : List Outcome → ℕ
-pages_of outcomes = sum_by (λ outcome. pages_in (inputs_in outcome.task)) outcomes
+pages_of outcomes = sum_by (λ outcome. reads_of outcome.task) outcomes
 
 -- the headers of a task's inputs count no more entries than those of all files that the manifest cites, as readers have them
 pub record IsTaskOf (view : View) (task : PlainTask) : Type 0 where
@@ -155,14 +149,15 @@ pub record IsTaskOf (view : View) (task : PlainTask) : Type 0 where
   pub cited : AllZip (IsCitedAs view.levels) view.state.manifest.files files
   pub some : counted_in (inputs_in task) ≤ counted_in files
 
--- The numbers of the objects of the merge that is chosen, and of a manifest, can't be drawn. On any disk these are no more than as many entries take as the headers of its inputs count.
+-- The numbers of the objects of the job that is chosen, and of a manifest, can't be drawn. On any disk these are no more than as many entries take as the headers of its inputs count.
 pub record IsShortToMergeBy (chosen : Stored → Option Plan) (Tells : Type 0) (view : View) : Type 0 where
   pub task : PlainTask
   pub of : IsTaskOf view task
-  pub drafts : List Draft
-  pub bounded : sum_by numbers_for drafts ≤ most_numbers (counted_in (inputs_in task))
-  pub short : max_place ≤ view.state.next + sum_by numbers_for drafts
-  pub are : Tells → (s : Stored) → Holds view s → IsBegunBy chosen s task × AreDraftsOf task.config (merged (entries_in (inputs_in task)) task.erases task.alone) drafts
+  pub made : Made
+  pub bounded : numbers_in made ≤ most_numbers (counted_in (inputs_in task))
+  pub short : max_place ≤ view.state.next + numbers_in made
+  pub outputs : AreOutputs Tells task made
+  pub begun : Tells → (s : Stored) → Holds view s → IsBegunBy chosen s task
 
 abbrev pub IsShortToMerge : Type 0 → View → Type 0
 IsShortToMerge = IsShortToMergeBy room_choice

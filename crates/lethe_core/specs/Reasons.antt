@@ -3,7 +3,7 @@ use Rattle.std.specs.Prelude.{◌≡◌, ◌⊎◌, ℕ, ◌+◌, Option, Some, 
 use Rattle.lethe_base.specs.Counts.{Rose}
 use Rattle.lethe_base.specs.Limits.{max_place}
 use Rattle.lethe_base.specs.declared.refused.Refused.{Refused}
-use Rattle.lethe_base.specs.declared.refused.Refused.TheVariants.{Fault, Stopped, Backwards, Pinned, NothingDue, Cancelled, Exhausted, ReadFault, NoMemory, Damaged, Undone}
+use Rattle.lethe_base.specs.declared.refused.Refused.TheVariants.{Fault, Stopped, Backwards, Pinned, NothingDue, Cancelled, Exhausted, ReadFault, NoMemory, Damaged}
 use Rattle.lethe_mem.specs.Buffered.{Buffered}
 use Rattle.lethe_state.specs.Room.{IsShortBy, IsShortToFreeze}
 use Rattle.lethe_state.specs.declared.state.State.{State}
@@ -24,7 +24,6 @@ HasReason Short state before now NothingDue = ⊥
 HasReason Short state before now (Cancelled begun other) = ⊥
 HasReason Short state before now (ReadFault told_before told_now) = ⊥
 HasReason Short state before now (Damaged name) = ⊥
-HasReason Short state before now (Undone erase) = ⊥
 
 -- Why reading files was refused, by the port's counts of faults before and now: a fetch failed, or on a disk that tells nothing a page isn't the one that was written.
 abbrev pub IsUnreadable : Type 0 → Type 0 → ℕ → ℕ → Refused → Type 0
@@ -38,7 +37,6 @@ IsUnreadable Tells PortsFail before now (Backwards clock) = ⊥
 IsUnreadable Tells PortsFail before now (Pinned pin limit) = ⊥
 IsUnreadable Tells PortsFail before now NothingDue = ⊥
 IsUnreadable Tells PortsFail before now (Cancelled begun other) = ⊥
-IsUnreadable Tells PortsFail before now (Undone erase) = ⊥
 
 -- the same refusal of several reads, with the count of a port's faults before the first of them
 abbrev pub told_since : ℕ → Refused → Refused

@@ -1,8 +1,7 @@
 -- A store on which changes can be made.
-use Rattle.std.specs.Prelude.{◌≡◌, ◌≤◌, ◌<◌, ◌+◌, length, All, None, IfSome}
+use Rattle.std.specs.Prelude.{◌≡◌, ◌≤◌, ◌+◌, length, All, None, IfSome}
 use Rattle.lethe_base.specs.Limits.{max_place, max_time}
 use Rattle.lethe_commit.specs.Append.{EndsAt}
-use Rattle.lethe_follows.specs.Merged.{StoredMerge}
 use Rattle.lethe_stored.specs.Levels.{AreRising}
 use Rattle.lethe_stored.specs.Stored.{Stored, segment_name}
 use Rattle.lethe_advance.specs.Settled.{IsSettled, HasOnly, AreDrawn, AreUncited}
@@ -12,12 +11,12 @@ use Rattle.lethe_state.specs.Remembered.{Remembers, IsCurrent}
 use Rattle.lethe_state.specs.Room.{frozen_len}
 use Rattle.lethe_state.specs.Writable.{IsWritable}
 use Rattle.lethe_state.specs.declared.state.State.{State}
-use Rattle.lethe_job.specs.Tasks.{IsTaskIn}
+use Rattle.lethe_job.specs.Works.{IsInLevels, IsTaskFor, applied_upto, erases_of}
 use Rattle.lethe_core.specs.View.{Flying, View, beside_in, names_beside}
 
--- its task merges files that are stored
+-- its task merges or sweeps files that are stored
 abbrev pub IsTasked : Stored → Flying → Type 0
-IsTasked s flying = (m : StoredMerge) × IsTaskIn s m flying.task
+IsTasked s flying = IsTaskFor s flying.task
 
 -- The disk is in the store's hands: its one image is what is stored, untorn, and beside it the retired pages and those of the job in flight, which have no put but those of
 -- stored files, and nothing else. The next record goes behind the end of the active segment, and nothing has failed since.
@@ -43,11 +42,11 @@ pub record IsSmall (state : State) : Type 0 where
   pub records : state.records ≤ state.manifest.config.buffer
   pub frozen : frozen_len state.frozen ≤ state.manifest.config.buffer
 
--- on any disk: the job merges files of a level above the last, and its numbers and times are within their limits
+-- on any disk: the job merges files of a level above the last or sweeps one of a level that there is, and its numbers and times are within their limits
 pub record IsFlying (state : State) (flying : Flying) : Type 0 where
-  pub level : flying.task.level < state.manifest.config.levels
-  pub upto : flying.task.upto ≤ max_place
-  pub erases : All (λ erase. erase.time ≤ max_time) flying.task.erases
+  pub levels : IsInLevels state.manifest.config.levels flying.task
+  pub upto : applied_upto flying.task ≤ max_place
+  pub erases : All (λ erase. erase.time ≤ max_time) (erases_of flying.task)
 
 -- On any disk the state can be written, its buffers are small, it has each level, a job in flight is within the limits, and the number of each page beside what is stored was
 -- drawn, once. Where the disk tells what it holds, the store remembers something stored, and unless something has failed the disk is in its hands.

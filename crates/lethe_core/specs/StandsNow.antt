@@ -5,11 +5,13 @@ use Rattle.lethe_base.specs.declared.call.Did.TheVariants.{Failed}
 use Rattle.lethe_base.specs.declared.config.Fields.{Fields}
 use Rattle.lethe_disk.specs.Disk.{Seen}
 use Rattle.lethe_follows.specs.Merged.{entries_in}
+use Rattle.lethe_follows.specs.Young.{AreLaterRecorded}
 use Rattle.lethe_stored.specs.Stored.{Stored}
 use Rattle.lethe_stored.specs.Kept.{IsFor}
 use Rattle.lethe_stored.specs.Left.{IsLeft, is_work, without_failed}
 use Rattle.lethe_state.specs.Remembered.{Remembers}
-use Rattle.lethe_job.specs.Tasks.{PlainTask, inputs_in}
+use Rattle.lethe_job.specs.Tasks.{merge_inputs}
+use Rattle.lethe_job.specs.Works.{Merges, PlainTask, Sweeps}
 use Rattle.lethe_core.specs.Running.{IsRunning}
 use Rattle.lethe_core.specs.View.{View}
 
@@ -35,12 +37,13 @@ abbrev pub IsOpenOrStopped : Fields → View → History → Stored → Option �
 IsOpenOrStopped config view h s None = AreDone h × IsRunning view s
 IsOpenOrStopped config view h s (Some at) = IsStopped config h view.disk at
 
--- the places of all entries that the task merges were counted when it was begun
+-- the places of all entries that a merge reads were counted when it was begun
 abbrev pub IsCounted : PlainTask → Type 0
-IsCounted task = All (λ entry. entry.seq ≤ task.upto) (entries_in (inputs_in task))
+IsCounted (Merges task) = All (λ entry. entry.seq ≤ task.upto) (entries_in (merge_inputs task))
+IsCounted (Sweeps task) = Unit {0}
 
 -- Now the buffers and the files stand for the history without what failed, and the disk is in the store's hands, or left as a failed change left
--- it.
+-- it. A segment records each erase of the manifest that stands behind a record of one.
 pub record StandsNow (config : Fields) (h : History) (view : View) : Type 0 where
   pub legal : IsLegal h
   pub count : view.state.count ≡ length h
@@ -50,3 +53,4 @@ pub record StandsNow (config : Fields) (h : History) (view : View) : Type 0 wher
   pub stands : IsFor (without_failed h) stored
   pub held : IsOpenOrStopped config view h stored view.state.stopped
   pub counted : IfSome view.flight (λ flying. IsCounted flying.task)
+  pub recorded : AreLaterRecorded stored

@@ -2,7 +2,7 @@
 use Rattle.std.specs.Prelude.{◌≡◌, ◌<◌, ℕ, ◌+◌, List, sum_by, None}
 use Rattle.lethe_base.specs.Counts.{Rose}
 use Rattle.lethe_base.specs.declared.refused.Refused.{Refused}
-use Rattle.lethe_base.specs.declared.refused.Refused.TheVariants.{Fault, Stopped, Backwards, Pinned, NothingDue, Cancelled, Exhausted, ReadFault, NoMemory, Damaged, Undone}
+use Rattle.lethe_base.specs.declared.refused.Refused.TheVariants.{Fault, Stopped, Backwards, Pinned, NothingDue, Cancelled, Exhausted, ReadFault, NoMemory, Damaged}
 use Rattle.lethe_build.specs.Drafts.{numbers_for}
 use Rattle.lethe_build.specs.declared.draft.Draft.{Draft}
 use Rattle.lethe_commit.specs.Switch.{IsTakenBack}
@@ -47,7 +47,6 @@ IsHindered Tells old new before (Stopped at) = ⊥
 IsHindered Tells old new before (Backwards clock) = ⊥
 IsHindered Tells old new before (Pinned pin limit) = ⊥
 IsHindered Tells old new before NothingDue = ⊥
-IsHindered Tells old new before (Undone erase) = ⊥
 IsHindered Tells old new before (Cancelled begun other) = ⊥
 IsHindered Tells old new before (Exhausted last) = ⊥
 IsHindered Tells old new before (ReadFault told_before told_now) = ⊥

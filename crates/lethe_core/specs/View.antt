@@ -8,7 +8,7 @@ use Rattle.lethe_stored.specs.Files.{Parts}
 use Rattle.lethe_advance.specs.Settled.{names_in}
 use Rattle.lethe_advance.specs.Shown.{parts_by_level}
 use Rattle.lethe_state.specs.declared.state.State.{State}
-use Rattle.lethe_job.specs.Tasks.{PlainTask, plain_task}
+use Rattle.lethe_job.specs.Works.{PlainTask, plain_task}
 use Rattle.lethe_core.specs.declared.flight.Flight.{Flight}
 use Rattle.lethe_core.specs.declared.holding.Core.{Core}
 

@@ -1,16 +1,16 @@
 //! What a store has.
-ghost use Rattle.std.specs.Prelude.{◌≡◌, ◌<◌, ◌-◌, None, Ok, length, slice_index, IfOk, IfSome};
-ghost use Rattle.lethe_follows.specs.Merged.{erases_upto};
+ghost use Rattle.std.specs.Prelude.{◌≡◌, ◌≤◌, ◌-◌, None, Ok, length, slice_index, All, Any, IfOk, IfSome, IsTrue};
+ghost use Rattle.lethe_base.specs.Limits.{max_place, max_time};
 ghost use Rattle.lethe_stored.specs.Stored.{Stored};
 ghost use Rattle.lethe_state.specs.Writable.{IsWritable};
-ghost use Rattle.lethe_job.specs.Tasks.{plain_task};
+ghost use Rattle.lethe_job.specs.Works.{IsInLevels, applied_upto, erases_of, plain_task};
 ghost use Rattle.lethe_core.specs.Merges.{HasNoMergeBy, IsBegunBy, IsTaskOf, chosen_by};
 ghost use Rattle.lethe_core.specs.Running.{Holds};
 ghost use Rattle.lethe_core.specs.View.{view_of};
 
 use crate::Flight;
 use crate::choosing::Choice;
-use lethe_base::{Name, NoMemory};
+use lethe_base::{Name, NoMemory, Pending};
 use lethe_disk::Disk;
 use lethe_job::{Begun, Task, cited_files, shape_of, task_of};
 use lethe_state::State;
@@ -32,7 +32,7 @@ pub struct Core<D: Disk> {
 }
 
 impl<D: Disk> Core<D> {
-    /// The merge that is chosen, and None where none is. It reads no page and makes no device call.
+    /// The merge or the sweep that is chosen, and None where none is. It reads no page and makes no device call.
     pub(crate) fn next_task(
         &self,
         alloc: Global,
@@ -43,10 +43,9 @@ impl<D: Disk> Core<D> {
         ensures some { (s : Stored) → Holds (view_of self.now) s → IfOk result (λ found. IfSome found (λ task. IsBegunBy (chosen_by choice) s (plain_task task))) }
 
         // On any disk:
-        ensures level { IfOk result (λ found. IfSome found (λ task. task.level < self.now.state.manifest.config.levels)) }
-        ensures upto { IfOk result (λ found. IfSome found (λ task. task.upto ≡ self.now.state.count)) }
-        ensures erases { IfOk result (λ found. IfSome found (λ task. task.erases ≡ erases_upto self.now.state.count self.now.state.pending)) }
-        ensures config { IfOk result (λ found. IfSome found (λ task. task.config ≡ self.now.state.manifest.config)) }
+        ensures levels { IfOk result (λ found. IfSome found (λ task. IsInLevels self.now.state.manifest.config.levels (plain_task task))) }
+        ensures upto { IfOk result (λ found. IfSome found (λ task. applied_upto (plain_task task) ≤ max_place)) }
+        ensures times { IfOk result (λ found. IfSome found (λ task. All (λ erase. erase.time ≤ max_time) (erases_of (plain_task task)))) }
         ensures of { IfOk result (λ found. IfSome found (λ task. IsTaskOf (view_of self.now) (plain_task task))) }
     {
         let manifest = self.state.manifest();
@@ -62,6 +61,10 @@ impl<D: Disk> Core<D> {
         let Some(plan) = choice.pick(&shape, config, manifest.clock) else {
             return Ok(None);
         };
+        // The erases that are still to be done are some of those that are pending, so this is never so in a store.
+        if !is_pending(plan.erase, erases) {
+            return Err(NoMemory);
+        }
         let task = task_of(alloc, &files, plan, config, erases, self.state.count())?;
         Ok(Some(task))
     }
@@ -73,5 +76,15 @@ impl<D: Disk> Core<D> {
     {
         let segments = self.state.manifest().segments.items();
         segments[segments.len() - 1]
+    }
+}
+
+/// Whether one of the erases has the place, where there is one.
+fn is_pending(place: Option<u64>, erases: &[Pending]) -> bool
+    ensures { IsTrue result → IfSome place (λ place. Any (λ erase. erase.seq ≡ place) erases.now) }
+{
+    match place {
+        Some(place) => erases.iter().any(|erase| erase.seq == place),
+        None => true,
     }
 }

@@ -2,7 +2,6 @@
 #![tactic(auto)]
 
 mod choosing;
-mod descent;
 mod flight;
 mod holding;
 mod laws;
@@ -13,4 +12,4 @@ mod working;
 
 pub use flight::Flight;
 pub use holding::Core;
-pub use laws::{merge_goes_down, steps_are_few};
+pub use laws::{job_goes_on, jobs_are_few};

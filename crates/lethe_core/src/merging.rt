@@ -1,4 +1,4 @@
-//! Merges that a store carries out itself, and the step of a merge.
+//! Merges and sweeps that a store carries out itself, and the step of one.
 ghost use Rattle.std.specs.Prelude.{◌≡◌, ◌≤◌, ◌+◌, ◌⊎◌, ◌↔◌, [], true, false, IsTrue, List, Ok, None, All, IfOk, IfErr, OnErr, OnOk, ◌<◌, IsErrOf};
 ghost use Rattle.std.specs.Result.{result_err};
 ghost use Rattle.lethe_base.specs.History.{History};
@@ -10,9 +10,8 @@ ghost use Rattle.lethe_header.specs.Headers as header;
 ghost use Rattle.lethe_stored.specs.Stored.{Stored};
 ghost use Rattle.lethe_state.specs.Room.{IsStepFrom};
 ghost use Rattle.lethe_state.specs.Writable.{segments_for};
-ghost use Rattle.lethe_core.specs.Descent.{steps_down};
 ghost use Rattle.lethe_job.specs.Jobs.{told_as};
-ghost use Rattle.lethe_job.specs.Tasks.{PlainTask, inputs_in, pages_in};
+ghost use Rattle.lethe_job.specs.Works.{PlainTask, reads_of};
 ghost use Rattle.lethe_core.specs.Keeps.{Keeps, MayStep};
 ghost use Rattle.lethe_core.specs.Merges.{AreOutcomesBy, AreSomeOutcomesBy, HasNoMergeBy, IsOutcomeBy, IsShortToMergeBy, chosen_by, due_choice};
 ghost use Rattle.lethe_core.specs.Merges.{IsCrowded, IsMergedInPart, IsShortToMerge, IsUncrowded, MayMerge, Outcome, pages_of, retired_behind};
@@ -24,15 +23,16 @@ ghost use Rattle.lethe_core.specs.View.{view_of};
 
 use crate::Core;
 use crate::choosing::Choice;
-use crate::descent::steps_down;
 use lethe_base::{NoMemory, Refused};
 use lethe_disk::{Disk, ReadRefused};
 use lethe_install::{Installation, installing};
-use lethe_job::cited_files;
 use std::alloc::Global;
 
+/// More jobs than there can be one after another: each leaves less to do.
+const MOST_JOBS: u128 = 1 << 127;
+
 impl<D: Disk> Core<D> {
-    /// Carries out the merges that are due, one after another until none is, where level 0 is crowded and no job is in flight.
+    /// Carries out the merges and sweeps that are due, one after another until none is, where level 0 is crowded and no job is in flight.
     pub(crate) fn merge_due(
         &mut self,
         alloc: Global,
@@ -61,7 +61,7 @@ impl<D: Disk> Core<D> {
         self.merge_all(alloc, port, before, Choice::Room)
     }
 
-    /// Carries out the merges that are due at a time, one after another until none is, where no job is in flight.
+    /// Carries out the merges and sweeps that are due at a time, one after another until none is, where no job is in flight.
     pub fn ripen(
         &mut self,
         alloc: Global,
@@ -98,7 +98,7 @@ impl<D: Disk> Core<D> {
         self.version.files(0).len() as u64 >= 2 * ratio
     }
 
-    /// Carries out the merges that are chosen, one after another until none is, where no job is in flight.
+    /// Carries out the merges and sweeps that are chosen, one after another until none is, where no job is in flight.
     fn merge_all(
         &mut self,
         alloc: Global,
@@ -125,8 +125,7 @@ impl<D: Disk> Core<D> {
     {
         let earlier = D::port_faults(port);
 
-        // Each merge brings an entry a level down, so there are no more of them than levels that the entries have still to go.
-        for _ in 0..self.most_merges(alloc)?.saturating_add(1) {
+        for _ in 0..MOST_JOBS {
             match self.merge_next(alloc, port, before, choice) {
                 Ok(true) => {}
                 Ok(false) => return Ok(()),
@@ -136,20 +135,7 @@ impl<D: Disk> Core<D> {
         Ok(())
     }
 
-    /// How many merges there may still be, one after another.
-    fn most_merges(&self, alloc: Global) -> Result<u64, Refused>
-        requires { IsSound D.tells (view_of self.now) }
-        ensures most { (s : Stored) → Holds (view_of self.now) s → IfOk result (λ most. most ≡ steps_down s.manifest.config.levels s.files) }
-        ensures refused { IfErr result (λ why. why ≡ refused.NoMemory) }
-    {
-        let manifest = self.state.manifest();
-        match cited_files(alloc, &self.version, manifest.files.items()) {
-            Ok(files) => Ok(steps_down(&files, manifest.config.fields().levels)),
-            Err(NoMemory) => Err(Refused::NoMemory),
-        }
-    }
-
-    /// Carries out the merge that is chosen, and answers whether there was one, where no job is in flight.
+    /// Carries out the merge or sweep that is chosen, and answers whether there was one, where no job is in flight.
     fn merge_next(
         &mut self,
         alloc: Global,
@@ -164,7 +150,7 @@ impl<D: Disk> Core<D> {
         ensures ended { result ≡ Ok false → (self.new ≡ self.old) × (D.fetches port.new ≡ D.fetches port.old) × ((s : Stored) → Holds (view_of self.old) s → HasNoMergeBy (chosen_by choice) s) }
         ensures done { D.tells → (s : Stored) → Holds (view_of self.old) s → result ≡ Ok true
             → (outcome : Outcome) × IsOutcomeBy (chosen_by choice) s outcome × Holds (view_of self.new) outcome.to
-            × (D.fetches port.new ≡ D.fetches port.old + pages_in (inputs_in outcome.task)) }
+            × (D.fetches port.new ≡ D.fetches port.old + reads_of outcome.task) }
         ensures steady { OnOk result (IsSteady self.old.state self.new.state) }
         ensures retired { result ≡ Ok true → self.new.retired.items ≡ [] }
         ensures why { IfErr result (λ why. HasReason (IsShortToMergeBy (chosen_by choice) D.tells (view_of self.new)) self.old.state before (D.faults self.new.disk) why
@@ -181,8 +167,8 @@ impl<D: Disk> Core<D> {
             Ok(None) => return Ok(false),
             Err(NoMemory) => return Err(Refused::NoMemory),
         };
-        let drafts = match task.outcome(alloc, port) {
-            Ok(drafts) => drafts,
+        let outcome = match task.outcome(alloc, port) {
+            Ok(outcome) => outcome,
             Err(why) => return Err(told_as(why)),
         };
         let made = installing(
@@ -190,7 +176,7 @@ impl<D: Disk> Core<D> {
             &self.state,
             &self.version,
             &task,
-            drafts,
+            outcome,
             &[],
             &self.retired,
             &[],
@@ -199,7 +185,7 @@ impl<D: Disk> Core<D> {
         Ok(true)
     }
 
-    /// Carries out the step of a merge. Behind it no job is in flight: its pages are cited, or there was none.
+    /// Carries out the step of a merge or a sweep. Behind it no job is in flight: its pages are cited, or there was none.
     pub(crate) fn merge_now(
         &mut self,
         alloc: Global,

@@ -1,20 +1,21 @@
 //! The steps of a job: begun, written page by page, installed or given up.
-ghost use Rattle.std.specs.Prelude.{◌≡◌, ◌≤◌, ◌+◌, ◌-◌, [], Ok, Some, None, length, sum_by, IfOk, IfErr, IfSome, IsErrOf, IsSome, OnErr, OnOk};
+ghost use Rattle.std.specs.Prelude.{◌≡◌, ◌≤◌, ◌+◌, ◌-◌, [], Ok, Some, None, length, IfOk, IfErr, IfSome, IsErrOf, IsSome, OnErr, OnOk};
 ghost use Rattle.std.specs.Result.{result_err};
 ghost use Rattle.std.specs.FinMap.{insert};
 ghost use Rattle.lethe_base.specs.History.{History};
 ghost use Rattle.lethe_base.specs.Limits.{max_place};
 ghost use Rattle.lethe_base.specs.declared.config.Fields.{Fields};
 ghost use Rattle.lethe_base.specs.declared.refused.Refused.TheVariants as refused;
-ghost use Rattle.lethe_build.specs.Drafts.{numbers_for};
 ghost use Rattle.lethe_clean.specs.Copied.{IsCopied};
 ghost use Rattle.lethe_disk.specs.Disk.{IsIdle};
 ghost use Rattle.lethe_file.specs.Agreement.{page_name};
 ghost use Rattle.lethe_stored.specs.Stored.{Stored};
-ghost use Rattle.lethe_job.specs.Tasks.{IsBegunIn, plain_task};
+ghost use Rattle.lethe_install.specs.Outcomes.{IsInstalled};
+ghost use Rattle.lethe_job.specs.MadeOf.{numbers_in};
+ghost use Rattle.lethe_job.specs.Works.{IsBegunIn, plain_task};
 ghost use Rattle.lethe_core.specs.Jobs.{AreOutputsOf, IsAtWork, with_begun, with_page};
 ghost use Rattle.lethe_core.specs.Keeps.{Keeps, MayStep};
-ghost use Rattle.lethe_core.specs.Merges.{HasNoMerge, IsInstalled};
+ghost use Rattle.lethe_core.specs.Merges.{HasNoMerge};
 ghost use Rattle.lethe_core.specs.Reasons.{HasReason};
 ghost use Rattle.lethe_core.specs.Running.{Holds, IsSound};
 ghost use Rattle.lethe_core.specs.StandsNow.{StandsNow};
@@ -24,17 +25,16 @@ ghost use Rattle.lethe_core.specs.View.{face_of, view_of};
 use crate::choosing::Choice;
 use crate::{Core, Flight};
 use lethe_base::{MAX_PLACE, NoMemory, Refused};
-use lethe_build::Draft;
 use lethe_disk::{Disk, DiskRefused};
 use lethe_install::installing;
-use lethe_job::Job;
+use lethe_job::{Job, Made};
 use lethe_loose::{Written, remove_pages, write_page};
 use std::alloc::Global;
 use std::snapshot::Snapshot;
 use std::sync::Arc;
 
 impl<D: Disk> Core<D> {
-    /// The job of the merge that is due, where none is in flight: now it is. None where no merge is due. It reads no page and makes no device call.
+    /// The job of the merge or the sweep that is due, where none is in flight: now it is. None where none is due. It reads no page and makes no device call.
     pub fn begin_now(&mut self, alloc: Global) -> Result<Option<Job<D>>, NoMemory>
         requires sound { IsSound D.tells (view_of self.old) }
         requires runs { self.old.state.stopped ≡ None }
@@ -45,7 +45,7 @@ impl<D: Disk> Core<D> {
         ensures none { (s : Stored) → Holds (view_of self.old) s → result ≡ Ok None → HasNoMerge s }
         ensures begun { (s : Stored) → Holds (view_of self.old) s → IfOk result (λ found. IfSome found (λ job. IsBegunIn s (plain_task job.task.value))) }
         ensures works { IfOk result (λ found. IfSome found (IsAtWork D.tells (view_of self.new))) }
-        ensures unmade { IfOk result (λ found. IfSome found (λ job. job.drafts ≡ None)) }
+        ensures unmade { IfOk result (λ found. IfSome found (λ job. job.made ≡ None)) }
         ensures port { IfOk result (λ found. IfSome found (λ job. (D.fetches job.port ≡ 0) × (D.port_faults job.port ≡ 0))) }
         ensures face { IfOk result (λ found. IfSome found (λ job. face_of (view_of self.new) ≡ with_begun (face_of (view_of self.old)) (plain_task job.task.value))) }
         ensures none_begun { result ≡ Ok None → face_of (view_of self.new) ≡ face_of (view_of self.old) }
@@ -117,16 +117,11 @@ impl<D: Disk> Core<D> {
         }
     }
 
-    /// Cites the outputs of the job in flight in the place of its inputs, which are removed.
-    pub fn install_now(
-        &mut self,
-        alloc: Global,
-        before: u64,
-        drafts: Vec<Draft>,
-    ) -> Result<(), Refused>
+    /// Cites what the job in flight made in the place of what goes.
+    pub fn install_now(&mut self, alloc: Global, before: u64, made: Made) -> Result<(), Refused>
         requires may { MayStep D.tells (view_of self.old) before }
         requires flies { IsSome self.old.flight }
-        requires outputs { IfSome (view_of self.old).flight (λ flying. AreOutputsOf D.tells flying drafts.items) }
+        requires outputs { IfSome (view_of self.old).flight (λ flying. AreOutputsOf D.tells flying made) }
         ensures keeps { Keeps D.tells (view_of self.old) (view_of self.new) (result_err result) }
         ensures undone { IfErr result (IsUndone D.tells (view_of self.old) (view_of self.new)) }
         ensures done { D.tells → (s : Stored) → Holds (view_of self.old) s
@@ -136,7 +131,7 @@ impl<D: Disk> Core<D> {
         ensures kept { IfErr result (λ why. (self.new.flight ≡ self.old.flight) × (self.new.retired ≡ self.old.retired)) }
         ensures begun { self.new.begun ≡ self.old.begun }
         ensures drawn { OnErr result (self.new.state.next ≡ self.old.state.next) }
-        ensures why { IfErr result (HasReason (IfSome (view_of self.old).flight (λ flying. max_place ≤ self.old.state.next + (sum_by numbers_for drafts.items - length flying.written)))
+        ensures why { IfErr result (HasReason (IfSome (view_of self.old).flight (λ flying. max_place ≤ self.old.state.next + (numbers_in made - length flying.written)))
             self.old.state before (D.faults self.new.disk)) }
     {
         let Some(flight) = &self.flight else {
@@ -147,7 +142,7 @@ impl<D: Disk> Core<D> {
             &self.state,
             &self.version,
             &flight.task,
-            drafts,
+            made,
             flight.written.names(),
             &self.retired,
             &[],

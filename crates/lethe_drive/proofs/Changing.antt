@@ -15,6 +15,7 @@ use Rattle.lethe_stored.specs.Stored.{Stored, appended}
 use Rattle.lethe_state.specs.Records.{headers_in}
 use Rattle.lethe_state.specs.Room.{HasRoom}
 use Rattle.lethe_core.proofs.Chosen.{begun_in}
+use Rattle.lethe_core.proofs.Installing.{planned_for, sound_inputs}
 use Rattle.lethe_core.specs.Asked.{Makes, behind, failure_of, refused_to}
 use Rattle.lethe_core.specs.Merges.{IsRoomBegun, IsRoomMadeBy, Outcome, pages_of, retired_behind}
 use Rattle.lethe_core.specs.Reasons.{HasReason, IsShort, IsShortOfRoom, IsUnreadable}
@@ -26,6 +27,7 @@ use Rattle.lethe_engine.specs.StandsFor.{Opened, StandsSince}
 use Rattle.lethe_drive.specs.Answers.{IsChange, IsFull, IsShortToMerge, IsUnchanged}
 use Rattle.lethe_drive.specs.Moments.{AreJobsSame, Going, IsKnown, Moment, moment_of}
 use Rattle.lethe_drive.proofs.Knowing.{known_held, not_stopped, ok_or_err, refused_known, room_in, stopped_same}
+use Rattle.lethe_drive.proofs.Outputs.{told_outputs}
 use Rattle.lethe_drive.proofs.Reasons.{reason_on, unreadable_told}
 
 -- where there is room for a record none has to be made
@@ -45,17 +47,18 @@ module _ (Tells PortsFail : Type 0) (told : Tells) (call : Call) (IsNext : Store
   same_jobs : (t : Stored) → AreJobsSame before (later t)
   same_jobs t = record { flight = flight; begun = refl; there = refl }
 
-  -- room was made, and the record was written later the others
+  -- room was made, and the record was written behind the others
   abbrev pub Written : Type 0
   Written = (t : Stored) × (outcomes : List Outcome) × (next : Record) × IsRoomMadeBy old.flight s outcomes t × IsNext t (headers_in new.levels) next × Holds new (appended t next)
       × (fetches_now ≡ fetches_before + pages_of outcomes) × (new.retired ≡ retired_behind outcomes old.retired)
 
-  -- the merge for which numbers are short is one of what is stored
+  -- the job for which numbers are short is one of what is stored
   short_on : (t : Stored) → Holds new t → IsShortOfRoom Tells old.state new → IsShort old.state ⊎ IsShortToMerge (later t)
   short_on t holds (inl short) = inl short
   short_on t holds (inr short) =
-      let is = short.are told t holds in
-      inr (record { task = short.task; begun = begun_in t short.task is.0; drafts = short.drafts; are = is.1; short = short.short })
+      let begun = short.begun told t holds in
+      let sound = sound_inputs t holds.remembers.coherent short.task (planned_for t short.task begun.planned) in
+      inr (record { task = short.task; begun = begun_in t short.task begun; made = short.made; are = told_outputs Tells short.task short.made short.outputs told sound; short = short.short })
 
   module _ (why : Refused) (stood : StandsSince config opened (refused_to h 0 call why) new) where
     -- what is refused for want of numbers is in no history, so nothing was stopped

@@ -9,14 +9,14 @@ use Rattle.lethe_base.specs.Limits.{max_place}
 use Rattle.lethe_base.specs.declared.call.Call.TheVariants.{Work}
 use Rattle.lethe_base.specs.declared.config.Fields.{Fields}
 use Rattle.lethe_base.specs.declared.refused.Refused.{Refused}
-use Rattle.lethe_base.specs.declared.refused.Refused.TheVariants.{Fault, Stopped, Backwards, Pinned, NothingDue, Cancelled, Exhausted, ReadFault, NoMemory, Damaged, Undone}
+use Rattle.lethe_base.specs.declared.refused.Refused.TheVariants.{Fault, Stopped, Backwards, Pinned, NothingDue, Cancelled, Exhausted, ReadFault, NoMemory, Damaged}
 use Rattle.lethe_disk.specs.Disk.{IsIdle}
 use Rattle.lethe_disk.specs.declared.disk.Disk.{Ghosts}
 use Rattle.lethe_stored.specs.Files.{Parts}
 use Rattle.lethe_stored.specs.Stored.{Stored}
 use Rattle.lethe_state.specs.Remembered.{Remembers}
 use Rattle.lethe_state.specs.declared.state.State.{State}
-use Rattle.lethe_job.specs.Tasks.{IsBegunIn, plain_task}
+use Rattle.lethe_job.specs.Works.{IsBegunIn, plain_task}
 use Rattle.lethe_job.specs.declared.job.Job.{Job}
 use Rattle.lethe_core.specs.Asked.{Serves, behind, failure_of, refused_to}
 use Rattle.lethe_core.specs.Jobs.{IsAtWork}
@@ -156,7 +156,7 @@ module _ (config : Fields) (h : History) (old new : View) (s : Stored) (fetches 
     (state : new.state ≡ old.state) (levels : new.levels ≡ old.levels) (retired : new.retired ≡ old.retired) (idle : IsIdle old.disk new.disk) where
   -- it was begun
   pub has_begun : {D Page Port : Type 0} {kind : Ghosts D Page Port} (Tells : Type 0) (job : Job D Page Port kind) → job.round ≡ old.rounds → old.state.stopped ≡ None → (IsSome old.flight → ⊥) → IsBegunIn s (plain_task job.task.value)
-      → IsAtWork Tells new job → job.drafts ≡ None → kind.port_faults job.port ≡ 0
+      → IsAtWork Tells new job → job.made ≡ None → kind.port_faults job.port ≡ 0
       → IsBegin h (moment_of old s fetches faults begun there) (Ok begun) h (moment_of new s fetches faults (begun + 1) (Some (going_of begun job)))
   has_begun {kind = kind} Tells job round runs free is works unmade unread =
       let written = nil_from_length works.flies.flying.written (works.count ∙ works.job_is.unmade unmade) in
@@ -190,7 +190,6 @@ module _ (config : Fields) (h : History) (old new : View) (s : Stored) (fetches 
       none_due (inl busy) = inl busy
       none_due (inr none) = inr (none told s (known.held is.0))
   unbegun Tells told known NoMemory is = tt
-  unbegun Tells told known (Undone erase) is = is
   unbegun Tells told known (Fault place before after) is = is
   unbegun Tells told known (Backwards clock) is = is
   unbegun Tells told known (Pinned pin limit) is = is

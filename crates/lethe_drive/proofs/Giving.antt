@@ -8,11 +8,12 @@ use Rattle.lethe_base.specs.Limits.{max_place}
 use Rattle.lethe_base.specs.declared.call.Call.TheVariants.{Work}
 use Rattle.lethe_base.specs.declared.config.Fields.{Fields}
 use Rattle.lethe_base.specs.declared.refused.Refused.{Refused}
-use Rattle.lethe_base.specs.declared.refused.Refused.TheVariants.{Fault, Stopped, Backwards, Pinned, NothingDue, Cancelled, Exhausted, ReadFault, NoMemory, Damaged, Undone}
+use Rattle.lethe_base.specs.declared.refused.Refused.TheVariants.{Fault, Stopped, Backwards, Pinned, NothingDue, Cancelled, Exhausted, ReadFault, NoMemory, Damaged}
 use Rattle.lethe_disk.specs.declared.disk.Disk.{Ghosts}
 use Rattle.lethe_stored.specs.Stored.{Stored}
 use Rattle.lethe_state.specs.declared.state.State.{State}
-use Rattle.lethe_job.specs.Tasks.{AreSound, IsBegunIn, PlainTask, inputs_in, plain_task}
+use Rattle.lethe_job.specs.Tasks.{AreSound}
+use Rattle.lethe_job.specs.Works.{IsBegunIn, PlainTask, inputs_in, plain_task}
 use Rattle.lethe_job.specs.declared.job.Job.{Job}
 use Rattle.lethe_core.specs.Asked.{Serves, behind, failure_of}
 use Rattle.lethe_core.specs.Jobs.{IsAtWork, IsInFlight}
@@ -65,7 +66,7 @@ module _ {D Page Port : Type 0} {kind : Ghosts D Page Port} (Tells : Type 0) (vi
     reads = subst (λ (task : PlainTask). Tells → AreSound (inputs_in task)) (sym (ap plain_task task)) theirs_sound;
   }
 
--- what a job that was begun merges is stored
+-- the files that go in a job that was begun are stored
 pub begun_reads : (Tells : Type 0) (view : View) (task : PlainTask) → IsSound Tells view → view.state.stopped ≡ None → (Tells → (s : Stored) → Holds view s → IsBegunIn s task) → Tells → AreSound (inputs_in task)
 begun_reads Tells view task sound runs begun told =
     let held = sound.held told in
@@ -144,7 +145,6 @@ must_fail state before now (Exhausted last) is memory numbers runs none = number
 must_fail state before now (Backwards clock) is memory numbers runs none = is
 must_fail state before now (Pinned pin limit) is memory numbers runs none = is
 must_fail state before now NothingDue is memory numbers runs none = is
-must_fail state before now (Undone erase) is memory numbers runs none = is
 must_fail state before now (Cancelled first other) is memory numbers runs none = is
 must_fail state before now (ReadFault b a) is memory numbers runs none = is
 must_fail state before now (Damaged name) is memory numbers runs none = is
@@ -160,7 +160,6 @@ module _ (Tells : Type 0) (told : Tells) (config : Fields) (opened : Opened) (h 
   kept_up t (Backwards clock) is memory numbers = is
   kept_up t (Pinned pin limit) is memory numbers = is
   kept_up t NothingDue is memory numbers = is
-  kept_up t (Undone erase) is memory numbers = is
   kept_up t (Cancelled first now) is memory numbers = is
   kept_up t (ReadFault before after) is memory numbers = is
   kept_up t (Damaged name) is memory numbers = is

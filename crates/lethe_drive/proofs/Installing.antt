@@ -1,22 +1,21 @@
 -- Writing on and installing a job.
-use Rattle.std.proofs.Common.{◌≡◌, ◌≤◌, ◌⊎◌, inl, inr, ℕ, ◌+◌, ◌-◌, true, false, [], length, Option, Some, None, Result, Ok, Err, Vec, refl, sym, ap, ◌∙◌, subst, arith}
-use Rattle.std.specs.Prelude.{IfSome, IsSome, sum_by}
-use Rattle.std.specs.declared.alloc.Global.{Global}
+use Rattle.std.proofs.Common.{◌≡◌, ◌≤◌, ◌⊎◌, inl, inr, ℕ, ◌+◌, ◌-◌, true, false, [], length, Option, Some, None, Result, Ok, Err, refl, sym, ap, ◌∙◌, subst, arith}
+use Rattle.std.specs.Prelude.{IfSome, IsSome}
 use Rattle.lethe_base.specs.History.{History}
 use Rattle.lethe_base.specs.Limits.{max_place}
 use Rattle.lethe_base.specs.declared.call.Call.TheVariants.{Work}
 use Rattle.lethe_base.specs.declared.config.Fields.{Fields}
 use Rattle.lethe_base.specs.declared.refused.Refused.{Refused}
-use Rattle.lethe_build.specs.Drafts.{numbers_for}
-use Rattle.lethe_build.specs.declared.draft.Draft.{Draft}
 use Rattle.lethe_disk.specs.declared.disk.Disk.{Ghosts}
-use Rattle.lethe_flush.specs.Made.{pages_in}
 use Rattle.lethe_stored.specs.Stored.{Stored}
-use Rattle.lethe_job.specs.Tasks.{AreSound, PlainTask, inputs_in, plain_task}
+use Rattle.lethe_install.specs.Outcomes.{IsInstalled}
+use Rattle.lethe_job.specs.MadeOf.{numbers_in, pages_of}
+use Rattle.lethe_job.specs.Tasks.{AreSound}
+use Rattle.lethe_job.specs.Works.{PlainTask, inputs_in, plain_task}
 use Rattle.lethe_job.specs.declared.job.Job.{Job}
+use Rattle.lethe_job.specs.declared.made.Made.{Made}
 use Rattle.lethe_core.specs.Asked.{failure_of, refused_to}
 use Rattle.lethe_core.specs.Jobs.{IsAtWork, IsInFlight, IsWhole}
-use Rattle.lethe_core.specs.Merges.{IsInstalled}
 use Rattle.lethe_core.specs.Reasons.{HasReason, IsUnreadable}
 use Rattle.lethe_core.specs.Running.{Holds}
 use Rattle.lethe_core.specs.Steps.{IsUndone}
@@ -101,17 +100,17 @@ module _ {D Page Port : Type 0} {kind : Ghosts D Page Port} where
         (is : IsWhole whole) where
       short_of : (new : View) (t : Stored) (back : Job D Page Port kind) → new.state.next ≡ mid.state.next → engine.IsShortToInstall mid whole → IsShortToInstall (going_of number job) (behind new t back)
       short_of new t back drawn short =
-          let some = some_of whole.drafts is.made in
-          let drafts : Vec Draft Global = some.0 in
-          let P : Option (Vec Draft Global) → Type 0 = λ o. IfSome o (λ drafts. max_place ≤ mid.state.next + (sum_by numbers_for drafts.items - whole.written)) in
-          let few : max_place ≤ mid.state.next + (sum_by numbers_for drafts.items - whole.written) = subst P some.1 short in
-          let Q : Option (Vec Draft Global) → Type 0 = λ o. IfSome o (λ drafts. whole.written ≡ length (pages_in drafts.items)) in
-          let all : whole.written ≡ length (pages_in drafts.items) = subst Q some.1 is.all in
+          let some = some_of whole.made is.made in
+          let made : Made = some.0 in
+          let P : Option Made → Type 0 = λ o. IfSome o (λ made. max_place ≤ mid.state.next + (numbers_in made - whole.written)) in
+          let few : max_place ≤ mid.state.next + (numbers_in made - whole.written) = subst P some.1 short in
+          let Q : Option Made → Type 0 = λ o. IfSome o (λ made. whole.written ≡ length (pages_of made)) in
+          let all : whole.written ≡ length (pages_of made) = subst Q some.1 is.all in
           inr (
-            drafts.items,
-            outputs_for Tells PortsFail job whole task told sound works.job_is drafts some.1,
-            subst (λ (n : ℕ). max_place ≤ n + (sum_by numbers_for drafts.items - length (pages_in drafts.items))) (sym drawn)
-                (subst (λ (n : ℕ). max_place ≤ mid.state.next + (sum_by numbers_for drafts.items - n)) all few),
+            made,
+            outputs_for Tells PortsFail job whole task told sound works.job_is made some.1,
+            subst (λ (n : ℕ). max_place ≤ n + (numbers_in made - length (pages_of made))) (sym drawn)
+                (subst (λ (n : ℕ). max_place ≤ mid.state.next + (numbers_in made - n)) all few),
           )
 
       -- the engine refused to install it

@@ -1,4 +1,5 @@
 pub mod Knowing
+pub mod Outputs
 pub mod Reasons
 pub mod Reading
 pub mod Freezing

@@ -1,23 +1,23 @@
 -- What asking a job for its next page and writing it comes to.
-use Rattle.std.proofs.Common.{◌≡◌, ◌≤◌, ◌<◌, ◌⊎◌, inl, inr, ℕ, Bool, true, false, [], length, Option, Some, Result, Ok, Err, Vec, refl, sym, ap, ◌∙◌, subst, arith}
+use Rattle.std.proofs.Common.{◌≡◌, ◌≤◌, ◌<◌, ◌⊎◌, inl, inr, ℕ, Bool, true, false, [], length, Option, Some, Result, Ok, Err, refl, sym, ap, ◌∙◌, subst, arith}
 use Rattle.std.specs.FinMap.{insert}
 use Rattle.std.specs.Prelude.{IfSome, IsSome, List, None, ◌+◌, option_map, slice_index_or}
 use Rattle.std.specs.Option.{option_map_or}
-use Rattle.std.specs.declared.alloc.Global.{Global}
 use Rattle.std.specs.Result.{result_err}
 use Rattle.lethe_base.specs.History.{History}
 use Rattle.lethe_base.specs.Limits.{max_place}
 use Rattle.lethe_base.specs.declared.call.Call.TheVariants.{Work}
 use Rattle.lethe_base.specs.declared.config.Fields.{Fields}
 use Rattle.lethe_base.specs.declared.refused.Refused.{Refused}
-use Rattle.lethe_build.specs.declared.draft.Draft.{Draft}
 use Rattle.lethe_disk.specs.declared.disk.Disk.{Ghosts}
 use Rattle.lethe_file.specs.Agreement.{page_name}
-use Rattle.lethe_flush.specs.Made.{pages_in}
 use Rattle.lethe_stored.specs.Stored.{Stored}
 use Rattle.lethe_job.specs.Jobs.{IsJob, IsUnread, next_bytes}
-use Rattle.lethe_job.specs.Tasks.{AreSound, inputs_in, plain_task}
+use Rattle.lethe_job.specs.MadeOf.{pages_of}
+use Rattle.lethe_job.specs.Tasks.{AreSound}
+use Rattle.lethe_job.specs.Works.{inputs_in, plain_task}
 use Rattle.lethe_job.specs.declared.job.Job.{Job}
+use Rattle.lethe_job.specs.declared.made.Made.{Made}
 use Rattle.lethe_core.specs.Asked.{Serves, behind, failure_of, refused_to}
 use Rattle.lethe_core.specs.Jobs.{IsAtWork, with_page}
 use Rattle.lethe_core.specs.Reasons.{HasReason, IsUnreadable}
@@ -103,27 +103,27 @@ module _ {D Page Port : Type 0} {kind : Ghosts D Page Port} (Tells PortsFail : T
         page_unread told sound why is refused,
       )
 
-  module _ (told : Tells) (sound : AreSound (inputs_in (plain_task job.task.value))) (works : IsAtWork Tells old job) (written : mid.written ≡ job.written) (made : IsSome mid.drafts) (is : IsJob Tells mid) where
+  module _ (told : Tells) (sound : AreSound (inputs_in (plain_task job.task.value))) (works : IsAtWork Tells old job) (written : mid.written ≡ job.written) (some : IsSome mid.made) (is : IsJob Tells mid) where
     abbrev flying : Flying
     flying = works.flies.flying
 
-    abbrev drafts : Vec Draft Global
-    drafts = (some_of mid.drafts made).0
+    abbrev made : Made
+    made = (some_of mid.made some).0
 
-    drafts_are : mid.drafts ≡ Some drafts
-    drafts_are = (some_of mid.drafts made).1
+    made_is : mid.made ≡ Some made
+    made_is = (some_of mid.made some).1
 
     -- the next page was written
-    pub page_written : (new : View) (after : Job D Page Port kind) → after.task.value ≡ mid.task.value → after.round ≡ mid.round → after.refused ≡ false → after.written ≡ mid.written + 1 → IfSome mid.drafts (λ drafts. job.written < length (pages_in drafts.items))
+    pub page_written : (new : View) (after : Job D Page Port kind) → after.task.value ≡ mid.task.value → after.round ≡ mid.round → after.refused ≡ false → after.written ≡ mid.written + 1 → IfSome mid.made (λ made. job.written < length (pages_of made))
         → face_of new ≡ written_face (face_of old) (page_name old.state.next, next_bytes mid) (Ok tt) → new.disk.directory ≡ insert old.disk.directory (page_name old.state.next) (next_bytes mid)
         → IsWriteOut PortsFail (going_of number job) h before (Ok true) h (later new s after)
     page_written new after kept stays asked more left face directory =
-        let P : Option (Vec Draft Global) → Type 0 = λ o. IfSome o (λ drafts. job.written < length (pages_in drafts.items)) in
-        let few : job.written < length (pages_in drafts.items) = subst P drafts_are left in
+        let P : Option Made → Type 0 = λ o. IfSome o (λ made. job.written < length (pages_of made)) in
+        let few : job.written < length (pages_of made) = subst P made_is left in
         let count = works.count in
-        let bytes : next_bytes mid ≡ slice_index_or (pages_in drafts.items) mid.written [] =
-        ap (λ (o : Option (Vec Draft Global)). option_map_or (λ (drafts : Vec Draft Global). slice_index_or (pages_in drafts.items) mid.written []) o []) drafts_are in
-        let put : new.flight ≡ Some (with_page flying (page_name old.state.next, slice_index_or (pages_in drafts.items) mid.written [])) =
+        let bytes : next_bytes mid ≡ slice_index_or (pages_of made) mid.written [] =
+        ap (λ (o : Option Made). option_map_or (λ (made : Made). slice_index_or (pages_of made) mid.written []) o []) made_is in
+        let put : new.flight ≡ Some (with_page flying (page_name old.state.next, slice_index_or (pages_of made) mid.written [])) =
         ap (λ (face : Face). face.flight) face ∙ ap (option_map (λ (flying : Flying). with_page flying (page_name old.state.next, next_bytes mid))) works.flies.is
         ∙ ap (λ (b : List ℕ). Some (with_page flying (page_name old.state.next, b))) bytes in
         let place : mid.written ≡ length flying.written = written ∙ sym count in
@@ -132,13 +132,13 @@ module _ {D Page Port : Type 0} {kind : Ghosts D Page Port} (Tells PortsFail : T
           answers = record {
             flying = flying;
             flies = works.flies.is;
-            drafts = drafts.items;
-            outputs = outputs_for Tells PortsFail job mid task told sound is drafts drafts_are;
-            left = let low : length flying.written < length (pages_in drafts.items) = omega arith in low;
-            bytes = slice_index_or (pages_in drafts.items) (length flying.written) [];
+            made = made;
+            outputs = outputs_for Tells PortsFail job mid task told sound is made made_is;
+            left = let low : length flying.written < length (pages_of made) = omega arith in low;
+            bytes = slice_index_or (pages_of made) (length flying.written) [];
             next = refl;
-            flight = put ∙ (λ i. Some (with_page flying (page_name old.state.next, slice_index_or (pages_in drafts.items) (place i) [])));
-            directory = directory ∙ ap (insert old.disk.directory (page_name old.state.next)) (bytes ∙ (λ i. slice_index_or (pages_in drafts.items) (place i) []));
+            flight = put ∙ (λ i. Some (with_page flying (page_name old.state.next, slice_index_or (pages_of made) (place i) [])));
+            directory = directory ∙ ap (insert old.disk.directory (page_name old.state.next)) (bytes ∙ (λ i. slice_index_or (pages_of made) (place i) []));
             stored = refl;
             goes_on = record {
               port_faults = kind.port_faults after.port;
@@ -151,21 +151,21 @@ module _ {D Page Port : Type 0} {kind : Ghosts D Page Port} (Tells PortsFail : T
         }
 
     -- none was left
-    pub no_page : mid.refused ≡ false → IfSome mid.drafts (λ drafts. job.written < length (pages_in drafts.items) → ⊥) → IsWriteOut PortsFail (going_of number job) h before (Ok false) h (later old s mid)
+    pub no_page : mid.refused ≡ false → IfSome mid.made (λ made. job.written < length (pages_of made) → ⊥) → IsWriteOut PortsFail (going_of number job) h before (Ok false) h (later old s mid)
     no_page asked left =
-        let P : Option (Vec Draft Global) → Type 0 = λ o. IfSome o (λ drafts. job.written < length (pages_in drafts.items) → ⊥) in
-        let over : job.written < length (pages_in drafts.items) → ⊥ = subst P drafts_are left in
-        let Q : Option (Vec Draft Global) → Type 0 = λ o. IfSome o (λ drafts. mid.written ≤ length (pages_in drafts.items)) in
-        let few : mid.written ≤ length (pages_in drafts.items) = subst Q drafts_are is.few in
+        let P : Option Made → Type 0 = λ o. IfSome o (λ made. job.written < length (pages_of made) → ⊥) in
+        let over : job.written < length (pages_of made) → ⊥ = subst P made_is left in
+        let Q : Option Made → Type 0 = λ o. IfSome o (λ made. mid.written ≤ length (pages_of made)) in
+        let few : mid.written ≤ length (pages_of made) = subst Q made_is is.few in
         let count = works.count in
         record {
           history = refl;
           answers = record {
             flying = flying;
             flies = works.flies.is;
-            drafts = drafts.items;
-            outputs = outputs_for Tells PortsFail job mid task told sound is drafts drafts_are;
-            all = count ∙ whole job.written mid.written (length (pages_in drafts.items)) written few over;
+            made = made;
+            outputs = outputs_for Tells PortsFail job mid task told sound is made made_is;
+            all = count ∙ whole job.written mid.written (length (pages_of made)) written few over;
             flight = refl;
             stored = refl;
             state = refl;

@@ -6,7 +6,7 @@ use Rattle.lethe_base.specs.History.{History, after}
 use Rattle.lethe_base.specs.Read.{Answer, Read, answer}
 use Rattle.lethe_base.specs.declared.name.Name.{Name}
 use Rattle.lethe_base.specs.declared.refused.Refused.{Refused}
-use Rattle.lethe_base.specs.declared.refused.Refused.TheVariants.{Fault, Stopped, Backwards, Pinned, NothingDue, Cancelled, Exhausted, ReadFault, NoMemory, Damaged, Undone}
+use Rattle.lethe_base.specs.declared.refused.Refused.TheVariants.{Fault, Stopped, Backwards, Pinned, NothingDue, Cancelled, Exhausted, ReadFault, NoMemory, Damaged}
 use Rattle.lethe_stored.specs.Stored.{Stored}
 use Rattle.lethe_core.specs.Reasons.{IsUnreadable}
 use Rattle.lethe_core.specs.View.{View}
@@ -30,7 +30,6 @@ module _ {T : Type 0} (PortsFail : Type 0) (read : Read) (told : T → Answer) (
   read_refused (Backwards clock) is fault can_fail undamaged = absurd is
   read_refused (Pinned pin limit) is fault can_fail undamaged = absurd is
   read_refused NothingDue is fault can_fail undamaged = absurd is
-  read_refused (Undone erase) is fault can_fail undamaged = absurd is
   read_refused (Cancelled first now) is fault can_fail undamaged = absurd is
   read_refused (Exhausted last) is fault can_fail undamaged = absurd is
 

@@ -5,7 +5,7 @@ use Rattle.lethe_base.specs.History.{History}
 use Rattle.lethe_base.specs.Limits.{max_place}
 use Rattle.lethe_base.specs.declared.call.Call.{Call}
 use Rattle.lethe_base.specs.declared.refused.Refused.{Refused}
-use Rattle.lethe_base.specs.declared.refused.Refused.TheVariants.{Fault, Stopped, Backwards, Pinned, NothingDue, Cancelled, Exhausted, ReadFault, NoMemory, Damaged, Undone}
+use Rattle.lethe_base.specs.declared.refused.Refused.TheVariants.{Fault, Stopped, Backwards, Pinned, NothingDue, Cancelled, Exhausted, ReadFault, NoMemory, Damaged}
 use Rattle.lethe_disk.specs.declared.cursor.ReadRefused.{ReadRefused}
 use Rattle.lethe_disk.specs.declared.cursor.ReadRefused.TheVariants as reads
 use Rattle.lethe_stored.specs.Files.{StoredFile}
@@ -29,7 +29,6 @@ module _ (Short Other : Type 0) (old new : State) (before now : ℕ) (stopped : 
   reason_on (Backwards clock) is more = is
   reason_on (Pinned pin limit) is more = is
   reason_on NothingDue is more = is
-  reason_on (Undone erase) is more = is
   reason_on (Cancelled begun other) is more = is
   reason_on (ReadFault b a) is more = is
   reason_on (Damaged name) is more = is
@@ -45,7 +44,6 @@ unreadable_told Tells PortsFail before now NoMemory told is = is
 unreadable_told Tells PortsFail before now (Backwards clock) told is = is
 unreadable_told Tells PortsFail before now (Pinned pin limit) told is = is
 unreadable_told Tells PortsFail before now NothingDue told is = is
-unreadable_told Tells PortsFail before now (Undone erase) told is = is
 unreadable_told Tells PortsFail before now (Cancelled begun other) told is = is
 
 -- Files that could not be read

@@ -9,7 +9,7 @@ use Rattle.lethe_base.specs.declared.call.Call.TheVariants.{Work}
 use Rattle.lethe_base.specs.declared.config.Fields.{Fields}
 use Rattle.lethe_base.specs.declared.name.Name.{Name}
 use Rattle.lethe_base.specs.declared.refused.Refused.{Refused}
-use Rattle.lethe_base.specs.declared.refused.Refused.TheVariants.{Fault, Stopped, Backwards, Pinned, NothingDue, Cancelled, Exhausted, ReadFault, NoMemory, Damaged, Undone}
+use Rattle.lethe_base.specs.declared.refused.Refused.TheVariants.{Fault, Stopped, Backwards, Pinned, NothingDue, Cancelled, Exhausted, ReadFault, NoMemory, Damaged}
 use Rattle.lethe_disk.specs.declared.disk.Disk.{Ghosts}
 use Rattle.lethe_file.specs.Agreement.{page_name}
 use Rattle.lethe_stored.specs.Stored.{Stored}
@@ -87,7 +87,6 @@ unread PortsFail first before now NoMemory never is = is
 unread PortsFail first before now (Backwards clock) never is = is
 unread PortsFail first before now (Pinned pin limit) never is = is
 unread PortsFail first before now NothingDue never is = is
-unread PortsFail first before now (Undone erase) never is = is
 unread PortsFail first before now (Cancelled begun other) never is = is
 
 unread_since : (PortsFail : Type 0) (first before now : ℕ) (why : Refused) → (before ≡ first) ⊎ ((b n : ℕ) → why ≡ ReadFault b n → ⊥)
@@ -146,15 +145,15 @@ module _ {D Page Port : Type 0} {kind : Ghosts D Page Port} (Tells PortsFail : T
       let in_the_end = rests told config opened h stands s known in
       (s, in_the_end.1, in_the_end.0, record { done = refl; why = tt; kept = tt; flight = in_the_end.2; retired = in_the_end.3 })
 
-  -- once its drafts are made a job reads no more
-  no_more_read : (first : Job D Page Port kind) (why : Refused) → (job.port ≡ first.port) ⊎ IsSome job.drafts → (IsSome job.drafts → (b n : ℕ) → ◌≡◌ {A = Result Bool Refused} (Err why) (Err (ReadFault b n)) → ⊥)
+  -- once its outputs are made a job reads no more
+  no_more_read : (first : Job D Page Port kind) (why : Refused) → (job.port ≡ first.port) ⊎ IsSome job.made → (IsSome job.made → (b n : ℕ) → ◌≡◌ {A = Result Bool Refused} (Err why) (Err (ReadFault b n)) → ⊥)
       → (kind.port_faults job.port ≡ kind.port_faults first.port) ⊎ ((b n : ℕ) → why ≡ ReadFault b n → ⊥)
   no_more_read first why (inl same) never = inl (ap kind.port_faults same)
   no_more_read first why (inr made) never = inr (λ b n e. never made b n (λ i. Err (e i)))
 
   -- one was refused
   pub turn_refused : (first : Job D Page Port kind) (why : Refused) → Rests Tells old mid → Turns (Err why) → old.faults ≤ mid.faults → new.state.next ≡ mid.state.next
-      → (job.port ≡ first.port) ⊎ IsSome job.drafts → (IsSome job.drafts → (b n : ℕ) → ◌≡◌ {A = Result Bool Refused} (Err why) (Err (ReadFault b n)) → ⊥) → Comes (kind.port_faults first.port) (Err why)
+      → (job.port ≡ first.port) ⊎ IsSome job.made → (IsSome job.made → (b n : ℕ) → ◌≡◌ {A = Result Bool Refused} (Err why) (Err (ReadFault b n)) → ⊥) → Comes (kind.port_faults first.port) (Err why)
   turn_refused first why rests turn faults drawn port never = λ told config opened h stands s known.
       let so_far = rests told config opened h stands s known in
       let turned = turn told config opened h so_far.0 s so_far.1 0 0 0 0 in

@@ -14,7 +14,7 @@ use Rattle.lethe_base.specs.declared.call.Call.TheVariants as call
 use Rattle.lethe_base.specs.declared.call.Did.TheVariants.{Done}
 use Rattle.lethe_base.specs.declared.config.Fields.{Fields}
 use Rattle.lethe_base.specs.declared.refused.Refused.{Refused}
-use Rattle.lethe_base.specs.declared.refused.Refused.TheVariants.{Fault, Stopped, Backwards, Pinned, NothingDue, Cancelled, Exhausted, ReadFault, NoMemory, Damaged, Undone}
+use Rattle.lethe_base.specs.declared.refused.Refused.TheVariants.{Fault, Stopped, Backwards, Pinned, NothingDue, Cancelled, Exhausted, ReadFault, NoMemory, Damaged}
 use Rattle.lethe_base.proofs.Histories.{done_push}
 use Rattle.lethe_cover.specs.Steps.{with_done}
 use Rattle.lethe_header.specs.declared.header.Header.{Header}
@@ -22,9 +22,10 @@ use Rattle.lethe_manifest.specs.declared.manifest.Manifest.{Manifest}
 use Rattle.lethe_segment.specs.declared.record.Record.{Record}
 use Rattle.lethe_stored.specs.Stored.{Stored}
 use Rattle.lethe_state.specs.Room.{HasRoom}
-use Rattle.lethe_job.specs.Tasks.{IsBegunIn, PlainTask}
+use Rattle.lethe_install.specs.Outcomes.{IsInstalled}
+use Rattle.lethe_job.specs.Works.{IsBegunIn, PlainTask}
 use Rattle.lethe_core.specs.Changes.{put_over}
-use Rattle.lethe_core.specs.Merges.{IsInstalled, IsRoomMadeBy}
+use Rattle.lethe_core.specs.Merges.{IsRoomMadeBy}
 use Rattle.lethe_core.specs.Reasons.{HasReason, IsShort, IsUnreadable}
 use Rattle.lethe_engine.specs.Refusals.{SeesRoom}
 use Rattle.lethe_drive.specs.Answers.{HasBegun, IsBegin, IsChange, IsChanged, IsFull, IsInstall, IsRead, IsShortToMerge, IsUnchanged, IsWriteOut}
@@ -61,7 +62,6 @@ never_unread PortsFail before now NoMemory calm is = is
 never_unread PortsFail before now (Backwards clock) calm is = is
 never_unread PortsFail before now (Pinned pin limit) calm is = is
 never_unread PortsFail before now NothingDue calm is = is
-never_unread PortsFail before now (Undone erase) calm is = is
 never_unread PortsFail before now (Cancelled begun other) calm is = is
 
 module _ (PortsFail : Type 0) (config : Fields) (h : History) (old : Moment) (is : IsMomentOf config h old) (done : AreDone h) (few : length h + 1 ≤ max_place) where
@@ -106,7 +106,6 @@ module _ (PortsFail : Type 0) (config : Fields) (h : History) (old : Moment) (is
           by (Backwards clock) same reason = reason
           by (Pinned pin limit) same reason = reason
           by NothingDue same reason = reason
-          by (Undone erase) same reason = reason
           by (Cancelled begun other) same reason = reason
           by (ReadFault before behind) same reason = reason
           by (Damaged name) same reason = reason

@@ -23,6 +23,7 @@ use Rattle.lethe_core.specs.Merges.{AreOutcomesBy, Outcome, due_choice, pages_of
 use Rattle.lethe_core.specs.Running.{Holds}
 use Rattle.lethe_core.specs.View.{Face, View, face_of}
 use Rattle.lethe_core.proofs.Asked.{refused_none}
+use Rattle.lethe_core.proofs.Installing.{planned_for, sound_inputs}
 use Rattle.lethe_tick.specs.Certified.{IsCertificateAt}
 use Rattle.lethe_tick.specs.Ripened.{IsRipened, IsShortToTick, IsTickedInPart}
 use Rattle.lethe_engine.specs.Answers.{IsRefused, IsStill}
@@ -34,6 +35,7 @@ use Rattle.lethe_engine.proofs.Clean.{now_clean}
 use Rattle.lethe_drive.specs.Moments.{Going, IsAllButPort, IsKnown, Moment, moment_of}
 use Rattle.lethe_drive.specs.Ticks.{EndsRound, HasReasonOfTick, IsShortToRipen, IsTick, passes}
 use Rattle.lethe_drive.proofs.Knowing.{known_held, not_stopped, ok_or_err, refused_known, stopped_same}
+use Rattle.lethe_drive.proofs.Outputs.{told_outputs}
 use Rattle.lethe_drive.proofs.Reasons.{reason_on, unreadable_told}
 
 -- Whether the round ends
@@ -185,22 +187,22 @@ module _ (Tells PortsFail : Type 0) (told : Tells) (to : ℕ) (config : Fields) 
           let still = subst (λ (why : Refused). StandsSince config opened (refused_to h 0 (call.Tick to) why) new) full stood in
           stopped_same config h old new stands.now still.now ∙ runs
 
-      -- the merge for which numbers are short is one of what is stored
+      -- the job for which numbers are short is one of what is stored
       short_on : (t : Stored) → Holds new t → IsShort → IsShortBehind t
       short_on t holds (inl rounds) = inl rounds
       short_on t holds (inr (inl flush)) = inr (inl flush)
       short_on t holds (inr (inr (inl freeze))) = inr (inr (inl freeze))
       short_on t holds (inr (inr (inr short))) =
-          let is = short.are told t holds in
-          inr (inr (inr (record { task = short.task; begun = is.0; drafts = short.drafts; are = is.1; short = short.short })))
+          let begun = short.begun told t holds in
+          let sound = sound_inputs t holds.remembers.coherent short.task (planned_for t short.task begun.planned) in
+          inr (inr (inr (record { task = short.task; begun = begun; made = short.made; are = told_outputs Tells short.task short.made short.outputs told sound; short = short.short })))
 
       tick_reason : (t : Stored) → IsKnown config (refused_to h 0 (call.Tick to) why) new t → engine.HasReasonOfTick Tells PortsFail to old new faults_before faults_now why
           → HasReasonOfTick PortsFail to before (later t) why
       tick_reason t is (inl behind) = inl behind
       tick_reason t is (inr (inl reason)) = inr (inl (reason_on IsShort (IsShortBehind t) old.state old.state old.faults new.faults refl refl why reason
           (λ last full runs short. short_on t (is.held (still_runs last full runs)) short)))
-      tick_reason t is (inr (inr (inl unread))) = inr (inr (inl (unread.0, unreadable_told Tells PortsFail faults_before faults_now why told unread.1)))
-      tick_reason t is (inr (inr (inr left))) = let undone = left.1 in inr (inr (inr (left.0, undone.0, undone.1, undone.3 told t (is.held undone.2))))
+      tick_reason t is (inr (inr unread)) = inr (inr (unread.0, unreadable_told Tells PortsFail faults_before faults_now why told unread.1))
 
     -- the round ends, whatever the tick answers
     pub tick_ends : (result : Result Ticked Refused) → Tested to old new result → StandsSince config opened (behind h 0 (Makes (call.Tick to)) (result_err result)) new → (IsSome old.state.stopped → IsStill Tells old new)

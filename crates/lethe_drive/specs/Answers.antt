@@ -1,5 +1,5 @@
 -- What a call of a run answers, by the moments before and behind it and the histories for which the store stands there.
-use Rattle.std.specs.Prelude.{◌≡◌, ◌⊎◌, ◌↔◌, ◌≤◌, ◌<◌, ℕ, ◌+◌, ◌-◌, Bool, true, false, List, [], ◌++◌, length, sum_by, slice_index_or, Some, None, IsSome, Result, Ok, Err, IfErr}
+use Rattle.std.specs.Prelude.{◌≡◌, ◌⊎◌, ◌↔◌, ◌≤◌, ◌<◌, ℕ, ◌+◌, ◌-◌, Bool, true, false, List, [], ◌++◌, length, map, slice_index_or, Some, None, IsSome, Result, Ok, Err, IfErr}
 use Rattle.std.specs.FinMap.{insert}
 use Rattle.std.specs.Result.{result_err}
 use Rattle.lethe_base.specs.History.{History, after}
@@ -9,22 +9,28 @@ use Rattle.lethe_base.specs.declared.call.Call.{Call}
 use Rattle.lethe_base.specs.declared.call.Call.TheVariants as call
 use Rattle.lethe_base.specs.declared.name.Name.{Name}
 use Rattle.lethe_base.specs.declared.refused.Refused.{Refused}
-use Rattle.lethe_base.specs.declared.refused.Refused.TheVariants.{Fault, Stopped, Backwards, Pinned, NothingDue, Cancelled, Exhausted, ReadFault, NoMemory, Damaged, Undone}
-use Rattle.lethe_build.specs.Drafts.{AreDraftsOf, numbers_for}
-use Rattle.lethe_build.specs.declared.draft.Draft.{Draft}
+use Rattle.lethe_base.specs.declared.refused.Refused.TheVariants.{Fault, Stopped, Backwards, Pinned, NothingDue, Cancelled, Exhausted, ReadFault, NoMemory, Damaged}
+use Rattle.lethe_build.specs.Drafts.{AreDraftsOf}
 use Rattle.lethe_cover.specs.Steps.{with_done}
+use Rattle.lethe_file.specs.Agreement as pages
 use Rattle.lethe_file.specs.Agreement.{page_name}
-use Rattle.lethe_flush.specs.Made as made
 use Rattle.lethe_follows.specs.Merged.{entries_in}
 use Rattle.lethe_header.specs.declared.header.Header.{Header}
 use Rattle.lethe_merge.specs.Merge.{merged}
 use Rattle.lethe_segment.specs.declared.record.Record.{Record}
 use Rattle.lethe_stored.specs.Stored.{Stored, appended}
 use Rattle.lethe_state.specs.Records.{headers_in}
-use Rattle.lethe_job.specs.Tasks.{PlainTask, IsBegunIn, inputs_in}
+use Rattle.lethe_install.specs.Outcomes.{IsInstalled}
+use Rattle.lethe_sweep_task.specs.Outcome.{IsDraftLeft}
+use Rattle.lethe_job.specs.MadeOf.{numbers_in, pages_of}
+use Rattle.lethe_job.specs.Tasks.{merge_inputs}
+use Rattle.lethe_job.specs.Works.{IsBegunIn, Merges, PlainTask, Sweeps}
+use Rattle.lethe_job.specs.declared.made.Made.{Made}
+use Rattle.lethe_job.specs.declared.made.Made.TheVariants.{Files, Left}
 use Rattle.lethe_core.specs.Asked.{Serves, behind, failure_of, refused_to}
 use Rattle.lethe_core.specs.Jobs.{with_page}
-use Rattle.lethe_core.specs.Merges.{HasNoMerge, IsInstalled, IsRoomBegun, IsRoomMadeBy, Outcome, pages_of, retired_behind}
+use Rattle.lethe_core.specs.Merges.{HasNoMerge, IsRoomBegun, IsRoomMadeBy, Outcome, retired_behind}
+use Rattle.lethe_core.specs.Merges as merges
 use Rattle.lethe_core.specs.Reasons.{HasReason, IsShort, IsUnreadable}
 use Rattle.lethe_core.specs.View.{Flying}
 use Rattle.lethe_engine.specs.Refusals.{SeesRoom}
@@ -34,21 +40,25 @@ use Rattle.lethe_drive.specs.Moments.{AreJobsSame, Going, IsAllButPort, IsPortSa
 abbrev pub StopsIn : {T : Type 0} → Moment → Result T Refused → Type 0
 StopsIn old result = (at : ℕ) → old.state.stopped ≡ Some at → result ≡ Err (Stopped at)
 
--- the drafts of a task's outputs
-abbrev pub AreOutputsFor : PlainTask → List Draft → Type 0
-AreOutputsFor task drafts = AreDraftsOf task.config (merged (entries_in (inputs_in task)) task.erases task.alone) drafts
+-- What a task makes: the drafts of a merge's outputs, or that of what a sweep leaves of its file.
+abbrev pub AreOutputsFor : PlainTask → Made → Type 0
+AreOutputsFor (Merges task) (Files drafts) = AreDraftsOf task.config (merged (entries_in (merge_inputs task)) task.erases task.alone) drafts.items
+AreOutputsFor (Merges task) (Left draft) = ⊥
+AreOutputsFor (Sweeps task) (Files drafts) = ⊥
+AreOutputsFor (Sweeps task) (Left draft) = IsDraftLeft task.alone task.erase task.file.header.tiles (map pages.entries_in task.file.pages) draft
 
--- the numbers of the objects of the merge that is due, and of a manifest, can't be drawn
+-- the numbers of the objects of the job that is due, and of a manifest, can't be drawn
 pub record IsShortToMerge (m : Moment) : Type 0 where
   pub task : PlainTask
   pub begun : IsBegunIn m.stored task
-  pub drafts : List Draft
-  pub are : AreOutputsFor task drafts
-  pub short : max_place ≤ m.state.next + sum_by numbers_for drafts
+  pub made : Made
+  pub are : AreOutputsFor task made
+  pub short : max_place ≤ m.state.next + numbers_in made
 
 -- Changes
 
--- A change takes the next place: room was made, each page of what was merged was fetched once, and the record stands behind the others.
+-- A change takes the next place: room was made, for which each page of what was merged was fetched once, and of what was swept those that the header tells, and the record
+-- stands behind the others.
 pub record IsChanged (call : Call) (IsNext : Stored → List Header → Record → Type 0) (h : History) (old : Moment) (place : ℕ) (g : History) (new : Moment) : Type 0 where
   pub place_is : place ≡ length h + 1
   pub history : g ≡ with_done h 0 call
@@ -59,7 +69,7 @@ pub record IsChanged (call : Call) (IsNext : Stored → List Header → Record �
   pub next_is : IsNext cleared (headers_in new.levels) next
   pub stored : new.stored ≡ appended cleared next
   pub retired : new.retired ≡ retired_behind outcomes old.retired
-  pub fetches : new.fetches ≡ old.fetches + pages_of outcomes
+  pub fetches : new.fetches ≡ old.fetches + merges.pages_of outcomes
 
 -- there was no room for a record
 abbrev pub IsFull : Moment → Type 0
@@ -129,7 +139,6 @@ pub record HasBegun (old : Moment) (number : ℕ) (new : Moment) : Type 0 where
 abbrev pub IsUnbegun : Moment → Refused → Type 0
 IsUnbegun old (Stopped at) = old.state.stopped ≡ Some at
 IsUnbegun old NothingDue = (old.state.stopped ≡ None) × (IsSome old.flight ⊎ HasNoMerge old.stored)
-IsUnbegun old (Undone erase) = ⊥
 IsUnbegun old NoMemory = Unit {0}
 IsUnbegun old (Fault place before after) = ⊥
 IsUnbegun old (Backwards clock) = ⊥
@@ -177,11 +186,11 @@ pub record GoesOn (going : Going) (written : ℕ) (new : Moment) : Type 0 where
 pub record HasWritten (old : Moment) (going : Going) (new : Moment) : Type 0 where
   pub flying : Flying
   pub flies : old.flight ≡ Some flying
-  pub drafts : List Draft
-  pub outputs : AreOutputsFor going.task drafts
-  pub left : length flying.written < length (made.pages_in drafts)
+  pub made : Made
+  pub outputs : AreOutputsFor going.task made
+  pub left : length flying.written < length (pages_of made)
   pub bytes : List ℕ
-  pub next : bytes ≡ slice_index_or (made.pages_in drafts) (length flying.written) []
+  pub next : bytes ≡ slice_index_or (pages_of made) (length flying.written) []
   pub flight : new.flight ≡ Some (with_page flying (page_name old.state.next, bytes))
   pub directory : new.directory ≡ insert old.directory (page_name old.state.next) bytes
   pub stored : new.stored ≡ old.stored
@@ -191,9 +200,9 @@ pub record HasWritten (old : Moment) (going : Going) (new : Moment) : Type 0 whe
 pub record HasNoPage (old : Moment) (going : Going) (new : Moment) : Type 0 where
   pub flying : Flying
   pub flies : old.flight ≡ Some flying
-  pub drafts : List Draft
-  pub outputs : AreOutputsFor going.task drafts
-  pub all : length flying.written ≡ length (made.pages_in drafts)
+  pub made : Made
+  pub outputs : AreOutputsFor going.task made
+  pub all : length flying.written ≡ length (pages_of made)
   pub flight : new.flight ≡ old.flight
   pub stored : new.stored ≡ old.stored
   pub state : new.state ≡ old.state
@@ -221,7 +230,7 @@ pub record IsWriteOut (PortsFail : Type 0) (going : Going) (h : History) (old : 
 
 -- the numbers of a page, or those of the headers and a manifest, can't be drawn
 abbrev pub IsShortToInstall : Going → Moment → Type 0
-IsShortToInstall going new = (max_place ≤ new.state.next) ⊎ ((drafts : List Draft) × AreOutputsFor going.task drafts × (max_place ≤ new.state.next + (sum_by numbers_for drafts - length (made.pages_in drafts))))
+IsShortToInstall going new = (max_place ≤ new.state.next) ⊎ ((made : Made) × AreOutputsFor going.task made × (max_place ≤ new.state.next + (numbers_in made - length (pages_of made))))
 
 -- what is stored is the outcome of its task, and it has ended
 pub record HasInstalled (old : Moment) (going : Going) (new : Moment) : Type 0 where
@@ -258,7 +267,6 @@ IsKeptUp old new (Stopped at) = old.state.stopped ≡ Some at
 IsKeptUp old new (Backwards clock) = ⊥
 IsKeptUp old new (Pinned pin limit) = ⊥
 IsKeptUp old new NothingDue = ⊥
-IsKeptUp old new (Undone erase) = ⊥
 IsKeptUp old new (Cancelled begun now) = ⊥
 IsKeptUp old new (Exhausted last) = ⊥
 IsKeptUp old new (ReadFault before after) = ⊥

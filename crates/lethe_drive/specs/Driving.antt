@@ -6,9 +6,10 @@ use Rattle.lethe_base.specs.declared.config.Fields.{Fields}
 use Rattle.lethe_base.specs.declared.name.Name.{Name}
 use Rattle.lethe_base.specs.declared.refused.Refused.{Refused}
 use Rattle.lethe_disk.specs.declared.disk.Disk.{Ghosts}
-use Rattle.lethe_flush.specs.Made.{pages_in}
 use Rattle.lethe_stored.specs.Stored.{Stored}
-use Rattle.lethe_job.specs.Tasks.{AreSound, inputs_in, plain_task}
+use Rattle.lethe_job.specs.MadeOf.{pages_of}
+use Rattle.lethe_job.specs.Tasks.{AreSound}
+use Rattle.lethe_job.specs.Works.{inputs_in, plain_task}
 use Rattle.lethe_job.specs.declared.job.Job.{Job}
 use Rattle.lethe_core.specs.Asked.{failure_of}
 use Rattle.lethe_core.specs.Reasons.{HasReason, IsUnreadable}
@@ -46,7 +47,7 @@ pages_left_of None written = 2 ^ 64
 pages_left_of (Some pages) written = pages - written
 
 abbrev pub pages_left : {D Page Port : Type 0} {kind : Ghosts D Page Port} → Job D Page Port kind → ℕ
-pages_left job = pages_left_of (option_map (λ drafts. length (pages_in drafts.items)) job.drafts) job.written
+pages_left job = pages_left_of (option_map (λ made. length (pages_of made)) job.made) job.written
 
 -- the job in flight has more pages
 pub record IsWrittenOn (old new : Option Flying) : Type 0 where

@@ -15,7 +15,7 @@ use Rattle.lethe_advance.specs.Settled.{HasOnly}
 use Rattle.lethe_state.specs.Records.{IsLike}
 use Rattle.lethe_state.specs.Remembered.{Remembers, IsCurrent}
 use Rattle.lethe_state.specs.declared.state.State.{State}
-use Rattle.lethe_job.specs.Tasks.{PlainTask, plain_task}
+use Rattle.lethe_job.specs.Works.{PlainTask, plain_task}
 use Rattle.lethe_job.specs.declared.job.Job.{Job}
 use Rattle.lethe_core.specs.Running.{Holds, IsTasked}
 use Rattle.lethe_core.specs.View.{Flying, View, beside_at}
@@ -69,7 +69,7 @@ pub record IsGoing (flight : Option Flying) (going : Going) : Type 0 where
   pub pages : going.refused ≡ false → length flying.written ≡ going.written
 
 -- A store of the configuration whose calls make the history. What is stored stands for that without what failed, and the store remembers it. Unless something has failed the
--- directory has what is stored, the retired pages and those of the job in flight, and nothing else, and the job merges files that are stored.
+-- directory has what is stored, the retired pages and those of the job in flight, and nothing else, and the job merges or sweeps files that are stored.
 pub record IsMomentOf (config : Fields) (h : History) (m : Moment) : Type 0 where
   pub legal : IsLegal h
   pub count : m.state.count ≡ length h

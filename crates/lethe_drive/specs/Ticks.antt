@@ -1,18 +1,17 @@
 -- What a tick answers in a run of events.
-use Rattle.std.specs.Prelude.{◌≡◌, ◌⊎◌, ◌≤◌, ◌<◌, ℕ, ◌+◌, Bool, true, false, ◌&&◌, is_none, nat_le, nat_lt, List, length, sum_by, None, IfSome, Result, Ok, Err}
+use Rattle.std.specs.Prelude.{◌≡◌, ◌⊎◌, ◌≤◌, ◌<◌, ℕ, ◌+◌, Bool, true, false, ◌&&◌, is_none, nat_le, nat_lt, List, length, None, IfSome, Result, Ok, Err}
 use Rattle.lethe_base.specs.History.{History}
 use Rattle.lethe_base.specs.Limits.{max_place}
 use Rattle.lethe_base.specs.declared.call.Call.TheVariants as call
 use Rattle.lethe_base.specs.declared.refused.Refused.{Refused}
-use Rattle.lethe_base.specs.declared.refused.Refused.TheVariants.{Backwards, Exhausted, Undone}
-use Rattle.lethe_build.specs.Drafts.{numbers_for}
-use Rattle.lethe_build.specs.declared.draft.Draft.{Draft}
+use Rattle.lethe_base.specs.declared.refused.Refused.TheVariants.{Backwards, Exhausted}
 use Rattle.lethe_cover.specs.Steps.{with_done}
 use Rattle.lethe_follows.specs.Ticked.{ticked}
-use Rattle.lethe_job.specs.Tasks.{PlainTask}
+use Rattle.lethe_job.specs.MadeOf.{numbers_in}
+use Rattle.lethe_job.specs.Works.{PlainTask}
+use Rattle.lethe_job.specs.declared.made.Made.{Made}
 use Rattle.lethe_stored.specs.Clean.{IsClean}
 use Rattle.lethe_stored.specs.Stored.{Stored}
-use Rattle.lethe_state.specs.Left.{IsLeftOverdue}
 use Rattle.lethe_state.specs.Room.{IsShortToFlush, IsShortToFreeze}
 use Rattle.lethe_core.specs.Asked.{failure_of, refused_to}
 use Rattle.lethe_core.specs.Merges.{AreOutcomesBy, IsBegunBy, Outcome, due_choice, pages_of, retired_behind}
@@ -28,17 +27,17 @@ use Rattle.lethe_drive.specs.Moments.{IsAllButPort, Moment}
 abbrev pub passes : Moment → ℕ → Bool
 passes m to = is_none m.state.stopped && nat_le m.state.manifest.clock to && nat_lt m.state.count max_place && nat_lt m.rounds max_place
 
--- the numbers of the objects of a merge that is due at a time, and of a manifest, can't be drawn
+-- the numbers of the objects of a job that is due at a time, and of a manifest, can't be drawn
 pub record IsShortToRipen (to : ℕ) (m : Moment) : Type 0 where
   pub task : PlainTask
   pub begun : IsBegunBy (due_choice to) m.stored task
-  pub drafts : List Draft
-  pub are : AreOutputsFor task drafts
-  pub short : max_place ≤ m.state.next + sum_by numbers_for drafts
+  pub made : Made
+  pub are : AreOutputsFor task made
+  pub short : max_place ≤ m.state.next + numbers_in made
 
--- It takes the next place. The buffers were flushed where a record was as old as level 0 may have it, exactly the merges that were due were carried out, each page of what was
--- merged was fetched once, and the clock moved. The directory is clean: no object is without a meaning, and none spells a value that was erased a threshold ago. Where the time
--- is at least the threshold, and only there, it answers a certificate, which is true of the directory and the history.
+-- It takes the next place. The buffers were flushed where a record was as old as level 0 may have it, exactly the merges and sweeps that were due were carried out, each page of
+-- what was merged was fetched once, and of what was swept those that the header tells, and the clock moved. The directory is clean: no object is without a meaning, and none spells
+-- a value that was erased a threshold ago. Where the time is at least the threshold, and only there, it answers a certificate, which is true of the directory and the history.
 pub record IsTicked (to : ℕ) (h : History) (old : Moment) (answer : Ticked) (g : History) (new : Moment) : Type 0 where
   pub place_is : answer.place ≡ length h + 1
   pub clock_is : answer.clock ≡ to
@@ -57,13 +56,12 @@ pub record IsTicked (to : ℕ) (h : History) (old : Moment) (answer : Ticked) (g
   pub is_true : IfSome answer.certificate (λ certificate. IsTrueCertificate old.stored.manifest.config.threshold certificate new.directory g)
 
 -- Its time is behind the clock; or an earlier call failed, the places or the rounds are used up or numbers are short, the disk failed, or there was no memory; or a page that was
--- to be merged couldn't be read; or an erase that the merges didn't do is a threshold old at the time.
+-- to be fetched couldn't be read.
 abbrev pub HasReasonOfTick : Type 0 → ℕ → Moment → Moment → Refused → Type 0
 HasReasonOfTick PortsFail to old new why =
     ((old.state.stopped ≡ None) × (to < old.state.manifest.clock) × (why ≡ Backwards old.state.manifest.clock))
     ⊎ HasReason ((max_place ≤ old.rounds) ⊎ IsShortToFlush new.state ⊎ IsShortToFreeze new.state ⊎ IsShortToRipen to new) old.state old.faults new.faults why
     ⊎ ((old.state.stopped ≡ None) × IsUnreadable (Unit {0}) PortsFail old.port_faults new.port_faults why)
-    ⊎ ((old.state.stopped ≡ None) × (erase : ℕ) × (why ≡ Undone erase) × IsLeftOverdue new.stored to erase)
 
 -- It is refused for a reason, and is in the history where the disk failed in it. Else some of the steps before its last may have been done.
 pub record IsUnticked (PortsFail : Type 0) (to : ℕ) (h : History) (old : Moment) (why : Refused) (g : History) (new : Moment) : Type 0 where

@@ -9,8 +9,8 @@ ghost use Rattle.lethe_base.specs.declared.call.Call.TheVariants as call;
 ghost use Rattle.lethe_base.specs.declared.config.Fields.{Fields};
 ghost use Rattle.lethe_base.specs.declared.refused.Refused.TheVariants.{Exhausted, NoMemory};
 ghost use Rattle.lethe_cover.specs.Steps.{with_done};
-ghost use Rattle.lethe_job.specs.Tasks.{PlainTask, IsBegunIn};
-ghost use Rattle.lethe_core.specs.Merges.{IsInstalled};
+ghost use Rattle.lethe_install.specs.Outcomes.{IsInstalled};
+ghost use Rattle.lethe_job.specs.Works.{PlainTask, IsBegunIn};
 ghost use Rattle.lethe_drive.specs.Moments.{IsMomentOf};
 ghost use Rattle.lethe_drive.specs.Past.{Run};
 ghost use Rattle.lethe_drive.specs.Steps.{Steps};
@@ -33,7 +33,7 @@ pub fn puts_are_read<D: Disk>()
         × ((held : Option (ℕ × Bytes)) × (replies ≡ reply.Place (length h + 1) ∷ reply.Place (length h + 2) ∷ reply.Got held ∷ []) × (reads.answer (after g) (reads.Get asked) ≡ reads.Found held)) }
 {}
 
-/// A job that is begun, written and installed leaves its outcome: that of the merge that was due.
+/// A job that is begun, written and installed leaves its outcome: that of the merge or the sweep that was due.
 pub fn a_job_has_its_outcome<D: Disk>()
     ensures { (config : Fields) (h g : History) (start finish : Run) (number : ℕ) (wrote : Bool)
         → Steps D.ports_fail config h start (event.Begin ∷ event.WriteOut number ∷ event.Install number ∷ []) (reply.Job number ∷ reply.Flag wrote ∷ reply.Unit ∷ []) g finish

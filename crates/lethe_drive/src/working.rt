@@ -6,7 +6,8 @@ ghost use Rattle.lethe_base.specs.History.{History};
 ghost use Rattle.lethe_base.specs.declared.config.Fields.{Fields};
 ghost use Rattle.lethe_base.specs.declared.refused.Refused.TheVariants.{ReadFault};
 ghost use Rattle.lethe_stored.specs.Stored.{Stored};
-ghost use Rattle.lethe_job.specs.Tasks.{AreSound, inputs_in, plain_task};
+ghost use Rattle.lethe_job.specs.Tasks.{AreSound};
+ghost use Rattle.lethe_job.specs.Works.{inputs_in, plain_task};
 ghost use Rattle.lethe_core.specs.Asked.{Serves, behind};
 ghost use Rattle.lethe_core.specs.Jobs.{IsAtWork, IsInFlight, IsWhole};
 ghost use Rattle.lethe_core.specs.Running.{IsSound};
@@ -97,8 +98,8 @@ fn write_next<D: Disk>(
     ensures task { job.new.task.value ≡ job.old.task.value }
     ensures round { job.new.round ≡ job.old.round }
     // Once its outputs are made nothing is read.
-    ensures read { IsSome job.old.drafts → (before now : ℕ) → IsErrOf result (ReadFault before now) → ⊥ }
-    ensures made { OnOk result (IsSome job.new.drafts) }
+    ensures read { IsSome job.old.made → (before now : ℕ) → IsErrOf result (ReadFault before now) → ⊥ }
+    ensures made { OnOk result (IsSome job.new.made) }
     ensures step { D.tells → (config : Fields) (opened : Opened) (h : History) → StandsSince config opened h (view_of engine.old.core) → (s : Stored) → IsKnown config h (view_of engine.old.core) s → (number fetches faults begun : ℕ)
         → (t : Stored) × IsKnown config (behind h 0 (Serves Work) (result_err result)) (view_of engine.new.core) t × StandsSince config opened (behind h 0 (Serves Work) (result_err result)) (view_of engine.new.core)
         × IsWriteOut D.ports_fail (going_of number job.old) h (moment_of (view_of engine.old.core) s fetches faults begun (Some (going_of number job.old))) result

@@ -1,9 +1,8 @@
 -- A job at work, where one page more is written, where it is installed and where it is given up.
-use Rattle.std.proofs.Common.{◌≡◌, ◌≤◌, ◌<◌, ℕ, ◌+◌, ◌-◌, List, [], ◌∷◌, ◌++◌, length, get_or, take, Option, Some, None, Vec, Result, Ok, Err, refl, sym, ap, ◌∙◌, subst, append-nil, length-append, drop-cons, arith}
-use Rattle.std.specs.Prelude.{IfSome, IsSome, OnOk, option_map, sum_by}
+use Rattle.std.proofs.Common.{◌≡◌, ◌≤◌, ◌<◌, ℕ, ◌+◌, ◌-◌, List, [], ◌∷◌, ◌++◌, length, get_or, take, Option, Some, None, Result, Ok, Err, refl, sym, ap, ◌∙◌, subst, append-nil, length-append, drop-cons, arith}
+use Rattle.std.specs.Prelude.{IfSome, IsSome, OnOk, option_map}
 use Rattle.std.specs.Option.{option_map_or}
 use Rattle.std.specs.List.{zip}
-use Rattle.std.specs.declared.alloc.Global.{Global}
 use Rattle.std.proofs.lemmas.List.{length-map, map-append}
 use Rattle.std.proofs.lemmas.Option.{IfSome_then}
 use Rattle.lethe_base.specs.History.{History}
@@ -11,19 +10,18 @@ use Rattle.lethe_base.specs.Limits.{max_place}
 use Rattle.lethe_base.specs.declared.config.Fields.{Fields}
 use Rattle.lethe_base.specs.declared.name.Name.{Name}
 use Rattle.lethe_base.specs.declared.refused.Refused.{Refused}
-use Rattle.lethe_build.specs.Drafts.{numbers_for}
-use Rattle.lethe_build.specs.declared.draft.Draft.{Draft}
 use Rattle.lethe_disk.specs.declared.disk.Disk.{Ghosts}
 use Rattle.lethe_stored.specs.Stored.{Stored}
 use Rattle.lethe_advance.specs.Settled.{AreDrawn, names_in}
-use Rattle.lethe_flush.specs.Made.{pages_in, written_pages}
 use Rattle.lethe_flush.proofs.Zips.{zip_cut, zip_joined}
-use Rattle.lethe_job.specs.Jobs.{AreOutputs, next_bytes}
-use Rattle.lethe_job.specs.Tasks.{PlainTask, plain_task}
+use Rattle.lethe_install.specs.Outcomes.{IsInstalled}
+use Rattle.lethe_job.specs.Jobs.{next_bytes}
+use Rattle.lethe_job.specs.MadeOf.{numbers_in, pages_of, written_of}
+use Rattle.lethe_job.specs.Works.{AreOutputs, PlainTask, plain_task}
 use Rattle.lethe_job.specs.declared.job.Job.{Job}
 use Rattle.lethe_job.specs.declared.job.Piece.{Piece}
+use Rattle.lethe_job.specs.declared.made.Made.{Made}
 use Rattle.lethe_core.specs.Jobs.{AreOutputsOf, IsAtWork, with_page}
-use Rattle.lethe_core.specs.Merges.{IsInstalled}
 use Rattle.lethe_core.specs.Running.{Holds, IsSound}
 use Rattle.lethe_core.specs.StandsNow.{IsOpenOrStopped, StandsNow}
 use Rattle.lethe_core.specs.View.{Face, Flying, View, face_of, loose_in}
@@ -50,31 +48,31 @@ first_more pages names name left =
     zip_cut (names ++ name ∷ []) pages ∙ zip_joined names (name ∷ []) pages
     ∙ (λ i. sym (zip_cut names pages) i ++ zip (name ∷ []) (drop-cons pages (length names) [] left i))
 
-pub written_more : (drafts : List Draft) (written : List (Name × List ℕ)) (name : Name) (at : ℕ) → length written ≡ at → at < length (pages_in drafts) → written ≡ written_pages (names_in written) drafts
-    → written ++ (name, get_or (pages_in drafts) at []) ∷ [] ≡ written_pages (names_in (written ++ (name, get_or (pages_in drafts) at []) ∷ [])) drafts
-written_more drafts written name at count left is =
-    let page : Name × List ℕ = (name, get_or (pages_in drafts) at []) in
+pub written_more : (made : Made) (written : List (Name × List ℕ)) (name : Name) (at : ℕ) → length written ≡ at → at < length (pages_of made) → written ≡ written_of (names_in written) made
+    → written ++ (name, get_or (pages_of made) at []) ∷ [] ≡ written_of (names_in (written ++ (name, get_or (pages_of made) at []) ∷ [])) made
+written_more made written name at count left is =
+    let page : Name × List ℕ = (name, get_or (pages_of made) at []) in
     let many : length (names_in written) ≡ at = length-map written (λ (named : Name × List ℕ). named.0) ∙ count in
     ap (λ (w : List (Name × List ℕ)). w ++ page ∷ []) is
-    ∙ ap (λ (n : ℕ). written_pages (names_in written) drafts ++ (name, get_or (pages_in drafts) n []) ∷ []) (sym many)
-    ∙ sym (first_more (pages_in drafts) (names_in written) name (omega (arith, many, left)))
-    ∙ ap (λ (names : List Name). written_pages names drafts) (sym (names_more written name (get_or (pages_in drafts) at [])))
+    ∙ ap (λ (n : ℕ). written_of (names_in written) made ++ (name, get_or (pages_of made) n []) ∷ []) (sym many)
+    ∙ sym (first_more (pages_of made) (names_in written) name (omega (arith, many, left)))
+    ∙ ap (λ (names : List Name). written_of names made) (sym (names_more written name (get_or (pages_of made) at [])))
 
 module _ {D Page Port : Type 0} {kind : Ghosts D Page Port} (Tells : Type 0) (old : View) (job : Job D Page Port kind) (works : IsAtWork Tells old job) where
   module _ (piece : Piece) (next : IsNextPage job piece) where
-    -- the drafts' pages are few
+    -- there is the page that counts as written
     pub one_more : (new : View) (name : Name) (result : Result (Unit {0}) Refused) → face_of new ≡ written_face (face_of old) (name, next_bytes job) result → OnOk result (IsAtWork Tells new (record job { written = job.written + 1 }))
     one_more new name (Err why) is = tt
     one_more new name (Ok done) is =
-        let there = some_there (λ (drafts : Vec Draft Global). job.written < length (pages_in drafts.items)) job.drafts next.made next.left in
-        let drafts : Vec Draft Global = there.0 in
+        let there = some_there (λ (made : Made). job.written < length (pages_of made)) job.made next.made next.left in
+        let made : Made = there.0 in
         let flying : Flying = works.flies.flying in
-        let page : Name × List ℕ = (name, get_or (pages_in drafts.items) job.written []) in
-        let bytes : next_bytes job ≡ get_or (pages_in drafts.items) job.written [] =
-        ap (λ (o : Option (Vec Draft Global)). option_map_or (λ (drafts : Vec Draft Global). get_or (pages_in drafts.items) job.written []) o []) there.1 in
+        let page : Name × List ℕ = (name, get_or (pages_of made) job.written []) in
+        let bytes : next_bytes job ≡ get_or (pages_of made) job.written [] =
+        ap (λ (o : Option Made). option_map_or (λ (made : Made). get_or (pages_of made) job.written []) o []) there.1 in
         let flight : new.flight ≡ Some (with_page flying page) =
         ap (λ (face : Face). face.flight) is ∙ ap (option_map (λ (flying : Flying). with_page flying (name, next_bytes job))) works.flies.is ∙ ap (λ (b : List ℕ). Some (with_page flying (name, b))) bytes in
-        let was : flying.written ≡ written_pages (names_in flying.written) drafts.items = some_at (λ (drafts : Vec Draft Global). flying.written ≡ written_pages (names_in flying.written) drafts.items) job.drafts drafts there.1 works.pages in
+        let was : flying.written ≡ written_of (names_in flying.written) made = some_at (λ (made : Made). flying.written ≡ written_of (names_in flying.written) made) job.made made there.1 works.pages in
         let count = works.count in
         record {
           flies = record {
@@ -87,12 +85,12 @@ module _ {D Page Port : Type 0} {kind : Ghosts D Page Port} (Tells : Type 0) (ol
           asked = works.asked;
           job_is = record {
             made = works.job_is.made;
-            few = IfSome_then job.drafts next.left (λ drafts left. omega (arith, left));
-            unmade = λ none. absurd (let clash : Some drafts ≡ None = sym there.1 ∙ none in cc);
+            few = IfSome_then job.made next.left (λ made left. omega (arith, left));
+            unmade = λ none. absurd (let clash : Some made ≡ None = sym there.1 ∙ none in cc);
           };
           count = omega (arith, count, length-append flying.written (page ∷ []));
-          pages = subst (λ o. IfSome o (λ (drafts : Vec Draft Global). flying.written ++ page ∷ [] ≡ written_pages (names_in (flying.written ++ page ∷ [])) drafts.items)) (sym there.1)
-              (written_more drafts.items flying.written name job.written count there.2 was);
+          pages = subst (λ o. IfSome o (λ (made : Made). flying.written ++ page ∷ [] ≡ written_of (names_in (flying.written ++ page ∷ [])) made)) (sym there.1)
+              (written_more made flying.written name job.written count there.2 was);
         }
 
   -- what was installed is the outcome of its task
@@ -101,25 +99,24 @@ module _ {D Page Port : Type 0} {kind : Ghosts D Page Port} (Tells : Type 0) (ol
       subst (λ (task : PlainTask). (t : Stored) × IsInstalled s task t × Holds new t) (sym works.flies.task)
       (some_at (λ (flying : Flying). (t : Stored) × IsInstalled s flying.task t × Holds new t) old.flight works.flies.flying works.flies.is is)
 
-  module _ (drafts : Vec Draft Global) (made : job.drafts ≡ Some drafts) where
-    -- the job in flight has its outputs
-    pub outputs_flying : IfSome old.flight (λ flying. AreOutputsOf Tells flying drafts.items)
+  module _ (made : Made) (is : job.made ≡ Some made) where
+    -- the job in flight has what it made
+    pub outputs_flying : IfSome old.flight (λ flying. AreOutputsOf Tells flying made)
     outputs_flying =
         let flying : Flying = works.flies.flying in
-        subst (λ o. IfSome o (λ flying. AreOutputsOf Tells flying drafts.items)) (sym works.flies.is) (record {
-          outputs = subst (λ (task : PlainTask). AreOutputs Tells task drafts.items) works.flies.task
-              (some_at (λ (drafts : Vec Draft Global). AreOutputs Tells (plain_task job.task.value) drafts.items) job.drafts drafts made works.job_is.made);
-          some = subst (λ n. n ≤ length (pages_in drafts.items)) (sym works.count) (some_at (λ (drafts : Vec Draft Global). job.written ≤ length (pages_in drafts.items)) job.drafts drafts made works.job_is.few);
-          pages = some_at (λ (drafts : Vec Draft Global). flying.written ≡ written_pages (names_in flying.written) drafts.items) job.drafts drafts made works.pages;
+        subst (λ o. IfSome o (λ flying. AreOutputsOf Tells flying made)) (sym works.flies.is) (record {
+          outputs = subst (λ (task : PlainTask). AreOutputs Tells task made) works.flies.task (some_at (AreOutputs Tells (plain_task job.task.value)) job.made made is works.job_is.made);
+          some = subst (λ n. n ≤ length (pages_of made)) (sym works.count) (some_at (λ (made : Made). job.written ≤ length (pages_of made)) job.made made is works.job_is.few);
+          pages = some_at (λ (made : Made). flying.written ≡ written_of (names_in flying.written) made) job.made made is works.pages;
         })
 
     -- the numbers that it is short of are the job's
-    pub short_flying : IfSome old.flight (λ flying. max_place ≤ old.state.next + (sum_by numbers_for drafts.items - length flying.written)) → IsShortToInstall old job
+    pub short_flying : IfSome old.flight (λ flying. max_place ≤ old.state.next + (numbers_in made - length flying.written)) → IsShortToInstall old job
     short_flying short =
         let flying : Flying = works.flies.flying in
-        let few = some_at (λ (flying : Flying). max_place ≤ old.state.next + (sum_by numbers_for drafts.items - length flying.written)) old.flight flying works.flies.is short in
-        subst (λ o. IfSome o (λ (drafts : Vec Draft Global). max_place ≤ old.state.next + (sum_by numbers_for drafts.items - job.written))) (sym made)
-        (subst (λ n. max_place ≤ old.state.next + (sum_by numbers_for drafts.items - n)) works.count few)
+        let few = some_at (λ (flying : Flying). max_place ≤ old.state.next + (numbers_in made - length flying.written)) old.flight flying works.flies.is short in
+        subst (λ o. IfSome o (λ (made : Made). max_place ≤ old.state.next + (numbers_in made - job.written))) (sym is)
+        (subst (λ n. max_place ≤ old.state.next + (numbers_in made - n)) works.count few)
 
 -- A store that was stopped forgets its job
 
@@ -140,6 +137,7 @@ module _ (view : View) (place : ℕ) (stopped : view.state.stopped ≡ Some plac
     stands = stands.stands;
     held = left_stopped config h stands.stored stands.held;
     counted = tt;
+    recorded = stands.recorded;
   }
 
   pub forgets_sound : (Tells : Type 0) → IsSound Tells view → IsSound Tells free

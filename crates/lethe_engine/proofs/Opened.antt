@@ -25,6 +25,7 @@ use Rattle.lethe_tile.proofs.Orders.{pairs_nil}
 use Rattle.lethe_advance.specs.Settled.{AreDrawn, AreUncited, IsSettled, HasOnly, names_in}
 use Rattle.lethe_advance.specs.Untorn.{IsUntorn}
 use Rattle.lethe_clean.specs.Copied.{IsCopied}
+use Rattle.lethe_follows.specs.Young.{AreLaterRecorded}
 use Rattle.lethe_manifest.specs.declared.manifest.Manifest.{Manifest}
 use Rattle.lethe_state.specs.Remembered.{IsCurrent, IsFresh, Remembers}
 use Rattle.lethe_state.specs.Room.{frozen_len}
@@ -57,16 +58,16 @@ opened_running disk faults retired empty begun rounds s state levels settled onl
 
 pub resumed : (config : Fields) (h g : History) (change : Option Change) (start finish : Seen) (faults : ℕ) (retired : List Name) (begun rounds : ℕ) (s : Stored) (state : State) (levels : List (List Parts))
     → IsHistoryOr h change g → IsKept config start.directory g → IsWritable state
-    → IsRunning (fresh_view finish faults retired begun rounds state levels) s → Remembers s state levels → s.manifest.config ≡ config → IsFor g s
+    → IsRunning (fresh_view finish faults retired begun rounds state levels) s → Remembers s state levels → s.manifest.config ≡ config → IsFor g s → AreLaterRecorded s
     → ((next : ℕ) → IsNextNumber start.directory next → state.next + start.moment ≤ next + finish.moment) → IsResumed config h change start (fresh_view finish faults retired begun rounds state levels)
-resumed config h g change start finish faults retired begun rounds s state levels either was writable running remembers config_is stands numbers =
+resumed config h g change start finish faults retired begun rounds s state levels either was writable running remembers config_is stands recorded numbers =
     let view : View = fresh_view finish faults retired begun rounds state levels in
     record {
       history = g;
       either = either;
       was = was;
       stands = λ next is. opened_for config g start next view
-          (open_stands config g view s stands.legal stands.done (running.current.count ∙ stands.count) config_is stands (record { remembers = remembers; running = running }) tt) running.current.runs writable (numbers next is);
+          (open_stands config g view s stands.legal stands.done (running.current.count ∙ stands.count) config_is stands (record { remembers = remembers; running = running }) tt recorded) running.current.runs writable (numbers next is);
     }
 
 -- damage, another configuration and numbers that ran out leave the disk as it was

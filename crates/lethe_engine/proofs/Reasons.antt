@@ -4,7 +4,7 @@ use Rattle.std.specs.Prelude.{IfSome}
 use Rattle.lethe_base.specs.Counts.{Rose}
 use Rattle.lethe_base.specs.Limits.{max_place}
 use Rattle.lethe_base.specs.declared.refused.Refused.{Refused}
-use Rattle.lethe_base.specs.declared.refused.Refused.TheVariants.{Fault, Stopped, Backwards, Pinned, NothingDue, Cancelled, Exhausted, ReadFault, NoMemory, Damaged, Undone}
+use Rattle.lethe_base.specs.declared.refused.Refused.TheVariants.{Fault, Stopped, Backwards, Pinned, NothingDue, Cancelled, Exhausted, ReadFault, NoMemory, Damaged}
 use Rattle.lethe_disk.specs.declared.cursor.ReadRefused.{ReadRefused}
 use Rattle.lethe_disk.specs.declared.cursor.ReadRefused.TheVariants as reads
 use Rattle.lethe_state.specs.Records.{MayRefuse}
@@ -25,7 +25,6 @@ reason_told Short state before now (Stopped at) is = tt
 reason_told Short state before now (Backwards clock) is = tt
 reason_told Short state before now (Pinned pin limit) is = tt
 reason_told Short state before now NothingDue is = tt
-reason_told Short state before now (Undone erase) is = tt
 reason_told Short state before now (Cancelled begun other) is = tt
 reason_told Short state before now (Exhausted last) is = tt
 reason_told Short state before now (ReadFault b a) is = tt
@@ -43,7 +42,6 @@ unreadable_told Tells PortsFail first last before now (Stopped at) is = tt
 unreadable_told Tells PortsFail first last before now (Backwards clock) is = tt
 unreadable_told Tells PortsFail first last before now (Pinned pin limit) is = tt
 unreadable_told Tells PortsFail first last before now NothingDue is = tt
-unreadable_told Tells PortsFail first last before now (Undone erase) is = tt
 unreadable_told Tells PortsFail first last before now (Cancelled begun other) is = tt
 unreadable_told Tells PortsFail first last before now (Exhausted place) is = tt
 unreadable_told Tells PortsFail first last before now (ReadFault b a) is = tt
@@ -67,7 +65,6 @@ with_premise Premise Short premise state before now (Stopped at) is = is
 with_premise Premise Short premise state before now (Backwards clock) is = is
 with_premise Premise Short premise state before now (Pinned pin limit) is = is
 with_premise Premise Short premise state before now NothingDue is = is
-with_premise Premise Short premise state before now (Undone erase) is = is
 with_premise Premise Short premise state before now (Cancelled begun other) is = is
 with_premise Premise Short premise state before now (ReadFault b a) is = is
 with_premise Premise Short premise state before now NoMemory is = is
@@ -86,7 +83,6 @@ not_begun state (Stopped at) may = refl
 not_begun state (Backwards clock) may = refl
 not_begun state (Pinned pin limit) may = refl
 not_begun state NothingDue may = refl
-not_begun state (Undone erase) may = refl
 not_begun state (Cancelled begun now) may = refl
 not_begun state (Exhausted last) may = refl
 not_begun state (ReadFault before now) may = refl
@@ -100,7 +96,6 @@ no_failure_of_begin Tells view (Stopped at) is = refl
 no_failure_of_begin Tells view (Backwards clock) is = refl
 no_failure_of_begin Tells view (Pinned pin limit) is = refl
 no_failure_of_begin Tells view NothingDue is = refl
-no_failure_of_begin Tells view (Undone erase) is = refl
 no_failure_of_begin Tells view (Cancelled begun now) is = refl
 no_failure_of_begin Tells view (Exhausted last) is = refl
 no_failure_of_begin Tells view (ReadFault before now) is = refl

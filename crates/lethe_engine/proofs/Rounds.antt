@@ -5,7 +5,7 @@ use Rattle.std.proofs.lemmas.Bool.{le-leb, lt-leb}
 use Rattle.lethe_base.specs.declared.name.Name.{Name}
 use Rattle.lethe_base.specs.declared.refused.Refused.{Refused}
 use Rattle.lethe_disk.specs.declared.disk.Disk.{Ghosts}
-use Rattle.lethe_job.specs.Tasks.{plain_task}
+use Rattle.lethe_job.specs.Works.{plain_task}
 use Rattle.lethe_job.specs.declared.job.Job.{Job}
 use Rattle.lethe_core.specs.Jobs.{IsAtWork, IsInFlight, with_page}
 use Rattle.lethe_core.specs.View.{Face, Flying, View, face_of}

@@ -10,7 +10,7 @@ use Rattle.lethe_base.specs.declared.call.Did.TheVariants.{Done}
 use Rattle.lethe_base.specs.declared.config.Fields.{Fields}
 use Rattle.lethe_base.specs.declared.name.Name.{Name}
 use Rattle.lethe_base.specs.declared.refused.Refused.{Refused}
-use Rattle.lethe_base.specs.declared.refused.Refused.TheVariants.{Fault, Stopped, Backwards, Pinned, NothingDue, Cancelled, Exhausted, ReadFault, NoMemory, Damaged, Undone}
+use Rattle.lethe_base.specs.declared.refused.Refused.TheVariants.{Fault, Stopped, Backwards, Pinned, NothingDue, Cancelled, Exhausted, ReadFault, NoMemory, Damaged}
 use Rattle.lethe_cover.specs.Steps.{with_done}
 use Rattle.lethe_stored.specs.Clean.{IsClean}
 use Rattle.lethe_stored.specs.Stored.{Stored}
@@ -22,7 +22,7 @@ use Rattle.lethe_core.specs.StandsNow.{IsOpenOrStopped, StandsNow}
 use Rattle.lethe_core.specs.Steps.{IsDoneInPart}
 use Rattle.lethe_core.specs.View.{Face, View, face_of}
 use Rattle.lethe_core.proofs.Behind.{reason_behind}
-use Rattle.lethe_tick.specs.Ripened.{IsLeftUndone, IsShortToTick}
+use Rattle.lethe_tick.specs.Ripened.{IsShortToTick}
 use Rattle.lethe_engine.specs.Gone.{HoldsNothingErased}
 use Rattle.lethe_engine.specs.Ticks.{HasReasonOfTick, MayRefuseTick, passes, ticked_face}
 use Rattle.lethe_engine.proofs.Clean.{now_clean}
@@ -74,7 +74,6 @@ module _ (view : View) (to : ℕ) where
   passes_not (Fault place before after) is = absurd is
   passes_not (Pinned pin limit) is = absurd is
   passes_not NothingDue is = absurd is
-  passes_not (Undone erase) is = absurd is
   passes_not (Cancelled begun now) is = absurd is
   passes_not (ReadFault before after) is = absurd is
   passes_not NoMemory is = absurd is
@@ -98,7 +97,6 @@ module _ (view : View) (to : ℕ) where
   may_refuse_none (Fault place before after) is = absurd is
   may_refuse_none (Pinned pin limit) is = absurd is
   may_refuse_none NothingDue is = absurd is
-  may_refuse_none (Undone erase) is = absurd is
   may_refuse_none (Cancelled begun now) is = absurd is
   may_refuse_none (ReadFault before after) is = absurd is
   may_refuse_none NoMemory is = absurd is
@@ -112,7 +110,6 @@ module _ (view : View) (to : ℕ) where
   may_refuse_reason Tells PortsFail new first last (Fault place before after) is = absurd is
   may_refuse_reason Tells PortsFail new first last (Pinned pin limit) is = absurd is
   may_refuse_reason Tells PortsFail new first last NothingDue is = absurd is
-  may_refuse_reason Tells PortsFail new first last (Undone erase) is = absurd is
   may_refuse_reason Tells PortsFail new first last (Cancelled begun now) is = absurd is
   may_refuse_reason Tells PortsFail new first last (ReadFault before after) is = absurd is
   may_refuse_reason Tells PortsFail new first last NoMemory is = absurd is
@@ -165,6 +162,7 @@ module _ (view : View) (rounds : ℕ) where
     stands = is.stands;
     held = open_in_round config h is.stored view.state.stopped is.held;
     counted = is.counted;
+    recorded = is.recorded;
   }
 
   -- the tick's work may begin there
@@ -178,17 +176,15 @@ module _ (view : View) (rounds : ℕ) where
 -- A tick that was begun and refused
 
 module _ (Tells PortsFail : Type 0) (to : ℕ) (old new : View) (before first last : ℕ) (runs : old.state.stopped ≡ None) (is_before : before ≡ old.faults) where
-  pub reason_of_tick : (why : Refused) → HasReason (IsShortToTick Tells to new) old.state before new.faults why ⊎ IsUnreadable Tells PortsFail first last why ⊎ IsLeftUndone Tells to new why
+  pub reason_of_tick : (why : Refused) → HasReason (IsShortToTick Tells to new) old.state before new.faults why ⊎ IsUnreadable Tells PortsFail first last why
       → HasReasonOfTick Tells PortsFail to old new first last why
   reason_of_tick why (inl is) = inr (inl (subst (λ n. HasReason ((max_place ≤ old.rounds) ⊎ IsShortToTick Tells to new) old.state n new.faults why) is_before
       (reason_behind (IsShortToTick Tells to new) ((max_place ≤ old.rounds) ⊎ IsShortToTick Tells to new) old.state old.state before new.faults refl refl (λ short. inr short) why is)))
-  reason_of_tick why (inr (inl is)) = inr (inr (inl (runs, is)))
-  reason_of_tick why (inr (inr is)) = inr (inr (inr (runs, is)))
+  reason_of_tick why (inr is) = inr (inr (runs, is))
 
-  pub tick_told : (why : Refused) → HasReason (IsShortToTick Tells to new) old.state before new.faults why ⊎ IsUnreadable Tells PortsFail first last why ⊎ IsLeftUndone Tells to new why → IsTold old.faults new.faults why
+  pub tick_told : (why : Refused) → HasReason (IsShortToTick Tells to new) old.state before new.faults why ⊎ IsUnreadable Tells PortsFail first last why → IsTold old.faults new.faults why
   tick_told why (inl is) = subst (λ n. IsTold n new.faults why) is_before (reason_told (IsShortToTick Tells to new) old.state before new.faults why is)
-  tick_told why (inr (inl is)) = unreadable_told Tells PortsFail first last old.faults new.faults why is
-  tick_told why (inr (inr is)) = subst (IsTold old.faults new.faults) (sym is.1) tt
+  tick_told why (inr is) = unreadable_told Tells PortsFail first last old.faults new.faults why is
 
 -- What is gone
 

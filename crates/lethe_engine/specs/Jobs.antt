@@ -1,13 +1,12 @@
 -- The calls of a job.
-use Rattle.std.specs.Prelude.{◌≡◌, ◌≤◌, ◌<◌, ℕ, ◌+◌, ◌-◌, ◌&&◌, nat_le, List, [], length, sum_by, None, is_none, option_map, IfSome, IsSome, Result, Ok, Err, if◌then◌else◌}
+use Rattle.std.specs.Prelude.{◌≡◌, ◌≤◌, ◌<◌, ℕ, ◌+◌, ◌-◌, ◌&&◌, nat_le, List, [], length, None, is_none, option_map, IfSome, IsSome, Result, Ok, Err, if◌then◌else◌}
 use Rattle.lethe_base.specs.Limits.{max_place}
 use Rattle.lethe_base.specs.declared.name.Name.{Name}
 use Rattle.lethe_base.specs.declared.refused.Refused.{Refused}
-use Rattle.lethe_build.specs.Drafts.{numbers_for}
 use Rattle.lethe_disk.specs.declared.disk.Disk.{Ghosts}
-use Rattle.lethe_flush.specs.Made.{pages_in}
 use Rattle.lethe_state.specs.declared.state.State.{State}
-use Rattle.lethe_job.specs.Tasks.{plain_task}
+use Rattle.lethe_job.specs.MadeOf.{numbers_in, pages_of}
+use Rattle.lethe_job.specs.Works.{plain_task}
 use Rattle.lethe_job.specs.declared.job.Job.{Job}
 use Rattle.lethe_job.specs.declared.job.Piece.{Piece}
 use Rattle.lethe_core.specs.Jobs.{with_begun, with_page}
@@ -19,13 +18,13 @@ IsPast view job = job.round < view.rounds
 
 -- the piece is the job's next page
 pub record IsNextPage {D Page Port : Type 0} {kind : Ghosts D Page Port} (job : Job D Page Port kind) (piece : Piece) : Type 0 where
-  pub made : IsSome job.drafts
+  pub made : IsSome job.made
   pub place : piece.place ≡ job.written
-  pub left : IfSome job.drafts (λ drafts. job.written < length (pages_in drafts.items))
+  pub left : IfSome job.made (λ made. job.written < length (pages_of made))
 
--- the numbers of the headers of its outputs and of a manifest can't be drawn
+-- the numbers of the headers of what it made and of a manifest can't be drawn
 abbrev pub IsShortToInstall : {D Page Port : Type 0} {kind : Ghosts D Page Port} → View → Job D Page Port kind → Type 0
-IsShortToInstall view job = IfSome job.drafts (λ drafts. max_place ≤ view.state.next + (sum_by numbers_for drafts.items - job.written))
+IsShortToInstall view job = IfSome job.made (λ made. max_place ≤ view.state.next + (numbers_in made - job.written))
 
 -- What the jobs have come to behind each of their calls
 

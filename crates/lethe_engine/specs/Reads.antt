@@ -3,7 +3,7 @@ use Rattle.std.specs.Prelude.{ℕ, List, Bool}
 use Rattle.lethe_base.specs.Keys.{Bytes}
 use Rattle.lethe_base.specs.Read.{Answer, Listed}
 use Rattle.lethe_base.specs.declared.refused.Refused.{Refused}
-use Rattle.lethe_base.specs.declared.refused.Refused.TheVariants.{Fault, Stopped, Backwards, Pinned, NothingDue, Cancelled, Exhausted, ReadFault, NoMemory, Damaged, Undone}
+use Rattle.lethe_base.specs.declared.refused.Refused.TheVariants.{Fault, Stopped, Backwards, Pinned, NothingDue, Cancelled, Exhausted, ReadFault, NoMemory, Damaged}
 use Rattle.lethe_disk.specs.declared.cursor.ReadRefused.{ReadRefused}
 use Rattle.lethe_disk.specs.declared.cursor.ReadRefused.TheVariants as disk
 use Rattle.lethe_mem.specs.Buffered.{Buffered}
@@ -29,7 +29,6 @@ IsReadRefusal (Stopped at) = ⊥
 IsReadRefusal (Backwards clock) = ⊥
 IsReadRefusal (Pinned pin limit) = ⊥
 IsReadRefusal NothingDue = ⊥
-IsReadRefusal (Undone erase) = ⊥
 IsReadRefusal (Cancelled begun now) = ⊥
 IsReadRefusal (Exhausted last) = ⊥
 

@@ -1,7 +1,7 @@
 -- Why the calls of a store are refused.
 use Rattle.std.specs.Prelude.{◌≡◌, ◌<◌, ◌⊎◌, ℕ, Some, None, IsSome}
 use Rattle.lethe_base.specs.declared.refused.Refused.{Refused}
-use Rattle.lethe_base.specs.declared.refused.Refused.TheVariants.{Fault, Stopped, Backwards, Pinned, NothingDue, Cancelled, Exhausted, ReadFault, NoMemory, Damaged, Undone}
+use Rattle.lethe_base.specs.declared.refused.Refused.TheVariants.{Fault, Stopped, Backwards, Pinned, NothingDue, Cancelled, Exhausted, ReadFault, NoMemory, Damaged}
 use Rattle.lethe_disk.specs.declared.disk.Disk.{Ghosts}
 use Rattle.lethe_stored.specs.Stored.{Stored}
 use Rattle.lethe_state.specs.declared.state.State.{State}
@@ -31,11 +31,10 @@ HasReasonOfChange Tells PortsFail old new before now why =
     HasReason ((SeesRoom old.state → ⊥) × IsShortOfRoom Tells old.state new) old.state old.faults new.faults why
     ⊎ ((SeesRoom old.state → ⊥) × (old.state.stopped ≡ None) × IsUnreadable Tells PortsFail before now why)
 
--- The begin of a job: an earlier call failed, a job is in flight or no merge is due, or there was no memory.
+-- The begin of a job: an earlier call failed, a job is in flight or nothing is due, or there was no memory.
 abbrev pub HasReasonOfBegin : Type 0 → View → Refused → Type 0
 HasReasonOfBegin Tells view (Stopped at) = view.state.stopped ≡ Some at
 HasReasonOfBegin Tells view NothingDue = (view.state.stopped ≡ None) × (IsSome view.flight ⊎ (Tells → (s : Stored) → Holds view s → HasNoMerge s))
-HasReasonOfBegin Tells view (Undone erase) = ⊥
 HasReasonOfBegin Tells view NoMemory = Unit {0}
 HasReasonOfBegin Tells view (Fault place before after) = ⊥
 HasReasonOfBegin Tells view (Backwards clock) = ⊥

@@ -3,10 +3,10 @@ use Rattle.std.specs.Prelude.{◌≡◌, ◌≤◌, ◌<◌, ◌⊎◌, ℕ, ◌
 use Rattle.lethe_base.specs.Limits.{max_place}
 use Rattle.lethe_base.specs.declared.name.Name.{Name}
 use Rattle.lethe_base.specs.declared.refused.Refused.{Refused}
-use Rattle.lethe_base.specs.declared.refused.Refused.TheVariants.{Fault, Stopped, Backwards, Pinned, NothingDue, Cancelled, Exhausted, ReadFault, NoMemory, Damaged, Undone}
+use Rattle.lethe_base.specs.declared.refused.Refused.TheVariants.{Fault, Stopped, Backwards, Pinned, NothingDue, Cancelled, Exhausted, ReadFault, NoMemory, Damaged}
 use Rattle.lethe_core.specs.Reasons.{HasReason, IsUnreadable}
 use Rattle.lethe_core.specs.View.{Face, View, face_of}
-use Rattle.lethe_tick.specs.Ripened.{IsLeftUndone, IsShortToTick}
+use Rattle.lethe_tick.specs.Ripened.{IsShortToTick}
 
 -- the tests that come before a tick's work: nothing has failed, its time isn't behind the clock, and there is a place and a round for it
 abbrev pub passes : View → ℕ → Bool
@@ -28,17 +28,15 @@ MayRefuseTick view to (Exhausted last) = (view.state.stopped ≡ None) × (view.
 MayRefuseTick view to (Fault place before after) = ⊥
 MayRefuseTick view to (Pinned pin limit) = ⊥
 MayRefuseTick view to NothingDue = ⊥
-MayRefuseTick view to (Undone erase) = ⊥
 MayRefuseTick view to (Cancelled begun now) = ⊥
 MayRefuseTick view to (ReadFault before after) = ⊥
 MayRefuseTick view to NoMemory = ⊥
 MayRefuseTick view to (Damaged name) = ⊥
 
 -- Its time is behind the clock; or an earlier call failed, the places or the rounds are used up or numbers are short, the disk failed in this call, or there was no memory; or
--- reading a file was refused, by the port's counts of faults before and now; or an erase that the merges didn't do is a threshold old at the time.
+-- reading a file was refused, by the port's counts of faults before and now.
 abbrev pub HasReasonOfTick : Type 0 → Type 0 → ℕ → View → View → ℕ → ℕ → Refused → Type 0
 HasReasonOfTick Tells PortsFail to old new before now why =
     IsBehind old to why
     ⊎ HasReason ((max_place ≤ old.rounds) ⊎ IsShortToTick Tells to new) old.state old.faults new.faults why
     ⊎ ((old.state.stopped ≡ None) × IsUnreadable Tells PortsFail before now why)
-    ⊎ ((old.state.stopped ≡ None) × IsLeftUndone Tells to new why)

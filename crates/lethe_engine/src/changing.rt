@@ -26,12 +26,12 @@ use std::alloc::Global;
 impl<D: Disk> Engine<D> {
     /// Puts a value, and its delete key, under a key. It answers the place of the change in the store's history. Where the active segment is
     /// full, room is made first: the frozen buffer is flushed, if there is one, and the active one is frozen. Where level 0 has at least twice as many files as the
-    /// ratio then, and no job is in flight, the merges that are due are carried out, and their inputs are read through the port.
+    /// ratio then, and no job is in flight, the merges and sweeps that are due are carried out, and their files are read through the port.
     ///
     /// # Errors
     ///
-    /// `Stopped`, `Exhausted`, `NoMemory`, `Fault`, which stops the store, and where a merge is carried out `ReadFault`, and on a disk that tells nothing `Damaged`. Want of
-    /// memory for the record comes before its first device call. Room that was made stays made.
+    /// `Stopped`, `Exhausted`, `NoMemory`, `Fault`, which stops the store, and where a merge or a sweep is carried out `ReadFault`, and on a disk that tells nothing `Damaged`. Want
+    /// of memory for the record comes before its first device call. Room that was made stays made.
     pub fn put(
         &mut self,
         alloc: Global,
@@ -50,7 +50,8 @@ impl<D: Disk> Engine<D> {
         ensures stopped { (at : ℕ) → self.old.core.state.stopped ≡ Some at → IsErrOf result (Stopped at) × (self.new ≡ self.old) }
         ensures exhausted { self.old.core.state.stopped ≡ None → self.old.core.state.count ≡ max_place → IsErrOf result (Exhausted max_place) × (self.new ≡ self.old) }
 
-        // Acknowledged: room was made, the port has fetched each page of the merges' inputs once, and the record is behind the others in the active segment.
+        // Acknowledged: room was made, for which the port has fetched each page of the merges' inputs once, and of a swept file those that its header tells, and the record is
+        // behind the others in the active segment.
         ensures written { D.tells → (s : Stored) → Holds (view_of self.old.core) s
             → OnOk result ((t : Stored) × (outcomes : List Outcome) × IsRoomMadeBy (view_of self.old.core).flight s outcomes t
             × Holds (view_of self.new.core) (appended t (put_over t key dkey value)) × (D.fetches port.new ≡ D.fetches port.old + pages_of outcomes)
@@ -75,15 +76,15 @@ impl<D: Disk> Engine<D> {
         self.core.record(alloc, before, next)
     }
 
-    /// Erases the values whose delete keys lie in a range: no read finds one that was put before, and the range is applied to the files as they are merged. It answers the
-    /// place of the change in the store's history. Where the active segment is full, room is made first: the frozen buffer is flushed, if there is one, and the active one is
-    /// frozen. Where level 0 has at least twice as many files as the ratio then, and no job is in flight, the merges that are due are carried out, and their inputs are read
-    /// through the port.
+    /// Erases the values whose delete keys lie in a range: no read finds one that was put before, and the range is applied to the files as they are merged or swept. It answers
+    /// the place of the change in the store's history. Where the active segment is full, room is made first: the frozen buffer is flushed, if there is one, and the active one
+    /// is frozen. Where level 0 has at least twice as many files as the ratio then, and no job is in flight, the merges and sweeps that are due are carried out, and their files
+    /// are read through the port.
     ///
     /// # Errors
     ///
-    /// `Stopped`, `Exhausted`, `NoMemory`, `Fault`, which stops the store, and where a merge is carried out `ReadFault`, and on a disk that tells nothing `Damaged`. Want of
-    /// memory for the record comes before its first device call. Room that was made stays made.
+    /// `Stopped`, `Exhausted`, `NoMemory`, `Fault`, which stops the store, and where a merge or a sweep is carried out `ReadFault`, and on a disk that tells nothing `Damaged`. Want
+    /// of memory for the record comes before its first device call. Room that was made stays made.
     pub fn erase(&mut self, alloc: Global, port: &mut D::Port, range: Range) -> Result<u64, Refused>
         // Opening gives this, and each call leaves it so.
         requires { IsSound D.tells (view_of self.old.core) }
@@ -95,7 +96,8 @@ impl<D: Disk> Engine<D> {
         ensures stopped { (at : ℕ) → self.old.core.state.stopped ≡ Some at → IsErrOf result (Stopped at) × (self.new ≡ self.old) }
         ensures exhausted { self.old.core.state.stopped ≡ None → self.old.core.state.count ≡ max_place → IsErrOf result (Exhausted max_place) × (self.new ≡ self.old) }
 
-        // Acknowledged: room was made, the port has fetched each page of the merges' inputs once, and the record is behind the others in the active segment.
+        // Acknowledged: room was made, for which the port has fetched each page of the merges' inputs once, and of a swept file those that its header tells, and the record is
+        // behind the others in the active segment.
         ensures written { D.tells → (s : Stored) → Holds (view_of self.old.core) s
             → OnOk result ((t : Stored) × (outcomes : List Outcome) × IsRoomMadeBy (view_of self.old.core).flight s outcomes t
             × Holds (view_of self.new.core) (appended t (erase_over t range)) × (D.fetches port.new ≡ D.fetches port.old + pages_of outcomes)
@@ -137,7 +139,8 @@ impl<D: Disk> Engine<D> {
         ensures stopped { (at : ℕ) → self.old.core.state.stopped ≡ Some at → IsErrOf result (Stopped at) × (self.new ≡ self.old) }
         ensures exhausted { self.old.core.state.stopped ≡ None → self.old.core.state.count ≡ max_place → IsErrOf result (Exhausted max_place) × (self.new ≡ self.old) }
 
-        // Acknowledged: room was made, the port has fetched each page of the merges' inputs once, and the record is behind the others in the active segment.
+        // Acknowledged: room was made, for which the port has fetched each page of the merges' inputs once, and of a swept file those that its header tells, and the record is
+        // behind the others in the active segment.
         ensures written { D.tells → (s : Stored) → Holds (view_of self.old.core) s
             → OnOk result ((t : Stored) × (outcomes : List Outcome) × (next : Record) × IsRoomMadeBy (view_of self.old.core).flight s outcomes t
             × IsDeleteOver t (headers_in (view_of self.new.core).levels) key next

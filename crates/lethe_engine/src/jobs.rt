@@ -1,4 +1,4 @@
-//! The jobs of a store: merges that run beside its other calls.
+//! The jobs of a store: merges and sweeps that run beside its other calls.
 ghost use Rattle.std.specs.Prelude.{◌≡◌, ◌≤◌, ◌<◌, ◌+◌, ◌⊎◌, ℕ, true, Some, None, length, IfOk, IfErr, IfSome, IsErrOf, IsOk, IsSome, OnErr, OnOk, option_map};
 ghost use Rattle.std.specs.Result.{result_err};
 ghost use Rattle.std.specs.FinMap.{insert};
@@ -7,13 +7,13 @@ ghost use Rattle.lethe_base.specs.declared.call.Call.TheVariants.{Work};
 ghost use Rattle.lethe_base.specs.declared.refused.Refused.TheVariants as refused;
 ghost use Rattle.lethe_disk.specs.Disk.{IsIdle};
 ghost use Rattle.lethe_file.specs.Agreement.{page_name};
-ghost use Rattle.lethe_flush.specs.Made.{pages_in};
 ghost use Rattle.lethe_stored.specs.Stored.{Stored};
 ghost use Rattle.lethe_job.specs.Jobs.{next_bytes};
-ghost use Rattle.lethe_job.specs.Tasks.{IsBegunIn, plain_task};
+ghost use Rattle.lethe_job.specs.MadeOf.{pages_of};
+ghost use Rattle.lethe_job.specs.Works.{IsBegunIn, plain_task};
 ghost use Rattle.lethe_core.specs.Asked.{Serves};
+ghost use Rattle.lethe_install.specs.Outcomes.{IsInstalled};
 ghost use Rattle.lethe_core.specs.Jobs.{IsAtWork, IsInFlight, IsWhole, with_page};
-ghost use Rattle.lethe_core.specs.Merges.{IsInstalled};
 ghost use Rattle.lethe_core.specs.Running.{Holds, IsSound};
 ghost use Rattle.lethe_core.specs.View.{face_of, view_of};
 ghost use Rattle.lethe_engine.specs.Answers.{Answers};
@@ -27,22 +27,22 @@ use lethe_job::{Job, Piece};
 use std::alloc::Global;
 
 impl<D: Disk> Engine<D> {
-    /// Begins the merge that is due, as a job with a port of its own. It reads no page and makes no device call. Until the job is installed or given up no other
+    /// Begins the merge or the sweep that is due, as a job with a port of its own. It reads no page and makes no device call. Until the job is installed or given up no other
     /// begins.
     ///
     /// # Errors
     ///
-    /// `Stopped`, `NothingDue` where no merge is due or a job is in flight, `NoMemory`.
+    /// `Stopped`, `NothingDue` where nothing is due or a job is in flight, `NoMemory`.
     pub fn begin(&mut self, alloc: Global) -> Result<Job<D>, Refused>
         // Opening gives this, and each call leaves it so.
         requires { IsSound D.tells (view_of self.old.core) }
         ensures answers { Answers D.tells (Serves Work) (result_err result) (begun_face (face_of (view_of self.old.core)) result) (view_of self.old.core) (view_of self.new.core) }
 
-        // The job has the next number and the present round, and has made and fetched nothing. Its task is that of the first merge that is due.
+        // The job has the next number and the present round, and has made and fetched nothing. Its task is that of the first merge or sweep that is due.
         ensures begun { D.tells → (s : Stored) → Holds (view_of self.old.core) s → IfOk result (λ job. IsBegunIn s (plain_task job.task.value) × Holds (view_of self.new.core) s) }
         ensures number { IfOk result (λ job. (job.number.value ≡ self.old.core.begun.jobs) × (job.round ≡ self.old.core.begun.rounds)) }
         ensures works { IfOk result (IsAtWork D.tells (view_of self.new.core)) }
-        ensures unmade { IfOk result (λ job. (job.drafts ≡ None) × (D.fetches job.port ≡ 0) × (D.port_faults job.port ≡ 0)) }
+        ensures unmade { IfOk result (λ job. (job.made ≡ None) × (D.fetches job.port ≡ 0) × (D.port_faults job.port ≡ 0)) }
 
         // A refusal has its reason.
         ensures why { IfErr result (HasReasonOfBegin D.tells (view_of self.old.core)) }
@@ -91,7 +91,7 @@ impl<D: Disk> Engine<D> {
         // A job in flight stays so, and where it was refused it can only be given up.
         ensures flies { IsInFlight (view_of self.old.core) job.old → IsInFlight (view_of self.new.core) job.new }
         ensures refused { OnErr result (job.new.refused ≡ true) }
-        ensures same { (job.new.drafts ≡ job.old.drafts) × (job.new.task ≡ job.old.task) × (job.new.port ≡ job.old.port) × (job.new.number ≡ job.old.number) × (job.new.round ≡ job.old.round) }
+        ensures same { (job.new.made ≡ job.old.made) × (job.new.task ≡ job.old.task) × (job.new.port ≡ job.old.port) × (job.new.number ≡ job.old.number) × (job.new.round ≡ job.old.round) }
 
         // A refusal has its reason.
         ensures why { IfErr result (HasReasonOfJob (max_place ≤ self.old.core.state.next) job.old (view_of self.old.core) (view_of self.new.core)) }
@@ -133,8 +133,8 @@ impl<D: Disk> Engine<D> {
     fn write_next(&mut self, job: &Job<D>) -> Result<(), Refused>
         requires sound { IsSound D.tells (view_of self.old.core) }
         requires works { IsAtWork D.tells (view_of self.old.core) job.now ⊎ IsPast (view_of self.old.core) job.now }
-        requires made { IsSome job.now.drafts }
-        requires left { IfSome job.now.drafts (λ drafts. job.now.written < length (pages_in drafts.items)) }
+        requires made { IsSome job.now.made }
+        requires left { IfSome job.now.made (λ made. job.now.written < length (pages_of made)) }
         ensures answers { Answers D.tells (Serves Work) (result_err result) (written_face (face_of (view_of self.old.core)) (page_name self.old.core.state.next, next_bytes job.now) result) (view_of self.old.core) (view_of self.new.core) }
         ensures held { D.tells → (s : Stored) → Holds (view_of self.old.core) s → OnOk result (Holds (view_of self.new.core) s) }
         ensures page { D.tells → OnOk result ((D.seen self.new.core.disk).directory ≡ insert (D.seen self.old.core.disk).directory (page_name self.old.core.state.next) (next_bytes job.now)) }
@@ -154,7 +154,7 @@ impl<D: Disk> Engine<D> {
         self.core.write_now(before, job.next_page())
     }
 
-    /// Installs what a job made, whose pages are all written: its files take the place of its inputs, which are removed.
+    /// Installs what a job made, whose pages are all written: it takes the place of the files that go, and of these what is cited no more is removed.
     ///
     /// # Errors
     ///
@@ -191,14 +191,14 @@ impl<D: Disk> Engine<D> {
         }
     }
 
-    /// Installs what the job made, and takes its drafts from it where they are needed.
+    /// Installs what the job made, and takes that from it where it is needed.
     fn install_whole(&mut self, alloc: Global, job: &mut Job<D>) -> Result<(), Refused>
         requires sound { IsSound D.tells (view_of self.old.core) }
         requires works { IsAtWork D.tells (view_of self.old.core) job.old ⊎ IsPast (view_of self.old.core) job.old }
         requires whole { IsWhole job.old }
         ensures answers { Answers D.tells (Serves Work) (result_err result) (ended_face (face_of (view_of self.old.core)) result) (view_of self.old.core) (view_of self.new.core) }
         ensures done { D.tells → (s : Stored) → Holds (view_of self.old.core) s → OnOk result ((t : Stored) × IsInstalled s (plain_task job.old.task.value) t × Holds (view_of self.new.core) t) }
-        ensures job { job.new ≡ record job.old { drafts = job.new.drafts } }
+        ensures job { job.new ≡ record job.old { made = job.new.made } }
         ensures why { IfErr result (HasReasonOfJob (IsShortToInstall (view_of self.old.core) job.old) job.old (view_of self.old.core) (view_of self.new.core)) }
         ensures drawn { OnErr result (self.new.core.state.next ≡ self.old.core.state.next) }
         ensures stopped { (at : ℕ) → self.old.core.state.stopped ≡ Some at → IsErrOf result (refused.Stopped at) × (self.new ≡ self.old) }
@@ -211,8 +211,8 @@ impl<D: Disk> Engine<D> {
         self.check_round(job)?;
         self.core.state.may_change()?;
         let before = self.core.disk.faults();
-        let drafts = job.take_drafts().unwrap();
-        self.core.install_now(alloc, before, drafts)
+        let made = job.take_made().unwrap();
+        self.core.install_now(alloc, before, made)
     }
 
     /// Gives a job up, and removes its pages. It takes no memory. Where the last place of the history is taken nothing can be removed: then the job's pages stay, and it

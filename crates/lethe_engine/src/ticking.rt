@@ -46,14 +46,13 @@ pub struct Ticked {
 
 impl<D: Disk> Engine<D> {
     /// Moves the clock to a time. First the job in flight is given up, with its round. Where a record of a segment is as old at that time as level 0 may have it, both
-    /// buffers are flushed; then the merges that are due at that time are carried out, one after another until none is, and their inputs are read through the port; then
-    /// the clock moves. No call sweeps files yet: a tick to a time at which an erase is a threshold old that the merges didn't do is refused. So behind a tick no object of the
-    /// disk holds a value that was erased a threshold before its time, or longer ago.
+    /// buffers are flushed; then the merges and sweeps that are due at that time are carried out, one after another until none is, and their files are read through the port;
+    /// then the clock moves. So behind a tick no object of the disk holds a value that was erased a threshold before its time, or longer ago.
     ///
     /// # Errors
     ///
     /// `Stopped`; `Backwards` where the time is behind the clock; `Exhausted` where the last place or the last round is taken: in this order, before any work. Then the
-    /// round has ended, and `Exhausted` where numbers ran out, `NoMemory`, `ReadFault`, `Undone`, `Fault`, which stops the store, and on a disk that tells nothing `Damaged`
+    /// round has ended, and `Exhausted` where numbers ran out, `NoMemory`, `ReadFault`, `Fault`, which stops the store, and on a disk that tells nothing `Damaged`
     /// leave done what was done before them: the same tick may be asked for again.
     pub fn tick(&mut self, alloc: Global, port: &mut D::Port, to: u64) -> Result<Ticked, Refused>
         // Opening gives this, and each call leaves it so.
@@ -83,7 +82,8 @@ impl<D: Disk> Engine<D> {
             → OnOk result ((ripe t : Stored) × (outcomes : List Outcome) × IsRipened to stands.stored ripe × AreOutcomesBy (due_choice to) ripe outcomes t
             × HasLastStep config h t (D.seen self.old.core.disk) (D.seen self.new.core.disk)) }
 
-        // The buffers were flushed where they had to be, then exactly the merges that were due were carried out, each page of their inputs fetched once, and the clock moved.
+        // The buffers were flushed where they had to be, then exactly the merges and sweeps that were due were carried out, each page of the merges' inputs fetched once, and of
+        // a swept file those that its header tells, and the clock moved.
         ensures done { D.tells → (s : Stored) → Holds (view_of self.old.core) s
             → OnOk result ((ripe t : Stored) × (outcomes : List Outcome) × (number : ℕ) × IsRipened to s ripe × AreOutcomesBy (due_choice to) ripe outcomes t
             × Holds (view_of self.new.core) (ticked t to number) × (D.fetches port.new ≡ D.fetches port.old + pages_of outcomes)

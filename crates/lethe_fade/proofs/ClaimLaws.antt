@@ -14,6 +14,7 @@ use Rattle.lethe_base.specs.Keys.{Bytes, key_cmp}
 use Rattle.lethe_base.specs.Shapes.{HasOtherNumber, HasRange, IsValidShape, all_files}
 use Rattle.lethe_base.specs.declared.config.Fields.{Fields}
 use Rattle.lethe_base.specs.declared.config.Pick.{Pick}
+use Rattle.lethe_base.specs.declared.pending.Pending.{Pending}
 use Rattle.lethe_base.specs.declared.shape.FileFacts.{FileFacts}
 use Rattle.lethe_base.specs.declared.shape.Shape.{Shape}
 use Rattle.lethe_fade.specs.declared.claim.Claim.{Claim}
@@ -24,7 +25,9 @@ use Rattle.lethe_fade.specs.Claims.{meets, IsProper, merge_claim}
 use Rattle.lethe_fade.specs.Ranks.{with_item, sorted_by, file_cmp}
 use Rattle.lethe_fade.specs.Candidates.{Candidate, first_files, is_free, merge_named, merges_from}
 use Rattle.lethe_fade.specs.Expired.{expired, expired_cmp, expired_merges, is_expired, sources_keys}
+use Rattle.lethe_fade.specs.Sweeps.{is_unswept, sweep_of, sweeps, sweeps_in, sweeps_of}
 use Rattle.lethe_fade.specs.Choice.{whole_merges, file_merges, level_merges, candidates, choice}
+use Rattle.lethe_fade.proofs.Oldest.{jobs_of}
 use Rattle.lethe_fade.proofs.Expiring.{timed_merges}
 use Rattle.lethe_fade.proofs.MeetingLaws.{key_upto, key_itself}
 use Rattle.lethe_fade.specs.Claimed.{job_claim, claim_in, IsFreePlan, ChoiceIsFree}
@@ -193,20 +196,19 @@ level_claimed fields level files next d = by_tests (is_saturated fields level fi
     by_tests true false t = files_claimed fields.pick level files next t d
     by_tests false first t = tt
 
--- what holds of the merge of each file holds of those of the expired ones, in their order
-each_expired : (P : Candidate → Type 0) (fields : Fields) (clock level : ℕ) (files next : List FileFacts) → Each (λ file. P (merge_named file.no level (sources_keys level files file) next)) files
-    → Each P (expired_merges fields clock level files next)
-each_expired P fields clock level files next h =
-    each_map P (λ file. merge_named file.no level (sources_keys level files file) next) (sorted_by expired_cmp (filter (is_expired fields clock level) files))
-    (each_sorted (λ file. P (merge_named file.no level (sources_keys level files file) next)) expired_cmp (filter (is_expired fields clock level) files)
-    (each_filter (λ file. P (merge_named file.no level (sources_keys level files file) next)) (is_expired fields clock level) files h))
+-- what holds of the job of each file holds of those of the files that are kept, oldest first
+each_job : (P : Candidate → Type 0) (kept : FileFacts → Bool) (job : FileFacts → Candidate) (files : List FileFacts) → Each (λ file. P (job file)) files
+    → Each P (jobs_of kept job files)
+each_job P kept job files h =
+    each_map P job (sorted_by expired_cmp (filter kept files))
+    (each_sorted (λ file. P (job file)) expired_cmp (filter kept files) (each_filter (λ file. P (job file)) kept files h))
 
 each_timed : (P : Candidate → Type 0) (fields : Fields) (clock level : ℕ) (files next : List FileFacts) → Each (λ file. P (merge_named file.no level (sources_keys level files file) next)) files
     → Each P (timed_merges fields clock level files next)
 each_timed P fields clock level files next h = by_test (nat_lt level fields.levels)
   where
     by_test : (b : Bool) → Each P (cond b (expired_merges fields clock level files next) [])
-    by_test true = each_expired P fields clock level files next h
+    by_test true = each_job P (is_expired fields clock level) (λ file. merge_named file.no level (sources_keys level files file) next) files h
     by_test false = tt
 
 -- an expired file of level 0 has the claim of the whole level
@@ -220,6 +222,13 @@ expired_claimed fields clock level files next d =
         → cond first (merge_claim 0 (hull_of files) next) (merge_claim level (range_of file) next) ≡ merge_claim level (cond first (hull_of files) (range_of file)) next
     by_level file true t = let zeroth : level ≡ 0 = test_is level 0 t in ap (λ n. merge_claim n (hull_of files) next) (sym zeroth)
     by_level file false t = refl
+
+-- a file that is swept is the one of the plan's number
+swept_claimed : (place level : ℕ) (files next : List FileFacts) → Distinct files → Each (IsClaimedHere level files next) (sweeps_in place level files)
+swept_claimed place level files next d =
+    each_job (IsClaimedHere level files next) (is_unswept place) (sweep_of place level) files
+    (each_weaker (λ file. numbered file.no files ≡ Some file) (λ file. IsClaimedHere level files next (sweep_of place level file)) files
+    (λ file e. rw e refl) (numbered-own files d))
 
 abbrev flat : List (List FileFacts) → List FileFacts
 flat [] = []
@@ -266,8 +275,8 @@ levels_claimed merges claimed level (files ∷ deeper) d =
 abbrev IsRange : KeyRange → Type 0
 IsRange range = IsTrue (is_le (key_cmp range.lo range.hi))
 
-abbrev IsProperMerge : Candidate → Type 0
-IsProperMerge c = IsProper c.claim
+abbrev IsProperJob : Candidate → Type 0
+IsProperJob c = IsProper c.claim
 
 min_upto : (r : Ordering) (x y : Bytes) → key_cmp y x ≡ r → IsTrue (is_le (key_cmp (cond (is_lt r) y x) x))
 min_upto Less x y e = ap is_le e
@@ -290,46 +299,66 @@ hull_range range (file ∷ files) h = hull_range (joined range (range_of file)) 
 merge_proper : (level : ℕ) (sources : KeyRange) (next : List FileFacts) → IsRange sources → IsProper (merge_claim level sources next)
 merge_proper level sources next h = record { levels = omega arith; keys = hull_range sources (overlapping sources next) h }
 
-level_proper : (fields : Fields) (level : ℕ) (files next : List FileFacts) → Each HasRange files → Each IsProperMerge (level_merges fields level files next)
+level_proper : (fields : Fields) (level : ℕ) (files next : List FileFacts) → Each HasRange files → Each IsProperJob (level_merges fields level files next)
 level_proper fields level files next ranges = by_tests (is_saturated fields level files) (level == 0) files ranges
   where
-    by_tests : (full first : Bool) (files : List FileFacts) → Each HasRange files → Each IsProperMerge (cond full (cond first (whole_merges files next) (file_merges fields.pick level files next)) [])
+    by_tests : (full first : Bool) (files : List FileFacts) → Each HasRange files
+        → Each IsProperJob (cond full (cond first (whole_merges files next) (file_merges fields.pick level files next)) [])
     by_tests true true [] h = tt
     by_tests true true (file ∷ others) h = (merge_proper 0 (hull (range_of file) others) next (hull_range (range_of file) others h.0), tt)
     by_tests true false files h =
-        each_map IsProperMerge (λ file. merge_named file.no level (range_of file) next) (sorted_by (file_cmp fields.pick next) files)
-        (each_sorted (λ file. IsProperMerge (merge_named file.no level (range_of file) next)) (file_cmp fields.pick next) files
-        (each_weaker HasRange (λ file. IsProperMerge (merge_named file.no level (range_of file) next)) files (λ file r. merge_proper level (range_of file) next r) h))
+        each_map IsProperJob (λ file. merge_named file.no level (range_of file) next) (sorted_by (file_cmp fields.pick next) files)
+        (each_sorted (λ file. IsProperJob (merge_named file.no level (range_of file) next)) (file_cmp fields.pick next) files
+        (each_weaker HasRange (λ file. IsProperJob (merge_named file.no level (range_of file) next)) files (λ file r. merge_proper level (range_of file) next r) h))
     by_tests false first files h = tt
 
 whole_range : (file : FileFacts) (files : List FileFacts) → Each HasRange files → HasRange file → IsRange (hull_of files)
 whole_range file [] h own = refl
 whole_range file (first ∷ others) h own = hull_range (range_of first) others h.0
 
-expired_proper : (fields : Fields) (clock level : ℕ) (files next : List FileFacts) → Each HasRange files → Each IsProperMerge (timed_merges fields clock level files next)
+expired_proper : (fields : Fields) (clock level : ℕ) (files next : List FileFacts) → Each HasRange files → Each IsProperJob (timed_merges fields clock level files next)
 expired_proper fields clock level files next ranges =
-    each_timed IsProperMerge fields clock level files next
-    (each_weaker HasRange (λ file. IsProperMerge (merge_named file.no level (sources_keys level files file) next)) files
+    each_timed IsProperJob fields clock level files next
+    (each_weaker HasRange (λ file. IsProperJob (merge_named file.no level (sources_keys level files file) next)) files
     (λ file own. merge_proper level (sources_keys level files file) next (by_level file own (level == 0))) ranges)
   where
     by_level : (file : FileFacts) → HasRange file → (first : Bool) → IsRange (cond first (hull_of files) (range_of file))
     by_level file own true = whole_range file files ranges own
     by_level file own false = own
 
-levels_proper : (merges : ℕ → List FileFacts → List FileFacts → List Candidate) → ((level : ℕ) (files next : List FileFacts) → Each HasRange files → Each IsProperMerge (merges level files next))
-    → (level : ℕ) (levels : List (List FileFacts)) → Each HasRange (flat levels) → Each IsProperMerge (merges_from merges level levels)
+swept_proper : (place level : ℕ) (files : List FileFacts) → Each HasRange files → Each IsProperJob (sweeps_in place level files)
+swept_proper place level files ranges =
+    each_job IsProperJob (is_unswept place) (sweep_of place level) files
+    (each_weaker HasRange (λ file. IsProperJob (sweep_of place level file)) files (λ file own. record { levels = omega arith; keys = own }) ranges)
+
+levels_proper : (merges : ℕ → List FileFacts → List FileFacts → List Candidate)
+    → ((level : ℕ) (files next : List FileFacts) → Each HasRange files → Each IsProperJob (merges level files next))
+    → (level : ℕ) (levels : List (List FileFacts)) → Each HasRange (flat levels) → Each IsProperJob (merges_from merges level levels)
 levels_proper merges proper level [] h = tt
 levels_proper merges proper level (files ∷ deeper) h =
     let parts = each_parts HasRange files (flat deeper) h in
-    each_append IsProperMerge (merges level files (first_files deeper)) (merges_from merges (level + 1) deeper) (proper level files (first_files deeper) parts.0) (levels_proper merges proper (level + 1) deeper parts.1)
+    each_append IsProperJob (merges level files (first_files deeper)) (merges_from merges (level + 1) deeper)
+    (proper level files (first_files deeper) parts.0) (levels_proper merges proper (level + 1) deeper parts.1)
+
+sweeps_claimed : (erases : List Pending) (levels : List (List FileFacts)) → Distinct (flat levels) → Each (λ c. claim_in c.plan 0 levels ≡ Some c.claim) (sweeps_of erases levels)
+sweeps_claimed [] levels d = tt
+sweeps_claimed (erase ∷ later) levels d = levels_claimed (λ level files next. sweeps_in erase.seq level files) (swept_claimed erase.seq) 0 levels d
+
+sweeps_proper : (erases : List Pending) (levels : List (List FileFacts)) → Each HasRange (flat levels) → Each IsProperJob (sweeps_of erases levels)
+sweeps_proper [] levels h = tt
+sweeps_proper (erase ∷ later) levels h =
+    levels_proper (λ level files next. sweeps_in erase.seq level files) (λ level files next ranges. swept_proper erase.seq level files ranges) 0 levels h
 
 no_false : (b : Bool) → not b ≡ true → b ≡ false
 no_false true e = absurd cc
 no_false false e = refl
 
 module _ (fields : Fields) (shape : Shape) (clock : ℕ) (valid : IsValidShape shape) where
+  abbrev behind_expired : List Candidate
+  behind_expired = sweeps shape ++ candidates fields shape
+
   abbrev all : List Candidate
-  all = expired fields clock shape ++ candidates fields shape
+  all = expired fields clock shape ++ behind_expired
 
   distinct : Distinct (flat shape.levels)
   distinct = rw (← flat-is shape.levels) (distinct_from (all_files shape) valid.numbers)
@@ -342,13 +371,15 @@ module _ (fields : Fields) (shape : Shape) (clock : ℕ) (valid : IsValidShape s
 
   claimed : Each IsClaimed all
   claimed =
-      each_append IsClaimed (expired fields clock shape) (candidates fields shape) (levels_claimed (timed_merges fields clock) (expired_claimed fields clock) 0 shape.levels distinct)
-      (levels_claimed (level_merges fields) (level_claimed fields) 0 shape.levels distinct)
+      each_append IsClaimed (expired fields clock shape) behind_expired (levels_claimed (timed_merges fields clock) (expired_claimed fields clock) 0 shape.levels distinct)
+      (each_append IsClaimed (sweeps shape) (candidates fields shape) (sweeps_claimed shape.erases shape.levels distinct)
+      (levels_claimed (level_merges fields) (level_claimed fields) 0 shape.levels distinct))
 
-  proper : Each IsProperMerge all
+  proper : Each IsProperJob all
   proper =
-      each_append IsProperMerge (expired fields clock shape) (candidates fields shape) (levels_proper (timed_merges fields clock) (expired_proper fields clock) 0 shape.levels ranges)
-      (levels_proper (level_merges fields) (level_proper fields) 0 shape.levels ranges)
+      each_append IsProperJob (expired fields clock shape) behind_expired (levels_proper (timed_merges fields clock) (expired_proper fields clock) 0 shape.levels ranges)
+      (each_append IsProperJob (sweeps shape) (candidates fields shape) (sweeps_proper shape.erases shape.levels ranges)
+      (levels_proper (level_merges fields) (level_proper fields) 0 shape.levels ranges))
 
   pub all_free : (claims : List Claim) (plan : Plan) → choice fields shape clock claims ≡ Some plan → IsFreePlan shape claims plan
   all_free claims plan chosen = by_found (find (is_free claims) all) refl chosen
@@ -357,7 +388,7 @@ module _ (fields : Fields) (shape : Shape) (clock : ℕ) (valid : IsValidShape s
       by_found None e p = absurd cc
       by_found (Some c) e p =
           let same : c.plan ≡ plan = cc in
-          let found = found_is (λ (c : Candidate). IsClaimed c × IsProperMerge c) (is_free claims) all c (each_both IsClaimed IsProperMerge all claimed proper) e in
+          let found = found_is (λ (c : Candidate). IsClaimed c × IsProperJob c) (is_free claims) all c (each_both IsClaimed IsProperJob all claimed proper) e in
           record { claim = c.claim; is = rw (← same) found.0.0; proper = found.0.1; free = no_false (list_any (meets c.claim) claims) found.1 }
 
 pub choice_is_free : ChoiceIsFree

@@ -1,78 +1,37 @@
 -- What the loops over expired files find, as candidates.
-use Rattle.std.proofs.Common.{◌≡◌, ℕ, ◌+◌, ◌<◌, ◌≤◌, Bool, true, false, not, cond, List, [], ◌∷◌, ◌++◌, length, take, get_or, map, Option, Some, None, refl, sym, ap, ◌∙◌, subst, arith}
-use Rattle.std.specs.Prelude.{◌&&◌, nat_lt, slice_get, IsSome}
+use Rattle.std.proofs.Common.{◌≡◌, ℕ, ◌<◌, Bool, true, false, not, cond, List, [], ◌∷◌, map, Option, Some, None, refl, sym, ap, ◌∙◌, subst, arith}
+use Rattle.std.specs.Prelude.{nat_lt, slice_get}
 use Rattle.std.specs.List.{filter, find, list_any}
 use Rattle.std.specs.Option.{option_map}
 use Rattle.std.proofs.lemmas.Bool.{lt-ltb}
 use Rattle.std.proofs.lemmas.Bool.Decides.{nat_tests}
-use Rattle.std.proofs.lemmas.List.{take_all}
 use Rattle.lethe_base.specs.declared.config.Fields.{Fields}
 use Rattle.lethe_base.specs.declared.shape.FileFacts.{FileFacts}
 use Rattle.lethe_fade.specs.declared.claim.Claim.{Claim}
 use Rattle.lethe_fade.specs.declared.plan.Plan.{Plan}
-use Rattle.lethe_fade.specs.declared.rank.Age.{Age}
 use Rattle.lethe_fade.specs.Spans.{KeyRange, hull, range_of}
 use Rattle.lethe_fade.specs.Claims.{meets, merge_claim}
-use Rattle.lethe_fade.specs.Ranks.{age_cmp, lesser_of, sorted_by}
-use Rattle.lethe_fade.specs.Candidates.{Candidate, is_free, merge_named, merge_plan}
-use Rattle.lethe_fade.specs.Expired.{age_of, expired, expired_cmp, expired_merges, is_expired, sources_keys}
-use Rattle.lethe_fade.specs.Choice.{DueIsFirst, candidates}
-use Rattle.lethe_fade.proofs.Sorting.{find-sorted_filter}
-use Rattle.lethe_fade.proofs.Ranking.{age_total, expired_total, find-map, first_age, first_ranked_more, plan-age}
+use Rattle.lethe_fade.specs.Ranks.{sorted_by}
+use Rattle.lethe_fade.specs.Candidates.{Candidate, is_free, merge_named}
+use Rattle.lethe_fade.specs.Expired.{expired_cmp, expired_merges, is_expired, sources_keys}
 use Rattle.lethe_fade.proofs.Chosen.{is_file_free}
+use Rattle.lethe_fade.proofs.Oldest.{jobs_of}
 
--- The first of all
+-- Where no claim stands
 
 pub first_free : (candidates : List Candidate) → find (is_free []) candidates ≡ slice_get candidates 0
 first_free [] = refl
 first_free (candidate ∷ others) = refl
 
-pub due_is_first : DueIsFirst
-due_is_first fields shape clock some = by (expired fields clock shape) some
-  where
-    by : (merges : List Candidate) → IsSome (option_map (λ (c : Candidate). c.plan) (slice_get merges 0))
-        → option_map (λ (c : Candidate). c.plan) (find (is_free []) (merges ++ candidates fields shape)) ≡ option_map (λ (c : Candidate). c.plan) (slice_get merges 0)
-    by [] some = absurd (let clash : false ≡ true = some in cc)
-    by (merge ∷ others) some = refl
-
 -- The files of a level
 
--- whether a file is expired and its own merge free
-abbrev pub is_due_and_free : Fields → ℕ → ℕ → List FileFacts → List Claim → FileFacts → Bool
-is_due_and_free fields clock level next claims file = is_expired fields clock level file && is_file_free level next claims file
+-- the merge of the one file
+abbrev pub own_merge : ℕ → List FileFacts → FileFacts → Candidate
+own_merge level next file = merge_named file.no level (range_of file) next
 
 -- the merges of the expired files, each of the one file
 abbrev pub own_merges : Fields → ℕ → ℕ → List FileFacts → List FileFacts → List Candidate
-own_merges fields clock level files next = map (λ file. merge_named file.no level (range_of file) next) (sorted_by expired_cmp (filter (is_expired fields clock level) files))
-
--- what the loop over the files has found behind the last one
-pub oldest_result : (fields : Fields) (clock level : ℕ) (claims : List Claim) (files next : List FileFacts) (i : ℕ) (oldest : Option Age) → length files ≤ i
-    → oldest ≡ first_age (is_due_and_free fields clock level next claims) (take i files)
-    → option_map (λ (a : Age). merge_plan a.no) oldest ≡ option_map (λ (c : Candidate). c.plan) (find (is_free claims) (own_merges fields clock level files next))
-oldest_result fields clock level claims files next i oldest end e =
-    ap (option_map (λ (a : Age). merge_plan a.no)) (e ∙ ap (first_age (is_due_and_free fields clock level next claims)) (take_all i files end))
-    ∙ plan-age (find (is_due_and_free fields clock level next claims) (sorted_by expired_cmp files))
-    ∙ ap (option_map (λ (f : FileFacts). merge_plan f.no)) (sym (find-sorted_filter expired_total (is_expired fields clock level) (is_file_free level next claims) files))
-    ∙ sym (find-map (λ file. merge_named file.no level (range_of file) next) (λ (c : Candidate). c.plan) (is_free claims) (sorted_by expired_cmp (filter (is_expired fields clock level) files)))
-
--- a step of the loop over the files
-module _ (fields : Fields) (clock level : ℕ) (claims : List Claim) (files next : List FileFacts) (i : ℕ) (file : FileFacts) (oldest : Option Age) (within : i < length files) (is : file ≡ get_or files i file)
-    (e : oldest ≡ first_age (is_due_and_free fields clock level next claims) (take i files)) where
-  oldest_more : cond (is_due_and_free fields clock level next claims file) (Some (lesser_of age_cmp oldest (age_of file))) oldest ≡ first_age (is_due_and_free fields clock level next claims) (take (i + 1) files)
-  oldest_more =
-      let step = first_ranked_more age_of age_cmp age_total (is_due_and_free fields clock level next claims) files i file within in
-      let here = rw (← is) at step in
-      rw e (sym here)
-
-  pub record OldestStep : Type 0 where
-    pub taken : is_due_and_free fields clock level next claims file ≡ true → Some (lesser_of age_cmp oldest (age_of file)) ≡ first_age (is_due_and_free fields clock level next claims) (take (i + 1) files)
-    pub kept : is_due_and_free fields clock level next claims file ≡ false → oldest ≡ first_age (is_due_and_free fields clock level next claims) (take (i + 1) files)
-
-  pub oldest_step : OldestStep
-  oldest_step = record {
-    taken = λ passes. sym (ap (λ b. cond b (Some (lesser_of age_cmp oldest (age_of file))) oldest) passes) ∙ oldest_more;
-    kept = λ fails. sym (ap (λ b. cond b (Some (lesser_of age_cmp oldest (age_of file))) oldest) fails) ∙ oldest_more;
-  }
+own_merges fields clock level files next = jobs_of (is_expired fields clock level) (own_merge level next) files
 
 pub is_free_file : (level : ℕ) (next : List FileFacts) (claims : List Claim) (file : FileFacts) (sources : KeyRange) (free is : Bool) → sources ≡ range_of file
     → free ≡ not (list_any (meets (merge_claim level sources next)) claims) → free ≡ is

@@ -2,7 +2,10 @@ pub mod Powers
 pub mod Sorting
 pub mod Ranking
 pub mod Chosen
+pub mod Oldest
 pub mod Expiring
+pub mod Sweeping
+pub mod DueFirst
 pub mod MeetingLaws
 pub mod OrderLaws
 pub mod ClaimLaws

@@ -11,6 +11,7 @@ use Rattle.std.specs.Ordering.{is_le, is_gt}
 use Rattle.lethe_base.specs.declared.shape.FileFacts.{FileFacts}
 use Rattle.lethe_fade.specs.Ranks.{with_item, sorted_by, file_cmp, IsInOrder, FilesComeInOrder}
 use Rattle.lethe_fade.specs.Expired.{ExpiredComeInOrder, expired_cmp, is_expired}
+use Rattle.lethe_fade.specs.Sweeps.{SweepsComeInOrder, is_unswept}
 use Rattle.lethe_fade.proofs.MeetingLaws.{upto_is}
 use Rattle.lethe_fade.proofs.Ranking.{expired_total, file_total}
 use Rattle.lethe_fade.proofs.Sorting.{Leads, Ascends, ascends_sorted}
@@ -50,3 +51,6 @@ files_come_in_order order next files = in_order (file_cmp order next) (file_tota
 
 pub expired_come_in_order : ExpiredComeInOrder
 expired_come_in_order fields clock level files = in_order expired_cmp expired_total (filter (is_expired fields clock level) files)
+
+pub sweeps_come_in_order : SweepsComeInOrder
+sweeps_come_in_order place files = in_order expired_cmp expired_total (filter (is_unswept place) files)

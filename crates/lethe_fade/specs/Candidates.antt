@@ -1,4 +1,4 @@
--- The merges that may be chosen.
+-- The jobs that may be chosen.
 use Rattle.std.specs.Prelude.{ℕ, ◌+◌, Bool, not, List, [], ◌∷◌, ◌++◌, None}
 use Rattle.std.specs.List.{list_any}
 use Rattle.lethe_base.specs.declared.shape.FileFacts.{FileFacts}

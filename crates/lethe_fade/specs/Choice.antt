@@ -10,7 +10,9 @@ use Rattle.lethe_fade.specs.Saturation.{is_saturated}
 use Rattle.lethe_fade.specs.Spans.{range_of, hull_of}
 use Rattle.lethe_fade.specs.Ranks.{file_cmp, sorted_by}
 use Rattle.lethe_fade.specs.Candidates.{Candidate, is_free, merge_named, merges_from}
-use Rattle.lethe_fade.specs.Expired.{due, expired}
+use Rattle.lethe_fade.specs.Expired.{expired}
+use Rattle.lethe_fade.specs.Sweeps.{sweeps}
+use Rattle.lethe_fade.specs.Due.{due}
 
 -- level 0 is merged as a whole, and the least of its numbers names the merge
 abbrev pub whole_merges : List FileFacts → List FileFacts → List Candidate
@@ -30,9 +32,9 @@ level_merges fields level files next =
 abbrev pub candidates : Fields → Shape → List Candidate
 candidates fields shape = merges_from (level_merges fields) 0 shape.levels
 
--- those of the expired files come first
+-- the merges of the expired files come first, then the sweeps
 abbrev pub choice : Fields → Shape → ℕ → List Claim → Option Plan
-choice fields shape clock claims = option_map (λ candidate. candidate.plan) (find (is_free claims) (expired fields clock shape ++ candidates fields shape))
+choice fields shape clock claims = option_map (λ candidate. candidate.plan) (find (is_free claims) (expired fields clock shape ++ (sweeps shape ++ candidates fields shape)))
 
 abbrev pub DueIsFirst : Type 0
 DueIsFirst = (fields : Fields) (shape : Shape) (clock : ℕ) → IsSome (due fields shape clock) → choice fields shape clock [] ≡ due fields shape clock

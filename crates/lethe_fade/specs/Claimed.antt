@@ -11,11 +11,12 @@ use Rattle.lethe_fade.specs.declared.plan.Plan.{Plan}
 use Rattle.lethe_fade.specs.Spans.{range_of, hull_of}
 use Rattle.lethe_fade.specs.Claims.{meets, IsProper, merge_claim}
 use Rattle.lethe_fade.specs.Candidates.{first_files}
+use Rattle.lethe_fade.specs.Sweeps.{sweep_claim}
 use Rattle.lethe_fade.specs.Choice.{choice}
 
 -- of a file among the files of its level: a sweep claims its level and keys, a merge of level 0 takes all files there, and another merge the file
 abbrev pub job_claim : Option ℕ → ℕ → List FileFacts → List FileFacts → FileFacts → Claim
-job_claim (Some place) level files next file = record { first = level; last = level; lo = file.lo; hi = file.hi }
+job_claim (Some place) level files next file = sweep_claim level file
 job_claim None level files next file = if level == 0 then merge_claim 0 (hull_of files) next else merge_claim level (range_of file) next
 
 -- of the file with the plan's number, in levels the first of which has that number

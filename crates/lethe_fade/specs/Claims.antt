@@ -28,9 +28,13 @@ abbrev pub MeetingIsSharing : Type 0
 MeetingIsSharing = (a b : Claim) → IsProper a → IsProper b
     → IsTrue (meets a b) ↔ (((level : ℕ) × (HasLevel a level × HasLevel b level)) × ((key : Bytes) × (HasKey a key × HasKey b key)))
 
--- a level and the next one, with a range of keys
+-- the levels from one to another, with a range of keys
+abbrev pub claim_over : ℕ → ℕ → KeyRange → Claim
+claim_over first last keys = record { first = first; last = last; lo = keys.lo; hi = keys.hi }
+
+-- a level and the next one
 abbrev pub claim_at : ℕ → KeyRange → Claim
-claim_at level keys = record { first = level; last = level + 1; lo = keys.lo; hi = keys.hi }
+claim_at level keys = claim_over level (level + 1) keys
 
 -- a merge of files of a level whose keys have that hull takes the files of the next level that overlap it, and claims the keys of all that it takes
 abbrev pub merge_claim : ℕ → KeyRange → List FileFacts → Claim

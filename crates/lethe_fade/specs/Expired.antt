@@ -1,10 +1,9 @@
 -- The merges that a time makes due: those of the files that have an entry which should have left their level by then.
-use Rattle.std.specs.Prelude.{ℕ, ◌+◌, Bool, false, ◌==◌, if◌then◌else◌, nat_le, nat_lt, List, [], map, filter, slice_get, Option, Some, None, option_map}
+use Rattle.std.specs.Prelude.{ℕ, ◌+◌, Bool, false, ◌==◌, if◌then◌else◌, nat_le, nat_lt, List, [], map, filter, Option, Some, None}
 use Rattle.std.specs.declared.cmp.Ordering.{Ordering}
 use Rattle.lethe_base.specs.declared.config.Fields.{Fields}
 use Rattle.lethe_base.specs.declared.shape.FileFacts.{FileFacts}
 use Rattle.lethe_base.specs.declared.shape.Shape.{Shape}
-use Rattle.lethe_fade.specs.declared.plan.Plan.{Plan}
 use Rattle.lethe_fade.specs.declared.rank.Age.{Age}
 use Rattle.lethe_fade.specs.LevelTimes.{level_deadline}
 use Rattle.lethe_fade.specs.Spans.{KeyRange, range_of, hull_of}
@@ -41,10 +40,6 @@ expired_from fields clock = merges_from (λ level files next. if nat_lt level fi
 
 abbrev pub expired : Fields → ℕ → Shape → List Candidate
 expired fields clock shape = expired_from fields clock 0 shape.levels
-
--- the first of them, whatever claims stand
-abbrev pub due : Fields → Shape → ℕ → Option Plan
-due fields shape to = option_map (λ candidate. candidate.plan) (slice_get (expired fields to shape) 0)
 
 abbrev pub ExpiredComeInOrder : Type 0
 ExpiredComeInOrder = (fields : Fields) (clock level : ℕ) (files : List FileFacts)

@@ -5,5 +5,7 @@ pub mod Claims
 pub mod Ranks
 pub mod Candidates
 pub mod Expired
+pub mod Sweeps
+pub mod Due
 pub mod Choice
 pub mod Claimed

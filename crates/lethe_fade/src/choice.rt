@@ -1,20 +1,22 @@
-//! The choice of the next merge.
+//! The choice of the next job.
 ghost use Rattle.std.specs.Prelude.{◌≡◌, ◌+◌, ◌<◌, ◌^◌, length, find, option_map};
 ghost use Rattle.lethe_fade.specs.Ranks.{lesser_of, rank_cmp};
 ghost use Rattle.lethe_fade.specs.Candidates.{is_free};
 ghost use Rattle.lethe_fade.specs.Choice.{whole_merges, file_merges, level_merges, candidates, choice};
 
+use crate::claim::is_free;
 use crate::expired::first_expired;
-use crate::merge::{is_free, is_merge_free, merge_of};
+use crate::merge::{is_merge_free, merge_of};
 use crate::rank::{Rank, compare_ranks};
 use crate::saturation::is_saturated;
 use crate::span::Span;
+use crate::sweeps::first_sweep;
 use crate::{Claim, Plan};
 use lethe_base::{Config, FileFacts, Pick, Shape};
 use std::cmp::Ordering;
 
-/// The first merge whose claim meets none of those given: of a file that is expired at the clock, where there is one, and else of a saturated level. None where there is no
-/// such merge.
+/// The first job whose claim meets none of those given: a merge of a file that is expired at the clock, else a sweep of the first pending erase, and else a merge of a
+/// saturated level. None where there is no such job.
 pub fn pick(shape: &Shape, config: &Config, clock: u64, claims: &[Claim]) -> Option<Plan>
     requires { length shape.now.levels ≡ config.now.levels + 1 }
     ensures { result ≡ choice config.now shape.now clock claims.now }
@@ -22,6 +24,10 @@ pub fn pick(shape: &Shape, config: &Config, clock: u64, claims: &[Claim]) -> Opt
     let expired = first_expired(shape, config, clock, claims);
     if expired.is_some() {
         return expired;
+    }
+    let sweep = first_sweep(shape, claims);
+    if sweep.is_some() {
+        return sweep;
     }
     first_saturated(shape, config, claims)
 }
@@ -97,7 +103,7 @@ fn best_file(
     let mut best = None;
     for file in files {
         let merge = merge_of(&Span::of(file), next);
-        if is_free(level, &merge.keys, claims) {
+        if is_free(level, level + 1, &merge.keys, claims) {
             let rank = Rank {
                 below: merge.below,
                 tombs: file.tombs,

@@ -3,27 +3,16 @@ ghost use Rattle.std.specs.Prelude.{◌≡◌, ◌+◌, ◌<◌, ◌^◌, ℕ, l
 ghost use Rattle.lethe_base.specs.declared.config.Fields.{Fields};
 ghost use Rattle.lethe_fade.specs.LevelTimes.{level_deadline};
 ghost use Rattle.lethe_fade.specs.Spans.{range_of};
-ghost use Rattle.lethe_fade.specs.Ranks.{age_cmp, lesser_of, sorted_by};
+ghost use Rattle.lethe_fade.specs.Ranks.{sorted_by};
 ghost use Rattle.lethe_fade.specs.Candidates.{is_free, merge_named};
-ghost use Rattle.lethe_fade.specs.Expired.{due, expired, expired_cmp, expired_merges, is_expired, is_passed};
+ghost use Rattle.lethe_fade.specs.Expired.{expired, expired_cmp, expired_merges, is_expired, is_passed};
 
 use crate::level_times::cum;
 use crate::merge::is_merge_free;
-use crate::rank::{Age, compare_ages};
+use crate::rank::{Age, older};
 use crate::span::Span;
 use crate::{Claim, Plan};
 use lethe_base::{Config, FileFacts, Shape};
-use std::cmp::Ordering;
-
-/// The first merge of an expired file at a time, lowest level first, whatever claims stand. None where no file is expired then.
-///
-/// It takes no memory, and its time grows as the number of files.
-pub fn pick_due(shape: &Shape, config: &Config, to: u64) -> Option<Plan>
-    requires { length shape.now.levels ≡ config.now.levels + 1 }
-    ensures { result ≡ due config.now shape.now to }
-{
-    first_expired(shape, config, to, &[])
-}
 
 /// The first merge of an expired file that is free, lowest level first.
 pub fn first_expired(shape: &Shape, config: &Config, clock: u64, claims: &[Claim]) -> Option<Plan>
@@ -114,15 +103,5 @@ pub fn is_passed(deadline: u64, clock: u64, since: Option<u64>) -> bool
     match since {
         Some(time) => time <= clock && deadline <= clock - time,
         None => false,
-    }
-}
-
-/// The lesser of two ages, the one before where they are tied.
-fn older(oldest: Option<Age>, age: Age) -> Age
-    ensures { result ≡ lesser_of age_cmp oldest age }
-{
-    match oldest {
-        Some(before) if compare_ages(&before, &age) != Ordering::Greater => before,
-        _ => age,
     }
 }

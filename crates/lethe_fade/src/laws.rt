@@ -3,6 +3,7 @@ ghost use Rattle.lethe_fade.specs.LevelTimes.{AllDeadlinesRise};
 ghost use Rattle.lethe_fade.specs.Claims.{MeetingIsSharing};
 ghost use Rattle.lethe_fade.specs.Ranks.{FilesComeInOrder};
 ghost use Rattle.lethe_fade.specs.Expired.{ExpiredComeInOrder};
+ghost use Rattle.lethe_fade.specs.Sweeps.{SweepsComeInOrder};
 ghost use Rattle.lethe_fade.specs.Choice.{DueIsFirst};
 ghost use Rattle.lethe_fade.specs.Claimed.{ChoiceIsFree};
 
@@ -24,6 +25,11 @@ pub fn files_come_in_order()
 /// The expired files of a level come as candidates in an order that ascends, each as often as it is there.
 pub fn expired_come_in_order()
     ensures { ExpiredComeInOrder }
+{}
+
+/// The files of a level that an erase is still to be applied to come as candidates in an order that ascends, each as often as it is there.
+pub fn sweeps_come_in_order()
+    ensures { SweepsComeInOrder }
 {}
 
 /// Where no claim stands and something is due at the clock, that is the choice.

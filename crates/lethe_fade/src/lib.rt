@@ -1,8 +1,9 @@
-//! Level times, and the choice of the next merge.
+//! Level times, and the choice of the next job.
 #![tactic(auto)]
 
 mod choice;
 mod claim;
+mod due;
 mod expired;
 mod laws;
 mod level_times;
@@ -11,13 +12,15 @@ mod plan;
 mod rank;
 mod saturation;
 mod span;
+mod sweeps;
 
 pub use choice::pick;
 pub use claim::Claim;
-pub use expired::{is_passed, pick_due};
+pub use due::pick_due;
+pub use expired::is_passed;
 pub use laws::{
     choice_is_free, deadlines_rise, due_is_first, expired_come_in_order, files_come_in_order,
-    meeting_is_sharing,
+    meeting_is_sharing, sweeps_come_in_order,
 };
 pub use level_times::cum;
 pub use plan::Plan;

@@ -3,9 +3,10 @@ ghost use Rattle.std.specs.Prelude.{◌≡◌, ◌<◌, ◌^◌, not};
 ghost use Rattle.std.specs.List.{list_any};
 ghost use Rattle.lethe_fade.specs.Saturation.{entries_in};
 ghost use Rattle.lethe_fade.specs.Spans.{overlapping, hull};
-ghost use Rattle.lethe_fade.specs.Claims.{claim_at, meets, merge_claim};
+ghost use Rattle.lethe_fade.specs.Claims.{meets, merge_claim};
 
 use crate::Claim;
+use crate::claim::is_free;
 use crate::span::Span;
 use lethe_base::FileFacts;
 
@@ -45,28 +46,5 @@ pub fn is_merge_free<'a>(
     requires { level < 2 ^ 63 }
     ensures { result ≡ not (list_any (meets (merge_claim level sources.now next.now)) claims.now) }
 {
-    claims.is_empty() || is_free(level, &merge_of(sources, next).keys, claims)
-}
-
-/// Whether a merge of a level with the next one meets none of the claims.
-pub fn is_free(level: u64, keys: &Span, claims: &[Claim]) -> bool
-    requires { level < 2 ^ 63 }
-    ensures { result ≡ not (list_any (meets (claim_at level keys.now)) claims.now) }
-{
-    for claim in claims {
-        if does_meet(level, keys, claim) {
-            return false;
-        }
-    }
-    true
-}
-
-/// Whether a merge of a level with the next one meets a claim.
-fn does_meet(level: u64, keys: &Span, claim: &Claim) -> bool
-    requires { level < 2 ^ 63 }
-    ensures { result ≡ meets (claim_at level keys.now) claim.now }
-{
-    level <= claim.last
-        && claim.first <= level + 1
-        && keys.overlaps(&Span::new(&claim.lo, &claim.hi))
+    claims.is_empty() || is_free(level, level + 1, &merge_of(sources, next).keys, claims)
 }

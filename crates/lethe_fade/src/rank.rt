@@ -1,6 +1,6 @@
 //! The orders in which the files of a level are looked at.
 ghost use Rattle.std.specs.Prelude.{◌≡◌};
-ghost use Rattle.lethe_fade.specs.Ranks.{age_cmp, oldest_cmp, rank_cmp};
+ghost use Rattle.lethe_fade.specs.Ranks.{age_cmp, lesser_of, oldest_cmp, rank_cmp};
 
 use lethe_base::Pick;
 use std::cmp::Ordering;
@@ -30,10 +30,10 @@ pub fn compare_ranks(order: Pick, a: &Rank, b: &Rank) -> Ordering
     }
 }
 
-/// What an expired file is ranked by.
+/// What a file that is expired or still to be swept is ranked by.
 #[derive(Clone, Copy)]
 pub struct Age {
-    /// The least `since` of its entries.
+    /// The least `since` of its entries, if one has any.
     pub oldest: Option<u64>,
     /// How many of its entries are tombstones.
     pub tombs: u64,
@@ -41,13 +41,23 @@ pub struct Age {
     pub no: u64,
 }
 
-/// How two expired files stand in their order. The lesser is taken first.
+/// How two files stand in the order of expired files. The lesser is taken first.
 pub fn compare_ages(a: &Age, b: &Age) -> Ordering
     ensures { result ≡ age_cmp a.now b.now }
 {
     let tombs = b.tombs.cmp(&a.tombs);
     let number = a.no.cmp(&b.no);
     compare_oldest(a.oldest, b.oldest).then(tombs).then(number)
+}
+
+/// The lesser of two ages, the one before where they are tied.
+pub fn older(oldest: Option<Age>, age: Age) -> Age
+    ensures { result ≡ lesser_of age_cmp oldest age }
+{
+    match oldest {
+        Some(before) if compare_ages(&before, &age) != Ordering::Greater => before,
+        _ => age,
+    }
 }
 
 fn compare_oldest(a: Option<u64>, b: Option<u64>) -> Ordering

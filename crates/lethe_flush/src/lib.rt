@@ -13,7 +13,7 @@ mod replaying;
 pub use clear::is_clear;
 pub use flushing::{flush_drafts, flush_files};
 pub use laws::{files_are_woven, flush_is_one, newest_are_frozen};
-pub use made::MadeFiles;
+pub use made::{MadeFiles, numbers_of};
 pub use making::make_files;
 pub use pending::{pending_of, swept_upto};
 pub use replaying::newest_of;

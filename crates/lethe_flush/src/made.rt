@@ -29,7 +29,7 @@ pub struct MadeFiles {
 
 impl MadeFiles {
     /// No file yet. The numbers from `first` on are free.
-    pub(crate) fn none(alloc: Global, first: u64) -> MadeFiles
+    pub fn none(alloc: Global, first: u64) -> MadeFiles
         ensures headers { result.headers.items ≡ [] }
         ensures objects { result.objects.items ≡ [] }
         ensures cited { result.cited.items ≡ [] }
@@ -69,7 +69,7 @@ impl MadeFiles {
     }
 
     /// Adds a file, so many of whose pages were written before.
-    fn push(&mut self, file: Built, level: u64, upto: u64, there: usize) -> Result<(), NoMemory>
+    pub fn push(&mut self, file: Built, level: u64, upto: u64, there: usize) -> Result<(), NoMemory>
         requires there { there ≤ length file.pages }
         requires room { self.old.next + (length file.pages - there) < 2 ^ 64 }
         requires no { file.header.no ≤ max_place }
@@ -106,7 +106,12 @@ impl MadeFiles {
 }
 
 /// The numbers of these names, and behind them so many from the next one on.
-fn numbers_of(alloc: Global, written: &[Name], next: u64, more: usize) -> Result<Vec<u64>, NoMemory>
+pub fn numbers_of(
+    alloc: Global,
+    written: &[Name],
+    next: u64,
+    more: usize,
+) -> Result<Vec<u64>, NoMemory>
     requires { next + more < 2 ^ 64 }
     ensures { IfOk result (λ numbers. numbers.items ≡ map (λ name. name.no) written.now ++ range_with_len next more) }
 {

@@ -13,8 +13,11 @@ pub mod Merging
 pub mod Staying
 pub mod ErasesStaying
 pub mod Ticking
-pub mod Expired
 pub mod Young
 pub mod LettingGo
 pub mod Recorded
+pub mod Behind
+pub mod Expired
+pub mod LeftYoung
+pub mod NothingDue
 pub mod Bounds

@@ -2,6 +2,7 @@
 //! manifests, segments and files. The functions do nothing: their contracts are the laws.
 #![tactic(auto)]
 
+mod journal;
 mod layouts;
 mod leaving;
 mod merges;
@@ -9,6 +10,7 @@ mod reads;
 mod steps;
 mod ticks;
 
+pub use journal::later_stay_recorded;
 pub use layouts::{erases_are_spelled, pending_is_spelled, stored_follows};
 pub use leaving::{done_by_what_is_cited, erases_leave};
 pub use merges::{erases_stay, files_are_counted, merge_follows, merge_stays};

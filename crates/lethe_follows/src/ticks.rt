@@ -2,13 +2,13 @@
 ghost use Rattle.std.specs.Prelude.{◌≡◌, ◌↔◌, ℕ, ◌<◌, ◌≤◌, false, None, length};
 ghost use Rattle.lethe_base.specs.History.{History};
 ghost use Rattle.lethe_base.specs.Limits.{max_place};
-ghost use Rattle.lethe_base.specs.Shapes.{shape_of};
 ghost use Rattle.lethe_base.specs.declared.call.Call.TheVariants.{Tick};
 ghost use Rattle.lethe_cover.specs.Steps.{with_done};
-ghost use Rattle.lethe_fade.specs.Expired.{due, is_passed};
+ghost use Rattle.lethe_fade.specs.Due.{due};
+ghost use Rattle.lethe_fade.specs.Expired.{is_passed};
 ghost use Rattle.lethe_follows.specs.Leaving.{let_go};
 ghost use Rattle.lethe_follows.specs.Ticked.{ticked};
-ghost use Rattle.lethe_follows.specs.Young.{AreLeftYoung, AreYoung, oldest_in};
+ghost use Rattle.lethe_follows.specs.Young.{AreLaterRecorded, AreYoung, due_shape, oldest_in};
 ghost use Rattle.lethe_manifest.specs.Manifests.{HasSpelling};
 ghost use Rattle.lethe_moves.specs.Due.{HasNothingDue};
 ghost use Rattle.lethe_stored.specs.Kept.{IsFor};
@@ -21,10 +21,10 @@ pub fn tick_follows()
         → HasNothingDue s.manifest.config to (layout_of (let_go s)) → (caller number : ℕ) → IsFor (with_done h caller (Tick to)) (ticked s to number) }
 {}
 
-/// Where no file is expired at a time, no record is as old as level 0 may have it, and no erase that is still to be done is a threshold old, nothing is due
-/// once the erases that are done have left.
+/// Where no job is due at a time and no record is as old as level 0 may have it, nothing is due once the erases that are done have left. A segment has to record each erase of
+/// the manifest that stands behind a record of one: else a put that isn't flushed might keep an erase from being done of which no job and no record tells.
 pub fn nothing_is_due()
-    ensures { (h : History) (s : Stored) → IsCoherent s → IsFor h s → (to : ℕ) → due s.manifest.config (shape_of (layout_of s)) to ≡ None → AreYoung s to → AreLeftYoung s to
+    ensures { (h : History) (s : Stored) → IsCoherent s → IsFor h s → AreLaterRecorded s → (to : ℕ) → due s.manifest.config (due_shape (layout_of s)) to ≡ None → AreYoung s to
         → HasNothingDue s.manifest.config to (layout_of (let_go s)) }
 {}
 

@@ -45,14 +45,14 @@ among_from numbers n is = let any = Any-from_list_any (λ no. eqb no n) numbers 
 
 -- Filtered parts
 
-middle_gone : {X : Type 0} (p : X → Bool) (a b c : List X) → All (λ x. p x ≡ true) a → All (λ x. p x ≡ false) b → All (λ x. p x ≡ true) c → filter p (a ++ (b ++ c)) ≡ a ++ c
+pub middle_gone : {X : Type 0} (p : X → Bool) (a b c : List X) → All (λ x. p x ≡ true) a → All (λ x. p x ≡ false) b → All (λ x. p x ≡ true) c → filter p (a ++ (b ++ c)) ≡ a ++ c
 middle_gone p a b c one none two =
     filter-append p a (b ++ c) ∙ (λ i. filter_all p a one i ++ filter-append p b c i) ∙ (λ i. a ++ (filter_none p b none i ++ filter_all p c two i))
 
-first_kept : {X : Type 0} (p : X → Bool) (a c : List X) → All (λ x. p x ≡ true) a → All (λ x. p x ≡ false) c → filter p (a ++ c) ≡ a
+pub first_kept : {X : Type 0} (p : X → Bool) (a c : List X) → All (λ x. p x ≡ true) a → All (λ x. p x ≡ false) c → filter p (a ++ c) ≡ a
 first_kept p a c one none = filter-append p a c ∙ (λ i. filter_all p a one i ++ filter_none p c none i) ∙ append-nil a
 
-last_kept : {X : Type 0} (p : X → Bool) (a c : List X) → All (λ x. p x ≡ false) a → All (λ x. p x ≡ true) c → filter p (a ++ c) ≡ c
+pub last_kept : {X : Type 0} (p : X → Bool) (a c : List X) → All (λ x. p x ≡ false) a → All (λ x. p x ≡ true) c → filter p (a ++ c) ≡ c
 last_kept p a c none one = filter-append p a c ∙ (λ i. filter_none p a none i ++ filter_all p c one i)
 
 some_in : (files : List StoredFile) → files ≢ [] → (file : StoredFile) × Contains files file

@@ -27,7 +27,7 @@ use Rattle.lethe_follows.specs.Merged.{AreNewIn, IsMerged, IsMergeIn, StoredMerg
 use Rattle.lethe_follows.proofs.MergeFiles.{merged_coherent}
 use Rattle.lethe_follows.proofs.Permuted.{pairs_kept}
 use Rattle.lethe_header.specs.declared.header.PageLine.{PageLine}
-use Rattle.lethe_job.specs.Tasks.{IsTaskIn, PlainTask, inputs_in}
+use Rattle.lethe_job.specs.Tasks.{IsMergeTask, PlainMerge, merge_inputs}
 use Rattle.lethe_manifest.specs.Manifests.{AreErases, HasSpelling}
 use Rattle.lethe_manifest.specs.declared.manifest.Manifest.{Manifest}
 use Rattle.lethe_merge.specs.Merge.{merged}
@@ -53,27 +53,27 @@ use Rattle.lethe_install.proofs.Between.{with_made_laid}
 use Rattle.lethe_install.proofs.Keeping.{kept_beside, kept_spelled}
 
 -- the names of what was written before
-zip_firsts : (names : List Name) (pages : List (List ℕ)) → length names ≤ length pages → map name_in (zip names (take (length names) pages)) ≡ names
+pub zip_firsts : (names : List Name) (pages : List (List ℕ)) → length names ≤ length pages → map name_in (zip names (take (length names) pages)) ≡ names
 zip_firsts [] pages few = refl
 zip_firsts (name ∷ names) [] few = absurd (omega (arith, few))
 zip_firsts (name ∷ names) (page ∷ pages) few = ap (λ l. name ∷ l) (zip_firsts names pages (omega (arith, few)))
 
-segment_no_file : (a b : ℕ) → segment_name a ≡ file_name b → ⊥
+pub segment_no_file : (a b : ℕ) → segment_name a ≡ file_name b → ⊥
 segment_no_file a b same = let clash : kinds.Segment ≡ kinds.File = ap (λ (n : Name). n.kind) same in cc
 
-segment_no_page : (a b : ℕ) → segment_name a ≡ page_name b → ⊥
+pub segment_no_page : (a b : ℕ) → segment_name a ≡ page_name b → ⊥
 segment_no_page a b same = let clash : kinds.Segment ≡ kinds.Page = ap (λ (n : Name). n.kind) same in cc
 
-page_no_segment : kinds.Segment ≡ kinds.Page → ⊥
+pub page_no_segment : kinds.Segment ≡ kinds.Page → ⊥
 page_no_segment same = cc
 
 page_no_header : kinds.File ≡ kinds.Page → ⊥
 page_no_header same = cc
 
-page_kind : (name : Name) → name.kind ≡ kinds.Page → (name.kind ≢ kinds.Gate) × (name.kind ≢ kinds.Manifest)
+pub page_kind : (name : Name) → name.kind ≡ kinds.Page → (name.kind ≢ kinds.Gate) × (name.kind ≢ kinds.Manifest)
 page_kind name page = subst (λ kind. (kind ≢ kinds.Gate) × (kind ≢ kinds.Manifest)) (sym page) (λ e. cc, λ e. cc)
 
-goes_not : (b : Bool) → not b ≡ true → b ≡ true → ⊥
+pub goes_not : (b : Bool) → not b ≡ true → b ≡ true → ⊥
 goes_not b stays goes = let clash : false ≡ true = ap not (sym goes) ∙ stays in cc
 
 module _ (s : Stored) (state : State) (levels : List (List Parts)) (is : Remembers s state levels) (current : IsCurrent s state) (writable : IsWritable state)
@@ -471,12 +471,12 @@ module _ (s : Stored) (state : State) (levels : List (List Parts)) (is : Remembe
         (sym (stepped.merged ∙ numbers)) (is_step, left_is)
 
 -- as a task has it
-pub install_steps : (s : Stored) (m : StoredMerge) (state : State) (levels : List (List Parts)) (task : PlainTask) → Remembers s state levels → IsCurrent s state → IsWritable state
-    → IsTaskIn s m task → (retired written : List Name) (drafts : List Draft) → AreDrawn state.next (retired ++ written) → length written ≤ length (pages_in drafts)
+pub install_steps : (s : Stored) (m : StoredMerge) (state : State) (levels : List (List Parts)) (task : PlainMerge) → Remembers s state levels → IsCurrent s state → IsWritable state
+    → IsMergeTask s m task → (retired written : List Name) (drafts : List Draft) → AreDrawn state.next (retired ++ written) → length written ≤ length (pages_in drafts)
     → (beside : List (Name × List ℕ)) → names_in beside ≡ retired → AreUncited s (beside ++ written_pages written drafts)
     → AreDraftsOf s.manifest.config (merged (entries_in (inputs_of m)) (erases_upto task.upto (pending_of s)) task.alone) drafts
     → (parts : MadeFiles) → state.next ≤ parts.next → (made : List StoredFile) → AreFilesOf drafts (task.level + 1) task.upto written state.next parts made
-    → (inputs : Inputs) → inputs.numbers.items ≡ map number_of (inputs_in task) → AreInputs (task.level + 1) task.sources s.files inputs
+    → (inputs : Inputs) → inputs.numbers.items ≡ map number_of (merge_inputs task) → AreInputs (task.level + 1) task.sources s.files inputs
     → (needed : List Name) (installing : Installation) → IsInstallStep state (task.level + 1) inputs parts retired needed installing → HasSpelling installing.step.manifest
     → (t : Stored) × IsMerged s m (erases_upto task.upto (pending_of s)) task.alone task.upto t
     × IsStep s (beside ++ written_pages written drafts) t (left_of needed (numbered installing.step.merged.items s.files) beside) installing.headers.items installing.step

@@ -4,5 +4,12 @@ pub mod Named
 pub mod Parted
 pub mod Keeping
 pub mod InstallStep
+pub mod Replacing
+pub mod InPlace
+pub mod SweepParts
+pub mod SweepMade
+pub mod SweepStep
+pub mod SweepInstall
+pub mod Outputs
 pub mod Stepped
 pub mod Remembering

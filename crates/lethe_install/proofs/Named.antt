@@ -69,7 +69,7 @@ lines_differ : (lines : List PageLine) → Pairs AreApart lines → Pairs (λ a 
 lines_differ [] pairs = tt
 lines_differ (line ∷ lines) pairs = ((λ other there same. pairs.0 other there (number_in (line_name line) (line_name other) same)), lines_differ lines pairs.1)
 
-own_names : (file : StoredFile) → Pairs AreApart (lines_in file) → Pairs Differ (names_of file)
+pub own_names : (file : StoredFile) → Pairs AreApart (lines_in file) → Pairs Differ (names_of file)
 own_names file pairs = (
   (λ name there same. let found = map_from line_name (lines_in file) name there in file_no_page file.header.no found.0.no (same ∙ sym found.2)),
   pairs_map Differ line_name (lines_in file) (lines_differ (lines_in file) pairs),

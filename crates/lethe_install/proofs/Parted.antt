@@ -23,7 +23,7 @@ equal Less e = absurd cc
 equal Equal e = refl
 equal Greater e = absurd cc
 
-same_name : (a b : Name) → name_eq a b ≡ true → a ≡ b
+pub same_name : (a b : Name) → name_eq a b ≡ true → a ≡ b
 same_name a b e = name_same a b (equal (name_cmp a b) (sym (name_eq_ties a b) ∙ e))
 
 module _ (P : Name → Type 0) where

@@ -1,29 +1,28 @@
 //! The inputs of a job, and the files beside them.
 ghost use Rattle.std.specs.Prelude.{◌≡◌, ◌++◌, map, flat_map, filter, IfOk, OnOk};
-ghost use Rattle.lethe_file.specs.Agreement.{page_name};
 ghost use Rattle.lethe_header.specs.Facts.{least_key, greatest_key};
 ghost use Rattle.lethe_stored.specs.Levels.{HasFiles};
 ghost use Rattle.lethe_stored.specs.Stored.{Stored, IsCoherent};
 ghost use Rattle.lethe_advance.specs.Shown.{parts_by_level};
-ghost use Rattle.lethe_job.specs.Tasks.{inputs_in, plain_file, plain_task};
+ghost use Rattle.lethe_job.specs.Tasks.{merge_inputs, plain_file, plain_merge};
 ghost use Rattle.lethe_install.specs.Inputs.{AreInputs, is_above, is_reached, names_of, number_of, numbered};
 
+use crate::names::add_pages_of;
 use lethe_base::{Key, Kind, Name, NoMemory};
 use lethe_disk::Disk;
-use lethe_header::PageLine;
-use lethe_job::{Filed, Task, cited_files};
+use lethe_job::{Filed, MergeTask, cited_files};
 use lethe_manifest::Cited;
 use lethe_version::Version;
 use std::alloc::Global;
 
-/// What has to be known of a job's inputs and of the files beside them.
+/// What has to be known of the files that go and of those beside them.
 #[derive(Drop)]
 pub struct Inputs {
-    /// The inputs' numbers.
+    /// Their numbers.
     pub numbers: Vec<u64>,
-    /// The numbers of the files of the next level that stand above the sources.
+    /// The numbers of the files of the level of what comes that stand behind it.
     pub above: Vec<u64>,
-    /// The names of the inputs' headers and pages.
+    /// The names of their headers and pages, but for pages that stay.
     pub names: Vec<Name>,
 }
 
@@ -31,11 +30,11 @@ pub struct Inputs {
 pub fn inputs_of<D: Disk>(
     alloc: Global,
     version: &Version<D>,
-    task: &Task<D>,
+    task: &MergeTask<D>,
     level: u64,
     cited: &[Cited],
 ) -> Result<Inputs, NoMemory>
-    ensures numbers { IfOk result (λ inputs. inputs.numbers.items ≡ map number_of (inputs_in (plain_task task.now))) }
+    ensures numbers { IfOk result (λ inputs. inputs.numbers.items ≡ map number_of (merge_inputs (plain_merge task.now))) }
     ensures stored { (s : Stored) → IsCoherent s → s.manifest.files ≡ cited.now → HasFiles s (parts_by_level version.now)
         → IfOk result (AreInputs level (map plain_file task.now.sources.items) s.files) }
 {
@@ -138,21 +137,5 @@ fn add_names<D: Disk>(names: &mut Vec<Name>, file: &Filed<D>) -> Result<(), NoMe
         kind: Kind::File,
         no: file.file.no(),
     })?;
-    for tile in file.file.file().header().tiles.items() {
-        add_pages(names, tile.pages.items())?;
-    }
-    Ok(())
-}
-
-/// Adds the names of the pages.
-fn add_pages(names: &mut Vec<Name>, lines: &[PageLine]) -> Result<(), NoMemory>
-    ensures { OnOk result (names.new.items ≡ names.old.items ++ map (λ line. page_name line.no) lines.now) }
-{
-    for line in lines {
-        names.push(Name {
-            kind: Kind::Page,
-            no: line.no,
-        })?;
-    }
-    Ok(())
+    add_pages_of(names, file.file.file().header())
 }

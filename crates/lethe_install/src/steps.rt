@@ -1,6 +1,6 @@
-//! Installing the outputs of a job.
+//! Installing the outputs of a merge.
 ghost use Rattle.std.specs.Prelude as prelude;
-ghost use Rattle.std.specs.Prelude.{◌≡◌, ◌⊎◌, ◌↔◌, ◌+◌, ◌-◌, ◌<◌, ◌≤◌, ◌^◌, ◌++◌, [], ℕ, All, IfErr, IfOk, IsErrOf, IsTrue, length, sum_by};
+ghost use Rattle.std.specs.Prelude.{◌≡◌, ◌⊎◌, ◌+◌, ◌-◌, ◌<◌, ◌≤◌, ◌^◌, ◌++◌, [], ℕ, All, IfErr, IfOk, IsErrOf, length, sum_by};
 ghost use Rattle.lethe_base.specs.Limits.{max_place};
 ghost use Rattle.lethe_base.specs.declared.name.Kind.TheVariants.{Page};
 ghost use Rattle.lethe_base.specs.declared.name.Name as name;
@@ -15,7 +15,7 @@ ghost use Rattle.lethe_header.specs.Headers as headers;
 ghost use Rattle.lethe_install.specs.Inputs.{numbered};
 ghost use Rattle.lethe_install.specs.Installed.{IsInstallStep};
 ghost use Rattle.lethe_install.specs.Left.{left_of};
-ghost use Rattle.lethe_job.specs.Tasks.{IsTaskIn, plain_task};
+ghost use Rattle.lethe_job.specs.Tasks.{IsMergeTask, plain_merge};
 ghost use Rattle.lethe_merge.specs.Merge.{merged};
 ghost use Rattle.lethe_state.specs.Remembered.{IsCurrent, Remembers};
 ghost use Rattle.lethe_state.specs.Room.{IsStepFrom};
@@ -31,7 +31,7 @@ use lethe_base::{List, MAX_PLACE, Name, NoMemory, Refused};
 use lethe_build::{Draft, numbers_for};
 use lethe_disk::Disk;
 use lethe_flush::{MadeFiles, make_files};
-use lethe_job::Task;
+use lethe_job::MergeTask;
 use lethe_manifest::Change;
 use lethe_state::State;
 use lethe_version::Version;
@@ -49,67 +49,60 @@ pub struct Installation {
 
 /// The names of the pages that tell what is written, what goes and what is left.
 #[derive(Drop)]
-struct Pages<'a> {
-    /// The first of the outputs' pages, which were written before.
-    written: &'a [Name],
+pub(crate) struct Pages<'a> {
+    /// The first of the pages of what is made, which were written before.
+    pub(crate) written: &'a [Name],
     /// Those that were retired before.
-    retired: &'a [Name],
+    pub(crate) retired: &'a [Name],
     /// Those that are still needed.
-    needed: &'a [Name],
+    pub(crate) needed: &'a [Name],
 }
 
-/// What installs a job's outputs: the step writes what isn't written of them yet, cites them in the place of the inputs, lets the erases go that are done then, and removes what isn't needed of these and of the
+/// What installs a merge's outputs: the step writes what isn't written of them yet, cites them in the place of the inputs, lets the erases go that are done then, and removes what isn't needed of these and of the
 /// pages that were retired before. The first of the outputs' pages were written before, under these names; for the other pages, the headers and the manifest numbers are
 /// drawn.
 ///
 /// # Errors
 ///
 /// `Exhausted` where these numbers have run out, or `NoMemory`, also where a manifest would have 2^32 files.
-pub fn installing<D: Disk>(
+pub fn installing_merge<D: Disk>(
     alloc: Global,
     state: &State,
     version: &Version<D>,
-    task: &Task<D>,
+    task: &MergeTask<D>,
     drafts: Vec<Draft>,
-    written: &[Name],
-    retired: &[Name],
-    needed: &[Name],
+    pages: Pages,
 ) -> Result<Installation, Refused>
     requires writable { IsWritable state.now }
     requires level { task.now.level < state.now.manifest.config.levels }
     requires upto { task.now.upto ≤ max_place }
     requires drafts { All IsDraft drafts.items }
     requires few { sum_by numbers_for drafts.items < 2 ^ 63 }
-    requires drawn { AreDrawn state.now.next (retired.now ++ written.now) }
-    requires some { length written.now ≤ length (pages_in drafts.items) }
+    requires drawn { AreDrawn state.now.next (pages.retired.now ++ pages.written.now) }
+    requires some { length pages.written.now ≤ length (pages_in drafts.items) }
 
     // Headers are never needed.
-    requires pages { All (λ name. name.kind ≡ Page) needed.now }
-    ensures exhausted { IsErrOf result (refused.Exhausted max_place) → max_place ≤ state.now.next + (sum_by numbers_for drafts.items - length written.now) }
+    requires pages { All (λ name. name.kind ≡ Page) pages.needed.now }
+    ensures exhausted { IsErrOf result (refused.Exhausted max_place) → max_place ≤ state.now.next + (sum_by numbers_for drafts.items - length pages.entry.written.now) }
     ensures refused { IfErr result (λ why. (why ≡ refused.Exhausted max_place) ⊎ (why ≡ refused.NoMemory)) }
     ensures headers { IfOk result (λ made. All (λ new. headers.HasSpelling new.header) made.headers.items) }
     ensures step { IfOk result (λ made. IsStepFrom (segments_for state.now.frozen) state.now made.headers.items made.step) }
     ensures level { IfOk result (λ made. All (λ new. new.level ≡ task.now.level + 1) made.headers.items) }
-    ensures objects { IfOk result (λ made. length made.step.objects.items ≡ sum_by numbers_for drafts.items - length written.now) }
-    ensures none { needed.now ≡ [] → IfOk result (λ made. made.left.items ≡ []) }
+    ensures objects { IfOk result (λ made. length made.step.objects.items ≡ sum_by numbers_for drafts.items - length pages.entry.written.now) }
+    ensures none { pages.entry.needed.now ≡ [] → IfOk result (λ made. made.left.items ≡ []) }
     ensures pages { IfOk result (λ made. All (λ name. name.kind ≡ Page) made.left.items) }
 
     // What is stored next is the merge's outcome. Of the pages that were written before none is left loose, and of the inputs' and the retired ones just those that are needed.
     ensures installs { (s : Stored) (m : StoredMerge) (beside : prelude.List (name.Name × prelude.List ℕ)) → Remembers s state.now (parts_by_level version.now) → IsCurrent s state.now
-        → AreRising s.files → IsTaskIn s m (plain_task task.now) → names_in beside ≡ retired.now → AreUncited s (beside ++ written_pages written.now drafts.items)
+        → AreRising s.files → IsMergeTask s m (plain_merge task.now) → names_in beside ≡ pages.entry.retired.now → AreUncited s (beside ++ written_pages pages.entry.written.now drafts.items)
         → AreDraftsOf s.manifest.config (merged (entries_in (inputs_of m)) (erases_upto task.now.upto (pending_of s)) task.now.alone) drafts.items
         → IfOk result (λ made. (t : Stored) × IsMerged s m (erases_upto task.now.upto (pending_of s)) task.now.alone task.now.upto t
-        × IsStep s (beside ++ written_pages written.now drafts.items) t (left_of needed.now (numbered made.step.merged.items s.files) beside) made.headers.items made.step
-        × (made.left.items ≡ names_in (left_of needed.now (numbered made.step.merged.items s.files) beside))) }
+        × IsStep s (beside ++ written_pages pages.entry.written.now drafts.items) t (left_of pages.entry.needed.now (numbered made.step.merged.items s.files) beside) made.headers.items made.step
+        × (made.left.items ≡ names_in (left_of pages.entry.needed.now (numbered made.step.merged.items s.files) beside))) }
 {
-    let objects = numbers_for(&drafts) - written.len() as u64;
+    let objects = numbers_for(&drafts) - pages.written.len() as u64;
     let Some(number) = number_behind(state.next(), objects) else {
         return Err(Refused::Exhausted { last: MAX_PLACE });
-    };
-    let pages = Pages {
-        written,
-        retired,
-        needed,
     };
     match install(alloc, state, version, task, drafts, pages, number) {
         Ok(made) => Ok(made),
@@ -122,7 +115,7 @@ fn install<D: Disk>(
     alloc: Global,
     state: &State,
     version: &Version<D>,
-    task: &Task<D>,
+    task: &MergeTask<D>,
     drafts: Vec<Draft>,
     pages: Pages,
     number: u64,
@@ -143,7 +136,7 @@ fn install<D: Disk>(
     ensures none { pages.entry.needed.now ≡ [] → IfOk result (λ made. made.left.items ≡ []) }
     ensures pages { IfOk result (λ made. All (λ name. name.kind ≡ Page) made.left.items) }
     ensures installs { (s : Stored) (m : StoredMerge) (beside : prelude.List (name.Name × prelude.List ℕ)) → Remembers s state.now (parts_by_level version.now) → IsCurrent s state.now
-        → AreRising s.files → IsTaskIn s m (plain_task task.now) → names_in beside ≡ pages.entry.retired.now → AreUncited s (beside ++ written_pages pages.entry.written.now drafts.items)
+        → AreRising s.files → IsMergeTask s m (plain_merge task.now) → names_in beside ≡ pages.entry.retired.now → AreUncited s (beside ++ written_pages pages.entry.written.now drafts.items)
         → AreDraftsOf s.manifest.config (merged (entries_in (inputs_of m)) (erases_upto task.now.upto (pending_of s)) task.now.alone) drafts.items
         → IfOk result (λ made. (t : Stored) × IsMerged s m (erases_upto task.now.upto (pending_of s)) task.now.alone task.now.upto t
         × IsStep s (beside ++ written_pages pages.entry.written.now drafts.items) t (left_of pages.entry.needed.now (numbered made.step.merged.items s.files) beside) made.headers.items made.step
@@ -157,7 +150,7 @@ fn install<D: Disk>(
 }
 
 /// The step that writes what a job made, and cites it in the level in the place of the inputs, to the manifest of this number.
-fn step_of(
+pub(crate) fn step_of(
     alloc: Global,
     state: &State,
     level: u64,

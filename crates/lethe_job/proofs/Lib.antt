@@ -5,6 +5,8 @@ pub mod Shaped
 pub mod Named
 pub mod Split
 pub mod Planned
+pub mod SweepPlanned
+pub mod SweepMade
 pub mod Next
 mod Adding
 mod Pieces

@@ -1,6 +1,6 @@
 -- Lists that are looked through, and items of distinct numbers.
 use Rattle.std.proofs.Common.{◌≡◌, ◌≢◌, ℕ, ◌+◌, ◌<◌, ◌≤◌, Bool, true, false, cond, eqb, List, [], ◌∷◌, ◌++◌, get_or, length, map, take, refl, sym, ap, ◌∙◌, subst, arith}
-use Rattle.std.specs.Prelude.{◌&&◌, Contains, Some, filter, find, sum_by}
+use Rattle.std.specs.Prelude.{◌&&◌, Any, Contains, Some, filter, find, sum_by}
 use Rattle.std.specs.List.{AllZip, list_any, range_with_len}
 use Rattle.std.proofs.lemmas.Bool.{cond-true, cond-false, eq-eqb, ne_eqb}
 use Rattle.std.proofs.lemmas.List.{get_or-map, length-map, map-append, take_more}
@@ -35,6 +35,20 @@ zip_more R f items i d inside old new other pushed zipped related =
     subst (λ l. AllZip R l (map f new)) (sym (take_more items i d inside)) (subst (AllZip R upto) (sym (map-append f old (other ∷ [])) ∙ ap (map f) (sym pushed)) all)
 
 -- Items
+
+pub any_from : {X : Type 0} (P : X → Type 0) (xs : List X) (x : X) → Contains xs x → P x → Any P xs
+any_from P xs x there holds = (there.0, x, there.1, there.2, holds)
+
+pub from_any : {X : Type 0} (P : X → Type 0) (xs : List X) → Any P xs → (x : X) × Contains xs x × P x
+from_any P xs (k, x, lt, is, holds) = (x, (k, lt, is), holds)
+
+-- one item counts no more than all
+pub one_summed : {X : Type 0} (f : X → ℕ) (xs : List X) (x : X) → Contains xs x → f x ≤ sum_by f xs
+one_summed f [] x there = absurd (none_in x there)
+one_summed f (first ∷ xs) x there = ⊎_elim
+    (λ same. let own = ap f same in omega (arith, own, sum_by-cons f first xs))
+    (λ rest. omega (arith, one_summed f xs x rest, sum_by-cons f first xs))
+    (first_or_rest first xs x there)
 
 -- items that pass either of two tests, which none passes both, have no more than all items
 pub apart_sums : {X : Type 0} (f : X → ℕ) (p q : X → Bool) → ((x : X) → p x ≡ true → q x ≡ false) → (xs : List X) → sum_by f (filter p xs) + sum_by f (filter q xs) ≤ sum_by f xs

@@ -12,8 +12,8 @@ use Rattle.lethe_fade.specs.declared.plan.Plan.{Plan}
 use Rattle.lethe_header.specs.Headers.{entries_in}
 use Rattle.lethe_stored.specs.Files.{StoredFile, lines_in}
 use Rattle.lethe_stored.specs.Stored.{Stored}
-use Rattle.lethe_job.specs.Chosen.{hull_in, is_source, level_named, met_in, range_in, sources_in, task_in}
-use Rattle.lethe_job.specs.Tasks.{IsPlanned, IsStore, PlainTask, counted_in, inputs_in, plain_file}
+use Rattle.lethe_job.specs.Chosen.{hull_in, is_source, level_named, met_in, range_in, sources_in, merge_in}
+use Rattle.lethe_job.specs.Tasks.{IsPlannedMerge, IsStore, PlainMerge, counted_in, merge_inputs, plain_file}
 use Rattle.lethe_job.specs.declared.filed.Filed.{Filed}
 use Rattle.lethe_job.proofs.Planned.{is_planned, level_from, source_there}
 use Rattle.lethe_job.proofs.Listed.{apart_sums}
@@ -28,9 +28,9 @@ some_inputs level number keys files =
     and_left (eqb file.level (level + 1)) (overlaps keys (range_in file)) (ne_eqb file.level (level + 1) (λ next. omega (arith, same, next))) in
     omega (arith, sum_by-append counted (sources_in level number files) (met_in (level + 1) keys files), apart_sums counted (is_source level number) (λ file. eqb file.level (level + 1) && overlaps keys (range_in file)) apart files)
 
-pub task_some : (level : ℕ) (plan : Plan) (files : List StoredFile) (config : Fields) (erases : List Pending) (count : ℕ) (task : PlainTask) → task ≡ task_in level plan files config erases count
-    → counted_in (inputs_in task) ≤ counted_in files
-task_some level plan files config erases count task is = subst (λ (task : PlainTask). counted_in (inputs_in task) ≤ counted_in files) (sym is) (some_inputs level plan.file (hull_in (sources_in level plan.file files)) files)
+pub task_some : (level : ℕ) (plan : Plan) (files : List StoredFile) (config : Fields) (erases : List Pending) (count : ℕ) (task : PlainMerge) → task ≡ merge_in level plan files config erases count
+    → counted_in (merge_inputs task) ≤ counted_in files
+task_some level plan files config erases count task is = subst (λ (task : PlainMerge). counted_in (merge_inputs task) ≤ counted_in files) (sym is) (some_inputs level plan.file (hull_in (sources_in level plan.file files)) files)
 
 module _ {D Page Port : Type 0} {disk : Ghosts D Page Port} (files : List (Filed D Page Port disk)) (config : Fields) (erases : List Pending) (count : ℕ) where
   abbrev all : List StoredFile
@@ -44,8 +44,8 @@ module _ {D Page Port : Type 0} {disk : Ghosts D Page Port} (files : List (Filed
     level_low : level < config.levels
     level_low = named.3
 
-    pub task_low : (task : PlainTask) → task ≡ task_in level plan all config erases count → task.level < config.levels
-    task_low task is = subst (λ n. n < config.levels) (sym (ap (λ (t : PlainTask). t.level) is)) level_low
+    pub task_low : (task : PlainMerge) → task ≡ merge_in level plan all config erases count → task.level < config.levels
+    task_low task is = subst (λ n. n < config.levels) (sym (ap (λ (t : PlainMerge). t.level) is)) level_low
 
     pub level_small : level < 2 ^ 32
     level_small = let low = level_low in let few = limits.levels in omega (arith, low, few)
@@ -53,9 +53,9 @@ module _ {D Page Port : Type 0} {disk : Ghosts D Page Port} (files : List (Filed
     pub some_source : 0 < length (sources_in level plan.file all)
     some_source = let there = source_there level plan.file all named.0 named.1 named.2 named.4 in let within = there.1 in omega (arith, within)
 
-    pub planned : (task : PlainTask) → task ≡ task_in level plan all config erases count → (s : Stored) → IsStore s files config erases count → IsPlanned s task
+    pub planned : (task : PlainMerge) → task ≡ merge_in level plan all config erases count → (s : Stored) → IsStore s files config erases count → IsPlannedMerge s task
     planned task is s store =
         let file = named.0 in
         let there : Contains s.files file = subst (λ l. Contains l file) store.files_are named.1 in
-        let task_is : task ≡ task_in level plan s.files config erases count = is ∙ ap (λ l. task_in level plan l config erases count) store.files_are in
-        subst (IsPlanned s) (sym task_is) (is_planned s store.coherent store.rising level plan file there named.2 named.4 config store.config_is erases store.erases_are count store.count_is level_low)
+        let task_is : task ≡ merge_in level plan s.files config erases count = is ∙ ap (λ l. merge_in level plan l config erases count) store.files_are in
+        subst (IsPlannedMerge s) (sym task_is) (is_planned s store.coherent store.rising level plan file there named.2 named.4 config store.config_is erases store.erases_are count store.count_is level_low)

@@ -1,8 +1,7 @@
--- How many pages drafts have, and what is left of them.
-use Rattle.std.proofs.Common.{◌≡◌, ◌+◌, ℕ, suc, List, [], ◌∷◌, length, Vec, Result, Err, refl, sym, ap, ◌∙◌, arith, length-append}
+-- How many pages a job's work has, and what its reads are refused for.
+use Rattle.std.proofs.Common.{◌≡◌, ◌+◌, ◌<◌, ◌≤◌, ◌^◌, ℕ, suc, List, [], ◌∷◌, length, Result, Some, None, Err, refl, sym, ap, ◌∙◌, arith, length-append}
 use Rattle.std.specs.Prelude.{sum_by, Any, IsErrOf}
 use Rattle.std.proofs.lemmas.List.Sums.{sum_by-append}
-use Rattle.std.specs.declared.alloc.Global.{Global}
 use Rattle.lethe_base.specs.declared.name.Name.{Name}
 use Rattle.lethe_base.specs.declared.refused.Refused.{Refused}
 use Rattle.lethe_build.specs.Drafts.{numbers_for}
@@ -14,7 +13,11 @@ use Rattle.lethe_disk.proofs.Causes.{cause_as}
 use Rattle.lethe_flush.specs.Made.{pages_in}
 use Rattle.lethe_stored.specs.Files.{StoredFile}
 use Rattle.lethe_job.specs.Jobs.{IsUnread, told_as}
+use Rattle.lethe_job.specs.MadeOf.{numbers_in, pages_of}
 use Rattle.lethe_job.specs.Tasks.{AreSound, HasDamaged}
+use Rattle.lethe_job.specs.Works.{AreOutputs, Merges, PlainTask, Sweeps}
+use Rattle.lethe_job.specs.declared.made.Made.{Made}
+use Rattle.lethe_job.specs.declared.made.Made.TheVariants.{Files, Left}
 
 -- a draft takes one number more than it has pages
 pub numbers_are : (drafts : List Draft) → length (pages_in drafts) + length drafts ≡ sum_by numbers_for drafts
@@ -29,21 +32,33 @@ numbers_are (draft ∷ drafts) =
     pages_more : (all own rest count numbers : ℕ) → all ≡ own + rest → rest + count ≡ numbers → all + suc count ≡ (own + 1) + numbers
     pages_more all own rest count numbers is more = omega arith
 
-abbrev refused : ReadRefused → Result (Vec Draft Global) ReadRefused
+-- it takes a number for each page, if not more
+pub pages_few : (made : Made) → length (pages_of made) ≤ numbers_in made
+pages_few (Files drafts) = omega (arith, numbers_are drafts.items)
+pages_few (Left None) = omega arith
+pages_few (Left (Some draft)) = omega arith
+
+pub numbers_few : (Tells : Type 0) (task : PlainTask) (made : Made) → AreOutputs Tells task made → numbers_in made < 2 ^ 63
+numbers_few Tells (Merges task) (Files drafts) are = are.few
+numbers_few Tells (Merges task) (Left made) are = absurd are
+numbers_few Tells (Sweeps task) (Files drafts) are = absurd are
+numbers_few Tells (Sweeps task) (Left made) are = are.few
+
+abbrev refused : ReadRefused → Result Made ReadRefused
 refused why = Err why
 
--- the refusal of the reads that make the drafts
-pub unread : (Tells PortsFail : Type 0) (files : List StoredFile) (old new : ℕ) (told : ReadRefused) (why : Refused) → why ≡ told_as told → HasReadCause {T = Vec Draft Global} old new (Err told)
-    → (IsFault {T = Vec Draft Global} (Err told) → PortsFail) → ((name : Name) → IsErrOf {T = Vec Draft Global} (Err told) (Damaged name) → Any (HasDamaged Tells name) files)
-    → (Tells → AreSound files → (name : Name) → IsErrOf {T = Vec Draft Global} (Err told) (Damaged name) → ⊥) → IsUnread Tells PortsFail files old new why
+-- the refusal of the reads of what is made
+pub unread : (Tells PortsFail : Type 0) (files : List StoredFile) (old new : ℕ) (told : ReadRefused) (why : Refused) → why ≡ told_as told → HasReadCause {T = Made} old new (Err told)
+    → (IsFault {T = Made} (Err told) → PortsFail) → ((name : Name) → IsErrOf {T = Made} (Err told) (Damaged name) → Any (HasDamaged Tells name) files)
+    → (Tells → AreSound files → (name : Name) → IsErrOf {T = Made} (Err told) (Damaged name) → ⊥) → IsUnread Tells PortsFail files old new why
 unread Tells PortsFail files old new told why is cause can_fail damaged undamaged = record {
   told = told;
   is = is;
-  cause = cause_as {T = Vec Draft Global} {U = Unit {0}} old new told cause;
+  cause = cause_as {T = Made} {U = Unit {0}} old new told cause;
   can_fail = λ fault. can_fail (again fault);
   damaged = λ name named. damaged name (ap refused named);
   undamaged = λ tells sound name named. undamaged tells sound name (ap refused named);
 }
   where
-    again : IsFault {T = Unit {0}} (Err told) → IsFault {T = Vec Draft Global} (Err told)
+    again : IsFault {T = Unit {0}} (Err told) → IsFault {T = Made} (Err told)
     again (before, after, e) = let same : told ≡ ReadFault before after = cc in (before, after, ap refused same)

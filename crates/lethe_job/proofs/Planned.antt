@@ -26,8 +26,8 @@ use Rattle.lethe_stored.specs.Levels.{AreRising}
 use Rattle.lethe_stored.specs.Stored.{Stored, IsCoherent, count_of, pending_of}
 use Rattle.lethe_stored.proofs.FileFacts.{lower_is, upper_is}
 use Rattle.lethe_stored.proofs.Leveled.{from_level, in_filter, in_level, low_level}
-use Rattle.lethe_job.specs.Chosen.{hull_in, hull_with, is_below, is_named, is_source, level_named, met_in, range_in, sources_in, task_in}
-use Rattle.lethe_job.specs.Tasks.{IsPlanned, IsTaskIn}
+use Rattle.lethe_job.specs.Chosen.{hull_in, hull_with, is_below, is_named, is_source, level_named, met_in, range_in, sources_in, merge_in}
+use Rattle.lethe_job.specs.Tasks.{IsPlannedMerge, IsMergeTask}
 use Rattle.lethe_job.proofs.Listed.{among, find_some, filter_twice, pairs_weaker}
 use Rattle.lethe_job.proofs.Split.{IsParted, and_false, parted}
 
@@ -54,7 +54,7 @@ source_there level number files file there same named = in_filter (is_source lev
 
 -- Keys
 
-range_same : (file : StoredFile) → range_in file ≡ range_of file
+pub range_same : (file : StoredFile) → range_in file ≡ range_of file
 range_same file = λ i. record { lo = lower_is file.header.tiles file.pages i; hi = upper_is [] file.header.tiles file.pages i }
 
 with_same : (keys : KeyRange) (files : List StoredFile) → hull_with keys files ≡ hull keys (map (shapes.facts_of 0) (map file_of files))
@@ -78,7 +78,7 @@ false_or false b is = refl
 true_not_false : (b : Bool) → b ≡ true → b ≡ false → ⊥
 true_not_false b holds none = let clash : true ≡ false = sym holds ∙ none in cc
 
-none_passes : {X : Type 0} (p : X → Bool) (xs : List X) → list_any p xs ≡ false → (x : X) → Contains xs x → p x ≡ false
+pub none_passes : {X : Type 0} (p : X → Bool) (xs : List X) → list_any p xs ≡ false → (x : X) → Contains xs x → p x ≡ false
 none_passes p xs none x there = by (p x) refl
   where
     by : (b : Bool) → p x ≡ b → b ≡ false
@@ -195,7 +195,7 @@ module _ (s : Stored) (coherent : IsCoherent s) (rising : AreRising s.files) (le
     low_here : level < s.manifest.config.levels
     low_here = let levels = ap (λ (fields : Fields). fields.levels) configured in omega (arith, levels, low)
 
-    is_task : IsTaskIn s m (task_in level plan s.files config erases upto)
+    is_task : IsMergeTask s m (merge_in level plan s.files config erases upto)
     is_task = record {
       merge = is_merge low_here;
       level = refl;
@@ -208,7 +208,7 @@ module _ (s : Stored) (coherent : IsCoherent s) (rising : AreRising s.files) (le
       config = sym configured;
     }
 
-    pub is_planned : IsPlanned s (task_in level plan s.files config erases upto)
+    pub is_planned : IsPlannedMerge s (merge_in level plan s.files config erases upto)
     is_planned = record {
       m = m;
       is = is_task;

@@ -8,7 +8,7 @@ use Rattle.lethe_fade.specs.declared.plan.Plan.{Plan}
 use Rattle.lethe_follows.specs.Merged.{erases_upto}
 use Rattle.lethe_header.specs.Facts.{least_key, greatest_key}
 use Rattle.lethe_stored.specs.Files.{StoredFile}
-use Rattle.lethe_job.specs.Tasks.{PlainTask}
+use Rattle.lethe_job.specs.Tasks.{PlainMerge}
 
 -- the keys that a file may have, by its header
 abbrev pub range_in : StoredFile → KeyRange
@@ -50,8 +50,8 @@ abbrev pub lies_below : ℕ → KeyRange → List StoredFile → Bool
 lies_below level keys files = list_any (is_below level keys) files
 
 -- the task with these sources, which meets those files of the next level that they overlap, and applies the erases up to the place
-abbrev pub task_from : ℕ → Plan → List StoredFile → List StoredFile → List StoredFile → Fields → List Pending → ℕ → PlainTask
-task_from level plan files sources met config erases upto = record {
+abbrev pub merge_from : ℕ → Plan → List StoredFile → List StoredFile → List StoredFile → Fields → List Pending → ℕ → PlainMerge
+merge_from level plan files sources met config erases upto = record {
   plan = plan;
   level = level;
   sources = sources;
@@ -62,6 +62,6 @@ task_from level plan files sources met config erases upto = record {
   config = config;
 }
 
-abbrev pub task_in : ℕ → Plan → List StoredFile → Fields → List Pending → ℕ → PlainTask
-task_in level plan files config erases upto =
-    task_from level plan files (sources_in level plan.file files) (met_in (level + 1) (hull_in (sources_in level plan.file files)) files) config erases upto
+abbrev pub merge_in : ℕ → Plan → List StoredFile → Fields → List Pending → ℕ → PlainMerge
+merge_in level plan files config erases upto =
+    merge_from level plan files (sources_in level plan.file files) (met_in (level + 1) (hull_in (sources_in level plan.file files)) files) config erases upto

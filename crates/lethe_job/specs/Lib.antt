@@ -1,4 +1,7 @@
 pub mod Shapes
 pub mod Tasks
 pub mod Chosen
+pub mod SweepTasks
+pub mod Works
+pub mod MadeOf
 pub mod Jobs

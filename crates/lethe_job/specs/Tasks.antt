@@ -1,10 +1,9 @@
--- What a job is to do.
-use Rattle.std.specs.Prelude.{◌≡◌, ◌≤◌, ℕ, ◌+◌, Bool, IsTrue, List, [], ◌++◌, length, map, slice_index_or, sum_by, All, Any, Contains, Some}
+-- What a job that merges is to do.
+use Rattle.std.specs.Prelude.{◌≡◌, ◌≤◌, ℕ, ◌+◌, Bool, IsTrue, List, [], ◌++◌, length, map, slice_index_or, sum_by, All, Any, Contains}
 use Rattle.lethe_base.specs.declared.config.Fields.{Fields}
 use Rattle.lethe_base.specs.declared.name.Name.{Name}
 use Rattle.lethe_base.specs.declared.pending.Pending.{Pending}
 use Rattle.lethe_disk.specs.declared.disk.Disk.{Ghosts}
-use Rattle.lethe_fade.specs.Choice.{choice}
 use Rattle.lethe_fade.specs.declared.plan.Plan.{Plan}
 use Rattle.lethe_file.specs.Agreement.{FileAgrees}
 use Rattle.lethe_file.specs.Damage.{IsDamagedAmong}
@@ -13,18 +12,17 @@ use Rattle.lethe_header.specs.Headers.{entries_in}
 use Rattle.lethe_manifest.specs.declared.manifest.Cited.{Cited}
 use Rattle.lethe_stored.specs.Files.{StoredFile, Parts, lines_in, parts_of}
 use Rattle.lethe_stored.specs.Levels.{AreRising}
-use Rattle.lethe_stored.specs.Stored.{Stored, IsCoherent, count_of, layout_of, pending_of}
+use Rattle.lethe_stored.specs.Stored.{Stored, IsCoherent, count_of, pending_of}
 use Rattle.lethe_version.specs.Versions.{bytes_of}
-use Rattle.lethe_job.specs.Shapes.{due_shape}
 use Rattle.lethe_job.specs.declared.filed.Filed.{Filed}
-use Rattle.lethe_job.specs.declared.task.Task.{Task}
+use Rattle.lethe_job.specs.declared.merge.MergeTask.{MergeTask}
 
 -- a file as it is stored
 abbrev pub plain_file : {D Page Port : Type 0} {disk : Ghosts D Page Port} → Filed D Page Port disk → StoredFile
 plain_file filed = record { level = filed.level; swept = filed.swept; header = filed.file.file.value.header; pages = bytes_of filed.file.file.value }
 
--- a task, over files as they are stored
-pub record PlainTask : Type 0 where
+-- a merge, over files as they are stored
+pub record PlainMerge : Type 0 where
   pub plan : Plan
   pub level : ℕ
   pub sources : List StoredFile
@@ -34,8 +32,8 @@ pub record PlainTask : Type 0 where
   pub upto : ℕ
   pub config : Fields
 
-abbrev pub plain_task : {D Page Port : Type 0} {disk : Ghosts D Page Port} → Task D Page Port disk → PlainTask
-plain_task task = record {
+abbrev pub plain_merge : {D Page Port : Type 0} {disk : Ghosts D Page Port} → MergeTask D Page Port disk → PlainMerge
+plain_merge task = record {
   plan = task.plan;
   level = task.level;
   sources = map plain_file task.sources.items;
@@ -46,8 +44,8 @@ plain_task task = record {
   config = task.config;
 }
 
-abbrev pub inputs_in : PlainTask → List StoredFile
-inputs_in task = task.sources ++ task.met
+abbrev pub merge_inputs : PlainMerge → List StoredFile
+merge_inputs task = task.sources ++ task.met
 
 -- how many pages the files have
 abbrev pub pages_in : List StoredFile → ℕ
@@ -74,7 +72,7 @@ HasDamaged tells name file = IsDamagedAmong tells (lines_in file) file.pages nam
 
 -- It merges files that are stored. Outputs that are alone have no file below them, as those of the last level always have; the erases are those
 -- that are pending up to the place up to which the outputs count as swept, which is no further than there are changes: whatever came since it began.
-pub record IsTaskIn (s : Stored) (m : StoredMerge) (task : PlainTask) : Type 0 where
+pub record IsMergeTask (s : Stored) (m : StoredMerge) (task : PlainMerge) : Type 0 where
   pub merge : IsMergeIn s m
   pub level : task.level ≡ m.level
   pub sources : task.sources ≡ m.sources
@@ -85,20 +83,14 @@ pub record IsTaskIn (s : Stored) (m : StoredMerge) (task : PlainTask) : Type 0 w
   pub upto : task.upto ≤ count_of s
   pub config : task.config ≡ s.manifest.config
 
--- The task of a plan that names a file above the last level. The plan names one of the sources, and of level 0 it merges all files.
-pub record IsPlanned (s : Stored) (task : PlainTask) : Type 0 where
+-- The merge of a plan that names a file above the last level. The plan names one of the sources, and of level 0 it merges all files.
+pub record IsPlannedMerge (s : Stored) (task : PlainMerge) : Type 0 where
   pub m : StoredMerge
-  pub is : IsTaskIn s m task
+  pub is : IsMergeTask s m task
   pub named : Any (λ file. file.header.no ≡ task.plan.file) m.sources
   pub all : m.level ≡ 0 → m.newer ≡ []
   pub alone : IsAlone s m.level (hull_of (inputs_of m)) → IsTrue task.alone
   pub counted : task.upto ≡ count_of s
-
--- the task of the choice at the clock, where no other claim stands
-pub record IsBegunIn (s : Stored) (task : PlainTask) : Type 0 where
-  pub chosen : choice s.manifest.config (due_shape (layout_of s)) s.manifest.clock [] ≡ Some task.plan
-  pub planned : IsPlanned s task
-  pub open planned use *
 
 -- what is told of a store is what is stored
 pub record IsStore {D Page Port : Type 0} {disk : Ghosts D Page Port} (s : Stored) (files : List (Filed D Page Port disk)) (config : Fields) (erases : List Pending) (count : ℕ) : Type 0 where

@@ -1,22 +1,21 @@
 //! A job that runs.
 ghost use Rattle.std.specs.Prelude.{◌≡◌, ◌+◌, ◌≤◌, ◌<◌, ◌^◌, ◌↔◌, [], true, false, length, slice_index_or, sum_by, All, IfOk, IfErr, IfSome, IsOk, OnOk, OnErr, None, IsSome};
 ghost use Rattle.lethe_base.specs.Limits.{max_time};
-ghost use Rattle.lethe_build.specs.Drafts.{numbers_for};
-ghost use Rattle.lethe_flush.specs.Made as made;
 ghost use Rattle.lethe_job.specs.Jobs as jobs;
 ghost use Rattle.lethe_job.specs.Jobs.{IsJob, IsUnread, next_bytes};
-ghost use Rattle.lethe_job.specs.Tasks.{inputs_in, pages_in, plain_task};
+ghost use Rattle.lethe_job.specs.MadeOf.{pages_of};
+ghost use Rattle.lethe_job.specs.Works.{erases_of, inputs_in, plain_task, reads_of};
 
+use crate::made::Made;
 use crate::number::BegunJobs;
 use crate::task::Task;
 use lethe_base::Refused;
-use lethe_build::{Draft, numbers_for};
 use lethe_disk::{Disk, ReadRefused};
 use std::alloc::Global;
 use std::snapshot::Snapshot;
 use std::sync::Arc;
 
-/// A merge that runs beside a store: its task, which the store knows too, a port of its own, and once they are made its outputs.
+/// A merge or a sweep that runs beside a store: its task, which the store knows too, a port of its own, and once it is made what it makes.
 #[derive(Drop)]
 pub struct Job<D: Disk> {
     /// Its number: how many jobs the store had begun before it.
@@ -25,9 +24,9 @@ pub struct Job<D: Disk> {
     round: u64,
     task: Arc<Task<D>>,
     port: D::Port,
-    /// The drafts of its outputs, once they are made.
-    drafts: Option<Vec<Draft>>,
-    /// How many of the drafts' pages are written.
+    /// What it makes, once it is made.
+    made: Option<Made>,
+    /// How many of the pages that are to be written of it are written.
     written: usize,
     /// One of its calls was refused, so that it can only be cancelled.
     refused: bool,
@@ -51,30 +50,6 @@ fn told_as(why: ReadRefused) -> Refused
     }
 }
 
-/// How many pages the drafts have.
-fn count_pages(drafts: &[Draft]) -> usize
-    requires { sum_by numbers_for drafts.now < 2 ^ 63 }
-    ensures { result ≡ length (made.pages_in drafts.now) }
-{
-    numbers_for(drafts) as usize - drafts.len()
-}
-
-/// The page at a place among those of the drafts.
-fn page_at(drafts: &[Draft], place: usize) -> &[u8]
-    requires { place < length (made.pages_in drafts.now) }
-    ensures { result.now ≡ slice_index_or (made.pages_in drafts.now) place [] }
-{
-    let mut left = place;
-    for draft in drafts {
-        let pages = draft.pages.items();
-        if left < pages.len() {
-            return pages[left].items();
-        }
-        left -= pages.len();
-    }
-    unreachable!()
-}
-
 impl<D: Disk> Job<D> {
     /// A job of this task, which has made and written nothing.
     pub fn begun(
@@ -84,14 +59,14 @@ impl<D: Disk> Job<D> {
         port: D::Port,
     ) -> Job<D>
         ensures job { IsJob D.tells result }
-        ensures is { result ≡ record { number = number; round = round; task = task; port = port; drafts = None; written = 0; refused = false } }
+        ensures is { result ≡ record { number = number; round = round; task = task; port = port; made = None; written = 0; refused = false } }
     {
         Job {
             number,
             round,
             task,
             port,
-            drafts: None,
+            made: None,
             written: 0,
             refused: false,
         }
@@ -118,32 +93,32 @@ impl<D: Disk> Job<D> {
         self.refused = true;
     }
 
-    /// Makes the drafts, where they aren't made yet.
+    /// Makes what it is to make, where that isn't made yet.
     fn make(&mut self, alloc: Global) -> Result<(), Refused>
-        requires erases { All (λ erase. erase.time ≤ max_time) self.old.task.value.erases }
+        requires erases { All (λ erase. erase.time ≤ max_time) (erases_of (plain_task self.old.task.value)) }
         requires job { IsJob D.tells self.old }
         ensures job { IsJob D.tells self.new }
         ensures number { self.new.number ≡ self.old.number }
         ensures round { self.new.round ≡ self.old.round }
         ensures task { self.new.task.value ≡ self.old.task.value }
         ensures written { self.new.written ≡ self.old.written }
-        ensures made { OnOk result (IsSome self.new.drafts) }
+        ensures made { OnOk result (IsSome self.new.made) }
         ensures ok { OnOk result (self.new.refused ≡ self.old.refused) }
         ensures err { OnErr result (self.new.refused ≡ true) }
-        ensures kept { IsSome self.old.drafts → self.new.drafts ≡ self.old.drafts }
-        ensures still { IsSome self.old.drafts → self.new.port ≡ self.old.port }
-        ensures ready { IsSome self.old.drafts → IsOk result }
-        ensures fetches { self.old.drafts ≡ None → OnOk result (D.fetches self.new.port ≡ D.fetches self.old.port + pages_in (inputs_in (plain_task self.old.task.value))) }
-        ensures at_most { D.fetches self.new.port ≤ D.fetches self.old.port + pages_in (inputs_in (plain_task self.old.task.value)) }
+        ensures kept { IsSome self.old.made → self.new.made ≡ self.old.made }
+        ensures still { IsSome self.old.made → self.new.port ≡ self.old.port }
+        ensures ready { IsSome self.old.made → IsOk result }
+        ensures fetches { self.old.made ≡ None → OnOk result (D.fetches self.new.port ≡ D.fetches self.old.port + reads_of (plain_task self.old.task.value)) }
+        ensures at_most { D.fetches self.new.port ≤ D.fetches self.old.port + reads_of (plain_task self.old.task.value) }
         ensures later { D.port_faults self.old.port ≤ D.port_faults self.new.port }
         ensures unread { IfErr result (IsUnread D.tells D.ports_fail (inputs_in (plain_task self.old.task.value)) (D.port_faults self.old.port) (D.port_faults self.new.port)) }
     {
-        if self.drafts.is_some() {
+        if self.made.is_some() {
             return Ok(());
         }
         match self.task.outcome(alloc, &mut self.port) {
-            Ok(drafts) => {
-                self.drafts = Some(drafts);
+            Ok(made) => {
+                self.made = Some(made);
                 Ok(())
             }
             Err(why) => {
@@ -159,7 +134,7 @@ impl<D: Disk> Job<D> {
     ///
     /// What the first call's reads are refused for. The job can then only be cancelled.
     pub fn next_piece(&mut self, alloc: Global) -> Result<Option<Piece>, Refused>
-        requires erases { All (λ erase. erase.time ≤ max_time) self.old.task.value.erases }
+        requires erases { All (λ erase. erase.time ≤ max_time) (erases_of (plain_task self.old.task.value)) }
         requires job { IsJob D.tells self.old }
         requires asked { self.old.refused ≡ false }
         ensures job { IsJob D.tells self.new }
@@ -167,59 +142,59 @@ impl<D: Disk> Job<D> {
         ensures round { self.new.round ≡ self.old.round }
         ensures task { self.new.task.value ≡ self.old.task.value }
         ensures written { self.new.written ≡ self.old.written }
-        ensures made { OnOk result (IsSome self.new.drafts) }
+        ensures made { OnOk result (IsSome self.new.made) }
         ensures ok { OnOk result (self.new.refused ≡ false) }
         ensures err { OnErr result (self.new.refused ≡ true) }
-        ensures kept { IsSome self.old.drafts → self.new.drafts ≡ self.old.drafts }
-        ensures still { IsSome self.old.drafts → self.new.port ≡ self.old.port }
-        ensures ready { IsSome self.old.drafts → IsOk result }
+        ensures kept { IsSome self.old.made → self.new.made ≡ self.old.made }
+        ensures still { IsSome self.old.made → self.new.port ≡ self.old.port }
+        ensures ready { IsSome self.old.made → IsOk result }
 
         // The next page is the first that isn't written.
         ensures place { IfOk result (λ next. IfSome next (λ piece. piece.place ≡ self.old.written)) }
-        ensures left { IfOk result (λ next. IfSome self.new.drafts (λ drafts. IsSome next ↔ (self.old.written < length (made.pages_in drafts.items)))) }
+        ensures left { IfOk result (λ next. IfSome self.new.made (λ made. IsSome next ↔ (self.old.written < length (pages_of made)))) }
 
-        // The first call reads each page of the inputs once.
-        ensures fetches { self.old.drafts ≡ None → OnOk result (D.fetches self.new.port ≡ D.fetches self.old.port + pages_in (inputs_in (plain_task self.old.task.value))) }
-        ensures at_most { D.fetches self.new.port ≤ D.fetches self.old.port + pages_in (inputs_in (plain_task self.old.task.value)) }
+        // The first call reads each page of a merge's inputs once, and of a sweep's file those that its header tells.
+        ensures fetches { self.old.made ≡ None → OnOk result (D.fetches self.new.port ≡ D.fetches self.old.port + reads_of (plain_task self.old.task.value)) }
+        ensures at_most { D.fetches self.new.port ≤ D.fetches self.old.port + reads_of (plain_task self.old.task.value) }
         ensures later { D.port_faults self.old.port ≤ D.port_faults self.new.port }
         ensures unread { IfErr result (IsUnread D.tells D.ports_fail (inputs_in (plain_task self.old.task.value)) (D.port_faults self.old.port) (D.port_faults self.new.port)) }
     {
         self.make(alloc)?;
         let place = self.written;
-        match &self.drafts {
-            Some(drafts) if place < count_pages(drafts) => Ok(Some(Piece { place })),
+        match &self.made {
+            Some(made) if place < made.page_count() => Ok(Some(Piece { place })),
             _ => Ok(None),
         }
     }
 
-    /// The first page of its drafts that isn't written.
+    /// The first page that isn't written of what it made.
     pub fn next_page(&self) -> &[u8]
-        requires made { IsSome self.now.drafts }
-        requires left { IfSome self.now.drafts (λ drafts. self.now.written < length (made.pages_in drafts.items)) }
+        requires made { IsSome self.now.made }
+        requires left { IfSome self.now.made (λ made. self.now.written < length (pages_of made)) }
         ensures { result.now ≡ next_bytes self.now }
     {
-        let Some(drafts) = &self.drafts else {
+        let Some(made) = &self.made else {
             unreachable!()
         };
-        page_at(drafts, self.written)
+        made.page_at(self.written)
     }
 
     /// Tells it that its next page is written.
     pub fn count_written(&mut self)
         requires job { IsJob D.tells self.old }
-        requires made { IsSome self.old.drafts }
-        requires left { IfSome self.old.drafts (λ drafts. self.old.written < length (made.pages_in drafts.items)) }
+        requires made { IsSome self.old.made }
+        requires left { IfSome self.old.made (λ made. self.old.written < length (pages_of made)) }
         ensures job { IsJob D.tells self.new }
         ensures written { self.new ≡ record self.old { written = self.old.written + 1 } }
     {
         self.written += 1;
     }
 
-    /// Gives its drafts away, where they are made.
-    pub fn take_drafts(&mut self) -> Option<Vec<Draft>>
-        ensures given { result ≡ self.old.drafts }
-        ensures lacks { self.new ≡ record self.old { drafts = None } }
+    /// Gives away what it made, where that is made.
+    pub fn take_made(&mut self) -> Option<Made>
+        ensures given { result ≡ self.old.made }
+        ensures lacks { self.new ≡ record self.old { made = None } }
     {
-        self.drafts.take()
+        self.made.take()
     }
 }

@@ -1,37 +1,43 @@
-//! What is true of what is due, and of a task while the store goes on. The functions do nothing: their contracts are the laws.
-ghost use Rattle.std.specs.Prelude.{◌≡◌, ◌<◌, ◌++◌, ℕ, List, None, Some, All, AllPairs, IsSome, option_to_list};
+//! What is true of what is chosen and due, and of a task while the store goes on. The functions do nothing: their contracts are the laws.
+ghost use Rattle.std.specs.Prelude.{◌≡◌, ◌<◌, ◌≤◌, ◌++◌, [], ℕ, List, None, Some, All, AllPairs, option_to_list};
 ghost use Rattle.lethe_base.specs.Shapes as shapes;
 ghost use Rattle.lethe_base.specs.declared.config.Fields.{Fields};
 ghost use Rattle.lethe_base.specs.declared.pending.Pending.{Pending};
-ghost use Rattle.lethe_fade.specs.Expired.{due};
+ghost use Rattle.lethe_fade.specs.Choice.{choice};
+ghost use Rattle.lethe_fade.specs.Due.{due};
 ghost use Rattle.lethe_fade.specs.declared.plan.Plan.{Plan};
 ghost use Rattle.lethe_segment.specs.Records.{record_seq};
 ghost use Rattle.lethe_segment.specs.declared.record.Record.{Record};
 ghost use Rattle.lethe_stored.specs.Files.{StoredFile};
 ghost use Rattle.lethe_stored.specs.Stored.{Stored, IsCoherent, appended, count_of, erase_of, froze, layout_of, pending_of};
 ghost use Rattle.lethe_follows.specs.Filed.{flushed};
-ghost use Rattle.lethe_follows.specs.Merged.{StoredMerge, with_newer};
-ghost use Rattle.lethe_job.specs.Chosen.{level_named};
-ghost use Rattle.lethe_job.specs.Shapes.{shape_of};
-ghost use Rattle.lethe_job.specs.Tasks.{IsTaskIn, PlainTask};
+ghost use Rattle.lethe_job.specs.Shapes.{due_shape, shape_of};
+ghost use Rattle.lethe_job.specs.Works.{IsNamedBy, IsPlanIn, IsTaskFor, PlainTask};
 
 /// The shape of the stored files, by their headers, is that of the layout.
 pub fn shape_is_of_the_layout()
     ensures { (s : Stored) → IsCoherent s → shape_of s.manifest.config.levels s.files (pending_of s) ≡ shapes.shape_of (layout_of s) }
 {}
 
-/// The plan that is due at a time names one of the files above the last level.
-pub fn due_is_named()
-    ensures { (config : Fields) (files : List StoredFile) (erases : List Pending) (to : ℕ) (plan : Plan) → due config (shape_of config.levels files erases) to ≡ Some plan
-        → IsSome (level_named config.levels plan.file files) }
+/// The plan that is chosen, or due at a time, names one of the files, for a merge above the last level, and for a sweep one of the erases.
+pub fn plan_is_named()
+    ensures chosen { (config : Fields) → 0 < config.levels → (files : List StoredFile) → All (λ file. file.level ≤ config.levels) files → (erases : List Pending) (clock : ℕ) (plan : Plan)
+        → choice config (shape_of config.levels files erases) clock [] ≡ Some plan → IsNamedBy config.levels files erases plan.file plan.erase }
+    ensures due { (config : Fields) (files : List StoredFile) → All (λ file. file.level ≤ config.levels) files → (erases : List Pending) (to : ℕ) (plan : Plan)
+        → due config (shape_of config.levels files erases) to ≡ Some plan → IsNamedBy config.levels files erases plan.file plan.erase }
+{}
+
+/// Where it names a sweep, the plan that is chosen, or due at a time, of what is stored names the first erase that is still to be done, and a file that isn't swept of it.
+pub fn plan_is_in_the_store()
+    ensures chosen { (s : Stored) → IsCoherent s → (plan : Plan) → choice s.manifest.config (due_shape (layout_of s)) s.manifest.clock [] ≡ Some plan → IsPlanIn s plan.file plan.erase }
+    ensures due { (s : Stored) → IsCoherent s → (to : ℕ) (plan : Plan) → due s.manifest.config (due_shape (layout_of s)) to ≡ Some plan → IsPlanIn s plan.file plan.erase }
 {}
 
 /// A task stays one while changes are recorded, a segment is frozen and a buffer is flushed.
 pub fn task_stays()
-    ensures appended { (s : Stored) (m : StoredMerge) (task : PlainTask) → IsTaskIn s m task → (next : Record) → count_of s < record_seq next
-        → AllPairs (λ a b. a.seq < b.seq) (pending_of s ++ option_to_list (erase_of next)) → IsCoherent (appended s next) → IsTaskIn (appended s next) m task }
-    ensures frozen { (s : Stored) (m : StoredMerge) (task : PlainTask) → IsTaskIn s m task → s.frozen ≡ None → (segment number : ℕ)
-        → IsTaskIn (froze s segment number) m task }
-    ensures flushed { (s : Stored) (m : StoredMerge) (task : PlainTask) → IsTaskIn s m task → (made : List StoredFile) (number : ℕ) → All (λ file. file.level ≡ 0) made
-        → IsTaskIn (flushed s made number) (with_newer made m) task }
+    ensures appended { (s : Stored) (task : PlainTask) → IsTaskFor s task → (next : Record) → count_of s < record_seq next
+        → AllPairs (λ a b. a.seq < b.seq) (pending_of s ++ option_to_list (erase_of next)) → IsCoherent (appended s next) → IsTaskFor (appended s next) task }
+    ensures frozen { (s : Stored) (task : PlainTask) → IsTaskFor s task → s.frozen ≡ None → (segment number : ℕ) → IsTaskFor (froze s segment number) task }
+    ensures flushed { (s : Stored) (task : PlainTask) → IsTaskFor s task → (made : List StoredFile) (number : ℕ) → All (λ file. file.level ≡ 0) made
+        → IsTaskFor (flushed s made number) task }
 {}

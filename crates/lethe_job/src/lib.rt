@@ -1,20 +1,25 @@
-//! A job: the merge that is due, what it makes of its inputs, and the pages that it writes.
+//! A job: the merge or the sweep that is due, what it makes, and the pages that it writes.
 #![tactic(auto)]
 
 mod filed;
 mod inputs;
 mod job;
 mod laws;
+mod made;
+mod merge;
+mod merging;
 mod number;
-mod outcome;
 mod reach;
 mod reading;
 mod shape;
+mod sweep;
 mod task;
 
 pub use filed::{Filed, cited_files};
 pub use job::{Job, Piece};
-pub use laws::{due_is_named, shape_is_of_the_layout, task_stays};
+pub use laws::{plan_is_in_the_store, plan_is_named, shape_is_of_the_layout, task_stays};
+pub use made::Made;
+pub use merge::MergeTask;
 pub use number::{Begun, BegunJobs};
 pub use shape::shape_of;
 pub use task::{Task, task_of};

@@ -1,39 +1,34 @@
-//! What a job is to do.
-ghost use Rattle.std.specs.Prelude.{◌≡◌, ◌<◌, ◌≤◌, ◌^◌, length, map, IfOk, IsSome};
-ghost use Rattle.lethe_follows.specs.Merged.{erases_upto};
+//! What a job is to do: a merge or a sweep.
+ghost use Rattle.std.specs.Prelude.{◌≡◌, ◌≤◌, ◌<◌, ◌+◌, map, All, Any, IfOk, OnOk, IsErrOf};
+ghost use Rattle.lethe_base.specs.Limits.{max_place, max_time};
+ghost use Rattle.lethe_base.specs.declared.name.Name.{Name};
+ghost use Rattle.lethe_disk.specs.Reads.{HasReadCause, IsFault};
+ghost use Rattle.lethe_disk.specs.declared.cursor.ReadRefused.TheVariants.{Damaged};
 ghost use Rattle.lethe_stored.specs.Stored.{Stored};
-ghost use Rattle.lethe_job.specs.Chosen.{level_named, sources_in, task_in};
-ghost use Rattle.lethe_job.specs.Tasks.{IsPlanned, IsStore, counted_in, inputs_in, plain_file, plain_task};
+ghost use Rattle.lethe_job.specs.Tasks.{AreSound, HasDamaged, IsStore, counted_in, plain_file};
+ghost use Rattle.lethe_job.specs.Works.{AreOutputs, IsInLevels, IsNamedBy, IsPlanIn, IsPlanned, applied_upto, erases_of, inputs_in, plain_task, plan_of, reads_of};
 
 use crate::filed::Filed;
-use crate::inputs::{level_named, lies_below, met_in, sources_in};
-use crate::reach::Reach;
-use lethe_base::{Config, List, NoMemory, Pending};
-use lethe_disk::Disk;
+use crate::made::Made;
+use crate::merge::{MergeTask, merge_of};
+use crate::sweep::sweep_of;
+use lethe_base::{Config, NoMemory, Pending};
+use lethe_disk::{Disk, ReadRefused};
 use lethe_fade::Plan;
+use lethe_sweep_task::SweepTask;
 use std::alloc::Global;
 
-/// A merge of files of a level with those that they overlap in the next one. It never changes.
+/// What a job is to do. It never changes.
 #[derive(Drop)]
-pub struct Task<D: Disk> {
-    /// What names it.
-    pub plan: Plan,
-    /// The level of its sources, above the last.
-    pub level: u64,
-    /// Of level 0 all files, the newest first, and of another level one.
-    pub sources: Vec<Filed<D>>,
-    /// The files of the next level that overlap the keys of the sources, in the order of their keys.
-    pub met: Vec<Filed<D>>,
-    /// Nothing lies below the outputs, so that they have no tombstone and no time.
-    pub alone: bool,
-    /// The erases that are applied: those that were pending when it began, up to `upto`.
-    pub erases: List<Pending>,
-    /// The place up to which the outputs count as swept: how many changes there were when it began.
-    pub upto: u64,
-    pub config: Config,
+pub enum Task<D: Disk> {
+    /// A merge of files of a level with those that they overlap in the next one.
+    Merge(MergeTask<D>),
+    /// A sweep of a file by one erase.
+    Sweep(SweepTask<D>),
 }
 
-/// The task of a plan in a store of these files, pending erases and so many changes. The plan has to name one of the files above the last level.
+/// The task of a plan in a store of these files, pending erases and so many changes. The plan has to name one of the files, for a merge above the last level, and for a
+/// sweep one of the erases.
 pub fn task_of<D: Disk>(
     alloc: Global,
     files: &[Filed<D>],
@@ -42,63 +37,52 @@ pub fn task_of<D: Disk>(
     erases: &[Pending],
     count: u64,
 ) -> Result<Task<D>, NoMemory>
-    requires named { IsSome (level_named config.now.levels plan.file (map plain_file files.now)) }
-    ensures plan { IfOk result (λ task. task.plan ≡ plan) }
-    ensures planned { (s : Stored) → IsStore s files.now config.now erases.now count → IfOk result (λ task. IsPlanned s (plain_task task)) }
+    requires named { IsNamedBy config.now.levels (map plain_file files.now) erases.now plan.file plan.erase }
+    ensures plan { IfOk result (λ task. plan_of (plain_task task) ≡ plan) }
+    ensures planned { (s : Stored) → IsStore s files.now config.now erases.now count → IsPlanIn s plan.file plan.erase → IfOk result (λ task. IsPlanned s (plain_task task)) }
 
     // On any disk:
-    ensures level { IfOk result (λ task. task.level < config.now.levels) }
-    ensures upto { IfOk result (λ task. task.upto ≡ count) }
-    ensures erases { IfOk result (λ task. task.erases ≡ erases_upto count erases.now) }
-    ensures config { IfOk result (λ task. task.config ≡ config.now) }
+    ensures levels { IfOk result (λ task. IsInLevels config.now.levels (plain_task task)) }
+    ensures upto { count ≤ max_place → All (λ erase. erase.seq ≤ max_place) erases.now → IfOk result (λ task. applied_upto (plain_task task) ≤ max_place) }
+    ensures times { All (λ erase. erase.time ≤ max_time) erases.now → IfOk result (λ task. All (λ erase. erase.time ≤ max_time) (erases_of (plain_task task))) }
     // Its inputs' headers count no more entries than those of all the files.
     ensures some_of { IfOk result (λ task. counted_in (inputs_in (plain_task task)) ≤ counted_in (map plain_file files.now)) }
 {
-    let Some(level) = level_named(files, config.fields().levels, plan.file) else {
-        unreachable!()
-    };
-    task_in(alloc, files, plan, level, config, erases, count)
+    match plan.erase {
+        None => {
+            let merge = merge_of(alloc, files, plan, config, erases, count)?;
+            Ok(Task::Merge(merge))
+        }
+        Some(place) => {
+            let sweep = sweep_of(files, config.fields().levels, plan, place, erases)?;
+            Ok(Task::Sweep(sweep))
+        }
+    }
 }
 
-/// The task of a plan, whose file stands in that level.
-fn task_in<D: Disk>(
-    alloc: Global,
-    files: &[Filed<D>],
-    plan: Plan,
-    level: u64,
-    config: &Config,
-    erases: &[Pending],
-    upto: u64,
-) -> Result<Task<D>, NoMemory>
-    requires level { level < 2 ^ 32 }
-    requires some { 0 < length (sources_in level plan.file (map plain_file files.now)) }
-    ensures { IfOk result (λ task. plain_task task ≡ task_in level plan (map plain_file files.now) config.now erases.now upto) }
-{
-    let sources = sources_in(alloc, files, level, plan.file)?;
-    let reach = Reach::of_all(&sources);
-    let met = met_in(alloc, files, level + 1, &reach)?;
-    let alone = !lies_below(files, level + 1, &reach.with(&met));
-    let erases = erases_upto(alloc, erases, upto)?;
-    Ok(Task {
-        plan,
-        level,
-        sources,
-        met,
-        alone,
-        erases,
-        upto,
-        config: *config,
-    })
-}
-
-/// Of some erases, those up to a place.
-fn erases_upto(alloc: Global, erases: &[Pending], upto: u64) -> Result<List<Pending>, NoMemory>
-    ensures { IfOk result (λ kept. kept ≡ erases_upto upto erases.now) }
-{
-    let kept = erases
-        .iter()
-        .copied()
-        .filter(|erase| erase.seq <= upto)
-        .collect(alloc)?;
-    Ok(List::of(kept))
+impl<D: Disk> Task<D> {
+    /// What it makes: of a merge the drafts of what is left of the inputs' entries where its erases are applied, for which each page of the inputs is fetched once and all their
+    /// entries are held in memory; of a sweep the draft of what its erase leaves of the file, for which the pages are fetched that the header tells.
+    pub fn outcome(&self, alloc: Global, port: &mut D::Port) -> Result<Made, ReadRefused>
+        requires { All (λ erase. erase.time ≤ max_time) (erases_of (plain_task self.now)) }
+        ensures outputs { IfOk result (AreOutputs D.tells (plain_task self.now)) }
+        ensures fetches { OnOk result (D.fetches port.new ≡ D.fetches port.old + reads_of (plain_task self.now)) }
+        ensures at_most { D.fetches port.new ≤ D.fetches port.old + reads_of (plain_task self.now) }
+        ensures damaged { (name : Name) → IsErrOf result (Damaged name) → Any (HasDamaged D.tells name) (inputs_in (plain_task self.now)) × (D.fetches port.old < D.fetches port.new) }
+        ensures later { D.fetches port.old ≤ D.fetches port.new }
+        ensures undamaged { D.tells → AreSound (inputs_in (plain_task self.now)) → (name : Name) → IsErrOf result (Damaged name) → ⊥ }
+        ensures cause { HasReadCause (D.port_faults port.old) (D.port_faults port.new) result }
+        ensures can_fail { IsFault result → D.ports_fail }
+    {
+        match self {
+            Task::Merge(merge) => match merge.outcome(alloc, port) {
+                Ok(drafts) => Ok(Made::Files(drafts)),
+                Err(why) => Err(why),
+            },
+            Task::Sweep(sweep) => match sweep.outcome(alloc, port) {
+                Ok(draft) => Ok(Made::Left(draft)),
+                Err(why) => Err(why),
+            },
+        }
+    }
 }

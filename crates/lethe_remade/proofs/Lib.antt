@@ -4,3 +4,4 @@ pub mod Bounds
 pub mod Entries
 pub mod Made
 pub mod Objects
+pub mod Taken

@@ -9,7 +9,6 @@ use Rattle.lethe_base.proofs.Newest.{first_or_rest}
 use Rattle.lethe_base.specs.Layout.{entries_of}
 use Rattle.lethe_base.specs.declared.entry.Entry.{Entry}
 use Rattle.lethe_base.specs.declared.pending.Pending.{Pending}
-use Rattle.lethe_build.specs.Built.{spelled}
 use Rattle.lethe_build.specs.Drafts.{header_of}
 use Rattle.lethe_cover.proofs.Lists.{Pairs, all_from, flat_in, pairs_from, pairs_parts, pairs_to}
 use Rattle.lethe_file.specs.Agreement.{FileAgrees, entries_in, page_name}

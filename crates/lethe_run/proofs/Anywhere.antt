@@ -18,7 +18,7 @@ use Rattle.lethe_script.specs.declared.order.Order.{Order}
 use Rattle.lethe_run.specs.declared.reply.Line.{Line}
 use Rattle.lethe_run.specs.declared.reply.Line.TheVariants as line
 use Rattle.lethe_run.specs.declared.reply.Reply.{Reply}
-use Rattle.lethe_run.specs.declared.reply.Reply.TheVariants.{Done, Ticked, Got, Scanned, Counted, Fault, Stopped, Exhausted, Backwards, ReadFault, Damaged, Undone}
+use Rattle.lethe_run.specs.declared.reply.Reply.TheVariants.{Done, Ticked, Got, Scanned, Counted, Fault, Stopped, Exhausted, Backwards, ReadFault, Damaged}
 use Rattle.lethe_run.specs.Anywhere.{AreTold, AreToldThrough, IsTold, MayChange, Standing, standing_of}
 use Rattle.lethe_run.specs.Replies.{refusal_of, reply_of, unread_of}
 use Rattle.lethe_run.specs.Transcript.{call_of, change_of, read_of}
@@ -73,7 +73,6 @@ module _ (Told Ports : Type 0) (act : Act) (call : Call) (is : call_of act ≡ S
   hindered Short (refused.Backwards clock) reason says = absurd reason
   hindered Short (refused.Pinned pin limit) reason says = absurd reason
   hindered Short refused.NothingDue reason says = absurd reason
-  hindered Short (refused.Undone erase) reason says = absurd reason
   hindered Short (refused.Cancelled begun other) reason says = absurd reason
   hindered Short (refused.ReadFault b a) reason says = absurd reason
   hindered Short (refused.Damaged name) reason says = absurd reason
@@ -88,7 +87,6 @@ module _ (Told Ports : Type 0) (act : Act) (call : Call) (is : call_of act ≡ S
   unreadable before now (refused.Backwards clock) runs reason says = absurd reason
   unreadable before now (refused.Pinned pin limit) runs reason says = absurd reason
   unreadable before now refused.NothingDue runs reason says = absurd reason
-  unreadable before now (refused.Undone erase) runs reason says = absurd reason
   unreadable before now (refused.Cancelled begun other) runs reason says = absurd reason
 
 -- A change
@@ -117,7 +115,6 @@ unread_tells Ports act view is (refused.Exhausted last) reason fails = absurd re
 unread_tells Ports act view is (refused.Backwards clock) reason fails = absurd reason
 unread_tells Ports act view is (refused.Pinned pin limit) reason fails = absurd reason
 unread_tells Ports act view is refused.NothingDue reason fails = absurd reason
-unread_tells Ports act view is (refused.Undone erase) reason fails = absurd reason
 unread_tells Ports act view is (refused.Cancelled begun other) reason fails = absurd reason
 
 -- Lines, and what stays of them when the counts of faults lie further apart
@@ -127,7 +124,6 @@ module _ (Ports : Type 0) (from upto low high : ℕ) (below : low ≤ from) (abo
   wider act s (Done place) t told = told
   wider act s (Ticked ticked) t told = told
   wider act s (Backwards point clock) t told = told
-  wider act s (Undone point erase) t told = told
   wider act s (Fault place b a) t told = let first = told.2 in let last = told.4 in (told.0, told.1, omega (arith, first, below), told.3, omega (arith, last, above), told.5)
   wider act s (Stopped at) t told = told
   wider act s (Exhausted last) t told = told

@@ -55,7 +55,6 @@ module _ (told : Told) (most : ℕ) (bound : (caller place : ℕ) (call : Call) 
   done_within (order ∷ orders) (line.Answer caller (reply.Ticked ticked) ∷ lines) a =
       All-cons (λ place. place ≤ most) ticked.place (filter_map ok_place lines) (bound order.caller ticked.place (call.Tick a.1.0) a.1.2.done) (done_within orders lines a.2)
   done_within (order ∷ orders) (line.Answer caller (reply.Backwards point clock) ∷ lines) a = done_within orders lines a.2
-  done_within (order ∷ orders) (line.Answer caller (reply.Undone point erase) ∷ lines) a = done_within orders lines a.2
   done_within (order ∷ orders) (line.Answer caller (reply.Got point held) ∷ lines) a = done_within orders lines a.2
   done_within (order ∷ orders) (line.Answer caller (reply.Scanned point pairs) ∷ lines) a = done_within orders lines a.2
   done_within (order ∷ orders) (line.Answer caller (reply.Counted point stat) ∷ lines) a = done_within orders lines a.2

@@ -6,7 +6,6 @@ pub mod Outcomes
 pub mod Shorts
 pub mod Steps
 pub mod Anywhere
-pub mod LeftErases
 pub mod Ticking
 pub mod Looks
 pub mod Runs

@@ -65,5 +65,4 @@ module _ (Ports : Type 0) (begin : Start) (from : Point) (h : History) (caller :
   unread is (refused.Backwards clock) reason fails sound = absurd reason
   unread is (refused.Pinned pin limit) reason fails sound = absurd reason
   unread is refused.NothingDue reason fails sound = absurd reason
-  unread is (refused.Undone erase) reason fails sound = absurd reason
   unread is (refused.Cancelled begun other) reason fails sound = absurd reason

@@ -15,7 +15,7 @@ use Rattle.lethe_run.specs.Ends.{Run, Ends, Asks, IsCommand, IsUnused, IsUnbegun
 use Rattle.lethe_run.specs.Status.{EndsWith, code_of}
 use Rattle.lethe_base.specs.declared.name.Name.{Name}
 use Rattle.lethe_run.proofs.Ending.{some_then, some_now}
-use Rattle.lethe_run.proofs.Calm.{no_failure}
+use Rattle.lethe_run.proofs.Calm.{no_refusal}
 use Rattle.lethe_run.proofs.Parts.{asked, asked_paces, asked_quiet, carries_paces, commanded, Complete, err_no_ok, for_asked, has_next, memory_paces, memory_quiet, not_opened, ok_script, opening_paces, quiet_shown, Shown, unused_paces, unused_quiet}
 
 damaged_memory : (name : Name) → open_why.Damaged name ≡ open_why.NoMemory → ⊥
@@ -53,7 +53,7 @@ module _ (run : Run) where
     a_script = (ok_script run _ e.2.script 0 (0, lit< tt, refl)).1;
     shown = for_asked run (Shown run 0) e.0 e.1 (λ told why reason. absurd (e.2.sound told why reason));
     pace = carries_paces run e.0 e.2.script.0 e.2.lines e.2.script.2;
-    complete = λ config asks source sink calm ports. inr (e.2.script.0, e.2.script.1, λ told kept left change l same numbers few room. inl refl);
+    complete = λ config asks source sink calm ports. inr (e.2.script.0, e.2.script.1, λ told kept left change l same numbers few room. refl);
     known = (0, lit< tt, refl);
   }
 
@@ -159,16 +159,7 @@ module _ (run : Run) where
           a.script.1,
           λ told kept left change l same numbers few room.
               let next = has_next kept l.now.0 run.start.directory l.now.2 in
-              inr (
-                refl,
-                record {
-                  lines = a.lines;
-                  carries = a.script.2;
-                  written = a.written;
-                  is = a.is;
-                  alone = no_failure run config kept a.script.0 a.lines left change calm ports next.0 (few next.0 next.1) room (a.script.2.left told kept left change l next.0 next.1);
-                },
-              ),
+              absurd (no_refusal run config kept a.script.0 a.lines left change calm ports next.0 (few next.0 next.1) room a.is (a.script.2.left told kept left change l next.0 next.1)),
         ));
         known = (5, lit< tt, refl);
       }

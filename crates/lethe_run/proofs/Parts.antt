@@ -21,7 +21,7 @@ use Rattle.lethe_script.specs.declared.order.Order.{Order}
 use Rattle.lethe_script.specs.Grammar.{script_of}
 use Rattle.lethe_run.specs.declared.reply.Line.{Line}
 use Rattle.lethe_run.specs.Asked.{config_of}
-use Rattle.lethe_run.specs.Ends.{AnsweredUndone, Carries, Run, Asks, IsCommand, IsUnused, IsUnbegun, IsAsked, OnLeft, OnScript, IsNotOpened, IsOpenFault, StoppedInside, script_ends}
+use Rattle.lethe_run.specs.Ends.{Carries, Run, Asks, IsCommand, IsUnused, IsUnbegun, IsAsked, OnLeft, OnScript, IsNotOpened, IsOpenFault, StoppedInside, script_ends}
 use Rattle.lethe_run.specs.Transcript.{most_of_a_change}
 use Rattle.lethe_run.proofs.Ending.{some_then, some_now}
 use Rattle.lethe_run.proofs.Calm.{true_false, must_open}
@@ -64,7 +64,7 @@ module _ (run : Run) where
       ((other : Fields) → HasOtherConfig config run.start.directory other → ⊥) → (IsExhausted run.start.directory → ⊥)
       → ((next : ℕ) → IsNextNumber run.start.directory next
       → next + (run.finish.moment - run.start.moment) + most_of_a_change + most_numbers (length left + 1 + sum_by (λ orders. length orders) phases) < max_place)
-      → length left + 1 + sum_by (λ orders. length orders) phases ≤ max_place → (n ≡ 0) ⊎ ((n ≡ 6) × AnsweredUndone run config phases))
+      → length left + 1 + sum_by (λ orders. length orders) phases ≤ max_place → n ≡ 0)
 
   abbrev pub Complete : ℕ → Fields → Type 0
   Complete n config = (run.SourceRose → ⊥) → (run.SinkRose → ⊥) → (Rose run.faults_before run.faults → ⊥) → (run.PortsFail → ⊥) → Contains (3 ∷ 7 ∷ []) n ⊎ OnScript run (Completes n config)

@@ -7,7 +7,6 @@ use Rattle.std.proofs.lemmas.List.{length-append, take-append-le}
 use Rattle.std.proofs.lemmas.List.Elements.{All-append, All-cons, All-nil, All-weaker, filter_map-append}
 use Rattle.lethe_base.specs.declared.call.Call.{Call}
 use Rattle.lethe_base.specs.History.{History, IsLegal, after}
-use Rattle.lethe_base.specs.Placed.{IsAccepted}
 use Rattle.lethe_base.specs.Read.{Read, Answer, answer}
 use Rattle.lethe_base.specs.Read as answers
 use Rattle.lethe_base.proofs.Histories.{change_at-append}
@@ -23,14 +22,14 @@ use Rattle.lethe_script.specs.declared.order.Act.{Act}
 use Rattle.lethe_run.specs.declared.reply.Line.{Line}
 use Rattle.lethe_run.specs.declared.reply.Line.TheVariants as line
 use Rattle.lethe_run.specs.declared.reply.Reply.{Reply}
-use Rattle.lethe_run.specs.declared.reply.Reply.TheVariants.{Done, Ticked, Got, Scanned, Counted, Fault, Stopped, Exhausted, Backwards, ReadFault, Damaged, Undone}
+use Rattle.lethe_run.specs.declared.reply.Reply.TheVariants.{Done, Ticked, Got, Scanned, Counted, Fault, Stopped, Exhausted, Backwards, ReadFault, Damaged}
 use Rattle.lethe_run.specs.Carried.{certificate_in, certificate_of, certificates_in}
 use Rattle.lethe_run.specs.Serving.{Advances, IsBorneOn, IsOn, IsAnswered, IsPhase, Point}
 use Rattle.lethe_run.proofs.Images.{calls_then, still}
 use Rattle.lethe_run.proofs.Lasting.{within}
 use Rattle.lethe_run.proofs.Outcomes.{told_of}
 use Rattle.lethe_run.proofs.Turns.{places_in_turn, sees_in_turn}
-use Rattle.lethe_run.specs.Transcript.{Course, Start, Told, IsShort, course, call_of, change_of, read_of, IsAhead, IsLeftAt, IsDoneAt, IsAnswerAt, IsStatAt, IsTickAt, IsFailedAt, IsFaultOf, Answers, Answered, places_behind, is_of, Follows, InTurn, IsServed, AreServed}
+use Rattle.lethe_run.specs.Transcript.{Course, Start, Told, IsShort, course, call_of, change_of, read_of, IsAhead, IsDoneAt, IsAnswerAt, IsStatAt, IsTickAt, IsFailedAt, IsFaultOf, Answers, Answered, places_behind, is_of, Follows, InTurn, IsServed, AreServed}
 
 -- What a line says of a history it says of a longer one, and when the count of faults rises, unless the places were used up: then nothing follows.
 
@@ -104,20 +103,10 @@ module _ (h more : History) (legal : IsLegal (h ++ more)) (Ports : Type 0) (begi
     ahead = a.ahead;
   }
 
-  abbrev left_before : (point place to : ℕ) → IsLeftAt (told_of h First) point place to → IsLeftAt (told_of (h ++ more) Last) point place to
-  left_before point place to a = record {
-    within = omega (arith, a.within, length-append h more);
-    erase = a.erase;
-    accepted = subst (λ l. IsAccepted l a.erase) (sym (take-append-le point h more a.within)) a.accepted;
-    place_is = a.place_is;
-    due = a.due;
-  }
-
   answers_before : (caller : ℕ) (act : Act) (reply : Reply) → Answers (told_of h First) caller act reply → Answers (told_of (h ++ more) Last) caller act reply
   answers_before caller act (Done place) a = done_before h more caller place (change_of act) a
   answers_before caller act (Ticked ticked) a = (a.0, a.1, tick_before caller a.0 ticked a.2)
   answers_before caller act (Backwards point clock) a = (a.0, a.1, ahead_before point clock a.0 a.2)
-  answers_before caller act (Undone point erase) a = (a.0, a.1, left_before point erase a.0 a.2)
   answers_before caller act (Got point held) a = read_before h more point (answers.Found held) (read_of act) a
   answers_before caller act (Scanned point pairs) a = read_before h more point (listed pairs) (read_of act) a
   answers_before caller act (Counted point stat) a = (a.0, stat_before h more First Last point stat refl a.1)
@@ -160,7 +149,6 @@ module _ (Ports : Type 0) (begin : Start) (f0 f1 m0 m1 : ℕ) (on : m0 ≤ m1) w
   follows_later n m (Done place) f = f
   follows_later n m (Ticked ticked) f = f
   follows_later n m (Backwards point clock) f = f
-  follows_later n m (Undone point erase) f = f
   follows_later n m (Got point held) f = f
   follows_later n m (Scanned point pairs) f = f
   follows_later n m (Counted point stat) f = f

@@ -131,7 +131,6 @@ module _ (Tells Ports : Type 0) (told : Tells) (begin : Start) (from : Point) (h
     hindered (refused.Backwards clock) reason says = absurd reason
     hindered (refused.Pinned pin limit) reason says = absurd reason
     hindered refused.NothingDue reason says = absurd reason
-    hindered (refused.Undone erase) reason says = absurd reason
     hindered (refused.Cancelled begun other) reason says = absurd reason
     hindered (refused.ReadFault b a) reason says = absurd reason
     hindered (refused.Damaged name) reason says = absurd reason
@@ -147,7 +146,6 @@ module _ (Tells Ports : Type 0) (told : Tells) (begin : Start) (from : Point) (h
   unreadable before now (refused.Backwards clock) reason says = absurd reason
   unreadable before now (refused.Pinned pin limit) reason says = absurd reason
   unreadable before now refused.NothingDue reason says = absurd reason
-  unreadable before now (refused.Undone erase) reason says = absurd reason
   unreadable before now (refused.Cancelled begun other) reason says = absurd reason
 
 -- A change

@@ -20,7 +20,7 @@ use Rattle.lethe_core.specs.Reasons.{HasReason, IsUnreadable}
 use Rattle.lethe_core.specs.StandsNow.{IsOpenOrStopped, StandsNow}
 use Rattle.lethe_core.specs.View.{Face, View}
 use Rattle.lethe_core.proofs.Histories.{all_done}
-use Rattle.lethe_core.proofs.Standing.{stands_for, stands_holds}
+use Rattle.lethe_core.proofs.Standing.{stands_for}
 use Rattle.lethe_cover.specs.Steps.{with_done}
 use Rattle.lethe_disk.specs.Directory.{Directory}
 use Rattle.lethe_disk.specs.Disk.{IsSynced}
@@ -36,43 +36,37 @@ use Rattle.lethe_stored.specs.Clean.{IsClean}
 use Rattle.lethe_stored.specs.Kept.{certificates}
 use Rattle.lethe_stored.specs.Left.{without_failed}
 use Rattle.lethe_tick.specs.Certified.{IsCertificateAt}
-use Rattle.lethe_tick.specs.Ripened.{IsLeftUndone, IsShortToTick}
+use Rattle.lethe_tick.specs.Ripened.{IsShortToTick}
 use Rattle.lethe_run.specs.declared.reply.Reply.TheVariants as reply
 use Rattle.lethe_run.specs.Replies.{refusal_of, tick_refusal_of, tick_reply_of}
-use Rattle.lethe_run.specs.Serving.{Advances, IsBorneOn, IsOn, Point}
+use Rattle.lethe_run.specs.Serving.{IsBorneOn, IsOn, Point}
 use Rattle.lethe_run.specs.Transcript.{Course, IsShort, Start, course}
 use Rattle.lethe_run.proofs.Anywhere.{Tells, ok_runs, stands_so}
 use Rattle.lethe_run.proofs.Anywhere as anywhere
 use Rattle.lethe_run.proofs.Lasting.{here, seen_now}
 use Rattle.lethe_run.proofs.Outcomes.{Outcome}
-use Rattle.lethe_run.proofs.LeftErases.{left_at}
 use Rattle.lethe_run.proofs.Steps.{Replied, Says, advances, hindered, longer, next_place, not_made, unreadable}
 
--- But for its own refusals, where its time is behind the clock or an erase is left that is still to be done, a tick is refused as a change is
+-- But for its own refusal, where its time is behind the clock, a tick is refused as a change is
 
-not_its_own : (point : ℕ) (why : Refused) → ((clock : ℕ) → why ≡ refused.Backwards clock → ⊥) → ((erase : ℕ) → why ≡ refused.Undone erase → ⊥) → refusal_of why ≡ tick_refusal_of point why
-not_its_own point (refused.Fault place before after) never nor = refl
-not_its_own point (refused.Stopped at) never nor = refl
-not_its_own point (refused.Exhausted last) never nor = refl
-not_its_own point refused.NoMemory never nor = refl
-not_its_own point (refused.Backwards clock) never nor = absurd (never clock refl)
-not_its_own point (refused.Pinned pin limit) never nor = refl
-not_its_own point refused.NothingDue never nor = refl
-not_its_own point (refused.Undone erase) never nor = absurd (nor erase refl)
-not_its_own point (refused.Cancelled begun now) never nor = refl
-not_its_own point (refused.ReadFault before after) never nor = refl
-not_its_own point (refused.Damaged name) never nor = refl
+not_behind : (point : ℕ) (why : Refused) → ((clock : ℕ) → why ≡ refused.Backwards clock → ⊥) → refusal_of why ≡ tick_refusal_of point why
+not_behind point (refused.Fault place before after) never = refl
+not_behind point (refused.Stopped at) never = refl
+not_behind point (refused.Exhausted last) never = refl
+not_behind point refused.NoMemory never = refl
+not_behind point (refused.Backwards clock) never = absurd (never clock refl)
+not_behind point (refused.Pinned pin limit) never = refl
+not_behind point refused.NothingDue never = refl
+not_behind point (refused.Cancelled begun now) never = refl
+not_behind point (refused.ReadFault before after) never = refl
+not_behind point (refused.Damaged name) never = refl
 
 module _ (point : ℕ) (why : Refused) where
-  hindered_like_a_change : (Short : Type 0) (old : View) (upto : ℕ) → HasReason Short old.state old.faults upto why → refusal_of why ≡ tick_refusal_of point why
-  hindered_like_a_change Short old upto reason =
-      let P = HasReason Short old.state old.faults upto in
-      not_its_own point why (λ clock is. subst P is reason) (λ erase is. subst P is reason)
+  hindered_not_behind : (Short : Type 0) (old : View) (upto : ℕ) → HasReason Short old.state old.faults upto why → refusal_of why ≡ tick_refusal_of point why
+  hindered_not_behind Short old upto reason = not_behind point why (λ clock is. subst (HasReason Short old.state old.faults upto) is reason)
 
-  unreadable_like_a_change : (Told Ports : Type 0) (before now : ℕ) → IsUnreadable Told Ports before now why → refusal_of why ≡ tick_refusal_of point why
-  unreadable_like_a_change Told Ports before now reason =
-      let P = IsUnreadable Told Ports before now in
-      not_its_own point why (λ clock is. subst P is reason) (λ erase is. subst P is reason)
+  unreadable_not_behind : (Told Ports : Type 0) (before now : ℕ) → IsUnreadable Told Ports before now why → refusal_of why ≡ tick_refusal_of point why
+  unreadable_not_behind Told Ports before now reason = not_behind point why (λ clock is. subst (IsUnreadable Told Ports before now) is reason)
 
 module _ (to : ℕ) (old new : View) where
   abbrev act : Act
@@ -93,12 +87,6 @@ module _ (to : ℕ) (old new : View) where
         subst (λ e. Tells Ports act (tick_refusal_of point e) old new) (sym is)
         ((to, refl, ahead), runs, at, anywhere.still Told Ports act call refl face old new told.count told.stopped)
 
-    undone_tells : (why : Refused) → old.state.stopped ≡ None → IsLeftUndone Told to new why → anywhere.Says Told Ports act call refl face old new (Some why) → Tells Ports act (tick_refusal_of point why) old new
-    undone_tells why runs (erase, is, still, left) says =
-        let told = subst (λ e. anywhere.Says Told Ports act call refl face old new (Some e)) is says in
-        subst (λ e. Tells Ports act (tick_refusal_of point e) old new) (sym is)
-        ((to, refl), runs, at, anywhere.still Told Ports act call refl face old new told.count told.stopped)
-
     pub tick_tells : (before now : ℕ) (result : Result Ticked Refused) → anywhere.Says Told Ports act call refl face old new (result_err result) → IfOk result (λ told. (told.place ≡ old.state.count + 1) × (told.clock ≡ to))
         → IfErr result (HasReasonOfTick Told Ports to old new before now) → ((at : ℕ) → old.state.stopped ≡ Some at → IsErrOf result (refused.Stopped at)) → Tells Ports act (tick_reply_of point result) old new
     tick_tells before now (Ok ticked) says is why stop =
@@ -106,10 +94,9 @@ module _ (to : ℕ) (old new : View) where
         ((to, refl, is.1), runs, is.0, stands_so new ticked.place None (says.count ∙ sym is.0) (says.stopped ∙ runs))
     tick_tells before now (Err why) says is (inl behind) stop = backwards_tells why behind says
     tick_tells before now (Err why) says is (inr (inl reason)) stop =
-        subst (λ r. Tells Ports act r old new) (hindered_like_a_change point why _ old new.faults reason) (anywhere.hindered Told Ports act call refl face old new _ why reason says)
-    tick_tells before now (Err why) says is (inr (inr (inl reason))) stop =
-        subst (λ r. Tells Ports act r old new) (unreadable_like_a_change point why Told Ports before now reason.1) (anywhere.unreadable Told Ports act call refl face old new before now why reason.0 reason.1 says)
-    tick_tells before now (Err why) says is (inr (inr (inr left))) stop = undone_tells why left.0 left.1 says
+        subst (λ r. Tells Ports act r old new) (hindered_not_behind point why _ old new.faults reason) (anywhere.hindered Told Ports act call refl face old new _ why reason says)
+    tick_tells before now (Err why) says is (inr (inr reason)) stop =
+        subst (λ r. Tells Ports act r old new) (unreadable_not_behind point why Told Ports before now reason.1) (anywhere.unreadable Told Ports act call refl face old new before now why reason.0 reason.1 says)
 
   -- Over a store that stands for a history
 
@@ -202,16 +189,6 @@ module _ (to : ℕ) (old new : View) where
         (advances Tells Ports told begin from h caller act call refl face old new on (Some (refused.Backwards old.state.manifest.clock)) told_so)
         (to, refl, record { within = omega (arith, all); is = clock ∙ ap (λ (l : History). (after l).clock) (sym (take_all point h (omega (arith, all)))); ahead = ahead }) (all, refl))
 
-    undone : (point : ℕ) → point ≡ old.state.count → (why : Refused) → IsLeftUndone Tells to new why → Telling (Some why) → Outcome Ports begin h caller act (tick_refusal_of point why) old new
-    undone point at why (erase, is, runs, left) says =
-        let all : point ≡ length h = at ∙ on.stands.now.count in
-        let told_so = subst (λ e. Telling (Some e)) is says in
-        let goes : Advances begin h h old new = advances Tells Ports told begin from h caller act call refl face old new on (Some (refused.Undone erase)) told_so in
-        let stands : StandsNow begin.config h new = (goes.stands from on).stands.now in
-        subst (λ e. Outcome Ports begin h caller act (tick_refusal_of point e) old new) (sym is)
-        (not_made Tells Ports told begin from h caller act call refl face old new on (reply.Undone point erase) tt goes
-        (to, refl, left_at begin.config h new stands runs to erase (left told stands.stored (stands_holds begin.config h new stands runs)) Now point refl all) (all, refl))
-
     module _ (rounds : old.rounds < max_place) (small : frozen_len new.state.frozen ≤ 16384)
         (merges : StandsNow begin.config h new → new.state.stopped ≡ None → IsShortToMergeBy (due_choice to) Tells new → max_place ≤ new.state.next + most_numbers (length h)) where
       -- numbers run out for a flush, for a freeze, or for a merge that is due
@@ -236,9 +213,8 @@ module _ (to : ℕ) (old new : View) where
       ticks point at before behind (Err e) says is synced due true (inl ahead) stop = backwards point at e ahead says
       ticks point at before behind (Err e) says is synced due true (inr (inl reason)) stop =
           let Short = (max_place ≤ old.rounds) ⊎ IsShortToTick Tells to new in
-          subst (λ r. Outcome Ports begin h caller act r old new) (hindered_like_a_change point e Short old new.faults reason)
+          subst (λ r. Outcome Ports begin h caller act r old new) (hindered_not_behind point e Short old new.faults reason)
           (hindered Tells Ports told begin from h caller act call refl face old new on Short lacks e reason says)
-      ticks point at before behind (Err e) says is synced due true (inr (inr (inl reason))) stop =
-          subst (λ r. Outcome Ports begin h caller act r old new) (unreadable_like_a_change point e Tells Ports before behind reason.1)
+      ticks point at before behind (Err e) says is synced due true (inr (inr reason)) stop =
+          subst (λ r. Outcome Ports begin h caller act r old new) (unreadable_not_behind point e Tells Ports before behind reason.1)
           (unreadable Tells Ports told begin from h caller act call refl face old new on before behind e reason.1 says)
-      ticks point at before behind (Err e) says is synced due true (inr (inr (inr left))) stop = undone point at e left.1 says

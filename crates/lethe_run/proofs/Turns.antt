@@ -4,7 +4,7 @@ use Rattle.std.specs.Prelude.{filter, filter_map}
 use Rattle.lethe_run.specs.declared.reply.Line.{Line}
 use Rattle.lethe_run.specs.declared.reply.Line.TheVariants as line
 use Rattle.lethe_run.specs.declared.reply.Reply.{Reply}
-use Rattle.lethe_run.specs.declared.reply.Reply.TheVariants.{Done, Ticked, Got, Scanned, Counted, Fault, Stopped, Exhausted, Backwards, ReadFault, Damaged, Undone}
+use Rattle.lethe_run.specs.declared.reply.Reply.TheVariants.{Done, Ticked, Got, Scanned, Counted, Fault, Stopped, Exhausted, Backwards, ReadFault, Damaged}
 use Rattle.lethe_run.specs.Transcript.{Course, place_of, places_behind, Sees, Follows, InTurn}
 
 module _ (c : Course) (caller : ℕ) (p : Line → Bool) where
@@ -14,7 +14,6 @@ module _ (c : Course) (caller : ℕ) (p : Line → Bool) where
   picked false seen n m next (Done place) lines le f end rest = rest seen (omega arith)
   picked false seen n m next (Ticked ticked) lines le f end rest = rest seen (omega arith)
   picked false seen n m next (Backwards point clock) lines le f end rest = rest seen (omega arith)
-  picked false seen n m next (Undone point erase) lines le f end rest = rest seen (omega arith)
   picked false seen n m next (Got point held) lines le f end rest = rest seen (omega arith)
   picked false seen n m next (Scanned point pairs) lines le f end rest = rest seen (omega arith)
   picked false seen n m next (Counted point stat) lines le f end rest = rest seen (omega arith)
@@ -26,7 +25,6 @@ module _ (c : Course) (caller : ℕ) (p : Line → Bool) where
   picked true seen n m next (Done place) lines le f end rest = (omega arith, omega arith, rest (max seen place) (omega arith))
   picked true seen n m next (Ticked ticked) lines le f end rest = (omega arith, omega arith, rest (max seen ticked.place) (omega arith))
   picked true seen n m next (Backwards point clock) lines le f end rest = (omega arith, omega arith, rest (max seen 0) (omega arith))
-  picked true seen n m next (Undone point erase) lines le f end rest = (omega arith, omega arith, rest (max seen 0) (omega arith))
   picked true seen n m next (Got point held) lines le f end rest = (omega arith, omega arith, rest (max seen point) (omega arith))
   picked true seen n m next (Scanned point pairs) lines le f end rest = (omega arith, omega arith, rest (max seen point) (omega arith))
   picked true seen n m next (Counted point stat) lines le f end rest = (omega arith, omega arith, rest (max seen point) (omega arith))
@@ -41,7 +39,6 @@ module _ (c : Course) where
   follows_up n m (Done place) f = omega arith
   follows_up n m (Ticked ticked) f = omega arith
   follows_up n m (Backwards point clock) f = omega arith
-  follows_up n m (Undone point erase) f = omega arith
   follows_up n m (Got point held) f = omega arith
   follows_up n m (Scanned point pairs) f = omega arith
   follows_up n m (Counted point stat) f = omega arith
@@ -72,7 +69,6 @@ module _ (c : Course) where
   place_next n next m caller (Ticked ticked) lines f end rest = place_taken n next m ticked.place lines f.0 f.1 end rest
   place_next n next m caller (Fault place b a) lines f end rest = place_taken n next m place lines f.0 f.1 end rest
   place_next n next m caller (Backwards point clock) lines f end rest = rest ∙ ap (λ k. places_behind k (m - k)) f.1
-  place_next n next m caller (Undone point erase) lines f end rest = rest ∙ ap (λ k. places_behind k (m - k)) f.1
   place_next n next m caller (Got point held) lines f end rest = rest ∙ ap (λ k. places_behind k (m - k)) f.1
   place_next n next m caller (Scanned point pairs) lines f end rest = rest ∙ ap (λ k. places_behind k (m - k)) f.1
   place_next n next m caller (Counted point stat) lines f end rest = rest ∙ ap (λ k. places_behind k (m - k)) f.1

@@ -11,7 +11,7 @@ use Rattle.lethe_script.specs.declared.order.Order.{Order}
 use Rattle.lethe_run.specs.declared.reply.Line.{Line}
 use Rattle.lethe_run.specs.declared.reply.Line.TheVariants as line
 use Rattle.lethe_run.specs.declared.reply.Reply.{Reply}
-use Rattle.lethe_run.specs.declared.reply.Reply.TheVariants.{Done, Ticked, Got, Scanned, Counted, Fault, Stopped, Exhausted, Backwards, ReadFault, Damaged, Undone}
+use Rattle.lethe_run.specs.declared.reply.Reply.TheVariants.{Done, Ticked, Got, Scanned, Counted, Fault, Stopped, Exhausted, Backwards, ReadFault, Damaged}
 use Rattle.lethe_run.specs.Transcript.{call_of, change_of, read_of}
 
 -- how many places are taken, and the place of the change that failed, if one did
@@ -33,7 +33,6 @@ IsTold PortsFail from upto act s (Done place) t = IsSome (change_of act) × (s.f
 IsTold PortsFail from upto act s (Ticked ticked) t =
     ((to : ℕ) × (act ≡ Tick to) × (ticked.clock ≡ to)) × (s.failed ≡ None) × (ticked.place ≡ s.count + 1) × (t ≡ record { count = ticked.place; failed = None })
 IsTold PortsFail from upto act s (Backwards point clock) t = ((to : ℕ) × (act ≡ Tick to) × (to < clock)) × (s.failed ≡ None) × (point ≡ s.count) × (t ≡ s)
-IsTold PortsFail from upto act s (Undone point erase) t = ((to : ℕ) × (act ≡ Tick to)) × (s.failed ≡ None) × (point ≡ s.count) × (t ≡ s)
 IsTold PortsFail from upto act s (Fault place before after) t =
     MayChange act s × (place ≡ s.count + 1) × (from ≤ before) × Rose before after × (after ≤ upto) × (t ≡ record { count = place; failed = Some place })
 IsTold PortsFail from upto act s (Stopped at) t = IsSome (call_of act) × (s.failed ≡ Some at) × (t ≡ s)

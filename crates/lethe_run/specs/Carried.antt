@@ -60,7 +60,6 @@ certificate_in (reply.Fault place before after) = None
 certificate_in (reply.Stopped at) = None
 certificate_in (reply.Exhausted last) = None
 certificate_in (reply.Backwards point clock) = None
-certificate_in (reply.Undone point erase) = None
 certificate_in reply.ReadFault = None
 certificate_in (reply.Damaged page) = None
 

@@ -29,7 +29,7 @@ use Rattle.lethe_run.specs.Asked.{config_of}
 use Rattle.lethe_run.specs.Anywhere.{IsPlausible}
 use Rattle.lethe_run.specs.Carried.{IsCarriedOut}
 use Rattle.lethe_run.specs.Printed.{bad_words, bad_line, open_line}
-use Rattle.lethe_run.specs.Transcript.{Course, course, most_of_a_change, text_of, has_failure, has_refusal}
+use Rattle.lethe_run.specs.Transcript.{Course, course, most_of_a_change, text_of, has_refusal}
 
 -- What a run was given, and what it left. Of the source and the sink: what the one had and the other has taken, where they tell it, and
 -- whether their counts of faults rose. Of the disk: what it was and is, where its kind tells it, its counts of faults, and whether its ports can fail.
@@ -92,15 +92,6 @@ pub record Answered (run : Run) (config : Fields) (refused : Bool) : Type 0 wher
   pub written : Appends run.taken_before run.taken (text_of lines)
   pub is : has_refusal lines ≡ refused
   pub sound : IsSoundFor run config
-
--- Every line of the script was answered, and a tick wasn't made, since an erase was still to be done. No other change failed or wasn't made, unless it is a tick behind the clock, and
--- each read was answered.
-pub record AnsweredUndone (run : Run) (config : Fields) (phases : List (List Order)) : Type 0 where
-  pub lines : List (List Line)
-  pub carries : Carries run config phases lines
-  pub written : Appends run.taken_before run.taken (text_of lines)
-  pub is : has_refusal lines ≡ true
-  pub alone : has_failure lines ≡ false
 
 -- the script was carried out up to a phase, in which the sink failed
 pub record StoppedBehind (run : Run) (config : Fields) (text : Bytes) : Type 0 where
@@ -203,12 +194,12 @@ pub record Ends (run : Run) (status : ℕ) : Type 0 where
   -- whatever the status, numbers keep pace with the run's device calls, from a number on that none of what a crash leaves at the start has passed
   pub pace : OnLeft run (λ kept left change. (first : ℕ) → KeepsPace first run.start.moment run.start.moment run.start → KeepsPace first run.start.moment run.start.moment run.finish)
   -- Without a fault, and where ports can't fail, the bytes are no script, or there is no memory, or they are one, each line is answered and each change is done or is a tick behind the clock, on a disk
-  -- that was left for a history and is of this configuration, where neither numbers nor places run out; or but for that ticks weren't made, since an erase was still to be done.
+  -- that was left for a history and is of this configuration, where neither numbers nor places run out.
   pub complete : (config : Fields) → Asks run config → (run.SourceRose → ⊥) → (run.SinkRose → ⊥) → (Rose run.faults_before run.faults → ⊥) → (run.PortsFail → ⊥)
       → Contains (3 ∷ 7 ∷ []) status ⊎ OnScript run (λ phases. OnLeft run (λ kept left change.
       ((other : Fields) → HasOtherConfig config run.start.directory other → ⊥) → (IsExhausted run.start.directory → ⊥)
       → ((next : ℕ) → IsNextNumber run.start.directory next
       → next + (run.finish.moment - run.start.moment) + most_of_a_change + most_numbers (length left + 1 + sum_by (λ orders. length orders) phases) < max_place)
-      → length left + 1 + sum_by (λ orders. length orders) phases ≤ max_place → (status ≡ 0) ⊎ ((status ≡ 6) × AnsweredUndone run config phases)))
+      → length left + 1 + sum_by (λ orders. length orders) phases ≤ max_place → status ≡ 0))
   -- there is no other status
   pub known : Contains (0 ∷ 2 ∷ 3 ∷ 4 ∷ 5 ∷ 6 ∷ 7 ∷ 8 ∷ 9 ∷ []) status

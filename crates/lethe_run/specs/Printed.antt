@@ -19,7 +19,7 @@ use Rattle.lethe_script.specs.Words.{why_text}
 use Rattle.lethe_run.specs.declared.reply.Line.{Line}
 use Rattle.lethe_run.specs.declared.reply.Line.TheVariants.{Answer}
 use Rattle.lethe_run.specs.declared.reply.Reply.{Reply}
-use Rattle.lethe_run.specs.declared.reply.Reply.TheVariants.{Done, Ticked, Got, Scanned, Counted, Fault, Stopped, Exhausted, Backwards, ReadFault, Damaged, Undone}
+use Rattle.lethe_run.specs.declared.reply.Reply.TheVariants.{Done, Ticked, Got, Scanned, Counted, Fault, Stopped, Exhausted, Backwards, ReadFault, Damaged}
 
 -- with its end
 abbrev pub ended : Bytes → Bytes
@@ -45,7 +45,6 @@ abbrev pub reply_text : Reply → Bytes
 reply_text (Done place) = codes "ok " ++ decimal place
 reply_text (Ticked ticked) = codes "ok " ++ decimal ticked.place ++ codes " clock " ++ decimal ticked.clock ++ certificate_part ticked.certificate
 reply_text (Backwards point clock) = codes "backwards " ++ decimal clock
-reply_text (Undone point erase) = codes "undone " ++ decimal erase
 reply_text (Got point None) = codes "at " ++ decimal point ++ codes " none"
 reply_text (Got point (Some pair)) = codes "at " ++ decimal point ++ codes " val " ++ decimal pair.0 ++ codes " " ++ field_text pair.1
 reply_text (Scanned point pairs) = codes "at " ++ decimal point ++ codes " scan " ++ decimal (length pairs) ++ flat_map pair_text pairs

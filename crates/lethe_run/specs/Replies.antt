@@ -5,7 +5,7 @@ use Rattle.lethe_base.specs.declared.refused.Refused.{Refused}
 use Rattle.lethe_base.specs.declared.refused.Refused.TheVariants as refused
 use Rattle.lethe_engine.specs.declared.ticking.Ticked.{Ticked}
 use Rattle.lethe_run.specs.declared.reply.Reply.{Reply}
-use Rattle.lethe_run.specs.declared.reply.Reply.TheVariants.{Done, Fault, Stopped, Exhausted, Backwards, ReadFault, Damaged, Undone}
+use Rattle.lethe_run.specs.declared.reply.Reply.TheVariants.{Done, Fault, Stopped, Exhausted, Backwards, ReadFault, Damaged}
 use Rattle.lethe_run.specs.declared.reply.Reply.TheVariants as reply
 
 -- the refusals that a change may be answered
@@ -17,7 +17,6 @@ IsOfChange refused.NoMemory = Unit {0}
 IsOfChange (refused.Backwards clock) = ⊥
 IsOfChange (refused.Pinned pin limit) = ⊥
 IsOfChange refused.NothingDue = ⊥
-IsOfChange (refused.Undone erase) = ⊥
 IsOfChange (refused.Cancelled begun now) = ⊥
 IsOfChange (refused.ReadFault before after) = Unit {0}
 IsOfChange (refused.Damaged name) = Unit {0}
@@ -31,7 +30,6 @@ refusal_of refused.NoMemory = Err (record {})
 refusal_of (refused.Backwards clock) = Err (record {})
 refusal_of (refused.Pinned pin limit) = Err (record {})
 refusal_of refused.NothingDue = Err (record {})
-refusal_of (refused.Undone erase) = Err (record {})
 refusal_of (refused.Cancelled begun now) = Err (record {})
 refusal_of (refused.ReadFault before after) = Ok ReadFault
 refusal_of (refused.Damaged name) = Ok (Damaged name.no)
@@ -45,7 +43,6 @@ IsOfTick refused.NoMemory = Unit {0}
 IsOfTick (refused.Backwards clock) = Unit {0}
 IsOfTick (refused.Pinned pin limit) = ⊥
 IsOfTick refused.NothingDue = ⊥
-IsOfTick (refused.Undone erase) = Unit {0}
 IsOfTick (refused.Cancelled begun now) = ⊥
 IsOfTick (refused.ReadFault before after) = Unit {0}
 IsOfTick (refused.Damaged name) = Unit {0}
@@ -63,7 +60,6 @@ tick_refusal_of point (refused.Exhausted last) = refusal_of (refused.Exhausted l
 tick_refusal_of point refused.NoMemory = refusal_of refused.NoMemory
 tick_refusal_of point (refused.Pinned pin limit) = refusal_of (refused.Pinned pin limit)
 tick_refusal_of point refused.NothingDue = refusal_of refused.NothingDue
-tick_refusal_of point (refused.Undone erase) = Ok (Undone point erase)
 tick_refusal_of point (refused.Cancelled begun now) = refusal_of (refused.Cancelled begun now)
 tick_refusal_of point (refused.ReadFault before after) = refusal_of (refused.ReadFault before after)
 tick_refusal_of point (refused.Damaged name) = refusal_of (refused.Damaged name)
@@ -83,5 +79,4 @@ unread_of (refused.Exhausted last) = Err (record {})
 unread_of (refused.Backwards clock) = Err (record {})
 unread_of (refused.Pinned pin limit) = Err (record {})
 unread_of refused.NothingDue = Err (record {})
-unread_of (refused.Undone erase) = Err (record {})
 unread_of (refused.Cancelled begun now) = Err (record {})

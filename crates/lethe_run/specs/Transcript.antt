@@ -21,12 +21,10 @@ use Rattle.lethe_script.specs.declared.order.Act.TheVariants.{Put, Get, Scan, De
 use Rattle.lethe_run.specs.declared.reply.Line.{Line}
 use Rattle.lethe_run.specs.declared.reply.Line.TheVariants as line
 use Rattle.lethe_run.specs.declared.reply.Reply.{Reply}
-use Rattle.lethe_run.specs.declared.reply.Reply.TheVariants.{Done, Got, Scanned, Counted, Fault, Stopped, Exhausted, Backwards, ReadFault, Damaged, Undone}
+use Rattle.lethe_run.specs.declared.reply.Reply.TheVariants.{Done, Got, Scanned, Counted, Fault, Stopped, Exhausted, Backwards, ReadFault, Damaged}
 use Rattle.lethe_run.specs.declared.reply.Reply.TheVariants as reply
 use Rattle.lethe_stored.specs.Kept.{IsFor, certificates}
 use Rattle.lethe_stored.specs.Left.{without_failed}
-use Rattle.lethe_base.specs.Placed.{IsAccepted}
-use Rattle.lethe_base.specs.declared.pending.Pending.{Pending}
 use Rattle.lethe_stored.specs.Stored.{Stored, IsCoherent, layout_of}
 use Rattle.lethe_tick.specs.Certified.{IsCertificateAt}
 use Rattle.lethe_engine.specs.Stats.{IsStatOf}
@@ -129,14 +127,6 @@ pub record IsAhead (told : Told) (point clock to : ℕ) : Type 0 where
   pub is : clock ≡ (after (take point told.history)).clock
   pub ahead : to < clock
 
--- behind so many places the erase at a place was still to be done, and it is a threshold old at the time
-pub record IsLeftAt (told : Told) (point place to : ℕ) : Type 0 where
-  pub within : point ≤ length told.history
-  pub erase : Pending
-  pub accepted : IsAccepted (take point told.history) erase
-  pub place_is : erase.seq ≡ place
-  pub due : erase.time + told.course.config.threshold ≤ to
-
 -- The disk failed in the change at a place, and these are its counts of faults before and after.
 pub record IsFailedAt (told : Told) (place before after : ℕ) : Type 0 where
   pub change : Change
@@ -177,7 +167,6 @@ abbrev pub Answers : Told → ℕ → Act → Reply → Type 0
 Answers told caller act (Done place) = IsSomeAnd (change_of act) (IsDoneAt told.history caller place)
 Answers told caller act (reply.Ticked ticked) = (to : ℕ) × (act ≡ Tick to) × IsTickAt told caller to ticked
 Answers told caller act (Backwards point clock) = (to : ℕ) × (act ≡ Tick to) × IsAhead told point clock to
-Answers told caller act (Undone point erase) = (to : ℕ) × (act ≡ Tick to) × IsLeftAt told point erase to
 Answers told caller act (Got point held) = IsSomeAnd (read_of act) (λ read. IsAnswerAt told.history point read (answers.Found held))
 Answers told caller act (Scanned point pairs) = IsSomeAnd (read_of act) (λ read. IsAnswerAt told.history point read (listed pairs))
 Answers told caller act (Counted point stat) = (act ≡ Stat) × IsStatAt told point stat
@@ -203,7 +192,6 @@ abbrev pub place_of : Line → Option ℕ
 place_of (line.Answer caller (Done place)) = Some place
 place_of (line.Answer caller (reply.Ticked ticked)) = Some ticked.place
 place_of (line.Answer caller (Backwards point clock)) = None
-place_of (line.Answer caller (Undone point erase)) = None
 place_of (line.Answer caller (Got point held)) = None
 place_of (line.Answer caller (Scanned point pairs)) = None
 place_of (line.Answer caller (Counted point stat)) = None
@@ -218,7 +206,6 @@ abbrev pub ok_place : Line → Option ℕ
 ok_place (line.Answer caller (Done place)) = Some place
 ok_place (line.Answer caller (reply.Ticked ticked)) = Some ticked.place
 ok_place (line.Answer caller (Backwards point clock)) = None
-ok_place (line.Answer caller (Undone point erase)) = None
 ok_place (line.Answer caller (Got point held)) = None
 ok_place (line.Answer caller (Scanned point pairs)) = None
 ok_place (line.Answer caller (Counted point stat)) = None
@@ -242,7 +229,6 @@ abbrev pub shown_by : Reply → ℕ
 shown_by (Done place) = place
 shown_by (reply.Ticked ticked) = ticked.place
 shown_by (Backwards point clock) = 0
-shown_by (Undone point erase) = 0
 shown_by (Got point held) = point
 shown_by (Scanned point pairs) = point
 shown_by (Counted point stat) = point
@@ -257,7 +243,6 @@ abbrev pub IsBehind : ℕ → Reply → Type 0
 IsBehind seen (Done place) = seen < place
 IsBehind seen (reply.Ticked ticked) = seen < ticked.place
 IsBehind seen (Backwards point clock) = seen ≤ point
-IsBehind seen (Undone point erase) = seen ≤ point
 IsBehind seen (Got point held) = seen ≤ point
 IsBehind seen (Scanned point pairs) = seen ≤ point
 IsBehind seen (Counted point stat) = seen ≤ point
@@ -278,7 +263,6 @@ abbrev pub Follows : Course → ℕ → Reply → ℕ → Type 0
 Follows course n (Done place) m = (place ≡ suc n) × (m ≡ suc n)
 Follows course n (reply.Ticked ticked) m = (ticked.place ≡ suc n) × (m ≡ suc n)
 Follows course n (Backwards point clock) m = (point ≡ n) × (m ≡ n)
-Follows course n (Undone point erase) m = (point ≡ n) × (m ≡ n)
 Follows course n (Got point held) m = (point ≡ n) × (m ≡ n)
 Follows course n (Scanned point pairs) m = (point ≡ n) × (m ≡ n)
 Follows course n (Counted point stat) m = (point ≡ n) × (m ≡ n)
@@ -320,7 +304,6 @@ abbrev pub is_refusal : Line → Bool
 is_refusal (line.Answer caller (Done place)) = false
 is_refusal (line.Answer caller (reply.Ticked ticked)) = false
 is_refusal (line.Answer caller (Backwards point clock)) = false
-is_refusal (line.Answer caller (Undone point erase)) = true
 is_refusal (line.Answer caller (Got point held)) = false
 is_refusal (line.Answer caller (Scanned point pairs)) = false
 is_refusal (line.Answer caller (Counted point stat)) = false
@@ -332,21 +315,3 @@ is_refusal (line.Answer caller (Damaged page)) = true
 
 abbrev pub has_refusal : List (List Line) → Bool
 has_refusal lines = list_any (list_any is_refusal) lines
-
--- the same, but for a tick for which an erase was still to be done
-abbrev pub is_failure : Line → Bool
-is_failure (line.Answer caller (Done place)) = false
-is_failure (line.Answer caller (reply.Ticked ticked)) = false
-is_failure (line.Answer caller (Backwards point clock)) = false
-is_failure (line.Answer caller (Undone point erase)) = false
-is_failure (line.Answer caller (Got point held)) = false
-is_failure (line.Answer caller (Scanned point pairs)) = false
-is_failure (line.Answer caller (Counted point stat)) = false
-is_failure (line.Answer caller (Fault place before after)) = true
-is_failure (line.Answer caller (Stopped at)) = true
-is_failure (line.Answer caller (Exhausted last)) = true
-is_failure (line.Answer caller ReadFault) = true
-is_failure (line.Answer caller (Damaged page)) = true
-
-abbrev pub has_failure : List (List Line) → Bool
-has_failure lines = list_any (list_any is_failure) lines

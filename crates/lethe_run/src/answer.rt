@@ -91,7 +91,6 @@ fn ticked(answer: Result<Ticked, Refused>, point: u64) -> Result<Reply, NoMemory
     match answer {
         Ok(ticked) => Ok(Reply::Ticked(ticked)),
         Err(Refused::Backwards { clock }) => Ok(Reply::Backwards { point, clock }),
-        Err(Refused::Undone { erase }) => Ok(Reply::Undone { point, erase }),
         Err(why) => unmade(why),
     }
 }

@@ -67,9 +67,6 @@ fn push_reply(text: &mut Vec<u8>, alloc: Global, reply: &Reply) -> Result<(), No
         Reply::Backwards { clock, .. } => {
             text.extend_from_slice(format!(in alloc; "backwards {clock}")?.as_bytes())?;
         }
-        Reply::Undone { erase, .. } => {
-            text.extend_from_slice(format!(in alloc; "undone {erase}")?.as_bytes())?;
-        }
         Reply::Got { point, held: None } => {
             text.extend_from_slice(format!(in alloc; "at {point} none")?.as_bytes())?;
         }

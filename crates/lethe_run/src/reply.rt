@@ -46,11 +46,6 @@ pub(crate) enum Reply {
         point: u64,
         clock: u64,
     },
-    /// A tick isn't made, since behind `point` places the erase at this place, which is a threshold old at its time, is still to be done.
-    Undone {
-        point: u64,
-        erase: u64,
-    },
     /// A read isn't answered, or a change isn't made, since a fetch of a page failed.
     ReadFault,
     /// A read isn't answered, or a change isn't made, since the page of this number is damaged.

@@ -126,7 +126,6 @@ fn is_refusal(line: &Line) -> bool
         Reply::Fault { .. }
         | Reply::Stopped { .. }
         | Reply::Exhausted { .. }
-        | Reply::Undone { .. }
         | Reply::ReadFault
         | Reply::Damaged { .. } => true,
     }

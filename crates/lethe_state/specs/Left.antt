@@ -1,11 +1,11 @@
 -- The erases that are still to be done, and those that a manifest keeps, by what is remembered.
-use Rattle.std.specs.Prelude.{◌≡◌, ◌≤◌, ℕ, ◌+◌, Any, List, map, Option}
+use Rattle.std.specs.Prelude.{◌≡◌, ℕ, List, map, Option}
 use Rattle.lethe_base.specs.Shapes.{earlier}
-use Rattle.lethe_base.specs.Spent.{least, left_erases}
+use Rattle.lethe_base.specs.Spent.{least}
 use Rattle.lethe_base.specs.declared.pending.Pending.{Pending}
 use Rattle.lethe_manifest.specs.declared.manifest.Cited.{Cited}
 use Rattle.lethe_manifest.specs.declared.manifest.Manifest.{Manifest}
-use Rattle.lethe_stored.specs.Stored.{Stored, IsCoherent, layout_of, pending_of}
+use Rattle.lethe_stored.specs.Stored.{Stored, IsCoherent, pending_of}
 use Rattle.lethe_follows.specs.Leaving.{kept_of}
 use Rattle.lethe_state.specs.Room.{under}
 use Rattle.lethe_state.specs.declared.state.State.{State}
@@ -33,7 +33,3 @@ pub record HasOtherFiles (s t : Stored) : Type 0 where
   pub frozen : t.frozen ≡ s.frozen
   pub active : t.active ≡ s.active
   pub pending : pending_of t ≡ pending_of s
-
--- an erase of that place is still to be done, and is a threshold old at the time
-abbrev pub IsLeftOverdue : Stored → ℕ → ℕ → Type 0
-IsLeftOverdue s to place = Any (λ erase. (erase.seq ≡ place) × (erase.time + s.manifest.config.threshold ≤ to)) (left_erases (layout_of s))

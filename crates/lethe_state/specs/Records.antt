@@ -10,7 +10,7 @@ use Rattle.lethe_base.specs.declared.entry.Body.TheVariants.{Put, Tomb}
 use Rattle.lethe_base.specs.declared.entry.Entry.{Entry}
 use Rattle.lethe_base.specs.declared.pending.Pending.{Pending}
 use Rattle.lethe_base.specs.declared.refused.Refused.{Refused}
-use Rattle.lethe_base.specs.declared.refused.Refused.TheVariants.{Fault, Stopped, Backwards, Pinned, NothingDue, Cancelled, Exhausted, ReadFault, NoMemory, Damaged, Undone}
+use Rattle.lethe_base.specs.declared.refused.Refused.TheVariants.{Fault, Stopped, Backwards, Pinned, NothingDue, Cancelled, Exhausted, ReadFault, NoMemory, Damaged}
 use Rattle.lethe_header.specs.declared.header.Header.{Header}
 use Rattle.lethe_mem.specs.Buffered.{Buffered}
 use Rattle.lethe_segment.specs.declared.record.Record.{Record}
@@ -34,7 +34,6 @@ MayRefuse state (Cancelled begun now) = ⊥
 MayRefuse state (ReadFault before after) = ⊥
 MayRefuse state NoMemory = ⊥
 MayRefuse state (Damaged name) = ⊥
-MayRefuse state (Undone erase) = ⊥
 
 -- the time of the entry of a key
 abbrev pub since_of : Bytes → List Entry → Option ℕ

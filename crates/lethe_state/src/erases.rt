@@ -1,12 +1,11 @@
 //! The erases that are still to be done, and those that a manifest keeps.
 ghost use Rattle.std.specs.Prelude as prelude;
-ghost use Rattle.std.specs.Prelude.{◌≡◌, IfOk, MatchOption, length, map};
+ghost use Rattle.std.specs.Prelude.{◌≡◌, IfOk, length, map};
 ghost use Rattle.lethe_base.specs.Spent.{done_upto, is_above, least, left_erases};
 ghost use Rattle.lethe_stored.specs.Files.{Parts};
 ghost use Rattle.lethe_stored.specs.Stored.{Stored, layout_of};
 ghost use Rattle.lethe_follows.specs.Leaving.{is_kept, kept_erases};
-ghost use Rattle.lethe_follows.specs.Young.{AreLeftYoung};
-ghost use Rattle.lethe_state.specs.Left.{HasOtherFiles, IsLeftOverdue, done_with, first_recorded, kept_with};
+ghost use Rattle.lethe_state.specs.Left.{HasOtherFiles, done_with, first_recorded, kept_with};
 ghost use Rattle.lethe_state.specs.Remembered.{Remembers};
 ghost use Rattle.lethe_state.specs.Writable.{IsWritable};
 
@@ -56,18 +55,6 @@ impl State {
             .iter()
             .filter(|erase| is_above(done, erase.seq));
         left.count() as u64
-    }
-
-    /// The place of the first erase still to be done that is a threshold old at a time.
-    pub fn overdue_erase(&self, to: u64) -> Option<u64>
-        requires { IsWritable self.now }
-        ensures { (s : Stored) (levels : prelude.List (prelude.List Parts)) → Remembers s self.now levels → MatchOption result (AreLeftYoung s to) (IsLeftOverdue s to) }
-    {
-        let past = to.checked_sub(self.manifest.config.fields().threshold)?;
-        self.left_erases()
-            .iter()
-            .find(|erase| erase.time <= past)
-            .map(|erase| erase.seq)
     }
 
     /// The pending erases that a manifest which cites these files keeps: those that are done leave it, up to the first that a segment records.

@@ -2,7 +2,7 @@
 use Rattle.std.proofs.Common.{◌≡◌, ◌≢◌, ◌<◌, ◌≤◌, inl, inr, ℕ, List, [], ◌∷◌, length, Result, Ok, Err, None, refl, sym, ap, subst, arith}
 use Rattle.std.specs.Prelude.{IfErr, sum_by}
 use Rattle.lethe_base.specs.declared.refused.Refused.{Refused}
-use Rattle.lethe_base.specs.declared.refused.Refused.TheVariants.{Fault, Stopped, Backwards, Pinned, NothingDue, Cancelled, Exhausted, ReadFault, NoMemory, Damaged, Undone}
+use Rattle.lethe_base.specs.declared.refused.Refused.TheVariants.{Fault, Stopped, Backwards, Pinned, NothingDue, Cancelled, Exhausted, ReadFault, NoMemory, Damaged}
 use Rattle.lethe_build.specs.Drafts.{AreDraftsOf}
 use Rattle.lethe_build.specs.declared.draft.Draft.{Draft}
 use Rattle.lethe_build.specs.Built.{most_numbers}
@@ -48,7 +48,6 @@ reason_told Short Other state before now NoMemory wider is = is
 reason_told Short Other state before now (Backwards clock) wider is = is
 reason_told Short Other state before now (Pinned pin limit) wider is = is
 reason_told Short Other state before now NothingDue wider is = is
-reason_told Short Other state before now (Undone erase) wider is = is
 reason_told Short Other state before now (Cancelled begun other) wider is = is
 reason_told Short Other state before now (ReadFault b a) wider is = is
 reason_told Short Other state before now (Damaged name) wider is = is

@@ -2,4 +2,3 @@ pub mod Buffers
 pub mod Moving
 pub mod Ripe
 pub mod Last
-pub mod Undone

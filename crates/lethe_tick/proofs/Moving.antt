@@ -1,11 +1,13 @@
 -- The clock moves: where no job is in flight what is stored next is held, and stands for the history with the tick.
-use Rattle.std.proofs.Common.{◌≡◌, ◌≤◌, ◌<◌, ◌+◌, ◌⊎◌, inl, inr, ℕ, List, [], ◌++◌, length, All, Some, None, refl, sym, ap, ◌∙◌, subst, arith}
+use Rattle.std.proofs.Common.{◌≡◌, ◌≤◌, ◌<◌, ◌+◌, ◌⊎◌, inl, inr, ℕ, List, [], ◌++◌, length, All, Contains, Some, None, refl, sym, ap, ◌∙◌, subst, arith}
 use Rattle.std.specs.Prelude.{IfSome}
 use Rattle.lethe_base.specs.History.{History, after}
 use Rattle.lethe_base.specs.Limits.{max_place}
+use Rattle.lethe_base.specs.Spent.{done_upto}
 use Rattle.lethe_base.specs.declared.call.Call.TheVariants.{Tick}
 use Rattle.lethe_base.specs.declared.config.Fields.{Fields}
 use Rattle.lethe_base.specs.declared.name.Name.{Name}
+use Rattle.lethe_base.specs.declared.pending.Pending.{Pending}
 use Rattle.lethe_base.specs.declared.refused.Refused.{Refused}
 use Rattle.lethe_base.specs.declared.refused.Refused.TheVariants.{Fault, NoMemory}
 use Rattle.lethe_advance.specs.Settled.{AreDrawn, AreUncited, HasOnly, IsSettled, names_in}
@@ -19,9 +21,11 @@ use Rattle.lethe_clean.specs.Copied.{IsCopied}
 use Rattle.lethe_commit.specs.Append.{EndsAt}
 use Rattle.lethe_cover.specs.Steps.{with_done}
 use Rattle.lethe_disk.specs.Disk.{Image}
-use Rattle.lethe_follows.proofs.Ticking.{ticked_for}
-use Rattle.lethe_follows.specs.Leaving.{let_go}
+use Rattle.lethe_follows.proofs.Behind.{later_others}
+use Rattle.lethe_follows.proofs.Ticking.{kept_clocked, ticked_for}
+use Rattle.lethe_follows.specs.Leaving.{first_erase, is_kept, let_go}
 use Rattle.lethe_follows.specs.Ticked.{ticked}
+use Rattle.lethe_follows.specs.Young.{AreLaterRecorded}
 use Rattle.lethe_manifest.specs.declared.manifest.Manifest.{Manifest}
 use Rattle.lethe_moves.specs.Due.{HasNothingDue}
 use Rattle.lethe_state.proofs.TickStep.{tick_remembered}
@@ -31,13 +35,14 @@ use Rattle.lethe_state.specs.Room.{IsStepFrom}
 use Rattle.lethe_state.specs.Ticking.{moved}
 use Rattle.lethe_state.specs.Writable.{IsWritable, segments_for}
 use Rattle.lethe_state.specs.declared.state.State.{State}
+use Rattle.lethe_stored.proofs.Leveled.{from_filter}
 use Rattle.lethe_stored.proofs.Numbers.{goes_from_weaker}
 use Rattle.lethe_stored.specs.Files.{Parts}
 use Rattle.lethe_stored.specs.Kept.{IsFor, IsKept}
 use Rattle.lethe_stored.specs.Left.{IsKeptOr}
 use Rattle.lethe_stored.specs.Levels.{HasFiles}
 use Rattle.lethe_stored.specs.Numbers.{GoesFrom}
-use Rattle.lethe_stored.specs.Stored.{Stored, layout_of, segment_name}
+use Rattle.lethe_stored.specs.Stored.{Stored, layout_of, pending_of, segment_name}
 use Rattle.lethe_core.specs.Asked.{Makes, behind, done_by, written_by}
 use Rattle.lethe_core.specs.Keeps.{MayStep}
 use Rattle.lethe_core.specs.Running.{Holds, IsFlying, IsRunning, IsSmall, IsSound, IsTasked}
@@ -68,6 +73,12 @@ module _ (Tells : Type 0) (old : View) (before to : ℕ) (may : MayStep Tells ol
     → IsStep s loose (ticked s to old.state.next) loose [] step) where
   abbrev t : Stored → Stored
   t s = ticked s to old.state.next
+
+  -- the erases of the next manifest were pending
+  ticked_recorded : (s : Stored) → AreLaterRecorded s → AreLaterRecorded (t s)
+  ticked_recorded s recorded = later_others s (t s) recorded refl refl
+      (λ erase there. (from_filter (λ (e : Pending). is_kept (done_upto (layout_of s)) (first_erase s) e.seq) (pending_of s) erase
+      (subst (λ erases. Contains erases erase) (kept_clocked s to old.state.next) there)).0)
 
   pub tick_is : (s : Stored) → Holds old s → IsStep s (beside_in old) (t s) (beside_in old) headers step
   tick_is s holds = subst (λ headers. IsStep s (beside_in old) (t s) (beside_in old) headers step) (sym none)
@@ -204,4 +215,4 @@ module _ (Tells : Type 0) (old : View) (before to : ℕ) (may : MayStep Tells ol
         let for = then_for config h stands forward due caller in
         let holds = held told stands.stored (stands_holds config h old stands may.runs) in
         open_stands config (with_done h caller (Tick to)) new (t stands.stored) for.legal for.done (holds.running.current.count ∙ for.count) stands.config_is for holds
-        (subst (λ flight. IfSome flight (λ (flying : Flying). IsCounted flying.task)) (sym flight) stands.counted)
+        (subst (λ flight. IfSome flight (λ (flying : Flying). IsCounted flying.task)) (sym flight) stands.counted) (ticked_recorded stands.stored stands.recorded)

@@ -8,10 +8,12 @@ use Rattle.lethe_base.specs.declared.refused.Refused.{Refused}
 use Rattle.lethe_base.specs.declared.refused.Refused.TheVariants.{Fault, Stopped, Exhausted, NoMemory}
 use Rattle.lethe_fade.specs.Expired.{is_passed}
 use Rattle.lethe_fade.specs.declared.plan.Plan.{Plan}
-use Rattle.lethe_follows.proofs.Expired.{nothing_due}
+use Rattle.lethe_follows.proofs.NothingDue.{nothing_due}
 use Rattle.lethe_follows.proofs.Young.{young_by}
 use Rattle.lethe_follows.specs.Leaving.{let_go}
-use Rattle.lethe_follows.specs.Young.{AreLeftYoung, AreYoung, oldest_in}
+use Rattle.lethe_follows.specs.Young.{AreLaterRecorded, AreYoung, oldest_in}
+use Rattle.lethe_install.specs.Outcomes.{IsInstalled}
+use Rattle.lethe_job.specs.Works.{Merges, PlainTask, Sweeps}
 use Rattle.lethe_manifest.specs.declared.manifest.Manifest.{Manifest}
 use Rattle.lethe_moves.specs.Due.{HasNothingDue}
 use Rattle.lethe_state.specs.Room.{IsUnfrozen}
@@ -65,14 +67,19 @@ module _ (to : ℕ) where
   ripened_young s t (inl young) = subst (λ x. AreYoung x to) (sym young.1) young.0
   ripened_young s t (inr old) = flushed_young s t old.1
 
-  -- merges change no segment
+  -- merges and sweeps change no segment
+  installed_young : (s : Stored) (task : PlainTask) (t : Stored) → IsInstalled s task t → AreYoung s to → AreYoung t to
+  installed_young s (Merges task) t is young =
+      let merged = is.merged_is in same_young s t merged.active merged.frozen (ap (λ (m : Manifest). m.config) merged.manifest) young
+  installed_young s (Sweeps task) t is young =
+      let swept = is.swept_is in same_young s t swept.active swept.frozen (ap (λ (m : Manifest). m.config) swept.manifest) young
+
   pub outcomes_young : (chosen : Stored → Option Plan) (s : Stored) (outcomes : List Outcome) (t : Stored) → AreOutcomesBy chosen s outcomes t → AreYoung s to → AreYoung t to
   outcomes_young chosen s [] t are young = subst (λ x. AreYoung x to) (sym are.1) young
   outcomes_young chosen s (outcome ∷ more) t are young =
-      let is = are.0.merged_is in
-      outcomes_young chosen outcome.to more t are.1 (same_young s outcome.to is.active is.frozen (ap (λ (m : Manifest). m.config) is.manifest) young)
+      outcomes_young chosen outcome.to more t are.1 (installed_young s outcome.task outcome.to are.0.installed young)
 
--- Merges until none is chosen
+-- Merges and sweeps until none is chosen
 
 pub none_more : (chosen : Stored → Option Plan) (s : Stored) (outcomes : List Outcome) (t : Stored) → AreOutcomesBy chosen s outcomes t → HasNoMergeBy chosen t
 none_more chosen s [] t are = subst (HasNoMergeBy chosen) (sym are.1) are.0
@@ -98,16 +105,16 @@ module _ (Tells : Type 0) (old new : View) (before to : ℕ) (may : MayStep Tell
       let same : old.state.manifest.clock ≡ stands.stored.manifest.clock = ap (λ (m : Manifest). m.clock) stands.remembers.manifest in
       omega (arith, clock, same, forward)
 
-  pub due_nothing : (left : Tells → (s : Stored) → Holds new s → AreLeftYoung s to) → HasNothingDue stands_then.stored.manifest.config to (layout_of (let_go stands_then.stored))
-  due_nothing left =
+  pub due_nothing : HasNothingDue stands_then.stored.manifest.config to (layout_of (let_go stands_then.stored))
+  due_nothing =
       let runs = keeps.stopped ∙ may.runs in
       let is = done told stands.stored (stands_holds config h old stands may.runs) in
       let ripe = is.0 in
       let t = is.1 in
       let same = one_held new t stands_then.stored is.5 (stands_holds config h new stands_then runs) in
       subst (λ (x : Stored). HasNothingDue x.manifest.config to (layout_of (let_go x))) same
-      (nothing_due h t is.5.remembers.coherent (subst (IsFor h) (sym same) (stands_for config h new stands_then runs)) to (none_more (due_choice to) ripe is.2 t is.4)
-      (outcomes_young to (due_choice to) ripe is.2 t is.4 (ripened_young to stands.stored ripe is.3)) (left told t is.5))
+      (nothing_due h t is.5.remembers.coherent (subst (IsFor h) (sym same) (stands_for config h new stands_then runs)) (subst AreLaterRecorded (sym same) stands_then.recorded) to
+      (none_more (due_choice to) ripe is.2 t is.4) (outcomes_young to (due_choice to) ripe is.2 t is.4 (ripened_young to stands.stored ripe is.3)))
 
 -- A refusal
 

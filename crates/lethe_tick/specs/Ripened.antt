@@ -1,13 +1,9 @@
 -- What a tick does before the clock moves.
-use Rattle.std.specs.Prelude.{◌≡◌, ◌≢◌, ◌⊎◌, ℕ, List, [], None}
-use Rattle.lethe_base.specs.declared.refused.Refused.{Refused}
-use Rattle.lethe_base.specs.declared.refused.Refused.TheVariants.{Undone}
+use Rattle.std.specs.Prelude.{◌≡◌, ◌≢◌, ◌⊎◌, ℕ, List, []}
 use Rattle.lethe_follows.specs.Young.{AreYoung}
 use Rattle.lethe_stored.specs.Stored.{Stored}
-use Rattle.lethe_state.specs.Left.{IsLeftOverdue}
 use Rattle.lethe_state.specs.Room.{IsFrozen, IsShortToFlush, IsShortToFreeze, IsUnfrozen}
 use Rattle.lethe_core.specs.Merges.{AreSomeOutcomesBy, IsShortToMergeBy, Outcome, due_choice}
-use Rattle.lethe_core.specs.Running.{Holds}
 use Rattle.lethe_core.specs.View.{View}
 
 -- the active segment was frozen where it has a record
@@ -38,11 +34,6 @@ IsRipenedInPart to s t = (t ≡ s) ⊎ ((AreYoung s to → ⊥) × AreFlushedInP
 abbrev pub IsTickedInPart : ℕ → Stored → Stored → Type 0
 IsTickedInPart to s t = IsRipenedInPart to s t ⊎ ((ripe : Stored) × (outcomes : List Outcome) × IsRipened to s ripe × AreSomeOutcomesBy (due_choice to) ripe outcomes t)
 
--- the numbers that one of its steps draws can't be drawn: those of a flush, of a freeze or a manifest, or of a merge that is due
+-- the numbers that one of its steps draws can't be drawn: those of a flush, of a freeze or a manifest, or of a merge or a sweep that is due
 abbrev pub IsShortToTick : Type 0 → ℕ → View → Type 0
 IsShortToTick Tells to view = IsShortToFlush view.state ⊎ IsShortToFreeze view.state ⊎ IsShortToMergeBy (due_choice to) Tells view
-
--- An erase that is still to be done is a threshold old at the time: the merges that were due didn't do it.
-abbrev pub IsLeftUndone : Type 0 → ℕ → View → Refused → Type 0
-IsLeftUndone Tells to view why =
-    (erase : ℕ) × (why ≡ Undone erase) × (view.state.stopped ≡ None) × (Tells → (s : Stored) → Holds view s → IsLeftOverdue s to erase)

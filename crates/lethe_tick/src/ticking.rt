@@ -8,7 +8,6 @@ ghost use Rattle.lethe_base.specs.declared.config.Fields.{Fields};
 ghost use Rattle.lethe_base.specs.declared.name.Name.{Name};
 ghost use Rattle.lethe_base.specs.declared.refused.Refused.TheVariants as refused;
 ghost use Rattle.lethe_follows.specs.Ticked.{ticked};
-ghost use Rattle.lethe_follows.specs.Young.{AreLeftYoung};
 ghost use Rattle.lethe_stored.specs.Left.{IsKeptOr};
 ghost use Rattle.lethe_stored.specs.Numbers.{GoesFrom};
 ghost use Rattle.lethe_stored.specs.Stored.{Stored};
@@ -22,7 +21,7 @@ ghost use Rattle.lethe_core.specs.Steps.{IsDoneInPart};
 ghost use Rattle.lethe_core.specs.View.{view_of};
 ghost use Rattle.lethe_tick.specs.Certified.{IsCertificateAt, certificate_of};
 ghost use Rattle.lethe_tick.specs.Last.{HasLastStep};
-ghost use Rattle.lethe_tick.specs.Ripened.{IsLeftUndone, IsRipened, IsShortToTick, IsTickedInPart};
+ghost use Rattle.lethe_tick.specs.Ripened.{IsRipened, IsShortToTick, IsTickedInPart};
 
 use crate::clock::move_clock;
 use crate::ripening::ripen_buffers;
@@ -33,13 +32,13 @@ use lethe_disk::Disk;
 use std::alloc::Global;
 
 /// Carries out a tick to a time that isn't behind the clock. The job in flight is given up. Where a record of a segment is as old at that time as level 0 may have it, both
-/// buffers are flushed. The merges that are due then are carried out, one after another until none is, and their inputs are read through the port. Then the clock moves,
-/// the erases that are done leave, and where the time is at least the threshold the certificate is added, which is answered. `before` is the count of faults from which a failure is told.
+/// buffers are flushed. The merges and sweeps that are due then are carried out, one after another until none is: each page of a merge's inputs is fetched once through the
+/// port, and of a swept file those that its header tells. Then the clock moves, the erases that are done leave, and where the time is at least the threshold the certificate
+/// is added, which is answered. `before` is the count of faults from which a failure is told.
 ///
 /// # Errors
 ///
-/// `Exhausted` where numbers have run out, `NoMemory`, `Fault`, which stops the store, `ReadFault`, `Undone` where an erase that the merges didn't do is a threshold old at
-/// that time, and on a disk that tells nothing `Damaged`. What was done before stays.
+/// `Exhausted` where numbers have run out, `NoMemory`, `Fault`, which stops the store, `ReadFault`, and on a disk that tells nothing `Damaged`. What was done before stays.
 pub fn tick<D: Disk>(
     core: &mut Core<D>,
     certificates: &mut Vec<Certificate>,
@@ -63,13 +62,13 @@ pub fn tick<D: Disk>(
     ensures last_step { D.tells → (config : Fields) (h : History) → (stands : StandsNow config h (view_of core.old))
         → OnOk result ((ripe t : Stored) × (outcomes : List Outcome) × IsRipened to stands.stored ripe × AreOutcomesBy (due_choice to) ripe outcomes t × HasLastStep config h t (D.seen core.old.disk) (D.seen core.new.disk)) }
 
-    // Acknowledged: the buffers were flushed where they had to be, then exactly the merges that were due were carried out, and the clock moved.
+    // Acknowledged: the buffers were flushed where they had to be, then exactly the merges and sweeps that were due were carried out, and the clock moved.
     ensures done { D.tells → (s : Stored) → Holds (view_of core.old) s
         → OnOk result ((ripe t : Stored) × (outcomes : List Outcome) × (number : ℕ) × IsRipened to s ripe × AreOutcomesBy (due_choice to) ripe outcomes t
         × Holds (view_of core.new) (ticked t to number) × (D.fetches port.new ≡ D.fetches port.old + pages_of outcomes) × ((view_of core.new).retired ≡ retired_behind outcomes (view_of core.old).retired)) }
     ensures partly { IfErr result (IsDoneInPart D.tells (IsTickedInPart to) (view_of core.old) (view_of core.new)) }
     ensures why { IfErr result (λ why. HasReason (IsShortToTick D.tells to (view_of core.new)) core.old.state before (D.faults core.new.disk) why
-        ⊎ IsUnreadable D.tells D.ports_fail (D.port_faults port.old) (D.port_faults port.new) why ⊎ IsLeftUndone D.tells to (view_of core.new) why) }
+        ⊎ IsUnreadable D.tells D.ports_fail (D.port_faults port.old) (D.port_faults port.new) why) }
     ensures numbers { D.tells → core.new.state.next + (D.seen core.old.disk).moment ≤ core.old.state.next + (D.seen core.new.disk).moment }
     ensures faults { D.faults core.old.disk ≤ D.faults core.new.disk }
     ensures free { core.new.flight ≡ None }
@@ -87,7 +86,7 @@ pub fn tick<D: Disk>(
     move_clock(core, certificates, alloc, before, to)
 }
 
-/// Does all that a tick to this time does before the clock moves. It is refused where an erase that is still to be done then is a threshold old at that time.
+/// Does all that a tick to this time does before the clock moves: no job is due behind it.
 fn ripen_store<D: Disk>(
     core: &mut Core<D>,
     alloc: Global,
@@ -102,8 +101,7 @@ fn ripen_store<D: Disk>(
         → OnOk result ((ripe t : Stored) × (outcomes : List Outcome) × IsRipened to s ripe × AreOutcomesBy (due_choice to) ripe outcomes t × Holds (view_of core.new) t
         × (D.fetches port.new ≡ D.fetches port.old + pages_of outcomes) × ((view_of core.new).retired ≡ retired_behind outcomes (view_of core.old).retired)) }
     ensures why { IfErr result (λ why. HasReason (IsShortToTick D.tells to (view_of core.new)) core.old.state before (D.faults core.new.disk) why
-        ⊎ IsUnreadable D.tells D.ports_fail (D.port_faults port.old) (D.port_faults port.new) why ⊎ IsLeftUndone D.tells to (view_of core.new) why) }
-    ensures young { D.tells → (s : Stored) → Holds (view_of core.new) s → OnOk result (AreLeftYoung s to) }
+        ⊎ IsUnreadable D.tells D.ports_fail (D.port_faults port.old) (D.port_faults port.new) why) }
     ensures free { core.new.flight ≡ None }
     ensures begun { core.new.begun ≡ core.old.begun }
     ensures port_faults { D.port_faults port.old ≤ D.port_faults port.new }
@@ -112,19 +110,5 @@ fn ripen_store<D: Disk>(
 {
     core.cancel_now(before)?;
     ripen_buffers(core, alloc, before, to)?;
-    core.ripen(alloc, port, before, to)?;
-    refuse_undone(core, to)
-}
-
-/// Refuses a time at which an erase that is still to be done is a threshold old.
-fn refuse_undone<D: Disk>(core: &Core<D>, to: u64) -> Result<(), Refused>
-    requires sound { IsSound D.tells (view_of core.now) }
-    requires runs { core.now.state.stopped ≡ None }
-    ensures young { D.tells → (s : Stored) → Holds (view_of core.now) s → OnOk result (AreLeftYoung s to) }
-    ensures undone { IfErr result (IsLeftUndone D.tells to (view_of core.now)) }
-{
-    match core.state.overdue_erase(to) {
-        Some(erase) => Err(Refused::Undone { erase }),
-        None => Ok(()),
-    }
+    core.ripen(alloc, port, before, to)
 }

@@ -3,7 +3,7 @@ use Rattle.lethe_base.specs.History.{History}
 use Rattle.lethe_base.specs.declared.call.Call.TheVariants.{Work}
 use Rattle.lethe_base.specs.declared.refused.Refused.TheVariants.{NothingDue, Stopped}
 use Rattle.lethe_advance.specs.Shown.{parts_by_level}
-use Rattle.lethe_job.specs.Tasks.{plain_task}
+use Rattle.lethe_job.specs.Works.{plain_task}
 use Rattle.lethe_core.specs.View.{Face, flying_of, view_of}
 use Rattle.lethe_core.proofs.Asked.{refused_none}
 use Rattle.lethe_engine.specs.StandsFor.{StandsSince}

@@ -59,7 +59,7 @@ returns-in_ok-write_out-in-Some-clause-fewer g c = λ done.
     let is : next ≡ Some c.in-Some.piece = cc in
     let asked = c.in_ok-piece.ensures in
     fewer_left g.D.Disk.tells g.D.Disk.ports_fail c.args.job.now mid c.next_piece.ensures.task c.next_piece.ensures.number c.next_piece.ensures.written c.next_piece.ensures.kept c.next_piece.ensures.job c.write_out.new.job asked.made
-    (left_of mid.drafts next c.in-Some.piece c.args.job.now.written is asked.left) c.write_out.ensures.same.0 c.in_ok-write_out-in-Some.ensures.written
+    (left_of mid.made next c.in-Some.piece c.args.job.now.written is asked.left) c.write_out.ensures.same.0 c.in_ok-write_out-in-Some.ensures.written
 
 pub returns-in_ok-write_out-in-Some-clause-step : goal.returns-in_ok-write_out-in-Some-clause-step
 returns-in_ok-write_out-in-Some-clause-step g c = λ told config opened h stands s known number fetches faults begun.
@@ -76,7 +76,7 @@ returns-in_ok-write_out-in-Some-clause-step g c = λ told config opened h stands
       written.answers.stands told config opened h stands 0,
       page_written g.D.Disk.tells g.D.Disk.ports_fail h old s number fetches faults begun c.args.job.now mid c.next_piece.ensures.task c.next_piece.ensures.round told (c.requires.reads told) c.requires.works
           c.next_piece.ensures.written asked.made c.next_piece.ensures.job new c.write_out.new.job (λ i. (c.write_out.ensures.same.1 i).value) c.write_out.ensures.same.4 written.works.asked written.written
-          (left_of mid.drafts next c.in-Some.piece c.args.job.now.written is asked.left) written.answers.face_is (written.page told),
+          (left_of mid.made next c.in-Some.piece c.args.job.now.written is asked.left) written.answers.face_is (written.page told),
     )
 
 -- none is left
@@ -97,5 +97,5 @@ returns-in-None-clause-step g c = λ told config opened h stands s known number 
       known,
       stands,
       no_page g.D.Disk.tells g.D.Disk.ports_fail h old s number fetches faults begun c.args.job.now mid c.next_piece.ensures.task c.next_piece.ensures.round told (c.requires.reads told) c.requires.works c.next_piece.ensures.written asked.made
-          c.next_piece.ensures.job asked.ok (none_left mid.drafts next c.args.job.now.written is asked.left),
+          c.next_piece.ensures.job asked.ok (none_left mid.made next c.args.job.now.written is asked.left),
     )

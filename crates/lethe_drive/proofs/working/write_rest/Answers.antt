@@ -1,5 +1,6 @@
 use Rattle.std.proofs.Common.{rules, ◌≡◌, inl, inr, true, false, Ok, Err, refl, sym, ap, ◌∙◌, subst, arith}
-use Rattle.lethe_job.specs.Tasks.{AreSound, PlainTask, inputs_in, plain_task}
+use Rattle.lethe_job.specs.Tasks.{AreSound}
+use Rattle.lethe_job.specs.Works.{PlainTask, inputs_in, plain_task}
 use Rattle.lethe_core.specs.View.{view_of}
 use Rattle.lethe_drive.proofs.Resting.{Comes, Turns, all_written, rests_first, rests_on, turn_refused}
 use Rattle.lethe_drive.proofs.working.write_rest.Goals as goal

@@ -16,7 +16,7 @@ invariant-loop g l = record {
   round : l.job.round ≡ l.fn.job.round;
   rounds : l.engine.core.begun.rounds ≡ l.fn.engine.core.begun.rounds;
   faults : g.D.Disk.faults l.fn.engine.core.disk ≤ g.D.Disk.faults l.engine.core.disk;
-  port : (l.job.port ≡ l.fn.job.port) ⊎ IsSome l.job.drafts;
+  port : (l.job.port ≡ l.fn.job.port) ⊎ IsSome l.job.made;
   rests : Rests g.D.Disk.tells (view_of l.fn.engine.core) (view_of l.engine.core);
 }
 

@@ -1,4 +1,4 @@
-use Rattle.lethe_fade.proofs.Expiring.{due_is_first}
+use Rattle.lethe_fade.proofs.DueFirst.{due_is_first}
 use Rattle.lethe_fade.proofs.laws.due_is_first.Goals as goal
 
 pub returns : goal.returns

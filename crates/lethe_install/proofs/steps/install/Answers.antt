@@ -6,7 +6,7 @@ use Rattle.lethe_flush.proofs.Results.{ok_both, ok_weaker}
 use Rattle.lethe_advance.specs.Settled.{AreDrawn}
 use Rattle.lethe_advance.specs.Shown.{parts_by_level}
 use Rattle.lethe_advance.specs.declared.new_header.NewHeader.{NewHeader}
-use Rattle.lethe_job.specs.Tasks.{plain_task}
+use Rattle.lethe_job.specs.Tasks.{plain_merge}
 use Rattle.lethe_install.proofs.InstallStep.{install_steps}
 use Rattle.lethe_install.proofs.Between.{install_from}
 use Rattle.lethe_install.proofs.Named.{drawn_behind}
@@ -49,5 +49,5 @@ returns-clause-installs g c = λ s m beside is current rising begun named uncite
     let next = c.in_ok-made.ensures.next in
     let found = c.in_ok-inputs.ensures.stored s is.coherent (sym (ap (λ (m : Manifest). m.files) is.manifest) ∙ sym (c.items-cited.ensures ∙ ap (λ (m : Manifest). m.files) c.manifest.ensures)) is.files in
     ok_both c.step_of.result _ _ _ c.step_of.ensures (returns-clause-step g c) (λ made stepped from.
-    install_steps s m c.args.state.now (parts_by_level c.args.version.now) (plain_task c.args.task.now) is current c.requires.writable begun c.args.pages.retired.now c.args.pages.written.now c.args.drafts.items
+    install_steps s m c.args.state.now (parts_by_level c.args.version.now) (plain_merge c.args.task.now) is current c.requires.writable begun c.args.pages.retired.now c.args.pages.written.now c.args.drafts.items
     c.requires.drawn c.requires.some beside named uncited of c.in_ok-made.made (omega (arith, next, c.next.ensures)) files.0 files.1 c.in_ok-inputs.inputs c.in_ok-inputs.ensures.numbers found c.args.pages.needed.now made stepped from.spelled)

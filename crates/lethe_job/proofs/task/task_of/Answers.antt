@@ -1,35 +1,57 @@
-use Rattle.std.proofs.Common.{◌≡◌, ◌<◌, ◌≤◌, map}
-use Rattle.std.proofs.lemmas.Result.{IfOk-weaker}
-use Rattle.lethe_job.specs.Chosen.{task_in}
-use Rattle.lethe_job.specs.Tasks.{IsPlanned, counted_in, inputs_in, plain_file, plain_task}
-use Rattle.lethe_job.proofs.Next.{level_small, planned, some_source, task_low, task_some}
+use Rattle.std.proofs.Common.{◌≤◌, leb, map, sym, subst}
+use Rattle.std.specs.Prelude.{All}
+use Rattle.std.proofs.lemmas.List.Elements.{All-filter}
+use Rattle.lethe_base.specs.Limits.{max_place, max_time}
+use Rattle.lethe_base.specs.declared.config.Fields.{Fields}
+use Rattle.lethe_base.specs.declared.pending.Pending.{Pending}
+use Rattle.lethe_sweep_task.specs.Outcome.{plain_sweep}
+use Rattle.lethe_job.specs.Tasks.{plain_file}
+use Rattle.lethe_job.specs.Works.{IsPlanIn}
+use Rattle.lethe_job.proofs.SweepPlanned.{found_sweep, sweep_counted, sweep_low, sweep_planned, sweep_times, sweep_upto}
 use Rattle.lethe_job.proofs.task.task_of.Goals as goal
 
-pub task_in-requires-clause-level : goal.task_in-requires-clause-level
-task_in-requires-clause-level g c κs within =
-    level_small c.args.files.now c.args.config.now c.args.erases.now c.args.count c.fields.ensures.limits c.args.plan c.fields.result.now c.fields.ensures.fields c.in-Some.level c.in-Some.ensures
+pub returns-in_ok-merge-in-None-clause-times : goal.returns-in_ok-merge-in-None-clause-times
+returns-in_ok-merge-in-None-clause-times g c = λ each.
+    subst (All (λ (erase : Pending). erase.time ≤ max_time)) (sym c.in_ok-merge-in-None.ensures.erases)
+    (All-filter (λ (erase : Pending). leb erase.seq c.args.count) (λ (erase : Pending). erase.time ≤ max_time) c.args.erases.now each)
 
-pub task_in-requires-clause-some : goal.task_in-requires-clause-some
-task_in-requires-clause-some g c κs within =
-    some_source c.args.files.now c.args.config.now c.args.erases.now c.args.count c.fields.ensures.limits c.args.plan c.fields.result.now c.fields.ensures.fields c.in-Some.level c.in-Some.ensures
-
-pub returns-clause-planned : goal.returns-clause-planned
-returns-clause-planned g c = λ s store.
+pub returns-in_ok-sweep-in-Some-clause-planned : goal.returns-in_ok-sweep-in-Some-clause-planned
+returns-in_ok-sweep-in-Some-clause-planned g c = λ s store names.
     let files = map plain_file c.args.files.now in
-    IfOk-weaker c.task_in.result (λ task. plain_task task ≡ task_in c.in-Some.level c.args.plan files c.args.config.now c.args.erases.now c.args.count)
-    (λ task. IsPlanned s (plain_task task))
-    (λ task is. planned c.args.files.now c.args.config.now c.args.erases.now c.args.count c.fields.ensures.limits c.args.plan c.fields.result.now c.fields.ensures.fields c.in-Some.level c.in-Some.ensures
-    (plain_task task) is s store) c.task_in.ensures
+    let levels = c.fields.result.now.levels in
+    let task = plain_sweep c.in_ok-sweep-in-Some.sweep in
+    let one = found_sweep levels c.args.plan c.in-Some.place files c.args.erases.now task c.in_ok-sweep-in-Some.ensures in
+    sweep_planned levels c.args.plan c.in-Some.place files c.args.erases.now task one s store.coherent store.files_are store.erases_are c.in-Some.is
+    (subst (IsPlanIn s c.args.plan.file) c.in-Some.is names)
 
-pub returns-clause-level : goal.returns-clause-level
-returns-clause-level g c =
+pub returns-in_ok-sweep-in-Some-clause-levels : goal.returns-in_ok-sweep-in-Some-clause-levels
+returns-in_ok-sweep-in-Some-clause-levels g c =
     let files = map plain_file c.args.files.now in
-    IfOk-weaker c.task_in.result (λ task. plain_task task ≡ task_in c.in-Some.level c.args.plan files c.args.config.now c.args.erases.now c.args.count) (λ task. task.level < c.args.config.now.levels)
-    (λ task is. task_low c.args.files.now c.args.config.now c.args.erases.now c.args.count c.fields.ensures.limits c.args.plan c.fields.result.now c.fields.ensures.fields c.in-Some.level c.in-Some.ensures
-    (plain_task task) is) c.task_in.ensures
+    let levels = c.fields.result.now.levels in
+    let task = plain_sweep c.in_ok-sweep-in-Some.sweep in
+    let one = found_sweep levels c.args.plan c.in-Some.place files c.args.erases.now task c.in_ok-sweep-in-Some.ensures in
+    subst (λ (fields : Fields). task.file.level ≤ fields.levels) c.fields.ensures.fields (sweep_low levels c.args.plan c.in-Some.place files c.args.erases.now task one)
 
-pub returns-clause-some_of : goal.returns-clause-some_of
-returns-clause-some_of g c =
+pub returns-in_ok-sweep-in-Some-clause-upto : goal.returns-in_ok-sweep-in-Some-clause-upto
+returns-in_ok-sweep-in-Some-clause-upto g c = λ few each.
     let files = map plain_file c.args.files.now in
-    IfOk-weaker c.task_in.result (λ task. plain_task task ≡ task_in c.in-Some.level c.args.plan files c.args.config.now c.args.erases.now c.args.count) (λ task. counted_in (inputs_in (plain_task task)) ≤ counted_in files)
-    (λ task is. task_some c.in-Some.level c.args.plan files c.args.config.now c.args.erases.now c.args.count (plain_task task) is) c.task_in.ensures
+    let levels = c.fields.result.now.levels in
+    let task = plain_sweep c.in_ok-sweep-in-Some.sweep in
+    let one = found_sweep levels c.args.plan c.in-Some.place files c.args.erases.now task c.in_ok-sweep-in-Some.ensures in
+    sweep_upto levels c.args.plan c.in-Some.place files c.args.erases.now task one max_place each
+
+pub returns-in_ok-sweep-in-Some-clause-times : goal.returns-in_ok-sweep-in-Some-clause-times
+returns-in_ok-sweep-in-Some-clause-times g c = λ each.
+    let files = map plain_file c.args.files.now in
+    let levels = c.fields.result.now.levels in
+    let task = plain_sweep c.in_ok-sweep-in-Some.sweep in
+    let one = found_sweep levels c.args.plan c.in-Some.place files c.args.erases.now task c.in_ok-sweep-in-Some.ensures in
+    sweep_times levels c.args.plan c.in-Some.place files c.args.erases.now task one max_time each
+
+pub returns-in_ok-sweep-in-Some-clause-some_of : goal.returns-in_ok-sweep-in-Some-clause-some_of
+returns-in_ok-sweep-in-Some-clause-some_of g c =
+    let files = map plain_file c.args.files.now in
+    let levels = c.fields.result.now.levels in
+    let task = plain_sweep c.in_ok-sweep-in-Some.sweep in
+    let one = found_sweep levels c.args.plan c.in-Some.place files c.args.erases.now task c.in_ok-sweep-in-Some.ensures in
+    sweep_counted levels c.args.plan c.in-Some.place files c.args.erases.now task one

@@ -4,22 +4,20 @@ use Rattle.std.specs.Result.{result_err}
 use Rattle.std.proofs.lemmas.Result.{IfErr-weaker}
 use Rattle.lethe_base.specs.declared.refused.Refused.{Refused}
 use Rattle.lethe_disk.proofs.Quieting.{on_ok}
-use Rattle.lethe_follows.specs.Young.{AreLeftYoung}
 use Rattle.lethe_stored.specs.Stored.{Stored}
 use Rattle.lethe_state.specs.Room.{IsShortToFlush, IsShortToFreeze}
 use Rattle.lethe_core.specs.Keeps.{Keeps}
-use Rattle.lethe_core.specs.Merges.{AreOutcomesBy, IsShortToMergeBy, Outcome, due_choice, pages_of, retired_behind}
+use Rattle.lethe_core.specs.Merges.{AreOutcomesBy, AreSomeOutcomesBy, IsShortToMergeBy, Outcome, due_choice, pages_of, retired_behind}
 use Rattle.lethe_core.specs.Reasons.{HasReason, IsUnreadable}
 use Rattle.lethe_core.specs.Running.{Holds}
 use Rattle.lethe_core.specs.Steps.{IsDoneInPart}
 use Rattle.lethe_core.specs.View.{view_of}
 use Rattle.lethe_core.proofs.Behind.{next_may, reason_behind}
 use Rattle.lethe_core.proofs.Fetched.{not_damaged}
-use Rattle.lethe_core.proofs.Hindered.{keeps_itself, keeps_then}
-use Rattle.lethe_tick.specs.Ripened.{IsLeftUndone, IsRipened, IsShortToTick, IsTickedInPart}
+use Rattle.lethe_core.proofs.Hindered.{keeps_then}
+use Rattle.lethe_tick.specs.Ripened.{IsRipened, IsShortToTick, IsTickedInPart}
 use Rattle.lethe_tick.proofs.Buffers.{reason_then, reason_told}
-use Rattle.lethe_tick.proofs.Ripe.{all_some, only_failed}
-use Rattle.lethe_tick.proofs.Undone.{undone_none, undone_not_damaged}
+use Rattle.lethe_tick.proofs.Ripe.{only_failed}
 use Rattle.lethe_tick.proofs.ticking.ripen_store.Goals as goal
 
 -- The calls
@@ -61,8 +59,7 @@ returns-in_err-cancel_now-clause-why g c =
     let refusal : c.from_residual.result ≡ Err why = search rules in
     let Short = IsShortToTick g.D.Disk.tells c.args.to new in
     let faults = g.D.Disk.port_faults c.args.port.now in
-    subst (λ (r : Result (Unit {0}) Refused). IfErr r (λ why. HasReason Short old c.args.before new.faults why ⊎ IsUnreadable g.D.Disk.tells g.D.Disk.ports_fail faults faults why
-    ⊎ IsLeftUndone g.D.Disk.tells c.args.to new why)) (sym refusal)
+    subst (λ (r : Result (Unit {0}) Refused). IfErr r (λ why. HasReason Short old c.args.before new.faults why ⊎ IsUnreadable g.D.Disk.tells g.D.Disk.ports_fail faults faults why)) (sym refusal)
     (inl (reason_behind ⊥ Short old old c.args.before new.faults refl refl (λ short. absurd short) why c.in_err-cancel_now.ensures.why))
 
 pub returns-in_err-cancel_now-clause-fetched : goal.returns-in_err-cancel_now-clause-fetched
@@ -107,8 +104,7 @@ returns-in_err-ripen_buffers-clause-why g c =
     let faults = g.D.Disk.port_faults c.args.port.now in
     let first = c.in_ok-cancel_now.ensures.keeps in
     let wider : Buffers → Short = λ short. elim short [ inl flush ↦ inl flush | inr freeze ↦ inr (inl freeze) ] in
-    subst (λ (r : Result (Unit {0}) Refused). IfErr r (λ why. HasReason Short old c.args.before new.faults why ⊎ IsUnreadable g.D.Disk.tells g.D.Disk.ports_fail faults faults why
-    ⊎ IsLeftUndone g.D.Disk.tells c.args.to new why)) (sym refusal)
+    subst (λ (r : Result (Unit {0}) Refused). IfErr r (λ why. HasReason Short old c.args.before new.faults why ⊎ IsUnreadable g.D.Disk.tells g.D.Disk.ports_fail faults faults why)) (sym refusal)
     (inl (reason_behind Buffers Short old free c.args.before new.faults first.stopped first.count wider why c.in_err-ripen_buffers.ensures.why))
 
 pub returns-in_err-ripen_buffers-clause-fetched : goal.returns-in_err-ripen_buffers-clause-fetched
@@ -122,80 +118,26 @@ returns-in_err-ripen_buffers-clause-fetched g c = λ name e.
     absurd (not_damaged Short old c.args.before now c.from_residual-in_err-ripen_buffers.result
     (subst (λ (r : Result (Unit {0}) Refused). IfErr r (HasReason Short old c.args.before now)) (sym refusal) c.in_err-ripen_buffers.ensures.why) name e)
 
--- The merges could not be carried out
-
-pub returns-in_err-ripen-clause-keeps : goal.returns-in_err-ripen-clause-keeps
-returns-in_err-ripen-clause-keeps g c =
-    let old = view_of c.args.core.now in
-    let free = view_of c.cancel_now.new.self in
-    let ripe = view_of c.ripen_buffers.new.core in
-    let new = view_of c.ripen.new.self in
-    let why = c.in_err-ripen.field-0.0 in
-    let refusal : c.from_residual-in_err-ripen.result ≡ Err why = search rules in
-    subst (λ (r : Result (Unit {0}) Refused). Keeps g.D.Disk.tells old new (result_err r)) (sym refusal)
-    (keeps_then g.D.Disk.tells old ripe new (keeps_then g.D.Disk.tells old free ripe c.in_ok-cancel_now.ensures.keeps None c.in_ok-ripen_buffers.ensures.keeps) (Some why) c.in_err-ripen.ensures.keeps)
-
-pub returns-in_err-ripen-clause-partly : goal.returns-in_err-ripen-clause-partly
-returns-in_err-ripen-clause-partly g c =
-    let old = view_of c.args.core.now in
-    let new = view_of c.ripen.new.self in
-    let why = c.in_err-ripen.field-0.0 in
-    let refusal : c.from_residual-in_err-ripen.result ≡ Err why = search rules in
-    subst (λ (r : Result (Unit {0}) Refused). IfErr r (IsDoneInPart g.D.Disk.tells (IsTickedInPart c.args.to) old new)) (sym refusal)
-    (λ none told s holds.
-    let first = c.in_ok-ripen_buffers.ensures.done told s (c.in_ok-cancel_now.ensures.held told s holds) in
-    let some = c.in_err-ripen.ensures.partly none told first.0 first.2 in
-    (some.0, inr (first.0, some.1.0, first.1, some.1.1), some.2))
-
-pub returns-in_err-ripen-clause-why : goal.returns-in_err-ripen-clause-why
-returns-in_err-ripen-clause-why g c =
-    let tells = g.D.Disk.tells in
-    let old = view_of c.args.core.now in
-    let free = view_of c.cancel_now.new.self in
-    let mid = view_of c.ripen_buffers.new.core in
-    let new = view_of c.ripen.new.self in
-    let why = c.in_err-ripen.field-0.0 in
-    let refusal : c.from_residual-in_err-ripen.result ≡ Err why = search rules in
-    let Short = IsShortToTick tells c.args.to new in
-    let Merging = IsShortToMergeBy (due_choice c.args.to) tells new in
-    let Unread = IsUnreadable tells g.D.Disk.ports_fail (g.D.Disk.port_faults c.args.port.now) (g.D.Disk.port_faults c.ripen.new.port) in
-    let Reason : Refused → Type 0 = λ why. HasReason Short old.state c.args.before new.faults why ⊎ Unread why ⊎ IsLeftUndone tells c.args.to new why in
-    subst (λ (r : Result (Unit {0}) Refused). IfErr r Reason) (sym refusal)
-    (elim c.in_err-ripen.ensures.why as (λ _. Reason why) [
-      | inl is ↦ inl (reason_then tells Short old free c.args.before new.faults c.in_ok-cancel_now.ensures.keeps why (reason_then tells Short free mid c.args.before new.faults c.in_ok-ripen_buffers.ensures.keeps why
-          (reason_told Merging Short mid.state c.args.before new.faults why (λ none short. inr (inr short)) is)))
-      | inr is ↦ inr (inl is)
-    ])
-
--- An erase is left undone
-
-pub refuse_undone-requires-clause-sound : goal.refuse_undone-requires-clause-sound
-refuse_undone-requires-clause-sound g c κs within = c.in_ok-ripen.ensures.keeps.sound
-
-pub refuse_undone-requires-clause-runs : goal.refuse_undone-requires-clause-runs
-refuse_undone-requires-clause-runs g c κs within = c.in_ok-ripen.ensures.keeps.stopped ∙ c.in_ok-ripen_buffers.ensures.keeps.stopped ∙ c.in_ok-cancel_now.ensures.keeps.stopped ∙ c.requires.runs
+-- The merges and sweeps
 
 pub returns-clause-keeps : goal.returns-clause-keeps
 returns-clause-keeps g c =
-    let tells = g.D.Disk.tells in
     let old = view_of c.args.core.now in
     let free = view_of c.cancel_now.new.self in
     let ripe = view_of c.ripen_buffers.new.core in
     let new = view_of c.ripen.new.self in
-    let result = c.refuse_undone.result in
-    let keeps = keeps_then tells old ripe new (keeps_then tells old free ripe c.in_ok-cancel_now.ensures.keeps None c.in_ok-ripen_buffers.ensures.keeps) None c.in_ok-ripen.ensures.keeps in
-    keeps_then tells old new new keeps (result_err result)
-    (keeps_itself tells new keeps.sound (keeps.stopped ∙ c.requires.runs) (result_err result) (undone_none tells c.args.to new result c.refuse_undone.ensures.undone))
+    keeps_then g.D.Disk.tells old ripe new (keeps_then g.D.Disk.tells old free ripe c.in_ok-cancel_now.ensures.keeps None c.in_ok-ripen_buffers.ensures.keeps) (result_err c.ripen.result) c.ripen.ensures.keeps
 
 pub returns-clause-partly : goal.returns-clause-partly
 returns-clause-partly g c =
     let old = view_of c.args.core.now in
+    let ripe = view_of c.ripen_buffers.new.core in
     let new = view_of c.ripen.new.self in
-    IfErr-weaker c.refuse_undone.result (IsLeftUndone g.D.Disk.tells c.args.to new) (IsDoneInPart g.D.Disk.tells (IsTickedInPart c.args.to) old new)
-    (λ why undone none told s holds.
+    IfErr-weaker c.ripen.result (IsDoneInPart g.D.Disk.tells (λ s t. (outcomes : List Outcome) × AreSomeOutcomesBy (due_choice c.args.to) s outcomes t) ripe new) (IsDoneInPart g.D.Disk.tells (IsTickedInPart c.args.to) old new)
+    (λ why done none told s holds.
     let first = c.in_ok-ripen_buffers.ensures.done told s (c.in_ok-cancel_now.ensures.held told s holds) in
-    let all = c.in_ok-ripen.ensures.done told first.0 first.2 in
-    (all.0, inr (first.0, all.1, first.1, all_some (due_choice c.args.to) first.0 all.1 all.0 all.2), all.3)) c.refuse_undone.ensures.undone
+    let some = done none told first.0 first.2 in
+    (some.0, inr (first.0, some.1.0, first.1, some.1.1), some.2)) c.ripen.ensures.partly
 
 pub returns-clause-done : goal.returns-clause-done
 returns-clause-done g c = λ told s holds.
@@ -206,21 +148,26 @@ returns-clause-done g c = λ told s holds.
     let now = g.D.Disk.fetches c.ripen.new.port in
     let first = c.in_ok-ripen_buffers.ensures.done told s (c.in_ok-cancel_now.ensures.held told s holds) in
     let retired : mid.retired ≡ old.retired = (λ i. (c.ripen_buffers.ensures.retired i).items) ∙ λ i. (c.cancel_now.ensures.retired i).items in
-    let done = c.in_ok-ripen.ensures.done told first.0 first.2 in
-    on_ok c.refuse_undone.result (AreLeftYoung done.0 c.args.to)
+    on_ok c.ripen.result
+    ((t : Stored) × (outcomes : List Outcome) × AreOutcomesBy (due_choice c.args.to) first.0 outcomes t × Holds new t × (now ≡ start + pages_of outcomes) × (new.retired ≡ retired_behind outcomes mid.retired))
     ((ripe t : Stored) × (outcomes : List Outcome) × IsRipened c.args.to s ripe × AreOutcomesBy (due_choice c.args.to) ripe outcomes t × Holds new t × (now ≡ start + pages_of outcomes)
     × (new.retired ≡ retired_behind outcomes old.retired))
-    (c.refuse_undone.ensures.young told done.0 done.3)
-    (λ left. (first.0, done.0, done.1, first.1, done.2, done.3, done.4, done.5 ∙ ap (retired_behind done.1) retired))
+    (c.ripen.ensures.done told first.0 first.2)
+    (λ done. (first.0, done.0, done.1, first.1, done.2, done.3, done.4, done.5 ∙ ap (retired_behind done.1) retired))
 
 pub returns-clause-why : goal.returns-clause-why
 returns-clause-why g c =
     let tells = g.D.Disk.tells in
-    let old = c.args.core.now.state in
+    let old = view_of c.args.core.now in
+    let free = view_of c.cancel_now.new.self in
+    let mid = view_of c.ripen_buffers.new.core in
     let new = view_of c.ripen.new.self in
-    let Undone = IsLeftUndone tells c.args.to new in
-    let Unread = IsUnreadable tells g.D.Disk.ports_fail (g.D.Disk.port_faults c.args.port.now) (g.D.Disk.port_faults c.ripen.new.port) in
-    IfErr-weaker c.refuse_undone.result Undone (λ why. HasReason (IsShortToTick tells c.args.to new) old c.args.before new.faults why ⊎ Unread why ⊎ Undone why) (λ why undone. inr (inr undone)) c.refuse_undone.ensures.undone
-
-pub returns-clause-fetched : goal.returns-clause-fetched
-returns-clause-fetched g c = λ name e. absurd (undone_not_damaged g.D.Disk.tells c.args.to (view_of c.ripen.new.self) c.refuse_undone.result c.refuse_undone.ensures.undone name e)
+    let Short = IsShortToTick g.D.Disk.tells c.args.to new in
+    let Merging = IsShortToMergeBy (due_choice c.args.to) g.D.Disk.tells new in
+    let Unread = IsUnreadable g.D.Disk.tells g.D.Disk.ports_fail (g.D.Disk.port_faults c.args.port.now) (g.D.Disk.port_faults c.ripen.new.port) in
+    IfErr-weaker c.ripen.result (λ why. HasReason Merging mid.state c.args.before new.faults why ⊎ Unread why) (λ why. HasReason Short old.state c.args.before new.faults why ⊎ Unread why)
+    (λ why either. elim either as (λ _. HasReason Short old.state c.args.before new.faults why ⊎ Unread why) [
+      | inl is ↦ inl (reason_then tells Short old free c.args.before new.faults c.in_ok-cancel_now.ensures.keeps why (reason_then tells Short free mid c.args.before new.faults c.in_ok-ripen_buffers.ensures.keeps why
+          (reason_told Merging Short mid.state c.args.before new.faults why (λ none short. inr (inr short)) is)))
+      | inr is ↦ inr is
+    ]) c.ripen.ensures.why

@@ -22,7 +22,7 @@ use Rattle.lethe_core.proofs.Behind.{next_may, reason_behind}
 use Rattle.lethe_core.proofs.Likes.{before_holds, jobs_same}
 use Rattle.lethe_core.proofs.Standing.{moments_or, stands_holds}
 use Rattle.lethe_tick.specs.Last.{HasLastStep}
-use Rattle.lethe_tick.specs.Ripened.{IsLeftUndone, IsRipened, IsShortToTick, IsTickedInPart}
+use Rattle.lethe_tick.specs.Ripened.{IsRipened, IsShortToTick, IsTickedInPart}
 use Rattle.lethe_tick.proofs.Buffers.{if_both, reason_told}
 use Rattle.lethe_tick.proofs.Last.{last_step}
 use Rattle.lethe_tick.proofs.Ripe.{all_some, due_nothing, stands_then, time_forward}
@@ -88,7 +88,7 @@ returns-clause-stands g c = λ told config h stands caller.
     let may = c.requires.may in
     let forward = c.requires.forward in
     c.move_clock.ensures.stands told config h (stands_then tells old mid c.args.before c.args.to may forward keeps done told config h stands)
-    (time_forward tells old mid c.args.before c.args.to may forward keeps done told config h stands) (due_nothing tells old mid c.args.before c.args.to may forward keeps done told config h stands c.in_ok-ripen_store.ensures.young) caller
+    (time_forward tells old mid c.args.before c.args.to may forward keeps done told config h stands) (due_nothing tells old mid c.args.before c.args.to may forward keeps done told config h stands) caller
 
 pub returns-clause-any_moment : goal.returns-clause-any_moment
 returns-clause-any_moment g c = λ told config h stands caller.
@@ -104,7 +104,7 @@ returns-clause-any_moment g c = λ told config h stands caller.
     let change = written_by caller (Makes (Tick c.args.to)) (result_err c.move_clock.result) in
     goes_from_then (IsKeptOr config h change) old.state.next mid.state.next old.disk mid.disk new.disk (moments_or config h change old.state.next old.disk mid.disk (keeps.any_moment told config h stands)) (keeps.numbers told)
     (c.move_clock.ensures.any_moment told config h (stands_then tells old mid c.args.before c.args.to may forward keeps done told config h stands)
-    (time_forward tells old mid c.args.before c.args.to may forward keeps done told config h stands) (due_nothing tells old mid c.args.before c.args.to may forward keeps done told config h stands c.in_ok-ripen_store.ensures.young) caller)
+    (time_forward tells old mid c.args.before c.args.to may forward keeps done told config h stands) (due_nothing tells old mid c.args.before c.args.to may forward keeps done told config h stands) caller)
 
 pub returns-clause-last_step : goal.returns-clause-last_step
 returns-clause-last_step g c = λ told config h stands.
@@ -121,7 +121,7 @@ returns-clause-last_step g c = λ told config h stands.
     λ told s holds. let is = c.in_ok-ripen_store.ensures.done told s holds in (is.0, is.1, is.2, is.3, is.4, is.5) in
     let change = written_by 0 (Makes (Tick c.args.to)) (result_err c.move_clock.result) in
     let moved = c.move_clock.ensures.any_moment told config h (stands_then tells old mid c.args.before c.args.to may forward keeps done told config h stands)
-    (time_forward tells old mid c.args.before c.args.to may forward keeps done told config h stands) (due_nothing tells old mid c.args.before c.args.to may forward keeps done told config h stands c.in_ok-ripen_store.ensures.young) 0 in
+    (time_forward tells old mid c.args.before c.args.to may forward keeps done told config h stands) (due_nothing tells old mid c.args.before c.args.to may forward keeps done told config h stands) 0 in
     on_ok c.move_clock.result (Holds new (ticked is.1 c.args.to mid.state.next))
     ((ripe t : Stored) × (outcomes : List Outcome) × IsRipened c.args.to s ripe × AreOutcomesBy (due_choice c.args.to) ripe outcomes t × HasLastStep config h t old.disk new.disk)
     (c.move_clock.ensures.done told is.1 is.5)
@@ -162,7 +162,7 @@ returns-clause-why g c =
     let Unread = IsUnreadable g.D.Disk.tells g.D.Disk.ports_fail (g.D.Disk.port_faults c.args.port.now) (g.D.Disk.port_faults c.ripen_store.new.port) in
     let keeps = c.in_ok-ripen_store.ensures.keeps in
     if_both c.move_clock.result (IsUndone g.D.Disk.tells (view_of mid) new) (HasReason (max_place ≤ mid.state.next) mid.state c.args.before new.faults)
-    (λ why. HasReason Short old c.args.before new.faults why ⊎ Unread why ⊎ IsLeftUndone g.D.Disk.tells c.args.to new why)
+    (λ why. HasReason Short old c.args.before new.faults why ⊎ Unread why)
     (λ why undone reason. inl (reason_behind Short Short old mid.state c.args.before new.faults keeps.stopped keeps.count (λ short. short) why
     (reason_told (max_place ≤ mid.state.next) Short mid.state c.args.before new.faults why (λ none short. let next = (undone none).state.next in inr (inl (omega (arith, short, next)))) reason)))
     c.move_clock.ensures.undone c.move_clock.ensures.why

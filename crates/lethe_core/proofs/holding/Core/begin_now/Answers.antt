@@ -1,9 +1,9 @@
-use Rattle.std.proofs.Common.{◌≡◌, ◌<◌, ◌+◌, [], Some, length, refl, sym, ap, ◌∙◌, subst}
-use Rattle.std.specs.Prelude.{IfSome, option_map}
-use Rattle.lethe_follows.specs.Merged.{erases_upto}
+use Rattle.std.proofs.Common.{◌≡◌, ◌≤◌, ◌+◌, [], Some, length, refl, sym, ap, ◌∙◌, subst}
+use Rattle.std.specs.Prelude.{All, IfSome, option_map}
+use Rattle.lethe_base.specs.Limits.{max_place, max_time}
 use Rattle.lethe_stored.specs.Stored.{Stored}
 use Rattle.lethe_job.specs.declared.number.BegunJobs.{BegunJobs}
-use Rattle.lethe_job.specs.Tasks.{IsBegunIn, plain_task}
+use Rattle.lethe_job.specs.Works.{IsBegunIn, IsInLevels, applied_upto, erases_of, plain_task}
 use Rattle.lethe_core.specs.Jobs.{IsAtWork, with_begun}
 use Rattle.lethe_core.specs.Merges.{IsBegunBy, room_choice}
 use Rattle.lethe_core.specs.Running.{Holds, IsSound}
@@ -56,12 +56,12 @@ returns-clause-sound g c =
     let now : record { begun = c.more-self.result.count; rounds = c.args.self.now.begun.rounds; flight = Some (flying_of (record { number = c.of.result; task = c.in_ok-shared.shared; written = c.new-2.result })); retired = old.retired } ≡ with_begun (face_of old) task =
     λ i. record { begun = c.more-self.ensures i; rounds = old.rounds; flight = Some (same i); retired = old.retired } in
     let begun : (s : Stored) → Holds old s → IsBegunIn s task = λ s holds. begun_in s task (subst (λ found. IfSome found (λ task. IsBegunBy room_choice s (plain_task task))) c.in-Some.is (c.in_ok-task.ensures.some s holds)) in
-    let level = subst (λ found. IfSome found (λ task. task.level < old.state.manifest.config.levels)) c.in-Some.is c.in_ok-task.ensures.level in
-    let upto = subst (λ found. IfSome found (λ task. task.upto ≡ old.state.count)) c.in-Some.is c.in_ok-task.ensures.upto in
-    let erases = subst (λ found. IfSome found (λ task. task.erases ≡ erases_upto old.state.count old.state.pending)) c.in-Some.is c.in_ok-task.ensures.erases in
+    let levels = subst (λ found. IfSome found (λ task. IsInLevels old.state.manifest.config.levels (plain_task task))) c.in-Some.is c.in_ok-task.ensures.levels in
+    let upto = subst (λ found. IfSome found (λ task. applied_upto (plain_task task) ≤ max_place)) c.in-Some.is c.in_ok-task.ensures.upto in
+    let times = subst (λ found. IfSome found (λ task. All (λ erase. erase.time ≤ max_time) (erases_of (plain_task task)))) c.in-Some.is c.in_ok-task.ensures.times in
     subst (λ (face : Face). IsSound g.D.Disk.tells (record old { disk = seen; faults = faults; flight = face.flight; begun = face.begun; rounds = face.rounds })) (sym now)
     (idle_sound g.D.Disk.tells (record old { flight = Some flying; begun = old.begun + 1 }) seen faults c.port.ensures.idle
-    (begun_sound g.D.Disk.tells old task (ap (option_map flying_of) c.requires.free) c.requires.runs c.requires.sound begun level upto erases))
+    (begun_sound g.D.Disk.tells old task (ap (option_map flying_of) c.requires.free) c.requires.runs c.requires.sound begun levels upto times))
 
 pub returns-clause-stands : goal.returns-clause-stands
 returns-clause-stands g c = λ told config h stands.

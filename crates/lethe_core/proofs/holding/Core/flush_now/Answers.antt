@@ -12,7 +12,7 @@ use Rattle.lethe_core.specs.View.{flying_of, view_of}
 use Rattle.lethe_core.proofs.Carried.{IsCarried}
 use Rattle.lethe_core.proofs.Asked.{not_failed}
 use Rattle.lethe_core.proofs.Hindered.{as_itself, hindered_keeps, hindered_undone, keeps_itself}
-use Rattle.lethe_core.proofs.Next.{flushed_next, next_done, next_keeps, next_moments, next_step}
+use Rattle.lethe_core.proofs.Next.{flushed_next, flushed_recorded, next_done, next_keeps, next_moments, next_step}
 use Rattle.lethe_core.proofs.Stepped.{flushed_holds, small_unfrozen}
 use Rattle.lethe_core.proofs.holding.Core.flush_now.Goals as goal
 
@@ -83,6 +83,7 @@ returns-clause-keeps g c =
     next_keeps IsFlushed g.D.Disk.tells old headers step c.args.before c.requires.may (flushed_next old c.requires.may.sound.drawn headers step c.in_ok-headers.ensures.flushes)
     new (λ h s t holds for is. flush_for h s t holds.remembers.coherent for is) carried
     (λ told s t holds made is. flushed_holds g.D.Disk.tells s t old new headers step carried told holds is made new_is (laws.itself told c.args.self.now.disk))
+    (λ h s t holds for recorded is. flushed_recorded h s t for recorded is)
     1 from (ap (λ (state : State). state.manifest) new_is) (ap (λ (state : State). state.next) new_is) (ap (λ (state : State). state.count) new_is) (ap (λ (state : State). state.stopped) new_is) c.flush.ensures.writable
     (subst IsSmall (sym new_is) (small_unfrozen step.manifest old.state from.config c.requires.may.sound.small))
 

@@ -10,7 +10,7 @@ use Rattle.lethe_core.specs.View.{flying_of, view_of}
 use Rattle.lethe_core.proofs.Carried.{IsCarried}
 use Rattle.lethe_core.proofs.Asked.{not_failed}
 use Rattle.lethe_core.proofs.Hindered.{as_itself, hindered_keeps, hindered_undone, keeps_itself}
-use Rattle.lethe_core.proofs.Next.{frozen_for, frozen_next, next_done, next_keeps, next_moments, next_step}
+use Rattle.lethe_core.proofs.Next.{frozen_for, frozen_next, frozen_recorded, next_done, next_keeps, next_moments, next_step}
 use Rattle.lethe_core.proofs.Stepped.{frozen_holds, not_frozen, small_frozen}
 use Rattle.lethe_core.proofs.holding.Core.freeze_now.Goals as goal
 
@@ -81,6 +81,7 @@ returns-clause-keeps g c =
     next_keeps IsFrozen g.D.Disk.tells old headers step c.args.before c.requires.may (frozen_next old c.requires.may.sound.drawn headers step c.requires.may.sound.writable c.new.ensures.items c.in_ok-step.ensures.freezes)
     new (λ h s t holds for is. frozen_for h s t old.state old.levels holds.remembers (not_frozen s old.state old.levels holds.remembers c.requires.unfrozen) for is) carried
     (λ told s t holds made is. frozen_holds g.D.Disk.tells s t old new headers step carried told holds is made c.requires.unfrozen with)
+    (λ h s t holds for recorded is. frozen_recorded s t (not_frozen s old.state old.levels holds.remembers c.requires.unfrozen) recorded is)
     2 from with.manifest_is with.next (c.freeze.ensures.is.count ∙ ap (λ (state : State). state.count) c.in_ok-carry_out.ensures.state) (c.freeze.ensures.is.stopped ∙ ap (λ (state : State). state.stopped) c.in_ok-carry_out.ensures.state) c.freeze.ensures.writable
     (small_frozen step.manifest old.state new.state with from.config c.requires.may.sound.small)
 

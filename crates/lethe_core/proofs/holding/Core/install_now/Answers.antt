@@ -1,13 +1,13 @@
-use Rattle.std.proofs.Common.{rules, ◌≡◌, Some, Result, Err, sym, ap, subst}
+use Rattle.std.proofs.Common.{rules, ◌≡◌, Some, Result, Err, refl, sym, ap, subst}
 use Rattle.std.specs.Result.{result_err}
 use Rattle.lethe_base.specs.declared.refused.Refused.{Refused}
 use Rattle.std.specs.Prelude.{IfErr, IfSome, OnOk, option_map}
 use Rattle.lethe_flush.proofs.Results.{ok_weaker}
 use Rattle.lethe_stored.specs.Stored.{Stored}
-use Rattle.lethe_job.specs.Tasks.{plain_task}
+use Rattle.lethe_install.specs.Outcomes.{IsInstalled}
+use Rattle.lethe_job.specs.Works.{plain_task}
 use Rattle.lethe_core.specs.Jobs.{AreOutputsOf}
 use Rattle.lethe_core.specs.Keeps.{Keeps}
-use Rattle.lethe_core.specs.Merges.{IsInstalled}
 use Rattle.lethe_core.specs.Running.{Holds}
 use Rattle.lethe_core.specs.StandsNow.{IsCounted}
 use Rattle.lethe_core.specs.Steps.{IsUndone}
@@ -37,9 +37,9 @@ merge_now-requires-clause-merges g c κs within = λ told s holds.
     let view = view_of c.args.self.now in
     let flying = flying_of c.in-Some.flight in
     let flies : view.flight ≡ Some flying = ap (option_map flying_of) c.in-Some.is in
-    let outputs = subst (λ flight. IfSome flight (λ flying. AreOutputsOf g.D.Disk.tells flying c.args.drafts.items)) flies c.requires.outputs in
-    let next = next_install view flying flies g.D.Disk.tells c.args.drafts.items c.in_ok-made.made outputs (plain_task c.deref.result.now) c.names.result.now c.deref-2.result.now c.in_ok-made.ensures.installs
-    (ap plain_task c.deref.ensures) c.names.ensures (sym c.deref-2.ensures.value) told s holds in
+    let outputs = subst (λ flight. IfSome flight (λ flying. AreOutputsOf g.D.Disk.tells flying c.args.made)) flies c.requires.outputs in
+    let next = next_install g.D.Disk.tells view flying flies c.args.made outputs c.in_ok-made.made (plain_task c.deref.result.now) c.names.result.now c.deref-2.result.now
+    c.in_ok-made.ensures.installs (ap plain_task c.deref.ensures) c.names.ensures (c.in_ok-made.ensures.none refl) (sym c.deref-2.ensures.value) told s holds in
     (flying.task, next.0, next.1, λ config h stands. subst (λ flight. IfSome flight (λ flying. IsCounted flying.task)) flies stands.counted)
 
 pub returns-clause-done : goal.returns-clause-done
@@ -48,8 +48,8 @@ returns-clause-done g c = λ told s holds.
     let after = view_of c.merge_now.new.self in
     let flying = flying_of c.in-Some.flight in
     let flies : view.flight ≡ Some flying = ap (option_map flying_of) c.in-Some.is in
-    let outputs = subst (λ flight. IfSome flight (λ flying. AreOutputsOf g.D.Disk.tells flying c.args.drafts.items)) flies c.requires.outputs in
-    let next = next_install view flying flies g.D.Disk.tells c.args.drafts.items c.in_ok-made.made outputs (plain_task c.deref.result.now) c.names.result.now c.deref-2.result.now c.in_ok-made.ensures.installs
-    (ap plain_task c.deref.ensures) c.names.ensures (sym c.deref-2.ensures.value) told s holds in
+    let outputs = subst (λ flight. IfSome flight (λ flying. AreOutputsOf g.D.Disk.tells flying c.args.made)) flies c.requires.outputs in
+    let next = next_install g.D.Disk.tells view flying flies c.args.made outputs c.in_ok-made.made (plain_task c.deref.result.now) c.names.result.now c.deref-2.result.now
+    c.in_ok-made.ensures.installs (ap plain_task c.deref.ensures) c.names.ensures (c.in_ok-made.ensures.none refl) (sym c.deref-2.ensures.value) told s holds in
     subst (λ flight. IfSome flight (λ flying. OnOk c.merge_now.result ((t : Stored) × IsInstalled s flying.task t × Holds after t))) (sym flies)
     (ok_weaker c.merge_now.result _ _ (c.merge_now.ensures.done told s flying.task next.0 holds next.1) (λ done holds. (next.0, next.1.installed, holds)))

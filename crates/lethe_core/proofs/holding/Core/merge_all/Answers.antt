@@ -1,38 +1,19 @@
-use Rattle.std.proofs.Common.{rules, ◌≡◌, ◌⊎◌, inr, List, [], Some, None, Result, Ok, Err, refl, sym, ap, ◌∙◌, subst, arith}
-use Rattle.std.specs.Prelude.{Bool, IfErr, true}
+use Rattle.std.proofs.Common.{◌≡◌, ◌⊎◌, Some, None, Result, Ok, Err, refl, sym, ap, ◌∙◌, subst, arith}
+use Rattle.std.specs.Prelude.{Bool, true}
 use Rattle.std.specs.Result.{result_err}
 use Rattle.lethe_base.specs.declared.refused.Refused.{Refused}
 use Rattle.lethe_base.specs.declared.refused.Refused.TheVariants.{Damaged}
 use Rattle.lethe_core.specs.Asked.{failure_of}
 use Rattle.lethe_core.specs.Keeps.{Keeps}
-use Rattle.lethe_core.specs.Merges.{AreSomeOutcomesBy, IsShortToMergeBy, Outcome, chosen_by}
+use Rattle.lethe_core.specs.Merges.{IsShortToMergeBy, chosen_by}
 use Rattle.lethe_core.specs.Reasons.{HasReason, IsUnreadable, told_since}
 use Rattle.lethe_core.specs.Running.{Holds}
-use Rattle.lethe_core.specs.Steps.{IsDoneInPart}
 use Rattle.lethe_core.specs.View.{view_of}
-use Rattle.lethe_core.proofs.Asked.{not_failed}
-use Rattle.lethe_core.proofs.Fetched.{damaged_since, not_short}
-use Rattle.lethe_core.proofs.Hindered.{keeps_itself}
+use Rattle.lethe_core.proofs.Fetched.{damaged_since}
 use Rattle.lethe_core.proofs.Outcomes.{merged_may, no_more, none_merged, once_more, some_merged, too_many}
 use Rattle.lethe_core.proofs.Behind.{either_since, keeps_since, since_failed}
 use Rattle.lethe_core.proofs.Likes.{before_holds, jobs_same}
 use Rattle.lethe_core.proofs.holding.Core.merge_all.Goals as goal
-
-pub returns-in_err-most_merges-clause-keeps : goal.returns-in_err-most_merges-clause-keeps
-returns-in_err-most_merges-clause-keeps g c =
-    let why = c.in_err-most_merges.field-0.0 in
-    let refusal : c.from_residual.result ≡ Err why = search rules in
-    let old = view_of c.args.self.now in
-    subst (λ (r : Result (Unit {0}) Refused). Keeps g.D.Disk.tells old old (result_err r)) (sym refusal)
-    (keeps_itself g.D.Disk.tells old c.requires.may.sound c.requires.may.runs (Some why) (not_failed why (inr c.in_err-most_merges.ensures.refused)))
-
-pub returns-in_err-most_merges-clause-partly : goal.returns-in_err-most_merges-clause-partly
-returns-in_err-most_merges-clause-partly g c =
-    let why = c.in_err-most_merges.field-0.0 in
-    let refusal : c.from_residual.result ≡ Err why = search rules in
-    let old = view_of c.args.self.now in
-    subst (λ (r : Result (Unit {0}) Refused). IfErr r (IsDoneInPart g.D.Disk.tells (λ s t. (outcomes : List Outcome) × AreSomeOutcomesBy (chosen_by c.args.choice) s outcomes t) old old)) (sym refusal)
-    (λ none told s holds. (s, ([], refl), holds))
 
 pub loop-init : goal.loop-init
 loop-init g c = record {
@@ -111,15 +92,8 @@ returns-in-Err-clause-fetched g c = λ name e.
     let fetched = c.in-Err.ensures.fetched name (ap (λ (why : Refused). let r : Result Bool Refused = Err why in r) last) in
     omega (arith, fetched, c.loop.invariant.fetches)
 
-pub returns-in_err-most_merges-clause-fetched : goal.returns-in_err-most_merges-clause-fetched
-returns-in_err-most_merges-clause-fetched g c = λ name e.
-    let why = c.in_err-most_merges.field-0.0 in
-    let refusal : c.from_residual.result ≡ Err why = search rules in
-    let told : why ≡ Damaged name = cc in
-    absurd (not_short why (inr c.in_err-most_merges.ensures.refused) name told)
-
 pub returns-clause-done : goal.returns-clause-done
 returns-clause-done g c = λ told s holds.
+    let over = c.loop-test.false in
     absurd (too_many (chosen_by c.args.choice) g.D.Disk.tells (view_of c.args.self.now) (view_of c.loop.self) c.args.before c.loop.counter (g.D.Disk.fetches c.args.port.now) (g.D.Disk.fetches c.loop.port)
-    (g.D.Disk.port_faults c.args.port.now) (g.D.Disk.port_faults c.loop.port) c.loop.invariant.merged told s holds c.in_ok-most_merges.field-0 (c.in_ok-most_merges.ensures.most s holds)
-    (let over = c.loop-test.false in let end = c.saturating_add-end.ensures in omega (arith, over, end)))
+    (g.D.Disk.port_faults c.args.port.now) (g.D.Disk.port_faults c.loop.port) c.loop.invariant.merged c.requires.may told s holds (omega (arith, over)))

@@ -1,11 +1,11 @@
-use Rattle.std.proofs.Common.{rules, ◌≡◌, ◌⊎◌, inl, Some, None, Result, Err, refl, sym, ap, ◌∙◌, subst, arith}
-use Rattle.std.specs.Prelude.{Bool, IfErr, IfSome, option_map}
+use Rattle.std.proofs.Common.{rules, ◌≡◌, ◌≤◌, ◌⊎◌, inl, Some, None, Result, Err, refl, sym, ap, ◌∙◌, subst, arith}
+use Rattle.std.specs.Prelude.{All, Bool, IfErr, IfSome, option_map}
 use Rattle.std.specs.Result.{result_err}
+use Rattle.lethe_base.specs.Limits.{max_time}
 use Rattle.lethe_base.specs.declared.refused.Refused.{Refused}
 use Rattle.lethe_base.specs.declared.refused.Refused.TheVariants.{Damaged, NoMemory}
-use Rattle.lethe_follows.specs.Merged.{erases_upto}
 use Rattle.lethe_stored.specs.Stored.{Stored}
-use Rattle.lethe_job.specs.Tasks.{plain_task}
+use Rattle.lethe_job.specs.Works.{erases_of, plain_task}
 use Rattle.lethe_core.specs.Asked.{failure_of}
 use Rattle.lethe_core.specs.Keeps.{Keeps}
 use Rattle.lethe_core.specs.Merges.{IsBegunBy, IsShortToMergeBy, IsTaskOf, chosen_by}
@@ -14,10 +14,9 @@ use Rattle.lethe_core.specs.Running.{Holds}
 use Rattle.lethe_core.specs.Steps.{IsUndone}
 use Rattle.lethe_core.specs.View.{flying_of, view_of}
 use Rattle.lethe_core.proofs.Asked.{not_failed}
-use Rattle.lethe_core.proofs.Begun.{all_timed}
 use Rattle.lethe_core.proofs.Fetched.{damaged_as, not_damaged, not_short}
 use Rattle.lethe_core.proofs.Hindered.{as_itself, keeps_itself}
-use Rattle.lethe_core.proofs.Installing.{next_outcome, planned_counted, planned_sound}
+use Rattle.lethe_core.proofs.Installing.{chosen_counted, chosen_sound, next_outcome, outputs_bounded}
 use Rattle.lethe_core.proofs.Unread.{not_failed_read, short_reason, told_reason}
 use Rattle.lethe_core.proofs.holding.Core.merge_next.Goals as goal
 
@@ -32,9 +31,8 @@ returns-in-Err-clause-undone g c = λ none. as_itself g.D.Disk.tells (view_of c.
 
 pub outcome-requires-after_bounds : goal.outcome-requires-after_bounds
 outcome-requires-after_bounds g c κs within =
-    let state = c.args.self.now.state in
     let found : c.in-Ok-Some.field-0 ≡ Some c.in-Ok-Some.task = cc in
-    all_timed state c.requires.may.sound.writable c.in-Ok-Some.task.erases (subst (λ found. IfSome found (λ task. task.erases ≡ erases_upto state.count state.pending)) found c.in-Ok-Some.ensures.erases)
+    subst (λ found. IfSome found (λ task. All (λ erase. erase.time ≤ max_time) (erases_of (plain_task task)))) found c.in-Ok-Some.ensures.times
 
 pub returns-in-Err-outcome-clause-keeps : goal.returns-in-Err-outcome-clause-keeps
 returns-in-Err-outcome-clause-keeps g c =
@@ -58,7 +56,7 @@ returns-in-Err-outcome-clause-why g c =
     (told_reason Short g.D.Disk.tells g.D.Disk.ports_fail view.state c.args.before view.faults earlier later c.in-Err-outcome.why c.in-Err-outcome.ensures.cause c.in-Err-outcome.ensures.can_fail (λ told name is.
     let held = c.requires.may.sound.held told in
     let holds : Holds view held.0 = record { remembers = held.1; running = held.2 c.requires.may.runs } in
-    c.in-Err-outcome.ensures.undamaged told (planned_sound view task (λ s holds. (begins s holds).planned) held.0 holds) name (ap Err is)))
+    c.in-Err-outcome.ensures.undamaged told (chosen_sound view task (λ s holds. (begins s holds).planned) held.0 holds) name (ap Err is)))
 
 pub returns-in-Err-outcome-clause-fetched : goal.returns-in-Err-outcome-clause-fetched
 returns-in-Err-outcome-clause-fetched g c = λ name e.
@@ -113,10 +111,11 @@ returns-in_err-made-clause-why g c =
     (inl (short_reason Short view.state c.args.before view.faults c.requires.may.runs why c.in_err-made.ensures.refused (λ is. record {
       task = task;
       of = subst (λ found. IfSome found (λ task. IsTaskOf view (plain_task task))) found c.in-Ok-Some.ensures.of;
-      drafts = c.in-Ok.drafts.items;
-      bounded = c.in-Ok.ensures.bounded;
+      made = c.in-Ok.outcome;
+      bounded = outputs_bounded g.D.Disk.tells task c.in-Ok.outcome c.in-Ok.ensures.outputs;
       short = let short = c.in_err-made.ensures.exhausted (ap Err is) in omega (arith, short);
-      are = λ told s holds. (begins s holds, c.in-Ok.ensures.drafts told (planned_sound view task (λ s holds. (begins s holds).planned) s holds));
+      outputs = c.in-Ok.ensures.outputs;
+      begun = λ told s holds. begins s holds;
     })))
 
 pub merge_now-requires-clause-merges : goal.merge_now-requires-clause-merges
@@ -127,8 +126,8 @@ merge_now-requires-clause-merges g c κs within = λ told s holds.
     let begins : (s : Stored) → Holds view s → IsBegunBy (chosen_by c.args.choice) s task = λ s holds.
     subst (λ found. IfSome found (λ task. IsBegunBy (chosen_by c.args.choice) s (plain_task task))) found (c.in-Ok-Some.ensures.some s holds) in
     let next = next_outcome view task (λ s holds. (begins s holds).planned) (ap (option_map flying_of) c.requires.free) g.D.Disk.tells
-    c.in-Ok.drafts.items c.deref.result.now c.in_ok-made.made c.in_ok-made.ensures.installs (sym c.deref.ensures.value) c.in-Ok.ensures.drafts told s holds in
-    (task, next.0, next.2, planned_counted view task (λ s holds. (begins s holds).planned) c.requires.may.runs)
+    c.in-Ok.outcome c.deref.result.now c.in_ok-made.made c.in_ok-made.ensures.installs (c.in_ok-made.ensures.none refl) (sym c.deref.ensures.value) told s holds in
+    (task, next.0, next.1, chosen_counted view task (λ s holds. (begins s holds).planned) c.requires.may.runs)
 
 pub returns-in_err-merge_now-clause-keeps : goal.returns-in_err-merge_now-clause-keeps
 returns-in_err-merge_now-clause-keeps g c =
@@ -152,9 +151,9 @@ returns-clause-done g c = λ told s holds is.
     let begins : (s : Stored) → Holds view s → IsBegunBy (chosen_by c.args.choice) s task = λ s holds.
     subst (λ found. IfSome found (λ task. IsBegunBy (chosen_by c.args.choice) s (plain_task task))) found (c.in-Ok-Some.ensures.some s holds) in
     let next = next_outcome view task (λ s holds. (begins s holds).planned) (ap (option_map flying_of) c.requires.free) g.D.Disk.tells
-    c.in-Ok.drafts.items c.deref.result.now c.in_ok-made.made c.in_ok-made.ensures.installs (sym c.deref.ensures.value) c.in-Ok.ensures.drafts told s holds in (
+    c.in-Ok.outcome c.deref.result.now c.in_ok-made.made c.in_ok-made.ensures.installs (c.in_ok-made.ensures.none refl) (sym c.deref.ensures.value) told s holds in (
       record { task = task; to = next.0 },
-      record { begun = begins s holds; merged_is = next.1 },
-      c.in_ok-merge_now.ensures.done told s task next.0 holds next.2,
+      record { begun = begins s holds; installed = next.1.installed },
+      c.in_ok-merge_now.ensures.done told s task next.0 holds next.1,
       c.in-Ok.ensures.fetches,
     )

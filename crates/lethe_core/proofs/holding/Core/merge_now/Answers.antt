@@ -5,7 +5,7 @@ use Rattle.lethe_base.specs.declared.refused.Refused.{Refused}
 use Rattle.lethe_stored.specs.Stored.{Stored}
 use Rattle.lethe_state.specs.Left.{installed}
 use Rattle.lethe_state.specs.declared.state.State.{State}
-use Rattle.lethe_job.specs.Tasks.{PlainTask}
+use Rattle.lethe_job.specs.Works.{PlainTask}
 use Rattle.lethe_clean.proofs.Stays.{step_untorn}
 use Rattle.lethe_core.specs.Keeps.{Keeps}
 use Rattle.lethe_core.specs.Merges.{MayMerge}
@@ -14,7 +14,7 @@ use Rattle.lethe_core.specs.Steps.{IsUndone}
 use Rattle.lethe_core.specs.View.{View, beside_in, view_of}
 use Rattle.lethe_core.proofs.Carried.{active_ends}
 use Rattle.lethe_core.proofs.Hindered.{hindered_keeps, hindered_next, hindered_undone}
-use Rattle.lethe_core.proofs.Merged.{merge_keeps, merge_moments, merged_holds, merged_view}
+use Rattle.lethe_core.proofs.Merged.{merge_keeps, merge_moments, merged_holds, merged_view, same_active}
 use Rattle.lethe_core.proofs.holding.Core.merge_now.Goals as goal
 
 pub carry_out-requires-clause-step : goal.carry_out-requires-clause-step
@@ -64,7 +64,7 @@ returns-clause-done g c = λ told s task t holds may.
     let files = c.in_ok-carry_out.ensures.files told s t may.left running is holds.remembers.files in
     let gate = c.in_ok-carry_out.ensures.gate told s t may.left running is in
     let untorn = step_untorn s t (beside_in old) may.left made.headers.items made.step old.disk.directory mid.disk.directory holds.remembers.coherent is running.only running.untorn kept gate in
-    let ends = active_ends s t (beside_in old) may.left made.headers.items made.step is holds.remembers.coherent old.disk mid.disk done.0 kept old.state.end may.installed.merged_is.active (laws.itself told c.args.self.now.disk) running.ends in
+    let ends = active_ends s t (beside_in old) may.left made.headers.items made.step is holds.remembers.coherent old.disk mid.disk done.0 kept old.state.end (same_active s task t may.installed) (laws.itself told c.args.self.now.disk) running.ends in
     let state = c.install.ensures.is ∙ ap (installed made.step.manifest) c.in_ok-carry_out.ensures.state in
     subst (λ (state : State). Holds (record (merged_view old mid.disk mid.faults mid.levels mid.begun mid.rounds made) { state = state }) t) (sym state)
     (merged_holds old mid.disk mid.faults mid.levels mid.begun mid.rounds made s t task holds may files done.0 done.1 untorn ends)

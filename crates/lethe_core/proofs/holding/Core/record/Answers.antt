@@ -3,6 +3,7 @@ use Rattle.lethe_base.specs.Limits.{max_place}
 use Rattle.lethe_commit.specs.Append.{EndsAt, IsAppended, longer}
 use Rattle.lethe_commit.proofs.Placing.{refused_at_once}
 use Rattle.lethe_manifest.specs.Manifests.{AreErases}
+use Rattle.lethe_follows.proofs.Behind.{later_appended}
 use Rattle.lethe_manifest.specs.declared.manifest.Manifest.{Manifest}
 use Rattle.lethe_stored.specs.Left.{IsKeptOr}
 use Rattle.lethe_stored.specs.Numbers.{GoesFrom}
@@ -95,6 +96,7 @@ returns-in-Ok-append-clause-stands g c = λ told config h caller call change sta
     let holds = (returns-in-Ok-append-clause-written g c told stands.stored (stands_holds config h old stands c.requires.may.runs)).0 in
     open_stands config (with_done h caller call) (moved old (g.D.Disk.seen c.append.new.disk) (g.D.Disk.faults c.append.new.disk) c.enter.new.self) (appended stands.stored c.args.next)
     with.legal with.done (holds.running.current.count ∙ with.count) stands.config_is with holds stands.counted
+    (later_appended h stands.stored (stands_for config h old stands c.requires.may.runs) stands.recorded c.args.next (let place = c.requires.place in let count = stands.count in omega (arith, place, count)))
 
 pub returns-in-Ok-append-clause-any_moment : goal.returns-in-Ok-append-clause-any_moment
 returns-in-Ok-append-clause-any_moment g c = λ told config h caller call stands with.

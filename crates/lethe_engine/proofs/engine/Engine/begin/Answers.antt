@@ -3,7 +3,7 @@ use Rattle.std.specs.Prelude.{IfSome}
 use Rattle.lethe_base.specs.declared.call.Call.TheVariants.{Work}
 use Rattle.lethe_base.specs.declared.refused.Refused.TheVariants.{NothingDue, NoMemory, Stopped}
 use Rattle.lethe_advance.specs.Shown.{parts_by_level}
-use Rattle.lethe_job.specs.Tasks.{IsBegunIn, plain_task}
+use Rattle.lethe_job.specs.Works.{IsBegunIn, plain_task}
 use Rattle.lethe_core.specs.Asked.{Serves}
 use Rattle.lethe_core.specs.Jobs.{with_begun}
 use Rattle.lethe_core.specs.View.{face_of, view_of}

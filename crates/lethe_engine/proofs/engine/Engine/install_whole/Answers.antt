@@ -1,21 +1,21 @@
 use Rattle.std.proofs.Common.{rules, ◌≡◌, ◌≤◌, ◌+◌, ◌-◌, inl, Option, Result, Ok, Err, Some, None, length, refl, sym, ap, ◌∙◌, subst}
-use Rattle.std.specs.Prelude.{IfErr, IfSome, IsSome, OnOk, option_map, sum_by}
+use Rattle.std.specs.Prelude.{IfErr, IfSome, IsSome, OnOk, option_map}
 use Rattle.std.specs.Result.{result_err}
 use Rattle.lethe_base.specs.Limits.{max_place}
 use Rattle.lethe_base.specs.declared.call.Call.TheVariants.{Work}
 use Rattle.lethe_base.specs.declared.refused.Refused.{Refused}
-use Rattle.lethe_build.specs.Drafts.{numbers_for}
 use Rattle.lethe_core.specs.Asked.{Serves, failure_of}
 use Rattle.lethe_core.specs.Reasons.{HasReason}
 use Rattle.lethe_core.specs.Steps.{IsUndone}
 use Rattle.lethe_core.specs.View.{Flying, View, face_of, flying_of, view_of}
 use Rattle.lethe_core.specs.Jobs.{IsAtWork}
-use Rattle.lethe_core.specs.Merges.{IsInstalled}
 use Rattle.lethe_core.specs.Running.{Holds}
 use Rattle.lethe_core.proofs.Behind.{reason_behind}
 use Rattle.lethe_disk.specs.declared.disk.Disk.{Ghosts}
 use Rattle.lethe_stored.specs.Stored.{Stored}
-use Rattle.lethe_job.specs.Tasks.{plain_task}
+use Rattle.lethe_install.specs.Outcomes.{IsInstalled}
+use Rattle.lethe_job.specs.MadeOf.{numbers_in}
+use Rattle.lethe_job.specs.Works.{plain_task}
 use Rattle.lethe_job.specs.declared.job.Job.{Job}
 use Rattle.lethe_engine.specs.Refusals.{HasReasonOfJob}
 use Rattle.lethe_engine.specs.Answers.{Answers}
@@ -58,7 +58,7 @@ install_now-requires-clause-outputs g c κs within =
     let old = view_of c.args.self.now.core in
     let job = c.args.job.now in
     let works = at_work old job g.D.Disk.tells c.requires.works (c.in_ok-check_round.ensures.present c.in_ok-may_change.ensures.fits.0) in
-    outputs_flying g.D.Disk.tells old job works c.unwrap-drafts.result (sym c.take_drafts.ensures.given ∙ c.unwrap-drafts.ensures)
+    outputs_flying g.D.Disk.tells old job works c.unwrap-made.result (sym c.take_made.ensures.given ∙ c.unwrap-made.ensures)
 
 -- a reason of the step is one of the job's
 reason_of_install : {D Page Port : Type 0} {kind : Ghosts D Page Port} (Short : Type 0) (old new : View) (job : Job D Page Port kind) (result : Result (Unit {0}) Refused) → (Short → IsShortToInstall old job)
@@ -71,11 +71,11 @@ returns-clause-why g c =
     let old = view_of c.args.self.now.core in
     let new = view_of c.install_now.new.self in
     let job = c.args.job.now in
-    let drafts = c.unwrap-drafts.result in
+    let made = c.unwrap-made.result in
     let works = at_work old job g.D.Disk.tells c.requires.works (c.in_ok-check_round.ensures.present c.in_ok-may_change.ensures.fits.0) in
-    let made = sym c.take_drafts.ensures.given ∙ c.unwrap-drafts.ensures in
-    let Short = IfSome old.flight (λ flying. max_place ≤ old.state.next + (sum_by numbers_for drafts.items - length flying.written)) in
-    reason_of_install Short old new job c.install_now.result (short_flying g.D.Disk.tells old job works drafts made)
+    let is = sym c.take_made.ensures.given ∙ c.unwrap-made.ensures in
+    let Short = IfSome old.flight (λ flying. max_place ≤ old.state.next + (numbers_in made - length flying.written)) in
+    reason_of_install Short old new job c.install_now.result (short_flying g.D.Disk.tells old job works made is)
     (subst (λ before. IfErr c.install_now.result (HasReason Short old.state before new.faults)) c.faults-before.ensures c.install_now.ensures.why)
 
 outcome_in : {D Page Port : Type 0} {kind : Ghosts D Page Port} (Tells : Type 0) (old new : View) (job : Job D Page Port kind) (s : Stored) (result : Result (Unit {0}) Refused) → IsAtWork Tells old job
@@ -97,7 +97,7 @@ returns-clause-answers g c =
     let old = view_of core in
     let new = view_of c.install_now.new.self in
     let result = c.install_now.result in
-    let Short = IfSome old.flight (λ flying. max_place ≤ old.state.next + (sum_by numbers_for c.unwrap-drafts.result.items - length flying.written)) in
+    let Short = IfSome old.flight (λ flying. max_place ≤ old.state.next + (numbers_in c.unwrap-made.result - length flying.written)) in
     subst (λ face. Answers g.D.Disk.tells (Serves Work) (result_err result) face old new) (ended_by core c.install_now.new.self result c.install_now.ensures.begun c.install_now.ensures.free c.install_now.ensures.kept)
     (step_answers g.D.Disk.tells Short (result_err result) old new c.faults-before.result c.in_ok-may_change.ensures.fits.0 c.faults-before.ensures c.install_now.ensures.keeps
     (if_refused result (HasReason Short old.state c.faults-before.result new.faults) c.install_now.ensures.why) (if_refused result (IsUndone g.D.Disk.tells old new) c.install_now.ensures.undone))

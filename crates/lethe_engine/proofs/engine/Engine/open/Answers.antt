@@ -1,6 +1,8 @@
-use Rattle.std.proofs.Common.{◌≡◌, ◌+◌, None, ap, Err, sym, ◌∙◌, arith}
+use Rattle.std.proofs.Common.{◌≡◌, ◌+◌, ◌++◌, None, ap, Err, sym, ◌∙◌, arith}
 use Rattle.std.proofs.lemmas.List.{length-map}
+use Rattle.lethe_follows.proofs.Behind.{later_none}
 use Rattle.lethe_manifest.specs.declared.manifest.Manifest.{Manifest}
+use Rattle.lethe_stored.specs.Stored.{records_in}
 use Rattle.lethe_version.specs.Versions.{levels_of}
 use Rattle.lethe_advance.specs.Shown.{parts_by_level}
 use Rattle.lethe_engine.proofs.Opened.{drawn_none, opened_running, resumed, small_fresh, untouched_by}
@@ -64,6 +66,7 @@ returns-in-Ok-opened-clause-resumed g c = λ tells kept h change left.
     is.settled is.only is.untorn is.rising is.told.active is.ends c.in-Ok-opened.ensures.end remembers.1 in
     resumed c.args.config.now h again.history change (g.D.Disk.seen c.args.disk) seen faults c.new.result.items c.none.result.jobs.count c.none.result.rounds is.s state levels again.either again.was
     c.in-Ok-opened.ensures.writable running remembers.0 is.config_is again.stands
+    (later_none is.s (λ i. records_in (is.told.frozen i) ++ is.told.active i))
     (λ next from. returns-in-Ok-opened-clause-numbers g c tells next from)
 
 pub returns-in-Err-clause-untouched : goal.returns-in-Err-clause-untouched

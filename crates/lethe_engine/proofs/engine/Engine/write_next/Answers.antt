@@ -1,5 +1,4 @@
-use Rattle.std.proofs.Common.{rules, ◌≡◌, ◌∙◌, ◌≤◌, ◌<◌, Option, Some, Vec, Result, Err, List, [], ℕ, length, get_or, refl, sym, ap, subst}
-use Rattle.std.specs.declared.alloc.Global.{Global}
+use Rattle.std.proofs.Common.{rules, ◌≡◌, ◌∙◌, ◌≤◌, ◌<◌, Option, Some, Result, Err, List, [], ℕ, length, get_or, refl, sym, ap, subst}
 use Rattle.std.specs.Prelude.{IfSome, IsSome, OnOk}
 use Rattle.std.specs.Option.{option_map_or}
 use Rattle.std.specs.Result.{result_err}
@@ -7,11 +6,11 @@ use Rattle.lethe_base.specs.Limits.{max_place}
 use Rattle.lethe_base.specs.declared.call.Call.TheVariants.{Work}
 use Rattle.lethe_base.specs.declared.name.Name.{Name}
 use Rattle.lethe_base.specs.declared.refused.Refused.{Refused}
-use Rattle.lethe_build.specs.declared.draft.Draft.{Draft}
 use Rattle.lethe_clean.specs.Copied.{IsCopied}
 use Rattle.lethe_file.specs.Agreement.{page_name}
-use Rattle.lethe_flush.specs.Made.{pages_in}
 use Rattle.lethe_job.specs.Jobs.{next_bytes}
+use Rattle.lethe_job.specs.MadeOf.{pages_of}
+use Rattle.lethe_job.specs.declared.made.Made.{Made}
 use Rattle.lethe_core.specs.Asked.{Serves, failure_of}
 use Rattle.lethe_core.specs.Jobs.{with_page}
 use Rattle.lethe_core.specs.Reasons.{HasReason}
@@ -64,7 +63,7 @@ write_now-requires-clause-copied g c κs within = λ told s holds.
     let view = view_of c.args.self.now.core in
     let job = c.args.job.now in
     let works = at_work view job g.D.Disk.tells c.requires.works (c.in_ok-check_round.ensures.present c.in_ok-may_change.ensures.fits.0) in
-    let there = some_there (λ (drafts : Vec Draft Global). job.written < length (pages_in drafts.items)) job.drafts c.requires.made c.requires.left in
-    let bytes : c.next_page.result.now ≡ get_or (pages_in (there.0).items) job.written [] = c.next_page.ensures ∙ ap (λ (drafts : Option (Vec Draft Global)). option_map_or (λ drafts. get_or (pages_in drafts.items) job.written []) drafts []) there.1 in
+    let there = some_there (λ (made : Made). job.written < length (pages_of made)) job.made c.requires.made c.requires.left in
+    let bytes : c.next_page.result.now ≡ get_or (pages_of there.0) job.written [] = c.next_page.ensures ∙ ap (λ (o : Option Made). option_map_or (λ made. get_or (pages_of made) job.written []) o []) there.1 in
     subst (λ (bytes : List ℕ). IsCopied s (page_name view.state.next, bytes)) (sym bytes)
     (next_copied g.D.Disk.tells view job works s holds told view.state.next there.0 there.1 there.2)

@@ -1,6 +1,6 @@
 use Rattle.std.proofs.Common.{subst}
 use Rattle.lethe_job.specs.Jobs.{IsUnread}
-use Rattle.lethe_job.specs.Tasks.{inputs_in, plain_task}
+use Rattle.lethe_job.specs.Works.{inputs_in, plain_task}
 use Rattle.lethe_job.specs.declared.task.Task.{Task}
 use Rattle.lethe_job.proofs.Pieces.{unread}
 use Rattle.lethe_job.proofs.job.Job.make.Goals as goal

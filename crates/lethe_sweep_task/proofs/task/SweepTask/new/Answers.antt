@@ -1,5 +1,5 @@
-use Rattle.std.proofs.Common.{◌<◌, refl, arith}
-use Rattle.lethe_header.specs.Facts.{lines_of, max_seq_in}
+use Rattle.std.proofs.Common.{refl, arith}
+use Rattle.lethe_header.specs.Facts.{lines_of}
 use Rattle.lethe_sweep_task.proofs.Behind.{each_before, most_before}
 use Rattle.lethe_sweep_task.proofs.Counting.{has_line}
 use Rattle.lethe_sweep_task.proofs.task.SweepTask.new.Goals as goal

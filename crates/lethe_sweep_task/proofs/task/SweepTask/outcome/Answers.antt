@@ -1,4 +1,4 @@
-use Rattle.std.proofs.Common.{rules, ◌≡◌, ◌+◌, ◌≤◌, ◌<◌, ℕ, List, Err, map, arith, ap, sym, subst, ◌∙◌}
+use Rattle.std.proofs.Common.{rules, ◌≡◌, ◌<◌, map, ap, sym, subst, ◌∙◌}
 use Rattle.lethe_file.specs.Agreement.{FileAgrees, entries_in}
 use Rattle.lethe_file.specs.declared.view.FileView.{FileView}
 use Rattle.lethe_header.specs.declared.header.Header.{Header}

@@ -1,7 +1,0 @@
-use Rattle.std.proofs.Common.{◌≡◌, false, take}
-use Rattle.std.specs.List.{list_any}
-use Rattle.lethe_fade.specs.Claims.{claim_at, meets}
-use Rattle.lethe_fade.proofs.merge.is_free.Given as goal
-
-abbrev pub invariant-loop-claim : goal.invariant-loop-claim
-invariant-loop-claim l = list_any (meets (claim_at l.level l.keys)) (take l.claim-index l.claims) ≡ false
