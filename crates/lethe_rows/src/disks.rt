@@ -31,6 +31,30 @@ pub fn names_of(alloc: Global, disk: &mut MemDisk) -> Result<Vec<Name>, Fail> {
     }
 }
 
+/// The bytes of an object that is there.
+pub fn bytes_at(alloc: Global, disk: &mut MemDisk, name: Name) -> Result<Vec<u8>, Fail> {
+    let Ok(names) = disk.names(alloc) else {
+        return Err(Fail::new("names"));
+    };
+    if names.contains(&name) {
+        match disk.read(alloc, name) {
+            Ok(bytes) => Ok(bytes),
+            Err(_) => Err(Fail::new("bytes")),
+        }
+    } else {
+        Err(Fail::new("an object"))
+    }
+}
+
+/// Each name of what is there, with its bytes.
+pub fn objects_of(alloc: Global, disk: &mut MemDisk) -> Result<Vec<(Name, Vec<u8>)>, Fail> {
+    let mut objects = Vec::new(alloc);
+    for name in names_of(alloc, disk)? {
+        objects.push((name, bytes_at(alloc, disk, name)?))?;
+    }
+    Ok(objects)
+}
+
 /// Adds an object of a new name.
 pub fn add(
     alloc: Global,

@@ -7,7 +7,9 @@ mod run;
 mod small;
 mod texts;
 
-pub use disks::{IMAGES, add, crashed, disk_of, image_of, names_of, take_away, take_calls};
+pub use disks::{
+    IMAGES, add, bytes_at, crashed, disk_of, image_of, names_of, objects_of, take_away, take_calls,
+};
 pub use generated::{Dice, Generated, Lines, READ_AND_PUT, roomy_disk};
 pub use run::{Left, Printed, answered, answered_for, must_print, run_of, run_on, run_over};
 pub use small::{SMALL, answered_small, open_small};

@@ -9,3 +9,5 @@ mod generated_crashes;
 mod journal;
 #[cfg(test)]
 mod levels;
+#[cfg(test)]
+mod sweeps;

@@ -3,7 +3,7 @@ ghost use Rattle.std.specs.Prelude.{IfOk};
 ghost use Rattle.lethe_core.specs.Running.{IsSound};
 ghost use Rattle.lethe_core.specs.View.{view_of};
 
-use lethe_base::{Body, Config, Fields, Key, Kind, Name, Pick};
+use lethe_base::{Body, Config, Fields, Key, Kind, Pick};
 use lethe_disk::Disk;
 use lethe_engine::Engine;
 use lethe_manifest::read_manifest;
@@ -43,39 +43,25 @@ pub fn key_of(alloc: Global, text: &str) -> Result<Key, Fail> {
     Ok(Key::new(text.as_bytes().to_vec(alloc)?)?)
 }
 
-/// The objects of a kind, each by its bytes.
-fn objects_of(alloc: Global, disk: &mut MemDisk, kind: Kind) -> Result<Vec<Vec<u8>>, Fail> {
-    let Ok(names) = disk.names(alloc) else {
-        return Err(Fail::new("names"));
-    };
+/// The objects of a kind, each by its number and its bytes.
+pub fn objects_of(
+    alloc: Global,
+    disk: &mut MemDisk,
+    kind: Kind,
+) -> Result<Vec<(u64, Vec<u8>)>, Fail> {
     let mut objects = Vec::new(alloc);
-    for name in names {
+    for (name, bytes) in lethe_rows::objects_of(alloc, disk)? {
         if name.kind == kind {
-            objects.push(bytes_of(alloc, disk, name)?)?;
+            objects.push((name.no, bytes))?;
         }
     }
     Ok(objects)
 }
 
-/// The bytes of the object of that name.
-fn bytes_of(alloc: Global, disk: &mut MemDisk, name: Name) -> Result<Vec<u8>, Fail> {
-    let Ok(names) = disk.names(alloc) else {
-        return Err(Fail::new("names"));
-    };
-    if names.contains(&name) {
-        match disk.read(alloc, name) {
-            Ok(bytes) => Ok(bytes),
-            Err(_) => Err(Fail::new("bytes")),
-        }
-    } else {
-        Err(Fail::new("an object"))
-    }
-}
-
 /// The places of the erases of the manifests.
 pub fn erases_of(alloc: Global, disk: &mut MemDisk) -> Result<Vec<u64>, Fail> {
     let mut places = Vec::new(alloc);
-    for bytes in &objects_of(alloc, disk, Kind::Manifest)? {
+    for (_, bytes) in &objects_of(alloc, disk, Kind::Manifest)? {
         let manifest = read_manifest(alloc, bytes).ok().ok_or("a manifest")?;
         for erase in manifest.erases.items() {
             places.push(erase.seq)?;
@@ -87,7 +73,7 @@ pub fn erases_of(alloc: Global, disk: &mut MemDisk) -> Result<Vec<u64>, Fail> {
 /// How many puts the pages have.
 pub fn count_puts(alloc: Global, disk: &mut MemDisk) -> Result<usize, Fail> {
     let mut count: usize = 0;
-    for bytes in &objects_of(alloc, disk, Kind::Page)? {
+    for (_, bytes) in &objects_of(alloc, disk, Kind::Page)? {
         let (_, entries) = read_page(alloc, bytes).ok().ok_or("a page")?;
         for entry in &entries {
             if let Body::Put { .. } = entry.body {

@@ -15,13 +15,13 @@ enum Step {
     Freeze,
     Flush,
     Begin,
-    Install,
+    Install(usize),
 }
 
 /// A step, how many erases are still to be done behind it, and the places of those that the manifest has then.
 type Row = (Step, u64, &'static [u64]);
 
-const ROWS: [Row; 14] = [
+const IN_TURN: [Row; 14] = [
     // Nothing waits for an erase with no put in front of it.
     (Step::Erase, 0, &[]),
     (Step::Put("a"), 0, &[]),
@@ -40,7 +40,44 @@ const ROWS: [Row; 14] = [
     (Step::Flush, 2, &[1, 4, 5]),
     // None leaves while a job is in flight, and with its outputs all are done.
     (Step::Begin, 2, &[1, 4, 5]),
-    (Step::Install, 0, &[]),
+    (Step::Install(0), 0, &[]),
+];
+
+/// A job that sweeps, with a flush and other erases beside it.
+const BESIDE_A_SWEEP: [Row; 13] = [
+    (Step::Put("a"), 0, &[]),
+    (Step::Freeze, 0, &[]),
+    (Step::Flush, 0, &[]),
+    (Step::Erase, 1, &[]),
+    (Step::Begin, 1, &[]),
+    (Step::Put("b"), 1, &[]),
+    (Step::Erase, 2, &[]),
+    (Step::Freeze, 2, &[]),
+    (Step::Erase, 3, &[]),
+    // The flush applies all three to the second put, of which nothing is left. The first file waits for them.
+    (Step::Flush, 3, &[2, 4, 5]),
+    // With that file all are done. The last one stays, since the active segment records it.
+    (Step::Install(0), 0, &[5]),
+    (Step::Freeze, 0, &[5]),
+    (Step::Flush, 0, &[5]),
+];
+
+/// A job that merges, with a flush and an erase beside it, and then the one that sweeps what it made.
+const BESIDE_A_MERGE: [Row; 13] = [
+    (Step::Put("a"), 0, &[]),
+    (Step::Freeze, 0, &[]),
+    (Step::Flush, 0, &[]),
+    (Step::Put("b"), 0, &[]),
+    (Step::Freeze, 0, &[]),
+    (Step::Flush, 0, &[]),
+    (Step::Begin, 0, &[]),
+    (Step::Erase, 1, &[]),
+    (Step::Freeze, 1, &[]),
+    (Step::Flush, 1, &[3]),
+    // The outputs are swept up to where the job began.
+    (Step::Install(0), 1, &[3]),
+    (Step::Begin, 1, &[3]),
+    (Step::Install(1), 0, &[]),
 ];
 
 fn event_of(alloc: Global, step: Step) -> Result<Event, Fail> {
@@ -56,15 +93,15 @@ fn event_of(alloc: Global, step: Step) -> Result<Event, Fail> {
         Step::Freeze => Event::Freeze,
         Step::Flush => Event::Flush,
         Step::Begin => Event::Begin,
-        Step::Install => Event::Install { job: 0 },
+        Step::Install(job) => Event::Install { job },
     })
 }
 
 /// How many erases are still to be done behind the first steps, and the disk then.
-fn behind(alloc: Global, count: usize) -> Result<(u64, MemDisk), Fail> {
+fn behind(alloc: Global, rows: &[Row], count: usize) -> Result<(u64, MemDisk), Fail> {
     let mut engine = opened(alloc, empty_disk(alloc)?)?;
     let mut events = Vec::new(alloc);
-    for (step, _, _) in ROWS.iter().take(count) {
+    for (step, _, _) in rows.iter().take(count) {
         events.push(event_of(alloc, *step)?)?;
     }
     let mut port = engine.new_port(alloc)?;
@@ -72,24 +109,36 @@ fn behind(alloc: Global, count: usize) -> Result<(u64, MemDisk), Fail> {
     Ok((engine.stat().pending, engine.into_disk()))
 }
 
-#[test]
-fn erases_leave_with_an_install_once_nothing_waits_for_them(rt: HostRuntime) -> Result<(), Fail> {
-    let alloc = rt.alloc();
+/// Carries the rows out from the first on, up to each of them.
+fn keep_so(alloc: Global, rows: &[Row]) -> Result<(), Fail> {
     let mut count: usize = 0;
-    for (_, pending, kept) in &ROWS {
+    for (_, pending, kept) in rows {
         count = count.saturating_add(1);
-        let (told, mut disk) = behind(alloc, count)?;
-        assert_eq!(rt; told, *pending);
-        assert_eq!(rt; erases_of(alloc, &mut disk)?.as_slice(), *kept);
+        let (told, mut disk) = behind(alloc, rows, count)?;
+        let places = erases_of(alloc, &mut disk)?;
+        if told != *pending || places.as_slice() != *kept {
+            return Err(Fail::new(format_args!("row {count}: {told} {places:?}")));
+        }
     }
     Ok(())
+}
+
+#[test]
+fn erases_leave_with_an_install_once_nothing_waits_for_them(rt: HostRuntime) -> Result<(), Fail> {
+    keep_so(rt.alloc(), &IN_TURN)
+}
+
+#[test]
+fn a_flush_beside_a_job_keeps_its_erases(rt: HostRuntime) -> Result<(), Fail> {
+    keep_so(rt.alloc(), &BESIDE_A_SWEEP)?;
+    keep_so(rt.alloc(), &BESIDE_A_MERGE)
 }
 
 /// An opening keeps those for which the file waits.
 #[test]
 fn erases_that_are_done_leave_with_an_opening(rt: HostRuntime) -> Result<(), Fail> {
     let alloc = rt.alloc();
-    let (_, disk) = behind(alloc, 9)?;
+    let (_, disk) = behind(alloc, &IN_TURN, 9)?;
     let engine = opened(alloc, disk)?;
     assert_eq!(rt; engine.stat().pending, 2);
     let mut disk = engine.into_disk();

@@ -1,4 +1,4 @@
-//! Tests of erases in a store: which are still to be done, which of them a manifest keeps, and what a job leaves that was begun before one.
+//! Tests of erases in a store: which are still to be done, which of them a manifest keeps, what a job leaves that was begun before one, and which files are swept of them in turn.
 #![tactic(auto)]
 
 #[cfg(test)]
@@ -7,3 +7,7 @@ mod common;
 mod jobs;
 #[cfg(test)]
 mod kept;
+#[cfg(test)]
+mod stores;
+#[cfg(test)]
+mod sweeps;

@@ -3,7 +3,7 @@ ghost use Rattle.std.specs.Prelude.{IfOk, IfSome};
 ghost use Rattle.lethe_core.specs.Running.{IsSound};
 ghost use Rattle.lethe_core.specs.View.{view_of};
 
-use lethe_base::{Config, Fields, Key, MAX_TIME, Pick, Refused, Value};
+use lethe_base::{Config, Fields, Key, MAX_TIME, Pick, Range, Refused, Value};
 use lethe_disk::Disk;
 use lethe_engine::{Engine, Ticked};
 use lethe_memdisk::MemDisk;
@@ -74,6 +74,16 @@ pub fn delete<D: Disk>(alloc: Global, engine: &mut Engine<D>, key: &str) -> Resu
 {
     let mut port = engine.new_port(alloc)?;
     Ok(engine.delete(alloc, &mut port, key_of(alloc, key)?)?)
+}
+
+/// Erases the delete keys from the first up to the second.
+pub fn erase<D: Disk>(alloc: Global, engine: &mut Engine<D>, lo: u64, hi: u64) -> Result<u64, Fail>
+    requires { IsSound D.tells (view_of engine.old.core) }
+    ensures { IsSound D.tells (view_of engine.new.core) }
+{
+    let range = Range::new(lo, hi).ok_or("a range")?;
+    let mut port = engine.new_port(alloc)?;
+    Ok(engine.erase(alloc, &mut port, range)?)
 }
 
 /// What is asked of a store. A put has a key, a delete key and a value.

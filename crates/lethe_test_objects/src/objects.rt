@@ -1,11 +1,11 @@
 //! Each object of a disk, read back as a whole.
 
 use lethe_base::{Body, Entry, Kind, Name};
-use lethe_disk::Disk;
 use lethe_header::read_header;
 use lethe_manifest::read_manifest;
 use lethe_memdisk::MemDisk;
 use lethe_page::read_page;
+use lethe_rows::objects_of;
 use lethe_segment::{Record, replay, segment_number, write_segment};
 use std::alloc::Global;
 use std::test::Fail;
@@ -113,29 +113,10 @@ impl Held {
     }
 }
 
-/// The bytes of the object of that name.
-pub fn bytes_of(alloc: Global, disk: &mut MemDisk, name: Name) -> Result<Vec<u8>, Fail> {
-    let Ok(names) = disk.names(alloc) else {
-        return Err(Fail::new("names"));
-    };
-    if names.contains(&name) {
-        match disk.read(alloc, name) {
-            Ok(bytes) => Ok(bytes),
-            Err(_) => Err(Fail::new("bytes")),
-        }
-    } else {
-        Err(Fail::new("an object"))
-    }
-}
-
 /// Reads each object back. It fails where one isn't its spelling, whole and with nothing behind it.
 pub fn held_by(alloc: Global, disk: &mut MemDisk) -> Result<Held, Fail> {
-    let Ok(names) = disk.names(alloc) else {
-        return Err(Fail::new("names"));
-    };
     let mut held = Held::new(alloc);
-    for name in names {
-        let bytes = bytes_of(alloc, disk, name)?;
+    for (name, bytes) in objects_of(alloc, disk)? {
         held.add_object(alloc, name, &bytes)?;
     }
     Ok(held)

@@ -3,11 +3,12 @@ ghost use Rattle.lethe_core.specs.Running.{IsSound};
 ghost use Rattle.lethe_core.specs.View.{view_of};
 
 use crate::common::{Ask, answer, disk_of, opened, tick};
-use crate::objects::{bytes_of, held_by};
+use crate::objects::held_by;
 use lethe_base::{Kind, MAX_TIME, Refused};
 use lethe_disk::Disk;
 use lethe_engine::Engine;
 use lethe_memdisk::MemDisk;
+use lethe_rows::objects_of;
 use sha2::{Digest, Sha256};
 use std::alloc::Global;
 use std::test::Fail;
@@ -213,9 +214,9 @@ fn a_certificate_has_the_digest_of_the_manifest(rt: HostRuntime) -> Result<(), F
 /// The bytes of the manifests.
 fn manifests_of(alloc: Global, disk: &mut MemDisk) -> Result<Vec<Vec<u8>>, Fail> {
     let mut manifests = Vec::new(alloc);
-    for name in disk.names(alloc)? {
+    for (name, bytes) in objects_of(alloc, disk)? {
         if name.kind == Kind::Manifest {
-            manifests.push(bytes_of(alloc, disk, name)?)?;
+            manifests.push(bytes)?;
         }
     }
     Ok(manifests)

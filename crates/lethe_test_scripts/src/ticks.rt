@@ -1,9 +1,8 @@
 //! Ticks and their certificates.
 
-use crate::unopened::objects_of;
 use lethe_base::Kind;
 use lethe_memdisk::MemDisk;
-use lethe_rows::{SMALL, answered_small, disk_of, run_over};
+use lethe_rows::{SMALL, disk_of, objects_of, run_over};
 use sha2::{Digest, Sha256};
 use std::alloc::Global;
 use std::test::Fail;
@@ -14,7 +13,7 @@ type Row = (&'static str, &'static str, bool);
 /// The put of the key `a` with the delete key 5 and the value `x`, as it stands in a segment or a page.
 const PUT: &[u8] = b"\x01a\0\0\0\0\0\0\0\x05\0\x01x";
 
-const ROWS: [Row; 13] = [
+const ROWS: [Row; 14] = [
     (
         "1 put a 5 x\n1 del a\n1 tick 99\n1 get a\n1 tick 100\n",
         "1 ok 1\n1 ok 2\n1 ok 3 clock 99\n1 at 3 none\n1 ok 4 clock 100 cert 1 before 0 sha256 H\n",
@@ -65,15 +64,20 @@ const ROWS: [Row; 13] = [
         "1 ok 1\n1 ok 2\n1 ok 3 clock 32\n1 at 3 stat clock 32 pins 0 pending 1 files 0 tombs 0\n",
         true,
     ),
+    // Of nine puts the first four are in a file. What is erased there may stay for a threshold; then the file is swept, and what isn't erased stays.
     (
-        "1 put k 1 old\n1 put z 2 q\n1 del z\n1 tick 40\n1 put k 15 new\n1 erase 10 20\n1 get k\n1 tick 140\n1 get k\n1 stat\n",
-        "1 ok 1\n1 ok 2\n1 ok 3\n1 ok 4 clock 40\n1 ok 5\n1 ok 6\n1 at 6 none\n1 ok 7 clock 140 cert 1 before 40 sha256 H\n1 at 7 none\n1 at 7 stat clock 140 pins 0 pending 0 files 0 tombs 0\n",
+        "1 put a 5 x\n1 put b 1 x\n1 put c 1 x\n1 put d 1 x\n1 put e 1 x\n1 put f 1 x\n1 put g 1 x\n1 put h 1 x\n1 put i 1 x\n1 erase 5 6\n1 get a\n1 tick 99\n1 stat\n",
+        "1 ok 1\n1 ok 2\n1 ok 3\n1 ok 4\n1 ok 5\n1 ok 6\n1 ok 7\n1 ok 8\n1 ok 9\n1 ok 10\n1 at 10 none\n1 ok 11 clock 99\n1 at 11 stat clock 99 pins 0 pending 1 files 3 tombs 0\n",
+        true,
+    ),
+    (
+        "1 put a 5 x\n1 put b 1 x\n1 put c 1 x\n1 put d 1 x\n1 put e 1 x\n1 put f 1 x\n1 put g 1 x\n1 put h 1 x\n1 put i 1 x\n1 erase 5 6\n1 tick 99\n1 tick 100\n1 scan a z\n1 stat\n",
+        "1 ok 1\n1 ok 2\n1 ok 3\n1 ok 4\n1 ok 5\n1 ok 6\n1 ok 7\n1 ok 8\n1 ok 9\n1 ok 10\n1 ok 11 clock 99\n1 ok 12 clock 100 cert 1 before 0 sha256 H\n1 at 12 scan 8 b 1 x c 1 x d 1 x e 1 x f 1 x g 1 x h 1 x i 1 x\n1 at 12 stat clock 100 pins 0 pending 0 files 3 tombs 0\n",
         false,
     ),
-    // What is erased may stay in a file for a threshold.
     (
-        "1 put a 5 x\n1 put b 1 x\n1 put c 1 x\n1 put d 1 x\n1 tick 0\n1 erase 1 2\n1 tick 99\n",
-        "1 ok 1\n1 ok 2\n1 ok 3\n1 ok 4\n1 ok 5 clock 0\n1 ok 6\n1 ok 7 clock 99\n",
+        "1 put a 5 x\n1 put b 1 x\n1 put c 1 x\n1 put d 1 x\n1 put e 1 x\n1 put f 1 x\n1 put g 1 x\n1 put h 1 x\n1 put i 1 x\n1 erase 1 2\n1 tick 100\n1 scan a z\n1 stat\n",
+        "1 ok 1\n1 ok 2\n1 ok 3\n1 ok 4\n1 ok 5\n1 ok 6\n1 ok 7\n1 ok 8\n1 ok 9\n1 ok 10\n1 ok 11 clock 100 cert 1 before 0 sha256 H\n1 at 11 scan 1 a 5 x\n1 at 11 stat clock 100 pins 0 pending 0 files 1 tombs 0\n",
         true,
     ),
     // The least and the greatest time.
@@ -157,22 +161,48 @@ fn certificates_are_numbered_over_the_whole_life_of_a_store(rt: HostRuntime) -> 
     Ok(())
 }
 
-/// Nine puts, of which the first four are in a file.
-const NINE_PUTS: &str =
-    "1 put a 5 x\n1 put b 1 x\n1 put c 1 x\n1 put d 1 x\n1 put e 1 x\n1 put f 1 x\n1 put g 1 x\n1 put h 1 x\n1 put i 1 x\n";
+/// A put that a range erases, over one that it replaced.
+const REPLACED: &str =
+    "1 put k 1 old\n1 put z 2 q\n1 del z\n1 tick 40\n1 put k 15 new\n1 erase 10 20\n1 get k\n1 tick 140\n1 get k\n";
 
-const NINE_OK: &str = "1 ok 1\n1 ok 2\n1 ok 3\n1 ok 4\n1 ok 5\n1 ok 6\n1 ok 7\n1 ok 8\n1 ok 9\n";
+const GONE: &str =
+    "1 ok 1\n1 ok 2\n1 ok 3\n1 ok 4 clock 40\n1 ok 5\n1 ok 6\n1 at 6 none\n1 ok 7 clock 140 cert 1 before 40 sha256 H\n1 at 7 none\n";
 
-/// Files aren't swept yet: a tick is refused that would leave what was erased a threshold ago.
+/// Whether there is a header or a page of a file.
+fn has_file(alloc: Global, disk: &mut MemDisk) -> Result<bool, Fail> {
+    for (name, _) in objects_of(alloc, disk)? {
+        if name.kind == Kind::File || name.kind == Kind::Page {
+            return Ok(true);
+        }
+    }
+    Ok(false)
+}
+
 #[test]
-fn a_tick_is_refused_where_an_erase_is_still_to_be_done(rt: HostRuntime) -> Result<(), Fail> {
+fn no_file_is_left_of_what_was_erased(rt: HostRuntime) -> Result<(), Fail> {
     let alloc = rt.alloc();
-    let script = format!(in alloc;
-        "{NINE_PUTS}1 erase 5 6\n1 get a\n1 tick 99\n1 tick 100\n1 get a\n"
-    )?;
-    let text = format!(in alloc;
-        "{NINE_OK}1 ok 10\n1 at 10 none\n1 ok 11 clock 99\n1 undone 10\n1 at 11 none\n"
-    )?;
-    answered_small(alloc, &script, disk_of(alloc, &[])?, 6, &text)?;
+    let disk = disk_of(alloc, &[])?;
+    let mut left = run_over(alloc, &SMALL, REPLACED.as_bytes(), &[], &[], disk)?;
+    let digest = digest_of(alloc, &mut left.disk)?;
+    left.printed
+        .must_be(0, &with_digest(alloc, GONE, &digest)?)?;
+    assert!(rt; !has_file(alloc, &mut left.disk)?);
     Ok(())
+}
+
+/// A script over the defaults: a retention in days, of which one is erased.
+const RETENTION: &str =
+    "# retention in days\n1 put user:17 20240 =7b7d\n1 put user:18 20241 alice\n1 tick 5\n1 erase 20240 20241\n1 scan user:0 user:9\n1 tick 1005\n";
+
+const RETAINED: &str =
+    "1 ok 1\n1 ok 2\n1 ok 3 clock 5\n1 ok 4\n1 at 4 scan 1 user:18 20241 alice\n1 ok 5 clock 1005 cert 1 before 5 sha256 H\n";
+
+#[test]
+fn a_day_that_was_erased_is_gone_a_threshold_later(rt: HostRuntime) -> Result<(), Fail> {
+    let alloc = rt.alloc();
+    let disk = disk_of(alloc, &[])?;
+    let mut left = run_over(alloc, &["run"], RETENTION.as_bytes(), &[], &[], disk)?;
+    let digest = digest_of(alloc, &mut left.disk)?;
+    left.printed
+        .must_be(0, &with_digest(alloc, RETAINED, &digest)?)
 }

@@ -1,9 +1,10 @@
 //! Disks that a run doesn't open, or where numbers run out, and runs that leave their disk untouched.
 
-use lethe_base::{Kind, Name};
-use lethe_disk::Disk;
+use lethe_base::Kind;
 use lethe_memdisk::MemDisk;
-use lethe_rows::{add, answered, bytes_of, disk_of, filled, names_of, open_small, run_over};
+use lethe_rows::{
+    add, answered, bytes_of, disk_of, filled, names_of, objects_of, open_small, run_over,
+};
 use std::alloc::Global;
 use std::test::Fail;
 
@@ -64,30 +65,6 @@ fn a_store_without_its_segment_stays_as_it_was(rt: HostRuntime) -> Result<(), Fa
     add(alloc, &mut disk, Kind::Segment, 1, ONE)?;
     answered(alloc, "1 get a\n", disk, 0, "1 at 1 val 5 x\n")?;
     Ok(())
-}
-
-// The bytes of an object that is there.
-fn bytes_at(alloc: Global, disk: &mut MemDisk, name: Name) -> Result<Vec<u8>, Fail> {
-    let Ok(names) = disk.names(alloc) else {
-        return Err(Fail::new("names"));
-    };
-    if names.contains(&name) {
-        match disk.read(alloc, name) {
-            Ok(bytes) => Ok(bytes),
-            Err(_) => Err(Fail::new("bytes")),
-        }
-    } else {
-        Err(Fail::new("an object"))
-    }
-}
-
-/// Each name of what is there, with its bytes.
-pub fn objects_of(alloc: Global, disk: &mut MemDisk) -> Result<Vec<(Name, Vec<u8>)>, Fail> {
-    let mut objects = Vec::new(alloc);
-    for name in names_of(alloc, disk)? {
-        objects.push((name, bytes_at(alloc, disk, name)?))?;
-    }
-    Ok(objects)
 }
 
 #[test]

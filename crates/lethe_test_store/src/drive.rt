@@ -246,7 +246,7 @@ fn a_tick_takes_a_place(rt: HostRuntime) -> Result<(), Fail> {
     run_over_two_files(alloc, disk, &[(&TICKS, &TICKS_TOLD, 1)])
 }
 
-/// A job that was begun before an erase doesn't apply it, and no file is swept for it.
+/// A job that was begun before an erase doesn't apply it. The tick a threshold later sweeps the file that it made, of which nothing is left.
 const ERASED: [Ask; 11] = [
     Ask::Begin,
     Ask::Erase(7, 8),
@@ -272,14 +272,14 @@ const ERASED_TOLD: [Told; 11] = [
     Told::Flag(true),
     Told::Flag(true),
     Told::Ticked(10, 99),
-    Told::Refused(Refused::Undone { erase: 9 }),
+    Told::Ticked(11, 100),
 ];
 
 #[test]
 fn a_job_keeps_the_erases_of_its_begin(rt: HostRuntime) -> Result<(), Fail> {
     let alloc = rt.alloc();
     let disk = MemDisk::new(alloc, 1000, Vec::new(alloc))?;
-    run_over_two_files(alloc, disk, &[(&ERASED, &ERASED_TOLD, 1)])
+    run_over_two_files(alloc, disk, &[(&ERASED, &ERASED_TOLD, 0)])
 }
 
 const ENDS: [Ask; 11] = [

@@ -15,3 +15,5 @@ mod flush;
 mod recover;
 #[cfg(test)]
 mod state;
+#[cfg(test)]
+mod sweeps;

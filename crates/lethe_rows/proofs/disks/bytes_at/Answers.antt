@@ -4,7 +4,7 @@ use Rattle.std.specs.Prelude.{Contains, IsSome}
 use Rattle.lethe_disk.specs.Directory.{object}
 use Rattle.lethe_memdisk.specs.Held.{Held, seen_of}
 use Rattle.lethe_commit.proofs.Listed.{listed, found_decides}
-use Rattle.lethe_test_erases.proofs.common.bytes_of.Goals as goal
+use Rattle.lethe_rows.proofs.disks.bytes_at.Goals as goal
 
 pub read-requires : goal.read-requires
 read-requires c =
