@@ -23,6 +23,13 @@ pub record IsWaiting (disk : Seen) (segment : Name) (at : ℕ) (a : Addition) : 
 abbrev pub end_of : ℕ → Addition → ℕ
 end_of at a = at + 1 + length (record_bytes a.next)
 
+-- the record of this place in the history waits behind its gate, and its own closed gate stands at the end
+pub record Waits (disk : Seen) (segment : Name) (at end seq : ℕ) : Type 0 where
+  pub addition : Addition
+  pub waits : IsWaiting disk segment at addition
+  pub ends : end ≡ end_of at addition
+  pub place : record_seq addition.next ≡ seq
+
 -- these bytes are the spelling of the record behind the one that waits
 pub record IsBehind (a : Addition) (body : List ℕ) (b : Addition) : Type 0 where
   pub number : b.number ≡ a.number

@@ -1,5 +1,5 @@
 -- Each object of a directory that has what is stored is a spelling, and what it spells is stored.
-use Rattle.std.proofs.Common.{◌≡◌, inl, inr, ℕ, ◌<◌, ◌^◌, List, [], ◌∷◌, ◌++◌, map, Contains, Option, Some, None, refl, sym, ap, ◌∙◌, subst, arith}
+use Rattle.std.proofs.Common.{◌≡◌, ◌⊎◌, inl, inr, ℕ, ◌<◌, ◌^◌, List, [], ◌∷◌, ◌++◌, map, Contains, Option, Some, None, refl, sym, ap, ◌∙◌, subst, arith}
 use Rattle.std.specs.Prelude.{All, filter_map, is_some, option_to_list, zip}
 use Rattle.std.specs.List.{AllZip}
 use Rattle.std.proofs.Math.Logic.{⊎_elim}
@@ -45,7 +45,7 @@ use Rattle.lethe_stored.proofs.Meanings.{frozen_are}
 use Rattle.lethe_follows.proofs.Following.{file_in}
 use Rattle.lethe_advance.specs.Settled.{HasOnly}
 use Rattle.lethe_advance.specs.Untorn.{IsPlain, IsUntorn}
-use Rattle.lethe_clean.specs.Copied.{IsCopied, IsOriginal}
+use Rattle.lethe_clean.specs.Copied.{IsCopied, IsOriginal, IsTimely}
 
 -- The entry was put at its place in the history, and isn't overdue at the clock.
 pub record IsTold (threshold : ℕ) (h : History) (entry : Entry) : Type 0 where
@@ -100,6 +100,23 @@ module _ (h : History) (s : Stored) (coherent : IsCoherent s) (stands : IsFor h 
         let same : other ≡ entries = (same_page page.class spelled.class other entries page.spelled spelled.spelled (sym page.is ∙ spelled.is)).1 in
         told entry (subst (λ list. Contains list entry) same there) put;
   }
+
+  copied_told : (named : Name × List ℕ) → IsCopied s named → IsToldIn threshold h named.0 named.1
+  copied_told named is = page_told named.0 named.1 is.page is.entries is.spelled (λ entry inside put.
+      let from : IsOriginal (files_of (layout_of s)) entry =
+      All-contains (λ entry. IsPut entry.body → IsOriginal (files_of (layout_of s)) entry) is.entries entry is.copies inside put in
+      let told = filed_told from.original from.filed (subst IsPut (sym from.body) put) in
+      record {
+        placed = subst (λ b. IsPlaced h entry.seq entry.key b) from.body (subst (λ k. IsPlaced h entry.seq k from.original.body) from.key
+            (subst (λ n. IsPlaced h n from.original.key from.original.body) from.seq told.placed));
+        timely = subst (λ n. IsOverdue threshold h (after h).clock n → ⊥) from.seq told.timely;
+      })
+
+  timely_told : (named : Name × List ℕ) → IsTimely threshold (after h).clock h named → IsToldIn threshold h named.0 named.1
+  timely_told named is = page_told named.0 named.1 is.page is.entries is.spelled (λ entry inside put. record {
+    placed = All-contains (λ (entry : Entry). IsPut entry.body → IsPlaced h entry.seq entry.key entry.body) is.entries entry is.placed inside put;
+    timely = All-contains (λ (entry : Entry). IsPut entry.body → IsOverdue threshold h (after h).clock entry.seq → ⊥) is.entries entry is.timely inside put;
+  })
 
   -- a page of a stored file has entries of the file
   file_entry : (file : StoredFile) → Contains s.files file → (page : List ℕ) → Contains file.pages page
@@ -171,7 +188,7 @@ module _ (h : History) (s : Stored) (coherent : IsCoherent s) (stands : IsFor h 
   -- The directory
 
   module _ (loose : List (Name × List ℕ)) (d : Directory) (encodes : Encodes d s)
-      (only : HasOnly s loose d) (untorn : IsUntorn s d) (copied : All (IsCopied s) loose) where
+      (only : HasOnly s loose d) (untorn : IsUntorn s d) (each : All (λ named. IsCopied s named ⊎ IsTimely threshold (after h).clock h named) loose) where
     -- what the directory has under a name
     found : (name : Name) (known bytes : List ℕ) → object d name ≡ Some known → object d name ≡ Some bytes → IsToldIn threshold h name known → IsToldIn threshold h name bytes
     found name known bytes here there told = subst (IsToldIn threshold h name) (one_object (object d name) known bytes here there) told
@@ -192,17 +209,8 @@ module _ (h : History) (s : Stored) (coherent : IsCoherent s) (stands : IsFor h 
         (record { manifest = s.manifest; spelled = coherent.spelled; own = refl; is = refl }, refl) (λ other also. also.1)
 
     loose_told : (named : Name × List ℕ) → Contains loose named → IsToldIn threshold h named.0 named.1
-    loose_told named there =
-        let is = All-contains (IsCopied s) loose named copied there in
-        page_told named.0 named.1 is.page is.entries is.spelled (λ entry inside put.
-        let from : IsOriginal (files_of (layout_of s)) entry =
-        All-contains (λ entry. IsPut entry.body → IsOriginal (files_of (layout_of s)) entry) is.entries entry is.copies inside put in
-        let told = filed_told from.original from.filed (subst IsPut (sym from.body) put) in
-        record {
-          placed = subst (λ b. IsPlaced h entry.seq entry.key b) from.body (subst (λ k. IsPlaced h entry.seq k from.original.body) from.key
-              (subst (λ n. IsPlaced h n from.original.key from.original.body) from.seq told.placed));
-          timely = subst (λ n. IsOverdue threshold h (after h).clock n → ⊥) from.seq told.timely;
-        })
+    loose_told named there = ⊎_elim (copied_told named) (timely_told named)
+        (All-contains (λ named. IsCopied s named ⊎ IsTimely threshold (after h).clock h named) loose named each there)
 
     segment_found : (number : ℕ) (bytes : List ℕ) → Contains (segment_numbers s) number → object d (segment_name number) ≡ Some bytes → IsToldIn threshold h (segment_name number) bytes
     segment_found number bytes there here = ⊎_elim

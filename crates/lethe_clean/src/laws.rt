@@ -1,5 +1,5 @@
 //! When a directory is clean, what pages of a merge have, and what leaves nothing torn.
-ghost use Rattle.std.specs.Prelude.{◌≡◌, ℕ, List, [], ◌∷◌, ◌++◌, Bool, Some, All, Contains};
+ghost use Rattle.std.specs.Prelude.{◌≡◌, ◌⊎◌, ℕ, List, [], ◌∷◌, ◌++◌, Bool, Some, All, Contains};
 ghost use Rattle.std.specs.FinMap.{insert};
 ghost use Rattle.lethe_base.specs.History.{History, after};
 ghost use Rattle.lethe_base.specs.declared.name.Name.{Name};
@@ -25,12 +25,13 @@ ghost use Rattle.lethe_advance.specs.Steps.{IsStep};
 ghost use Rattle.lethe_advance.specs.Untorn.{IsUntorn};
 ghost use Rattle.lethe_advance.specs.declared.new_header.NewHeader.{NewHeader};
 ghost use Rattle.lethe_advance.specs.declared.step.Step.{Step};
-ghost use Rattle.lethe_clean.specs.Copied.{IsCopied};
+ghost use Rattle.lethe_clean.specs.Copied.{IsCopied, IsTimely};
 
-/// A directory that has what is stored, untorn, and beside it only pages of which each put is a stored file's, is clean at the history's clock.
+/// A directory that has what is stored, untorn, and beside it only pages of which each put is a stored file's, or none is overdue, is clean at the history's clock.
 pub fn stored_is_clean()
     ensures { (h : History) (s : Stored) (loose : List (Name × List ℕ)) (d : Directory) → IsCoherent s → Encodes d s → IsFor h s
-        → HasOnly s loose d → IsUntorn s d → All (IsCopied s) loose → IsClean s.manifest.config.threshold d h (after h).clock }
+        → HasOnly s loose d → IsUntorn s d → All (λ named. IsCopied s named ⊎ IsTimely s.manifest.config.threshold (after h).clock h named) loose
+        → IsClean s.manifest.config.threshold d h (after h).clock }
 {}
 
 /// The pages of a merge's outputs, under whatever numbers, have only puts that stored files have.

@@ -1,5 +1,6 @@
 -- A job that was begun is in flight.
 use Rattle.std.proofs.Common.{◌≡◌, ◌≤◌, ◌+◌, ◌++◌, ℕ, [], All, Some, None, refl, subst}
+use Rattle.std.proofs.lemmas.List.Elements.{All-nil}
 use Rattle.lethe_base.specs.History.{History}
 use Rattle.lethe_base.specs.Limits.{max_place, max_time}
 use Rattle.lethe_base.specs.declared.config.Fields.{Fields}
@@ -8,6 +9,7 @@ use Rattle.lethe_stored.specs.Stored.{Stored}
 use Rattle.lethe_advance.specs.Settled.{AreDrawn, AreUncited, HasOnly, names_in}
 use Rattle.lethe_clean.specs.Copied.{IsCopied}
 use Rattle.lethe_job.specs.Works.{IsBegunIn, IsInLevels, PlainTask, applied_upto, erases_of}
+use Rattle.lethe_core.proofs.Beside.{none_drawn}
 use Rattle.lethe_core.specs.Running.{Holds, IsFlying, IsRunning, IsSound}
 use Rattle.lethe_core.specs.StandsNow.{StandsNow}
 use Rattle.lethe_core.specs.View.{Flying, View, beside_at, loose_in}
@@ -30,7 +32,8 @@ module _ (Tells : Type 0) (old : View) (task : PlainTask) (free : old.flight ≡
         only = subst (λ flight. HasOnly s (beside_at old.disk.directory old.retired flight) old.disk.directory) free running.only;
         uncited = subst (λ flight. AreUncited s (beside_at old.disk.directory old.retired flight)) free running.uncited;
         untorn = running.untorn;
-        copied = subst (λ flight. All (IsCopied s) (beside_at old.disk.directory old.retired flight)) free running.copied;
+        copied = All-nil (IsCopied s);
+        kept = running.kept;
         rising = running.rising;
         ends = running.ends;
         current = running.current;
@@ -46,7 +49,7 @@ module _ (Tells : Type 0) (old : View) (task : PlainTask) (free : old.flight ≡
       let holds = stands_holds config h old stands runs in
       let for = stands_for config h old stands runs in
       next_stands_now config h old now stands runs s refl refl for (begun_holds s holds) (planned_counted h s task holds.remembers.coherent for (begun s holds).planned)
-      stands.recorded
+      stands.recorded (stands.timely runs)
 
   begun_flies : IsInLevels old.state.manifest.config.levels task → applied_upto task ≤ max_place → All (λ erase. erase.time ≤ max_time) (erases_of task) → IsFlying old.state flying
   begun_flies levels upto times = record { levels = levels; upto = upto; erases = times }
@@ -57,7 +60,10 @@ module _ (Tells : Type 0) (old : View) (task : PlainTask) (free : old.flight ≡
     small = sound.small;
     count = sound.count;
     flies = begun_flies levels upto times;
-    drawn = subst (λ flight. AreDrawn old.state.next (old.retired ++ names_in (loose_in flight))) free sound.drawn;
+    loose = none_drawn old.state.next;
+    drawn = λ told. subst (λ flight. AreDrawn old.state.next (old.retired ++ names_in (loose_in flight))) free (sound.drawn told);
+    pins = sound.pins;
+    pages = sound.pages;
     held = λ told. let held = sound.held told in (held.0, held.1, λ runs. begun_running held.0 (record { remembers = held.1; running = held.2 runs }));
   }
 
@@ -67,14 +73,14 @@ abbrev beside_disk : View → Seen → ℕ → View
 beside_disk view disk faults = record view { disk = disk; faults = faults }
 
 pub idle_sound : (Tells : Type 0) (view : View) (disk : Seen) (faults : ℕ) → (Tells → IsIdle view.disk disk) → IsSound Tells view → IsSound Tells (beside_disk view disk faults)
-idle_sound Tells view disk faults idle sound = sound_back Tells view (beside_disk view disk faults) (λ told. idle_back view.disk disk (idle told)) refl (record { levels = refl; retired = refl; flight = refl; begun = refl; rounds = refl }) sound
+idle_sound Tells view disk faults idle sound = sound_back Tells view (beside_disk view disk faults) (λ told. idle_back view.disk disk (idle told)) refl (record { levels = refl; retired = refl; flight = refl; begun = refl; rounds = refl; pins = refl }) sound
 
 module _ (view : View) (disk : Seen) (faults : ℕ) (idle : IsIdle view.disk disk) where
   pub idle_holds : (s : Stored) → Holds view s → Holds (beside_disk view disk faults) s
   idle_holds s holds = record {
     remembers = holds.remembers;
-    running = running_back view (beside_disk view disk faults) (idle_back view.disk disk idle) s refl (record { levels = refl; retired = refl; flight = refl; begun = refl; rounds = refl }) holds.running;
+    running = running_back view (beside_disk view disk faults) (idle_back view.disk disk idle) s refl (record { levels = refl; retired = refl; flight = refl; begun = refl; rounds = refl; pins = refl }) holds.running;
   }
 
   pub idle_stands : (config : Fields) (h : History) → StandsNow config h view → StandsNow config h (beside_disk view disk faults)
-  idle_stands config h stands = stands_back view (beside_disk view disk faults) (idle_back view.disk disk idle) config h refl (record { levels = refl; retired = refl; flight = refl; begun = refl; rounds = refl }) stands
+  idle_stands config h stands = stands_back view (beside_disk view disk faults) (idle_back view.disk disk idle) config h refl (record { levels = refl; retired = refl; flight = refl; begun = refl; rounds = refl; pins = refl }) stands

@@ -66,6 +66,8 @@ keeps_since Tells old mid new before why earlier keeps =
       any_moment = both.any_moment;
       numbers = both.numbers;
       faults = both.faults;
+      pins = both.pins;
+      pinned = both.pinned;
     }
 
 -- what was refused was no failure, then or as it is told

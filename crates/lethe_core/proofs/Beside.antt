@@ -2,13 +2,13 @@
 use Rattle.std.proofs.Common.{◌≡◌, ◌≢◌, ◌<◌, ℕ, List, [], ◌∷◌, ◌++◌, Option, refl, sym, ap, ◌∙◌, subst}
 use Rattle.std.specs.Prelude.{All, Contains, unwrap_or}
 use Rattle.std.proofs.lemmas.List.{map-append}
-use Rattle.std.proofs.lemmas.List.Elements.{All-contains, All-head, All-tail}
+use Rattle.std.proofs.lemmas.List.Elements.{All-contains, All-head, All-nil, All-tail}
 use Rattle.lethe_base.specs.declared.name.Kind.TheVariants.{Page}
 use Rattle.lethe_base.specs.declared.name.Name.{Name}
 use Rattle.lethe_disk.specs.Directory.{Directory, content}
 use Rattle.lethe_stored.specs.Encodes.{HasObject}
 use Rattle.lethe_stored.specs.Stored.{IsCited, Stored}
-use Rattle.lethe_stored.proofs.Lists.{all_left, from_map}
+use Rattle.lethe_stored.proofs.Lists.{all_left, from_map, no_pairs}
 use Rattle.lethe_tile.proofs.Orders.{pairs_append}
 use Rattle.lethe_advance.specs.Settled.{AreDrawn, AreUncited, names_in}
 use Rattle.lethe_core.specs.View.{Flying, beside_at, loose_in, named_in}
@@ -49,6 +49,10 @@ cited_apart s objects uncited name cited there =
     All-contains (λ (named : Name × List ℕ). IsCited s named.0 → ⊥) objects named.0 uncited named.1 (subst (IsCited s) (sym named.2) cited)
 
 -- Numbers that were drawn
+
+-- no name is drawn
+pub none_drawn : (next : ℕ) → AreDrawn next []
+none_drawn next = record { each = All-nil (λ (name : Name). (name.kind ≡ Page) × (name.no < next)); once = no_pairs (λ (a b : Name). a ≢ b) }
 
 -- those of the names in front
 pub drawn_front : (next : ℕ) (front behind : List Name) → AreDrawn next (front ++ behind) → AreDrawn next front

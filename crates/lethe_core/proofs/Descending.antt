@@ -17,7 +17,7 @@ use Rattle.lethe_header.specs.declared.header.TileLine.{TileLine}
 use Rattle.lethe_header.proofs.Lines.{have_few_entries}
 use Rattle.lethe_install.specs.Outcomes.{IsInstalled}
 use Rattle.lethe_install.proofs.Beside.{input_goes, input_in}
-use Rattle.lethe_job.specs.Works.{Merges, PlainTask, Sweeps}
+use Rattle.lethe_job.specs.Works.{IsPlanned, Merges, PlainTask, Sweeps}
 use Rattle.lethe_manifest.specs.declared.manifest.Manifest.{Manifest}
 use Rattle.lethe_merge.specs.Merge.{merged}
 use Rattle.lethe_merge.proofs.Gathers.{length-merged}
@@ -25,10 +25,11 @@ use Rattle.lethe_stored.specs.Files.{StoredFile, IsFile}
 use Rattle.lethe_stored.specs.Stored.{Stored, IsCoherent, pending_of}
 use Rattle.lethe_stored.proofs.Leveled.{from_level}
 use Rattle.lethe_version.specs.Order.{is_kept}
-use Rattle.lethe_core.specs.Descent.{jobs_left, steps_down, unswept_pairs}
+use Rattle.lethe_core.specs.Descent.{HasCountedErases, jobs_left, steps_down}
 use Rattle.lethe_core.proofs.Counted.{entries_by, all_counted, cut_long, some_counted}
 use Rattle.lethe_core.proofs.Sums.{kept_sum, part_sum, scaled, two_levels}
-use Rattle.lethe_core.proofs.Unswept.{files_few, no_steps_up, pairs_fall, pairs_few, pairs_kept, pending_few}
+use Rattle.lethe_core.proofs.Unswept.{files_few, no_steps_up, pairs_fall, pairs_few, pairs_kept}
+use Rattle.lethe_core.proofs.Waiting.{pairs_stay}
 
 -- The bound
 
@@ -44,7 +45,7 @@ file_few file spelled =
     let each = lines_few file.header.tiles (have_few_entries file.header.tiles spelled.tiles) in
     omega (arith, each, spelled.few)
 
-few_steps : (s : Stored) → IsCoherent s → steps_down s.manifest.config.levels s.files < 2 ^ 63
+pub few_steps : (s : Stored) → IsCoherent s → steps_down s.manifest.config.levels s.files < 2 ^ 63
 few_steps s coherent =
     let deepest = s.manifest.config.levels in
     let each : All (λ file. (deepest - file.level) * entries_by file ≤ 6 * 2 ^ 24) s.files = all_from (λ file. (deepest - file.level) * entries_by file ≤ 6 * 2 ^ 24) s.files (λ file there.
@@ -55,7 +56,7 @@ few_steps s coherent =
     let all = sum_by-le (λ file. (deepest - file.level) * entries_by file) (6 * 2 ^ 24) s.files each in
     omega (arith, all, files_few s coherent)
 
-pub few_jobs : (s : Stored) → IsCoherent s → length (pending_of s) < 2 ^ 32 → jobs_left s < 2 ^ 127
+pub few_jobs : (s : Stored) → IsCoherent s → length (pending_of s) < 2 ^ 32 → jobs_left s < 2 ^ 65
 few_jobs s coherent few = omega (arith, few_steps s coherent, pairs_few s.files (pending_of s) (files_few s coherent) few)
 
 -- A merge
@@ -164,26 +165,16 @@ module _ (s : Stored) (m : StoredMerge) (coherent : IsCoherent s) (begun : IsMer
 
 -- A job
 
--- steps count for more than pairs
-falls : (steps before pairs others : ℕ) → steps < before → pairs < 2 ^ 64 → steps * 2 ^ 64 + pairs < before * 2 ^ 64 + others
-falls steps before pairs others less few = omega (arith, less, few)
-
-falls_beside : (steps before pairs others : ℕ) → steps ≤ before → pairs < others → steps * 2 ^ 64 + pairs < before * 2 ^ 64 + others
-falls_beside steps before pairs others up less = omega (arith, up, less)
-
-pub goes_on : (s t : Stored) (task : PlainTask) → IsCoherent s → length (pending_of s) < 2 ^ 32 → IsInstalled s task t → IsCoherent t → jobs_left t < jobs_left s
-goes_on s t (Merges task) coherent few is then =
+pub goes_on : (s t : Stored) (task : PlainTask) → IsCoherent s → HasCountedErases s → IsPlanned s task → IsInstalled s task t → jobs_left t < jobs_left s
+goes_on s t (Merges task) coherent counted planned is =
     let levels = ap (λ (m : Manifest). steps_down m.config.levels t.files) is.merged_is.manifest in
     let down = goes_down s is.m coherent is.tasked.merge t (erases_upto task.upto (pending_of s)) task.alone task.upto is.merged_is in
-    let fewer = pending_few s (Merges task) t is in
-    falls (steps_down t.manifest.config.levels t.files) (steps_down s.manifest.config.levels s.files)
-    (unswept_pairs t.files (pending_of t)) (unswept_pairs s.files (pending_of s))
-    (subst (λ n. n < steps_down s.manifest.config.levels s.files) (sym levels) down) (pairs_few t.files (pending_of t) (files_few t then) (omega (arith, fewer, few)))
-goes_on s t (Sweeps task) coherent few is then =
+    let kept = pairs_kept s (Merges task) t is t.files in
+    let stay = pairs_stay s is.m (erases_upto task.upto (pending_of s)) task.alone task.upto t counted planned.counted is.merged_is in
+    omega (arith, levels, down, kept, stay)
+goes_on s t (Sweeps task) coherent counted planned is =
     let levels = ap (λ (m : Manifest). steps_down m.config.levels t.files) is.swept_is.manifest in
     let up = no_steps_up s coherent is.w task.erase task.alone is.tasked.sweep t is.swept_is s.manifest.config.levels in
     let kept = pairs_kept s (Sweeps task) t is t.files in
     let fall = pairs_fall s coherent is.w task.erase task.alone is.tasked.sweep t is.swept_is in
-    falls_beside (steps_down t.manifest.config.levels t.files) (steps_down s.manifest.config.levels s.files)
-    (unswept_pairs t.files (pending_of t)) (unswept_pairs s.files (pending_of s))
-    (subst (λ n. n ≤ steps_down s.manifest.config.levels s.files) (sym levels) up) (omega (arith, kept, fall))
+    omega (arith, levels, up, kept, fall)

@@ -1,6 +1,7 @@
 -- Steps that went wrong, and steps one after another: what they keep.
 use Rattle.std.proofs.Common.{◌≡◌, ◌≤◌, ◌<◌, ℕ, ◌+◌, List, Option, Some, None, refl, sym, ap, ◌∙◌, subst, arith}
-use Rattle.std.specs.Prelude.{IfSome}
+use Rattle.std.specs.Prelude.{IfSome, IsTrue, option_map}
+use Rattle.std.specs.Option.{option_or}
 use Rattle.std.proofs.lemmas.List.Elements.{All-weaker}
 use Rattle.lethe_base.specs.History.{History, Change}
 use Rattle.lethe_base.specs.Limits.{max_place}
@@ -12,6 +13,7 @@ use Rattle.lethe_base.specs.declared.name.Kind.TheVariants.{Page}
 use Rattle.lethe_base.specs.declared.name.Name.{Name}
 use Rattle.lethe_base.specs.declared.refused.Refused.{Refused}
 use Rattle.lethe_base.specs.declared.refused.Refused.TheVariants.{Fault, NoMemory}
+use Rattle.lethe_disk.specs.Directory.{object}
 use Rattle.lethe_disk.specs.Disk.{Image}
 use Rattle.lethe_stored.specs.Files.{Parts}
 use Rattle.lethe_stored.specs.Kept.{IsKept}
@@ -24,8 +26,10 @@ use Rattle.lethe_state.specs.Remembered.{Remembers}
 use Rattle.lethe_state.specs.Writable.{IsWritable}
 use Rattle.lethe_state.specs.declared.state.State.{State}
 use Rattle.lethe_job.specs.Works.{IsInLevels}
-use Rattle.lethe_core.specs.Asked.{Serves, counted, failure_of, refused_to, stopped_by}
+use Rattle.lethe_pins.specs.Held.{Held, is_named}
+use Rattle.lethe_core.specs.Asked.{Failure, Serves, counted, failure_of, refused_to, stopped_by}
 use Rattle.lethe_core.specs.Keeps.{Keeps, MayStep}
+use Rattle.lethe_core.specs.Pinned.{AreKept}
 use Rattle.lethe_core.specs.Reasons.{HasReason}
 use Rattle.lethe_core.specs.Running.{IsFlying, IsSmall, IsSound}
 use Rattle.lethe_core.specs.StandsNow.{StandsNow, retried}
@@ -94,7 +98,10 @@ sound_halted Tells old new fits sound = record {
   small = small_halted old.state sound.small;
   count = sound.count;
   flies = flies_on old.state (halted old.state) refl old.flight sound.flies;
+  loose = sound.loose;
   drawn = sound.drawn;
+  pins = sound.pins;
+  pages = sound.pages;
   held = λ told. let held = sound.held told in (held.0, halted_remembered held.0 old.state old.levels held.1, λ runs. absurd (runs_not (old.state.count + 1) runs));
 }
 
@@ -149,6 +156,17 @@ module _ (Tells : Type 0) (old new : View) (before : ℕ) where
   hindered_undone NoMemory is none = record { state = like_of old.state new.state is.0; levels = is.1.levels; retired = is.1.retired; disk = is.2 }
   hindered_undone why is none = absurd is
 
+  -- the same pins are held, and where the disk didn't fail it is as it was
+  pub hindered_pins : (why : Refused) → IsHindered Tells old new before why → new.pins ≡ old.pins
+  hindered_pins (Fault place b a) is = is.5.pins
+  hindered_pins NoMemory is = is.1.pins
+  hindered_pins why is = absurd is
+
+  pub hindered_pinned : (why : Refused) → IsHindered Tells old new before why → Tells → new.state.stopped ≡ None → AreKept old.pins.pins old.disk.directory new.disk.directory
+  hindered_pinned (Fault place b a) is told runs = absurd (runs_not (old.state.count + 1) (sym (ap (λ (state : State). state.stopped) is.4) ∙ runs))
+  hindered_pinned NoMemory is told runs = λ name named. ap (λ d. object d name) (is.2 told).directory
+  hindered_pinned why is told runs = absurd is
+
   pub hindered_next : (why : Refused) → IsHindered Tells old new before why → new.state.next ≡ old.state.next
   hindered_next (Fault place b a) is = ap (λ (state : State). state.next) is.4
   hindered_next NoMemory is = ap (λ (state : State). state.next) is.0
@@ -184,6 +202,8 @@ hindered_keeps Tells old new before may why is goes itself later faults = record
   any_moment = goes;
   numbers = λ told. let same = hindered_next Tells old new before why is in let on = later told in omega (arith, same, on);
   faults = faults;
+  pins = hindered_pins Tells old new before why is;
+  pinned = hindered_pinned Tells old new before why is;
 }
 
 -- where nothing was done, and what was answered is in no history
@@ -196,6 +216,8 @@ keeps_itself Tells view sound runs None none = record {
   any_moment = λ told config h stands. stands_moments config h view stands runs sound.writable;
   numbers = λ told. omega arith;
   faults = omega arith;
+  pins = refl;
+  pinned = λ told runs name named. refl;
 }
 keeps_itself Tells view sound runs (Some why) none = record {
   sound = sound;
@@ -205,7 +227,18 @@ keeps_itself Tells view sound runs (Some why) none = record {
   any_moment = λ told config h stands. stands_moments config h view stands runs sound.writable;
   numbers = λ told. omega arith;
   faults = omega arith;
+  pins = refl;
+  pinned = λ told runs name named. refl;
 }
+
+-- what runs behind a step ran before it
+runs_before : (why : Option Refused) (stopped : Option ℕ) → stopped_by why stopped ≡ None → stopped ≡ None
+runs_before None stopped runs = runs
+runs_before (Some why) stopped runs = by (failure_of why) runs
+  where
+    by : (o : Option Failure) → option_or (option_map (λ failure. failure.place) o) stopped ≡ None → stopped ≡ None
+    by None runs = runs
+    by (Some failure) runs = absurd (runs_not failure.place runs)
 
 -- one step that was done, and then another
 pub keeps_then : (Tells : Type 0) (a b c : View) → Keeps Tells a b None → (why : Option Refused) → Keeps Tells b c why → Keeps Tells a c why
@@ -220,4 +253,8 @@ keeps_then Tells a b c one why two =
           goes_from_then (λ d. IsKept config d h) a.state.next b.state.next a.disk b.disk c.disk (one.any_moment told config h stands) (one.numbers told) (two.any_moment told config h (mid told config h stands));
       numbers = λ told. let early = one.numbers told in let late = two.numbers told in omega (arith, early, late);
       faults = let early = one.faults in let late = two.faults in omega (arith, early, late);
+      pins = two.pins ∙ one.pins;
+      pinned = λ told runs name named.
+          let mid_runs : b.state.stopped ≡ None = runs_before why b.state.stopped (sym two.stopped ∙ runs) in
+          two.pinned told runs name (subst (λ (held : Held). IsTrue (is_named held.pins name)) (sym one.pins) named) ∙ one.pinned told mid_runs name named;
     }

@@ -1,7 +1,7 @@
 -- From what a job made to the step that installs it.
-use Rattle.std.proofs.Common.{◌≡◌, ◌≤◌, ℕ, List, [], ◌∷◌, ◌++◌, Contains, Some, None, refl, sym, ap, ◌∙◌, subst, arith}
+use Rattle.std.proofs.Common.{◌≡◌, ◌≤◌, ℕ, false, List, [], ◌∷◌, ◌++◌, Contains, Some, None, refl, sym, ap, ◌∙◌, subst, arith}
 use Rattle.std.specs.Prelude.{All, IfSome}
-use Rattle.std.proofs.lemmas.List.Elements.{All-contains, All-nil, Contains-append_right}
+use Rattle.std.proofs.lemmas.List.Elements.{All-contains, Contains-append_right}
 use Rattle.lethe_base.specs.History.{History}
 use Rattle.lethe_base.specs.Layout.{entries_of}
 use Rattle.lethe_base.specs.declared.config.Fields.{Fields}
@@ -10,7 +10,6 @@ use Rattle.lethe_base.specs.declared.name.Name.{Name}
 use Rattle.lethe_build.specs.Built.{most_numbers}
 use Rattle.lethe_cover.proofs.Common.{first_is}
 use Rattle.lethe_cover.proofs.Lists.{all_from, flat_from, flat_in, only_in}
-use Rattle.lethe_clean.specs.Copied.{IsCopied}
 use Rattle.lethe_file.specs.Agreement.{FileAgrees}
 use Rattle.lethe_follows.specs.Merged.{entries_in}
 use Rattle.lethe_follows.proofs.Merging.{all_counted}
@@ -29,15 +28,17 @@ use Rattle.lethe_stored.specs.Levels.{AreRising}
 use Rattle.lethe_stored.specs.Stored.{IsCoherent, Stored, count_of}
 use Rattle.lethe_sweep_task.specs.Outcome.{PlainSweep}
 use Rattle.lethe_sweeps.specs.Swept.{StoredSweep}
-use Rattle.lethe_advance.specs.Settled.{AreUncited, names_in}
+use Rattle.lethe_advance.specs.Settled.{AreDrawn, AreUncited, names_in}
 use Rattle.lethe_advance.specs.Steps.{IsStep}
 use Rattle.lethe_state.specs.Remembered.{IsCurrent, Remembers}
 use Rattle.lethe_state.specs.declared.state.State.{State}
 use Rattle.lethe_core.specs.Jobs.{AreOutputsOf}
+use Rattle.lethe_pins.specs.Held.{is_named}
 use Rattle.lethe_core.specs.Merges.{MayMerge}
+use Rattle.lethe_core.specs.Pinned.{AreNamed}
 use Rattle.lethe_core.specs.Running.{Holds, IsTasked}
 use Rattle.lethe_core.specs.StandsNow.{IsCounted, StandsNow}
-use Rattle.lethe_core.specs.View.{Flying, View, loose_in, named_in}
+use Rattle.lethe_core.specs.View.{Flying, View, loose_in, named_in, names_beside}
 use Rattle.lethe_core.proofs.Beside.{names_named}
 use Rattle.lethe_core.proofs.Merged.{inputs_same}
 use Rattle.lethe_core.proofs.Standing.{stands_for, stands_holds}
@@ -88,46 +89,48 @@ outputs_bounded Tells (Sweeps task) (Left made) are = are.bounded
 -- what the installing of what a job made promises, the first of whose pages were written under these names, where these pages are retired
 abbrev pub Installs : Type 0 → State → List (List Parts) → PlainTask → Made → List Name → List Name → Installation → Type 0
 Installs Tells state levels task made written retired installation = Tells → (s : Stored) (beside : List (Name × List ℕ)) → Remembers s state levels → IsCurrent s state
-    → AreRising s.files → IsTaskFor s task → names_in beside ≡ retired → AreUncited s (beside ++ written_of written made)
+    → AreRising s.files → IsTaskFor s task → names_in beside ≡ retired → AreUncited s (beside ++ written_of written made) → AreDrawn state.next (retired ++ written)
     → (t : Stored) × IsInstalled s task t
-    × ((left : List (Name × List ℕ)) × IsStep s (beside ++ written_of written made) t left installation.headers.items installation.step × (installation.left.items ≡ names_in left))
+    × ((left : List (Name × List ℕ)) × IsStep s (beside ++ written_of written made) t left installation.headers.items installation.step × (installation.left.items ≡ names_in left)
+    × AreDrawn installation.step.manifest.next installation.left.items)
 
--- objects without names are none
-no_names : (objects : List (Name × List ℕ)) → names_in objects ≡ [] → objects ≡ []
-no_names [] none = refl
-no_names (named ∷ objects) none = absurd (let clash : named.0 ∷ names_in objects ≡ [] = none in cc)
+-- of what isn't cited any more just what a held pin names is left
+pub record IsParted (view : View) (installation : Installation) : Type 0 where
+  pub named : AreNamed view.pins.pins installation.left.items
+  pub gone : All (λ name. is_named view.pins.pins name ≡ false) installation.step.gone.items
 
 -- where these pages are those of the job in flight, and the retired ones those of the store, it is a step that may be carried out
-pub next_installed : (Tells : Type 0) (view : View) (task : PlainTask) (made : Made) (written retired : List Name) (installation : Installation)
-    → Installs Tells view.state view.levels task made written retired installation → installation.left.items ≡ [] → view.retired ≡ retired
-    → loose_in view.flight ≡ written_of written made → Tells → (s : Stored) → Holds view s → IsTaskFor s task → (t : Stored) × MayMerge view s task t installation
-next_installed Tells view task made written retired installation installs none there loose told s holds is =
+pub next_installed : (Tells : Type 0) (view : View) → (Tells → AreDrawn view.state.next (names_beside view)) → (task : PlainTask) (made : Made) (written retired : List Name) (installation : Installation)
+    → Installs Tells view.state view.levels task made written retired installation → IsParted view installation → view.retired ≡ retired
+    → loose_in view.flight ≡ written_of written made → names_in (loose_in view.flight) ≡ written → Tells → (s : Stored) → Holds view s → IsTaskFor s task → (t : Stored) × MayMerge view s task t installation
+next_installed Tells view drawn task made written retired installation installs parted there loose names told s holds is =
     let beside = named_in view.disk.directory view.retired in
     let next = installs told s beside holds.remembers holds.running.current holds.running.rising is (names_named view.disk.directory view.retired ∙ there)
-    (subst (λ pages. AreUncited s (beside ++ pages)) loose holds.running.uncited) in
-    let step = next.2 in
-    let empty : step.0 ≡ [] = no_names step.0 (sym step.2 ∙ none) in (
+    (subst (λ pages. AreUncited s (beside ++ pages)) loose holds.running.uncited) (subst (AreDrawn view.state.next) (λ i. there i ++ names i) (drawn told)) in
+    let step = next.2 in (
       next.0,
       record {
         installed = next.1;
         left = step.0;
         step_is = subst (λ pages. IsStep s (beside ++ pages) next.0 step.0 installation.headers.items installation.step) (sym loose) step.1;
         left_is = step.2;
-        copied = subst (All (IsCopied next.0)) (sym empty) (All-nil (IsCopied next.0));
+        drawn = step.3;
+        named = parted.named;
+        gone = parted.gone;
       },
     )
 
 -- for the job in flight
-module _ (Tells : Type 0) (view : View) (flying : Flying) (flies : view.flight ≡ Some flying) (made : Made) (outputs : AreOutputsOf Tells flying made)
-    (installation : Installation) where
+module _ (Tells : Type 0) (view : View) (drawn : Tells → AreDrawn view.state.next (names_beside view)) (flying : Flying) (flies : view.flight ≡ Some flying) (made : Made)
+    (outputs : AreOutputsOf Tells flying made) (installation : Installation) where
   pub next_install : (task : PlainTask) (written retired : List Name) → Installs Tells view.state view.levels task made written retired installation → task ≡ flying.task
-      → written ≡ names_in flying.written → installation.left.items ≡ [] → view.retired ≡ retired
+      → written ≡ names_in flying.written → IsParted view installation → view.retired ≡ retired
       → Tells → (s : Stored) → Holds view s → (t : Stored) × MayMerge view s flying.task t installation
-  next_install task written retired installs same names none there told s holds =
+  next_install task written retired installs same names parted there told s holds =
       let tasked = subst (λ flight. IfSome flight (IsTasked s)) flies holds.running.tasked in
       let its = subst (λ names. Installs Tells view.state view.levels flying.task made names retired installation) names
       (subst (λ task. Installs Tells view.state view.levels task made written retired installation) same installs) in
-      next_installed Tells view flying.task made (names_in flying.written) retired installation its none there (ap loose_in flies ∙ outputs.pages) told s holds tasked
+      next_installed Tells view drawn flying.task made (names_in flying.written) retired installation its parted there (ap loose_in flies ∙ outputs.pages) (ap (λ flight. names_in (loose_in flight)) flies) told s holds tasked
 
 -- for the job that is chosen, where none is in flight
 module _ (view : View) (task : PlainTask) (plans : (s : Stored) → Holds view s → IsPlanned s task) where
@@ -139,11 +142,11 @@ module _ (view : View) (task : PlainTask) (plans : (s : Stored) → Holds view s
       let holds = stands_holds config h view stands runs in
       planned_counted h stands.stored task holds.remembers.coherent (stands_for config h view stands runs) (plans stands.stored holds)
 
-  pub next_outcome : view.flight ≡ None → (Tells : Type 0) (made : Made) (retired : List Name) (installation : Installation)
-      → Installs Tells view.state view.levels task made [] retired installation → installation.left.items ≡ [] → view.retired ≡ retired
+  pub next_outcome : view.flight ≡ None → (Tells : Type 0) → (Tells → AreDrawn view.state.next (names_beside view)) → (made : Made) (retired : List Name) (installation : Installation)
+      → Installs Tells view.state view.levels task made [] retired installation → IsParted view installation → view.retired ≡ retired
       → Tells → (s : Stored) → Holds view s → (t : Stored) × MayMerge view s task t installation
-  next_outcome free Tells made retired installation installs none there told s holds =
-      next_installed Tells view task made [] retired installation installs none there (ap loose_in free) told s holds (planned_for s task (plans s holds))
+  next_outcome free Tells drawn made retired installation installs parted there told s holds =
+      next_installed Tells view drawn task made [] retired installation installs parted there (ap loose_in free) (ap (λ flight. names_in (loose_in flight)) free) told s holds (planned_for s task (plans s holds))
 
 -- for the job that is begun
 pub begun_sound : (view : View) (task : PlainTask) → ((s : Stored) → Holds view s → IsBegunIn s task) → (s : Stored) → Holds view s → AreSound (inputs_in task)

@@ -1,12 +1,17 @@
 pub mod Asked
 pub mod Histories
+pub mod Timely
 pub mod Beside
 pub mod Standing
 pub mod Hindered
+pub mod Kept
 pub mod Carried
+pub mod Paged
 pub mod Pages
 pub mod Begun
 pub mod Removed
+pub mod Cleared
+pub mod Pinned
 pub mod Stepped
 pub mod Next
 pub mod Crowded
@@ -16,6 +21,7 @@ pub mod Counted
 pub mod Sums
 pub mod Fewer
 pub mod Unswept
+pub mod Waiting
 pub mod Descending
 pub mod Keyed
 pub mod Places

@@ -18,10 +18,11 @@ use Rattle.lethe_state.specs.Remembered.{IsFrozenIn, Remembers}
 use Rattle.lethe_state.specs.Room.{frozen_len}
 use Rattle.lethe_state.specs.Writable.{IsWritable}
 use Rattle.lethe_state.specs.declared.state.State.{State}
+use Rattle.lethe_advance.specs.Settled.{names_in}
 use Rattle.lethe_core.specs.Running.{Holds, IsRunning, IsSmall, IsSound}
 use Rattle.lethe_core.specs.StandsNow.{StandsNow}
 use Rattle.lethe_core.specs.Steps.{IsAsBefore, IsBeside}
-use Rattle.lethe_core.specs.View.{Face, View, face_of, flying_of, names_beside, view_of}
+use Rattle.lethe_core.specs.View.{Face, View, face_of, flying_of, loose_in, names_beside, view_of}
 use Rattle.lethe_core.specs.declared.holding.Core.{Core}
 use Rattle.lethe_core.proofs.Hindered.{drawn_on, flies_on}
 use Rattle.lethe_core.proofs.Standing.{next_stands_now, running_back, stands_for, stands_holds}
@@ -65,6 +66,7 @@ module _ (view : View) (new : State) (like : IsLike view.state new) where
     uncited = is.uncited;
     untorn = is.untorn;
     copied = is.copied;
+    kept = is.kept;
     rising = is.rising;
     ends = subst (EndsAt view.disk (segment_name s.active.no) s.active.no s.active.records) (sym like.end_is) is.ends;
     current = record { runs = like.stopped ∙ is.current.runs; count = like.count ∙ is.current.count };
@@ -82,7 +84,10 @@ module _ (view : View) (new : State) (like : IsLike view.state new) where
         small = like_small view.state new like sound.small;
         count = sound.count ∙ ap (λ (m : Manifest). m.config.levels + 1) (sym like.manifest);
         flies = flies_on view.state new (ap (λ (m : Manifest). m.config.levels) like.manifest) view.flight sound.flies;
-        drawn = drawn_on view.state.next new.next (names_beside view) (omega (arith, next)) sound.drawn;
+        loose = drawn_on view.state.next new.next (names_in (loose_in view.flight)) (omega (arith, next)) sound.loose;
+        drawn = λ told. drawn_on view.state.next new.next (names_beside view) (omega (arith, next)) (sound.drawn told);
+        pins = sound.pins;
+        pages = sound.pages;
         held = λ told.
             let held = sound.held told in
             (held.0, like_remembered held.0 view.state new view.levels like held.1, λ runs. like_running held.0 (held.2 (sym like.stopped ∙ runs)));
@@ -90,7 +95,7 @@ module _ (view : View) (new : State) (like : IsLike view.state new) where
 
   pub like_stands : (config : Fields) (h : History) → StandsNow config h view → view.state.stopped ≡ None → StandsNow config h (with_state view new)
   like_stands config h stands runs = next_stands_now config h view (with_state view new) stands runs stands.stored like.count refl (stands_for config h view stands runs)
-      (like_holds stands.stored (stands_holds config h view stands runs)) stands.counted stands.recorded
+      (like_holds stands.stored (stands_holds config h view stands runs)) stands.counted stands.recorded (stands.timely runs)
 
 -- With one record more
 
@@ -111,15 +116,16 @@ next_small next end old new is room small =
 
 -- A step that left all as it was
 
--- the jobs of a store, and the pages that are retired, are as they were
-pub jobs_same : {D Page Port : Type 0} {kind : Ghosts D Page Port} (old new : Core D Page Port kind) → new.begun ≡ old.begun → new.flight ≡ old.flight → new.retired.items ≡ old.retired.items → face_of (view_of new) ≡ face_of (view_of old)
-jobs_same old new begun flight retired = λ i. record { begun = (begun i).jobs.count; rounds = (begun i).rounds; flight = option_map flying_of (flight i); retired = retired i }
+-- the jobs and the pins of a store, and the pages that are retired, are as they were
+pub jobs_same : {D Page Port : Type 0} {kind : Ghosts D Page Port} (old new : Core D Page Port kind) → new.begun ≡ old.begun → new.flight ≡ old.flight → new.retired.items ≡ old.retired.items → new.pins ≡ old.pins
+    → face_of (view_of new) ≡ face_of (view_of old)
+jobs_same old new begun flight retired pins = λ i. record { begun = (begun i).jobs.count; rounds = (begun i).rounds; flight = option_map flying_of (flight i); retired = retired i; pins = pins i }
 
 -- what it held it holds
 pub before_holds : (Tells : Type 0) → Tells → (old new : View) (s : Stored) → face_of new ≡ face_of old → IsAsBefore Tells old new → Holds old s → Holds new s
 before_holds Tells told old new s face is holds =
     let mid = with_state old new.state in
-    let rest : IsBeside mid new = record { levels = is.levels; retired = is.retired; flight = ap (λ (face : Face). face.flight) face; begun = ap (λ (face : Face). face.begun) face; rounds = ap (λ (face : Face). face.rounds) face } in
+    let rest : IsBeside mid new = record { levels = is.levels; retired = is.retired; flight = ap (λ (face : Face). face.flight) face; begun = ap (λ (face : Face). face.begun) face; rounds = ap (λ (face : Face). face.rounds) face; pins = ap (λ (face : Face). face.pins) face } in
     let like = like_holds old new.state is.state s holds in
     record {
       remembers = subst (Remembers s new.state) (sym is.levels) like.remembers;

@@ -1,14 +1,18 @@
 -- The step of a job that was carried out.
-use Rattle.std.proofs.Common.{◌≡◌, ◌≤◌, ◌⊎◌, ℕ, ◌+◌, List, ◌++◌, append-nil, length, All, Contains, Option, None, refl, sym, ap, ◌∙◌, subst, arith}
+use Rattle.std.proofs.Common.{◌≡◌, ◌≤◌, ◌⊎◌, inl, inr, ℕ, ◌+◌, true, false, List, ◌++◌, append-nil, length, All, Contains, Option, None, refl, sym, ap, ◌∙◌, subst, arith}
+use Rattle.std.specs.Prelude.{IsTrue}
+use Rattle.std.proofs.lemmas.List.Elements.{All-contains, All-nil}
 use Rattle.lethe_base.specs.History.{History}
 use Rattle.lethe_base.specs.Spent.{done_upto}
 use Rattle.lethe_base.specs.declared.config.Fields.{Fields}
 use Rattle.lethe_base.specs.declared.entry.Entry.{Entry}
 use Rattle.lethe_base.specs.declared.name.Name.{Name}
 use Rattle.lethe_base.specs.declared.pending.Pending.{Pending}
+use Rattle.lethe_disk.specs.Directory.{object}
 use Rattle.lethe_disk.specs.Disk.{Seen}
 use Rattle.lethe_manifest.specs.declared.manifest.Manifest.{Manifest}
 use Rattle.lethe_commit.specs.Append.{EndsAt}
+use Rattle.lethe_commit.specs.Place.{insert_all}
 use Rattle.lethe_follows.specs.Leaving.{first_erase, is_kept, kept_of}
 use Rattle.lethe_follows.specs.Merged.{StoredMerge, entries_in, erases_upto, inputs_of}
 use Rattle.lethe_follows.specs.Young.{AreLaterRecorded}
@@ -20,9 +24,10 @@ use Rattle.lethe_stored.specs.Files.{Parts}
 use Rattle.lethe_stored.specs.Kept.{IsFor, IsKept}
 use Rattle.lethe_stored.specs.Numbers.{GoesFrom}
 use Rattle.lethe_stored.specs.Levels.{AreRising, HasFiles}
-use Rattle.lethe_stored.specs.Stored.{IsCoherent, Stored, layout_of, pending_of, segment_name}
+use Rattle.lethe_stored.specs.Stored.{IsCoherent, Stored, layout_of, part_names, pending_of, segment_name}
 use Rattle.lethe_stored.proofs.Leveled.{from_filter}
-use Rattle.lethe_advance.specs.Settled.{AreDrawn, AreUncited, HasOnly, IsSettled}
+use Rattle.lethe_pins.specs.Held.{is_named}
+use Rattle.lethe_advance.specs.Settled.{AreDrawn, AreUncited, HasOnly, IsSettled, names_in}
 use Rattle.lethe_advance.specs.Steps.{IsStep}
 use Rattle.lethe_advance.specs.Untorn.{IsUntorn}
 use Rattle.lethe_clean.specs.Copied.{IsCopied}
@@ -42,12 +47,15 @@ use Rattle.lethe_sweeps.proofs.SweptFor.{swept_for}
 use Rattle.lethe_sweeps.proofs.SweptRising.{swept_rises}
 use Rattle.lethe_core.specs.Keeps.{Keeps, MayStep}
 use Rattle.lethe_core.specs.Merges.{MayMerge}
+use Rattle.lethe_core.specs.Pinned.{AreKept, pages_in}
 use Rattle.lethe_core.specs.Running.{Holds, IsRunning, IsSmall}
 use Rattle.lethe_core.specs.StandsNow.{IsCounted, StandsNow}
 use Rattle.lethe_core.specs.View.{View, beside_in}
-use Rattle.lethe_core.proofs.Beside.{named_left}
+use Rattle.lethe_core.proofs.Beside.{named_left, none_drawn}
 use Rattle.lethe_core.proofs.Carried.{one_kept}
+use Rattle.lethe_core.proofs.Kept.{carried_same, page_cited, settled_page}
 use Rattle.lethe_core.proofs.Standing.{next_drawn, next_stands_now, stands_for, stands_holds}
+use Rattle.lethe_core.proofs.Timely.{timely_kept}
 
 -- Its outcome stands for the same history
 
@@ -113,7 +121,7 @@ small_installed manifest state config is =
 
 abbrev pub merged_view : View → Seen → ℕ → List (List Parts) → ℕ → ℕ → Installation → View
 merged_view old disk faults levels begun rounds made =
-    record { disk = disk; faults = faults; state = installed made.step.manifest old.state; levels = levels; retired = made.left.items; flight = None; begun = begun; rounds = rounds }
+    record { disk = disk; faults = faults; state = installed made.step.manifest old.state; levels = levels; retired = made.left.items; flight = None; begun = begun; rounds = rounds; pins = old.pins }
 
 module _ (old : View) (disk : Seen) (faults : ℕ) (levels : List (List Parts)) (begun rounds : ℕ) (made : Installation) where
   abbrev new : View
@@ -127,6 +135,20 @@ module _ (old : View) (disk : Seen) (faults : ℕ) (levels : List (List Parts)) 
     merged_both = subst (λ manifest. Remembers t (installed manifest old.state) levels × IsCurrent t (installed manifest old.state)) (sym may.step_is.manifest)
         (install_remembered s t old.state old.levels levels holds.remembers holds.running.current task may.installed may.step_is.coherent files)
 
+    -- a page that a pin names stays
+    not_gone : (name : Name) → IsTrue (is_named old.pins.pins name) → Contains made.step.gone.items name → ⊥
+    not_gone name named gone = let off = All-contains (λ name. is_named old.pins.pins name ≡ false) made.step.gone.items name may.gone gone in let clash : true ≡ false = sym named ∙ off in cc
+
+    named_stays : (name : Name) → IsTrue (is_named old.pins.pins name) → Contains (pages_in t.files) name ⊎ Contains (names_in may.left) name
+    named_stays name named = settled_page old s t may.left made.headers.items made.step holds.running may.step_is name (holds.running.kept name named) (not_gone name named)
+
+    -- with the bytes that it had
+    pub merged_same : HasOnly t may.left disk.directory → ((name : Name) → Contains (part_names t) name → object disk.directory name ≡ object (insert_all made.step.objects.items old.disk.directory) name)
+        → AreKept old.pins.pins old.disk.directory disk.directory
+    merged_same only kept name named =
+        let there = elim (named_stays name named) as (λ _. Contains (part_names t) name ⊎ Contains (names_in may.left) name) [ inl page ↦ inl (page_cited t may.step_is.coherent name page) | inr left ↦ inr left ] in
+        carried_same old s t may.left made.headers.items made.step holds.running may.step_is disk.directory only kept name (holds.running.kept name named) there
+
     pub merged_holds : IsSettled disk t → HasOnly t may.left disk.directory → IsUntorn t disk.directory → EndsAt disk (segment_name t.active.no) t.active.no t.active.records old.state.end → Holds new t
     merged_holds settled only untorn ends =
         let same : beside_in new ≡ may.left = append-nil _ ∙ named_left disk.directory made.left.items may.left only.there may.left_is in
@@ -137,7 +159,8 @@ module _ (old : View) (disk : Seen) (faults : ℕ) (levels : List (List Parts)) 
             only = subst (λ l. HasOnly t l disk.directory) (sym same) only;
             uncited = subst (AreUncited t) (sym same) may.step_is.left_uncited;
             untorn = untorn;
-            copied = subst (All (IsCopied t)) (sym same) may.copied;
+            copied = All-nil (IsCopied t);
+            kept = λ name named. elim (named_stays name named) as (λ _. Contains (pages_in t.files) name ⊎ Contains made.left.items name) [ inl page ↦ inl page | inr left ↦ inr (subst (λ names. Contains names name) (sym may.left_is) left) ];
             rising = installed_rises s task t holds.remembers.coherent holds.running.rising may.installed;
             ends = ends;
             current = merged_both.1;
@@ -166,7 +189,8 @@ module _ (old : View) (disk : Seen) (faults : ℕ) (levels : List (List Parts)) 
         (moments told s next.1 next.2.left holds.running next.2.step_is h h for (installed_for h s next.0 next.1 holds.remembers.coherent for (next.3 config h stands) next.2.installed)
         (next_drawn old s can.sound.writable stands.remembers) (omega (arith, number, above, number_is))))
 
-    module _ (behind : Tells → (s : Stored) (task : PlainTask) (t : Stored) → Holds old s → MayMerge old s task t made → Holds new t) where
+    module _ (behind : Tells → (s : Stored) (task : PlainTask) (t : Stored) → Holds old s → MayMerge old s task t made → Holds new t)
+        (same : Tells → (s : Stored) (task : PlainTask) (t : Stored) → Holds old s → MayMerge old s task t made → AreKept old.pins.pins old.disk.directory disk.directory) where
       merge_stands : Tells → (config : Fields) (h : History) → StandsNow config h old → StandsNow config h new
       merge_stands told config h stands =
           let s = stands.stored in
@@ -175,16 +199,24 @@ module _ (old : View) (disk : Seen) (faults : ℕ) (levels : List (List Parts)) 
           next_stands_now config h old new stands can.runs next.1 refl next.2.step_is.config
           (installed_for h s next.0 next.1 holds.remembers.coherent (stands_for config h old stands can.runs) (next.3 config h stands) next.2.installed) (behind told s next.0 next.1 holds next.2) tt
           (installed_recorded s next.0 next.1 next.2.installed stands.recorded)
+          (timely_kept config.threshold h old.pins.pins old.retired made.left.items old.disk.directory disk.directory (same told s next.0 next.1 holds next.2) (stands.timely can.runs)
+          (λ name there. inr (All-contains (λ name. IsTrue (is_named old.pins.pins name)) made.left.items name next.2.named there)))
 
-      pub merge_keeps : AreDrawn step.manifest.next made.left.items → length levels ≡ length old.levels → (Tells → (config : Fields) (h : History) → StandsNow config h old → GoesFrom old.state.next (λ c. IsKept config c h) old.disk disk)
+      pub merge_keeps : length levels ≡ length old.levels → (Tells → (config : Fields) (h : History) → StandsNow config h old → GoesFrom old.state.next (λ c. IsKept config c h) old.disk disk)
           → (Tells → old.disk.moment + length step.objects.items + 4 ≤ disk.moment) → old.faults ≤ faults → Keeps Tells old new None
-      merge_keeps drawn count moments calls rise = record {
+      merge_keeps count moments calls rise = record {
         sound = record {
           writable = writable_installed old.state made.headers.items step from can.sound.writable;
           small = small_installed step.manifest old.state from.config can.sound.small;
           count = count ∙ can.sound.count ∙ ap (λ (f : Fields). f.levels + 1) (sym from.config);
           flies = tt;
-          drawn = subst (AreDrawn step.manifest.next) (sym (append-nil made.left.items)) drawn;
+          loose = none_drawn step.manifest.next;
+          drawn = λ told.
+              let held = can.sound.held told in
+              let next = merges told held.0 (record { remembers = held.1; running = held.2 can.runs }) in
+              subst (AreDrawn step.manifest.next) (sym (append-nil made.left.items)) next.2.drawn;
+          pins = can.sound.pins;
+          pages = can.sound.pages;
           held = λ told.
               let held = can.sound.held told in
               let holds : Holds old held.0 = record { remembers = held.1; running = held.2 can.runs } in
@@ -202,4 +234,10 @@ module _ (old : View) (disk : Seen) (faults : ℕ) (levels : List (List Parts)) 
             let next = from.next in
             omega (arith, called, number, next);
         faults = rise;
+        pins = refl;
+        pinned = λ told runs.
+            let held = can.sound.held told in
+            let holds : Holds old held.0 = record { remembers = held.1; running = held.2 can.runs } in
+            let next = merges told held.0 holds in
+            same told held.0 next.0 next.1 holds next.2;
       }

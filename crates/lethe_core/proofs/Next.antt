@@ -1,16 +1,18 @@
 -- What a step of a store comes to whose job in flight stays.
-use Rattle.std.proofs.Common.{◌≡◌, ◌≤◌, ◌⊎◌, ℕ, ◌+◌, List, [], ◌++◌, length, None, refl, sym, ap, ◌∙◌, subst, arith}
-use Rattle.std.specs.Prelude.{IfSome}
+use Rattle.std.proofs.Common.{◌≡◌, ◌≤◌, ◌⊎◌, inl, inr, ℕ, ◌+◌, List, [], ◌++◌, length, None, refl, sym, ap, ◌∙◌, subst, arith}
+use Rattle.std.specs.Prelude.{All, Contains, IfSome, IsTrue}
 use Rattle.lethe_base.specs.History.{History}
 use Rattle.lethe_base.specs.declared.config.Fields.{Fields}
+use Rattle.lethe_base.specs.declared.name.Kind.TheVariants.{Page}
 use Rattle.lethe_base.specs.declared.name.Name.{Name}
+use Rattle.lethe_disk.specs.Directory.{object}
 use Rattle.lethe_follows.proofs.Behind.{later_flushed, later_frozen}
 use Rattle.lethe_follows.specs.Young.{AreLaterRecorded}
 use Rattle.lethe_manifest.specs.declared.manifest.Manifest.{Manifest}
 use Rattle.lethe_stored.specs.Files.{Parts}
 use Rattle.lethe_stored.specs.Kept.{IsFor, IsKept}
 use Rattle.lethe_stored.specs.Numbers.{GoesFrom}
-use Rattle.lethe_stored.specs.Stored.{Stored, froze}
+use Rattle.lethe_stored.specs.Stored.{Stored, froze, part_names}
 use Rattle.lethe_stored.proofs.Freezing.{froze_for}
 use Rattle.lethe_advance.specs.Settled.{AreDrawn, AreUncited, names_in}
 use Rattle.lethe_advance.specs.Steps.{IsStep}
@@ -21,13 +23,17 @@ use Rattle.lethe_state.specs.Room.{IsFlushed, IsFrozen, IsStepFrom}
 use Rattle.lethe_state.specs.Writable.{IsWritable}
 use Rattle.lethe_state.specs.declared.state.State.{State}
 use Rattle.lethe_core.specs.Keeps.{Keeps, MayStep}
+use Rattle.lethe_pins.specs.Held.{AreHeld, Held, is_named}
+use Rattle.lethe_core.specs.Pinned.{AreTimely}
 use Rattle.lethe_core.specs.Running.{Holds, IsFlying, IsRunning, IsSmall}
 use Rattle.lethe_core.specs.StandsNow.{IsCounted, StandsNow}
 use Rattle.lethe_core.specs.View.{Flying, View, beside_in, loose_in, names_beside}
 use Rattle.lethe_core.proofs.Beside.{names_beside_at}
 use Rattle.lethe_core.proofs.Carried.{IsCarried, one_kept}
 use Rattle.lethe_core.proofs.Hindered.{drawn_on, flies_on}
+use Rattle.lethe_core.proofs.Kept.{carried_same, page_cited, retired_beside}
 use Rattle.lethe_core.proofs.Standing.{next_drawn, next_stands_now, stands_for, stands_holds}
+use Rattle.lethe_core.proofs.Timely.{timely_kept}
 
 pub frozen_for : (h : History) (s t : Stored) (state : State) (levels : List (List Parts)) → Remembers s state levels → s.frozen ≡ None → IsFor h s → IsFrozen s t → IsFor h t
 frozen_for h s t state levels remembers none stands is = subst (IsFor h) (sym is.is) (froze_for s remembers.coherent is.segment (is.segment + 1) none h stands)
@@ -45,15 +51,15 @@ beside_drawn view drawn = subst (AreDrawn view.state.next) (sym (names_beside_at
 
 -- Steps that the state gives
 
-module _ (view : View) (drawn : AreDrawn view.state.next (names_beside view)) (headers : List NewHeader) (step : Step) where
+module _ (Tells : Type 0) (view : View) (drawn : Tells → AreDrawn view.state.next (names_beside view)) (headers : List NewHeader) (step : Step) where
   pub flushed_next : ((s : Stored) → Remembers s view.state view.levels → IsCurrent s view.state → (loose : List (Name × List ℕ)) → AreDrawn view.state.next (names_in loose) → AreUncited s loose
-      → (t : Stored) × IsFlushed s t × IsStep s loose t loose headers step) → (s : Stored) → Holds view s → (t : Stored) × IsFlushed s t × IsStep s (beside_in view) t (beside_in view) headers step
-  flushed_next flushes s holds = flushes s holds.remembers holds.running.current (beside_in view) (beside_drawn view drawn) holds.running.uncited
+      → (t : Stored) × IsFlushed s t × IsStep s loose t loose headers step) → Tells → (s : Stored) → Holds view s → (t : Stored) × IsFlushed s t × IsStep s (beside_in view) t (beside_in view) headers step
+  flushed_next flushes told s holds = flushes s holds.remembers holds.running.current (beside_in view) (beside_drawn view (drawn told)) holds.running.uncited
 
   pub frozen_next : IsWritable view.state → headers ≡ [] → ((s : Stored) (levels : List (List Parts)) → Remembers s view.state levels → IsCurrent s view.state → (loose : List (Name × List ℕ))
       → AreDrawn view.state.next (names_in loose) → AreUncited s loose → IsStep s loose (froze s view.state.next (view.state.next + 1)) loose [] step)
-      → (s : Stored) → Holds view s → (t : Stored) × IsFrozen s t × IsStep s (beside_in view) t (beside_in view) headers step
-  frozen_next writable none freezes s holds =
+      → Tells → (s : Stored) → Holds view s → (t : Stored) × IsFrozen s t × IsStep s (beside_in view) t (beside_in view) headers step
+  frozen_next writable none freezes told s holds =
       let loose = beside_in view in
       let t = froze s view.state.next (view.state.next + 1) in
       let later = writable.drawn in
@@ -61,19 +67,19 @@ module _ (view : View) (drawn : AreDrawn view.state.next (names_beside view)) (h
         t,
         record { segment = view.state.next; drawn = omega (arith, later, cited); is = refl },
         subst (λ headers. IsStep s loose t loose headers step) (sym none)
-            (freezes s view.levels holds.remembers holds.running.current loose (beside_drawn view drawn) holds.running.uncited),
+            (freezes s view.levels holds.remembers holds.running.current loose (beside_drawn view (drawn told)) holds.running.uncited),
       )
 
 -- A step that was carried out
 
 module _ (P : Stored → Stored → Type 0) (Tells : Type 0) (old : View) (headers : List NewHeader) (step : Step) (before : ℕ) (may : MayStep Tells old before)
-    (next_is : (s : Stored) → Holds old s → (t : Stored) × P s t × IsStep s (beside_in old) t (beside_in old) headers step) where
+    (next_is : Tells → (s : Stored) → Holds old s → (t : Stored) × P s t × IsStep s (beside_in old) t (beside_in old) headers step) where
   -- what is stored is known to be there
   pub next_step : Tells → (s t : Stored) × (left : List (Name × List ℕ)) × IsRunning old s × IsStep s (beside_in old) t left headers step
   next_step told =
       let held = may.sound.held told in
       let running = held.2 may.runs in
-      let t = next_is held.0 (record { remembers = held.1; running = running }) in
+      let t = next_is told held.0 (record { remembers = held.1; running = running }) in
       (held.0, t.0, beside_in old, running, t.2)
 
   module _ (new : View) (stays : (h : History) (s t : Stored) → Holds old s → IsFor h s → P s t → IsFor h t) where
@@ -87,7 +93,7 @@ module _ (P : Stored → Stored → Type 0) (Tells : Type 0) (old : View) (heade
         let s = stands.stored in
         let holds = stands_holds config h old stands may.runs in
         let for = stands_for config h old stands may.runs in
-        let t = next_is s holds in
+        let t = next_is told s holds in
         let number = from.numbers in
         let next = from.next in
         let made = ap (λ (m : Manifest). m.next) t.2.manifest in
@@ -98,17 +104,43 @@ module _ (P : Stored → Stored → Type 0) (Tells : Type 0) (old : View) (heade
     module _ (carried : IsCarried Tells old new headers step)
         (behind : Tells → (s t : Stored) → Holds old s → P s t → IsStep s (beside_in old) t (beside_in old) headers step → Holds new t) where
       pub next_done : Tells → (s : Stored) → Holds old s → (t : Stored) × P s t × Holds new t
-      next_done told s holds = let t = next_is s holds in (t.0, t.1, behind told s t.0 holds t.1 t.2)
+      next_done told s holds = let t = next_is told s holds in (t.0, t.1, behind told s t.0 holds t.1 t.2)
+
+      -- what pins name, and what is retired, stays as it is
+      next_same : Tells → (s : Stored) → Holds old s → (name : Name) → IsTrue (is_named old.pins.pins name) ⊎ Contains old.retired name → object new.disk.directory name ≡ object old.disk.directory name
+      next_same told s holds name was =
+          let t = next_is told s holds in
+          let after = behind told s t.0 holds t.1 t.2 in
+          let only = (carried.done told s t.0 (beside_in old) holds.running t.2).1 in
+          let kept = carried.kept told s t.0 (beside_in old) holds.running t.2 in
+          elim was [
+            | inl named ↦
+                let there = elim (after.running.kept name (subst (λ (held : Held). IsTrue (is_named held.pins name)) (sym carried.pins) named)) as (λ _. Contains (part_names t.0) name ⊎ Contains (names_in (beside_in old)) name) [
+                  | inl page ↦ inl (page_cited t.0 after.remembers.coherent name page)
+                  | inr retired ↦ inr (retired_beside old s t.0 (beside_in old) headers step holds.running t.2 name (subst (λ names. Contains names name) carried.retired retired))
+                ] in
+                carried_same old s t.0 (beside_in old) headers step holds.running t.2 new.disk.directory only kept name (holds.running.kept name named) there
+            | inr retired ↦ carried_same old s t.0 (beside_in old) headers step holds.running t.2 new.disk.directory only kept name (inr retired)
+                (inr (retired_beside old s t.0 (beside_in old) headers step holds.running t.2 name retired))
+          ]
+
+      next_timely : Tells → (threshold : ℕ) (h : History) (s : Stored) → Holds old s → AreTimely threshold h old.pins.pins old.retired old.disk.directory
+          → AreTimely threshold h new.pins.pins new.retired new.disk.directory
+      next_timely told threshold h s holds timely =
+          subst (λ (held : Held). AreTimely threshold h held.pins new.retired new.disk.directory) (sym carried.pins)
+          (subst (λ names. AreTimely threshold h old.pins.pins names new.disk.directory) (sym carried.retired)
+          (timely_kept threshold h old.pins.pins old.retired old.retired old.disk.directory new.disk.directory (λ name named. next_same told s holds name (inl named)) timely
+          (λ name there. inl (there, next_same told s holds name (inr there)))))
 
       next_stands : ((h : History) (s t : Stored) → Holds old s → IsFor h s → AreLaterRecorded s → P s t → AreLaterRecorded t)
           → Tells → new.state.count ≡ old.state.count → (config : Fields) (h : History) → StandsNow config h old → StandsNow config h new
       next_stands later told count config h stands =
           let s = stands.stored in
           let holds = stands_holds config h old stands may.runs in
-          let t = next_is s holds in
+          let t = next_is told s holds in
           next_stands_now config h old new stands may.runs t.0 count t.2.config (stays h s t.0 holds (stands_for config h old stands may.runs) t.1) (behind told s t.0 holds t.1 t.2)
           (subst (λ flight. IfSome flight (λ (flying : Flying). IsCounted flying.task)) (sym carried.flight) stands.counted)
-          (later h s t.0 holds (stands_for config h old stands may.runs) stands.recorded t.1)
+          (later h s t.0 holds (stands_for config h old stands may.runs) stands.recorded t.1) (next_timely told config.threshold h s holds (stands.timely may.runs))
 
       pub next_keeps : ((h : History) (s t : Stored) → Holds old s → IsFor h s → AreLaterRecorded s → P s t → AreLaterRecorded t) → (segments : ℕ) → IsStepFrom segments old.state headers step → new.state.manifest ≡ step.manifest → new.state.next ≡ step.manifest.next → new.state.count ≡ old.state.count
           → new.state.stopped ≡ old.state.stopped → IsWritable new.state → IsSmall new.state → Keeps Tells old new None
@@ -123,8 +155,12 @@ module _ (P : Stored → Stored → Type 0) (Tells : Type 0) (old : View) (heade
               count = carried.levels ∙ may.sound.count ∙ ap (λ (fields : Fields). fields.levels + 1) (sym config);
               flies = subst (λ flight. IfSome flight (IsFlying new.state)) (sym carried.flight)
                   (flies_on old.state new.state (ap (λ (fields : Fields). fields.levels) config) old.flight may.sound.flies);
-              drawn = subst (AreDrawn new.state.next) (λ i. (sym carried.retired) i ++ names_in (loose_in ((sym carried.flight) i)))
-                  (drawn_on old.state.next new.state.next (names_beside old) (omega (arith, number, above, next)) may.sound.drawn);
+              loose = subst (λ flight. AreDrawn new.state.next (names_in (loose_in flight))) (sym carried.flight)
+                  (drawn_on old.state.next new.state.next (names_in (loose_in old.flight)) (omega (arith, number, above, next)) may.sound.loose);
+              drawn = λ told. subst (AreDrawn new.state.next) (λ i. (sym carried.retired) i ++ names_in (loose_in ((sym carried.flight) i)))
+                  (drawn_on old.state.next new.state.next (names_beside old) (omega (arith, number, above, next)) (may.sound.drawn told));
+              pins = subst AreHeld (sym carried.pins) may.sound.pins;
+              pages = subst (λ (held : Held). All (λ pin. All (λ name. name.kind ≡ Page) pin.names) held.pins) (sym carried.pins) may.sound.pages;
               held = λ told.
                   let held = may.sound.held told in
                   let done = next_done told held.0 (record { remembers = held.1; running = held.2 may.runs }) in
@@ -136,4 +172,6 @@ module _ (P : Stored → Stored → Type 0) (Tells : Type 0) (old : View) (heade
             any_moment = next_moments segments from carried.moments;
             numbers = λ told. let made = carried.calls told in omega (arith, made, number, above, next);
             faults = carried.faults;
+            pins = carried.pins;
+            pinned = λ told runs name named. let held = may.sound.held told in next_same told held.0 (record { remembers = held.1; running = held.2 may.runs }) name (inl named);
           }

@@ -1,5 +1,5 @@
 -- Merges and sweeps one after another.
-use Rattle.std.proofs.Common.{◌≡◌, ◌≤◌, ◌<◌, ℕ, ◌+◌, ◌^◌, List, [], ◌∷◌, ◌++◌, length, None, refl, sym, ◌∙◌, subst, arith}
+use Rattle.std.proofs.Common.{◌≡◌, ◌≤◌, ◌<◌, ℕ, ◌+◌, ◌-◌, ◌^◌, min, List, [], ◌∷◌, ◌++◌, length, None, refl, ◌∙◌, subst, arith}
 use Rattle.std.specs.Prelude.{Option}
 use Rattle.std.proofs.lemmas.List.Sums.{sum_by-append}
 use Rattle.lethe_base.specs.declared.name.Name.{Name}
@@ -7,15 +7,19 @@ use Rattle.lethe_base.specs.declared.pending.Pending.{Pending}
 use Rattle.lethe_fade.specs.declared.plan.Plan.{Plan}
 use Rattle.lethe_stored.specs.Stored.{Stored, pending_of}
 use Rattle.lethe_job.specs.Works.{reads_of}
-use Rattle.lethe_core.specs.Descent.{jobs_left}
+use Rattle.lethe_pins.specs.Held.{Held}
+use Rattle.lethe_pins.specs.declared.pin.Pin.{Pin}
+use Rattle.lethe_core.specs.Descent.{HasCountedErases, jobs_left}
 use Rattle.lethe_core.specs.Keeps.{Keeps, MayStep}
-use Rattle.lethe_core.specs.Merges.{AreOutcomesBy, AreSomeOutcomesBy, HasNoMergeBy, IsOutcomeBy, Outcome, pages_of, retired_behind}
+use Rattle.lethe_core.specs.Merges.{AreOutcomesBy, AreRetiredBehind, AreSomeOutcomesBy, HasNoMergeBy, IsOutcomeBy, Outcome, pages_of}
+use Rattle.lethe_core.specs.Pinned.{AreNamed}
 use Rattle.lethe_core.specs.Running.{Holds, IsSound}
 use Rattle.lethe_core.specs.Steps.{IsSteady}
 use Rattle.lethe_core.specs.View.{View}
 use Rattle.lethe_core.proofs.Behind.{next_may}
 use Rattle.lethe_core.proofs.Descending.{few_jobs, goes_on}
 use Rattle.lethe_core.proofs.Hindered.{keeps_itself, keeps_then}
+use Rattle.lethe_core.proofs.Waiting.{still_counted}
 
 -- Some of the jobs that are chosen
 
@@ -28,10 +32,14 @@ module _ (chosen : Stored → Option Plan) where
   some_ended s [] t are none = (subst (HasNoMergeBy chosen) are none, are)
   some_ended s (outcome ∷ more) t are none = (are.0, some_ended outcome.to more t are.1 none)
 
--- a job leaves no page retired
-none_behind : (outcomes : List Outcome) (next : Outcome) (retired : List Name) → retired_behind (outcomes ++ next ∷ []) retired ≡ []
-none_behind [] next retired = refl
-none_behind (outcome ∷ more) next retired = refl
+-- behind a job the retired pages are those that a pin names
+named_behind : (outcomes : List Outcome) (next : Outcome) (pins : List Pin) (before retired : List Name) → AreNamed pins retired → AreRetiredBehind (outcomes ++ next ∷ []) pins before retired
+named_behind [] next pins before retired named = named
+named_behind (outcome ∷ more) next pins before retired named = named
+
+-- whatever the pins and the pages before are equal to
+pub retired_since : (outcomes : List Outcome) (held was : Held) (before earlier retired : List Name) → held ≡ was → before ≡ earlier → AreRetiredBehind outcomes held.pins before retired → AreRetiredBehind outcomes was.pins earlier retired
+retired_since outcomes held was before earlier retired pins names is = subst (λ held. AreRetiredBehind outcomes held.pins earlier retired) pins (subst (λ before. AreRetiredBehind outcomes held.pins before retired) names is)
 
 -- what is stored behind so many jobs, whose pages were fetched, and the pages that are retired then
 pub record AreBehind (chosen : Stored → Option Plan) (s : Stored) (old new : View) (count fetched : ℕ) : Type 0 where
@@ -40,8 +48,8 @@ pub record AreBehind (chosen : Stored → Option Plan) (s : Stored) (old new : V
   pub are : AreSomeOutcomesBy chosen s outcomes to
   pub holds : Holds new to
   pub pages : pages_of outcomes ≡ fetched
-  pub retired : new.retired ≡ retired_behind outcomes old.retired
-  pub down : jobs_left to + count ≤ jobs_left s
+  pub retired : AreRetiredBehind outcomes old.pins.pins old.retired new.retired
+  pub down : HasCountedErases s → HasCountedErases to × (jobs_left to + count ≤ jobs_left s)
 
 -- Of a store that has carried out so many jobs: what it keeps and what is stored, by its port's counts of fetches and of faults.
 pub record HasMerged (chosen : Stored → Option Plan) (Tells : Type 0) (old new : View) (count fetches fetches' faults faults' : ℕ) : Type 0 where
@@ -54,12 +62,12 @@ pub none_merged : (chosen : Stored → Option Plan) (Tells : Type 0) (view : Vie
 none_merged chosen Tells view before fetches faults may = record {
   keeps = keeps_itself Tells view may.sound may.runs None tt;
   steady = record { stopped = refl; count = refl; records = refl; config = refl };
-  behind = λ told s holds. (0, record { outcomes = []; to = s; are = refl; holds = holds; pages = refl; retired = refl; down = omega arith }, omega arith);
+  behind = λ told s holds. (0, record { outcomes = []; to = s; are = refl; holds = holds; pages = refl; retired = refl; down = λ counted. (counted, omega arith) }, omega arith);
   port_faults = omega arith;
 }
 
 -- what is stored has no more pending erases than a manifest may have
-few_pending : (Tells : Type 0) (view : View) (s : Stored) → IsSound Tells view → Holds view s → length (pending_of s) < 2 ^ 32
+pub few_pending : (Tells : Type 0) (view : View) (s : Stored) → IsSound Tells view → Holds view s → length (pending_of s) < 2 ^ 32
 few_pending Tells view s sound holds = subst (λ (pending : List Pending). length pending < 2 ^ 32) holds.remembers.pending sound.writable.pending.few
 
 module _ (chosen : Stored → Option Plan) (Tells : Type 0) (old mid : View) (before count f0 f1 p0 p1 : ℕ) (merged : HasMerged chosen Tells old mid count f0 f1 p0 p1) where
@@ -75,9 +83,9 @@ module _ (chosen : Stored → Option Plan) (Tells : Type 0) (old mid : View) (be
   }
 
   pub once_more : (new : View) (f2 p2 : ℕ) → Keeps Tells mid new None → IsSteady mid.state new.state
-      → (Tells → (t : Stored) → Holds mid t → (next : Outcome) × IsOutcomeBy chosen t next × Holds new next.to × (f2 ≡ f1 + reads_of next.task)) → new.retired ≡ [] → p1 ≤ p2
+      → (Tells → (t : Stored) → Holds mid t → (next : Outcome) × IsOutcomeBy chosen t next × Holds new next.to × (f2 ≡ f1 + reads_of next.task)) → AreNamed new.pins.pins new.retired → p1 ≤ p2
       → HasMerged chosen Tells old new (count + 1) f0 f2 p0 p2
-  once_more new f2 p2 keeps steady done none faults = record {
+  once_more new f2 p2 keeps steady done named faults = record {
     keeps = keeps_then Tells old mid new merged.keeps None keeps;
     steady = merged_steady new steady;
     behind = λ told s holds.
@@ -88,9 +96,6 @@ module _ (chosen : Stored → Option Plan) (Tells : Type 0) (old mid : View) (be
         let next = made.0 in
         let is = made.1 in
         let more = reads_of next.task in
-        let few = few_pending Tells mid t merged.keeps.sound are.holds in
-        let below : jobs_left next.to < jobs_left t = goes_on t next.to next.task are.holds.remembers.coherent few is.installed made.2.remembers.coherent in
-        let down = are.down in
         let all = sum_by-append (λ (outcome : Outcome). reads_of outcome.task) are.outcomes (next ∷ []) in
         let pages = are.pages in
         let first = had.2 in
@@ -102,8 +107,12 @@ module _ (chosen : Stored → Option Plan) (Tells : Type 0) (old mid : View) (be
             are = some_more chosen s are.outcomes t next are.are is;
             holds = made.2;
             pages = omega (arith, all, pages);
-            retired = none ∙ sym (none_behind are.outcomes next old.retired);
-            down = omega (arith, below, down);
+            retired = named_behind are.outcomes next old.pins.pins old.retired new.retired (subst (λ (held : Held). AreNamed held.pins new.retired) (keeps.pins ∙ merged.keeps.pins) named);
+            down = λ counted.
+                let down = are.down counted in
+                let before = down.1 in
+                let below : jobs_left next.to < jobs_left t = goes_on t next.to next.task are.holds.remembers.coherent down.0 is.begun.planned is.installed in
+                (still_counted t next.task next.to is.installed down.0, omega (arith, below, before));
           },
           omega (arith, first, then),
         );
@@ -112,7 +121,7 @@ module _ (chosen : Stored → Option Plan) (Tells : Type 0) (old mid : View) (be
 
   -- no job is chosen any more
   pub no_more : Tells → (s : Stored) → Holds old s → ((t : Stored) → Holds mid t → HasNoMergeBy chosen t)
-      → (t : Stored) × (outcomes : List Outcome) × AreOutcomesBy chosen s outcomes t × Holds mid t × (f1 ≡ f0 + pages_of outcomes) × (mid.retired ≡ retired_behind outcomes old.retired)
+      → (t : Stored) × (outcomes : List Outcome) × AreOutcomesBy chosen s outcomes t × Holds mid t × (f1 ≡ f0 + pages_of outcomes) × AreRetiredBehind outcomes old.pins.pins old.retired mid.retired
   no_more told s holds none =
       let had = merged.behind told s holds in
       let are = had.1 in
@@ -125,8 +134,8 @@ module _ (chosen : Stored → Option Plan) (Tells : Type 0) (old mid : View) (be
   some_merged told s holds = let are = (merged.behind told s holds).1 in (are.to, (are.outcomes, are.are), are.holds)
 
   -- there are no more jobs than there is to do
-  pub too_many : MayStep Tells old before → Tells → (s : Stored) → Holds old s → 2 ^ 127 ≤ count → ⊥
-  too_many may told s holds many =
-      let down = (merged.behind told s holds).1.down in
+  pub too_many : MayStep Tells old before → Tells → (s : Stored) → Holds old s → HasCountedErases s → (most : ℕ) → most ≡ jobs_left s → min (most + 1) (2 ^ 128 - 1) ≤ count → ⊥
+  too_many may told s holds counted most most_is many =
+      let down = ((merged.behind told s holds).1.down counted).1 in
       let few = few_jobs s holds.remembers.coherent (few_pending Tells old s may.sound holds) in
-      omega (arith, down, few, many)
+      omega (arith, down, few, most_is, many)

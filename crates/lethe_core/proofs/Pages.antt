@@ -1,7 +1,7 @@
 -- A page of the job in flight is written beside what is stored.
-use Rattle.std.proofs.Common.{◌≡◌, ◌≤◌, ◌+◌, inl, inr, ℕ, List, [], ◌∷◌, ◌++◌, Option, Some, None, Result, Err, refl, sym, ap, ◌∙◌, subst, append_assoc, arith}
-use Rattle.std.specs.Prelude.{All, IfSome, OnErr, option_map}
-use Rattle.std.proofs.lemmas.List.Elements.{All-push}
+use Rattle.std.proofs.Common.{◌≡◌, ◌<◌, ◌≤◌, ◌+◌, inl, inr, ℕ, List, [], ◌∷◌, ◌++◌, Option, Some, None, Result, Err, refl, sym, ap, ◌∙◌, subst, arith}
+use Rattle.std.specs.Prelude.{All, Contains, IfSome, IsTrue, OnErr, option_map}
+use Rattle.std.proofs.lemmas.List.Elements.{All-contains, All-push, Contains-append_left}
 use Rattle.std.specs.FinMap.{insert}
 use Rattle.lethe_base.specs.History.{History}
 use Rattle.lethe_base.specs.Limits.{max_place}
@@ -27,19 +27,23 @@ use Rattle.lethe_advance.specs.Settled.{AreDrawn, AreUncited, HasOnly, IsSettled
 use Rattle.lethe_clean.specs.Copied.{IsCopied}
 use Rattle.lethe_clean.proofs.Stays.{beside_untorn}
 use Rattle.lethe_loose.specs.Loose.{MayRemove, MayWrite}
+use Rattle.lethe_pins.specs.Held.{is_named}
 use Rattle.lethe_state.specs.Remembered.{Remembers}
 use Rattle.lethe_state.specs.Writable.{IsWritable}
 use Rattle.lethe_state.specs.declared.state.State.{State}
 use Rattle.lethe_core.specs.Keeps.{Keeps, MayStep}
+use Rattle.lethe_core.specs.Pinned.{AreKept}
 use Rattle.lethe_core.specs.Running.{Holds, IsFlying, IsRunning, IsSound, IsTasked}
 use Rattle.lethe_core.specs.StandsNow.{IsCounted, StandsNow}
 use Rattle.lethe_core.specs.Steps.{IsHindered}
-use Rattle.lethe_core.specs.View.{Flying, View, flying_of, loose_in, named_in, view_of}
+use Rattle.lethe_core.specs.View.{Flying, View, flying_of, loose_in, named_in, names_beside, view_of}
 use Rattle.lethe_core.specs.declared.flight.Flight.{Flight}
 use Rattle.lethe_core.specs.declared.holding.Core.{Core}
 use Rattle.lethe_core.proofs.Beside.{beside_stays, names_beside_at}
 use Rattle.lethe_core.proofs.Hindered.{hindered_keeps}
+use Rattle.lethe_core.proofs.Paged.{page_cited}
 use Rattle.lethe_core.proofs.Standing.{encoded_moments, next_stands_now, stands_for, stands_holds}
+use Rattle.lethe_core.proofs.Timely.{timely_kept}
 
 -- the job that was taken out is the one in flight
 pub flying_is : {D Page Port : Type 0} {kind : Ghosts D Page Port} (core : Core D Page Port kind) (took : Option (Flight D Page Port kind)) (flight : Flight D Page Port kind)
@@ -127,18 +131,18 @@ module _ (Tells : Type 0) (old : View) (flying : Flying) (is : old.flight ≡ So
   uncited_written s holds = subst (λ f. AreUncited s (stays ++ loose_in f)) is holds.running.uncited
 
   -- their numbers were drawn
-  pub drawn_written : AreDrawn old.state.next (names_in (stays ++ flying.written))
-  drawn_written = subst (λ f. AreDrawn old.state.next (names_in (stays ++ loose_in f))) is
-      (subst (AreDrawn old.state.next) (sym (names_beside_at old.disk.directory old.retired old.flight)) sound.drawn)
+  pub drawn_written : Tells → AreDrawn old.state.next (names_in (stays ++ flying.written))
+  drawn_written told = subst (λ f. AreDrawn old.state.next (names_in (stays ++ loose_in f))) is
+      (subst (AreDrawn old.state.next) (sym (names_beside_at old.disk.directory old.retired old.flight)) (sound.drawn told))
 
   later : (s : Stored) → Holds old s → s.manifest.next ≤ old.state.next
   later s holds = subst (λ (m : Manifest). m.next ≤ old.state.next) holds.remembers.manifest sound.writable.drawn
 
-  pub may_write : (s : Stored) → Holds old s → MayWrite old.disk s (stays ++ flying.written) old.state.next
-  may_write s holds = record { settled = holds.running.settled; only = only_written s holds; drawn = drawn_written; later = later s holds }
+  pub may_write : Tells → (s : Stored) → Holds old s → MayWrite old.disk s (stays ++ flying.written) old.state.next
+  may_write told s holds = record { settled = holds.running.settled; only = only_written s holds; drawn = drawn_written told; later = later s holds }
 
-  pub may_remove : (s : Stored) → Holds old s → MayRemove old.disk s stays flying.written
-  may_remove s holds = record { settled = holds.running.settled; only = only_written s holds; uncited = uncited_written s holds; once = drawn_written.once }
+  pub may_remove : Tells → (s : Stored) → Holds old s → MayRemove old.disk s stays flying.written
+  may_remove told s holds = record { settled = holds.running.settled; only = only_written s holds; uncited = uncited_written s holds; once = (drawn_written told).once }
 
   -- a page that wasn't written isn't among them
   pub as_written : (written : List (Name × List ℕ)) → written ≡ flying.written → Some (record flying { written = written }) ≡ old.flight
@@ -148,6 +152,7 @@ module _ (Tells : Type 0) (old : View) (flying : Flying) (is : old.flight ≡ So
       (done : Tells → (s : Stored) → MayWrite old.disk s (stays ++ flying.written) old.state.next → IsSettled disk s × HasOnly s (stays ++ written) disk.directory)
       (loose : (s : Stored) → IsCoherent s → s.manifest.next ≤ old.state.next → AreUncited s (stays ++ flying.written) → AreUncited s (stays ++ written))
       (more : AreDrawn old.state.next (names_in (stays ++ flying.written)) → AreDrawn (old.state.next + 1) (names_in (stays ++ written)))
+      (own : AreDrawn old.state.next (names_in flying.written) → AreDrawn (old.state.next + 1) (names_in written))
       (page : Tells → disk.directory ≡ insert old.disk.directory (page_name old.state.next) bytes) (longer : written ≡ flying.written ++ (page_name old.state.next, bytes) ∷ [])
       (copied : Tells → (s : Stored) → Holds old s → IsCopied s (page_name old.state.next, bytes)) where
     abbrev now : View
@@ -167,23 +172,44 @@ module _ (Tells : Type 0) (old : View) (flying : Flying) (is : old.flight ≡ So
         let drawn = later s holds in
         omega (arith, below, number, drawn)
 
-    all_written : (s : Stored) → Holds old s → IsCopied s (page_name old.state.next, bytes) → All (IsCopied s) (stays ++ written)
+    all_written : (s : Stored) → Holds old s → IsCopied s (page_name old.state.next, bytes) → All (IsCopied s) written
     all_written s holds page =
-        let before : All (IsCopied s) (stays ++ flying.written) = subst (λ f. All (IsCopied s) (stays ++ loose_in f)) is holds.running.copied in
-        let all = All-push (IsCopied s) (stays ++ flying.written) (page_name old.state.next, bytes) before page in
-        subst (λ l. All (IsCopied s) l) (append_assoc stays flying.written ((page_name old.state.next, bytes) ∷ []) ∙ ap (λ l. stays ++ l) (sym longer)) all
+        let before : All (IsCopied s) flying.written = subst (λ f. All (IsCopied s) (loose_in f)) is holds.running.copied in
+        subst (All (IsCopied s)) (sym longer) (All-push (IsCopied s) flying.written (page_name old.state.next, bytes) before page)
+
+    -- the number of a retired page was drawn before, and what a held pin names is cited or retired
+    retired_unwritten : Tells → (name : Name) → Contains old.retired name → name ≡ page_name old.state.next → ⊥
+    retired_unwritten told name there same =
+        let drawn = sound.drawn told in
+        let each = All-contains (λ (name : Name). (name.kind ≡ kinds.Page) × (name.no < old.state.next)) (names_beside old) name drawn.each
+        (Contains-append_left old.retired (names_in (loose_in old.flight)) name there) in
+        let below = each.1 in
+        let number : name.no ≡ old.state.next = ap (λ (n : Name). n.no) same in
+        omega (arith, below, number)
+
+    named_unwritten : Tells → (s : Stored) → Holds old s → (name : Name) → IsTrue (is_named old.pins.pins name) → name ≡ page_name old.state.next → ⊥
+    named_unwritten told s holds name named same = elim (holds.running.kept name named) [
+      | inl page ↦ cited_unwritten s holds name (page_cited s holds.remembers.coherent name page) same
+      | inr retired ↦ retired_unwritten told name retired same
+    ]
+
+    others_stay : Tells → (name : Name) → (name ≡ page_name old.state.next → ⊥) → object disk.directory name ≡ object old.disk.directory name
+    others_stay told name apart = ap (λ d. object d name) (page told) ∙ object_beside_insert old.disk.directory (page_name old.state.next) bytes name apart
+
+    written_kept : Tells → (s : Stored) → Holds old s → AreKept old.pins.pins old.disk.directory disk.directory
+    written_kept told s holds name named = others_stay told name (named_unwritten told s holds name named)
 
     written_running : Tells → (s : Stored) → Holds old s → IsRunning now s
     written_running told s holds =
-        let after = done told s (may_write s holds) in
+        let after = done told s (may_write told s holds) in
         let same = beside_stays old.disk.directory disk.directory old.retired now.flight after.1.there in
         record {
           settled = after.0;
           only = subst (λ l. HasOnly s l disk.directory) (sym same) after.1;
           uncited = subst (AreUncited s) (sym same) (loose s holds.remembers.coherent (later s holds) (uncited_written s holds));
-          untorn = beside_untorn s old.disk.directory disk.directory holds.running.untorn (λ name cited. ap (λ d. object d name) (page told)
-              ∙ object_beside_insert old.disk.directory (page_name old.state.next) bytes name (cited_unwritten s holds name cited));
-          copied = subst (All (IsCopied s)) (sym same) (all_written s holds (copied told s holds));
+          untorn = beside_untorn s old.disk.directory disk.directory holds.running.untorn (λ name cited. others_stay told name (cited_unwritten s holds name cited));
+          copied = all_written s holds (copied told s holds);
+          kept = holds.running.kept;
           rising = holds.running.rising;
           ends = ends_stay old.disk disk s old.state.end after.0 (segment_stays told s.active.no) (here told) holds.running.ends;
           current = record { runs = holds.running.current.runs; count = holds.running.current.count };
@@ -199,7 +225,10 @@ module _ (Tells : Type 0) (old : View) (flying : Flying) (is : old.flight ≡ So
       small = record { active = sound.small.active; records = sound.small.records; frozen = sound.small.frozen };
       count = sound.count;
       flies = record { levels = flies.levels; upto = flies.upto; erases = flies.erases };
-      drawn = subst (AreDrawn (old.state.next + 1)) (names_beside_at old.disk.directory old.retired now.flight) (more drawn_written);
+      loose = own (subst (λ f. AreDrawn old.state.next (names_in (loose_in f))) is sound.loose);
+      drawn = λ told. subst (AreDrawn (old.state.next + 1)) (names_beside_at old.disk.directory old.retired now.flight) (more (drawn_written told));
+      pins = sound.pins;
+      pages = sound.pages;
       held = λ told.
           let held = sound.held told in
           (held.0, drawn_remembered held.0 old.state old.levels held.1, λ runs. written_running told held.0 (record { remembers = held.1; running = held.2 runs }));
@@ -214,8 +243,12 @@ module _ (Tells : Type 0) (old : View) (flying : Flying) (is : old.flight ≡ So
       stands = λ told config h stands caller call.
           let holds = stands_holds config h old stands runs in
           next_stands_now config h old now stands runs stands.stored refl refl (stands_for config h old stands runs) (written_holds told stands.stored holds)
-          (subst (λ f. IfSome f (λ (flying : Flying). IsCounted flying.task)) is stands.counted) stands.recorded;
-      any_moment = λ told. kept_moments Tells old sound disk runs (λ s holds. goes told s (may_write s holds));
+          (subst (λ f. IfSome f (λ (flying : Flying). IsCounted flying.task)) is stands.counted) stands.recorded
+          (timely_kept config.threshold h old.pins.pins old.retired old.retired old.disk.directory disk.directory (written_kept told stands.stored holds) (stands.timely runs)
+          (λ name there. inl (there, others_stay told name (retired_unwritten told name there))));
+      any_moment = λ told. kept_moments Tells old sound disk runs (λ s holds. goes told s (may_write told s holds));
       numbers = λ told. let two = calls told in omega (arith, two);
       faults = rose;
+      pins = refl;
+      pinned = λ told still. let held = held_now Tells old sound told runs in written_kept told held.0 held.1;
     }

@@ -2,12 +2,13 @@
 use Rattle.std.proofs.Common.{◌≡◌, ◌⊎◌, ◌<◌, inl, inr, ℕ, ◌+◌, ◌-◌, List, [], ◌∷◌, ◌++◌, map, length, get_or, cond, Option, Some, None, refl, sym, ap, ◌∙◌, subst, arith}
 use Rattle.std.specs.Prelude.{All, AllPairs, Contains, IfSome, IsSome, false, option_to_list, slice_index}
 use Rattle.std.specs.FinMap.{insert}
-use Rattle.std.proofs.lemmas.List.Elements.{All-weaker}
+use Rattle.std.proofs.lemmas.List.Elements.{All-contains, All-weaker, Contains-append_left}
 use Rattle.lethe_base.specs.History.{History, Change}
 use Rattle.lethe_base.specs.Limits.{max_place}
 use Rattle.lethe_base.specs.declared.call.Call.{Call}
-use Rattle.lethe_base.specs.declared.call.Did.TheVariants.{Failed}
+use Rattle.lethe_base.specs.declared.call.Did.TheVariants.{Done, Failed}
 use Rattle.lethe_base.specs.declared.config.Fields.{Fields}
+use Rattle.lethe_base.specs.declared.name.Kind.TheVariants as kinds
 use Rattle.lethe_base.specs.declared.name.Name.{Name}
 use Rattle.lethe_base.specs.declared.pending.Pending.{Pending}
 use Rattle.lethe_disk.specs.Directory.{Directory, object}
@@ -33,7 +34,6 @@ use Rattle.lethe_stored.proofs.Parts.{active_part}
 use Rattle.lethe_stored.proofs.Steps.{append_encodes, append_keeps, active_changed, stored_appended}
 use Rattle.lethe_advance.specs.Settled.{AreUncited, HasOnly, names_in}
 use Rattle.lethe_advance.specs.Untorn.{IsUntorn}
-use Rattle.lethe_clean.specs.Copied.{IsCopied}
 use Rattle.lethe_clean.proofs.Copied.{all_copied}
 use Rattle.lethe_clean.proofs.Stays.{record_untorn}
 use Rattle.lethe_manifest.specs.Manifests.{AreErases}
@@ -44,14 +44,17 @@ use Rattle.lethe_state.specs.Remembered.{Remembers}
 use Rattle.lethe_state.specs.Writable.{IsWritable}
 use Rattle.lethe_state.specs.declared.state.State.{State}
 use Rattle.lethe_job.proofs.Staying.{stays_appended}
+use Rattle.lethe_pins.specs.declared.pin.Pin.{Pin}
 use Rattle.lethe_core.specs.Asked.{done_by}
 use Rattle.lethe_core.specs.Changes.{with_record}
-use Rattle.lethe_core.specs.Running.{Holds, IsRunning, IsTasked}
+use Rattle.lethe_core.specs.Pinned.{AreKept, AreTimely}
+use Rattle.lethe_core.specs.Running.{Holds, IsRunning, IsSound, IsTasked}
 use Rattle.lethe_core.specs.StandsNow.{StandsNow}
-use Rattle.lethe_core.specs.View.{Flying, View, beside_in}
+use Rattle.lethe_core.specs.View.{Flying, View, beside_in, loose_in, names_beside}
 use Rattle.lethe_core.proofs.Beside.{beside_stays}
 use Rattle.lethe_core.proofs.Hindered.{halted_remembered}
 use Rattle.lethe_core.proofs.Standing.{left_at_end, next_drawn, stands_done, stands_for, stopped_stands}
+use Rattle.lethe_core.proofs.Timely.{there_named, timely_kept, timely_more}
 
 -- the last of the manifest's segments is the active one
 last_number : (o : Option Segment) (number : ℕ) → slice_index (map number_of (option_to_list o) ++ number ∷ []) (length (map number_of (option_to_list o) ++ number ∷ []) - 1) ≡ number
@@ -191,13 +194,38 @@ module _ (view : View) (s : Stored) (holds : Holds view s) (next : Record) (spel
             only = subst (λ l. HasOnly (appended s next) l disk'.directory) (sym same_beside) (record { only = within; there = beside_there });
             uncited = subst (AreUncited (appended s next)) (sym same_beside) running.uncited;
             untorn = subst (IsUntorn (appended s next)) (sym inserted) (record_untorn s view.disk.directory next coherent running.untorn);
-            copied = subst (All (IsCopied (appended s next))) (sym same_beside) (all_copied s (appended s next) refl (λ file there. there) (beside_in view) running.copied);
+            copied = all_copied s (appended s next) refl (λ file there. there) (loose_in view.flight) running.copied;
+            kept = running.kept;
             rising = running.rising;
             ends = subst (EndsAt disk' (segment_name s.active.no) s.active.no (longer (addition s next))) (sym is.end_is) (subst (λ n. EndsAt disk' n s.active.no (longer (addition s next)) end) name_is ends);
             current = both.1;
             tasked = tasked_appended s next behind rise coherent_next view.flight running.tasked;
           };
         }
+
+-- What pins keep where the record stands there
+
+module _ (view : View) (s : Stored) (next : Record) (d : Directory) (is : d ≡ with_record view.disk.directory s next) (Tells : Type 0) (sound : IsSound Tells view) where
+  -- a page is no segment
+  page_stays : (name : Name) → name.kind ≡ kinds.Page → object d name ≡ object view.disk.directory name
+  page_stays name page = ap (λ d. object d name) is ∙ object_beside_insert view.disk.directory (segment_name s.active.no) (segment_bytes s.active.no (longer (addition s next))) name
+      (λ e. let clash : kinds.Page ≡ kinds.Segment = sym page ∙ ap (λ (n : Name). n.kind) e in cc)
+
+  pub record_kept : AreKept view.pins.pins view.disk.directory d
+  record_kept name named =
+      let found = there_named view.pins.pins name named in
+      let pages = All-contains (λ (pin : Pin). All (λ (name : Name). name.kind ≡ kinds.Page) pin.names) view.pins.pins found.0 sound.pages found.1 in
+      page_stays name (All-contains (λ (name : Name). name.kind ≡ kinds.Page) (found.0).names name pages found.2)
+
+  -- the change leaves the clock
+  pub record_timely : Tells → (threshold : ℕ) (h : History) (caller : ℕ) (call : Call) → IsFor h s → IsFor (with_done h caller call) (appended s next)
+      → AreTimely threshold h view.pins.pins view.retired view.disk.directory → AreTimely threshold (with_done h caller call) view.pins.pins view.retired d
+  record_timely told threshold h caller call for with timely =
+      timely_more threshold h view.pins.pins view.retired d (record { caller = caller; call = call; did = Done }) (sym with.clock ∙ for.clock)
+      (timely_kept threshold h view.pins.pins view.retired view.retired view.disk.directory d record_kept timely (λ name there.
+      let drawn = All-contains (λ (name : Name). (name.kind ≡ kinds.Page) × (name.no < view.state.next)) (names_beside view) name (sound.drawn told).each
+      (Contains-append_left view.retired (names_in (loose_in view.flight)) name there) in
+      inl (there, page_stays name drawn.0)))
 
 -- the disk failed in the change
 pub failed_stands : (config : Fields) (h : History) (view : View) (stands : StandsNow config h view) → view.state.stopped ≡ None → view.state.count < max_place → (disk' : Seen) (faults' : ℕ)

@@ -1,13 +1,13 @@
 -- The pages of the job in flight are removed.
-use Rattle.std.proofs.Common.{◌≡◌, ◌≤◌, ◌<◌, ℕ, List, ◌++◌, append-nil, Option, Some, None, Result, Err, refl, sym, ◌∙◌, subst, arith}
-use Rattle.std.specs.Prelude.{All, Contains, IsErrOf}
+use Rattle.std.proofs.Common.{◌≡◌, ◌≢◌, ◌⊎◌, ◌≤◌, inl, inr, ℕ, List, ◌++◌, append-nil, Option, Some, None, Result, Err, refl, sym, ap, ◌∙◌, subst, arith}
+use Rattle.std.specs.Prelude.{AllPairs, Contains, IsErrOf, IsTrue}
 use Rattle.std.proofs.lemmas.List.{map-append}
-use Rattle.std.proofs.lemmas.List.Elements.{All-contains, Contains-append_right}
+use Rattle.std.proofs.lemmas.List.Elements.{All-nil, Contains-append_right}
 use Rattle.lethe_base.specs.History.{History}
 use Rattle.lethe_base.specs.declared.config.Fields.{Fields}
-use Rattle.lethe_base.specs.declared.name.Kind.TheVariants as kinds
 use Rattle.lethe_base.specs.declared.name.Name.{Name}
 use Rattle.lethe_base.specs.declared.refused.Refused.{Refused}
+use Rattle.lethe_cover.proofs.Lists.{pairs_from, pairs_parts}
 use Rattle.lethe_disk.specs.Directory.{SameBeside, object}
 use Rattle.lethe_disk.specs.Disk.{Image, Seen}
 use Rattle.lethe_disk.specs.Goes.{Goes}
@@ -17,18 +17,23 @@ use Rattle.lethe_stored.specs.Encodes.{Encodes}
 use Rattle.lethe_stored.specs.Stored.{IsCited, Stored, segment_name}
 use Rattle.lethe_stored.proofs.Frame.{none_of}
 use Rattle.lethe_stored.proofs.Lists.{all_left}
+use Rattle.lethe_stored.proofs.Parts.{active_part}
 use Rattle.lethe_advance.specs.Settled.{AreDrawn, AreUncited, HasOnly, IsSettled, names_in}
 use Rattle.lethe_clean.specs.Copied.{IsCopied}
 use Rattle.lethe_clean.proofs.Stays.{beside_untorn}
 use Rattle.lethe_loose.specs.Loose.{MayRemove}
+use Rattle.lethe_pins.specs.Held.{is_named}
 use Rattle.lethe_core.specs.Asked.{Serves, behind}
 use Rattle.lethe_core.specs.Keeps.{Keeps}
+use Rattle.lethe_core.specs.Pinned.{AreKept, pages_in}
 use Rattle.lethe_core.specs.Running.{Holds, IsRunning, IsSound}
 use Rattle.lethe_core.specs.StandsNow.{IsOpenOrStopped, StandsNow}
 use Rattle.lethe_core.specs.View.{Flying, View, loose_in, named_in}
-use Rattle.lethe_core.proofs.Beside.{cited_apart, drawn_front, named_stays}
-use Rattle.lethe_core.proofs.Pages.{drawn_written, ends_stay, held_now, kept_moments, may_remove}
+use Rattle.lethe_core.proofs.Beside.{cited_apart, drawn_front, named_stays, names_named, none_drawn}
+use Rattle.lethe_core.proofs.Paged.{page_cited}
+use Rattle.lethe_core.proofs.Pages.{ends_stay, held_now, kept_moments}
 use Rattle.lethe_core.proofs.Standing.{next_stands_now, stands_for, stands_holds}
+use Rattle.lethe_core.proofs.Timely.{timely_kept}
 
 -- what took no memory failed
 pub only_failed : (result : Result (Unit {0}) DiskRefused) (why : DiskRefused) → result ≡ Err why → (IsErrOf result NoMemory → ⊥) → IsErrOf result Failed
@@ -39,37 +44,67 @@ only_failed result NoMemory is some = absurd (some is)
 grounded_drawn : (next : ℕ) (retired : List Name) (flight : Option Flying) → AreDrawn next (retired ++ names_in (loose_in flight)) → AreDrawn next (retired ++ names_in (loose_in None))
 grounded_drawn next retired flight is = subst (AreDrawn next) (sym (append-nil retired)) (drawn_front next retired (names_in (loose_in flight)) is)
 
-module _ (Tells : Type 0) (old : View) (flying : Flying) (is : old.flight ≡ Some flying) (sound : IsSound Tells old) (disk : Seen) (faults : ℕ) (here : Tells → Image old.disk old.disk.directory)
-    (done : Tells → (s : Stored) → MayRemove old.disk s (named_in old.disk.directory old.retired) flying.written
-    → IsSettled disk s × HasOnly s (named_in old.disk.directory old.retired) disk.directory) (others : Tells → SameBeside (names_in flying.written) old.disk.directory disk.directory) where
+-- names that stand in one list and not in the rest of it
+once_apart : (xs ys : List Name) → AllPairs (λ a b. a ≢ b) (xs ++ ys) → (name : Name) → Contains xs name → Contains ys name → ⊥
+once_apart xs ys once name left right =
+    let R : Name → Name → Type 0 = λ a b. a ≢ b in
+    (pairs_parts R xs ys (pairs_from R (xs ++ ys) once)).2 name name left right refl
+
+-- The job in flight goes and some pages with it, and these retired ones stay.
+module _ (Tells : Type 0) (old : View) (sound : IsSound Tells old) (runs : old.state.stopped ≡ None) (retired : List Name) (gone : List (Name × List ℕ)) (disk : Seen) (faults : ℕ)
+    (here : Tells → Image old.disk old.disk.directory) (was : (name : Name) → Contains retired name → Contains old.retired name)
+    (needed : (name : Name) → IsTrue (is_named old.pins.pins name) → Contains old.retired name → Contains retired name) (drawn : Tells → AreDrawn old.state.next retired)
+    (may : Tells → (s : Stored) → Holds old s → MayRemove old.disk s (named_in old.disk.directory retired) gone)
+    (done : Tells → (s : Stored) → MayRemove old.disk s (named_in old.disk.directory retired) gone → IsSettled disk s × HasOnly s (named_in old.disk.directory retired) disk.directory)
+    (others : Tells → SameBeside (names_in gone) old.disk.directory disk.directory) where
   abbrev alone : View
-  alone = record old { disk = disk; faults = faults; flight = None }
+  alone = record old { disk = disk; faults = faults; flight = None; retired = retired }
 
   abbrev left : List (Name × List ℕ)
-  left = named_in old.disk.directory old.retired
+  left = named_in old.disk.directory retired
 
-  segment_stays : Tells → (number : ℕ) → object disk.directory (segment_name number) ≡ object old.disk.directory (segment_name number)
-  segment_stays told number = others told (segment_name number) (none_of (names_in flying.written) (segment_name number) (λ there.
-      let drawn = drawn_written Tells old flying is sound in
-      let among = subst (λ l. Contains l (segment_name number)) (sym (map-append (λ (named : Name × List ℕ). named.0) left flying.written))
-      (Contains-append_right (names_in left) (names_in flying.written) (segment_name number) there) in
-      let clash : kinds.Segment ≡ kinds.Page = (All-contains (λ (name : Name). (name.kind ≡ kinds.Page) × (name.no < old.state.next)) (names_in (left ++ flying.written)) (segment_name number) drawn.each among).0 in
-      cc))
+  names_apart : names_in (left ++ gone) ≡ retired ++ names_in gone
+  names_apart = map-append (λ (named : Name × List ℕ). named.0) left gone ∙ ap (λ l. l ++ names_in gone) (names_named old.disk.directory retired)
+
+  stays_there : Tells → (name : Name) → (Contains (names_in gone) name → ⊥) → object disk.directory name ≡ object old.disk.directory name
+  stays_there told name out = others told name (none_of (names_in gone) name out)
+
+  -- what is cited doesn't go, nor what stays retired
+  cited_stays : Tells → (s : Stored) → Holds old s → (name : Name) → IsCited s name → object disk.directory name ≡ object old.disk.directory name
+  cited_stays told s holds name cited = stays_there told name (λ there. cited_apart s (left ++ gone) (may told s holds).uncited name cited
+      (subst (λ l. Contains l name) (sym names_apart) (Contains-append_right retired (names_in gone) name there)))
+
+  retired_stays : Tells → (name : Name) → Contains retired name → object disk.directory name ≡ object old.disk.directory name
+  retired_stays told name stays =
+      let held = held_now Tells old sound told runs in
+      stays_there told name (once_apart retired (names_in gone) (subst (AllPairs (λ a b. a ≢ b)) names_apart (may told held.0 held.1).once) name stays)
+
+  -- and so what a held pin names
+  named_kept : Tells → AreKept old.pins.pins old.disk.directory disk.directory
+  named_kept told name named =
+      let held = held_now Tells old sound told runs in
+      let s = held.0 in
+      elim (held.1.running.kept name named) [
+        | inl page ↦ cited_stays told s held.1 name (page_cited s held.1.remembers.coherent name page)
+        | inr is ↦ retired_stays told name (needed name named is)
+      ]
+
+  kept_on : (s : Stored) → Holds old s → (name : Name) → IsTrue (is_named old.pins.pins name) → Contains (pages_in s.files) name ⊎ Contains retired name
+  kept_on s holds name named = elim (holds.running.kept name named) [ inl page ↦ inl page | inr is ↦ inr (needed name named is) ]
 
   removed_running : Tells → (s : Stored) → Holds old s → IsRunning alone s
   removed_running told s holds =
-      let may = may_remove Tells old flying is sound s holds in
-      let after = done told s may in
-      let same = append-nil (named_in disk.directory old.retired) ∙ named_stays old.disk.directory disk.directory old.retired after.1.there in
+      let after = done told s (may told s holds) in
+      let same = append-nil (named_in disk.directory retired) ∙ named_stays old.disk.directory disk.directory retired after.1.there in
       record {
         settled = after.0;
         only = subst (λ l. HasOnly s l disk.directory) (sym same) after.1;
-        uncited = subst (AreUncited s) (sym same) (all_left (λ (named : Name × List ℕ). IsCited s named.0 → ⊥) left flying.written may.uncited);
-        untorn = beside_untorn s old.disk.directory disk.directory holds.running.untorn (λ name cited. others told name (none_of (names_in flying.written) name (λ there. cited_apart s (left ++ flying.written) may.uncited name cited
-            (subst (λ l. Contains l name) (sym (map-append (λ (named : Name × List ℕ). named.0) left flying.written)) (Contains-append_right (names_in left) (names_in flying.written) name there)))));
-        copied = subst (All (IsCopied s)) (sym same) (all_left (IsCopied s) left flying.written (subst (λ flight. All (IsCopied s) (left ++ loose_in flight)) is holds.running.copied));
+        uncited = subst (AreUncited s) (sym same) (all_left (λ (named : Name × List ℕ). IsCited s named.0 → ⊥) left gone (may told s holds).uncited);
+        untorn = beside_untorn s old.disk.directory disk.directory holds.running.untorn (cited_stays told s holds);
+        copied = All-nil (IsCopied s);
+        kept = kept_on s holds;
         rising = holds.running.rising;
-        ends = ends_stay old.disk disk s old.state.end after.0 (segment_stays told s.active.no) (here told) holds.running.ends;
+        ends = ends_stay old.disk disk s old.state.end after.0 (cited_stays told s holds (segment_name s.active.no) (inr (inr (active_part s)))) (here told) holds.running.ends;
         current = holds.running.current;
         tasked = tt;
       }
@@ -83,23 +118,33 @@ module _ (Tells : Type 0) (old : View) (flying : Flying) (is : old.flight ≡ So
     small = sound.small;
     count = sound.count;
     flies = tt;
-    drawn = grounded_drawn old.state.next old.retired old.flight sound.drawn;
+    loose = none_drawn old.state.next;
+    drawn = λ told. subst (AreDrawn old.state.next) (sym (append-nil retired)) (drawn told);
+    pins = sound.pins;
+    pages = sound.pages;
     held = λ told. let held = sound.held told in (held.0, held.1, λ runs. removed_running told held.0 (record { remembers = held.1; running = held.2 runs }));
   }
 
-  pub removed_keeps : old.state.stopped ≡ None → (Tells → (s : Stored) → MayRemove old.disk s left flying.written → Goes (λ c. Encodes c s) old.disk disk) → old.faults ≤ faults → Keeps Tells old alone None
-  removed_keeps runs goes rose =
-      let moments : Tells → (s : Stored) → Holds old s → Goes (λ c. Encodes c s) old.disk disk = λ told s holds. goes told s (may_remove Tells old flying is sound s holds) in
+  pub removed_keeps : (Tells → (s : Stored) → MayRemove old.disk s left gone → Goes (λ c. Encodes c s) old.disk disk) → old.faults ≤ faults → Keeps Tells old alone None
+  removed_keeps goes rose =
+      let moments : Tells → (s : Stored) → Holds old s → Goes (λ c. Encodes c s) old.disk disk = λ told s holds. goes told s (may told s holds) in
       record {
         sound = removed_sound;
         count = refl;
         stopped = refl;
         stands = λ told config h stands caller call.
-            next_stands_now config h old alone stands runs stands.stored refl refl (stands_for config h old stands runs) (removed_holds told stands.stored (stands_holds config h old stands runs)) tt stands.recorded;
+            next_stands_now config h old alone stands runs stands.stored refl refl (stands_for config h old stands runs) (removed_holds told stands.stored (stands_holds config h old stands runs)) tt stands.recorded
+            (timely_kept config.threshold h old.pins.pins old.retired retired old.disk.directory disk.directory (named_kept told) (stands.timely runs) (λ name there. inl (was name there, retired_stays told name there)));
         any_moment = λ told. kept_moments Tells old sound disk runs (moments told);
         numbers = λ told. let held = held_now Tells old sound told runs in let on = (moments told held.0 held.1).later in omega (arith, on);
         faults = rose;
+        pins = refl;
+        pinned = λ told still. named_kept told;
       }
+
+-- where the job's pages go alone, all retired ones stay
+pub all_drawn : (Tells : Type 0) (old : View) → IsSound Tells old → Tells → AreDrawn old.state.next old.retired
+all_drawn Tells old sound told = drawn_front old.state.next old.retired (names_in (loose_in old.flight)) (sound.drawn told)
 
 -- A store that was stopped needs no job
 
@@ -114,6 +159,7 @@ grounded_stands config h view at stopped stands = record {
   held = subst (IsOpenOrStopped config (record view { flight = None }) h stands.stored) (sym stopped) (subst (IsOpenOrStopped config view h stands.stored) stopped stands.held);
   counted = tt;
   recorded = stands.recorded;
+  timely = stands.timely;
 }
 
 pub grounded_keeps : (Tells : Type 0) (old new : View) (why : Option Refused) (at : ℕ) → new.state.stopped ≡ Some at → Keeps Tells old new why → Keeps Tells old (record new { flight = None }) why
@@ -123,7 +169,10 @@ grounded_keeps Tells old new why at stopped is = record {
     small = is.sound.small;
     count = is.sound.count;
     flies = tt;
-    drawn = grounded_drawn new.state.next new.retired new.flight is.sound.drawn;
+    loose = none_drawn new.state.next;
+    drawn = λ told. grounded_drawn new.state.next new.retired new.flight (is.sound.drawn told);
+    pins = is.sound.pins;
+    pages = is.sound.pages;
     held = λ told. let held = is.sound.held told in (held.0, held.1, λ runs. absurd (let clash : Some at ≡ None = sym stopped ∙ runs in cc));
   };
   count = is.count;
@@ -132,4 +181,6 @@ grounded_keeps Tells old new why at stopped is = record {
   any_moment = is.any_moment;
   numbers = is.numbers;
   faults = is.faults;
+  pins = is.pins;
+  pinned = is.pinned;
 }

@@ -1,6 +1,6 @@
 -- What stands where the disk is in the store's hands.
 use Rattle.std.proofs.Common.{◌≡◌, ◌<◌, ◌≤◌, inl, inr, ℕ, ◌+◌, [], ◌∷◌, ◌++◌, length, Option, Some, None, refl, sym, ◌∙◌, subst, arith}
-use Rattle.std.specs.Prelude.{All, IfSome}
+use Rattle.std.specs.Prelude.{IfSome}
 use Rattle.std.proofs.lemmas.List.{length_push}
 use Rattle.lethe_base.specs.History.{History, Change, AreDone, IsLegal}
 use Rattle.lethe_base.specs.Limits.{max_place}
@@ -23,10 +23,10 @@ use Rattle.lethe_stored.proofs.Numbers.{goes_from_encoded, goes_from_weaker}
 use Rattle.lethe_advance.specs.Settled.{AreUncited, HasOnly}
 use Rattle.lethe_advance.specs.Untorn.{IsUntorn}
 use Rattle.lethe_advance.proofs.Standing.{settled_back}
-use Rattle.lethe_clean.specs.Copied.{IsCopied}
 use Rattle.lethe_state.specs.Remembered.{Remembers}
 use Rattle.lethe_state.specs.Writable.{IsWritable}
 use Rattle.lethe_state.specs.declared.state.State.{State}
+use Rattle.lethe_core.specs.Pinned.{AreTimely}
 use Rattle.lethe_core.specs.Running.{Holds, IsRunning, IsSound}
 use Rattle.lethe_core.specs.StandsNow.{IsCounted, IsOpenOrStopped, StandsNow, retried}
 use Rattle.lethe_core.specs.Steps.{IsBeside}
@@ -91,8 +91,8 @@ module _ (config : Fields) (h : History) (view : View) (stands : StandsNow confi
 
 -- what a store that takes changes stands for
 pub open_stands : (config : Fields) (h : History) (view : View) (s : Stored) → IsLegal h → AreDone h → view.state.count ≡ length h → s.manifest.config ≡ config → IsFor h s → Holds view s
-    → IfSome view.flight (λ flying. IsCounted flying.task) → AreLaterRecorded s → StandsNow config h view
-open_stands config h view s legal done count config_is stands holds counted recorded = record {
+    → IfSome view.flight (λ flying. IsCounted flying.task) → AreLaterRecorded s → AreTimely config.threshold h view.pins.pins view.retired view.disk.directory → StandsNow config h view
+open_stands config h view s legal done count config_is stands holds counted recorded timely = record {
   legal = legal;
   count = count;
   stored = s;
@@ -102,14 +102,15 @@ open_stands config h view s legal done count config_is stands holds counted reco
   held = subst (IsOpenOrStopped config view h s) (sym holds.running.current.runs) (done, holds.running);
   counted = counted;
   recorded = recorded;
+  timely = λ runs. timely;
 }
 
 -- it stands for the same history where what is stored next does
 pub next_stands_now : (config : Fields) (h : History) (old new : View) (stands : StandsNow config h old) → old.state.stopped ≡ None → (t : Stored) → new.state.count ≡ old.state.count
     → t.manifest.config ≡ stands.stored.manifest.config → IsFor h t → Holds new t → IfSome new.flight (λ flying. IsCounted flying.task) → AreLaterRecorded t
-    → StandsNow config h new
-next_stands_now config h old new stands runs t count same for holds counted recorded =
-    open_stands config h new t stands.legal (stands_done config h old stands runs) (count ∙ stands.count) (same ∙ stands.config_is) for holds counted recorded
+    → AreTimely config.threshold h new.pins.pins new.retired new.disk.directory → StandsNow config h new
+next_stands_now config h old new stands runs t count same for holds counted recorded timely =
+    open_stands config h new t stands.legal (stands_done config h old stands runs) (count ∙ stands.count) (same ∙ stands.config_is) for holds counted recorded timely
 
 -- and one in which the disk failed in one more change
 pub stopped_stands : (config : Fields) (h : History) (change : Change) (before behind : ℕ) (view : View) (s : Stored) → IsLegal h → AreDone h → length h < max_place → change.did ≡ Failed before behind
@@ -136,6 +137,7 @@ stopped_stands config h change before behind view s legal done few failed count 
   });
   counted = counted;
   recorded = recorded;
+  timely = λ runs. absurd (let clash : Some (length h + 1) ≡ None = sym stopped ∙ runs in cc);
 }
 
 -- A disk that has what it had
@@ -145,7 +147,7 @@ abbrev pub beside : View → View → State → View
 beside old new state = record old { disk = new.disk; faults = new.faults; state = state }
 
 pub is_beside : (old new : View) (state : State) → new.state ≡ state → IsBeside old new → beside old new state ≡ new
-is_beside old new state same rest = λ i. record new { state = (sym same) i; levels = (sym rest.levels) i; retired = (sym rest.retired) i; flight = (sym rest.flight) i; begun = (sym rest.begun) i; rounds = (sym rest.rounds) i }
+is_beside old new state same rest = λ i. record new { state = (sym same) i; levels = (sym rest.levels) i; retired = (sym rest.retired) i; flight = (sym rest.flight) i; begun = (sym rest.begun) i; rounds = (sym rest.rounds) i; pins = (sym rest.pins) i }
 
 pub idle_back : (old new : Seen) → IsIdle old new → IsTakenBack old new
 idle_back old new idle = record { directory = idle.directory; images = λ c here. (idle.left old.moment c).0 (subst (λ m. new.left m c) idle.moment here) }
@@ -157,7 +159,8 @@ module _ (old new : View) (back : IsTakenBack old.disk new.disk) where
     only = subst (λ d. HasOnly s (beside_at d old.retired old.flight) d) (sym back.directory) running.only;
     uncited = subst (λ d. AreUncited s (beside_at d old.retired old.flight)) (sym back.directory) running.uncited;
     untorn = subst (IsUntorn s) (sym back.directory) running.untorn;
-    copied = subst (λ d. All (IsCopied s) (beside_at d old.retired old.flight)) (sym back.directory) running.copied;
+    copied = running.copied;
+    kept = running.kept;
     rising = running.rising;
     ends = record {
       ascends = running.ends.ascends;
@@ -201,6 +204,7 @@ module _ (old new : View) (back : IsTakenBack old.disk new.disk) where
     held = held_back config h stands.stored old.state.stopped stands.held;
     counted = stands.counted;
     recorded = stands.recorded;
+    timely = λ runs. subst (AreTimely config.threshold h old.pins.pins old.retired) (sym back.directory) (stands.timely runs);
   })
 
 pub sound_back : (Tells : Type 0) (old new : View) → (Tells → IsTakenBack old.disk new.disk) → new.state ≡ old.state → IsBeside old new → IsSound Tells old → IsSound Tells new
@@ -209,6 +213,9 @@ sound_back Tells old new back same rest sound = subst (IsSound Tells) (is_beside
   small = sound.small;
   count = sound.count;
   flies = sound.flies;
+  loose = sound.loose;
   drawn = sound.drawn;
+  pins = sound.pins;
+  pages = sound.pages;
   held = λ told. let held = sound.held told in (held.0, held.1, λ runs. back_beside old new (back told) held.0 (held.2 runs));
 })

@@ -1,6 +1,6 @@
 -- A freeze and a flush that were carried out: what is stored next is held.
-use Rattle.std.proofs.Common.{◌≡◌, ◌+◌, ℕ, false, List, ◌++◌, length, All, AllPairs, Option, Some, None, refl, sym, ap, ◌∙◌, subst, arith}
-use Rattle.std.specs.Prelude.{◌==◌, Contains, IfSome, IsSome, filter}
+use Rattle.std.proofs.Common.{◌≡◌, ◌+◌, inl, inr, ℕ, false, List, ◌++◌, length, All, AllPairs, Option, Some, None, refl, sym, ap, ◌∙◌, subst, arith}
+use Rattle.std.specs.Prelude.{◌==◌, Contains, IfSome, IsSome, IsTrue, filter}
 use Rattle.std.specs.declared.cmp.Ordering.TheVariants.{Less}
 use Rattle.std.proofs.lemmas.Bool.{ne_eqb}
 use Rattle.std.proofs.lemmas.List.Elements.{All-weaker, Contains-append_right, filter-append}
@@ -30,9 +30,11 @@ use Rattle.lethe_state.specs.Room.{IsFlushed, IsFrozen, IsFrozenWith, frozen_len
 use Rattle.lethe_state.specs.declared.state.State.{State}
 use Rattle.lethe_state.proofs.Stepping.{flush_remembered, freeze_remembered}
 use Rattle.lethe_core.specs.Running.{Holds, IsRunning, IsSmall, IsTasked}
-use Rattle.lethe_core.specs.View.{Flying, View, beside_at, beside_in}
+use Rattle.lethe_pins.specs.Held.{Held, is_named}
+use Rattle.lethe_core.specs.View.{Flying, View, beside_at, beside_in, loose_in}
 use Rattle.lethe_core.proofs.Beside.{beside_stays}
 use Rattle.lethe_core.proofs.Carried.{IsCarried, active_ends, frozen_ends}
+use Rattle.lethe_core.proofs.Kept.{pages_stay}
 
 -- Small buffers
 
@@ -93,13 +95,19 @@ flushed_tasked s t is flying tasked = subst (λ x. IsTasked x flying) (sym is.is
 frozen_tasked : (s t : Stored) → s.frozen ≡ None → IsFrozen s t → (flying : Flying) → IsTasked s flying → IsTasked t flying
 frozen_tasked s t none is flying tasked = subst (λ x. IsTasked x flying) (sym is.is) (stays_frozen s flying.task tasked none is.segment (is.segment + 1))
 
--- copied pages stay so
+-- files stay
+flushed_stay : (s t : Stored) → IsFlushed s t → (file : StoredFile) → Contains s.files file → Contains t.files file
+flushed_stay s t is file there = subst (λ (x : Stored). Contains x.files file) (sym is.is) (Contains-append_right is.made s.files file there)
+
+frozen_stay : (s t : Stored) → IsFrozen s t → (file : StoredFile) → Contains s.files file → Contains t.files file
+frozen_stay s t is file there = subst (λ (x : Stored). Contains x.files file) (sym is.is) there
+
+-- so copied pages stay so
 flushed_copied : (s t : Stored) → IsFlushed s t → (loose : List (Name × List ℕ)) → All (IsCopied s) loose → All (IsCopied t) loose
-flushed_copied s t is loose copied = all_copied s t (ap (λ (x : Stored). x.manifest.config.levels) is.is) (λ file there.
-    subst (λ (x : Stored). Contains x.files file) (sym is.is) (Contains-append_right is.made s.files file there)) loose copied
+flushed_copied s t is loose copied = all_copied s t (ap (λ (x : Stored). x.manifest.config.levels) is.is) (flushed_stay s t is) loose copied
 
 frozen_copied : (s t : Stored) → IsFrozen s t → (loose : List (Name × List ℕ)) → All (IsCopied s) loose → All (IsCopied t) loose
-frozen_copied s t is loose copied = all_copied s t (ap (λ (x : Stored). x.manifest.config.levels) is.is) (λ file there. subst (λ (x : Stored). Contains x.files file) (sym is.is) there) loose copied
+frozen_copied s t is loose copied = all_copied s t (ap (λ (x : Stored). x.manifest.config.levels) is.is) (frozen_stay s t is) loose copied
 
 if_tasked : (s t : Stored) (flight : Option Flying) → ((flying : Flying) → IsTasked s flying → IsTasked t flying) → IfSome flight (IsTasked s) → IfSome flight (IsTasked t)
 if_tasked s t None stays is = tt
@@ -140,13 +148,18 @@ module _ (Tells : Type 0) (s t : Stored) (old new : View) (headers : List NewHea
   next_untorn = step_untorn s t (beside_in old) (beside_in old) headers step old.disk.directory new.disk.directory holds.remembers.coherent is holds.running.only holds.running.untorn
       (carried.kept told s t (beside_in old) holds.running is) (carried.gate told s t (beside_in old) holds.running is)
 
-  next_running : IsCurrent t new.state → EndsAt new.disk (segment_name t.active.no) t.active.no t.active.records new.state.end → AreRising t.files → ((flying : Flying) → IsTasked s flying → IsTasked t flying) → All (IsCopied t) (beside_in old) → IsRunning new t
-  next_running current ends rising stays copied = record {
+  next_running : IsCurrent t new.state → EndsAt new.disk (segment_name t.active.no) t.active.no t.active.records new.state.end → AreRising t.files → ((flying : Flying) → IsTasked s flying → IsTasked t flying)
+      → All (IsCopied t) (loose_in old.flight) → ((file : StoredFile) → Contains s.files file → Contains t.files file) → IsRunning new t
+  next_running current ends rising stays copied stay = record {
     settled = done.0;
     only = subst (λ l. HasOnly t l new.disk.directory) (sym same_beside) done.1;
     uncited = subst (AreUncited t) (sym same_beside) is.left_uncited;
     untorn = next_untorn;
-    copied = subst (All (IsCopied t)) (sym same_beside) copied;
+    copied = subst (λ flight. All (IsCopied t) (loose_in flight)) (sym carried.flight) copied;
+    kept = λ name named. elim (holds.running.kept name (subst (λ (held : Held). IsTrue (is_named held.pins name)) carried.pins named)) [
+      | inl page ↦ inl (pages_stay s.files t.files stay name page)
+      | inr retired ↦ inr (subst (λ names. Contains names name) (sym carried.retired) retired)
+    ];
     rising = rising;
     ends = ends;
     current = current;
@@ -162,7 +175,7 @@ module _ (Tells : Type 0) (s t : Stored) (old new : View) (headers : List NewHea
       record {
         remembers = both.0;
         running = next_running both.1 (subst (EndsAt new.disk (segment_name t.active.no) t.active.no t.active.records) (sym (ap (λ (state : State). state.end) state_is)) ends)
-            (flushed_rising s t flushed holds.running.rising) (flushed_tasked s t flushed) (flushed_copied s t flushed (beside_in old) holds.running.copied);
+            (flushed_rising s t flushed holds.running.rising) (flushed_tasked s t flushed) (flushed_copied s t flushed (loose_in old.flight) holds.running.copied) (flushed_stay s t flushed);
       }
 
   pub frozen_holds : IsFrozen s t → old.state.frozen ≡ None → IsFrozenWith step.manifest old.state new.state → Holds new t
@@ -174,5 +187,5 @@ module _ (Tells : Type 0) (s t : Stored) (old new : View) (headers : List NewHea
       record {
         remembers = other_files t new.state old.levels new.levels files both.0;
         running = next_running both.1 (subst (EndsAt new.disk (segment_name t.active.no) t.active.no t.active.records) (sym with.end_is) ends)
-            (frozen_rising s t frozen holds.running.rising) (frozen_tasked s t without frozen) (frozen_copied s t frozen (beside_in old) holds.running.copied);
+            (frozen_rising s t frozen holds.running.rising) (frozen_tasked s t without frozen) (frozen_copied s t frozen (loose_in old.flight) holds.running.copied) (frozen_stay s t frozen);
       }

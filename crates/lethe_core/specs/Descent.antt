@@ -1,9 +1,9 @@
 -- How much merges and sweeps have still to do.
-use Rattle.std.specs.Prelude.{ℕ, ◌+◌, ◌*◌, ◌-◌, ◌^◌, nat_lt, List, count_by, sum_by}
+use Rattle.std.specs.Prelude.{ℕ, ◌+◌, ◌*◌, ◌-◌, ◌≤◌, nat_lt, List, count_by, sum_by, All}
 use Rattle.lethe_base.specs.declared.pending.Pending.{Pending}
 use Rattle.lethe_header.specs.Headers.{entries_in}
 use Rattle.lethe_stored.specs.Files.{StoredFile, lines_in}
-use Rattle.lethe_stored.specs.Stored.{Stored, pending_of}
+use Rattle.lethe_stored.specs.Stored.{Stored, count_of, pending_of}
 
 -- of each entry of the files, how many levels it is above the deepest
 abbrev pub steps_down : ℕ → List StoredFile → ℕ
@@ -13,6 +13,10 @@ steps_down deepest files = sum_by (λ file. (deepest - file.level) * entries_in 
 abbrev pub unswept_pairs : List StoredFile → List Pending → ℕ
 unswept_pairs files erases = sum_by (λ file. count_by (λ erase. nat_lt file.swept erase.seq) erases) files
 
--- A merge brings an entry a level down, whatever is unswept then; a sweep brings none up, and makes a pair less. There are fewer than 2^64 pairs.
+-- the places of all pending erases are counted, as those of a store are that stands for a history
+abbrev pub HasCountedErases : Stored → Type 0
+HasCountedErases s = All (λ erase. erase.seq ≤ count_of s) (pending_of s)
+
+-- A merge brings entries a level down, and what a merge that was just begun makes is swept up to the count, so that it waits for no erase. A sweep brings none up, and makes a pair less.
 abbrev pub jobs_left : Stored → ℕ
-jobs_left s = steps_down s.manifest.config.levels s.files * 2 ^ 64 + unswept_pairs s.files (pending_of s)
+jobs_left s = steps_down s.manifest.config.levels s.files + unswept_pairs s.files (pending_of s)

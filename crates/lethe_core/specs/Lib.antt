@@ -1,4 +1,6 @@
 pub mod View
+pub mod Pinned
+pub mod Pins
 pub mod Running
 pub mod StandsNow
 pub mod Asked

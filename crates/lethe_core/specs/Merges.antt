@@ -1,5 +1,5 @@
 -- The merges and sweeps that a store carries out itself, one after another, where a caller makes room and where the clock goes on.
-use Rattle.std.specs.Prelude.{◌≡◌, ◌⊎◌, ◌≤◌, ℕ, ◌+◌, ◌*◌, List, [], ◌∷◌, length, sum_by, All, Option, Some, None}
+use Rattle.std.specs.Prelude.{◌≡◌, ◌⊎◌, ◌≤◌, ℕ, ◌+◌, ◌*◌, false, List, [], ◌∷◌, length, sum_by, All, Option, Some, None}
 use Rattle.std.specs.List.{AllZip}
 use Rattle.lethe_base.specs.Limits.{max_place}
 use Rattle.lethe_base.specs.declared.config.Fields.{Fields}
@@ -12,9 +12,10 @@ use Rattle.lethe_fade.specs.declared.plan.Plan.{Plan}
 use Rattle.lethe_follows.specs.Merged.{at}
 use Rattle.lethe_stored.specs.Files.{StoredFile}
 use Rattle.lethe_stored.specs.Stored.{Stored, layout_of}
-use Rattle.lethe_advance.specs.Settled.{names_in}
+use Rattle.lethe_advance.specs.Settled.{AreDrawn, names_in}
 use Rattle.lethe_advance.specs.Steps.{IsStep}
-use Rattle.lethe_clean.specs.Copied.{IsCopied}
+use Rattle.lethe_pins.specs.Held.{is_named}
+use Rattle.lethe_pins.specs.declared.pin.Pin.{Pin}
 use Rattle.lethe_install.specs.Outcomes.{IsInstalled}
 use Rattle.lethe_install.specs.declared.steps.Installation.{Installation}
 use Rattle.lethe_state.specs.Room.{HasRoom, IsFrozen, IsUnfrozen}
@@ -23,6 +24,7 @@ use Rattle.lethe_job.specs.MadeOf.{numbers_in}
 use Rattle.lethe_job.specs.Tasks.{IsCitedAs, counted_in}
 use Rattle.lethe_job.specs.Works.{AreOutputs, IsPlanned, PlainTask, inputs_in, plan_of, reads_of}
 use Rattle.lethe_job.specs.declared.made.Made.{Made}
+use Rattle.lethe_core.specs.Pinned.{AreNamed}
 use Rattle.lethe_core.specs.Running.{Holds}
 use Rattle.lethe_core.specs.declared.choosing.Choice.{Choice}
 use Rattle.lethe_core.specs.declared.choosing.Choice.TheVariants.{Room, DueAt}
@@ -58,13 +60,15 @@ pub record Outcome : Type 0 where
   pub task : PlainTask
   pub to : Stored
 
--- The step from what is stored to the outcome of a task, behind which no page of a job is loose, and what is left has no put but those of stored files.
+-- The step from what is stored to the outcome of a task, behind which no page of a job is loose, and of what isn't cited any more just what a held pin names is left.
 pub record MayMerge (view : View) (s : Stored) (task : PlainTask) (t : Stored) (made : Installation) : Type 0 where
   pub installed : IsInstalled s task t
   pub left : List (Name × List ℕ)
   pub step_is : IsStep s (beside_in view) t left made.headers.items made.step
   pub left_is : made.left.items ≡ names_in left
-  pub copied : All (IsCopied t) left
+  pub drawn : AreDrawn made.step.manifest.next made.left.items
+  pub named : AreNamed view.pins.pins made.left.items
+  pub gone : All (λ name. is_named view.pins.pins name ≡ false) made.step.gone.items
 
 -- the task of the plan that is chosen
 pub record IsBegunBy (chosen : Stored → Option Plan) (s : Stored) (task : PlainTask) : Type 0 where
@@ -134,10 +138,10 @@ pub record IsClearedInPart (flight : Option Flying) (s t : Stored) : Type 0 wher
 abbrev pub IsRoomBegun : Option Flying → Stored → Stored → Type 0
 IsRoomBegun flight s t = (t ≡ s) ⊎ ((HasRoom s → ⊥) × IsClearedInPart flight s t)
 
--- The pages that are retired behind jobs. A job leaves none while nothing needs any, and without one they are as they were.
-abbrev pub retired_behind : List Outcome → List Name → List Name
-retired_behind [] retired = retired
-retired_behind (outcome ∷ more) retired = []
+-- The pages that are retired behind jobs, from those that were before. A job leaves none but those that a held pin names, and without one they are as they were.
+abbrev pub AreRetiredBehind : List Outcome → List Pin → List Name → List Name → Type 0
+AreRetiredBehind [] pins before retired = retired ≡ before
+AreRetiredBehind (outcome ∷ more) pins before retired = AreNamed pins retired
 
 -- how many pages these merges and sweeps fetch
 abbrev pub pages_of : List Outcome → ℕ

@@ -12,6 +12,7 @@ use Rattle.lethe_stored.specs.Left.{IsLeft, is_work, without_failed}
 use Rattle.lethe_state.specs.Remembered.{Remembers}
 use Rattle.lethe_job.specs.Tasks.{merge_inputs}
 use Rattle.lethe_job.specs.Works.{Merges, PlainTask, Sweeps}
+use Rattle.lethe_core.specs.Pinned.{AreTimely}
 use Rattle.lethe_core.specs.Running.{IsRunning}
 use Rattle.lethe_core.specs.View.{View}
 
@@ -43,7 +44,8 @@ IsCounted (Merges task) = All (λ entry. entry.seq ≤ task.upto) (entries_in (m
 IsCounted (Sweeps task) = Unit {0}
 
 -- Now the buffers and the files stand for the history without what failed, and the disk is in the store's hands, or left as a failed change left
--- it. A segment records each erase of the manifest that stands behind a record of one.
+-- it. A segment records each erase of the manifest that stands behind a record of one. Unless something has failed, what pins keep was erased a threshold ago at no time before
+-- their limits.
 pub record StandsNow (config : Fields) (h : History) (view : View) : Type 0 where
   pub legal : IsLegal h
   pub count : view.state.count ≡ length h
@@ -54,3 +56,4 @@ pub record StandsNow (config : Fields) (h : History) (view : View) : Type 0 wher
   pub held : IsOpenOrStopped config view h stored view.state.stopped
   pub counted : IfSome view.flight (λ flying. IsCounted flying.task)
   pub recorded : AreLaterRecorded stored
+  pub timely : view.state.stopped ≡ None → AreTimely config.threshold h view.pins.pins view.retired view.disk.directory

@@ -15,13 +15,14 @@ use Rattle.lethe_core.specs.Reasons.{IsShort}
 use Rattle.lethe_core.specs.Running.{Holds}
 use Rattle.lethe_core.specs.View.{View}
 
--- the files, the retired pages and the jobs are as they were
+-- the files, the retired pages, the jobs and the pins are as they were
 pub record IsBeside (old new : View) : Type 0 where
   pub levels : new.levels ≡ old.levels
   pub retired : new.retired ≡ old.retired
   pub flight : new.flight ≡ old.flight
   pub begun : new.begun ≡ old.begun
   pub rounds : new.rounds ≡ old.rounds
+  pub pins : new.pins ≡ old.pins
 
 -- All is as it was, but for memory that was reserved and the jobs: a read gives what it gave, and a crash leaves nothing that it couldn't leave before.
 pub record IsAsBefore (Tells : Type 0) (old new : View) : Type 0 where

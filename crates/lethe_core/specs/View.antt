@@ -7,6 +7,7 @@ use Rattle.lethe_disk.specs.declared.disk.Disk.{Ghosts}
 use Rattle.lethe_stored.specs.Files.{Parts}
 use Rattle.lethe_advance.specs.Settled.{names_in}
 use Rattle.lethe_advance.specs.Shown.{parts_by_level}
+use Rattle.lethe_pins.specs.Held.{Held}
 use Rattle.lethe_state.specs.declared.state.State.{State}
 use Rattle.lethe_job.specs.Works.{PlainTask, plain_task}
 use Rattle.lethe_core.specs.declared.flight.Flight.{Flight}
@@ -18,8 +19,8 @@ pub record Flying : Type 0 where
   pub task : PlainTask
   pub written : List (Name × List ℕ)
 
--- the disk at this time with its count of faults, what the store remembers, its files by level as their readers have them, the pages that no manifest cites any more and
--- that are still needed, the job in flight, how many jobs were begun, and how many rounds have ended
+-- the disk at this time with its count of faults, what the store remembers, its files by level as their readers have them, the pages that no manifest cites any more, which
+-- were left for pins, the job in flight, how many jobs were begun, how many rounds have ended, and the pins that are held
 pub record View : Type 1 where
   pub disk : Seen
   pub faults : ℕ
@@ -29,6 +30,7 @@ pub record View : Type 1 where
   pub flight : Option Flying
   pub begun : ℕ
   pub rounds : ℕ
+  pub pins : Held
 
 abbrev pub flying_of : {D Page Port : Type 0} {kind : Ghosts D Page Port} → Flight D Page Port kind → Flying
 flying_of flight = record { number = flight.number.value.count; task = plain_task flight.task.value; written = flight.written }
@@ -43,21 +45,24 @@ view_of {kind = kind} core = record {
   flight = option_map flying_of core.flight;
   begun = core.begun.jobs.count;
   rounds = core.begun.rounds;
+  pins = core.pins;
 }
 
--- What the jobs of a store have come to: how many were begun, how many rounds have ended, the job in flight, and the pages that are retired.
+-- What the jobs and the pins of a store have come to: how many jobs were begun, how many rounds have ended, the job in flight, the pages that are retired, and the pins that are
+-- held.
 pub record Face : Type 0 where
   pub begun : ℕ
   pub rounds : ℕ
   pub flight : Option Flying
   pub retired : List Name
+  pub pins : Held
 
 abbrev pub face_of : View → Face
-face_of view = record { begun = view.begun; rounds = view.rounds; flight = view.flight; retired = view.retired }
+face_of view = record { begun = view.begun; rounds = view.rounds; flight = view.flight; retired = view.retired; pins = view.pins }
 
--- no job was begun and no round has ended yet, and no page is retired
+-- no job was begun and no round has ended yet, no page is retired, and no pin was made
 abbrev pub no_jobs : Face
-no_jobs = record { begun = 0; rounds = 0; flight = None; retired = [] }
+no_jobs = record { begun = 0; rounds = 0; flight = None; retired = []; pins = record { pins = []; made = 0 } }
 
 -- the pages that were written for the job in flight, which no manifest cites yet
 abbrev pub loose_in : Option Flying → List (Name × List ℕ)

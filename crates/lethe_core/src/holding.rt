@@ -13,20 +13,22 @@ use crate::choosing::Choice;
 use lethe_base::{Name, NoMemory, Pending};
 use lethe_disk::Disk;
 use lethe_job::{Begun, Task, cited_files, shape_of, task_of};
+use lethe_pins::Pins;
 use lethe_state::State;
 use lethe_version::Version;
 use std::alloc::Global;
 
-/// What a store has: its disk, what it remembers of what is stored there, the files that readers have, the pages that lie there beside what is stored, and how many jobs
-/// were begun and rounds have ended. Its calls are made of steps, which each leave it so that it can go on.
+/// What a store has: its disk, what it remembers of what is stored there, the files that readers have, the pages that lie there beside what is stored, the pins that are held,
+/// and how many jobs were begun and rounds have ended. Its calls are made of steps, which each leave it so that it can go on.
 #[derive(Drop)]
 pub struct Core<D: Disk> {
     pub disk: D,
     pub state: State,
     pub version: Version<D>,
-    /// The pages that no manifest cites any more and that are still needed. No call adds to them yet.
+    /// The pages that no manifest cites any more, which were left for pins. Those that no pin names any more go with the next merge, sweep or tick.
     pub retired: Vec<Name>,
     pub flight: Option<Flight<D>>,
+    pub pins: Pins,
     /// How many jobs were begun since the store was opened, and how many rounds have ended.
     pub begun: Begun,
 }

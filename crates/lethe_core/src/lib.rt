@@ -2,14 +2,16 @@
 #![tactic(auto)]
 
 mod choosing;
+mod descent;
 mod flight;
 mod holding;
 mod laws;
 mod merging;
+mod pinning;
 mod recording;
 mod stepping;
 mod working;
 
 pub use flight::Flight;
 pub use holding::Core;
-pub use laws::{job_goes_on, jobs_are_few};
+pub use laws::{erases_are_counted, job_goes_on, jobs_are_few};

@@ -5,16 +5,17 @@ ghost use Rattle.lethe_base.specs.History.{History};
 ghost use Rattle.lethe_base.specs.declared.config.Fields.{Fields};
 ghost use Rattle.lethe_base.specs.declared.name.Name.{Name};
 ghost use Rattle.lethe_base.specs.declared.refused.Refused.TheVariants as refused;
-ghost use Rattle.lethe_advance.specs.Settled.{AreDrawn};
 ghost use Rattle.lethe_header.specs.Headers as header;
 ghost use Rattle.lethe_stored.specs.Stored.{Stored};
 ghost use Rattle.lethe_state.specs.Room.{IsStepFrom};
 ghost use Rattle.lethe_state.specs.Writable.{segments_for};
 ghost use Rattle.lethe_job.specs.Jobs.{told_as};
 ghost use Rattle.lethe_job.specs.Works.{PlainTask, reads_of};
+ghost use Rattle.lethe_core.specs.Descent.{HasCountedErases, jobs_left};
 ghost use Rattle.lethe_core.specs.Keeps.{Keeps, MayStep};
 ghost use Rattle.lethe_core.specs.Merges.{AreOutcomesBy, AreSomeOutcomesBy, HasNoMergeBy, IsOutcomeBy, IsShortToMergeBy, chosen_by, due_choice};
-ghost use Rattle.lethe_core.specs.Merges.{IsCrowded, IsMergedInPart, IsShortToMerge, IsUncrowded, MayMerge, Outcome, pages_of, retired_behind};
+ghost use Rattle.lethe_core.specs.Merges.{IsCrowded, IsMergedInPart, IsShortToMerge, IsUncrowded, AreRetiredBehind, MayMerge, Outcome, pages_of};
+ghost use Rattle.lethe_core.specs.Pinned.{AreNamed};
 ghost use Rattle.lethe_core.specs.Reasons.{HasReason, IsUnreadable, told_since};
 ghost use Rattle.lethe_core.specs.Running.{Holds, IsSound};
 ghost use Rattle.lethe_core.specs.StandsNow.{IsCounted, StandsNow};
@@ -23,13 +24,12 @@ ghost use Rattle.lethe_core.specs.View.{view_of};
 
 use crate::Core;
 use crate::choosing::Choice;
+use crate::descent::{are_counted, steps_down, unswept_pairs};
 use lethe_base::{NoMemory, Refused};
 use lethe_disk::{Disk, ReadRefused};
 use lethe_install::{Installation, installing};
+use lethe_job::cited_files;
 use std::alloc::Global;
-
-/// More jobs than there can be one after another: each leaves less to do.
-const MOST_JOBS: u128 = 1 << 127;
 
 impl<D: Disk> Core<D> {
     /// Carries out the merges and sweeps that are due, one after another until none is, where level 0 is crowded and no job is in flight.
@@ -44,7 +44,7 @@ impl<D: Disk> Core<D> {
         ensures partly { IfErr result (IsDoneInPart D.tells (IsMergedInPart (view_of self.old).flight) (view_of self.old) (view_of self.new)) }
         ensures done { D.tells → (s : Stored) → Holds (view_of self.old) s
             → OnOk result ((t : Stored) × (outcomes : List Outcome) × IsUncrowded (view_of self.old).flight s outcomes t × Holds (view_of self.new) t
-            × (D.fetches port.new ≡ D.fetches port.old + pages_of outcomes) × ((view_of self.new).retired ≡ retired_behind outcomes (view_of self.old).retired)) }
+            × (D.fetches port.new ≡ D.fetches port.old + pages_of outcomes) × AreRetiredBehind outcomes (view_of self.old).pins.pins (view_of self.old).retired (view_of self.new).retired) }
         ensures steady { OnOk result (IsSteady self.old.state self.new.state) }
         ensures why { IfErr result (λ why. HasReason (IsShortToMerge D.tells (view_of self.new)) self.old.state before (D.faults self.new.disk) why
             ⊎ IsUnreadable D.tells D.ports_fail (D.port_faults port.old) (D.port_faults port.new) why) }
@@ -75,7 +75,7 @@ impl<D: Disk> Core<D> {
         ensures partly { IfErr result (IsDoneInPart D.tells (λ s t. (outcomes : List Outcome) × AreSomeOutcomesBy (due_choice to) s outcomes t) (view_of self.old) (view_of self.new)) }
         ensures done { D.tells → (s : Stored) → Holds (view_of self.old) s
             → OnOk result ((t : Stored) × (outcomes : List Outcome) × AreOutcomesBy (due_choice to) s outcomes t × Holds (view_of self.new) t
-            × (D.fetches port.new ≡ D.fetches port.old + pages_of outcomes) × ((view_of self.new).retired ≡ retired_behind outcomes (view_of self.old).retired)) }
+            × (D.fetches port.new ≡ D.fetches port.old + pages_of outcomes) × AreRetiredBehind outcomes (view_of self.old).pins.pins (view_of self.old).retired (view_of self.new).retired) }
         ensures steady { OnOk result (IsSteady self.old.state self.new.state) }
         ensures why { IfErr result (λ why. HasReason (IsShortToMergeBy (due_choice to) D.tells (view_of self.new)) self.old.state before (D.faults self.new.disk) why
             ⊎ IsUnreadable D.tells D.ports_fail (D.port_faults port.old) (D.port_faults port.new) why) }
@@ -112,7 +112,7 @@ impl<D: Disk> Core<D> {
         ensures partly { IfErr result (IsDoneInPart D.tells (λ s t. (outcomes : List Outcome) × AreSomeOutcomesBy (chosen_by choice) s outcomes t) (view_of self.old) (view_of self.new)) }
         ensures done { D.tells → (s : Stored) → Holds (view_of self.old) s
             → OnOk result ((t : Stored) × (outcomes : List Outcome) × AreOutcomesBy (chosen_by choice) s outcomes t × Holds (view_of self.new) t
-            × (D.fetches port.new ≡ D.fetches port.old + pages_of outcomes) × ((view_of self.new).retired ≡ retired_behind outcomes (view_of self.old).retired)) }
+            × (D.fetches port.new ≡ D.fetches port.old + pages_of outcomes) × AreRetiredBehind outcomes (view_of self.old).pins.pins (view_of self.old).retired (view_of self.new).retired) }
         ensures steady { OnOk result (IsSteady self.old.state self.new.state) }
         ensures why { IfErr result (λ why. HasReason (IsShortToMergeBy (chosen_by choice) D.tells (view_of self.new)) self.old.state before (D.faults self.new.disk) why
             ⊎ IsUnreadable D.tells D.ports_fail (D.port_faults port.old) (D.port_faults port.new) why) }
@@ -124,8 +124,10 @@ impl<D: Disk> Core<D> {
         ensures fetches { D.fetches port.old ≤ D.fetches port.new }
     {
         let earlier = D::port_faults(port);
+        // Each job leaves less to do, so there are no more of them than that, and in one round more there is none.
+        let rounds = self.most_jobs(alloc)?.saturating_add(1);
 
-        for _ in 0..MOST_JOBS {
+        for _ in 0..rounds {
             match self.merge_next(alloc, port, before, choice) {
                 Ok(true) => {}
                 Ok(false) => return Ok(()),
@@ -133,6 +135,29 @@ impl<D: Disk> Core<D> {
             }
         }
         Ok(())
+    }
+
+    /// How many merges and sweeps there may still be, one after another, by the headers of the files.
+    fn most_jobs(&self, alloc: Global) -> Result<u128, Refused>
+        requires { IsSound D.tells (view_of self.now) }
+        ensures most { (s : Stored) → Holds (view_of self.now) s → IfOk result (λ most. most ≡ jobs_left s) }
+        ensures counted { (s : Stored) → Holds (view_of self.now) s → IfOk result (λ most. HasCountedErases s) }
+        ensures refused { IfErr result (λ why. why ≡ refused.NoMemory) }
+    {
+        let manifest = self.state.manifest();
+        let erases = self.state.pending();
+        // Each erase was accepted at a place that is counted, so this is never so in a store.
+        if !are_counted(erases, self.state.count()) {
+            return Err(Refused::NoMemory);
+        }
+        match cited_files(alloc, &self.version, manifest.files.items()) {
+            Ok(files) => {
+                let steps = steps_down(&files, manifest.config.fields().levels);
+                let pairs = unswept_pairs(&files, erases);
+                Ok(steps as u128 + pairs as u128)
+            }
+            Err(NoMemory) => Err(Refused::NoMemory),
+        }
     }
 
     /// Carries out the merge or sweep that is chosen, and answers whether there was one, where no job is in flight.
@@ -152,7 +177,7 @@ impl<D: Disk> Core<D> {
             → (outcome : Outcome) × IsOutcomeBy (chosen_by choice) s outcome × Holds (view_of self.new) outcome.to
             × (D.fetches port.new ≡ D.fetches port.old + reads_of outcome.task) }
         ensures steady { OnOk result (IsSteady self.old.state self.new.state) }
-        ensures retired { result ≡ Ok true → self.new.retired.items ≡ [] }
+        ensures retired { result ≡ Ok true → AreNamed (view_of self.new).pins.pins (view_of self.new).retired }
         ensures why { IfErr result (λ why. HasReason (IsShortToMergeBy (chosen_by choice) D.tells (view_of self.new)) self.old.state before (D.faults self.new.disk) why
             ⊎ IsUnreadable D.tells D.ports_fail (D.port_faults port.old) (D.port_faults port.new) why) }
         ensures free { self.new.flight ≡ None }
@@ -179,7 +204,7 @@ impl<D: Disk> Core<D> {
             outcome,
             &[],
             &self.retired,
-            &[],
+            &self.pins,
         )?;
         self.merge_now(alloc, before, made)?;
         Ok(true)
@@ -195,7 +220,6 @@ impl<D: Disk> Core<D> {
         requires may { MayStep D.tells (view_of self.old) before }
         requires headers { All (λ new. header.HasSpelling new.header) made.headers.items }
         requires from { IsStepFrom (segments_for self.old.state.frozen) self.old.state made.headers.items made.step }
-        requires drawn { AreDrawn made.step.manifest.next made.left.items }
         requires merges { D.tells → (s : Stored) → Holds (view_of self.old) s → (task : PlainTask) × (t : Stored) × MayMerge (view_of self.old) s task t made
             × ((config : Fields) (h : History) → StandsNow config h (view_of self.old) → IsCounted task) }
         ensures keeps { Keeps D.tells (view_of self.old) (view_of self.new) (result_err result) }

@@ -14,6 +14,7 @@ ghost use Rattle.lethe_stored.specs.Stored.{Stored, appended};
 ghost use Rattle.lethe_core.specs.Asked.{Makes, behind, counted, stopped_by, written_by};
 ghost use Rattle.lethe_core.specs.Changes.{with_record};
 ghost use Rattle.lethe_core.specs.Keeps.{MayStep};
+ghost use Rattle.lethe_core.specs.Pinned.{AreKept};
 ghost use Rattle.lethe_core.specs.Reasons.{HasReason};
 ghost use Rattle.lethe_core.specs.Running.{Holds, IsSound};
 ghost use Rattle.lethe_core.specs.StandsNow.{StandsNow};
@@ -53,6 +54,8 @@ impl<D: Disk> Core<D> {
         ensures retired { self.new.retired ≡ self.old.retired }
         ensures flight { self.new.flight ≡ self.old.flight }
         ensures begun { self.new.begun ≡ self.old.begun }
+        ensures pins { self.new.pins ≡ self.old.pins }
+        ensures pinned { D.tells → OnOk result (AreKept (view_of self.old).pins.pins (D.seen self.old.disk).directory (D.seen self.new.disk).directory) }
         ensures calls { D.tells → OnOk result ((D.seen self.new.disk).moment ≡ (D.seen self.old.disk).moment + 4) }
         ensures numbers { D.tells → self.new.state.next + (D.seen self.old.disk).moment ≤ self.old.state.next + (D.seen self.new.disk).moment }
         ensures faults { D.faults self.old.disk ≤ D.faults self.new.disk }

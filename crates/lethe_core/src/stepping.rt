@@ -18,7 +18,7 @@ ghost use Rattle.lethe_advance.specs.Shown.{parts_by_level};
 ghost use Rattle.lethe_advance.specs.Steps.{IsStep};
 ghost use Rattle.lethe_state.specs.Room.{IsFlushed, IsFrozen, IsShortToFlush, IsShortToFreeze, IsUnfrozen};
 ghost use Rattle.lethe_core.specs.Keeps.{Keeps, MayStep};
-ghost use Rattle.lethe_core.specs.Merges.{Outcome, IsRoomBegun, IsRoomMadeBy, pages_of, retired_behind};
+ghost use Rattle.lethe_core.specs.Merges.{Outcome, IsRoomBegun, IsRoomMadeBy, pages_of, AreRetiredBehind};
 ghost use Rattle.lethe_core.specs.Reasons.{HasReason, IsShort, IsShortOfRoom, IsUnreadable};
 ghost use Rattle.lethe_core.specs.Running.{Holds, IsRunning};
 ghost use Rattle.lethe_core.specs.Steps.{IsDoneInPart, IsEmptied, IsHindered, IsReady, IsReadyToFreeze, IsUndone, IsUnfrozenAfter};
@@ -46,7 +46,7 @@ impl<D: Disk> Core<D> {
         ensures partly { IfErr result (IsDoneInPart D.tells (IsRoomBegun (view_of self.old).flight) (view_of self.old) (view_of self.new)) }
         ensures done { D.tells → (s : Stored) → Holds (view_of self.old) s
             → OnOk result ((t : Stored) × (outcomes : List Outcome) × IsRoomMadeBy (view_of self.old).flight s outcomes t × Holds (view_of self.new) t
-            × (D.fetches port.new ≡ D.fetches port.old + pages_of outcomes) × ((view_of self.new).retired ≡ retired_behind outcomes (view_of self.old).retired)) }
+            × (D.fetches port.new ≡ D.fetches port.old + pages_of outcomes) × AreRetiredBehind outcomes (view_of self.old).pins.pins (view_of self.old).retired (view_of self.new).retired) }
         ensures room { self.old.state.records < self.old.state.manifest.config.buffer → IsOk result × (self.new ≡ self.old) × (port.new ≡ port.old) }
         ensures ready { OnOk result (IsReady self.old.state self.new.state) }
         ensures why { IfErr result (λ why. HasReason (IsShortOfRoom D.tells self.old.state (view_of self.new)) self.old.state before (D.faults self.new.disk) why
@@ -161,6 +161,7 @@ impl<D: Disk> Core<D> {
         ensures retired { self.new.retired ≡ self.old.retired }
         ensures flight { self.new.flight ≡ self.old.flight }
         ensures begun { self.new.begun ≡ self.old.begun }
+        ensures pins { self.new.pins ≡ self.old.pins }
         ensures calls { D.tells → OnOk result ((D.seen self.old.disk).moment + length step.now.objects.items + 4 ≤ (D.seen self.new.disk).moment) }
         ensures later { D.tells → (D.seen self.old.disk).moment ≤ (D.seen self.new.disk).moment }
         ensures faults { D.faults self.old.disk ≤ D.faults self.new.disk }
@@ -211,6 +212,7 @@ impl<D: Disk> Core<D> {
         ensures retired { self.new.retired ≡ self.old.retired }
         ensures flight { self.new.flight ≡ self.old.flight }
         ensures begun { self.new.begun ≡ self.old.begun }
+        ensures pins { self.new.pins ≡ self.old.pins }
         ensures calls { D.tells → OnOk result ((D.seen self.old.disk).moment + length step.now.objects.items + 4 ≤ (D.seen self.new.disk).moment) }
         ensures later { D.tells → (D.seen self.old.disk).moment ≤ (D.seen self.new.disk).moment }
         ensures faults { D.faults self.old.disk ≤ D.faults self.new.disk }

@@ -1,5 +1,5 @@
 //! The steps of a job: begun, written page by page, installed or given up.
-ghost use Rattle.std.specs.Prelude.{◌≡◌, ◌≤◌, ◌+◌, ◌-◌, [], Ok, Some, None, length, IfOk, IfErr, IfSome, IsErrOf, IsSome, OnErr, OnOk};
+ghost use Rattle.std.specs.Prelude.{◌≡◌, ◌≤◌, ◌+◌, ◌-◌, ◌++◌, [], Ok, Some, None, filter, length, not, IfOk, IfErr, IfSome, IsErrOf, IsSome, OnErr, OnOk};
 ghost use Rattle.std.specs.Result.{result_err};
 ghost use Rattle.std.specs.FinMap.{insert};
 ghost use Rattle.lethe_base.specs.History.{History};
@@ -16,19 +16,22 @@ ghost use Rattle.lethe_job.specs.Works.{IsBegunIn, plain_task};
 ghost use Rattle.lethe_core.specs.Jobs.{AreOutputsOf, IsAtWork, with_begun, with_page};
 ghost use Rattle.lethe_core.specs.Keeps.{Keeps, MayStep};
 ghost use Rattle.lethe_core.specs.Merges.{HasNoMerge};
+ghost use Rattle.lethe_core.specs.Pinned.{AreNamed};
 ghost use Rattle.lethe_core.specs.Reasons.{HasReason};
 ghost use Rattle.lethe_core.specs.Running.{Holds, IsSound};
 ghost use Rattle.lethe_core.specs.StandsNow.{StandsNow};
-ghost use Rattle.lethe_core.specs.Steps.{IsSteady, IsUndone};
-ghost use Rattle.lethe_core.specs.View.{face_of, view_of};
+ghost use Rattle.lethe_core.specs.Steps.{IsDoneInPart, IsSteady, IsUndone};
+ghost use Rattle.lethe_core.specs.View.{face_of, loose_in, view_of};
+ghost use Rattle.lethe_pins.specs.Held.{is_named};
+ghost use Rattle.lethe_advance.specs.Settled.{names_in};
 
 use crate::choosing::Choice;
 use crate::{Core, Flight};
-use lethe_base::{MAX_PLACE, NoMemory, Refused};
+use lethe_base::{MAX_PLACE, Name, NoMemory, Refused};
 use lethe_disk::{Disk, DiskRefused};
 use lethe_install::installing;
 use lethe_job::{Job, Made};
-use lethe_loose::{Written, remove_pages, write_page};
+use lethe_loose::{Written, remove_named, remove_pages, write_page};
 use std::alloc::Global;
 use std::snapshot::Snapshot;
 use std::sync::Arc;
@@ -53,6 +56,7 @@ impl<D: Disk> Core<D> {
         ensures state { self.new.state ≡ self.old.state }
         ensures version { self.new.version ≡ self.old.version }
         ensures retired { self.new.retired ≡ self.old.retired }
+        ensures pins { self.new.pins ≡ self.old.pins }
         ensures idle { D.tells → IsIdle (D.seen self.old.disk) (D.seen self.new.disk) }
         ensures faults { D.faults self.new.disk ≡ D.faults self.old.disk }
     {
@@ -127,7 +131,7 @@ impl<D: Disk> Core<D> {
         ensures done { D.tells → (s : Stored) → Holds (view_of self.old) s
             → IfSome (view_of self.old).flight (λ flying. OnOk result ((t : Stored) × IsInstalled s flying.task t × Holds (view_of self.new) t)) }
         ensures steady { OnOk result (IsSteady self.old.state self.new.state) }
-        ensures free { OnOk result ((self.new.flight ≡ None) × (self.new.retired.items ≡ [])) }
+        ensures free { OnOk result ((self.new.flight ≡ None) × AreNamed (view_of self.new).pins.pins (view_of self.new).retired) }
         ensures kept { IfErr result (λ why. (self.new.flight ≡ self.old.flight) × (self.new.retired ≡ self.old.retired)) }
         ensures begun { self.new.begun ≡ self.old.begun }
         ensures drawn { OnErr result (self.new.state.next ≡ self.old.state.next) }
@@ -145,7 +149,7 @@ impl<D: Disk> Core<D> {
             made,
             flight.written.names(),
             &self.retired,
-            &[],
+            &self.pins,
         )?;
         self.merge_now(alloc, before, made)
     }
@@ -178,5 +182,56 @@ impl<D: Disk> Core<D> {
                 })
             }
         }
+    }
+
+    /// Gives the job in flight up, and removes its pages and the retired ones that no held pin names, in one clear; it makes no device call where there are none. Where there is no
+    /// memory for their names the job alone is given up.
+    pub fn clear_now(&mut self, alloc: Global, before: u64) -> Result<(), Refused>
+        requires may { MayStep D.tells (view_of self.old) before }
+        ensures keeps { Keeps D.tells (view_of self.old) (view_of self.new) (result_err result) }
+        ensures held { D.tells → (s : Stored) → Holds (view_of self.old) s → OnOk result (Holds (view_of self.new) s) }
+        ensures partly { IfErr result (IsDoneInPart D.tells (λ s t. t ≡ s) (view_of self.old) (view_of self.new)) }
+        ensures free { self.new.flight ≡ None }
+        ensures retired { OnOk result ((view_of self.new).retired ≡ filter (is_named (view_of self.old).pins.pins) (view_of self.old).retired) }
+        ensures begun { self.new.begun ≡ self.old.begun }
+        ensures state { OnOk result (self.new.state ≡ self.old.state) }
+        ensures version { self.new.version ≡ self.old.version }
+        ensures why { IfErr result (HasReason ⊥ self.old.state before (D.faults self.new.disk)) }
+        ensures idle { IfSome (view_of self.old).flight (λ flying. flying.written ≡ []) → AreNamed (view_of self.old).pins.pins (view_of self.old).retired → OnOk result (self.new.disk ≡ self.old.disk) }
+    {
+        let Ok(names) = self.unneeded(alloc) else {
+            self.cancel_now(before)?;
+            return Err(Refused::NoMemory);
+        };
+        self.flight = None;
+        if names.is_empty() {
+            return Ok(());
+        }
+        match remove_named(&mut self.disk, &names) {
+            Ok(()) => {
+                let pins = &self.pins;
+                self.retired.retain(|name| pins.holds(*name));
+                Ok(())
+            }
+            Err(_) => {
+                let place = self.state.stop();
+                Err(Refused::Fault {
+                    place,
+                    before,
+                    after: self.disk.faults(),
+                })
+            }
+        }
+    }
+
+    /// The names of the retired pages that no held pin names, and of the pages of the job in flight.
+    fn unneeded(&self, alloc: Global) -> Result<Vec<Name>, NoMemory>
+        ensures { IfOk result (λ names. names.items ≡ filter (λ name. not (is_named (view_of self.now).pins.pins name)) (view_of self.now).retired ++ names_in (loose_in (view_of self.now).flight)) }
+    {
+        let mut names = self.pins.retired_free(alloc, &self.retired)?;
+        if let Some(flight) = &self.flight {
+            names.extend_from_slice(flight.written.names())?;
+        }
+        Ok(names)
     }
 }

@@ -17,7 +17,7 @@ use Rattle.lethe_state.specs.Room.{HasRoom}
 use Rattle.lethe_core.proofs.Chosen.{begun_in}
 use Rattle.lethe_core.proofs.Installing.{planned_for, sound_inputs}
 use Rattle.lethe_core.specs.Asked.{Makes, behind, failure_of, refused_to}
-use Rattle.lethe_core.specs.Merges.{IsRoomBegun, IsRoomMadeBy, Outcome, pages_of, retired_behind}
+use Rattle.lethe_core.specs.Merges.{AreRetiredBehind, IsRoomBegun, IsRoomMadeBy, Outcome, pages_of}
 use Rattle.lethe_core.specs.Reasons.{HasReason, IsShort, IsShortOfRoom, IsUnreadable}
 use Rattle.lethe_core.specs.Running.{Holds}
 use Rattle.lethe_core.specs.View.{Flying, View}
@@ -36,13 +36,13 @@ not_begun flight s t room (inl same) = same
 not_begun flight s t room (inr begun) = absurd (begun.0 room)
 
 module _ (Tells PortsFail : Type 0) (told : Tells) (call : Call) (IsNext : Stored → List Header → Record → Type 0) (config : Fields) (opened : Opened) (h : History) (old new : View) (s : Stored)
-    (known : IsKnown config h old s) (fetches_before fetches_now faults_before faults_now begun : ℕ) (there : Option Going) (stands : StandsSince config opened h old) (flight : new.flight ≡ old.flight)
+    (known : IsKnown config h old s) (fetches_before fetches_now faults_before faults_now begun : ℕ) (there : Option Going) (snapshots : List ℕ) (stands : StandsSince config opened h old) (flight : new.flight ≡ old.flight) (pins : new.pins ≡ old.pins)
     (ready : SeesRoom old.state → IsReadyFor call old.state) (parts : (t : Stored) → IsBegun call old.flight s t → IsRoomBegun old.flight s t) where
   abbrev before : Moment
-  before = moment_of old s fetches_before faults_before begun there
+  before = moment_of old s fetches_before faults_before begun there snapshots
 
   abbrev later : Stored → Moment
-  later t = moment_of new t fetches_now faults_now begun there
+  later t = moment_of new t fetches_now faults_now begun there snapshots
 
   same_jobs : (t : Stored) → AreJobsSame before (later t)
   same_jobs t = record { flight = flight; begun = refl; there = refl }
@@ -50,7 +50,7 @@ module _ (Tells PortsFail : Type 0) (told : Tells) (call : Call) (IsNext : Store
   -- room was made, and the record was written behind the others
   abbrev pub Written : Type 0
   Written = (t : Stored) × (outcomes : List Outcome) × (next : Record) × IsRoomMadeBy old.flight s outcomes t × IsNext t (headers_in new.levels) next × Holds new (appended t next)
-      × (fetches_now ≡ fetches_before + pages_of outcomes) × (new.retired ≡ retired_behind outcomes old.retired)
+      × (fetches_now ≡ fetches_before + pages_of outcomes) × AreRetiredBehind outcomes old.pins.pins old.retired new.retired
 
   -- the job for which numbers are short is one of what is stored
   short_on : (t : Stored) → Holds new t → IsShortOfRoom Tells old.state new → IsShort old.state ⊎ IsShortToMerge (later t)
@@ -86,6 +86,7 @@ module _ (Tells PortsFail : Type 0) (told : Tells) (call : Call) (IsNext : Store
             state = undone.state;
             levels = undone.levels;
             retired = undone.retired;
+            pins = pins;
             directory = (undone.disk told).directory;
           };
       begun = comes;
@@ -118,11 +119,12 @@ module _ (Tells PortsFail : Type 0) (told : Tells) (call : Call) (IsNext : Store
           stops = stops;
           last = last;
           jobs = same_jobs (appended made.0 made.2);
+          pins = record { held = pins; snapshots = refl };
         },
       )
   changed (Err why) stood still refused next reason written stops last =
       let comes = refused_known Tells config opened h old new s known call why stood still (IsRoomBegun old.flight s) (inl refl) (λ none holds. let part = refused.1 none told s holds in (part.0, parts part.0 part.1, part.2)) in (
         comes.0,
         comes.1,
-        record { answers = not_changed why stood refused comes.0 comes.1 comes.2 reason; stops = stops; last = last; jobs = same_jobs comes.0 },
+        record { answers = not_changed why stood refused comes.0 comes.1 comes.2 reason; stops = stops; last = last; jobs = same_jobs comes.0; pins = record { held = pins; snapshots = refl } },
       )

@@ -12,7 +12,7 @@ use Rattle.lethe_drive.specs.Moments.{Going, going_of, there_of}
 use Rattle.lethe_drive.specs.Past.{AreEarlier, IsNoneOf, IsPastGivenUp, IsPastRefused, IsRoundEnded, IsRoundKept, IsTickAsked, Run, all_left, left_of, named_by}
 use Rattle.lethe_drive.specs.Steps.{IsEvent, IsStep}
 use Rattle.lethe_drive.specs.declared.event.Event.{Event}
-use Rattle.lethe_drive.specs.declared.event.Event.TheVariants.{Put, Delete, Erase, Tick, Get, Scan, Freeze, Flush, Begin, WriteOut, Install, Cancel}
+use Rattle.lethe_drive.specs.declared.event.Event.TheVariants.{Put, Delete, Erase, Tick, Get, Scan, Freeze, Flush, Begin, WriteOut, Install, Cancel, Pin, Release}
 use Rattle.lethe_drive.specs.declared.event.Reply.{Reply}
 use Rattle.lethe_drive.specs.declared.jobs.Jobs.{Jobs}
 use Rattle.lethe_drive.specs.declared.jobs.Numbered.{Numbered}
@@ -45,6 +45,8 @@ module _ (PortsFail : Type 0) (h : History) (old : Run) (reply : Reply) (g : His
     refused_event Freeze other named refused = absurd (none-some number named)
     refused_event Flush other named refused = absurd (none-some number named)
     refused_event Begin other named refused = absurd (none-some number named)
+    refused_event Pin other named refused = absurd (none-some number named)
+    refused_event (Release pin) other named refused = absurd (none-some number named)
 
   -- the round goes on, or ends by a tick
   abbrev pub Goes : Event → Type 0
@@ -64,6 +66,8 @@ module _ (PortsFail : Type 0) (h : History) (old : Run) (reply : Reply) (g : His
   present_event Freeze none step (inl kept) = (step, kept)
   present_event Flush none step (inl kept) = (step, kept)
   present_event Begin none step (inl kept) = (step, kept)
+  present_event Pin none step (inl kept) = (step, kept)
+  present_event (Release pin) none step (inl kept) = (step, kept)
   present_event (Tick to) none step (inr ended) = (step, inr ended.1)
   present_event (WriteOut job) none step (inr ended) = absurd ended.0
   present_event (Install job) none step (inr ended) = absurd ended.0
@@ -76,6 +80,8 @@ module _ (PortsFail : Type 0) (h : History) (old : Run) (reply : Reply) (g : His
   present_event Freeze none step (inr ended) = absurd ended.0
   present_event Flush none step (inr ended) = absurd ended.0
   present_event Begin none step (inr ended) = absurd ended.0
+  present_event Pin none step (inr ended) = absurd ended.0
+  present_event (Release pin) none step (inr ended) = absurd ended.0
 
   -- Whether the round ends, by what the call says of that
 

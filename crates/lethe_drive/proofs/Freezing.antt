@@ -48,17 +48,17 @@ module _ (Tells : Type 0) (told : Tells) (config : Fields) (opened : Opened) (h 
       refused_known Tells config opened h old new s known Work why stood still (λ (t : Stored). t ≡ s) refl (λ none holds. (s, refl, before_holds Tells told old new s face (undone none) holds))
 
   -- and all else
-  pub work_untouched : (t : Stored) → (failure_of why ≡ None → t ≡ s) → (fetches_before fetches_now faults_before faults_now begun_before begun_now : ℕ) (there then : Option Going) → failure_of why ≡ None
-      → IsUntouched (moment_of old s fetches_before faults_before begun_before there) (moment_of new t fetches_now faults_now begun_now then)
-  work_untouched t same fetches_before fetches_now faults_before faults_now begun_before begun_now there then none =
+  pub work_untouched : new.pins ≡ old.pins → (t : Stored) → (failure_of why ≡ None → t ≡ s) → (fetches_before fetches_now faults_before faults_now begun_before begun_now : ℕ) (there then : Option Going) (snapshots : List ℕ) → failure_of why ≡ None
+      → IsUntouched (moment_of old s fetches_before faults_before begun_before there snapshots) (moment_of new t fetches_now faults_now begun_now then snapshots)
+  work_untouched pins t same fetches_before fetches_now faults_before faults_now begun_before begun_now there then snapshots none =
       let is = undone none in
-      record { stored = same none; state = is.state; levels = is.levels; retired = is.retired; directory = (is.disk told).directory }
+      record { stored = same none; state = is.state; levels = is.levels; retired = is.retired; pins = pins; directory = (is.disk told).directory }
 
-module _ (Tells : Type 0) (told : Tells) (config : Fields) (opened : Opened) (h : History) (old new : View) (s : Stored) (known : IsKnown config h old s) (fetches faults begun : ℕ) (there : Option Going)
+module _ (Tells : Type 0) (told : Tells) (config : Fields) (opened : Opened) (h : History) (old new : View) (s : Stored) (known : IsKnown config h old s) (fetches faults begun : ℕ) (there : Option Going) (snapshots : List ℕ)
     (Nothing : State → Type 0) (Does : Stored → Stored → Type 0) (Short : Type 0) (face : face_of new ≡ face_of old) where
-  same_moment : new ≡ old → IsAllButPort (moment_of old s fetches faults begun there) (moment_of new s fetches faults begun there)
-  same_moment same = subst (λ (view : View). IsAllButPort (moment_of old s fetches faults begun there) (moment_of view s fetches faults begun there)) (sym same)
-      (record { stored = refl; state = refl; levels = refl; retired = refl; flight = refl; directory = refl; calls = refl; faults = refl; begun = refl; there = refl })
+  same_moment : new ≡ old → IsAllButPort (moment_of old s fetches faults begun there snapshots) (moment_of new s fetches faults begun there snapshots)
+  same_moment same = subst (λ (view : View). IsAllButPort (moment_of old s fetches faults begun there snapshots) (moment_of view s fetches faults begun there snapshots)) (sym same)
+      (record { stored = refl; state = refl; levels = refl; retired = refl; pins = refl; flight = refl; directory = refl; calls = refl; faults = refl; begun = refl; there = refl; snapshots = refl })
 
   flight : new.flight ≡ old.flight
   flight = ap (λ (face : Face). face.flight) face
@@ -66,9 +66,12 @@ module _ (Tells : Type 0) (told : Tells) (config : Fields) (opened : Opened) (h 
   retired : new.retired ≡ old.retired
   retired = ap (λ (face : Face). face.retired) face
 
+  pins : new.pins ≡ old.pins
+  pins = ap (λ (face : Face). face.pins) face
+
   abbrev pub Worked : Result Bool Refused → Type 0
   Worked result = (t : Stored) × IsKnown config (behind h 0 (Serves Work) (result_err result)) new t
-      × IsWork (λ m. Nothing m.state) Does Short h (moment_of old s fetches faults begun there) result (behind h 0 (Serves Work) (result_err result)) (moment_of new t fetches faults begun there)
+      × IsWork (λ m. Nothing m.state) Does Short h (moment_of old s fetches faults begun there snapshots) result (behind h 0 (Serves Work) (result_err result)) (moment_of new t fetches faults begun there snapshots)
 
   pub worked : (result : Result Bool Refused) → StandsSince config opened (behind h 0 (Serves Work) (result_err result)) new → (IsSome old.state.stopped → IsStill Tells old new)
       → IfSome (result_err result) (IsRefused Tells (Serves Work) old new) → ((result ≡ Ok false) ↔ Nothing old.state) → (result ≡ Ok false → new ≡ old)
@@ -90,6 +93,7 @@ module _ (Tells : Type 0) (told : Tells) (config : Fields) (opened : Opened) (h 
           last = last;
           jobs = record { flight = flight; begun = refl; there = refl };
           retired = retired;
+          pins = record { held = pins; snapshots = refl };
           port = record { fetches = refl; port_faults = refl };
         },
       )
@@ -107,6 +111,7 @@ module _ (Tells : Type 0) (told : Tells) (config : Fields) (opened : Opened) (h 
       last = last;
       jobs = record { flight = flight; begun = refl; there = refl };
       retired = retired;
+      pins = record { held = pins; snapshots = refl };
       port = record { fetches = refl; port_faults = refl };
     },
   )
@@ -120,11 +125,12 @@ module _ (Tells : Type 0) (told : Tells) (config : Fields) (opened : Opened) (h 
           same = λ e. absurd (ok_or_err false why (sym e));
           done = λ e. absurd (ok_or_err true why (sym e));
           why = reason;
-          untouched = work_untouched Tells told config opened h old new s known why refused is.0 is.2 fetches fetches faults faults begun begun there there;
+          untouched = work_untouched Tells told config opened h old new s known why refused pins is.0 is.2 fetches fetches faults faults begun begun there there snapshots;
           stops = stopped;
           last = last;
           jobs = record { flight = flight; begun = refl; there = refl };
           retired = retired;
+          pins = record { held = pins; snapshots = refl };
           port = record { fetches = refl; port_faults = refl };
         },
       )
@@ -141,7 +147,7 @@ pub known_idle : (config : Fields) (h : History) (old new : View) (s : Stored) �
 known_idle config h old new s idle state levels face known =
     let remembers = subst (λ (state : State). Remembers s state new.levels) (sym state) (subst (λ (levels : List (List Parts)). Remembers s old.state levels) (sym levels) known.remembers) in
     let is_beside : IsBeside old new =
-    record { levels = levels; retired = ap (λ (face : Face). face.retired) face; flight = ap (λ (face : Face). face.flight) face; begun = ap (λ (face : Face). face.begun) face; rounds = ap (λ (face : Face). face.rounds) face } in
+    record { levels = levels; retired = ap (λ (face : Face). face.retired) face; flight = ap (λ (face : Face). face.flight) face; begun = ap (λ (face : Face). face.begun) face; rounds = ap (λ (face : Face). face.rounds) face; pins = ap (λ (face : Face). face.pins) face } in
     record {
       config_is = known.config_is;
       stands = known.stands;
@@ -152,12 +158,12 @@ known_idle config h old new s idle state levels face known =
       };
     }
 
-module _ (config : Fields) (h : History) (old new : View) (s : Stored) (fetches faults begun : ℕ) (there : Option Going)
-    (state : new.state ≡ old.state) (levels : new.levels ≡ old.levels) (retired : new.retired ≡ old.retired) (idle : IsIdle old.disk new.disk) where
+module _ (config : Fields) (h : History) (old new : View) (s : Stored) (fetches faults begun : ℕ) (there : Option Going) (snapshots : List ℕ)
+    (state : new.state ≡ old.state) (levels : new.levels ≡ old.levels) (retired : new.retired ≡ old.retired) (pins : new.pins ≡ old.pins) (idle : IsIdle old.disk new.disk) where
   -- it was begun
   pub has_begun : {D Page Port : Type 0} {kind : Ghosts D Page Port} (Tells : Type 0) (job : Job D Page Port kind) → job.round ≡ old.rounds → old.state.stopped ≡ None → (IsSome old.flight → ⊥) → IsBegunIn s (plain_task job.task.value)
       → IsAtWork Tells new job → job.made ≡ None → kind.port_faults job.port ≡ 0
-      → IsBegin h (moment_of old s fetches faults begun there) (Ok begun) h (moment_of new s fetches faults (begun + 1) (Some (going_of begun job)))
+      → IsBegin h (moment_of old s fetches faults begun there snapshots) (Ok begun) h (moment_of new s fetches faults (begun + 1) (Some (going_of begun job)) snapshots)
   has_begun {kind = kind} Tells job round runs free is works unmade unread =
       let written = nil_from_length works.flies.flying.written (works.count ∙ works.job_is.unmade unmade) in
       record {
@@ -177,12 +183,13 @@ module _ (config : Fields) (h : History) (old new : View) (s : Stored) (fetches 
         state = state;
         levels = levels;
         retired = retired;
+        pins = record { held = pins; snapshots = refl };
         directory = idle.directory;
         calls = idle.moment;
         port = record { fetches = refl; port_faults = refl };
       }
 
-  unbegun : (Tells : Type 0) → Tells → IsKnown config h old s → (why : Refused) → HasReasonOfBegin Tells old why → IsUnbegun (moment_of old s fetches faults begun there) why
+  unbegun : (Tells : Type 0) → Tells → IsKnown config h old s → (why : Refused) → HasReasonOfBegin Tells old why → IsUnbegun (moment_of old s fetches faults begun there snapshots) why
   unbegun Tells told known (Stopped at) is = is
   unbegun Tells told known NothingDue is = (is.0, none_due is.1)
     where
@@ -201,7 +208,7 @@ module _ (config : Fields) (h : History) (old new : View) (s : Stored) (fetches 
   -- it was refused
   pub has_not_begun : (Tells : Type 0) → Tells → IsKnown config h old s → (why : Refused) → HasReasonOfBegin Tells old why → new.flight ≡ old.flight
       → ((at : ℕ) → old.state.stopped ≡ Some at → ◌≡◌ {A = Result ℕ Refused} (Err why) (Err (Stopped at))) → (old.state.stopped ≡ None → IsSome old.flight → ◌≡◌ {A = Result ℕ Refused} (Err why) (Err NothingDue))
-      → IsBegin h (moment_of old s fetches faults begun there) (Err why) h (moment_of new s fetches faults begun there)
+      → IsBegin h (moment_of old s fetches faults begun there snapshots) (Err why) h (moment_of new s fetches faults begun there snapshots)
   has_not_begun Tells told known why is flight stops busy = record {
     history = refl;
     answers = (unbegun Tells told known why is, record { flight = flight; begun = refl; there = refl });
@@ -211,6 +218,7 @@ module _ (config : Fields) (h : History) (old new : View) (s : Stored) (fetches 
     state = state;
     levels = levels;
     retired = retired;
+    pins = record { held = pins; snapshots = refl };
     directory = idle.directory;
     calls = idle.moment;
     port = record { fetches = refl; port_faults = refl };

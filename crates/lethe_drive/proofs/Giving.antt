@@ -1,5 +1,5 @@
 -- The job of a run that hasn't ended, and giving it up.
-use Rattle.std.proofs.Common.{◌≡◌, ◌<◌, ℕ, Bool, true, false, length, Option, Some, None, Result, Ok, Err, refl, sym, ap, ◌∙◌, subst}
+use Rattle.std.proofs.Common.{◌≡◌, ◌<◌, ℕ, Bool, true, false, List, length, Option, Some, None, Result, Ok, Err, refl, sym, ap, ◌∙◌, subst}
 use Rattle.std.specs.Prelude.{◌&&◌, IfErr, IfSome, IsOk, IsSome, OnErr, OnOk, if◌then◌else◌, is_none, nat_le, option_map}
 use Rattle.std.specs.Result.{result_err}
 use Rattle.std.proofs.lemmas.Option.{none-some, same_Some}
@@ -128,6 +128,14 @@ given_up_retired face state = by (is_none state.stopped && nat_le max_place stat
     by true = refl
     by false = refl
 
+-- and so are the pins
+pub given_up_pins : (face : Face) (state : State) → (engine.given_up face state).pins ≡ face.pins
+given_up_pins face state = by (is_none state.stopped && nat_le max_place state.count)
+  where
+    by : (full : Bool) → (if full then face else record face { flight = None }).pins ≡ face.pins
+    by true = refl
+    by false = refl
+
 -- and no round ends
 pub given_up_rounds : (face : Face) (state : State) → (engine.given_up face state).rounds ≡ face.rounds
 given_up_rounds face state = by (is_none state.stopped && nat_le max_place state.count)
@@ -149,10 +157,10 @@ must_fail state before now (Cancelled first other) is memory numbers runs none =
 must_fail state before now (ReadFault b a) is memory numbers runs none = is
 must_fail state before now (Damaged name) is memory numbers runs none = is
 
-module _ (Tells : Type 0) (told : Tells) (config : Fields) (opened : Opened) (h : History) (old new : View) (s : Stored) (known : IsKnown config h old s) (fetches faults begun : ℕ) (there gone : Option Going)
+module _ (Tells : Type 0) (told : Tells) (config : Fields) (opened : Opened) (h : History) (old new : View) (s : Stored) (known : IsKnown config h old s) (fetches faults begun : ℕ) (there gone : Option Going) (snapshots : List ℕ)
     (none : gone ≡ None) where
   kept_up : (t : Stored) (why : Refused) → HasReason ⊥ old.state old.faults new.faults why → (why ≡ NoMemory → ⊥) → ((last : ℕ) → why ≡ Exhausted last → ⊥)
-      → IsKeptUp (moment_of old s fetches faults begun there) (moment_of new t fetches faults begun gone) why
+      → IsKeptUp (moment_of old s fetches faults begun there snapshots) (moment_of new t fetches faults begun gone snapshots) why
   kept_up t (Fault place before after) is memory numbers = is
   kept_up t (Stopped at) is memory numbers = is
   kept_up t NoMemory is memory numbers = memory refl
@@ -164,24 +172,25 @@ module _ (Tells : Type 0) (told : Tells) (config : Fields) (opened : Opened) (h 
   kept_up t (ReadFault before after) is memory numbers = is
   kept_up t (Damaged name) is memory numbers = is
 
-  same_untouched : new ≡ old → IsUntouched (moment_of old s fetches faults begun there) (moment_of new s fetches faults begun gone)
+  same_untouched : new ≡ old → IsUntouched (moment_of old s fetches faults begun there snapshots) (moment_of new s fetches faults begun gone snapshots)
   same_untouched same = record {
     stored = refl;
     state = like_of old.state new.state (ap (λ (view : View). view.state) same);
     levels = ap (λ (view : View). view.levels) same;
     retired = ap (λ (view : View). view.retired) same;
+    pins = ap (λ (view : View). view.pins) same;
     directory = ap (λ (view : View). view.disk.directory) same;
   }
 
   abbrev pub GivenUp : Result (Unit {0}) Refused → Type 0
   GivenUp result = (t : Stored) × IsKnown config (behind h 0 (Serves Work) (result_err result)) new t × StandsSince config opened (behind h 0 (Serves Work) (result_err result)) new
-      × IsCancel h (moment_of old s fetches faults begun there) result (behind h 0 (Serves Work) (result_err result)) (moment_of new t fetches faults begun gone)
+      × IsCancel h (moment_of old s fetches faults begun there snapshots) result (behind h 0 (Serves Work) (result_err result)) (moment_of new t fetches faults begun gone snapshots)
 
   pub given_up : (result : Result (Unit {0}) Refused) → StandsSince config opened (behind h 0 (Serves Work) (result_err result)) new → (IsSome old.state.stopped → IsStill Tells old new)
-      → IfSome (result_err result) (IsRefused Tells (Serves Work) old new) → (Holds old s → OnOk result (Holds new s)) → ((old.state.stopped ≡ None → old.state.count < max_place) → new.flight ≡ None) → new.retired ≡ old.retired
+      → IfSome (result_err result) (IsRefused Tells (Serves Work) old new) → (Holds old s → OnOk result (Holds new s)) → ((old.state.stopped ≡ None → old.state.count < max_place) → new.flight ≡ None) → new.retired ≡ old.retired → new.pins ≡ old.pins
       → IfErr result (HasReason ⊥ old.state old.faults new.faults) → (result ≡ Err NoMemory → ⊥) → ((last : ℕ) → result ≡ Err (Exhausted last) → ⊥)
       → ((at : ℕ) → old.state.stopped ≡ Some at → result ≡ Err (Stopped at)) → (old.state.stopped ≡ None → old.state.count ≡ max_place → (result ≡ Ok tt) × (new ≡ old)) → GivenUp result
-  given_up (Ok done) stood still refused held free retired why memory numbers stopped last =
+  given_up (Ok done) stood still refused held free retired pins why memory numbers stopped last =
       let holds = held (known.held (not_stopped old.state.stopped (λ at e. ok_or_err done (Stopped at) (stopped at e)))) in (
         s,
         known_held config opened h new stood s holds,
@@ -196,11 +205,12 @@ module _ (Tells : Type 0) (told : Tells) (config : Fields) (opened : Opened) (h 
           stored = λ done e. refl;
           untouched = tt;
           retired = retired;
+          pins = record { held = pins; snapshots = refl };
           begun = refl;
           port = record { fetches = refl; port_faults = refl };
         },
       )
-  given_up (Err why) stood still refused held free retired reason memory numbers stopped last =
+  given_up (Err why) stood still refused held free retired pins reason memory numbers stopped last =
       let no_memory : why ≡ NoMemory → ⊥ = λ e. memory (λ i. Err (e i)) in
       let enough : (last : ℕ) → why ≡ Exhausted last → ⊥ = λ last e. numbers last (λ i. Err (e i)) in
       let is = refused_known Tells config opened h old new s known Work why stood still (λ (t : Stored). t ≡ s) refl
@@ -216,8 +226,9 @@ module _ (Tells : Type 0) (told : Tells) (config : Fields) (opened : Opened) (h 
           free = free;
           last = λ runs full. absurd (ok_or_err tt why (sym (last runs full).0));
           stored = λ done e. absurd (ok_or_err done why (sym e));
-          untouched = work_untouched Tells told config opened h old new s known why refused is.0 is.2 fetches fetches faults faults begun begun there gone;
+          untouched = work_untouched Tells told config opened h old new s known why refused pins is.0 is.2 fetches fetches faults faults begun begun there gone snapshots;
           retired = retired;
+          pins = record { held = pins; snapshots = refl };
           begun = refl;
           port = record { fetches = refl; port_faults = refl };
         },

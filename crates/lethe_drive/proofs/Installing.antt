@@ -1,5 +1,5 @@
 -- Writing on and installing a job.
-use Rattle.std.proofs.Common.{◌≡◌, ◌≤◌, ◌⊎◌, inl, inr, ℕ, ◌+◌, ◌-◌, true, false, [], length, Option, Some, None, Result, Ok, Err, refl, sym, ap, ◌∙◌, subst, arith}
+use Rattle.std.proofs.Common.{◌≡◌, ◌≤◌, ◌⊎◌, inl, inr, ℕ, ◌+◌, ◌-◌, true, false, List, length, Option, Some, None, Result, Ok, Err, refl, sym, ap, ◌∙◌, subst, arith}
 use Rattle.std.specs.Prelude.{IfSome, IsSome}
 use Rattle.lethe_base.specs.History.{History}
 use Rattle.lethe_base.specs.Limits.{max_place}
@@ -8,6 +8,7 @@ use Rattle.lethe_base.specs.declared.config.Fields.{Fields}
 use Rattle.lethe_base.specs.declared.refused.Refused.{Refused}
 use Rattle.lethe_disk.specs.declared.disk.Disk.{Ghosts}
 use Rattle.lethe_stored.specs.Stored.{Stored}
+use Rattle.lethe_pins.specs.Held.{Held}
 use Rattle.lethe_install.specs.Outcomes.{IsInstalled}
 use Rattle.lethe_job.specs.MadeOf.{numbers_in, pages_of}
 use Rattle.lethe_job.specs.Tasks.{AreSound}
@@ -16,6 +17,7 @@ use Rattle.lethe_job.specs.declared.job.Job.{Job}
 use Rattle.lethe_job.specs.declared.made.Made.{Made}
 use Rattle.lethe_core.specs.Asked.{failure_of, refused_to}
 use Rattle.lethe_core.specs.Jobs.{IsAtWork, IsInFlight, IsWhole}
+use Rattle.lethe_core.specs.Pinned.{AreNamed}
 use Rattle.lethe_core.specs.Reasons.{HasReason, IsUnreadable}
 use Rattle.lethe_core.specs.Running.{Holds}
 use Rattle.lethe_core.specs.Steps.{IsUndone}
@@ -53,20 +55,20 @@ module _ {D Page Port : Type 0} {kind : Ghosts D Page Port} where
     reads = λ told. subst (λ (task : PlainTask). AreSound (inputs_in task)) (sym (ap plain_task task)) (reads told);
   }
 
-  module _ (Tells PortsFail : Type 0) (h : History) (old : View) (s : Stored) (number fetches faults begun : ℕ) (job : Job D Page Port kind) where
+  module _ (Tells PortsFail : Type 0) (h : History) (old : View) (s : Stored) (number fetches faults begun : ℕ) (snapshots : List ℕ) (job : Job D Page Port kind) where
     abbrev before : Moment
-    before = moment_of old s fetches faults begun (Some (going_of number job))
+    before = moment_of old s fetches faults begun (Some (going_of number job)) snapshots
 
     abbrev behind : View → Stored → Job D Page Port kind → Moment
-    behind new t back = moment_of new t fetches faults begun (Some (going_of number back))
+    behind new t back = moment_of new t fetches faults begun (Some (going_of number back)) snapshots
 
     -- why it was refused, with the job as it is behind that
     abbrev Cause : View → Stored → Job D Page Port kind → Refused → Type 0
     Cause new t back why = IsJobRefusal PortsFail (IsShortToInstall (going_of number job) (behind new t back)) before (going_of number job) (kind.port_faults back.port) (behind new t back) why
 
     not_installed : (new : View) (t : Stored) (back : Job D Page Port kind) (why : Refused) → back.task.value ≡ job.task.value → back.round ≡ job.round → back.refused ≡ true → Cause new t back why → IsWrittenOn old.flight new.flight → new.retired ≡ old.retired
-        → (failure_of why ≡ None → t ≡ s) → IsInstall PortsFail (going_of number job) h before (Err why) (refused_to h 0 Work why) (behind new t back)
-    not_installed new t back why task round refused cause written retired kept = record {
+        → new.pins ≡ old.pins → (failure_of why ≡ None → t ≡ s) → IsInstall PortsFail (going_of number job) h before (Err why) (refused_to h 0 Work why) (behind new t back)
+    not_installed new t back why task round refused cause written retired pins kept = record {
       history = refl;
       answers = record {
         spoilt = record { written = back.written; port_faults = kind.port_faults back.port; there = spoilt Tells PortsFail job back task number round refused };
@@ -78,6 +80,7 @@ module _ {D Page Port : Type 0} {kind : Ghosts D Page Port} where
         retired = retired;
         stored = kept;
       };
+      pins = record { held = pins; snapshots = refl };
       begun = refl;
       port = record { fetches = refl; port_faults = refl };
     }
@@ -93,7 +96,7 @@ module _ {D Page Port : Type 0} {kind : Ghosts D Page Port} where
     pub rest_refused : (new : View) (t : Stored) (back : Job D Page Port kind) (why : Refused) → back.task.value ≡ job.task.value → back.round ≡ job.round → back.refused ≡ true
         → IsWritingOn PortsFail old new (kind.port_faults job.port) (kind.port_faults back.port) s t (Err why)
         → IsInstall PortsFail (going_of number job) h before (Err why) (refused_to h 0 Work why) (behind new t back)
-    rest_refused new t back why task round refused is = not_installed new t back why task round refused (unwritten new t back why is.why) is.flight is.retired is.kept
+    rest_refused new t back why task round refused is = not_installed new t back why task round refused (unwritten new t back why is.why) is.flight is.retired is.pins is.kept
 
     -- all pages are written
     module _ (told : Tells) (sound : AreSound (inputs_in (plain_task job.task.value))) (mid : View) (whole : Job D Page Port kind) (task : whole.task.value ≡ job.task.value) (works : IsAtWork Tells mid whole)
@@ -115,11 +118,11 @@ module _ {D Page Port : Type 0} {kind : Ghosts D Page Port} where
 
       -- the engine refused to install it
       pub install_refused : (config : Fields) (opened : Opened) → StandsSince config opened h old → StandsSince config opened h mid → old.faults ≤ mid.faults → (m : Stored) → IsKnown config h mid m → m ≡ s
-          → IsWrittenOn old.flight mid.flight → mid.retired ≡ old.retired → (new : View) (back : Job D Page Port kind) (why : Refused) → StandsSince config opened (refused_to h 0 Work why) new
+          → IsWrittenOn old.flight mid.flight → mid.retired ≡ old.retired → mid.pins ≡ old.pins → (new : View) (back : Job D Page Port kind) (why : Refused) → StandsSince config opened (refused_to h 0 Work why) new
           → (IsSome mid.state.stopped → IsStill Tells mid new) → IsUndone Tells mid new why → face_of new ≡ face_of mid → back.task.value ≡ job.task.value → back.round ≡ job.round → back.refused ≡ true
           → HasReason (engine.IsShortToInstall mid whole) mid.state mid.faults new.faults why → new.state.next ≡ mid.state.next
           → (t : Stored) × IsKnown config (refused_to h 0 Work why) new t × IsInstall PortsFail (going_of number job) h before (Err why) (refused_to h 0 Work why) (behind new t back)
-      install_refused config opened was stands later m known stored written retired new back why stood still undone face same round refused reason drawn =
+      install_refused config opened was stands later m known stored written retired pins new back why stood still undone face same round refused reason drawn =
           let is = work_refused Tells told config opened h mid new m known why undone stood still face in
           let cause : Cause new is.0 back why = inl (
             mid.faults,
@@ -131,51 +134,55 @@ module _ {D Page Port : Type 0} {kind : Ghosts D Page Port} where
           ) in
           let flight : new.flight ≡ mid.flight = ap (λ (face : Face). face.flight) face in
           let stay : new.retired ≡ old.retired = ap (λ (face : Face). face.retired) face ∙ retired in
-          (is.0, is.1, not_installed new is.0 back why same round refused cause (subst (IsWrittenOn old.flight) (sym flight) written) stay (λ none. is.2 none ∙ stored))
+          let held : new.pins ≡ old.pins = ap (λ (face : Face). face.pins) face ∙ pins in
+          (is.0, is.1, not_installed new is.0 back why same round refused cause (subst (IsWrittenOn old.flight) (sym flight) written) stay held (λ none. is.2 none ∙ stored))
 
     -- it was installed
     pub installed_whole : (config : Fields) (opened : Opened) (done : Unit {0}) (mid new : View) → StandsSince config opened h new → (whole : Job D Page Port kind) (m : Stored) (there : Option Going)
         → whole.task.value ≡ job.task.value → IsKnown config h mid m → m ≡ s
-        → ((at : ℕ) → mid.state.stopped ≡ Some at → ⊥) → (Holds mid m → (t : Stored) × IsInstalled m (plain_task whole.task.value) t × Holds new t) → new.flight ≡ None → new.retired ≡ [] → there ≡ None
-        → (t : Stored) × IsKnown config h new t × IsInstall PortsFail (going_of number job) h before (Ok done) h (moment_of new t fetches faults begun there)
-    installed_whole config opened done mid new stood whole m there task known same never install free left none =
-        let made = install (known.held (not_stopped mid.state.stopped never)) in (
+        → ((at : ℕ) → mid.state.stopped ≡ Some at → ⊥) → (Holds mid m → (t : Stored) × IsInstalled m (plain_task whole.task.value) t × Holds new t) → new.flight ≡ None → new.pins ≡ mid.pins → mid.pins ≡ old.pins
+        → AreNamed new.pins.pins new.retired → there ≡ None
+        → (t : Stored) × IsKnown config h new t × IsInstall PortsFail (going_of number job) h before (Ok done) h (moment_of new t fetches faults begun there snapshots)
+    installed_whole config opened done mid new stood whole m there task known same never install free pins stay left none =
+        let made = install (known.held (not_stopped mid.state.stopped never)) in
+        let held : new.pins ≡ old.pins = pins ∙ stay in (
           made.0,
           known_held config opened h new stood made.0 made.2,
           record {
             history = refl;
             answers = record {
               installed = subst (λ (m : Stored). IsInstalled m (plain_task job.task.value) made.0) same (subst (λ (task : PlainTask). IsInstalled m task made.0) (ap plain_task task) made.1);
-              retired = left;
+              retired = subst (λ (pins : Held). AreNamed pins.pins new.retired) held left;
               flight = free;
               there = none;
             };
+            pins = record { held = held; snapshots = refl };
             begun = refl;
             port = record { fetches = refl; port_faults = refl };
           },
         )
 
   module _ (jobs : Jobs D Page Port kind) where
-    module _ (h : History) (view : View) (s : Stored) (fetches faults number : ℕ) where
+    module _ (h : History) (view : View) (s : Stored) (fetches faults number : ℕ) (snapshots : List ℕ) where
       abbrev now : Moment
-      now = moment_of view s fetches faults jobs.begun (there_of jobs)
+      now = moment_of view s fetches faults jobs.begun (there_of jobs) snapshots
 
       -- it isn't what is asked for, and what was taken is there again
       pub not_asked : ((going : Going) → IsAsked number now going → ⊥) → (there : Option (Numbered D Page Port kind)) → jobs.there ≡ there
-          → IsNoSuch (IsAsked number now) h now NoSuch h (moment_of view s fetches faults jobs.begun (there_of {D = D} {Page = Page} {Port = Port} {kind = kind} (record { begun = jobs.begun; there = there })))
-      not_asked never there is = no_such jobs h view s fetches faults number (IsAsked number now) never (record { begun = jobs.begun; there = there }) (λ i. record { begun = jobs.begun; there = (sym is) i })
+          → IsNoSuch (IsAsked number now) h now NoSuch h (moment_of view s fetches faults jobs.begun (there_of {D = D} {Page = Page} {Port = Port} {kind = kind} (record { begun = jobs.begun; there = there })) snapshots)
+      not_asked never there is = no_such jobs h view s fetches faults number snapshots (IsAsked number now) never (record { begun = jobs.begun; there = there }) (λ i. record { begun = jobs.begun; there = (sym is) i })
 
     -- the job that is there was asked to be installed
-    pub asked_to_install : (PortsFail : Type 0) (h g : History) (old : View) (s : Stored) (fetches faults number : ℕ) (numbered : Numbered D Page Port kind) (result : Result (Unit {0}) Refused) (reply : Reply)
+    pub asked_to_install : (PortsFail : Type 0) (h g : History) (old : View) (s : Stored) (fetches faults number : ℕ) (snapshots : List ℕ) (numbered : Numbered D Page Port kind) (result : Result (Unit {0}) Refused) (reply : Reply)
         (new : Moment) → jobs.there ≡ Some numbered → numbered.number ≡ number → numbered.job.refused ≡ false → reply ≡ united result
-        → IsInstall PortsFail (going_of numbered.number numbered.job) h (moment_of old s fetches faults jobs.begun (Some (going_of numbered.number numbered.job))) result g new
-        → IsStep PortsFail h (moment_of old s fetches faults jobs.begun (there_of jobs)) (Install number) reply g new
-    asked_to_install PortsFail h g old s fetches faults number numbered result reply new is same asked told install =
+        → IsInstall PortsFail (going_of numbered.number numbered.job) h (moment_of old s fetches faults jobs.begun (Some (going_of numbered.number numbered.job)) snapshots) result g new
+        → IsStep PortsFail h (moment_of old s fetches faults jobs.begun (there_of jobs) snapshots) (Install number) reply g new
+    asked_to_install PortsFail h g old s fetches faults number snapshots numbered result reply new is same asked told install =
         let there = there_is jobs numbered is in
         inr (
           going_of numbered.number numbered.job,
           ((there, same), asked),
           result,
           told,
-          subst (λ (going : Option Going). IsInstall PortsFail (going_of numbered.number numbered.job) h (moment_of old s fetches faults jobs.begun going) result g new) (sym there) install,
+          subst (λ (going : Option Going). IsInstall PortsFail (going_of numbered.number numbered.job) h (moment_of old s fetches faults jobs.begun going snapshots) result g new) (sym there) install,
         )

@@ -83,9 +83,9 @@ stopped_is config h view s None is = is.0
 stopped_is config h view s (Some at) is = (is.before, is.change, is.history, is.done, (is.faults_before, is.faults, is.failed), is.place)
 
 -- the moment of a store of which that is known, and whose job is this
-pub moment_known : (config : Fields) (opened : Opened) (h : History) (view : View) → StandsSince config opened h view → (s : Stored) → IsKnown config h view s → (fetches faults begun : ℕ) (there : Option Going)
-    → IfSome there (IsGoing view.flight) → IsMomentOf config h (moment_of view s fetches faults begun there)
-moment_known config opened h view stands s known fetches faults begun there going = record {
+pub moment_known : (config : Fields) (opened : Opened) (h : History) (view : View) → StandsSince config opened h view → (s : Stored) → IsKnown config h view s → (fetches faults begun : ℕ) (there : Option Going) (snapshots : List ℕ)
+    → IfSome there (IsGoing view.flight) → IsMomentOf config h (moment_of view s fetches faults begun there snapshots)
+moment_known config opened h view stands s known fetches faults begun there snapshots going = record {
   legal = stands.now.legal;
   count = stands.now.count;
   stopped = stopped_is config h view stands.now.stored view.state.stopped stands.now.held;
@@ -95,6 +95,7 @@ moment_known config opened h view stands s known fetches faults begun there goin
   current = λ runs. (known.held runs).running.current;
   encodes = λ runs. (known.held runs).running.settled.encodes;
   only = λ runs. (known.held runs).running.only;
+  kept = λ runs. (known.held runs).running.kept;
   tasked = λ runs. (known.held runs).running.tasked;
   going = going;
 }

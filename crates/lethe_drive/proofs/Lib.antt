@@ -10,6 +10,7 @@ pub mod Giving
 pub mod Resting
 pub mod Ticking
 pub mod Among
+pub mod Pins
 pub mod Left
 pub mod Events
 pub mod Stepping

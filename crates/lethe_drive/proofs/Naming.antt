@@ -1,5 +1,5 @@
 -- Whether a run has a job of a number.
-use Rattle.std.proofs.Common.{◌≡◌, ℕ, true, false, Some, None, refl, sym, ap, ◌∙◌}
+use Rattle.std.proofs.Common.{◌≡◌, ℕ, true, false, List, Some, None, refl, sym, ap, ◌∙◌}
 use Rattle.std.specs.Prelude.{option_map}
 use Rattle.std.proofs.lemmas.Option.{none-some, same_Some}
 use Rattle.lethe_base.specs.History.{History}
@@ -23,9 +23,9 @@ module _ {D Page Port : Type 0} {kind : Ghosts D Page Port} (jobs : Jobs D Page 
   pub put_back : (numbered : Numbered D Page Port kind) → jobs.there ≡ Some numbered → record jobs { there = Some numbered } ≡ jobs
   put_back numbered is = λ i. record jobs { there = sym is i }
 
-  module _ (h : History) (view : View) (s : Stored) (fetches faults number : ℕ) where
+  module _ (h : History) (view : View) (s : Stored) (fetches faults number : ℕ) (snapshots : List ℕ) where
     abbrev now : Moment
-    now = moment_of view s fetches faults jobs.begun (there_of jobs)
+    now = moment_of view s fetches faults jobs.begun (there_of jobs) snapshots
 
     the_going : (numbered : Numbered D Page Port kind) → jobs.there ≡ Some numbered → (going : Going) → IsThere number now going → going_of numbered.number numbered.job ≡ going
     the_going numbered is going there = same_Some (going_of numbered.number numbered.job) going (sym (there_is numbered is) ∙ there.0)
@@ -45,10 +45,10 @@ module _ {D Page Port : Type 0} {kind : Ghosts D Page Port} (jobs : Jobs D Page 
 
     -- nothing is done
     pub no_such : (There : Going → Type 0) → ((going : Going) → There going → ⊥) → (new : Jobs D Page Port kind) → new ≡ jobs
-        → IsNoSuch There h now NoSuch h (moment_of view s fetches faults new.begun (there_of new))
+        → IsNoSuch There h now NoSuch h (moment_of view s fetches faults new.begun (there_of new) snapshots)
     no_such There none new same = record {
       none = none;
       is = refl;
       history = refl;
-      same = ap (λ (jobs : Jobs D Page Port kind). moment_of view s fetches faults jobs.begun (there_of jobs)) same;
+      same = ap (λ (jobs : Jobs D Page Port kind). moment_of view s fetches faults jobs.begun (there_of jobs) snapshots) same;
     }

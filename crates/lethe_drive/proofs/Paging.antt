@@ -33,13 +33,13 @@ use Rattle.lethe_drive.proofs.Freezing.{work_refused, work_untouched}
 use Rattle.lethe_drive.proofs.Reasons.{unread_cause, unread_history}
 use Rattle.lethe_drive.proofs.Writing.{goes_on, outputs_for, some_of, spoilt}
 
-module _ {D Page Port : Type 0} {kind : Ghosts D Page Port} (Tells PortsFail : Type 0) (h : History) (old : View) (s : Stored) (number fetches faults begun : ℕ) (job mid : Job D Page Port kind)
+module _ {D Page Port : Type 0} {kind : Ghosts D Page Port} (Tells PortsFail : Type 0) (h : History) (old : View) (s : Stored) (number fetches faults begun : ℕ) (snapshots : List ℕ) (job mid : Job D Page Port kind)
     (task : mid.task.value ≡ job.task.value) (round : mid.round ≡ job.round) where
   abbrev before : Moment
-  before = moment_of old s fetches faults begun (Some (going_of number job))
+  before = moment_of old s fetches faults begun (Some (going_of number job)) snapshots
 
   abbrev later : View → Stored → Job D Page Port kind → Moment
-  later new t after = moment_of new t fetches faults begun (Some (going_of number after))
+  later new t after = moment_of new t fetches faults begun (Some (going_of number after)) snapshots
 
   -- what a store that stood for a history and held this comes to
   abbrev pub Paged : Fields → Opened → View → Job D Page Port kind → Result Bool Refused → Type 0
@@ -56,9 +56,10 @@ module _ {D Page Port : Type 0} {kind : Ghosts D Page Port} (Tells PortsFail : T
         spoilt = record { written = mid.written; port_faults = kind.port_faults mid.port; there = spoilt Tells PortsFail job mid task number round refused };
         reason = inl (old.faults, new.faults, omega arith, omega arith, is);
         flight = ap (λ (face : Face). face.flight) face;
-        untouched = work_untouched Tells told config opened h old new s known why undone t same fetches fetches faults faults begun begun (Some (going_of number job)) (Some (going_of number mid));
+        untouched = work_untouched Tells told config opened h old new s known why undone (ap (λ (face : Face). face.pins) face) t same fetches fetches faults faults begun begun (Some (going_of number job)) (Some (going_of number mid)) snapshots;
       };
       retired = ap (λ (face : Face). face.retired) face;
+      pins = record { held = ap (λ (face : Face). face.pins) face; snapshots = refl };
       begun = refl;
       port = record { fetches = refl; port_faults = refl };
     }
@@ -85,9 +86,10 @@ module _ {D Page Port : Type 0} {kind : Ghosts D Page Port} (Tells PortsFail : T
       reason = unread_reason why (unread_cause Tells PortsFail (max_place ≤ old.state.next) (inputs_in (plain_task job.task.value)) (kind.port_faults job.port) (kind.port_faults mid.port)
           old.state old.faults old.faults told sound why is);
       flight = refl;
-      untouched = λ none. record { stored = refl; state = (as_itself Tells old).state; levels = refl; retired = refl; directory = refl };
+      untouched = λ none. record { stored = refl; state = (as_itself Tells old).state; levels = refl; retired = refl; pins = refl; directory = refl };
     };
     retired = refl;
+    pins = record { held = refl; snapshots = refl };
     begun = refl;
     port = record { fetches = refl; port_faults = refl };
   }
@@ -146,6 +148,7 @@ module _ {D Page Port : Type 0} {kind : Ghosts D Page Port} (Tells PortsFail : T
             };
           };
           retired = ap (λ (face : Face). face.retired) face;
+          pins = record { held = ap (λ (face : Face). face.pins) face; snapshots = refl };
           begun = refl;
           port = record { fetches = refl; port_faults = refl };
         }
@@ -173,6 +176,7 @@ module _ {D Page Port : Type 0} {kind : Ghosts D Page Port} (Tells PortsFail : T
             goes_on = record { port_faults = kind.port_faults mid.port; there = goes_on Tells PortsFail job mid task number job.written round works.asked asked written };
           };
           retired = refl;
+          pins = record { held = refl; snapshots = refl };
           begun = refl;
           port = record { fetches = refl; port_faults = refl };
         }

@@ -1,5 +1,5 @@
 -- Reads: a get and a scan.
-use Rattle.std.proofs.Common.{◌≡◌, ◌⊎◌, inl, inr, ℕ, Option, Result, Ok, Err, refl, subst}
+use Rattle.std.proofs.Common.{◌≡◌, ◌⊎◌, inl, inr, ℕ, List, Option, Result, Ok, Err, refl, subst}
 use Rattle.std.specs.Prelude.{IfErr, IfOk, IsErrOf}
 use Rattle.lethe_base.specs.Counts.{Rose}
 use Rattle.lethe_base.specs.History.{History, after}
@@ -14,9 +14,9 @@ use Rattle.lethe_engine.specs.Reads.{IsReadRefusal}
 use Rattle.lethe_drive.specs.Answers.{IsRead, ReadAnswers}
 use Rattle.lethe_drive.specs.Moments.{Going, IsAllButPort, moment_of}
 
-module _ {T : Type 0} (PortsFail : Type 0) (read : Read) (told : T → Answer) (h : History) (view : View) (s : Stored) (fetches_before fetches_now faults_before faults_now begun : ℕ) (there : Option Going) where
-  same : IsAllButPort (moment_of view s fetches_before faults_before begun there) (moment_of view s fetches_now faults_now begun there)
-  same = record { stored = refl; state = refl; levels = refl; retired = refl; flight = refl; directory = refl; calls = refl; faults = refl; begun = refl; there = refl }
+module _ {T : Type 0} (PortsFail : Type 0) (read : Read) (told : T → Answer) (h : History) (view : View) (s : Stored) (fetches_before fetches_now faults_before faults_now begun : ℕ) (there : Option Going) (snapshots : List ℕ) where
+  same : IsAllButPort (moment_of view s fetches_before faults_before begun there snapshots) (moment_of view s fetches_now faults_now begun there snapshots)
+  same = record { stored = refl; state = refl; levels = refl; retired = refl; pins = refl; flight = refl; directory = refl; calls = refl; faults = refl; begun = refl; there = refl; snapshots = refl }
 
   read_refused : (why : Refused) → IsReadRefusal why → ((before after : ℕ) → why ≡ ReadFault before after → (before ≡ faults_before) × (after ≡ faults_now) × Rose before after)
       → ((before after : ℕ) → why ≡ ReadFault before after → PortsFail) → ((name : Name) → why ≡ Damaged name → ⊥) → (why ≡ NoMemory) ⊎ IsUnreadable (Unit {0}) PortsFail faults_before faults_now why
@@ -36,7 +36,7 @@ module _ {T : Type 0} (PortsFail : Type 0) (read : Read) (told : T → Answer) (
   read_answers : (result : Result T Refused) → IfOk result (λ given. answer (after h) read ≡ told given) → IfErr result IsReadRefusal
       → ((before after : ℕ) → IsErrOf result (ReadFault before after) → (before ≡ faults_before) × (after ≡ faults_now) × Rose before after)
       → ((before after : ℕ) → IsErrOf result (ReadFault before after) → PortsFail) → ((name : Name) → IsErrOf result (Damaged name) → ⊥)
-      → ReadAnswers PortsFail read told h (moment_of view s fetches_before faults_before begun there) result (moment_of view s fetches_now faults_now begun there)
+      → ReadAnswers PortsFail read told h (moment_of view s fetches_before faults_before begun there snapshots) result (moment_of view s fetches_now faults_now begun there snapshots)
   read_answers (Ok given) is why fault can_fail undamaged = is
   read_answers (Err why) is refused fault can_fail undamaged = read_refused why refused (λ before after e. fault before after (err e)) (λ before after e. can_fail before after (err e)) (λ name e. undamaged name (err e))
     where
@@ -47,5 +47,5 @@ module _ {T : Type 0} (PortsFail : Type 0) (read : Read) (told : T → Answer) (
   pub is_read : (result : Result T Refused) → IfOk result (λ given. answer (after h) read ≡ told given) → IfErr result IsReadRefusal
       → ((before after : ℕ) → IsErrOf result (ReadFault before after) → (before ≡ faults_before) × (after ≡ faults_now) × Rose before after)
       → ((before after : ℕ) → IsErrOf result (ReadFault before after) → PortsFail) → ((name : Name) → IsErrOf result (Damaged name) → ⊥)
-      → IsRead PortsFail read told h (moment_of view s fetches_before faults_before begun there) result h (moment_of view s fetches_now faults_now begun there)
+      → IsRead PortsFail read told h (moment_of view s fetches_before faults_before begun there snapshots) result h (moment_of view s fetches_now faults_now begun there snapshots)
   is_read result is why fault can_fail undamaged = record { history = refl; answers = read_answers result is why fault can_fail undamaged; same = same }

@@ -17,6 +17,7 @@ use Rattle.lethe_drive.specs.declared.event.Event.TheVariants.{Cancel}
 use Rattle.lethe_drive.specs.declared.event.Reply.{Reply}
 use Rattle.lethe_drive.specs.declared.past.Past.{Past}
 use Rattle.lethe_drive.proofs.Left.{given}
+use Rattle.lethe_drive.proofs.Pins.{let_go}
 
 -- one event more is answered
 pub one_more : (PortsFail : Type 0) (config : Fields) (h : History) (old : Run) (events : List Event) (replies : List Reply) (g : History) (middle : Run) → Steps PortsFail config h old events replies g middle
@@ -70,10 +71,10 @@ numbered None number is = absurd (none-some number is)
 numbered (Some going) number is = (going, refl, same_Some going.number number is)
 
 module _ (PortsFail : Type 0) (config : Fields) (h : History) (start : Moment) (begins : IsMomentOf config h start) (events : List Event) (answered : List Reply) (history : History) (old : View) (s : Stored) (fetches faults begun : ℕ)
-    (there : Option Going) (past : List Past) (steps : Steps PortsFail config h (run_at start []) events answered history (run_at (moment_of old s fetches faults begun there) past))
-    (is_now : IsMomentOf config history (moment_of old s fetches faults begun there)) (earlier : AreEarlier old.rounds past) where
+    (there : Option Going) (snapshots : List ℕ) (past : List Past) (steps : Steps PortsFail config h (run_at start []) events answered history (run_at (moment_of old s fetches faults begun there snapshots) past))
+    (is_now : IsMomentOf config history (moment_of old s fetches faults begun there snapshots)) (earlier : AreEarlier old.rounds past) where
   abbrev now : Moment
-  now = moment_of old s fetches faults begun there
+  now = moment_of old s fetches faults begun there snapshots
 
   abbrev middle : Run
   middle = run_at now past
@@ -83,22 +84,25 @@ module _ (PortsFail : Type 0) (config : Fields) (h : History) (start : Moment) (
   ended = given_steps PortsFail config history now is_now past earlier
 
   -- none is left
-  pub driven_free : number_of there ≡ None → IsDriven PortsFail config h start events (answered ++ given old.state.stopped past) history (moment_of old s fetches faults begun None)
-  driven_free none =
+  pub driven_free : number_of there ≡ None → (end : View) → end ≡ let_go snapshots old → IsMomentOf config history (moment_of end s fetches faults begun None [])
+      → IsDriven PortsFail config h start events (answered ++ given old.state.stopped past) history (moment_of end s fetches faults begun None [])
+  driven_free none end go ends =
       let free : there ≡ None = no_number there none in
       let all : cancels_for middle ≡ cancels_of past = ap (λ (there : Option Going). cancels_of past ++ cancel_for there) free ∙ append-nil (cancels_of past) in
-      subst (λ (left : Option Going). IsDriven PortsFail config h start events (answered ++ given old.state.stopped past) history (moment_of old s fetches faults begun left)) free
-      (record {
+      record {
         begins = begins;
         history = history;
         middle = middle;
         answered = answered;
         steps = steps;
         given_up = given old.state.stopped past;
+        last = now;
         cancels = subst (λ (events : List Event). Steps PortsFail config history middle events (given old.state.stopped past) history (run_at now [])) (sym all) ended;
         replies_are = refl;
-        ended = free;
-      })
+        finish_is = ap (λ (view : View). moment_of view s fetches faults begun None []) go ∙ (λ i. moment_of (let_go snapshots old) s fetches faults begun (sym free i) []);
+        ended = refl;
+        ends = ends;
+      }
 
   module _ (number : ℕ) (left : number_of there ≡ Some number) where
     cancelled : cancels_for middle ≡ cancels_of past ++ Cancel number ∷ []
@@ -106,17 +110,18 @@ module _ (PortsFail : Type 0) (config : Fields) (h : History) (start : Moment) (
         let its = numbered there number left in
         ap (λ (there : Option Going). cancels_of past ++ cancel_for there) its.1 ∙ ap (λ (n : ℕ). cancels_of past ++ Cancel n ∷ []) its.2
 
-    ends : (reply : Reply) (g : History) (finish : Moment) → IsStep PortsFail history now (Cancel number) reply g finish → finish.there ≡ None
-    ends reply g finish (inl none) = let its = numbered there number left in absurd (none.none its.0 (its.1, its.2))
-    ends reply g finish (inr was) = was.4.there
+    gone_behind : (reply : Reply) (g : History) (finish : Moment) → IsStep PortsFail history now (Cancel number) reply g finish → finish.there ≡ None
+    gone_behind reply g finish (inl none) = let its = numbered there number left in absurd (none.none its.0 (its.1, its.2))
+    gone_behind reply g finish (inr was) = was.4.there
 
     -- it is given up
-    pub driven_on : (reply : Reply) (g : History) (new : View) (t : Stored) (behind : ℕ) (last : Option Going) → IsMomentOf config g (moment_of new t fetches faults behind last)
-        → IsLater now (moment_of new t fetches faults behind last) → IsStep PortsFail history now (Cancel number) reply g (moment_of new t fetches faults behind last) → new.rounds ≡ old.rounds
-        → IsDriven PortsFail config h start events (answered ++ (given old.state.stopped past ++ reply ∷ [])) g (moment_of new t fetches faults behind None)
-    driven_on reply g new t behind last is later step rounds =
-        let finish = moment_of new t fetches faults behind last in
-        let gone = ends reply g finish step in
+    pub driven_on : (reply : Reply) (g : History) (new : View) (t : Stored) (behind : ℕ) (last : Option Going) → IsMomentOf config g (moment_of new t fetches faults behind last snapshots)
+        → IsLater now (moment_of new t fetches faults behind last snapshots) → IsStep PortsFail history now (Cancel number) reply g (moment_of new t fetches faults behind last snapshots) → new.rounds ≡ old.rounds → (end : View) → end ≡ let_go snapshots new
+        → IsMomentOf config g (moment_of end t fetches faults behind None [])
+        → IsDriven PortsFail config h start events (answered ++ (given old.state.stopped past ++ reply ∷ [])) g (moment_of end t fetches faults behind None [])
+    driven_on reply g new t behind last is later step rounds end go ends =
+        let finish = moment_of new t fetches faults behind last snapshots in
+        let gone : last ≡ None = gone_behind reply g finish step in
         let none_earlier : (rounds : ℕ) → AreEarlier rounds [] = λ rounds. All-nil (λ (job : Past). job.round < rounds) in
         let event : IsEvent PortsFail history (run_at now []) (Cancel number) reply g (run_at finish []) =
         inr (All-nil (λ (job : Past). job.number ≢ number), (step, record { rounds = rounds; past = refl })) in
@@ -124,24 +129,26 @@ module _ (PortsFail : Type 0) (config : Fields) (h : History) (start : Moment) (
         one_more PortsFail config history middle (cancels_of past) (given old.state.stopped past) history (run_at now []) ended (Cancel number) reply g (run_at finish []) event
         (record { now = is; earlier = none_earlier new.rounds }) later in
         let cancels = subst (λ (events : List Event). Steps PortsFail config history middle events (given old.state.stopped past ++ reply ∷ []) g (run_at finish [])) (sym cancelled) its in
-        subst (λ (last : Option Going). IsDriven PortsFail config h start events (answered ++ (given old.state.stopped past ++ reply ∷ [])) g (moment_of new t fetches faults behind last)) gone
-        (record {
+        record {
           begins = begins;
           history = history;
           middle = middle;
           answered = answered;
           steps = steps;
           given_up = given old.state.stopped past ++ reply ∷ [];
+          last = finish;
           cancels = cancels;
           replies_are = refl;
-          ended = gone;
-        })
+          finish_is = ap (λ (view : View). moment_of view t fetches faults behind None []) go ∙ (λ i. moment_of (let_go snapshots new) t fetches faults behind (sym gone i) []);
+          ended = refl;
+          ends = ends;
+        }
 
 -- A run has ended with the store in this view, over these events and with these replies.
 module _ (PortsFail : Type 0) (config : Fields) (opened : Opened) (h : History) (start : Moment) (fetches faults : ℕ) where
   abbrev pub Ended : View → List Event → List Reply → Type 0
   Ended view events replies =
-      (g : History) × (t : Stored) × IsKnown config g view t × StandsSince config opened g view × (begun : ℕ) × IsDriven PortsFail config h start events replies g (moment_of view t fetches faults begun None)
+      (g : History) × (t : Stored) × IsKnown config g view t × StandsSince config opened g view × (begun : ℕ) × IsDriven PortsFail config h start events replies g (moment_of view t fetches faults begun None [])
 
   pub ended_as : (view : View) (events : List Event) (replies : List Reply) → Ended view events replies → (same : View) (all : List Event) (whole : List Reply) → same ≡ view → all ≡ events → whole ≡ replies
       → Ended same all whole

@@ -29,12 +29,13 @@ use Rattle.lethe_job.specs.declared.made.Made.{Made}
 use Rattle.lethe_job.specs.declared.made.Made.TheVariants.{Files, Left}
 use Rattle.lethe_core.specs.Asked.{Serves, behind, failure_of, refused_to}
 use Rattle.lethe_core.specs.Jobs.{with_page}
-use Rattle.lethe_core.specs.Merges.{HasNoMerge, IsRoomBegun, IsRoomMadeBy, Outcome, retired_behind}
+use Rattle.lethe_core.specs.Merges.{AreRetiredBehind, HasNoMerge, IsRoomBegun, IsRoomMadeBy, Outcome}
 use Rattle.lethe_core.specs.Merges as merges
+use Rattle.lethe_core.specs.Pinned.{AreNamed}
 use Rattle.lethe_core.specs.Reasons.{HasReason, IsShort, IsUnreadable}
 use Rattle.lethe_core.specs.View.{Flying}
 use Rattle.lethe_engine.specs.Refusals.{SeesRoom}
-use Rattle.lethe_drive.specs.Moments.{AreJobsSame, Going, IsAllButPort, IsPortSame, IsUntouched, Moment}
+use Rattle.lethe_drive.specs.Moments.{AreJobsSame, ArePinsSame, Going, IsAllButPort, IsPortSame, IsUntouched, Moment}
 
 -- a store that was stopped refuses
 abbrev pub StopsIn : {T : Type 0} → Moment → Result T Refused → Type 0
@@ -68,7 +69,7 @@ pub record IsChanged (call : Call) (IsNext : Stored → List Header → Record �
   pub next : Record
   pub next_is : IsNext cleared (headers_in new.levels) next
   pub stored : new.stored ≡ appended cleared next
-  pub retired : new.retired ≡ retired_behind outcomes old.retired
+  pub retired : AreRetiredBehind outcomes old.pins.pins old.retired new.retired
   pub fetches : new.fetches ≡ old.fetches + merges.pages_of outcomes
 
 -- there was no room for a record
@@ -93,6 +94,7 @@ pub record IsChange (PortsFail : Type 0) (call : Call) (IsNext : Stored → List
   pub stops : StopsIn old result
   pub last : old.state.stopped ≡ None → old.state.count ≡ max_place → result ≡ Err (Exhausted max_place)
   pub jobs : AreJobsSame old new
+  pub pins : ArePinsSame old new
 
 -- Reads
 
@@ -120,6 +122,7 @@ pub record IsWork (Nothing : Moment → Type 0) (Does : Stored → Stored → Ty
   pub last : old.state.stopped ≡ None → (Nothing old → ⊥) → old.state.count ≡ max_place → result ≡ Err (Exhausted max_place)
   pub jobs : AreJobsSame old new
   pub retired : new.retired ≡ old.retired
+  pub pins : ArePinsSame old new
   pub port : IsPortSame old new
 
 -- Jobs
@@ -161,6 +164,7 @@ pub record IsBegin (h : History) (old : Moment) (result : Result ℕ Refused) (g
   pub state : new.state ≡ old.state
   pub levels : new.levels ≡ old.levels
   pub retired : new.retired ≡ old.retired
+  pub pins : ArePinsSame old new
   pub directory : new.directory ≡ old.directory
   pub calls : new.calls ≡ old.calls
   pub port : IsPortSame old new
@@ -225,6 +229,7 @@ pub record IsWriteOut (PortsFail : Type 0) (going : Going) (h : History) (old : 
   pub history : g ≡ behind h 0 (Serves call.Work) (result_err result)
   pub answers : WriteAnswers PortsFail old going result new
   pub retired : new.retired ≡ old.retired
+  pub pins : ArePinsSame old new
   pub begun : new.begun ≡ old.begun
   pub port : IsPortSame old new
 
@@ -232,10 +237,10 @@ pub record IsWriteOut (PortsFail : Type 0) (going : Going) (h : History) (old : 
 abbrev pub IsShortToInstall : Going → Moment → Type 0
 IsShortToInstall going new = (max_place ≤ new.state.next) ⊎ ((made : Made) × AreOutputsFor going.task made × (max_place ≤ new.state.next + (numbers_in made - length (pages_of made))))
 
--- what is stored is the outcome of its task, and it has ended
+-- what is stored is the outcome of its task, of the pages that it left none is retired but those that a held pin names, and it has ended
 pub record HasInstalled (old : Moment) (going : Going) (new : Moment) : Type 0 where
   pub installed : IsInstalled old.stored going.task new.stored
-  pub retired : new.retired ≡ []
+  pub retired : AreNamed old.pins.pins new.retired
   pub flight : new.flight ≡ None
   pub there : new.there ≡ None
 
@@ -257,6 +262,7 @@ InstallAnswers PortsFail old going (Err why) new = IsUninstalled PortsFail old g
 pub record IsInstall (PortsFail : Type 0) (going : Going) (h : History) (old : Moment) (result : Result (Unit {0}) Refused) (g : History) (new : Moment) : Type 0 where
   pub history : g ≡ behind h 0 (Serves call.Work) (result_err result)
   pub answers : InstallAnswers PortsFail old going result new
+  pub pins : ArePinsSame old new
   pub begun : new.begun ≡ old.begun
   pub port : IsPortSame old new
 
@@ -285,5 +291,6 @@ pub record IsCancel (h : History) (old : Moment) (result : Result (Unit {0}) Ref
   pub stored : (done : Unit {0}) → result ≡ Ok done → new.stored ≡ old.stored
   pub untouched : IfErr result (λ why. failure_of why ≡ None → IsUntouched old new)
   pub retired : new.retired ≡ old.retired
+  pub pins : ArePinsSame old new
   pub begun : new.begun ≡ old.begun
   pub port : IsPortSame old new

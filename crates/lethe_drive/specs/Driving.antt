@@ -17,12 +17,14 @@ use Rattle.lethe_core.specs.Jobs.{IsAtWork, IsInFlight}
 use Rattle.lethe_core.specs.View.{Flying, View}
 use Rattle.lethe_drive.specs.Moments.{IsMomentOf, Moment}
 use Rattle.lethe_drive.specs.Past.{Run}
+use Rattle.lethe_drive.specs.Pins.{all_released}
 use Rattle.lethe_drive.specs.Steps.{Steps, cancels_for}
 use Rattle.lethe_drive.specs.declared.jobs.Jobs.{Jobs}
 use Rattle.lethe_drive.specs.declared.event.Event.{Event}
 use Rattle.lethe_drive.specs.declared.event.Reply.{Reply}
 
--- The events are answered one after another, and then the jobs that haven't ended are given up, whose replies stand behind those of the events.
+-- The events are answered one after another, then the jobs that haven't ended are given up, whose replies stand behind those of the events, and then the pins that the run made
+-- and still holds are let go, without replies.
 pub record IsDriven (PortsFail : Type 0) (config : Fields) (h : History) (start : Moment) (events : List Event) (replies : List Reply) (g : History) (finish : Moment) : Type 0 where
   pub begins : IsMomentOf config h start
   pub history : History
@@ -30,9 +32,12 @@ pub record IsDriven (PortsFail : Type 0) (config : Fields) (h : History) (start 
   pub answered : List Reply
   pub steps : Steps PortsFail config h (record { now = start; past = [] }) events answered history middle
   pub given_up : List Reply
-  pub cancels : Steps PortsFail config history middle (cancels_for middle) given_up g (record { now = finish; past = [] })
+  pub last : Moment
+  pub cancels : Steps PortsFail config history middle (cancels_for middle) given_up g (record { now = last; past = [] })
   pub replies_are : replies ≡ answered ++ given_up
+  pub finish_is : finish ≡ all_released last
   pub ended : finish.there ≡ None
+  pub ends : IsMomentOf config g finish
 
 -- The job that hasn't ended is in flight, and unless one of its calls was refused the pages that were written are the first of its outputs. The pages of its inputs
 -- agree with their headers.
@@ -56,7 +61,7 @@ pub record IsWrittenOn (old new : Option Flying) : Type 0 where
   pub pages : List (Name × List ℕ)
   pub is : new ≡ Some (record flying { written = flying.written ++ pages })
 
--- what is stored stays while pages of a job are written
+-- what is stored stays while pages of a job are written, and the same pins are held
 pub record IsWritingOn (PortsFail : Type 0) (old new : View) (before now : ℕ) (s t : Stored) (result : Result (Unit {0}) Refused) : Type 0 where
   pub done : OnOk result (t ≡ s)
   pub why : IfErr result (λ why. ((b : ℕ) × (n : ℕ) × (old.faults ≤ b) × (n ≤ new.faults) × HasReason (max_place ≤ new.state.next) old.state b n why)
@@ -64,3 +69,4 @@ pub record IsWritingOn (PortsFail : Type 0) (old new : View) (before now : ℕ) 
   pub kept : IfErr result (λ why. failure_of why ≡ None → t ≡ s)
   pub flight : IsWrittenOn old.flight new.flight
   pub retired : new.retired ≡ old.retired
+  pub pins : new.pins ≡ old.pins

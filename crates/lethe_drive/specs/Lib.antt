@@ -2,6 +2,7 @@ pub mod Moments
 pub mod Replies
 pub mod Answers
 pub mod Ticks
+pub mod Pins
 pub mod Past
 pub mod Runs
 pub mod Steps

@@ -1,5 +1,5 @@
 -- What is told of a store between two calls of a run, as plain data.
-use Rattle.std.specs.Prelude.{◌≡◌, ◌≤◌, ℕ, Bool, false, List, [], ◌∷◌, ◌++◌, length, Option, Some, None, option_map, IfSome}
+use Rattle.std.specs.Prelude.{◌≡◌, ◌⊎◌, ◌≤◌, ℕ, Bool, false, List, [], ◌∷◌, ◌++◌, length, map, Contains, Option, Some, None, option_map, IfSome, IsTrue}
 use Rattle.lethe_base.specs.History.{AreDone, Change, History, IsLegal}
 use Rattle.lethe_base.specs.declared.call.Did.TheVariants.{Failed}
 use Rattle.lethe_base.specs.declared.config.Fields.{Fields}
@@ -12,11 +12,14 @@ use Rattle.lethe_stored.specs.Kept.{IsFor}
 use Rattle.lethe_stored.specs.Left.{without_failed}
 use Rattle.lethe_stored.specs.Stored.{Stored}
 use Rattle.lethe_advance.specs.Settled.{HasOnly}
+use Rattle.lethe_pins.specs.Held.{Held, is_named}
+use Rattle.lethe_snapshot.specs.declared.snapshot.Snapshot.{Snapshot}
 use Rattle.lethe_state.specs.Records.{IsLike}
 use Rattle.lethe_state.specs.Remembered.{Remembers, IsCurrent}
 use Rattle.lethe_state.specs.declared.state.State.{State}
 use Rattle.lethe_job.specs.Works.{PlainTask, plain_task}
 use Rattle.lethe_job.specs.declared.job.Job.{Job}
+use Rattle.lethe_core.specs.Pinned.{pages_in}
 use Rattle.lethe_core.specs.Running.{Holds, IsTasked}
 use Rattle.lethe_core.specs.View.{Flying, View, beside_at}
 use Rattle.lethe_drive.specs.declared.jobs.Jobs.{Jobs}
@@ -31,13 +34,15 @@ pub record Going : Type 0 where
   pub written : ℕ
   pub port_faults : ℕ
 
--- The store with what is stored and the pages that are retired, its disk's directory, the device calls that the disk has taken and its count of faults; the port's counts; how
--- many rounds have ended; and the jobs of the run that were begun in the present one.
+-- The store with what is stored, the pages that are retired and the pins that are held, its disk's directory, the device calls that the disk has taken and its count of faults; the
+-- port's counts; how many rounds have ended; the jobs of the run that were begun in the present one; and the numbers of the pins that the run made and holds, in the order in
+-- which they were made.
 pub record Moment : Type 0 where
   pub stored : Stored
   pub state : State
   pub levels : List (List Parts)
   pub retired : List Name
+  pub pins : Held
   pub flight : Option Flying
   pub directory : Directory
   pub calls : ℕ
@@ -47,6 +52,7 @@ pub record Moment : Type 0 where
   pub rounds : ℕ
   pub begun : ℕ
   pub there : Option Going
+  pub snapshots : List ℕ
 
 -- What is stored stands for the history without what failed, and the store remembers it. Unless something has failed the disk is in its hands.
 pub record IsKnown (config : Fields) (h : History) (view : View) (s : Stored) : Type 0 where
@@ -69,7 +75,8 @@ pub record IsGoing (flight : Option Flying) (going : Going) : Type 0 where
   pub pages : going.refused ≡ false → length flying.written ≡ going.written
 
 -- A store of the configuration whose calls make the history. What is stored stands for that without what failed, and the store remembers it. Unless something has failed the
--- directory has what is stored, the retired pages and those of the job in flight, and nothing else, and the job merges or sweeps files that are stored.
+-- directory has what is stored, the retired pages and those of the job in flight, and nothing else, each page that a held pin names is one of a stored file or retired, and the job
+-- merges or sweeps files that are stored.
 pub record IsMomentOf (config : Fields) (h : History) (m : Moment) : Type 0 where
   pub legal : IsLegal h
   pub count : m.state.count ≡ length h
@@ -80,6 +87,7 @@ pub record IsMomentOf (config : Fields) (h : History) (m : Moment) : Type 0 wher
   pub current : m.state.stopped ≡ None → IsCurrent m.stored m.state
   pub encodes : m.state.stopped ≡ None → Encodes m.directory m.stored
   pub only : m.state.stopped ≡ None → HasOnly m.stored (beside_at m.directory m.retired m.flight) m.directory
+  pub kept : m.state.stopped ≡ None → (name : Name) → IsTrue (is_named m.pins.pins name) → Contains (pages_in m.stored.files) name ⊎ Contains m.retired name
   pub tasked : m.state.stopped ≡ None → IfSome m.flight (IsTasked m.stored)
   pub going : IfSome m.there (IsGoing m.flight)
 
@@ -96,13 +104,18 @@ going_of {kind = kind} number job = record {
 abbrev pub there_of : {D Page Port : Type 0} {kind : Ghosts D Page Port} → Jobs D Page Port kind → Option Going
 there_of jobs = option_map (λ numbered. going_of numbered.number numbered.job) jobs.there
 
--- read off a store, a port with these counts, how many jobs were begun, and the one that hasn't ended
-abbrev pub moment_of : View → Stored → ℕ → ℕ → ℕ → Option Going → Moment
-moment_of view stored fetches port_faults begun there = record {
+-- the numbers of a run's pins
+abbrev pub numbers_of : {D Page Port : Type 0} {kind : Ghosts D Page Port} → List (Snapshot D Page Port kind) → List ℕ
+numbers_of snapshots = map (λ snapshot. snapshot.number) snapshots
+
+-- read off a store, a port with these counts, how many jobs were begun, the one that hasn't ended, and the run's pins
+abbrev pub moment_of : View → Stored → ℕ → ℕ → ℕ → Option Going → List ℕ → Moment
+moment_of view stored fetches port_faults begun there snapshots = record {
   stored = stored;
   state = view.state;
   levels = view.levels;
   retired = view.retired;
+  pins = view.pins;
   flight = view.flight;
   directory = view.disk.directory;
   calls = view.disk.moment;
@@ -112,27 +125,31 @@ moment_of view stored fetches port_faults begun there = record {
   rounds = view.rounds;
   begun = begun;
   there = there;
+  snapshots = snapshots;
 }
 
--- the same store and jobs, whatever the port's counts
+-- the same store, jobs and pins, whatever the port's counts
 pub record IsAllButPort (old new : Moment) : Type 0 where
   pub stored : new.stored ≡ old.stored
   pub state : new.state ≡ old.state
   pub levels : new.levels ≡ old.levels
   pub retired : new.retired ≡ old.retired
+  pub pins : new.pins ≡ old.pins
   pub flight : new.flight ≡ old.flight
   pub directory : new.directory ≡ old.directory
   pub calls : new.calls ≡ old.calls
   pub faults : new.faults ≡ old.faults
   pub begun : new.begun ≡ old.begun
   pub there : new.there ≡ old.there
+  pub snapshots : new.snapshots ≡ old.snapshots
 
--- all is as it was, but for memory that was reserved, device calls that were taken back, and the jobs
+-- all is as it was, but for memory that was reserved, device calls that were taken back, the jobs and the run's own pins
 pub record IsUntouched (old new : Moment) : Type 0 where
   pub stored : new.stored ≡ old.stored
   pub state : IsLike old.state new.state
   pub levels : new.levels ≡ old.levels
   pub retired : new.retired ≡ old.retired
+  pub pins : new.pins ≡ old.pins
   pub directory : new.directory ≡ old.directory
 
 -- counts of faults never fall
@@ -145,6 +162,11 @@ pub record AreJobsSame (old new : Moment) : Type 0 where
   pub flight : new.flight ≡ old.flight
   pub begun : new.begun ≡ old.begun
   pub there : new.there ≡ old.there
+
+-- the same pins are held, and the same of them by the run
+pub record ArePinsSame (old new : Moment) : Type 0 where
+  pub held : new.pins ≡ old.pins
+  pub snapshots : new.snapshots ≡ old.snapshots
 
 -- the port's counts are as they were
 pub record IsPortSame (old new : Moment) : Type 0 where

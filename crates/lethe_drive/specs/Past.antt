@@ -5,7 +5,7 @@ use Rattle.lethe_base.specs.declared.refused.Refused.{Refused}
 use Rattle.lethe_base.specs.declared.refused.Refused.TheVariants.{Cancelled, Stopped}
 use Rattle.lethe_drive.specs.Moments.{Going, Moment}
 use Rattle.lethe_drive.specs.declared.event.Event.{Event}
-use Rattle.lethe_drive.specs.declared.event.Event.TheVariants.{Put, Delete, Erase, Tick, Get, Scan, Freeze, Flush, Begin, WriteOut, Install, Cancel}
+use Rattle.lethe_drive.specs.declared.event.Event.TheVariants.{Put, Delete, Erase, Tick, Get, Scan, Freeze, Flush, Begin, WriteOut, Install, Cancel, Pin, Release}
 use Rattle.lethe_drive.specs.declared.event.Reply.{Reply}
 use Rattle.lethe_drive.specs.declared.event.Reply.TheVariants as reply
 use Rattle.lethe_drive.specs.declared.past.Past.{Past}
@@ -24,6 +24,8 @@ named_by (Scan lo hi) = None
 named_by Freeze = None
 named_by Flush = None
 named_by Begin = None
+named_by Pin = None
+named_by (Release pin) = None
 
 -- it asks for a tick
 abbrev pub IsTickAsked : Event → Type 0
@@ -39,6 +41,8 @@ IsTickAsked Begin = ⊥
 IsTickAsked (WriteOut job) = ⊥
 IsTickAsked (Install job) = ⊥
 IsTickAsked (Cancel job) = ⊥
+IsTickAsked Pin = ⊥
+IsTickAsked (Release pin) = ⊥
 
 -- what is left of a job where its round ends
 abbrev pub left_of : Going → Past

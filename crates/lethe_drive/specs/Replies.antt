@@ -30,6 +30,10 @@ abbrev pub numbered : Result ℕ Refused → Reply
 numbered (Ok number) = reply.Job number
 numbered (Err why) = reply.Refused why
 
+abbrev pub pinned : Result ℕ Refused → Reply
+pinned (Ok number) = reply.Pinned number
+pinned (Err why) = reply.Refused why
+
 abbrev pub united : Result (Unit {0}) Refused → Reply
 united (Ok done) = reply.Unit
 united (Err why) = reply.Refused why

@@ -15,10 +15,11 @@ use Rattle.lethe_engine.specs.declared.ticking.Ticked.{Ticked}
 use Rattle.lethe_drive.specs.Answers.{IsBegin, IsCancel, IsChange, IsInstall, IsRead, IsWork, IsWriteOut}
 use Rattle.lethe_drive.specs.Moments.{Going, IsLater, IsMomentOf, Moment}
 use Rattle.lethe_drive.specs.Past.{AreEarlier, IsNoneOf, IsPastGivenUp, IsPastRefused, IsRoundEnded, IsRoundKept, Run}
-use Rattle.lethe_drive.specs.Replies.{flagged, got, numbered, paired, placed, told, united}
+use Rattle.lethe_drive.specs.Pins.{IsNoPin, IsPin, IsReleased}
+use Rattle.lethe_drive.specs.Replies.{flagged, got, numbered, paired, pinned, placed, told, united}
 use Rattle.lethe_drive.specs.Ticks.{IsTick}
 use Rattle.lethe_drive.specs.declared.event.Event.{Event}
-use Rattle.lethe_drive.specs.declared.event.Event.TheVariants.{Put, Delete, Erase, Tick, Get, Scan, Freeze, Flush, Begin, WriteOut, Install, Cancel}
+use Rattle.lethe_drive.specs.declared.event.Event.TheVariants.{Put, Delete, Erase, Tick, Get, Scan, Freeze, Flush, Begin, WriteOut, Install, Cancel, Pin, Release}
 use Rattle.lethe_drive.specs.declared.event.Reply.{Reply}
 use Rattle.lethe_drive.specs.declared.event.Reply.TheVariants.{NoSuch}
 
@@ -60,6 +61,8 @@ IsStep PortsFail h old (Install job) reply g new =
 IsStep PortsFail h old (Cancel job) reply g new =
     IsNoSuch (IsThere job old) h old reply g new
     ⊎ ((going : Going) × IsThere job old going × (result : Result (Unit {0}) Refused) × (reply ≡ united result) × IsCancel h old result g new)
+IsStep PortsFail h old Pin reply g new = (result : Result ℕ Refused) × (reply ≡ pinned result) × IsPin h old result g new
+IsStep PortsFail h old (Release pin) reply g new = IsNoPin pin h old reply g new ⊎ IsReleased pin h old reply g new
 
 -- one that goes on in the present round
 abbrev pub IsPresent : Type 0 → History → Run → Event → Reply → History → Run → Type 0
@@ -79,6 +82,8 @@ IsEvent PortsFail h old (Scan lo hi) reply g new = IsPresent PortsFail h old (Sc
 IsEvent PortsFail h old Freeze reply g new = IsPresent PortsFail h old Freeze reply g new
 IsEvent PortsFail h old Flush reply g new = IsPresent PortsFail h old Flush reply g new
 IsEvent PortsFail h old Begin reply g new = IsPresent PortsFail h old Begin reply g new
+IsEvent PortsFail h old Pin reply g new = IsPresent PortsFail h old Pin reply g new
+IsEvent PortsFail h old (Release pin) reply g new = IsPresent PortsFail h old (Release pin) reply g new
 
 -- the store is at a moment of the history, and the jobs of earlier rounds are of such
 pub record IsRunOf (config : Fields) (h : History) (run : Run) : Type 0 where

@@ -1,5 +1,5 @@
 //! Answering one event.
-ghost use Rattle.std.specs.Prelude.{◌≡◌, ◌⊎◌, ◌≤◌, ◌<◌, ◌+◌, ◌^◌, None};
+ghost use Rattle.std.specs.Prelude.{◌≡◌, ◌⊎◌, ◌≤◌, ◌<◌, ◌+◌, ◌^◌, ℕ, List, None, length, vec_capacity};
 ghost use Rattle.lethe_base.specs.Limits.{max_time};
 ghost use Rattle.lethe_base.specs.History.{History};
 ghost use Rattle.lethe_base.specs.declared.config.Fields.{Fields};
@@ -8,7 +8,7 @@ ghost use Rattle.lethe_core.specs.Running.{IsSound};
 ghost use Rattle.lethe_core.specs.View.{view_of};
 ghost use Rattle.lethe_engine.specs.StandsFor.{Opened, StandsSince};
 ghost use Rattle.lethe_drive.specs.Driving.{IsTheirs};
-ghost use Rattle.lethe_drive.specs.Moments.{IsKnown, moment_of, there_of};
+ghost use Rattle.lethe_drive.specs.Moments.{IsKnown, moment_of, numbers_of, there_of};
 ghost use Rattle.lethe_drive.specs.Past.{IsTickAsked};
 ghost use Rattle.lethe_drive.specs.Steps.{IsStep};
 ghost use Rattle.lethe_drive.specs.Ticks.{IsTick};
@@ -16,10 +16,12 @@ ghost use Rattle.lethe_drive.specs.Replies as replies;
 
 use crate::event::{Event, Reply};
 use crate::jobs::Jobs;
+use crate::pinning::{pin, release};
 use crate::working::{begin, cancel, install, write_out};
 use lethe_base::{List, Refused};
 use lethe_disk::Disk;
 use lethe_engine::{Engine, Ticked};
+use lethe_snapshot::Snapshot;
 use std::alloc::Global;
 
 /// Makes the call that the event asks for.
@@ -28,19 +30,23 @@ pub(crate) fn answer<D: Disk>(
     alloc: Global,
     port: &mut D::Port,
     jobs: &mut Jobs<D>,
+    snapshots: &mut Vec<Snapshot<D>>,
     event: Event,
 ) -> Reply
     requires sound { IsSound D.tells (view_of engine.old.core) }
     requires jobs { IsTheirs D.tells (view_of engine.old.core) jobs.old }
     requires room { jobs.old.begun < 2 ^ 63 }
+    requires space { length snapshots.old.items < vec_capacity snapshots.old }
     ensures sound { IsSound D.tells (view_of engine.new.core) }
     ensures jobs { IsTheirs D.tells (view_of engine.new.core) jobs.new }
     ensures step { D.tells → (config : Fields) (opened : Opened) (h : History) → StandsSince config opened h (view_of engine.old.core) → (s : Stored) → IsKnown config h (view_of engine.old.core) s
         → (g : History) × (t : Stored) × IsKnown config g (view_of engine.new.core) t × StandsSince config opened g (view_of engine.new.core)
-        × IsStep D.ports_fail h (moment_of (view_of engine.old.core) s (D.fetches port.old) (D.port_faults port.old) jobs.old.begun (there_of jobs.old)) event result g (moment_of (view_of engine.new.core) t (D.fetches port.new) (D.port_faults port.new) jobs.new.begun (there_of jobs.new)) }
+        × IsStep D.ports_fail h (moment_of (view_of engine.old.core) s (D.fetches port.old) (D.port_faults port.old) jobs.old.begun (there_of jobs.old) (numbers_of snapshots.old.items)) event result g (moment_of (view_of engine.new.core) t (D.fetches port.new) (D.port_faults port.new) jobs.new.begun (there_of jobs.new) (numbers_of snapshots.new.items)) }
     ensures faults { D.faults engine.old.core.disk ≤ D.faults engine.new.core.disk }
     ensures port_faults { D.port_faults port.old ≤ D.port_faults port.new }
     ensures begun { jobs.new.begun ≤ jobs.old.begun + 1 }
+    ensures more { length snapshots.new.items ≤ length snapshots.old.items + 1 }
+    ensures space { vec_capacity snapshots.old ≤ vec_capacity snapshots.new }
     // Only a tick ends a round, and then no job is there.
     ensures rounds { (engine.new.core.begun.rounds ≡ engine.old.core.begun.rounds) ⊎ (IsTickAsked event × (engine.new.core.begun.rounds ≡ engine.old.core.begun.rounds + 1) × (jobs.new.there ≡ None)) }
 {
@@ -63,6 +69,8 @@ pub(crate) fn answer<D: Disk>(
         Event::WriteOut { job } => write_out(engine, alloc, jobs, job),
         Event::Install { job } => install(engine, alloc, jobs, job),
         Event::Cancel { job } => cancel(engine, jobs, job),
+        Event::Pin => pin(engine, alloc, snapshots),
+        Event::Release { pin } => release(engine, snapshots, pin),
     }
 }
 
@@ -89,9 +97,9 @@ fn tick<D: Disk>(
     requires within { to ≤ max_time }
     ensures sound { IsSound D.tells (view_of engine.new.core) }
     ensures jobs { IsTheirs D.tells (view_of engine.new.core) jobs.new }
-    ensures step { D.tells → (config : Fields) (opened : Opened) (h : History) → StandsSince config opened h (view_of engine.old.core) → (s : Stored) → IsKnown config h (view_of engine.old.core) s
+    ensures step { D.tells → (config : Fields) (opened : Opened) (h : History) → StandsSince config opened h (view_of engine.old.core) → (s : Stored) → IsKnown config h (view_of engine.old.core) s → (snapshots : List ℕ)
         → (g : History) × (t : Stored) × IsKnown config g (view_of engine.new.core) t × StandsSince config opened g (view_of engine.new.core)
-        × IsTick D.ports_fail to h (moment_of (view_of engine.old.core) s (D.fetches port.old) (D.port_faults port.old) jobs.old.begun (there_of jobs.old)) result g (moment_of (view_of engine.new.core) t (D.fetches port.new) (D.port_faults port.new) jobs.new.begun (there_of jobs.new)) }
+        × IsTick D.ports_fail to h (moment_of (view_of engine.old.core) s (D.fetches port.old) (D.port_faults port.old) jobs.old.begun (there_of jobs.old) snapshots) result g (moment_of (view_of engine.new.core) t (D.fetches port.new) (D.port_faults port.new) jobs.new.begun (there_of jobs.new) snapshots) }
     ensures faults { D.faults engine.old.core.disk ≤ D.faults engine.new.core.disk }
     ensures port_faults { D.port_faults port.old ≤ D.port_faults port.new }
     ensures begun { jobs.new.begun ≡ jobs.old.begun }

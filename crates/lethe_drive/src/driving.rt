@@ -1,5 +1,5 @@
 //! Driving a store through a run of events.
-ghost use Rattle.std.specs.Prelude.{◌≡◌, ◌≤◌, ◌+◌, ◌*◌, ℕ, None, IfOk, IfErr, IfSome};
+ghost use Rattle.std.specs.Prelude.{◌≡◌, ◌≤◌, ◌+◌, ◌*◌, ℕ, [], None, IfOk, IfErr, IfSome};
 ghost use Rattle.lethe_base.specs.History.{History};
 ghost use Rattle.lethe_base.specs.declared.config.Fields.{Fields};
 ghost use Rattle.lethe_stored.specs.Stored.{Stored};
@@ -12,6 +12,7 @@ ghost use Rattle.lethe_drive.specs.Moments.{IsKnown, moment_of};
 use crate::event::{Event, Reply};
 use crate::jobs::Jobs;
 use crate::past::give_up;
+use crate::pinning::release_all;
 use crate::rounds::answer_any;
 use crate::working::cancel;
 use lethe_base::NoMemory;
@@ -20,11 +21,11 @@ use lethe_engine::Engine;
 use std::alloc::Global;
 
 /// Makes the calls that the events ask for, in order, and reads through the port. Jobs are numbered by their begin, from 0. At the end the jobs that haven't ended are
-/// given up, and the reply of each stands behind those of the events.
+/// given up, and the reply of each stands behind those of the events. Then the pins that the run made and hasn't let go are let go, without replies.
 ///
 /// # Errors
 ///
-/// `NoMemory` where there is no room for all replies and jobs: it is taken before the first event, and then nothing was made.
+/// `NoMemory` where there is no room for all replies, jobs and pins: it is taken before the first event, and then nothing was made.
 pub fn drive<D: Disk>(
     engine: &mut Engine<D>,
     alloc: Global,
@@ -38,8 +39,8 @@ pub fn drive<D: Disk>(
     // Over a store that stands for a history, the replies are those of the steps from it to another, for which the store stands behind them.
     ensures driven { D.tells → (config : Fields) (opened : Opened) (h : History) → StandsSince config opened h (view_of engine.old.core) → (s : Stored) → IsKnown config h (view_of engine.old.core) s
         → IfOk result (λ replies. (g : History) × (t : Stored) × IsKnown config g (view_of engine.new.core) t × StandsSince config opened g (view_of engine.new.core)
-        × (begun : ℕ) × IsDriven D.ports_fail config h (moment_of (view_of engine.old.core) s (D.fetches port.old) (D.port_faults port.old) 0 None) events.items replies.items g
-        (moment_of (view_of engine.new.core) t (D.fetches port.new) (D.port_faults port.new) begun None)) }
+        × (begun : ℕ) × IsDriven D.ports_fail config h (moment_of (view_of engine.old.core) s (D.fetches port.old) (D.port_faults port.old) 0 None []) events.items replies.items g
+        (moment_of (view_of engine.new.core) t (D.fetches port.new) (D.port_faults port.new) begun None [])) }
     ensures untouched { IfErr result (λ why. (engine.new ≡ engine.old) × (port.new ≡ port.old)) }
     ensures faults { D.faults engine.old.core.disk ≤ D.faults engine.new.core.disk }
 {
@@ -49,12 +50,21 @@ pub fn drive<D: Disk>(
     };
     let mut replies = Vec::with_capacity(alloc, room)?;
     let mut past = Vec::with_capacity(alloc, count)?;
+    let mut snapshots = Vec::with_capacity(alloc, count)?;
     let mut jobs = Jobs {
         begun: 0,
         there: None,
     };
     for event in events {
-        let reply = answer_any(engine, alloc, port, &mut jobs, &mut past, event);
+        let reply = answer_any(
+            engine,
+            alloc,
+            port,
+            &mut jobs,
+            &mut past,
+            &mut snapshots,
+            event,
+        );
         replies.push(reply).unwrap();
     }
     while !past.is_empty() {
@@ -63,6 +73,7 @@ pub fn drive<D: Disk>(
     if let Some(number) = jobs.number() {
         replies.push(cancel(engine, &mut jobs, number)).unwrap();
     }
+    release_all(engine, snapshots);
     Ok(replies)
 }
 

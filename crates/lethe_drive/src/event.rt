@@ -28,6 +28,10 @@ pub enum Event {
     Install { job: usize },
     /// Gives the job up.
     Cancel { job: usize },
+    /// Pins what the store holds now.
+    Pin,
+    /// Lets a pin go that the run made.
+    Release { pin: u64 },
 }
 
 impl Event {
@@ -57,9 +61,12 @@ pub enum Reply {
     Flag(bool),
     /// The number of a job that was begun.
     Job(usize),
-    /// A job was installed or given up.
+    /// The number of a pin that was made. Pins are numbered from 1, in the order in which they were made since the store was opened.
+    Pinned(u64),
+    /// A job was installed or given up, or a pin was let go.
     Unit,
     Refused(Refused),
-    /// The event names a job that isn't there: it was never begun, it has ended, or one of its calls was refused and the event doesn't give it up.
+    /// The event names a job that isn't there: it was never begun, it has ended, or one of its calls was refused and the event doesn't give it up. Or it names a pin that the run
+    /// hasn't made, or has let go.
     NoSuch,
 }

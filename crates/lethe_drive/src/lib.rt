@@ -7,6 +7,7 @@ mod event;
 mod jobs;
 mod laws;
 mod past;
+mod pinning;
 mod rounds;
 mod working;
 

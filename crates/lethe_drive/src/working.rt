@@ -1,5 +1,5 @@
 //! The events of jobs.
-ghost use Rattle.std.specs.Prelude.{◌≡◌, ◌≤◌, ◌<◌, ◌+◌, ◌^◌, ℕ, true, false, Ok, Some, None, IsErrOf, IsSome, OnErr, OnOk};
+ghost use Rattle.std.specs.Prelude.{◌≡◌, ◌≤◌, ◌<◌, ◌+◌, ◌^◌, ℕ, List, true, false, Ok, Some, None, IsErrOf, IsSome, OnErr, OnOk};
 ghost use Rattle.std.specs.Result.{result_err};
 ghost use Rattle.lethe_base.specs.declared.call.Call.TheVariants.{Work};
 ghost use Rattle.lethe_base.specs.History.{History};
@@ -35,9 +35,9 @@ pub(crate) fn begin<D: Disk>(engine: &mut Engine<D>, alloc: Global, jobs: &mut J
     requires room { jobs.old.begun < 2 ^ 63 }
     ensures sound { IsSound D.tells (view_of engine.new.core) }
     ensures jobs { IsTheirs D.tells (view_of engine.new.core) jobs.new }
-    ensures step { D.tells → (config : Fields) (opened : Opened) (h : History) → StandsSince config opened h (view_of engine.old.core) → (s : Stored) → IsKnown config h (view_of engine.old.core) s → (fetches faults : ℕ)
+    ensures step { D.tells → (config : Fields) (opened : Opened) (h : History) → StandsSince config opened h (view_of engine.old.core) → (s : Stored) → IsKnown config h (view_of engine.old.core) s → (fetches faults : ℕ) (snapshots : List ℕ)
         → (g : History) × (t : Stored) × IsKnown config g (view_of engine.new.core) t × StandsSince config opened g (view_of engine.new.core)
-        × IsStep D.ports_fail h (moment_of (view_of engine.old.core) s fetches faults jobs.old.begun (there_of jobs.old)) event.Begin result g (moment_of (view_of engine.new.core) t fetches faults jobs.new.begun (there_of jobs.new)) }
+        × IsStep D.ports_fail h (moment_of (view_of engine.old.core) s fetches faults jobs.old.begun (there_of jobs.old) snapshots) event.Begin result g (moment_of (view_of engine.new.core) t fetches faults jobs.new.begun (there_of jobs.new) snapshots) }
     ensures rounds { engine.new.core.begun.rounds ≡ engine.old.core.begun.rounds }
     ensures faults { D.faults engine.old.core.disk ≤ D.faults engine.new.core.disk }
     ensures begun { jobs.new.begun ≤ jobs.old.begun + 1 }
@@ -64,9 +64,9 @@ pub(crate) fn write_out<D: Disk>(
     requires jobs { IsTheirs D.tells (view_of engine.old.core) jobs.old }
     ensures sound { IsSound D.tells (view_of engine.new.core) }
     ensures jobs { IsTheirs D.tells (view_of engine.new.core) jobs.new }
-    ensures step { D.tells → (config : Fields) (opened : Opened) (h : History) → StandsSince config opened h (view_of engine.old.core) → (s : Stored) → IsKnown config h (view_of engine.old.core) s → (fetches faults : ℕ)
+    ensures step { D.tells → (config : Fields) (opened : Opened) (h : History) → StandsSince config opened h (view_of engine.old.core) → (s : Stored) → IsKnown config h (view_of engine.old.core) s → (fetches faults : ℕ) (snapshots : List ℕ)
         → (g : History) × (t : Stored) × IsKnown config g (view_of engine.new.core) t × StandsSince config opened g (view_of engine.new.core)
-        × IsStep D.ports_fail h (moment_of (view_of engine.old.core) s fetches faults jobs.old.begun (there_of jobs.old)) (event.WriteOut number) result g (moment_of (view_of engine.new.core) t fetches faults jobs.new.begun (there_of jobs.new)) }
+        × IsStep D.ports_fail h (moment_of (view_of engine.old.core) s fetches faults jobs.old.begun (there_of jobs.old) snapshots) (event.WriteOut number) result g (moment_of (view_of engine.new.core) t fetches faults jobs.new.begun (there_of jobs.new) snapshots) }
     ensures rounds { engine.new.core.begun.rounds ≡ engine.old.core.begun.rounds }
     ensures faults { D.faults engine.old.core.disk ≤ D.faults engine.new.core.disk }
     ensures begun { jobs.new.begun ≡ jobs.old.begun }
@@ -100,10 +100,10 @@ fn write_next<D: Disk>(
     // Once its outputs are made nothing is read.
     ensures read { IsSome job.old.made → (before now : ℕ) → IsErrOf result (ReadFault before now) → ⊥ }
     ensures made { OnOk result (IsSome job.new.made) }
-    ensures step { D.tells → (config : Fields) (opened : Opened) (h : History) → StandsSince config opened h (view_of engine.old.core) → (s : Stored) → IsKnown config h (view_of engine.old.core) s → (number fetches faults begun : ℕ)
+    ensures step { D.tells → (config : Fields) (opened : Opened) (h : History) → StandsSince config opened h (view_of engine.old.core) → (s : Stored) → IsKnown config h (view_of engine.old.core) s → (number fetches faults begun : ℕ) (snapshots : List ℕ)
         → (t : Stored) × IsKnown config (behind h 0 (Serves Work) (result_err result)) (view_of engine.new.core) t × StandsSince config opened (behind h 0 (Serves Work) (result_err result)) (view_of engine.new.core)
-        × IsWriteOut D.ports_fail (going_of number job.old) h (moment_of (view_of engine.old.core) s fetches faults begun (Some (going_of number job.old))) result
-        (behind h 0 (Serves Work) (result_err result)) (moment_of (view_of engine.new.core) t fetches faults begun (Some (going_of number job.new))) }
+        × IsWriteOut D.ports_fail (going_of number job.old) h (moment_of (view_of engine.old.core) s fetches faults begun (Some (going_of number job.old)) snapshots) result
+        (behind h 0 (Serves Work) (result_err result)) (moment_of (view_of engine.new.core) t fetches faults begun (Some (going_of number job.new)) snapshots) }
     ensures rounds { engine.new.core.begun.rounds ≡ engine.old.core.begun.rounds }
     ensures faults { D.faults engine.old.core.disk ≤ D.faults engine.new.core.disk }
 {
@@ -127,9 +127,9 @@ pub(crate) fn install<D: Disk>(
     requires jobs { IsTheirs D.tells (view_of engine.old.core) jobs.old }
     ensures sound { IsSound D.tells (view_of engine.new.core) }
     ensures jobs { IsTheirs D.tells (view_of engine.new.core) jobs.new }
-    ensures step { D.tells → (config : Fields) (opened : Opened) (h : History) → StandsSince config opened h (view_of engine.old.core) → (s : Stored) → IsKnown config h (view_of engine.old.core) s → (fetches faults : ℕ)
+    ensures step { D.tells → (config : Fields) (opened : Opened) (h : History) → StandsSince config opened h (view_of engine.old.core) → (s : Stored) → IsKnown config h (view_of engine.old.core) s → (fetches faults : ℕ) (snapshots : List ℕ)
         → (g : History) × (t : Stored) × IsKnown config g (view_of engine.new.core) t × StandsSince config opened g (view_of engine.new.core)
-        × IsStep D.ports_fail h (moment_of (view_of engine.old.core) s fetches faults jobs.old.begun (there_of jobs.old)) (event.Install number) result g (moment_of (view_of engine.new.core) t fetches faults jobs.new.begun (there_of jobs.new)) }
+        × IsStep D.ports_fail h (moment_of (view_of engine.old.core) s fetches faults jobs.old.begun (there_of jobs.old) snapshots) (event.Install number) result g (moment_of (view_of engine.new.core) t fetches faults jobs.new.begun (there_of jobs.new) snapshots) }
     ensures rounds { engine.new.core.begun.rounds ≡ engine.old.core.begun.rounds }
     ensures faults { D.faults engine.old.core.disk ≤ D.faults engine.new.core.disk }
     ensures begun { jobs.new.begun ≡ jobs.old.begun }
@@ -157,11 +157,11 @@ fn install_whole<D: Disk>(
     requires none { jobs.old.there ≡ None }
     ensures sound { IsSound D.tells (view_of engine.new.core) }
     ensures jobs { IsTheirs D.tells (view_of engine.new.core) jobs.new }
-    ensures step { D.tells → (config : Fields) (opened : Opened) (h : History) → StandsSince config opened h (view_of engine.old.core) → (s : Stored) → IsKnown config h (view_of engine.old.core) s → (fetches faults : ℕ)
+    ensures step { D.tells → (config : Fields) (opened : Opened) (h : History) → StandsSince config opened h (view_of engine.old.core) → (s : Stored) → IsKnown config h (view_of engine.old.core) s → (fetches faults : ℕ) (snapshots : List ℕ)
         → (t : Stored) × IsKnown config (behind h 0 (Serves Work) (result_err result)) (view_of engine.new.core) t × StandsSince config opened (behind h 0 (Serves Work) (result_err result)) (view_of engine.new.core)
         × IsInstall D.ports_fail (going_of numbered.number numbered.job) h
-        (moment_of (view_of engine.old.core) s fetches faults jobs.old.begun (Some (going_of numbered.number numbered.job))) result
-        (behind h 0 (Serves Work) (result_err result)) (moment_of (view_of engine.new.core) t fetches faults jobs.new.begun (there_of jobs.new)) }
+        (moment_of (view_of engine.old.core) s fetches faults jobs.old.begun (Some (going_of numbered.number numbered.job)) snapshots) result
+        (behind h 0 (Serves Work) (result_err result)) (moment_of (view_of engine.new.core) t fetches faults jobs.new.begun (there_of jobs.new) snapshots) }
     ensures begun { jobs.new.begun ≡ jobs.old.begun }
     ensures rounds { engine.new.core.begun.rounds ≡ engine.old.core.begun.rounds }
     ensures faults { D.faults engine.old.core.disk ≤ D.faults engine.new.core.disk }
@@ -212,9 +212,9 @@ pub(crate) fn cancel<D: Disk>(engine: &mut Engine<D>, jobs: &mut Jobs<D>, number
     requires jobs { IsTheirs D.tells (view_of engine.old.core) jobs.old }
     ensures sound { IsSound D.tells (view_of engine.new.core) }
     ensures jobs { IsTheirs D.tells (view_of engine.new.core) jobs.new }
-    ensures step { D.tells → (config : Fields) (opened : Opened) (h : History) → StandsSince config opened h (view_of engine.old.core) → (s : Stored) → IsKnown config h (view_of engine.old.core) s → (fetches faults : ℕ)
+    ensures step { D.tells → (config : Fields) (opened : Opened) (h : History) → StandsSince config opened h (view_of engine.old.core) → (s : Stored) → IsKnown config h (view_of engine.old.core) s → (fetches faults : ℕ) (snapshots : List ℕ)
         → (g : History) × (t : Stored) × IsKnown config g (view_of engine.new.core) t × StandsSince config opened g (view_of engine.new.core)
-        × IsStep D.ports_fail h (moment_of (view_of engine.old.core) s fetches faults jobs.old.begun (there_of jobs.old)) (event.Cancel number) result g (moment_of (view_of engine.new.core) t fetches faults jobs.new.begun (there_of jobs.new)) }
+        × IsStep D.ports_fail h (moment_of (view_of engine.old.core) s fetches faults jobs.old.begun (there_of jobs.old) snapshots) (event.Cancel number) result g (moment_of (view_of engine.new.core) t fetches faults jobs.new.begun (there_of jobs.new) snapshots) }
     ensures rounds { engine.new.core.begun.rounds ≡ engine.old.core.begun.rounds }
     ensures faults { D.faults engine.old.core.disk ≤ D.faults engine.new.core.disk }
     ensures begun { jobs.new.begun ≡ jobs.old.begun }

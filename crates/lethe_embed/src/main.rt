@@ -17,11 +17,15 @@ fn tour(rt: &HostRuntime, alloc: Global) -> Option<()> {
     let disk = DirDisk::open(rt, alloc, "clients").ok()?;
     let mut store = Engine::open(alloc, disk, &config).ok()?;
     let mut port = store.new_port(alloc).ok()?;
-    let (elm, oak) = (value(alloc, "12 Elm Street")?, value(alloc, "3 Oak Lane")?);
-    let (one, two, again) = (key(alloc, "17")?, key(alloc, "18")?, key(alloc, "17")?);
-    store.put(alloc, &mut port, one, 20291231, elm).ok()?;
-    store.put(alloc, &mut port, two, 20310401, oak).ok()?;
-    store.delete(alloc, &mut port, again).ok()?;
+    let elm = value(alloc, "12 Elm Street")?;
+    store
+        .put(alloc, &mut port, key(alloc, "17")?, 20291231, elm)
+        .ok()?;
+    let oak = value(alloc, "3 Oak Lane")?;
+    store
+        .put(alloc, &mut port, key(alloc, "18")?, 20310401, oak)
+        .ok()?;
+    store.delete(alloc, &mut port, key(alloc, "17")?).ok()?;
 
     let gone = store.get(alloc, &mut port, &key(alloc, "17")?).ok()?;
     println!(rt; "17 is there: {}", gone.is_some()).ok()?;

@@ -25,7 +25,7 @@ use Rattle.lethe_core.specs.Jobs.{AreOutputsOf, IsAtWork, with_page}
 use Rattle.lethe_core.specs.Running.{Holds, IsSound}
 use Rattle.lethe_core.specs.StandsNow.{IsOpenOrStopped, StandsNow}
 use Rattle.lethe_core.specs.View.{Face, Flying, View, face_of, loose_in}
-use Rattle.lethe_core.proofs.Beside.{drawn_front}
+use Rattle.lethe_core.proofs.Beside.{drawn_front, none_drawn}
 use Rattle.lethe_engine.specs.Jobs.{IsNextPage, IsShortToInstall, written_face}
 
 -- the value, where there is one
@@ -138,6 +138,7 @@ module _ (view : View) (place : ℕ) (stopped : view.state.stopped ≡ Some plac
     held = left_stopped config h stands.stored stands.held;
     counted = tt;
     recorded = stands.recorded;
+    timely = stands.timely;
   }
 
   pub forgets_sound : (Tells : Type 0) → IsSound Tells view → IsSound Tells free
@@ -146,6 +147,9 @@ module _ (view : View) (place : ℕ) (stopped : view.state.stopped ≡ Some plac
     small = sound.small;
     count = sound.count;
     flies = tt;
-    drawn = subst (AreDrawn view.state.next) (sym (append-nil view.retired)) (drawn_front view.state.next view.retired (names_in (loose_in view.flight)) sound.drawn);
+    loose = none_drawn view.state.next;
+    drawn = λ told. subst (AreDrawn view.state.next) (sym (append-nil view.retired)) (drawn_front view.state.next view.retired (names_in (loose_in view.flight)) (sound.drawn told));
+    pins = sound.pins;
+    pages = sound.pages;
     held = λ told. let held = sound.held told in (held.0, held.1, λ runs. absurd (let clash : Some place ≡ None = sym stopped ∙ runs in cc));
   }

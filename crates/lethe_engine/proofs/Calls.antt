@@ -1,13 +1,14 @@
 -- What a call answers, by how it went: nothing was done, a step was, or a change was tried.
 use Rattle.std.proofs.Common.{◌≡◌, ◌≤◌, inl, ◌+◌, ℕ, List, Option, Some, None, Result, Ok, Err, refl, sym, ap, ◌∙◌, subst, arith}
-use Rattle.std.specs.Prelude.{IfErr, IfSome, IsSome}
+use Rattle.std.specs.Prelude.{IfErr, IfSome, IsSome, IsTrue, OnOk, option_map}
+use Rattle.std.specs.Option.{option_or}
 use Rattle.std.specs.Result.{result_err}
 use Rattle.lethe_base.specs.History.{History}
 use Rattle.lethe_base.specs.declared.call.Call.{Call}
 use Rattle.lethe_base.specs.declared.call.Call.TheVariants.{Put, Delete, Erase, Tick, Work}
 use Rattle.lethe_base.specs.declared.config.Fields.{Fields}
 use Rattle.lethe_base.specs.declared.refused.Refused.{Refused}
-use Rattle.lethe_disk.specs.Directory.{Directory}
+use Rattle.lethe_disk.specs.Directory.{Directory, object}
 use Rattle.lethe_disk.specs.Disk.{IsIdle}
 use Rattle.lethe_disk.specs.Goes.{Goes}
 use Rattle.lethe_stored.specs.Kept.{IsKept}
@@ -16,9 +17,11 @@ use Rattle.lethe_stored.specs.Numbers.{GoesFrom}
 use Rattle.lethe_stored.specs.Stored.{Stored}
 use Rattle.lethe_stored.proofs.Numbers.{goes_from_then}
 use Rattle.lethe_state.specs.declared.state.State.{State}
-use Rattle.lethe_core.specs.Asked.{Asked, Makes, Serves, behind, counted, failure_of, stopped_by, written_by}
+use Rattle.lethe_pins.specs.Held.{Held, is_named}
+use Rattle.lethe_core.specs.Asked.{Asked, Failure, Makes, Serves, behind, counted, failure_of, stopped_by, written_by}
 use Rattle.lethe_core.specs.Keeps.{Keeps}
 use Rattle.lethe_core.specs.Merges.{IsRoomBegun, IsRoomMadeBy, Outcome}
+use Rattle.lethe_core.specs.Pinned.{AreKept}
 use Rattle.lethe_core.specs.Reasons.{HasReason}
 use Rattle.lethe_core.specs.Running.{Holds, IsSound}
 use Rattle.lethe_core.specs.StandsNow.{StandsNow}
@@ -32,7 +35,7 @@ use Rattle.lethe_core.proofs.Standing.{idle_back, moments_or, stands_moments}
 use Rattle.lethe_engine.specs.Answers.{Answers, IsBegun, IsReadyFor, IsRefused}
 use Rattle.lethe_engine.specs.Refusals.{HasReasonOfChange}
 use Rattle.lethe_engine.specs.StandsFor.{IsKeptFor, Opened, StandsSince}
-use Rattle.lethe_engine.proofs.Onward.{answered_for, idle_for, worked_for}
+use Rattle.lethe_engine.proofs.Onward.{answered_for, idle_for, sound_pages, worked_for}
 use Rattle.lethe_engine.proofs.Reasons.{IsTold, changes_told, reasons_told}
 
 -- what is said of a refusal, by the answer that may be one
@@ -106,6 +109,7 @@ itself_answers Tells asked why view sound none = record {
   still = λ some. record { state = refl; levels = refl; faults = refl; disk = λ told. idle_itself view };
   refused = undone asked why;
   face_is = refl;
+  pinned = λ told runs name was now. refl;
 }
   where
     same : (config : Fields) (opened : Opened) (h : History) → StandsSince config opened h view → (caller : ℕ) → StandsSince config opened (behind h caller asked why) view
@@ -132,6 +136,7 @@ idle_answers Tells why old new sound state levels retired faults idle now none =
   still = λ some. record { state = state; levels = levels; faults = faults; disk = idle };
   refused = undone why;
   face_is = refl;
+  pinned = λ told runs name was now. ap (λ d. object d name) (idle told).directory;
 }
   where
     next : new.state.next ≡ old.state.next
@@ -139,7 +144,7 @@ idle_answers Tells why old new sound state levels retired faults idle now none =
 
     same : Tells → (config : Fields) (opened : Opened) (h : History) → StandsSince config opened h old → (caller : ℕ) → StandsSince config opened (behind h caller (Serves Work) why) new
     same told config opened h before caller =
-        subst (λ g. StandsSince config opened g new) (sym (none.history h caller)) (idle_for config opened h old new (idle told) next faults (now told config h before.now) before)
+        subst (λ g. StandsSince config opened g new) (sym (none.history h caller)) (idle_for config opened h old new (idle told) next faults (sound_pages Tells new sound told) (now told config h before.now) before)
 
     undone : (why : Option Refused) → IfSome why (IsRefused Tells (Serves Work) old new)
     undone None = tt
@@ -167,14 +172,30 @@ step_answers Tells Short why old new before runs is keeps reason undone = record
   still = λ some. absurd (runs_on old.state.stopped runs some);
   refused = undone;
   face_is = refl;
+  pinned = λ told runs name was now. keeps.pinned told runs name was;
 }
   where
     worked : Tells → (config : Fields) (opened : Opened) (h : History) → StandsSince config opened h old → (caller : ℕ) → StandsSince config opened (behind h caller (Serves Work) why) new
     worked told config opened h stands caller =
-        worked_for config opened h old new stands runs keeps.faults (keeps.numbers told) caller why (reasons_told Short old.state old.faults new.faults why (subst (λ n. IfSome why (HasReason Short old.state n new.faults)) is reason))
+        worked_for config opened h old new stands runs keeps.faults (keeps.numbers told) (sound_pages Tells new keeps.sound told) caller why (reasons_told Short old.state old.faults new.faults why (subst (λ n. IfSome why (HasReason Short old.state n new.faults)) is reason))
         (keeps.any_moment told config h stands.now) (keeps.stands told config h stands.now caller Work)
 
 -- Changes
+
+-- what is said of an answer that isn't a refusal
+pub if_done : {T : Type 0} (result : Result T Refused) (P : Type 0) → OnOk result P → result_err result ≡ None → P
+if_done (Ok done) P is none = is
+if_done (Err why) P is none = absurd (let clash : Some why ≡ None = none in cc)
+
+-- A record was written, or wasn't: what pins name stays as it is, unless the disk failed.
+kept_then : (Tells : Type 0) (mid new : View) (why : Option Refused) → new.state.stopped ≡ stopped_by why mid.state.stopped → IfSome why (IsUndone Tells mid new)
+    → (why ≡ None → Tells → AreKept mid.pins.pins mid.disk.directory new.disk.directory) → Tells → new.state.stopped ≡ None → AreKept mid.pins.pins mid.disk.directory new.disk.directory
+kept_then Tells mid new None stopped undone kept told on = kept refl told
+kept_then Tells mid new (Some why) stopped undone kept told on = by (failure_of why) refl (sym stopped ∙ on)
+  where
+    by : (o : Option Failure) → failure_of why ≡ o → option_or (option_map (λ failure. failure.place) o) mid.state.stopped ≡ None → AreKept mid.pins.pins mid.disk.directory new.disk.directory
+    by None none runs = λ name named. ap (λ d. object d name) ((undone none).disk told).directory
+    by (Some failure) failed runs = absurd (let clash : Some failure.place ≡ None = runs in cc)
 
 module _ (Tells : Type 0) (call : Call) (works : call ≡ Work → ⊥) (old : View) (runs : old.state.stopped ≡ None) where
   -- the change was made, or wasn't, as its steps say together
@@ -182,8 +203,8 @@ module _ (Tells : Type 0) (call : Call) (works : call ≡ Work → ⊥) (old : V
       → (Tells → (config : Fields) (h : History) (caller : ℕ) → StandsNow config h old → StandsNow config (behind h caller (Makes call) why) new)
       → (Tells → (config : Fields) (h : History) (caller : ℕ) → StandsNow config h old → GoesFrom old.state.next (IsKeptOr config h (written_by caller (Makes call) why)) old.disk new.disk)
       → (Tells → new.state.next + old.disk.moment ≤ old.state.next + new.disk.moment) → old.faults ≤ new.faults → IfSome why (IsTold old.faults new.faults) → IfSome why (IsRefused Tells (Makes call) old new)
-      → Answers Tells (Makes call) why (face_of new) old new
-  made_answers new why sound count stopped stands moments numbers faults reason refused = record {
+      → (Tells → new.state.stopped ≡ None → AreKept old.pins.pins old.disk.directory new.disk.directory) → Answers Tells (Makes call) why (face_of new) old new
+  made_answers new why sound count stopped stands moments numbers faults reason refused kept = record {
     sound = sound;
     count = count;
     stopped = stopped;
@@ -196,11 +217,12 @@ module _ (Tells : Type 0) (call : Call) (works : call ≡ Work → ⊥) (old : V
     still = λ some. absurd (runs_on old.state.stopped runs some);
     refused = refused;
     face_is = refl;
+    pinned = λ told runs name was now. kept told runs name was;
   }
     where
       answered : Tells → (config : Fields) (opened : Opened) (h : History) → StandsSince config opened h old → (caller : ℕ) → StandsSince config opened (behind h caller (Makes call) why) new
       answered told config opened h before caller =
-          answered_for config opened h old new before runs faults (numbers told) caller call works why reason (moments told config h caller before.now) (stands told config h caller before.now)
+          answered_for config opened h old new before runs faults (numbers told) (sound_pages Tells new sound told) caller call works why reason (moments told config h caller before.now) (stands told config h caller before.now)
 
   -- room couldn't be made
   pub unroomed_answers : (PortsFail : Type 0) (first last : ℕ) (new : View) (why : Refused) → Keeps Tells old new (Some why) → HasReasonOfChange Tells PortsFail old new first last why → (IsReadyFor call old.state → ⊥)
@@ -208,13 +230,14 @@ module _ (Tells : Type 0) (call : Call) (works : call ≡ Work → ⊥) (old : V
   unroomed_answers PortsFail first last new why keeps reason full partly =
       made_answers new (Some why) keeps.sound keeps.count keeps.stopped (λ told config h caller before. keeps.stands told config h before caller call)
       (λ told config h caller before. moments_or config h (written_by caller (Makes call) (Some why)) old.state.next old.disk new.disk (keeps.any_moment told config h before)) keeps.numbers keeps.faults
-      (changes_told Tells PortsFail old new first last why reason) ((λ ready. absurd (full ready)), partly)
+      (changes_told Tells PortsFail old new first last why reason) ((λ ready. absurd (full ready)), partly) keeps.pinned
 
   -- room was made, and then the record was appended, or wasn't
   module _ (mid new : View) (why : Option Refused) (room : Keeps Tells old mid None) (made : Tells → (s : Stored) → Holds old s → (t : Stored) × (outcomes : List Outcome) × IsRoomMadeBy old.flight s outcomes t × Holds mid t)
       (begun : (s t : Stored) → IsRoomBegun old.flight s t → IsBegun call old.flight s t) (same : IsReadyFor call old.state → mid ≡ old) (face : face_of new ≡ face_of mid) (sound : IsSound Tells new)
       (count : new.state.count ≡ counted (Makes call) why mid.state.count) (stopped : new.state.stopped ≡ stopped_by why mid.state.stopped)
-      (reason : IfSome why (HasReason ⊥ mid.state old.faults new.faults)) (undone : IfSome why (IsUndone Tells mid new)) (numbers : Tells → new.state.next + mid.disk.moment ≤ mid.state.next + new.disk.moment) (faults : mid.faults ≤ new.faults) where
+      (reason : IfSome why (HasReason ⊥ mid.state old.faults new.faults)) (undone : IfSome why (IsUndone Tells mid new)) (numbers : Tells → new.state.next + mid.disk.moment ≤ mid.state.next + new.disk.moment) (faults : mid.faults ≤ new.faults)
+      (kept : why ≡ None → Tells → AreKept mid.pins.pins mid.disk.directory new.disk.directory) where
     recorded_refused : (why : Option Refused) → IfSome why (IsUndone Tells mid new) → IfSome why (IsRefused Tells (Makes call) old new)
     recorded_refused None undone = tt
     recorded_refused (Some why) undone = (
@@ -229,7 +252,7 @@ module _ (Tells : Type 0) (call : Call) (works : call ≡ Work → ⊥) (old : V
         → Answers Tells (Makes call) why (face_of mid) old new
     recorded_answers stands moments = subst (λ at. Answers Tells (Makes call) why at old new) face
         (made_answers new why sound (count ∙ ap (counted (Makes call) why) room.count) (stopped ∙ ap (stopped_by why) room.stopped) (λ told config h caller before. stands told config h caller (behind_room told config h before)) whole
-        drawn rose (reasons_told ⊥ mid.state old.faults new.faults why reason) (recorded_refused why undone))
+        drawn rose (reasons_told ⊥ mid.state old.faults new.faults why reason) (recorded_refused why undone) pinned)
       where
         drawn : Tells → new.state.next + old.disk.moment ≤ old.state.next + new.disk.moment
         drawn told = let first = room.numbers told in let then = numbers told in omega (arith, first, then)
@@ -240,6 +263,10 @@ module _ (Tells : Type 0) (call : Call) (works : call ≡ Work → ⊥) (old : V
         -- the store behind the room that was made
         behind_room : Tells → (config : Fields) (h : History) → StandsNow config h old → StandsNow config h mid
         behind_room told config h before = room.stands told config h before 0 Work
+
+        pinned : Tells → new.state.stopped ≡ None → AreKept old.pins.pins old.disk.directory new.disk.directory
+        pinned told on name named =
+            kept_then Tells mid new why stopped undone kept told on name (subst (λ (held : Held). IsTrue (is_named held.pins name)) (sym room.pins) named) ∙ room.pinned told (room.stopped ∙ runs) name named
 
         whole : Tells → (config : Fields) (h : History) (caller : ℕ) → StandsNow config h old → GoesFrom old.state.next (IsKeptOr config h (written_by caller (Makes call) why)) old.disk new.disk
         whole told config h caller before =

@@ -99,7 +99,7 @@ certified_gone config opened h view now runs certificate (before_tick, caller, i
     let risen = prefix_forward front begins.0 (subst IsLegal begins.1 now.legal) in
     let end = ap (λ (l : History). (after l).clock) begins.1 in
     let start = ticked_clock before_tick caller certificate.clock in
-    clean_gone config.threshold view.disk.directory h (after h).clock certificate.before (now_clean config h view now runs) (let before = is.before in omega (arith, before, risen, end, start))
+    clean_gone config.threshold view.disk.directory h (after h).clock certificate.before (now_clean config h view is.stands.pages now runs) (let before = is.before in omega (arith, before, risen, end, start))
 
 -- What stays
 
@@ -192,7 +192,7 @@ module _ (config : Fields) (opened : Opened) (h : History) (caller to : ℕ) (ne
       ∙ ap (λ (fields : Fields). certificates fields.threshold g) now.config_is
 
   clean : IsClean config.threshold new.disk.directory g certificate.clock
-  clean = subst (IsClean config.threshold new.disk.directory g) (ticked_clock h caller to ∙ sym at.0) (now_clean config g new now runs)
+  clean = subst (IsClean config.threshold new.disk.directory g) (ticked_clock h caller to ∙ sym at.0) (now_clean config g new stands.pages now runs)
 
   pub true_certificate : IsTrueCertificate config.threshold certificate new.disk.directory g
   true_certificate = record {
@@ -206,6 +206,7 @@ module _ (config : Fields) (opened : Opened) (h : History) (caller to : ℕ) (ne
   stands_here : StandsSince config (opened_at opened g new.disk.moment) g new
   stands_here = record {
     now = now;
+    pages = stands.pages;
     begins = ([], sym (append-nil g));
     later = omega arith;
     images = λ m d low high left. (g, prefix_itself g g (stands_done config g new now runs) ([], sym (append-nil g)), (stands_moments config g new now runs writable).goes.each m d low high left);
@@ -278,12 +279,13 @@ module _ (config : Fields) (opened : Opened) (h : History) (view : View) (before
   pub reopened_gone : (reopened : View) → reopened.state.stopped ≡ None → IsResumed config left_history None start reopened → HoldsNoneErasedBy reopened.disk.directory left_history certificate.before
   reopened_gone reopened runs resumed =
       let next = next_kept config start.directory resumed.history resumed.was in
-      let now = (resumed.stands next.0 next.1).now in
+      let since = resumed.stands next.0 next.1 in
+      let now = since.now in
       let begins = (was.1).begins in
       let on = resumed.either ∙ begins.1 in
       let risen = prefix_forward front begins.0 (subst IsLegal on now.legal) in
       let end = ap (λ (l : History). (after l).clock) on in
       let begun = ticked_clock before_tick caller certificate.clock in
       subst (λ g. HoldsNoneErasedBy reopened.disk.directory g certificate.before) resumed.either
-      (clean_gone config.threshold reopened.disk.directory resumed.history (after resumed.history).clock certificate.before (now_clean config resumed.history reopened now runs)
+      (clean_gone config.threshold reopened.disk.directory resumed.history (after resumed.history).clock certificate.before (now_clean config resumed.history reopened since.pages now runs)
       (let before = is.before in omega (arith, before, risen, end, begun)))

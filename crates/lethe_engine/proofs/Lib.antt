@@ -2,6 +2,7 @@ pub mod Overs
 pub mod Answering
 pub mod Counting
 pub mod Opened
+pub mod Repinned
 pub mod Reasons
 pub mod Prefixes
 pub mod Onward

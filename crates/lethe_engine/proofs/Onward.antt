@@ -1,5 +1,5 @@
 -- A store goes on, and stands for what it has kept since it was opened.
-use Rattle.std.proofs.Common.{◌≡◌, ◌≤◌, inl, inr, ℕ, ◌+◌, [], ◌∷◌, ◌++◌, Option, Some, None, refl, sym, ap, ◌∙◌, subst, append_assoc, append-nil, arith}
+use Rattle.std.proofs.Common.{◌≡◌, ◌≤◌, inl, inr, ℕ, ◌+◌, ◌<◌, List, [], ◌∷◌, ◌++◌, Option, Some, None, refl, sym, ap, ◌∙◌, subst, append_assoc, append-nil, arith}
 use Rattle.std.specs.Prelude.{All, IfSome, option_map}
 use Rattle.std.specs.Option.{option_map_or}
 use Rattle.std.proofs.lemmas.Bool.{cases_lt}
@@ -13,6 +13,8 @@ use Rattle.lethe_base.specs.declared.call.Call.TheVariants.{Put, Delete, Erase, 
 use Rattle.lethe_base.specs.declared.call.Did.{Did}
 use Rattle.lethe_base.specs.declared.call.Did.TheVariants.{Done, Failed}
 use Rattle.lethe_base.specs.declared.config.Fields.{Fields}
+use Rattle.lethe_base.specs.declared.name.Kind.TheVariants.{Page}
+use Rattle.lethe_base.specs.declared.name.Name.{Name}
 use Rattle.lethe_base.specs.declared.refused.Refused.{Refused}
 use Rattle.lethe_cover.specs.Steps.{with_done, with_failed}
 use Rattle.lethe_disk.specs.Directory.{Directory}
@@ -21,26 +23,38 @@ use Rattle.lethe_stored.specs.Kept.{IsKept}
 use Rattle.lethe_stored.specs.Left.{IsKeptOr}
 use Rattle.lethe_stored.specs.Numbers.{GoesFrom}
 use Rattle.lethe_stored.proofs.Numbers.{pace_then}
+use Rattle.lethe_advance.specs.Settled.{names_in}
 use Rattle.lethe_state.specs.Writable.{IsWritable}
 use Rattle.lethe_core.specs.Asked.{Failure, Makes, Serves, behind, done_by, failure_of, written_by}
+use Rattle.lethe_core.specs.Running.{IsSound}
 use Rattle.lethe_core.specs.StandsNow.{StandsNow}
-use Rattle.lethe_core.specs.View.{View}
+use Rattle.lethe_core.specs.View.{View, loose_in}
 use Rattle.lethe_engine.specs.Opening.{opened_as}
 use Rattle.lethe_engine.specs.StandsFor.{HasCounts, IsKeptFor, IsPrefixFrom, Opened, StandsSince}
 use Rattle.lethe_engine.proofs.Prefixes.{prefix_done, prefix_failed, prefix_itself, prefix_longer}
 use Rattle.lethe_engine.proofs.Reasons.{IsTold}
+use Rattle.lethe_core.proofs.Beside.{drawn_front}
 use Rattle.lethe_core.proofs.Standing.{stands_done, stands_moments}
+
+abbrev ArePages : List Name → Type 0
+ArePages names = All (λ name. name.kind ≡ Page) names
 
 -- counts of faults stay within later ones
 counts_later : (from f0 f1 : ℕ) (did : Did) → f0 ≤ f1 → HasCounts from f0 did → HasCounts from f1 did
 counts_later from f0 f1 Done le is = tt
 counts_later from f0 f1 (Failed before after) le is = (is.0, is.1, let upto = is.2 in omega (arith, upto, le))
 
+-- what is retired are pages
+pub sound_pages : (Tells : Type 0) (view : View) → IsSound Tells view → Tells → ArePages view.retired
+sound_pages Tells view sound told = All-weaker (λ (name : Name). (name.kind ≡ Page) × (name.no < view.state.next)) (λ (name : Name). name.kind ≡ Page) (λ name drawn. drawn.0) view.retired
+    (drawn_front view.state.next view.retired (names_in (loose_in view.flight)) (sound.drawn told)).each
+
 -- a store that was just opened
-pub opened_for : (config : Fields) (h : History) (start : Seen) (next : ℕ) (view : View) → StandsNow config h view → view.state.stopped ≡ None → IsWritable view.state
+pub opened_for : (config : Fields) (h : History) (start : Seen) (next : ℕ) (view : View) → StandsNow config h view → view.retired ≡ [] → view.state.stopped ≡ None → IsWritable view.state
     → view.state.next + start.moment ≤ next + view.disk.moment → StandsSince config (opened_as h start view.disk next view.faults) h view
-opened_for config h start next view now runs writable numbers = record {
+opened_for config h start next view now empty runs writable numbers = record {
   now = now;
+  pages = subst ArePages (sym empty) (All-nil (λ (name : Name). name.kind ≡ Page));
   begins = ([], sym (append-nil h));
   later = omega arith;
   images = λ m c low high left. (h, prefix_itself h h (stands_done config h view now runs) ([], sym (append-nil h)), (stands_moments config h view now runs writable).goes.each m c low high left);
@@ -51,10 +65,11 @@ opened_for config h start next view now runs writable numbers = record {
 }
 
 -- a store whose disk wasn't touched
-pub idle_for : (config : Fields) (opened : Opened) (h : History) (old new : View) → IsIdle old.disk new.disk → new.state.next ≡ old.state.next → new.faults ≡ old.faults → StandsNow config h new → StandsSince config opened h old
+pub idle_for : (config : Fields) (opened : Opened) (h : History) (old new : View) → IsIdle old.disk new.disk → new.state.next ≡ old.state.next → new.faults ≡ old.faults → ArePages new.retired → StandsNow config h new → StandsSince config opened h old
     → StandsSince config opened h new
-idle_for config opened h old new idle next faults now before = record {
+idle_for config opened h old new idle next faults pages now before = record {
   now = now;
+  pages = pages;
   begins = before.begins;
   later = let low = before.later in let same = idle.moment in omega (arith, low, same);
   images = λ m c low high left. let same = idle.moment in before.images m c low (omega (arith, high, same)) ((idle.left m c).0 left);
@@ -65,7 +80,7 @@ idle_for config opened h old new idle next faults now before = record {
 }
 
 module _ (config : Fields) (opened : Opened) (h : History) (old new : View) (before : StandsSince config opened h old) (runs : old.state.stopped ≡ None) (later : old.faults ≤ new.faults)
-    (numbers : new.state.next + old.disk.moment ≤ old.state.next + new.disk.moment) where
+    (numbers : new.state.next + old.disk.moment ≤ old.state.next + new.disk.moment) (pages : ArePages new.retired) where
   abbrev Was : History
   Was = opened.history
 
@@ -77,6 +92,7 @@ module _ (config : Fields) (opened : Opened) (h : History) (old new : View) (bef
       → All (λ (change : Change). HasCounts opened.faults new.faults change.did) added → GoesFrom old.state.next P old.disk new.disk → StandsNow config g new → StandsSince config opened g new
   added_to P g added is longer kept counted run now = record {
     now = now;
+    pages = pages;
     begins = (before.begins.0 ++ added, is ∙ ap (λ l. l ++ added) before.begins.1 ∙ append_assoc Was before.begins.0 added);
     later = let low = before.later in let on = run.goes.later in omega (arith, low, on);
     images = λ m c low high left. elim (cases_lt old.disk.moment m) [

@@ -1,10 +1,13 @@
 -- What each call of a store says of itself: what it was asked, why it was refused if it was, the store before and the store behind.
-use Rattle.std.specs.Prelude.{◌≡◌, ◌≤◌, ◌+◌, ℕ, Option, None, IfSome, IsSome}
+use Rattle.std.specs.Prelude.{◌≡◌, ◌≤◌, ◌+◌, ℕ, Option, None, IfSome, IsSome, IsTrue}
 use Rattle.lethe_base.specs.History.{History}
 use Rattle.lethe_base.specs.declared.call.Call.{Call}
 use Rattle.lethe_base.specs.declared.call.Call.TheVariants.{Put, Delete, Erase, Tick, Work}
 use Rattle.lethe_base.specs.declared.config.Fields.{Fields}
+use Rattle.lethe_base.specs.declared.name.Name.{Name}
 use Rattle.lethe_base.specs.declared.refused.Refused.{Refused}
+use Rattle.lethe_disk.specs.Directory.{object}
+use Rattle.lethe_pins.specs.Held.{is_named}
 use Rattle.lethe_disk.specs.Disk.{IsIdle}
 use Rattle.lethe_disk.specs.Goes.{Goes}
 use Rattle.lethe_stored.specs.Left.{IsKeptOr}
@@ -68,5 +71,7 @@ pub record Answers (Tells : Type 0) (asked : Asked) (why : Option Refused) (face
   -- where an earlier call failed nothing is done, whatever is asked
   pub still : IsSome old.state.stopped → IsStill Tells old new
   pub refused : IfSome why (IsRefused Tells asked old new)
-  -- what the jobs have come to
+  -- what the jobs and the pins have come to
   pub face_is : face_of new ≡ face
+  -- unless the disk failed, each object that a pin names which is held before and behind is as it was, byte for byte
+  pub pinned : Tells → new.state.stopped ≡ None → (name : Name) → IsTrue (is_named old.pins.pins name) → IsTrue (is_named new.pins.pins name) → object new.disk.directory name ≡ object old.disk.directory name

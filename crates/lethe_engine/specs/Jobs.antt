@@ -1,5 +1,5 @@
 -- The calls of a job.
-use Rattle.std.specs.Prelude.{◌≡◌, ◌≤◌, ◌<◌, ℕ, ◌+◌, ◌-◌, ◌&&◌, nat_le, List, [], length, None, is_none, option_map, IfSome, IsSome, Result, Ok, Err, if◌then◌else◌}
+use Rattle.std.specs.Prelude.{◌≡◌, ◌≤◌, ◌<◌, ℕ, ◌+◌, ◌-◌, ◌&&◌, nat_le, List, length, None, is_none, option_map, IfSome, IsSome, Result, Ok, Err, if◌then◌else◌}
 use Rattle.lethe_base.specs.Limits.{max_place}
 use Rattle.lethe_base.specs.declared.name.Name.{Name}
 use Rattle.lethe_base.specs.declared.refused.Refused.{Refused}
@@ -38,10 +38,10 @@ abbrev pub written_face : Face → Name × List ℕ → Result (Unit {0}) Refuse
 written_face face page (Ok done) = record face { flight = option_map (λ flying. with_page flying page) face.flight }
 written_face face page (Err why) = face
 
--- it is in flight no more, and no page is retired while nothing needs any
-abbrev pub ended_face : {E : Type 0} → Face → Result (Unit {0}) E → Face
-ended_face face (Ok done) = record face { flight = None; retired = [] }
-ended_face face (Err why) = face
+-- it is in flight no more, and these pages are retired
+abbrev pub ended_face : {E : Type 0} → Face → List Name → Result (Unit {0}) E → Face
+ended_face face retired (Ok done) = record face { flight = None; retired = retired }
+ended_face face retired (Err why) = face
 
 -- given up it is in flight no more, whether or not the disk failed, but where no place is left for that and no call has failed
 abbrev pub given_up : Face → State → Face

@@ -6,6 +6,7 @@ use Rattle.lethe_base.specs.declared.call.Call.TheVariants.{Tick}
 use Rattle.lethe_base.specs.declared.call.Did.{Did}
 use Rattle.lethe_base.specs.declared.call.Did.TheVariants.{Done, Failed}
 use Rattle.lethe_base.specs.declared.config.Fields.{Fields}
+use Rattle.lethe_base.specs.declared.name.Kind.TheVariants.{Page}
 use Rattle.lethe_cert.specs.declared.certificate.Certificate.{Certificate}
 use Rattle.lethe_cover.specs.Steps.{with_done}
 use Rattle.lethe_disk.specs.Directory.{Directory}
@@ -44,10 +45,11 @@ abbrev pub HasCounts : ℕ → ℕ → Did → Type 0
 HasCounts from upto Done = Unit {0}
 HasCounts from upto (Failed before after) = (from ≤ before) × Rose before after × (after ≤ upto)
 
--- It stands for the history now, which goes on from the opened one. Each crash since opening answered leaves what is kept for a prefix that is
+-- It stands for the history now, which goes on from the opened one, and what is retired are pages. Each crash since opening answered leaves what is kept for a prefix that is
 -- not shorter than that. Numbers were drawn no faster than device calls were made since opening began, and what each crash leaves keeps pace too.
 pub record StandsSince (config : Fields) (opened : Opened) (h : History) (view : View) : Type 0 where
   pub now : StandsNow config h view
+  pub pages : All (λ name. name.kind ≡ Page) view.retired
   pub begins : (added : History) × (h ≡ opened.history ++ added)
   pub later : opened.moment ≤ view.disk.moment
   pub images : (moment : ℕ) (c : Directory) → opened.moment ≤ moment → moment ≤ view.disk.moment → view.disk.left moment c → IsKeptFor config opened.history h c

@@ -11,7 +11,7 @@ ghost use Rattle.lethe_state.specs.Records.{headers_in};
 ghost use Rattle.lethe_state.specs.Room.{HasRoom};
 ghost use Rattle.lethe_core.specs.Asked.{Makes};
 ghost use Rattle.lethe_core.specs.Changes.{erase_over, put_over, with_record};
-ghost use Rattle.lethe_core.specs.Merges.{IsRoomMadeBy, Outcome, pages_of, retired_behind};
+ghost use Rattle.lethe_core.specs.Merges.{IsRoomMadeBy, Outcome, pages_of, AreRetiredBehind};
 ghost use Rattle.lethe_core.specs.Running.{Holds, IsSound};
 ghost use Rattle.lethe_core.specs.View.{face_of, view_of};
 ghost use Rattle.lethe_engine.specs.Answers.{Answers};
@@ -55,7 +55,7 @@ impl<D: Disk> Engine<D> {
         ensures written { D.tells → (s : Stored) → Holds (view_of self.old.core) s
             → OnOk result ((t : Stored) × (outcomes : List Outcome) × IsRoomMadeBy (view_of self.old.core).flight s outcomes t
             × Holds (view_of self.new.core) (appended t (put_over t key dkey value)) × (D.fetches port.new ≡ D.fetches port.old + pages_of outcomes)
-            × ((view_of self.new.core).retired ≡ retired_behind outcomes (view_of self.old.core).retired)) }
+            × AreRetiredBehind outcomes (view_of self.old.core).pins.pins (view_of self.old.core).retired (view_of self.new.core).retired) }
 
         // Where there was room, the active segment is the one object that changes, and nothing is fetched.
         ensures room { D.tells → (s : Stored) → Holds (view_of self.old.core) s → HasRoom s
@@ -101,7 +101,7 @@ impl<D: Disk> Engine<D> {
         ensures written { D.tells → (s : Stored) → Holds (view_of self.old.core) s
             → OnOk result ((t : Stored) × (outcomes : List Outcome) × IsRoomMadeBy (view_of self.old.core).flight s outcomes t
             × Holds (view_of self.new.core) (appended t (erase_over t range)) × (D.fetches port.new ≡ D.fetches port.old + pages_of outcomes)
-            × ((view_of self.new.core).retired ≡ retired_behind outcomes (view_of self.old.core).retired)) }
+            × AreRetiredBehind outcomes (view_of self.old.core).pins.pins (view_of self.old.core).retired (view_of self.new.core).retired) }
 
         // Where there was room, the active segment is the one object that changes, and nothing is fetched.
         ensures room { D.tells → (s : Stored) → Holds (view_of self.old.core) s → HasRoom s
@@ -145,7 +145,7 @@ impl<D: Disk> Engine<D> {
             → OnOk result ((t : Stored) × (outcomes : List Outcome) × (next : Record) × IsRoomMadeBy (view_of self.old.core).flight s outcomes t
             × IsDeleteOver t (headers_in (view_of self.new.core).levels) key next
             × Holds (view_of self.new.core) (appended t next) × (D.fetches port.new ≡ D.fetches port.old + pages_of outcomes)
-            × ((view_of self.new.core).retired ≡ retired_behind outcomes (view_of self.old.core).retired)) }
+            × AreRetiredBehind outcomes (view_of self.old.core).pins.pins (view_of self.old.core).retired (view_of self.new.core).retired) }
 
         // Where there was room, the active segment is the one object that changes, and nothing is fetched.
         ensures room { D.tells → (s : Stored) → Holds (view_of self.old.core) s → HasRoom s

@@ -26,6 +26,7 @@ use lethe_cert::Certificate;
 use lethe_core::Core;
 use lethe_disk::Disk;
 use lethe_job::Begun;
+use lethe_pins::Pins;
 use lethe_recover::{OpenWhy, Opened, open};
 use lethe_state::State;
 use std::alloc::Global;
@@ -98,6 +99,7 @@ impl<D: Disk> Engine<D> {
                         version,
                         retired: Vec::new(alloc),
                         flight: None,
+                        pins: Pins::new(alloc),
                         begun: Begun::none(),
                     },
                     certificates: Vec::new(alloc),
@@ -152,7 +154,7 @@ impl<D: Disk> Engine<D> {
         self.core.state.stopped()
     }
 
-    /// Gives the disk back.
+    /// Gives the disk back, whether or not a job is in flight or a pin is held: what was kept for pins goes with the next opening.
     pub fn into_disk(self) -> D
         ensures { result ≡ self.core.disk }
     {

@@ -11,6 +11,7 @@ ghost use Rattle.lethe_stored.specs.Stored.{Stored};
 ghost use Rattle.lethe_job.specs.Jobs.{next_bytes};
 ghost use Rattle.lethe_job.specs.MadeOf.{pages_of};
 ghost use Rattle.lethe_job.specs.Works.{IsBegunIn, plain_task};
+ghost use Rattle.lethe_core.specs.Pinned.{AreNamed};
 ghost use Rattle.lethe_core.specs.Asked.{Serves};
 ghost use Rattle.lethe_install.specs.Outcomes.{IsInstalled};
 ghost use Rattle.lethe_core.specs.Jobs.{IsAtWork, IsInFlight, IsWhole, with_page};
@@ -154,7 +155,8 @@ impl<D: Disk> Engine<D> {
         self.core.write_now(before, job.next_page())
     }
 
-    /// Installs what a job made, whose pages are all written: it takes the place of the files that go, and of these what is cited no more is removed.
+    /// Installs what a job made, whose pages are all written: it takes the place of the files that go, and what no manifest cites any more is removed, but for the
+    /// pages that a held pin names.
     ///
     /// # Errors
     ///
@@ -164,10 +166,13 @@ impl<D: Disk> Engine<D> {
         requires sound { IsSound D.tells (view_of self.old.core) }
         requires works { IsAtWork D.tells (view_of self.old.core) job ⊎ IsPast (view_of self.old.core) job }
         requires whole { IsWhole job }
-        ensures answers { Answers D.tells (Serves Work) (option_map (λ back. back.1) (result_err result)) (ended_face (face_of (view_of self.old.core)) result) (view_of self.old.core) (view_of self.new.core) }
+        ensures answers { Answers D.tells (Serves Work) (option_map (λ back. back.1) (result_err result)) (ended_face (face_of (view_of self.old.core)) (view_of self.new.core).retired result) (view_of self.old.core) (view_of self.new.core) }
 
         // Acknowledged: what is stored is the outcome of the task.
         ensures done { D.tells → (s : Stored) → Holds (view_of self.old.core) s → OnOk result ((t : Stored) × IsInstalled s (plain_task job.task.value) t × Holds (view_of self.new.core) t) }
+
+        // Of the pages that no manifest cites any more exactly those stay that a held pin names.
+        ensures named { OnOk result (AreNamed (view_of self.new.core).pins.pins (view_of self.new.core).retired) }
 
         // A refusal has its reason. A job in flight stays so, and can only be given up.
         ensures back { IfErr result (λ back. (IsInFlight (view_of self.old.core) job → IsInFlight (view_of self.new.core) back.0) × (back.0.refused ≡ true)) }
@@ -196,8 +201,9 @@ impl<D: Disk> Engine<D> {
         requires sound { IsSound D.tells (view_of self.old.core) }
         requires works { IsAtWork D.tells (view_of self.old.core) job.old ⊎ IsPast (view_of self.old.core) job.old }
         requires whole { IsWhole job.old }
-        ensures answers { Answers D.tells (Serves Work) (result_err result) (ended_face (face_of (view_of self.old.core)) result) (view_of self.old.core) (view_of self.new.core) }
+        ensures answers { Answers D.tells (Serves Work) (result_err result) (ended_face (face_of (view_of self.old.core)) (view_of self.new.core).retired result) (view_of self.old.core) (view_of self.new.core) }
         ensures done { D.tells → (s : Stored) → Holds (view_of self.old.core) s → OnOk result ((t : Stored) × IsInstalled s (plain_task job.old.task.value) t × Holds (view_of self.new.core) t) }
+        ensures named { OnOk result (AreNamed (view_of self.new.core).pins.pins (view_of self.new.core).retired) }
         ensures job { job.new ≡ record job.old { made = job.new.made } }
         ensures why { IfErr result (HasReasonOfJob (IsShortToInstall (view_of self.old.core) job.old) job.old (view_of self.old.core) (view_of self.new.core)) }
         ensures drawn { OnErr result (self.new.core.state.next ≡ self.old.core.state.next) }

@@ -5,6 +5,7 @@ mod changing;
 mod engine;
 mod jobs;
 mod laws;
+mod pinning;
 mod reading;
 mod telling;
 mod ticking;

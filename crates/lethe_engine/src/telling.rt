@@ -21,7 +21,7 @@ use lethe_version::Shared;
 pub struct Stat {
     /// The time of the last tick.
     pub clock: u64,
-    /// How many pins are held. Today there are none.
+    /// How many pins are held.
     pub pins: u64,
     /// How many erases are still to be carried out on files.
     pub pending: u64,
@@ -39,7 +39,7 @@ impl<D: Disk> Engine<D> {
         ensures stat { (config : Fields) (h : History) → StandsNow config h (view_of self.now.core)
             → result.clock ≡ (after h).clock }
         ensures shape { (s : Stored) → Remembers s self.now.core.state (view_of self.now.core).levels → IsStatOf (due_shape (layout_of s)) result }
-        ensures pins { result.pins ≡ 0 }
+        ensures pins { result.pins ≡ length self.now.core.pins.pins }
     {
         let mut files: u64 = 0;
         let mut tombs: u64 = 0;
@@ -50,7 +50,7 @@ impl<D: Disk> Engine<D> {
         }
         Stat {
             clock: self.core.state.manifest().clock,
-            pins: 0,
+            pins: self.core.pins.len() as u64,
             pending: self.core.state.left_count(),
             files,
             tombs,

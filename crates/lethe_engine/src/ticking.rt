@@ -1,5 +1,5 @@
 //! Ticks of a store.
-ghost use Rattle.std.specs.Prelude.{◌≡◌, ◌<◌, ◌≤◌, ◌+◌, ◌⊎◌, ◌++◌, ℕ, List, Some, None, IfOk, IfErr, IfSome, MatchResult, OnOk, IsErrOf, option_to_list};
+ghost use Rattle.std.specs.Prelude.{◌≡◌, ◌<◌, ◌≤◌, ◌+◌, ◌⊎◌, ◌++◌, ℕ, List, All, Some, None, IfOk, IfErr, IfSome, MatchResult, OnOk, IsErrOf, option_to_list};
 ghost use Rattle.std.specs.Result.{result_err};
 ghost use Rattle.lethe_base.specs.History.{History};
 ghost use Rattle.lethe_base.specs.Limits.{max_place, max_time};
@@ -13,7 +13,9 @@ ghost use Rattle.lethe_follows.specs.Ticked.{ticked};
 ghost use Rattle.lethe_stored.specs.Stored.{Stored};
 ghost use Rattle.lethe_state.specs.Writable.{IsWritable};
 ghost use Rattle.lethe_core.specs.Asked.{Makes, behind};
-ghost use Rattle.lethe_core.specs.Merges.{AreOutcomesBy, Outcome, due_choice, pages_of, retired_behind};
+ghost use Rattle.lethe_core.specs.Merges.{AreOutcomesBy, Outcome, due_choice, pages_of};
+ghost use Rattle.lethe_pins.specs.Held.{first_limit_of};
+ghost use Rattle.lethe_core.specs.Pinned.{AreNamed};
 ghost use Rattle.lethe_core.specs.Running.{Holds, IsSound};
 ghost use Rattle.lethe_core.specs.StandsNow.{StandsNow};
 ghost use Rattle.lethe_core.specs.View.{view_of};
@@ -24,7 +26,7 @@ ghost use Rattle.lethe_engine.specs.Answers.{Answers};
 ghost use Rattle.lethe_engine.specs.Certificates.{IsTrueCertificate};
 ghost use Rattle.lethe_engine.specs.Gone.{HoldsNothingErased};
 ghost use Rattle.lethe_engine.specs.StandsFor.{Opened, StandsFor, StandsSince};
-ghost use Rattle.lethe_engine.specs.Ticks.{HasReasonOfTick, MayRefuseTick, ticked_face};
+ghost use Rattle.lethe_engine.specs.Ticks.{HasReasonOfTick, IsTickable, MayRefuseTick, ticked_face};
 
 use crate::Engine;
 use lethe_base::{MAX_PLACE, Refused};
@@ -45,15 +47,16 @@ pub struct Ticked {
 }
 
 impl<D: Disk> Engine<D> {
-    /// Moves the clock to a time. First the job in flight is given up, with its round. Where a record of a segment is as old at that time as level 0 may have it, both
-    /// buffers are flushed; then the merges and sweeps that are due at that time are carried out, one after another until none is, and their files are read through the port;
-    /// then the clock moves. So behind a tick no object of the disk holds a value that was erased a threshold before its time, or longer ago.
+    /// Moves the clock to a time. First the job in flight is given up, with its round, and retired pages that no held pin names are removed. Where a record of a segment is as
+    /// old at that time as level 0 may have it, both buffers are flushed; then the merges and sweeps that are due at that time are carried out, one after another until none is,
+    /// and their files are read through the port; then the clock moves. So behind a tick no object of the disk holds a value that was erased a threshold before its time, or
+    /// longer ago.
     ///
     /// # Errors
     ///
-    /// `Stopped`; `Backwards` where the time is behind the clock; `Exhausted` where the last place or the last round is taken: in this order, before any work. Then the
-    /// round has ended, and `Exhausted` where numbers ran out, `NoMemory`, `ReadFault`, `Fault`, which stops the store, and on a disk that tells nothing `Damaged`
-    /// leave done what was done before them: the same tick may be asked for again.
+    /// `Stopped`; `Backwards` where the time is behind the clock; `Exhausted` where the last place or the last round is taken; `Pinned` where a held pin's limit is at most the
+    /// time: in this order, before any work. Then the round has ended, and `Exhausted` where numbers ran out, `NoMemory`, `ReadFault`, `Fault`, which stops the store, and on a
+    /// disk that tells nothing `Damaged` leave done what was done before them: the same tick may be asked for again.
     pub fn tick(&mut self, alloc: Global, port: &mut D::Port, to: u64) -> Result<Ticked, Refused>
         // Opening gives this, and each call leaves it so.
         requires sound { IsSound D.tells (view_of self.old.core) }
@@ -86,16 +89,20 @@ impl<D: Disk> Engine<D> {
         // a swept file those that its header tells, and the clock moved.
         ensures done { D.tells → (s : Stored) → Holds (view_of self.old.core) s
             → OnOk result ((ripe t : Stored) × (outcomes : List Outcome) × (number : ℕ) × IsRipened to s ripe × AreOutcomesBy (due_choice to) ripe outcomes t
-            × Holds (view_of self.new.core) (ticked t to number) × (D.fetches port.new ≡ D.fetches port.old + pages_of outcomes)
-            × ((view_of self.new.core).retired ≡ retired_behind outcomes (view_of self.old.core).retired)) }
+            × Holds (view_of self.new.core) (ticked t to number) × (D.fetches port.new ≡ D.fetches port.old + pages_of outcomes)) }
 
-        // A refusal has its reason. A store that is stopped, or whose clock is ahead, or whose places or rounds are used up, is as it was.
+        // Behind it what is stored and pages that held pins name lie in the directory, and nothing else.
+        ensures named { D.tells → OnOk result (AreNamed (view_of self.new.core).pins.pins (view_of self.new.core).retired) }
+
+        // A refusal has its reason. A store that is stopped, or whose clock is ahead, or whose places or rounds are used up, or that a pin bars, is as it was.
         ensures why { IfErr result (HasReasonOfTick D.tells D.ports_fail to (view_of self.old.core) (view_of self.new.core) (D.port_faults port.old) (D.port_faults port.new)) }
         ensures stopped { (at : ℕ) → self.old.core.state.stopped ≡ Some at → IsErrOf result (refused.Stopped at) × (self.new ≡ self.old) }
         ensures backwards { self.old.core.state.stopped ≡ None → to < self.old.core.state.manifest.clock
             → IsErrOf result (refused.Backwards self.old.core.state.manifest.clock) × (self.new ≡ self.old) }
         ensures exhausted { self.old.core.state.stopped ≡ None → self.old.core.state.manifest.clock ≤ to → (self.old.core.state.count ≡ max_place) ⊎ (max_place ≤ self.old.core.begun.rounds)
             → IsErrOf result (refused.Exhausted max_place) × (self.new ≡ self.old) }
+        ensures pinned { IsTickable (view_of self.old.core) to → (pin limit : ℕ) → first_limit_of self.old.core.pins.pins ≡ Some (pin, limit) → limit ≤ to
+            → IsErrOf result (refused.Pinned pin limit) × (self.new ≡ self.old) }
 
         ensures port_faults { D.port_faults port.old ≤ D.port_faults port.new }
 
@@ -125,7 +132,7 @@ impl<D: Disk> Engine<D> {
     fn may_tick(&self, to: u64) -> Result<(), Refused>
         requires { IsWritable self.now.core.state }
         ensures refused { IfErr result (MayRefuseTick (view_of self.now.core) to) }
-        ensures may { OnOk result ((self.now.core.state.stopped ≡ None) × (self.now.core.state.manifest.clock ≤ to) × (self.now.core.state.count < max_place) × (self.now.core.begun.rounds < max_place)) }
+        ensures may { OnOk result (IsTickable (view_of self.now.core) to × All (λ pin. to < pin.limit) self.now.core.pins.pins) }
     {
         if let Some(at) = self.core.state.stopped() {
             return Err(Refused::Stopped { at });
@@ -136,6 +143,11 @@ impl<D: Disk> Engine<D> {
         }
         if self.core.state.count() >= MAX_PLACE || self.core.begun.rounds >= MAX_PLACE {
             return Err(Refused::Exhausted { last: MAX_PLACE });
+        }
+        if let Some((pin, limit)) = self.core.pins.first_limit() {
+            if limit <= to {
+                return Err(Refused::Pinned { pin, limit });
+            }
         }
         Ok(())
     }

@@ -136,11 +136,11 @@ module _ (state : State) (is : IsWritable state) (level : ℕ) (inputs : Inputs)
     };
   }
 
-pub install_from : (state : State) (level : ℕ) (inputs : Inputs) (parts : MadeFiles) (retired needed : List Name) (installing : Installation) → IsWritable state → level ≤ state.manifest.config.levels
+pub install_from : (state : State) (level : ℕ) (inputs : Inputs) (parts : MadeFiles) (retired : List Name) (needs : Name → Bool) (installing : Installation) → IsWritable state → level ≤ state.manifest.config.levels
     → parts.next < max_place → parts.next ≡ state.next + length parts.objects.items → All (IsFile parts.next state.manifest.config.levels) parts.cited.items
-    → All (λ (file : Cited). file.level ≡ level) parts.cited.items → All (λ (new : NewHeader). new.level ≡ level) parts.headers.items → IsInstallStep state level inputs parts retired needed installing
+    → All (λ (file : Cited). file.level ≡ level) parts.cited.items → All (λ (new : NewHeader). new.level ≡ level) parts.headers.items → IsInstallStep state level inputs parts retired needs installing
     → IsStepFrom (segments_for state.frozen) state installing.headers.items installing.step
-install_from state level inputs parts retired needed installing is low fits drawn each same into made =
+install_from state level inputs parts retired needs installing is low fits drawn each same into made =
     let before = is.drawn in
     let later : state.manifest.next ≤ parts.next = omega (arith, before, drawn) in
     let short = subst (λ (m : Manifest). length m.files < 2 ^ 32) made.manifest made.few in

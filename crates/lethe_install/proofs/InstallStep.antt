@@ -43,7 +43,7 @@ use Rattle.lethe_stored.proofs.Leveled.{from_filter, in_filter}
 use Rattle.lethe_stored.proofs.Parts.{IsNameOf, OfHeader, OfPage, OfSegment, name_cases, object_part, part_below, part_kind}
 use Rattle.lethe_install.specs.Inputs.{AreInputs, names_of, number_of, numbered}
 use Rattle.lethe_install.specs.Installed.{IsInstallStep}
-use Rattle.lethe_install.specs.Left.{is_needed, left_of, needed_of, unneeded_of}
+use Rattle.lethe_install.specs.Left.{left_of, needed_of, unneeded_of}
 use Rattle.lethe_install.specs.Placed.{is_among, is_before, is_behind, with_made}
 use Rattle.lethe_install.specs.declared.inputs.Inputs.{Inputs}
 use Rattle.lethe_install.specs.declared.steps.Installation.{Installation}
@@ -208,7 +208,8 @@ module _ (s : Stored) (state : State) (levels : List (List Parts)) (is : Remembe
 
   -- The step
 
-  module _ (needed : List Name) (installing : Installation) (stepped : IsInstallStep state (m.level + 1) inputs parts retired needed installing) (spelled : HasSpelling installing.step.manifest) where
+  module _ (needs : Name → Bool) (installing : Installation) (stepped : IsInstallStep state (m.level + 1) inputs parts retired needs installing) (spelled : HasSpelling installing.step.manifest)
+      (paged : All (λ (name : Name). name.kind ≡ kinds.Page) installing.left.items) where
     abbrev headers : List NewHeader
     headers = installing.headers.items
 
@@ -288,34 +289,34 @@ module _ (s : Stored) (state : State) (levels : List (List Parts)) (is : Remembe
     replaced = objects_of lost ++ beside
 
     abbrev needed_object : Name × List ℕ → Bool
-    needed_object object = is_needed needed object.0
+    needed_object object = needs object.0
 
     abbrev unneeded : Name → Bool
-    unneeded name = not (is_needed needed name)
+    unneeded name = not (needs name)
 
     abbrev remaining : List (Name × List ℕ)
-    remaining = left_of needed lost beside
+    remaining = left_of needs lost beside
 
     names_of_all : inputs.names.items ++ retired ≡ names
     names_of_all = ap (λ l. l ++ retired) (found.names ∙ ap (λ gone. flat_map names_of (numbered gone s.files)) numbers)
 
-    gone_is : step.gone.items ≡ unneeded_of needed names
-    gone_is = stepped.gone ∙ ap (unneeded_of needed) names_of_all
+    gone_is : step.gone.items ≡ unneeded_of needs names
+    gone_is = stepped.gone ∙ ap (unneeded_of needs) names_of_all
 
     replaced_names : map name_in replaced ≡ names
     replaced_names = map-append name_in (objects_of lost) beside ∙ (λ i. sym (all_names_are s.manifest.next lost (All-filter goes (IsFile s.manifest.next) s.files (is.coherent).each)) i ++ named i)
 
     left_is : installing.left.items ≡ names_in remaining
-    left_is = stepped.left ∙ ap (needed_of needed) (names_of_all ∙ sym replaced_names) ∙ sym (map-filter name_in (is_needed needed) replaced)
+    left_is = stepped.left ∙ ap (needed_of needs) (names_of_all ∙ sym replaced_names) ∙ sym (map-filter name_in needs replaced)
 
     named_in : (object : Name × List ℕ) → Contains replaced object → Contains names object.0
     named_in object there = subst (λ l. Contains l object.0) replaced_names (in_map name_in replaced object there)
 
     -- it is left where it is needed, and goes otherwise
     settled : (object : Name × List ℕ) → Contains replaced object → IsSettledBy step t remaining object.0
-    settled object there = by (is_needed needed object.0) refl
+    settled object there = by (needs object.0) refl
       where
-        by : (b : Bool) → is_needed needed object.0 ≡ b → IsSettledBy step t remaining object.0
+        by : (b : Bool) → needs object.0 ≡ b → IsSettledBy step t remaining object.0
         by true at = inr (inr (in_map name_in remaining object (in_filter needed_object replaced object there at)))
         by false at = inr (inl (subst (λ l. Contains l object.0) (sym gone_is) (in_filter unneeded names object.0 (named_in object there) (ap not at))))
 
@@ -413,10 +414,30 @@ module _ (s : Stored) (state : State) (levels : List (List Parts)) (is : Remembe
         drawn_parts.0
         (λ a b object page same. name_uncited b (Contains-append_left retired written b page) (subst (Contains (part_names s)) same (lost_part a object))))
 
-    gone_uncited : (name : Name) → Contains (unneeded_of needed names) name → IsUncited s loose t name
+    -- what is left are pages with numbers that were drawn, each once
+
+    left_names : installing.left.items ≡ needed_of needs names
+    left_names = stepped.left ∙ ap (needed_of needs) names_of_all
+
+    name_below : (name : Name) → Contains names name → name.no < number
+    name_below name there = ⊎_elim
+        (λ object. let low = part_below s name is.coherent (lost_part name object) in omega (arith, low, later))
+        (λ page. let low = (retired_page name page).1 in omega (arith, low, risen))
+        (Contains-append_cases (flat_map names_of lost) retired name there)
+
+    left_drawn : AreDrawn step.manifest.next installing.left.items
+    left_drawn = record {
+      each = all_from (λ (name : Name). (name.kind ≡ kinds.Page) × (name.no < step.manifest.next)) installing.left.items (λ name there.
+          let next : step.manifest.next ≡ number + 1 = ap (λ (m : Manifest). m.next) stepped.manifest in
+          let low = name_below name (from_filter needs names name (subst (λ l. Contains l name) left_names there)).0 in
+          (All-contains (λ (name : Name). name.kind ≡ kinds.Page) installing.left.items name paged there, omega (arith, low, next)));
+      once = subst (AllPairs Differ) (sym left_names) (AllPairs-filter Differ needs names names_apart);
+    }
+
+    gone_uncited : (name : Name) → Contains (unneeded_of needs names) name → IsUncited s loose t name
     gone_uncited name there = uncited_then name (from_filter unneeded names name there).0
 
-    left_in : (object : Name × List ℕ) → Contains remaining object → Contains replaced object × (is_needed needed object.0 ≡ true)
+    left_in : (object : Name × List ℕ) → Contains remaining object → Contains replaced object × (needs object.0 ≡ true)
     left_in object there = from_filter needed_object replaced object there
 
     left_there : (object : Name × List ℕ) → Contains remaining object → WasThere s loose object
@@ -426,7 +447,7 @@ module _ (s : Stored) (state : State) (levels : List (List Parts)) (is : Remembe
         (Contains-append_cases (objects_of lost) beside object (left_in object there).0)
 
     left_stays : (object : Name × List ℕ) → Contains remaining object → Contains step.gone.items object.0 → ⊥
-    left_stays object there lose = goes_not (is_needed needed object.0) (from_filter unneeded names object.0 (subst (λ l. Contains l object.0) gone_is lose)).1 (left_in object there).1
+    left_stays object there lose = goes_not (needs object.0) (from_filter unneeded names object.0 (subst (λ l. Contains l object.0) gone_is lose)).1 (left_in object there).1
 
     left_uncited : (object : Name × List ℕ) → Contains remaining object → IsCited t object.0 → ⊥
     left_uncited object there (inl gate) = (kind_then object.0 (named_in object (left_in object there).0)).0 (ap (λ (n : Name). n.kind) gate)
@@ -456,7 +477,7 @@ module _ (s : Stored) (state : State) (levels : List (List Parts)) (is : Remembe
       cited = all_from (λ (object : Object). Contains (part_names t) object.name) step.objects.items (λ object there. object_part t (named_of object) (new_object (named_of object) (of_written object there)));
       stays = all_from (IsSettledBy step t remaining) (part_names s) stays;
       taken = all_from (λ (object : Name × List ℕ). IsSettledBy step t remaining object.0) loose taken;
-      gone = subst (All (IsUncited s loose t)) (sym gone_is) (all_from (IsUncited s loose t) (unneeded_of needed names) gone_uncited);
+      gone = subst (All (IsUncited s loose t)) (sym gone_is) (all_from (IsUncited s loose t) (unneeded_of needs names) gone_uncited);
       gone_once = subst (AllPairs Differ) (sym gone_is) (AllPairs-filter Differ unneeded names names_apart);
       left_there = all_from (WasThere s loose) remaining left_there;
       left_stays = all_from (λ (object : Name × List ℕ). Contains step.gone.items object.0 → ⊥) remaining left_stays;
@@ -466,9 +487,11 @@ module _ (s : Stored) (state : State) (levels : List (List Parts)) (is : Remembe
       files = subst (λ gone. IsPermutation (made ++ filter (λ (file : StoredFile). not (is_among gone file.header.no)) s.files) files) (sym (stepped.merged ∙ numbers)) permuted;
     }
 
-    step_and_left : IsStep s loose t (left_of needed (numbered step.merged.items s.files) beside) headers step × (installing.left.items ≡ names_in (left_of needed (numbered step.merged.items s.files) beside))
-    step_and_left = subst (λ gone. IsStep s loose t (left_of needed (numbered gone s.files) beside) headers step × (installing.left.items ≡ names_in (left_of needed (numbered gone s.files) beside)))
-        (sym (stepped.merged ∙ numbers)) (is_step, left_is)
+    step_and_left : IsStep s loose t (left_of needs (numbered step.merged.items s.files) beside) headers step × (installing.left.items ≡ names_in (left_of needs (numbered step.merged.items s.files) beside))
+        × AreDrawn step.manifest.next installing.left.items
+    step_and_left = subst (λ gone. IsStep s loose t (left_of needs (numbered gone s.files) beside) headers step × (installing.left.items ≡ names_in (left_of needs (numbered gone s.files) beside))
+        × AreDrawn step.manifest.next installing.left.items)
+        (sym (stepped.merged ∙ numbers)) (is_step, left_is, left_drawn)
 
 -- as a task has it
 pub install_steps : (s : Stored) (m : StoredMerge) (state : State) (levels : List (List Parts)) (task : PlainMerge) → Remembers s state levels → IsCurrent s state → IsWritable state
@@ -477,20 +500,22 @@ pub install_steps : (s : Stored) (m : StoredMerge) (state : State) (levels : Lis
     → AreDraftsOf s.manifest.config (merged (entries_in (inputs_of m)) (erases_upto task.upto (pending_of s)) task.alone) drafts
     → (parts : MadeFiles) → state.next ≤ parts.next → (made : List StoredFile) → AreFilesOf drafts (task.level + 1) task.upto written state.next parts made
     → (inputs : Inputs) → inputs.numbers.items ≡ map number_of (merge_inputs task) → AreInputs (task.level + 1) task.sources s.files inputs
-    → (needed : List Name) (installing : Installation) → IsInstallStep state (task.level + 1) inputs parts retired needed installing → HasSpelling installing.step.manifest
+    → (needs : Name → Bool) (installing : Installation) → IsInstallStep state (task.level + 1) inputs parts retired needs installing → HasSpelling installing.step.manifest
+    → All (λ (name : Name). name.kind ≡ kinds.Page) installing.left.items
     → (t : Stored) × IsMerged s m (erases_upto task.upto (pending_of s)) task.alone task.upto t
-    × IsStep s (beside ++ written_pages written drafts) t (left_of needed (numbered installing.step.merged.items s.files) beside) installing.headers.items installing.step
-    × (installing.left.items ≡ names_in (left_of needed (numbered installing.step.merged.items s.files) beside))
-install_steps s m state levels task is current writable begun retired written drafts drawn few beside named uncited of parts risen made are inputs numbers found needed installing stepped spelled =
+    × IsStep s (beside ++ written_pages written drafts) t (left_of needs (numbered installing.step.merged.items s.files) beside) installing.headers.items installing.step
+    × (installing.left.items ≡ names_in (left_of needs (numbered installing.step.merged.items s.files) beside)) × AreDrawn installing.step.manifest.next installing.left.items
+install_steps s m state levels task is current writable begun retired written drafts drawn few beside named uncited of parts risen made are inputs numbers found needs installing stepped spelled paged =
     let numbers_are = numbers ∙ (λ i. map number_of (begun.sources i ++ begun.met i)) in
     let of_level = subst (λ l. AreFilesOf drafts (l + 1) task.upto written state.next parts made) begun.level are in
     let inputs_are = subst (λ l. AreInputs (l + 1) m.sources s.files inputs) begun.level (subst (λ sources. AreInputs (task.level + 1) sources s.files inputs) begun.sources found) in
-    let made_step = subst (λ l. IsInstallStep state (l + 1) inputs parts retired needed installing) begun.level stepped in
+    let made_step = subst (λ l. IsInstallStep state (l + 1) inputs parts retired needs installing) begun.level stepped in
     let applied = erases_upto task.upto (pending_of s) in
     let settled = step_and_left s state levels is current writable m begun.merge applied task.alone task.upto retired written drafts drawn few beside named uncited of parts risen made of_level inputs numbers_are inputs_are
-    needed installing made_step spelled in (
+    needs installing made_step spelled paged in (
       t s state levels is current writable m begun.merge applied task.alone task.upto retired written drafts drawn few beside named uncited of parts risen made of_level inputs numbers_are inputs_are,
       is_merged s state levels is current writable m begun.merge applied task.alone task.upto retired written drafts drawn few beside named uncited of parts risen made of_level inputs numbers_are inputs_are,
       settled.0,
       settled.1,
+      settled.2,
     )

@@ -1,9 +1,10 @@
 -- What is stored once a sweep's outcome is installed, as its task has it.
-use Rattle.std.proofs.Common.{◌≡◌, ◌≤◌, inr, ℕ, List, [], ◌∷◌, ◌++◌, length, map, Contains, Option, refl, sym, ap, subst, arith}
+use Rattle.std.proofs.Common.{◌≡◌, ◌≤◌, inr, ℕ, Bool, List, [], ◌∷◌, ◌++◌, length, map, All, Contains, Option, refl, sym, ap, subst, arith}
 use Rattle.std.proofs.lemmas.List.Elements.{All-contains, Contains-append_right}
 use Rattle.lethe_advance.specs.Settled.{AreDrawn, AreUncited, names_in}
 use Rattle.lethe_advance.specs.Steps.{IsStep}
 use Rattle.lethe_advance.specs.declared.new_header.NewHeader.{NewHeader}
+use Rattle.lethe_base.specs.declared.name.Kind.TheVariants.{Page}
 use Rattle.lethe_base.specs.declared.name.Name.{Name}
 use Rattle.lethe_cover.proofs.Common.{first_is}
 use Rattle.lethe_cover.proofs.Lists.{in_middle, map_from}
@@ -49,8 +50,9 @@ module _ (draft_is_left : DraftIsLeft) (nothing_is_left : NothingIsLeft) (s : St
     (beside : List (Name × List ℕ)) (named : names_in beside ≡ retired) (uncited : AreUncited s (beside ++ written_pages written draft))
     (of : IsDraftLeft task.alone task.erase w.file.header.tiles (map entries_in w.file.pages) draft)
     (parts : MadeFiles) (inputs : Inputs) (are : AreMadeOf task.file.level task.erase.seq written state.next draft parts)
-    (replaced : IsReplaced task.file parts.headers.items state.manifest.files inputs) (needed : List Name) (installing : Installation)
-    (stepped : IsInstallStep state task.file.level inputs parts retired needed installing) (spelled : HasSpelling installing.step.manifest) where
+    (replaced : IsReplaced task.file parts.headers.items state.manifest.files inputs) (needs : Name → Bool) (installing : Installation)
+    (stepped : IsInstallStep state task.file.level inputs parts retired needs installing) (spelled : HasSpelling installing.step.manifest)
+    (paged : All (λ (name : Name). name.kind ≡ Page) installing.left.items) where
   abbrev pages : List (Name × List ℕ)
   pages = written_pages written draft
 
@@ -74,11 +76,12 @@ module _ (draft_is_left : DraftIsLeft) (nothing_is_left : NothingIsLeft) (s : St
   of_file = subst (λ (file : StoredFile). AreMadeOf file.level task.erase.seq written state.next draft parts) (sym begun.file) are
 
   pub sweep_installs : (t : Stored) × IsSweptBy s task t
-      × ((left : List (Name × List ℕ)) × IsStep s (beside ++ pages) t left installing.headers.items installing.step × (installing.left.items ≡ names_in left))
+      × ((left : List (Name × List ℕ)) × IsStep s (beside ++ pages) t left installing.headers.items installing.step × (installing.left.items ≡ names_in left)
+      × AreDrawn installing.step.manifest.next installing.left.items)
   sweep_installs =
       let have = made_for draft_is_left nothing_is_left s is.coherent w own task.erase task.alone
       (subst (λ (file : StoredFile). IsBehind task.erase file.header.tiles) (sym begun.file) behind) state.next later written (drawn_behind state.next retired written drawn) written_uncited draft of few parts of_file in
       let found = sweep_installed s state levels is current writable w task.erase task.alone begun.sweep retired written drawn beside pages named pages_named uncited
-      parts have inputs (subst (λ (file : StoredFile). IsReplaced file parts.headers.items state.manifest.files inputs) (sym begun.file) replaced) needed installing
-      (subst (λ (file : StoredFile). IsInstallStep state file.level inputs parts retired needed installing) (sym begun.file) stepped) spelled in
+      parts have inputs (subst (λ (file : StoredFile). IsReplaced file parts.headers.items state.manifest.files inputs) (sym begun.file) replaced) needs installing
+      (subst (λ (file : StoredFile). IsInstallStep state file.level inputs parts retired needs installing) (sym begun.file) stepped) spelled paged in
       (found.0, record { w = w; tasked = begun; swept_is = found.1 }, found.2)

@@ -42,7 +42,7 @@ use Rattle.lethe_sweeps.proofs.SweptFiles.{swept_coherent}
 use Rattle.lethe_sweeps.proofs.SweptStepping.{sweep_steps}
 use Rattle.lethe_install.specs.Inputs.{names_of}
 use Rattle.lethe_install.specs.Installed.{IsInstallStep}
-use Rattle.lethe_install.specs.Left.{is_needed, needed_of, unneeded_of}
+use Rattle.lethe_install.specs.Left.{is_among, needed_of, unneeded_of}
 use Rattle.lethe_install.specs.Placed.{with_made}
 use Rattle.lethe_install.specs.Replaced.{IsReplaced, behind, names_gone, pages_in}
 use Rattle.lethe_install.specs.declared.inputs.Inputs.{Inputs}
@@ -277,7 +277,7 @@ module _ (s : Stored) (state : State) (levels : List (List Parts)) (is : Remembe
   kept_pages = flat_map pages_in heads
 
   abbrev stays : Name → Bool
-  stays name = is_needed kept_pages name
+  stays name = is_among kept_pages name
 
   stays_made : (name : Name) → stays name ≡ true → Contains made_names name
   stays_made name test =
@@ -312,8 +312,8 @@ module _ (s : Stored) (state : State) (levels : List (List Parts)) (is : Remembe
 
   -- The step
 
-  module _ (needed : List Name) (installing : Installation) (stepped : IsInstallStep state w.file.level inputs parts retired needed installing)
-      (spelled : HasSpelling installing.step.manifest) where
+  module _ (needs : Name → Bool) (installing : Installation) (stepped : IsInstallStep state w.file.level inputs parts retired needs installing)
+      (spelled : HasSpelling installing.step.manifest) (paged : All (λ (name : Name). name.kind ≡ kinds.Page) installing.left.items) where
     abbrev headers : List NewHeader
     headers = installing.headers.items
 
@@ -357,10 +357,10 @@ module _ (s : Stored) (state : State) (levels : List (List Parts)) (is : Remembe
     gone_objects = lost ++ beside
 
     abbrev needed_object : Name × List ℕ → Bool
-    needed_object object = is_needed needed object.0
+    needed_object object = needs object.0
 
     abbrev unneeded : Name → Bool
-    unneeded name = not (is_needed needed name)
+    unneeded name = not (needs name)
 
     abbrev remaining : List (Name × List ℕ)
     remaining = filter needed_object gone_objects
@@ -369,21 +369,21 @@ module _ (s : Stored) (state : State) (levels : List (List Parts)) (is : Remembe
     gone_names = map-append name_in lost beside
         ∙ (λ i. (map-filter name_in leaves own_objects ∙ ap (filter leaves) (sym (names_are s.manifest.next w.file (old_file w.file own)))) i ++ named i)
 
-    gone_is : step.gone.items ≡ unneeded_of needed names
-    gone_is = stepped.gone ∙ ap (λ l. unneeded_of needed (l ++ retired)) replaced.names
+    gone_is : step.gone.items ≡ unneeded_of needs names
+    gone_is = stepped.gone ∙ ap (λ l. unneeded_of needs (l ++ retired)) replaced.names
 
     left_is : installing.left.items ≡ names_in remaining
-    left_is = stepped.left ∙ ap (λ l. needed_of needed (l ++ retired)) replaced.names ∙ ap (needed_of needed) (sym gone_names)
-        ∙ sym (map-filter name_in (is_needed needed) gone_objects)
+    left_is = stepped.left ∙ ap (λ l. needed_of needs (l ++ retired)) replaced.names ∙ ap (needed_of needs) (sym gone_names)
+        ∙ sym (map-filter name_in needs gone_objects)
 
     named_in : (object : Name × List ℕ) → Contains gone_objects object → Contains names object.0
     named_in object there = subst (λ l. Contains l object.0) gone_names (in_map name_in gone_objects object there)
 
     -- it is left where it is needed, and goes otherwise
     settled : (object : Name × List ℕ) → Contains gone_objects object → Contains step.gone.items object.0 ⊎ Contains (names_in remaining) object.0
-    settled object there = by (is_needed needed object.0) refl
+    settled object there = by (needs object.0) refl
       where
-        by : (b : Bool) → is_needed needed object.0 ≡ b → Contains step.gone.items object.0 ⊎ Contains (names_in remaining) object.0
+        by : (b : Bool) → needs object.0 ≡ b → Contains step.gone.items object.0 ⊎ Contains (names_in remaining) object.0
         by true at = inr (in_map name_in remaining object (in_filter needed_object gone_objects object there at))
         by false at = inl (subst (λ l. Contains l object.0) (sym gone_is) (in_filter unneeded names object.0 (named_in object there) (ap not at)))
 
@@ -421,7 +421,27 @@ module _ (s : Stored) (state : State) (levels : List (List Parts)) (is : Remembe
         drawn_parts.0
         (λ a b mine page same. retired_uncited b page (subst (Contains (part_names s)) same (name_part a (own_gone a mine).0))))
 
-    left_in : (object : Name × List ℕ) → Contains remaining object → Contains gone_objects object × (is_needed needed object.0 ≡ true)
+    -- what is left are pages with numbers that were drawn, each once
+
+    left_names : installing.left.items ≡ needed_of needs names
+    left_names = stepped.left ∙ ap (λ l. needed_of needs (l ++ retired)) replaced.names
+
+    name_below : (name : Name) → Contains names name → name.no < number
+    name_below name there = let risen = have.risen in ⊎_elim
+        (λ mine. let low = part_below s name is.coherent (name_part name (own_gone name mine).0) in omega (arith, low, drawn_before, risen))
+        (λ page. let low = (retired_page name page).1 in omega (arith, low, risen))
+        (Contains-append_cases (names_gone w.file heads) retired name there)
+
+    left_drawn : AreDrawn step.manifest.next installing.left.items
+    left_drawn = record {
+      each = all_from (λ (name : Name). (name.kind ≡ kinds.Page) × (name.no < step.manifest.next)) installing.left.items (λ name there.
+          let next : step.manifest.next ≡ number + 1 = ap (λ (m : Manifest). m.next) stepped.manifest in
+          let low = name_below name (from_filter needs names name (subst (λ l. Contains l name) left_names there)).0 in
+          (All-contains (λ (name : Name). name.kind ≡ kinds.Page) installing.left.items name paged there, omega (arith, low, next)));
+      once = subst (AllPairs Differ) (sym left_names) (AllPairs-filter Differ needs names names_differ);
+    }
+
+    left_in : (object : Name × List ℕ) → Contains remaining object → Contains gone_objects object × (needs object.0 ≡ true)
     left_in object there = from_filter needed_object gone_objects object there
 
     left_there : (object : Name × List ℕ) → Contains remaining object → WasThere s loose object
@@ -431,7 +451,7 @@ module _ (s : Stored) (state : State) (levels : List (List Parts)) (is : Remembe
         (Contains-append_cases lost beside object (left_in object there).0)
 
     left_stays : (object : Name × List ℕ) → Contains remaining object → Contains step.gone.items object.0 → ⊥
-    left_stays object there lose = goes_not (is_needed needed object.0)
+    left_stays object there lose = goes_not (needs object.0)
         (from_filter unneeded names object.0 (subst (λ l. Contains l object.0) gone_is lose)).1 (left_in object there).1
 
     left_uncited : (object : Name × List ℕ) → Contains remaining object → IsCited t object.0 → ⊥
@@ -486,12 +506,12 @@ module _ (s : Stored) (state : State) (levels : List (List Parts)) (is : Remembe
       beside = All-weaker IsWritten (λ (object : Object). Contains (names_in loose) object.name → ⊥)
           (λ object own. loose_apart state.next loose loose_drawn object.name own.1) step.objects.items written_by;
       parted = all_from IsParted (names_in own_objects) part_name;
-      gone = subst (All IsGone) (sym gone_is) (all_from IsGone (unneeded_of needed names) (λ name there. is_gone name (from_filter unneeded names name there).0));
+      gone = subst (All IsGone) (sym gone_is) (all_from IsGone (unneeded_of needs names) (λ name there. is_gone name (from_filter unneeded names name there).0));
       gone_once = subst (AllPairs Differ) (sym gone_is) (AllPairs-filter Differ unneeded names names_differ);
     }
 
     pub sweep_installed : (t : Stored) × IsSwept s w erase alone t
-        × ((left : List (Name × List ℕ)) × IsStep s loose t left headers step × (installing.left.items ≡ names_in left))
+        × ((left : List (Name × List ℕ)) × IsStep s loose t left headers step × (installing.left.items ≡ names_in left) × AreDrawn step.manifest.next installing.left.items)
     unfolding is_swept
     sweep_installed = (
       t,
@@ -504,5 +524,6 @@ module _ (s : Stored) (state : State) (levels : List (List Parts)) (is : Remembe
             (all_from (λ (object : Name × List ℕ). Contains step.gone.items object.0 → ⊥) remaining left_stays)
             (all_from (λ (object : Name × List ℕ). IsCited t object.0 → ⊥) remaining left_uncited),
         left_is,
+        left_drawn,
       ),
     )

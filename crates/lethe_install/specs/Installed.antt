@@ -1,5 +1,5 @@
 -- The step that installs files.
-use Rattle.std.specs.Prelude.{◌≡◌, ◌<◌, ◌^◌, ℕ, List, ◌++◌, length}
+use Rattle.std.specs.Prelude.{◌≡◌, ◌<◌, ◌^◌, ℕ, Bool, List, ◌++◌, length}
 use Rattle.lethe_base.specs.declared.name.Name.{Name}
 use Rattle.lethe_manifest.specs.Followers.{follower}
 use Rattle.lethe_manifest.specs.declared.manifest.Cited.{Cited}
@@ -23,12 +23,12 @@ installing_manifest state files number = follower state.manifest (record {
 })
 
 -- The step writes the objects and cites the files in the level. Of the inputs' objects and the retired pages those go that aren't needed, and the others are left.
-pub record IsInstallStep (state : State) (level : ℕ) (inputs : Inputs) (made : MadeFiles) (retired needed : List Name) (installing : Installation) : Type 0 where
+pub record IsInstallStep (state : State) (level : ℕ) (inputs : Inputs) (made : MadeFiles) (retired : List Name) (needs : Name → Bool) (installing : Installation) : Type 0 where
   pub headers_are : installing.headers.items ≡ made.headers.items
   pub objects : installing.step.objects.items ≡ made.objects.items
   pub merged : installing.step.merged.items ≡ inputs.numbers.items
-  pub gone : installing.step.gone.items ≡ unneeded_of needed (inputs.names.items ++ retired)
-  pub left : installing.left.items ≡ needed_of needed (inputs.names.items ++ retired)
+  pub gone : installing.step.gone.items ≡ unneeded_of needs (inputs.names.items ++ retired)
+  pub left : installing.left.items ≡ needed_of needs (inputs.names.items ++ retired)
   pub older : installing.step.older ≡ state.manifest.no
   pub manifest : installing.step.manifest ≡ installing_manifest state (with_made level inputs.numbers.items inputs.above.items made.cited.items state.manifest.files) made.next
   pub few : length installing.step.manifest.files < 2 ^ 32

@@ -5,17 +5,17 @@ use Rattle.lethe_base.specs.Names.{name_eq}
 use Rattle.lethe_base.specs.declared.name.Name.{Name}
 use Rattle.lethe_stored.specs.Files.{StoredFile, objects_of}
 
--- the name is among those that are needed
-abbrev pub is_needed : List Name → Name → Bool
-is_needed needed name = list_any (λ other. name_eq other name) needed
+-- the name is among others
+abbrev pub is_among : List Name → Name → Bool
+is_among others name = list_any (λ other. name_eq other name) others
 
--- the names that are needed, and the others
-abbrev pub needed_of : List Name → List Name → List Name
-needed_of needed names = filter (is_needed needed) names
+-- of names, those that something needs, and the others
+abbrev pub needed_of : (Name → Bool) → List Name → List Name
+needed_of needs names = filter needs names
 
-abbrev pub unneeded_of : List Name → List Name → List Name
-unneeded_of needed names = filter (λ name. not (is_needed needed name)) names
+abbrev pub unneeded_of : (Name → Bool) → List Name → List Name
+unneeded_of needs names = filter (λ name. not (needs name)) names
 
 -- of the objects of files that go, and of the retired pages, those that are still needed
-abbrev pub left_of : List Name → List StoredFile → List (Name × List ℕ) → List (Name × List ℕ)
-left_of needed files retired = filter (λ named. is_needed needed named.0) (objects_of files ++ retired)
+abbrev pub left_of : (Name → Bool) → List StoredFile → List (Name × List ℕ) → List (Name × List ℕ)
+left_of needs files retired = filter (λ named. needs named.0) (objects_of files ++ retired)

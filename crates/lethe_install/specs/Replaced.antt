@@ -7,7 +7,7 @@ use Rattle.lethe_header.specs.Facts.{lines_of}
 use Rattle.lethe_manifest.specs.declared.manifest.Cited.{Cited}
 use Rattle.lethe_stored.specs.Files.{StoredFile}
 use Rattle.lethe_install.specs.Inputs.{names_of}
-use Rattle.lethe_install.specs.Left.{unneeded_of}
+use Rattle.lethe_install.specs.Left.{is_among, unneeded_of}
 use Rattle.lethe_install.specs.declared.inputs.Inputs.{Inputs}
 
 -- the files behind the first one of that number
@@ -21,7 +21,7 @@ pages_in new = map (λ line. page_name line.no) (lines_of new.header.tiles)
 
 -- of the names of a file's header and pages, those that no page of the files that come has
 abbrev pub names_gone : StoredFile → List NewHeader → List Name
-names_gone file made = unneeded_of (flat_map pages_in made) (names_of file)
+names_gone file made = unneeded_of (is_among (flat_map pages_in made)) (names_of file)
 
 -- The file goes, and of its names those that stand in none of the files that come, which stand in front of the files that stood behind it.
 pub record IsReplaced (file : StoredFile) (made : List NewHeader) (cited : List Cited) (inputs : Inputs) : Type 0 where

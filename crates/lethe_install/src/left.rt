@@ -1,8 +1,10 @@
 //! Which objects go, and which are left.
 ghost use Rattle.std.specs.Prelude.{◌≡◌, IfOk};
-ghost use Rattle.lethe_install.specs.Left.{needed_of, unneeded_of};
+ghost use Rattle.lethe_install.specs.Left.{is_among, needed_of, unneeded_of};
+ghost use Rattle.lethe_pins.specs.Held.{is_named};
 
 use lethe_base::{Name, NoMemory};
+use lethe_pins::Pins;
 use std::alloc::Global;
 
 /// Names of objects that aren't cited any more.
@@ -10,22 +12,30 @@ use std::alloc::Global;
 pub struct Parted {
     /// Those that go.
     pub gone: Vec<Name>,
-    /// Those that are still needed.
+    /// Those that a held pin names.
     pub left: Vec<Name>,
 }
 
-/// Parts names by whether they are among those that are needed.
-pub fn part(alloc: Global, names: Vec<Name>, needed: &[Name]) -> Result<Parted, NoMemory>
-    ensures gone { IfOk result (λ parted. parted.gone.items ≡ unneeded_of needed.now names.items) }
-    ensures left { IfOk result (λ parted. parted.left.items ≡ needed_of needed.now names.items) }
+/// Parts names by whether a held pin names them.
+pub fn part(alloc: Global, names: Vec<Name>, pins: &Pins) -> Result<Parted, NoMemory>
+    ensures gone { IfOk result (λ parted. parted.gone.items ≡ unneeded_of (is_named pins.now.pins) names.items) }
+    ensures left { IfOk result (λ parted. parted.left.items ≡ needed_of (is_named pins.now.pins) names.items) }
 {
+    let mut gone = Vec::new(alloc);
     let mut left = Vec::new(alloc);
     for name in &names {
-        if needed.contains(name) {
+        if pins.holds(*name) {
             left.push(*name)?;
+        } else {
+            gone.push(*name)?;
         }
     }
-    let mut gone = names;
-    gone.retain(|name| !needed.contains(name));
     Ok(Parted { gone, left })
+}
+
+/// Leaves out of the names those that are among others.
+pub fn leave_out(names: &mut Vec<Name>, others: &[Name])
+    ensures { names.new.items ≡ unneeded_of (is_among others.now) names.old.items }
+{
+    names.retain(|name| !others.contains(name));
 }

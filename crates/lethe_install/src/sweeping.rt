@@ -1,6 +1,6 @@
 //! Installing what a sweep makes of a file.
 ghost use Rattle.std.specs.Prelude as prelude;
-ghost use Rattle.std.specs.Prelude.{◌≡◌, ◌⊎◌, ◌+◌, ◌-◌, ◌≤◌, ◌<◌, ◌++◌, [], ℕ, All, IfErr, IfOk, IfSome, IsErrOf, length, map};
+ghost use Rattle.std.specs.Prelude.{◌≡◌, ◌⊎◌, ◌+◌, ◌-◌, ◌≤◌, ◌<◌, ◌++◌, ℕ, All, IfErr, IfOk, IfSome, IsErrOf, IsTrue, false, length, map};
 ghost use Rattle.lethe_base.specs.Limits.{max_place};
 ghost use Rattle.lethe_base.specs.declared.name.Kind.TheVariants.{Page};
 ghost use Rattle.lethe_base.specs.declared.name.Name as name;
@@ -12,6 +12,7 @@ ghost use Rattle.lethe_header.specs.Headers as headers;
 ghost use Rattle.lethe_install.specs.Outcomes.{IsSweptBy};
 ghost use Rattle.lethe_install.specs.Replaced.{IsReplaced, behind, names_gone};
 ghost use Rattle.lethe_job.specs.SweepTasks.{IsSweepTask};
+ghost use Rattle.lethe_pins.specs.Held.{is_named};
 ghost use Rattle.lethe_state.specs.Remembered.{IsCurrent, Remembers};
 ghost use Rattle.lethe_state.specs.Room.{IsStepFrom};
 ghost use Rattle.lethe_state.specs.Writable.{IsWritable, segments_for};
@@ -24,7 +25,7 @@ ghost use Rattle.lethe_sweep_task.specs.Drafted.{new_pages, numbers_of, written_
 ghost use Rattle.lethe_sweep_task.specs.Outcome.{IsDraftLeft, plain_sweep};
 
 use crate::inputs::Inputs;
-use crate::left::{Parted, part};
+use crate::left::leave_out;
 use crate::names::add_pages_of;
 use crate::steps::{Installation, Pages, step_of};
 use lethe_advance::{NewHeader, number_behind};
@@ -39,7 +40,7 @@ use lethe_swept::SweptDraft;
 use std::alloc::Global;
 
 /// What installs what a sweep leaves of its file: the step writes what isn't written of it yet, cites it in the file's place, lets the erases go that are done then, and removes the
-/// header and the pages that stand in no file any more, and the pages that were retired before, but for those that are needed. The first of the new pages were written before, under
+/// header and the pages that stand in no file any more, and the pages that were retired before, but for those that a held pin names. The first of the new pages were written before, under
 /// these names; for the others, the header and the manifest numbers are drawn.
 ///
 /// # Errors
@@ -56,24 +57,27 @@ pub fn installing_sweep<D: Disk>(
     requires level { task.now.level ≤ state.now.manifest.config.levels }
     requires place { task.now.erase.seq ≤ max_place }
     requires draft { IfSome draft IsDraft }
-    requires drawn { AreDrawn state.now.next (pages.retired.now ++ pages.written.now) }
+    requires drawn { AreDrawn state.now.next pages.written.now }
     requires some { length pages.written.now ≤ length (new_pages draft) }
-    requires pages { All (λ name. name.kind ≡ Page) pages.needed.now }
+    requires pages { All (λ pin. All (λ name. name.kind ≡ Page) pin.names) pages.pins.now.pins }
     ensures exhausted { IsErrOf result (refused.Exhausted max_place) → max_place ≤ state.now.next + (numbers_of draft - length pages.entry.written.now) }
     ensures refused { IfErr result (λ why. (why ≡ refused.Exhausted max_place) ⊎ (why ≡ refused.NoMemory)) }
     ensures headers { IfOk result (λ made. All (λ new. headers.HasSpelling new.header) made.headers.items) }
     ensures step { IfOk result (λ made. IsStepFrom (segments_for state.now.frozen) state.now made.headers.items made.step) }
     ensures level { IfOk result (λ made. All (λ new. new.level ≡ task.now.level) made.headers.items) }
     ensures objects { IfOk result (λ made. length made.step.objects.items ≡ numbers_of draft - length pages.entry.written.now) }
-    ensures none { pages.entry.needed.now ≡ [] → IfOk result (λ made. made.left.items ≡ []) }
+    ensures named { IfOk result (λ made. All (λ name. IsTrue (is_named pages.entry.pins.now.pins name)) made.left.items) }
+    ensures gone { IfOk result (λ made. All (λ name. is_named pages.entry.pins.now.pins name ≡ false) made.step.gone.items) }
     ensures pages { IfOk result (λ made. All (λ name. name.kind ≡ Page) made.left.items) }
 
     // What is stored next is the sweep's outcome: the pages that stay are those that were stored, under their names.
     ensures installs { (s : Stored) (w : StoredSweep) (levels : prelude.List (prelude.List Parts)) (beside : prelude.List (name.Name × prelude.List ℕ)) → Remembers s state.now levels → IsCurrent s state.now
         → AreRising s.files → IsSweepTask s w (plain_sweep task.now) → names_in beside ≡ pages.entry.retired.now → AreUncited s (beside ++ written_pages pages.entry.written.now draft)
+        → AreDrawn state.now.next (pages.entry.retired.now ++ pages.entry.written.now)
         → IsDraftLeft task.now.alone task.now.erase w.file.header.tiles (map entries_in w.file.pages) draft
         → IfOk result (λ made. (t : Stored) × IsSweptBy s (plain_sweep task.now) t
-        × ((left : prelude.List (name.Name × prelude.List ℕ)) × IsStep s (beside ++ written_pages pages.entry.written.now draft) t left made.headers.items made.step × (made.left.items ≡ names_in left))) }
+        × ((left : prelude.List (name.Name × prelude.List ℕ)) × IsStep s (beside ++ written_pages pages.entry.written.now draft) t left made.headers.items made.step × (made.left.items ≡ names_in left)
+        × AreDrawn made.step.manifest.next made.left.items)) }
 {
     let objects = count_numbers(&draft) - pages.written.len() as u64;
     let Some(number) = number_behind(state.next(), objects) else {
@@ -108,22 +112,25 @@ fn install<D: Disk>(
     requires level { task.now.level ≤ state.now.manifest.config.levels }
     requires place { task.now.erase.seq ≤ max_place }
     requires draft { IfSome draft IsDraft }
-    requires drawn { AreDrawn state.now.next (pages.retired.now ++ pages.written.now) }
+    requires drawn { AreDrawn state.now.next pages.written.now }
     requires some { length pages.written.now ≤ length (new_pages draft) }
-    requires pages { All (λ name. name.kind ≡ Page) pages.needed.now }
+    requires pages { All (λ pin. All (λ name. name.kind ≡ Page) pin.names) pages.pins.now.pins }
     requires number { number ≡ state.now.next + (numbers_of draft - length pages.written.now) }
     requires free { number < max_place }
     ensures headers { IfOk result (λ made. All (λ new. headers.HasSpelling new.header) made.headers.items) }
     ensures step { IfOk result (λ made. IsStepFrom (segments_for state.now.frozen) state.now made.headers.items made.step) }
     ensures level { IfOk result (λ made. All (λ new. new.level ≡ task.now.level) made.headers.items) }
     ensures objects { IfOk result (λ made. length made.step.objects.items ≡ numbers_of draft - length pages.entry.written.now) }
-    ensures none { pages.entry.needed.now ≡ [] → IfOk result (λ made. made.left.items ≡ []) }
+    ensures named { IfOk result (λ made. All (λ name. IsTrue (is_named pages.entry.pins.now.pins name)) made.left.items) }
+    ensures gone { IfOk result (λ made. All (λ name. is_named pages.entry.pins.now.pins name ≡ false) made.step.gone.items) }
     ensures pages { IfOk result (λ made. All (λ name. name.kind ≡ Page) made.left.items) }
     ensures installs { (s : Stored) (w : StoredSweep) (levels : prelude.List (prelude.List Parts)) (beside : prelude.List (name.Name × prelude.List ℕ)) → Remembers s state.now levels → IsCurrent s state.now
         → AreRising s.files → IsSweepTask s w (plain_sweep task.now) → names_in beside ≡ pages.entry.retired.now → AreUncited s (beside ++ written_pages pages.entry.written.now draft)
+        → AreDrawn state.now.next (pages.entry.retired.now ++ pages.entry.written.now)
         → IsDraftLeft task.now.alone task.now.erase w.file.header.tiles (map entries_in w.file.pages) draft
         → IfOk result (λ made. (t : Stored) × IsSweptBy s (plain_sweep task.now) t
-        × ((left : prelude.List (name.Name × prelude.List ℕ)) × IsStep s (beside ++ written_pages pages.entry.written.now draft) t left made.headers.items made.step × (made.left.items ≡ names_in left))) }
+        × ((left : prelude.List (name.Name × prelude.List ℕ)) × IsStep s (beside ++ written_pages pages.entry.written.now draft) t left made.headers.items made.step × (made.left.items ≡ names_in left)
+        × AreDrawn made.step.manifest.next made.left.items)) }
 {
     // Laws: what the draft makes is what the erase leaves of the file.
     a_draft_is_left();
@@ -199,6 +206,6 @@ fn names_gone(alloc: Global, header: &Header, made: &[NewHeader]) -> Result<Vec<
     for one in made {
         add_pages_of(&mut kept, &one.header)?;
     }
-    let Parted { gone, .. } = part(alloc, names, &kept)?;
-    Ok(gone)
+    leave_out(&mut names, &kept);
+    Ok(names)
 }

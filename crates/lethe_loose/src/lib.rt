@@ -7,6 +7,6 @@ mod writing;
 mod written;
 
 pub(crate) use contents::Contents;
-pub use removing::remove_pages;
+pub use removing::{remove_named, remove_pages};
 pub use writing::write_page;
 pub use written::Written;

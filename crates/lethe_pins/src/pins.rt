@@ -1,5 +1,5 @@
 //! The pins that are held, in the order of their limits.
-ghost use Rattle.std.specs.Prelude.{◌≡◌, ◌+◌, ◌↔◌, ◌⊎◌, [], length, filter, not, IsTrue, IfOk, IfErr, OnErr, IfSome, All};
+ghost use Rattle.std.specs.Prelude.{◌≡◌, ◌+◌, ◌↔◌, ◌⊎◌, [], None, length, filter, not, IsTrue, IfOk, IfErr, OnErr, IfSome, All};
 ghost use Rattle.std.specs.Bool.{OnFalse};
 ghost use Rattle.std.specs.Result.{IsErrOf};
 ghost use Rattle.lethe_base.specs.Limits.{max_place};
@@ -74,6 +74,17 @@ impl Pins {
         self.first = relink(&mut self.nodes, self.first, behind, Some(key));
         self.made = number;
         Ok(number)
+    }
+
+    /// The number that the next pin gets, and None where as many were made as there are numbers.
+    pub fn next_number(&self) -> Option<u64>
+        ensures some { IfSome result (λ number. number ≡ self.now.made + 1) }
+        ensures none { result ≡ None ↔ self.now.made ≡ max_place }
+    {
+        if self.made == MAX_PLACE {
+            return None;
+        }
+        Some(self.made + 1)
     }
 
     /// Lets the pin of that number go. False exactly where it isn't held, and then nothing changes. It takes no memory.

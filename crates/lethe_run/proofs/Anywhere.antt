@@ -1,5 +1,5 @@
 -- What replies and lines tell on any disk.
-use Rattle.std.proofs.Common.{◌≡◌, inl, inr, ◌≤◌, ℕ, ◌+◌, List, [], ◌∷◌, ◌++◌, Option, Some, None, Result, Ok, Err, refl, sym, ap, ◌∙◌, subst, arith}
+use Rattle.std.proofs.Common.{◌≡◌, inl, inr, ◌≤◌, ℕ, ◌+◌, List, [], ◌∷◌, ◌++◌, Option, Some, None, Result, Ok, Err, refl, sym, ◌∙◌, subst, arith}
 use Rattle.std.specs.Prelude.{IfErr, IfOk, IsErrOf, IsSome, MatchResult}
 use Rattle.std.specs.Result.{result_err}
 use Rattle.lethe_base.specs.Counts.{Rose}
@@ -10,6 +10,8 @@ use Rattle.lethe_base.specs.declared.refused.Refused.TheVariants as refused
 use Rattle.lethe_core.specs.Asked.{Makes}
 use Rattle.lethe_core.specs.Reasons.{HasReason, IsUnreadable}
 use Rattle.lethe_core.specs.View.{Face, View, face_of}
+use Rattle.lethe_disk.specs.declared.cursor.ReadRefused.{ReadRefused}
+use Rattle.lethe_disk.specs.declared.cursor.ReadRefused.TheVariants as read
 use Rattle.lethe_engine.specs.Answers as engine
 use Rattle.lethe_engine.specs.Reads.{IsReadRefusal}
 use Rattle.lethe_engine.specs.Refusals.{HasReasonOfChange}
@@ -18,20 +20,20 @@ use Rattle.lethe_script.specs.declared.order.Order.{Order}
 use Rattle.lethe_run.specs.declared.reply.Line.{Line}
 use Rattle.lethe_run.specs.declared.reply.Line.TheVariants as line
 use Rattle.lethe_run.specs.declared.reply.Reply.{Reply}
-use Rattle.lethe_run.specs.declared.reply.Reply.TheVariants.{Done, Ticked, Got, Scanned, Counted, Fault, Stopped, Exhausted, Backwards, ReadFault, Damaged}
+use Rattle.lethe_run.specs.declared.reply.Reply.TheVariants.{Done, Ticked, Got, Scanned, Counted, Pinned, PinGot, PinScanned, Unpinned, Fault, Stopped, Exhausted, Backwards, Barred, ReadFault, Damaged}
 use Rattle.lethe_run.specs.Anywhere.{AreTold, AreToldThrough, IsTold, MayChange, Standing, standing_of}
-use Rattle.lethe_run.specs.Replies.{refusal_of, reply_of, unread_of}
-use Rattle.lethe_run.specs.Transcript.{call_of, change_of, read_of}
+use Rattle.lethe_run.specs.Replies.{refusal_of, reply_of, slot_unread_of, unread_of}
+use Rattle.lethe_run.specs.Slots.{Slots}
+use Rattle.lethe_run.specs.Transcript.{IsRead, call_of, change_of}
 use Rattle.lethe_run.proofs.Steps.{asks_change}
 
--- what a reply tells of the store before and behind; for want of memory both stand alike
-abbrev pub Tells : Type 0 → Act → Result Reply NoMemory → View → View → Type 0
-Tells PortsFail act result old new = MatchResult result (λ reply. IsTold PortsFail old.faults new.faults act (standing_of old) reply (standing_of new)) (λ why. standing_of new ≡ standing_of old)
+-- what a reply tells of the store and the slots before and behind; for want of memory all stand alike
+abbrev pub Tells : Type 0 → Act → Result Reply NoMemory → View → Slots → View → Slots → Type 0
+Tells PortsFail act result old before new behind =
+    MatchResult result (λ reply. IsTold PortsFail old.faults new.faults act (standing_of old before) reply (standing_of new behind)) (λ why. standing_of new behind ≡ standing_of old before)
 
-pub stands_so : (view : View) (count : ℕ) (failed : Option ℕ) → view.state.count ≡ count → view.state.stopped ≡ failed → standing_of view ≡ record { count = count; failed = failed }
-stands_so view count failed counted stopped =
-    let with : ℕ → Option ℕ → Standing = λ count failed. record { count = count; failed = failed } in
-    ap (λ n. with n view.state.stopped) counted ∙ ap (with count) stopped
+pub stands_so : (view : View) (slots : Slots) (s : Standing) → view.state.count ≡ s.count → view.state.stopped ≡ s.failed → slots ≡ s.slots → standing_of view slots ≡ s
+stands_so view slots s counted stopped holds = λ i. record { count = counted i; failed = stopped i; slots = holds i }
 
 none_of : (stopped : Option ℕ) → ((at : ℕ) → stopped ≡ Some at → ⊥) → stopped ≡ None
 none_of None never = refl
@@ -43,32 +45,35 @@ ok_runs old result x ok stop = none_of old.state.stopped (λ at was. let clash :
 
 -- A call of any face
 
-module _ (Told Ports : Type 0) (act : Act) (call : Call) (is : call_of act ≡ Some call) (face : Face) (old new : View) where
+module _ (Told Ports : Type 0) (act : Act) (call : Call) (is : call_of act ≡ Some call) (face : Face) (old new : View) (before behind : Slots) (kept : behind ≡ before) where
   -- what it says of itself
   abbrev pub Says : Option Refused → Type 0
   Says why = engine.Answers Told (Makes call) why face old new
 
   -- it isn't made
-  pub still : new.state.count ≡ old.state.count → new.state.stopped ≡ old.state.stopped → standing_of new ≡ standing_of old
-  still count stopped = stands_so new old.state.count old.state.stopped count stopped
+  pub still : new.state.count ≡ old.state.count → new.state.stopped ≡ old.state.stopped → standing_of new behind ≡ standing_of old before
+  still count stopped = stands_so new behind (standing_of old before) count stopped kept
 
-  may : old.state.stopped ≡ None → MayChange act (standing_of old)
+  may : old.state.stopped ≡ None → MayChange act (standing_of old before)
   may runs = (asks_change act call is, runs)
 
-  failed : (place b a : ℕ) → old.state.stopped ≡ None → place ≡ old.state.count + 1 → b ≡ old.faults → a ≡ new.faults → Rose old.faults new.faults → Says (Some (refused.Fault place b a)) → Tells Ports act (Ok (Fault place b a)) old new
+  failed : (place b a : ℕ) → old.state.stopped ≡ None → place ≡ old.state.count + 1 → b ≡ old.faults → a ≡ new.faults → Rose old.faults new.faults → Says (Some (refused.Fault place b a)) → Tells Ports act (Ok (Fault place b a)) old before new behind
   failed place b a runs place_is b_is a_is rose says = (
-    may runs,
-    place_is,
-    omega (arith, b_is),
-    subst (λ n. Rose n a) (sym b_is) (subst (Rose old.faults) (sym a_is) rose),
-    omega (arith, a_is),
-    stands_so new place (Some place) (says.count ∙ sym place_is) says.stopped,
+    (
+      may runs,
+      place_is,
+      omega (arith, b_is),
+      subst (λ n. Rose n a) (sym b_is) (subst (Rose old.faults) (sym a_is) rose),
+      omega (arith, a_is),
+      stands_so new behind (record { count = place; failed = Some place; slots = before }) (says.count ∙ sym place_is) says.stopped kept,
+    ),
+    kept,
   )
 
-  pub hindered : (Short : Type 0) (why : Refused) → HasReason Short old.state old.faults new.faults why → Says (Some why) → Tells Ports act (refusal_of why) old new
+  pub hindered : (Short : Type 0) (why : Refused) → HasReason Short old.state old.faults new.faults why → Says (Some why) → Tells Ports act (refusal_of why) old before new behind
   hindered Short (refused.Fault place b a) reason says = failed place b a reason.0 reason.1 reason.2 reason.3 reason.4 says
-  hindered Short (refused.Stopped at) reason says = (asks_change act call is, reason, still says.count says.stopped)
-  hindered Short (refused.Exhausted last) reason says = (may reason.0, reason.1, still says.count says.stopped)
+  hindered Short (refused.Stopped at) reason says = ((asks_change act call is, reason, still says.count says.stopped), kept)
+  hindered Short (refused.Exhausted last) reason says = ((may reason.0, reason.1, still says.count says.stopped), kept)
   hindered Short refused.NoMemory reason says = still says.count says.stopped
   hindered Short (refused.Backwards clock) reason says = absurd reason
   hindered Short (refused.Pinned pin limit) reason says = absurd reason
@@ -77,45 +82,52 @@ module _ (Told Ports : Type 0) (act : Act) (call : Call) (is : call_of act ≡ S
   hindered Short (refused.ReadFault b a) reason says = absurd reason
   hindered Short (refused.Damaged name) reason says = absurd reason
 
-  pub unreadable : (before now : ℕ) (why : Refused) → old.state.stopped ≡ None → IsUnreadable Told Ports before now why → Says (Some why) → Tells Ports act (refusal_of why) old new
-  unreadable before now (refused.ReadFault b a) runs reason says = (inr (may runs), reason.0, still says.count says.stopped)
-  unreadable before now (refused.Damaged name) runs reason says = (inr (may runs), still says.count says.stopped)
-  unreadable before now (refused.Fault place b a) runs reason says = absurd reason
-  unreadable before now (refused.Stopped at) runs reason says = absurd reason
-  unreadable before now (refused.Exhausted last) runs reason says = absurd reason
-  unreadable before now refused.NoMemory runs reason says = absurd reason
-  unreadable before now (refused.Backwards clock) runs reason says = absurd reason
-  unreadable before now (refused.Pinned pin limit) runs reason says = absurd reason
-  unreadable before now refused.NothingDue runs reason says = absurd reason
-  unreadable before now (refused.Cancelled begun other) runs reason says = absurd reason
+  pub unreadable : (faults_before faults_now : ℕ) (why : Refused) → old.state.stopped ≡ None → IsUnreadable Told Ports faults_before faults_now why → Says (Some why) → Tells Ports act (refusal_of why) old before new behind
+  unreadable faults_before faults_now (refused.ReadFault b a) runs reason says = ((inr (may runs), reason.0, still says.count says.stopped), kept)
+  unreadable faults_before faults_now (refused.Damaged name) runs reason says = ((inr (may runs), still says.count says.stopped), kept)
+  unreadable faults_before faults_now (refused.Fault place b a) runs reason says = absurd reason
+  unreadable faults_before faults_now (refused.Stopped at) runs reason says = absurd reason
+  unreadable faults_before faults_now (refused.Exhausted last) runs reason says = absurd reason
+  unreadable faults_before faults_now refused.NoMemory runs reason says = absurd reason
+  unreadable faults_before faults_now (refused.Backwards clock) runs reason says = absurd reason
+  unreadable faults_before faults_now (refused.Pinned pin limit) runs reason says = absurd reason
+  unreadable faults_before faults_now refused.NothingDue runs reason says = absurd reason
+  unreadable faults_before faults_now (refused.Cancelled begun other) runs reason says = absurd reason
 
 -- A change
 
-module _ (Told Ports : Type 0) (act : Act) (call : Call) (is : call_of act ≡ Some call) (writes : change_of act ≡ Some call) (old new : View) where
+module _ (Told Ports : Type 0) (act : Act) (call : Call) (is : call_of act ≡ Some call) (writes : change_of act ≡ Some call) (old new : View) (before behind : Slots) where
   abbrev face : Face
   face = record (face_of old) { retired = new.retired }
 
-  pub change_tells : (before now : ℕ) (result : Result ℕ Refused) → Says Told Ports act call is face old new (result_err result) → IfOk result (λ place. place ≡ old.state.count + 1) → IfErr result (HasReasonOfChange Told Ports old new before now)
-      → ((at : ℕ) → old.state.stopped ≡ Some at → IsErrOf result (refused.Stopped at)) → Tells Ports act (reply_of result) old new
-  change_tells before now (Ok place) says place_is why stop =
+  pub change_tells : behind ≡ before → (faults_before faults_now : ℕ) (result : Result ℕ Refused) → engine.Answers Told (Makes call) (result_err result) face old new → IfOk result (λ place. place ≡ old.state.count + 1)
+      → IfErr result (HasReasonOfChange Told Ports old new faults_before faults_now) → ((at : ℕ) → old.state.stopped ≡ Some at → IsErrOf result (refused.Stopped at)) → Tells Ports act (reply_of result) old before new behind
+  change_tells kept faults_before faults_now (Ok place) says place_is why stop =
       let runs = ok_runs old (Ok place) place refl stop in
-      (subst IsSome (sym writes) refl, runs, place_is, stands_so new place None (says.count ∙ sym place_is) (says.stopped ∙ runs))
-  change_tells before now (Err why) says place_is (inl reason) stop = hindered Told Ports act call is face old new _ why reason says
-  change_tells before now (Err why) says place_is (inr reason) stop = unreadable Told Ports act call is face old new before now why reason.1 reason.2 says
+      ((subst IsSome (sym writes) refl, runs, place_is, stands_so new behind (record { count = place; failed = None; slots = before }) (says.count ∙ sym place_is) (says.stopped ∙ runs) kept), kept)
+  change_tells kept faults_before faults_now (Err why) says place_is (inl reason) stop = hindered Told Ports act call is face old new before behind kept _ why reason says
+  change_tells kept faults_before faults_now (Err why) says place_is (inr reason) stop = unreadable Told Ports act call is face old new before behind kept faults_before faults_now why reason.1 reason.2 says
 
 -- A read that is refused
 
-pub unread_tells : (Ports : Type 0) (act : Act) (view : View) → IsSome (read_of act) → (why : Refused) → IsReadRefusal why → ((before after : ℕ) → why ≡ refused.ReadFault before after → Ports) → Tells Ports act (unread_of why) view view
-unread_tells Ports act view is (refused.ReadFault before after) reason fails = (inl is, fails before after refl, refl)
-unread_tells Ports act view is (refused.Damaged name) reason fails = (inl is, refl)
-unread_tells Ports act view is refused.NoMemory reason fails = refl
-unread_tells Ports act view is (refused.Fault place before after) reason fails = absurd reason
-unread_tells Ports act view is (refused.Stopped at) reason fails = absurd reason
-unread_tells Ports act view is (refused.Exhausted last) reason fails = absurd reason
-unread_tells Ports act view is (refused.Backwards clock) reason fails = absurd reason
-unread_tells Ports act view is (refused.Pinned pin limit) reason fails = absurd reason
-unread_tells Ports act view is refused.NothingDue reason fails = absurd reason
-unread_tells Ports act view is (refused.Cancelled begun other) reason fails = absurd reason
+pub unread_tells : (Ports : Type 0) (act : Act) (view : View) (slots : Slots) → IsRead act → (why : Refused) → IsReadRefusal why → ((before after : ℕ) → why ≡ refused.ReadFault before after → Ports) → Tells Ports act (unread_of why) view slots view slots
+unread_tells Ports act view slots is (refused.ReadFault before after) reason fails = ((inl is, fails before after refl, refl), refl)
+unread_tells Ports act view slots is (refused.Damaged name) reason fails = ((inl is, refl), refl)
+unread_tells Ports act view slots is refused.NoMemory reason fails = refl
+unread_tells Ports act view slots is (refused.Fault place before after) reason fails = absurd reason
+unread_tells Ports act view slots is (refused.Stopped at) reason fails = absurd reason
+unread_tells Ports act view slots is (refused.Exhausted last) reason fails = absurd reason
+unread_tells Ports act view slots is (refused.Backwards clock) reason fails = absurd reason
+unread_tells Ports act view slots is (refused.Pinned pin limit) reason fails = absurd reason
+unread_tells Ports act view slots is refused.NothingDue reason fails = absurd reason
+unread_tells Ports act view slots is (refused.Cancelled begun other) reason fails = absurd reason
+
+-- and one of what a slot holds
+pub slot_unread_tells : (Ports : Type 0) (from upto : ℕ) (act : Act) (s : Standing) → IsRead act → (why : ReadRefused) → ((before after : ℕ) → why ≡ read.ReadFault before after → Ports)
+    → MatchResult (slot_unread_of why) (λ reply. IsTold Ports from upto act s reply s) (λ why. s ≡ s)
+slot_unread_tells Ports from upto act s is (read.ReadFault before after) fails = ((inl is, fails before after refl, refl), refl)
+slot_unread_tells Ports from upto act s is (read.Damaged name) fails = ((inl is, refl), refl)
+slot_unread_tells Ports from upto act s is read.NoMemory fails = refl
 
 -- Lines, and what stays of them when the counts of faults lie further apart
 
@@ -124,12 +136,17 @@ module _ (Ports : Type 0) (from upto low high : ℕ) (below : low ≤ from) (abo
   wider act s (Done place) t told = told
   wider act s (Ticked ticked) t told = told
   wider act s (Backwards point clock) t told = told
-  wider act s (Fault place b a) t told = let first = told.2 in let last = told.4 in (told.0, told.1, omega (arith, first, below), told.3, omega (arith, last, above), told.5)
+  wider act s (Barred number limit) t told = told
+  wider act s (Fault place b a) t told = let first = told.0.2 in let last = told.0.4 in ((told.0.0, told.0.1, omega (arith, first, below), told.0.3, omega (arith, last, above), told.0.5), told.1)
   wider act s (Stopped at) t told = told
   wider act s (Exhausted last) t told = told
   wider act s (Got point held) t told = told
   wider act s (Scanned point pairs) t told = told
   wider act s (Counted point stat) t told = told
+  wider act s (Pinned point number limit) t told = told
+  wider act s (PinGot number point held) t told = told
+  wider act s (PinScanned number point pairs) t told = told
+  wider act s (Unpinned point number) t told = told
   wider act s ReadFault t told = told
   wider act s (Damaged page) t told = told
 
@@ -162,24 +179,24 @@ module _ (Ports : Type 0) (from upto : ℕ) where
 
 -- One call after another, whose counts of faults rise
 
-module _ (Ports : Type 0) (old mid new : View) (first : old.faults ≤ mid.faults) (then : mid.faults ≤ new.faults) where
-  pub told_more : (orders : List Order) (lines : List Line) (order : Order) (reply : Reply) → AreTold Ports old.faults mid.faults orders (standing_of old) lines (standing_of mid)
-      → IsTold Ports mid.faults new.faults order.act (standing_of mid) reply (standing_of new) → AreTold Ports old.faults new.faults (orders ++ order ∷ []) (standing_of old) (lines ++ line.Answer order.caller reply ∷ []) (standing_of new)
+module _ (Ports : Type 0) (old mid new : View) (before between behind : Slots) (first : old.faults ≤ mid.faults) (then : mid.faults ≤ new.faults) where
+  pub told_more : (orders : List Order) (lines : List Line) (order : Order) (reply : Reply) → AreTold Ports old.faults mid.faults orders (standing_of old before) lines (standing_of mid between)
+      → IsTold Ports mid.faults new.faults order.act (standing_of mid between) reply (standing_of new behind) → AreTold Ports old.faults new.faults (orders ++ order ∷ []) (standing_of old before) (lines ++ line.Answer order.caller reply ∷ []) (standing_of new behind)
   told_more orders lines order reply told last =
-      one_more Ports old.faults new.faults order reply orders (standing_of old) lines (standing_of mid) (standing_of new)
-      (told_wider Ports old.faults mid.faults old.faults new.faults (omega arith) then orders (standing_of old) lines (standing_of mid) told)
-      (wider Ports mid.faults new.faults old.faults new.faults first (omega arith) order.act (standing_of mid) reply (standing_of new) last)
+      one_more Ports old.faults new.faults order reply orders (standing_of old before) lines (standing_of mid between) (standing_of new behind)
+      (told_wider Ports old.faults mid.faults old.faults new.faults (omega arith) then orders (standing_of old before) lines (standing_of mid between) told)
+      (wider Ports mid.faults new.faults old.faults new.faults first (omega arith) order.act (standing_of mid between) reply (standing_of new behind) last)
 
   -- a call for which there was no memory has no line
-  pub told_still : (orders : List Order) (lines : List Line) → AreTold Ports old.faults mid.faults orders (standing_of old) lines (standing_of mid) → standing_of new ≡ standing_of mid
-      → AreTold Ports old.faults new.faults orders (standing_of old) lines (standing_of new)
+  pub told_still : (orders : List Order) (lines : List Line) → AreTold Ports old.faults mid.faults orders (standing_of old before) lines (standing_of mid between) → standing_of new behind ≡ standing_of mid between
+      → AreTold Ports old.faults new.faults orders (standing_of old before) lines (standing_of new behind)
   told_still orders lines told same =
-      subst (AreTold Ports old.faults new.faults orders (standing_of old) lines) (sym same)
-      (told_wider Ports old.faults mid.faults old.faults new.faults (omega arith) then orders (standing_of old) lines (standing_of mid) told)
+      subst (AreTold Ports old.faults new.faults orders (standing_of old before) lines) (sym same)
+      (told_wider Ports old.faults mid.faults old.faults new.faults (omega arith) then orders (standing_of old before) lines (standing_of mid between) told)
 
-  pub through_more : (phases : List (List Order)) (lines : List (List Line)) (part : List Order) (more : List Line) → AreToldThrough Ports old.faults mid.faults phases (standing_of old) lines (standing_of mid)
-      → AreTold Ports mid.faults new.faults part (standing_of mid) more (standing_of new) → AreToldThrough Ports old.faults new.faults (phases ++ part ∷ []) (standing_of old) (lines ++ more ∷ []) (standing_of new)
+  pub through_more : (phases : List (List Order)) (lines : List (List Line)) (part : List Order) (more : List Line) → AreToldThrough Ports old.faults mid.faults phases (standing_of old before) lines (standing_of mid between)
+      → AreTold Ports mid.faults new.faults part (standing_of mid between) more (standing_of new behind) → AreToldThrough Ports old.faults new.faults (phases ++ part ∷ []) (standing_of old before) (lines ++ more ∷ []) (standing_of new behind)
   through_more phases lines part more told last =
-      phase_more Ports old.faults new.faults part more phases (standing_of old) lines (standing_of mid) (standing_of new)
-      (through_wider Ports old.faults mid.faults old.faults new.faults (omega arith) then phases (standing_of old) lines (standing_of mid) told)
-      (told_wider Ports mid.faults new.faults old.faults new.faults first (omega arith) part (standing_of mid) more (standing_of new) last)
+      phase_more Ports old.faults new.faults part more phases (standing_of old before) lines (standing_of mid between) (standing_of new behind)
+      (through_wider Ports old.faults mid.faults old.faults new.faults (omega arith) then phases (standing_of old before) lines (standing_of mid between) told)
+      (told_wider Ports mid.faults new.faults old.faults new.faults first (omega arith) part (standing_of mid between) more (standing_of new behind) last)

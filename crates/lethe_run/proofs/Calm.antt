@@ -1,4 +1,4 @@
--- Where no count of faults rose and there are places, each change is done or is a tick behind the clock, and what was left for a history is opened.
+-- Where no count of faults rose and there are places, each change is done or is a tick behind the clock or barred by a pin, and what was left for a history is opened.
 use Rattle.std.proofs.Common.{◌≡◌, ◌≤◌, ◌<◌, ℕ, ◌+◌, ◌-◌, Bool, true, false, ◌||◌, List, [], ◌∷◌, length, Option, Some, None, IsSomeAnd, inl, inr, refl, ap, ◌∙◌, arith}
 use Rattle.std.specs.Prelude.{sum_by}
 use Rattle.std.specs.List.{list_any}
@@ -38,9 +38,14 @@ module _ (told : Told) (calm : Rose told.course.before told.course.now → ⊥) 
   done_line n next caller by act (reply.Done place) below a f = (refl, omega arith)
   done_line n next caller by act (reply.Ticked ticked) below a f = (refl, omega arith)
   done_line n next caller by act (reply.Backwards point clock) below a f = (refl, omega arith)
+  done_line n next caller by act (reply.Barred number limit) below a f = (refl, omega arith)
   done_line n next caller by act (reply.Got point held) below a f = (refl, omega arith)
   done_line n next caller by act (reply.Scanned point pairs) below a f = (refl, omega arith)
   done_line n next caller by act (reply.Counted point stat) below a f = (refl, omega arith)
+  done_line n next caller by act (reply.Pinned point number limit) below a f = (refl, omega arith)
+  done_line n next caller by act (reply.PinGot number point held) below a f = (refl, omega arith)
+  done_line n next caller by act (reply.PinScanned number point pairs) below a f = (refl, omega arith)
+  done_line n next caller by act (reply.Unpinned point number) below a f = (refl, omega arith)
   done_line n next caller by act (reply.Fault place before after) below a f = absurd (fault_of by place before after (call_of act) a)
   done_line n next caller by act (reply.Stopped at) below a f = absurd (no_fault at a.1.before a.1.after a.1.fails)
   done_line n next caller by act (reply.Exhausted last) below a f = absurd (elim f.0 [ inl here ↦ (let all = a.1.0 in omega (arith, here, all, room, below)) | inr few ↦ enough n (omega (arith, below)) few ])

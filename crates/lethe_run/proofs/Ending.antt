@@ -31,6 +31,7 @@ use Rattle.lethe_run.specs.Ends.{Run, Asks, IsCommand, IsNoCommand, IsUnused, On
 use Rattle.lethe_run.specs.Printed.{bad_words, bad_line, open_line}
 use Rattle.lethe_run.specs.Scripts.{All, IsToldFrom, ScriptEnds, Serves}
 use Rattle.lethe_run.specs.Serving.{IsOn, IsCarried, Point}
+use Rattle.lethe_run.specs.Slots.{no_slots}
 use Rattle.lethe_run.specs.Status.{EndsWith, Says, IsToldOf, status_for}
 use Rattle.lethe_run.specs.Transcript.{Start, text_of}
 use Rattle.lethe_run.proofs.Anywhere.{stands_so, through_wider}
@@ -190,8 +191,8 @@ module _ (run : Run) (config : Fields) (asks : Asks run config) (phases : List (
   plausible front lines told = record {
     opened = mid.state.count;
     end = told.0;
-    told = subst (λ s. AreToldThrough run.PortsFail run.faults_before run.faults front s lines told.0) (stands_so mid mid.state.count None refl runs)
-        (through_wider run.PortsFail mid.faults run.faults run.faults_before run.faults up (omega arith) front (standing_of mid) lines told.0 told.1);
+    told = subst (λ s. AreToldThrough run.PortsFail run.faults_before run.faults front s lines told.0) (stands_so mid no_slots (record { count = mid.state.count; failed = None; slots = no_slots }) refl runs refl)
+        (through_wider run.PortsFail mid.faults run.faults run.faults_before run.faults up (omega arith) front (standing_of mid no_slots) lines told.0 told.1);
   }
 
   carries : (front : List (List Order)) (lines : List (List Line)) → IsToldFrom run.PortsFail mid run.faults front lines → Serves run.Tells run.PortsFail mid run.finish run.faults front lines → Carries run config front lines

@@ -17,6 +17,7 @@ use Rattle.lethe_run.specs.Anywhere.{AreTold, AreToldThrough, standing_of}
 use Rattle.lethe_run.specs.Ends.{IsBegun}
 use Rattle.lethe_run.specs.Scripts.{All, Behind, Inside, IsToldFrom, Serves, ScriptEnds, IsCutBy}
 use Rattle.lethe_run.specs.Serving.{IsOn, IsPhase, Point, opened_in}
+use Rattle.lethe_run.specs.Slots.{Slots, no_slots}
 use Rattle.lethe_run.specs.Transcript.{Start, text_of, has_refusal}
 use Rattle.lethe_run.proofs.Anywhere.{stands_so, through_more}
 use Rattle.lethe_run.proofs.Images.{calls_then}
@@ -37,59 +38,62 @@ take_more (y ∷ front) x rest = ap (λ l. y ∷ l) (take_more front x rest)
 pub part_whole : (orders items part rest : List Order) → items ≡ orders → items ≡ part ++ rest → rest ≡ [] → part ≡ orders
 part_whole orders items part rest is parts none = sym (append-nil part) ∙ ap (λ l. part ++ l) (sym none) ∙ sym parts ∙ is
 
--- what serving a phase gave
-abbrev pub Phase : Type 0 → Type 0 → View → View → List Order → Bool → List Line → Type 0
-Phase Tells Ports now then orders whole more = (part : List Order) × (rest : List Order) × (orders ≡ part ++ rest) × ((whole ≡ true) → rest ≡ [])
-    × AreTold Ports now.faults then.faults part (standing_of now) more (standing_of then)
-    × (Tells → (begin : Start) (from : Point) (start : History) → IsOn begin from start now → (h : History) × IsPhase Ports begin start h part more now then)
+-- what serving a phase gave, and what was and is shown of the history
+abbrev pub Phase : Type 0 → Type 0 → View → View → Slots → Slots → (History → Type 0) → (History → Type 0) → List Order → Bool → List Line → Type 0
+Phase Tells Ports now then between behind Was Is orders whole more = (part : List Order) × (rest : List Order) × (orders ≡ part ++ rest) × ((whole ≡ true) → rest ≡ [])
+    × AreTold Ports now.faults then.faults part (standing_of now between) more (standing_of then behind)
+    × (Tells → (begin : Start) (from : Point) (start : History) → IsOn begin from start now → Was start → (h : History) × IsPhase Ports begin start h part more now then × Is h)
 
 -- what the phases before gave
-pub record Before (Tells Ports : Type 0) (start now : View) (yielded : List (List Order)) (lines : List (List Line)) : Type 0 where
-  pub told : AreToldThrough Ports start.faults now.faults yielded (standing_of start) lines (standing_of now)
-  pub served : Tells → (begin : Start) (from : Point) → IsOn begin from from.history start → SoFar Ports begin from yielded lines start now
+pub record Before (Tells Ports : Type 0) (start now : View) (slots : Slots) (Shown : History → Type 0) (yielded : List (List Order)) (lines : List (List Line)) : Type 0 where
+  pub told : AreToldThrough Ports start.faults now.faults yielded (standing_of start no_slots) lines (standing_of now slots)
+  pub served : Tells → (begin : Start) (from : Point) → IsOn begin from from.history start → SoFar Ports begin from yielded lines start now Shown
 
-pub before_any : (Tells Ports : Type 0) (view : View) → Before Tells Ports view view [] []
-before_any Tells Ports view = record { told = refl; served = λ told begin from on. so_far_start Ports begin from view on }
+pub before_any : (Tells Ports : Type 0) (view : View) (slots : Slots) (Shown : History → Type 0) → slots ≡ no_slots → ((h : History) → Shown h) → Before Tells Ports view view slots Shown [] []
+before_any Tells Ports view slots Shown none shown = record {
+  told = λ i. standing_of view (none i);
+  served = λ told begin from on. so_far_start Ports begin from view Shown on (shown from.history);
+}
 
-module _ (Tells Ports : Type 0) (start then : View) (itself : Tells → Image then.disk then.disk.directory) where
-  serves : (phases : List (List Order)) (lines : List (List Line)) → Before Tells Ports start then phases lines → Serves Tells Ports start then.disk then.faults phases lines
-  serves phases lines so_far told begin from on = carried Ports begin from phases lines start then (itself told) (so_far.served told begin from on)
+module _ (Tells Ports : Type 0) (start then : View) (itself : Tells → Image then.disk then.disk.directory) (behind : Slots) (Is : History → Type 0) where
+  serves : (phases : List (List Order)) (lines : List (List Line)) → Before Tells Ports start then behind Is phases lines → Serves Tells Ports start then.disk then.faults phases lines
+  serves phases lines so_far told begin from on = carried Ports begin from phases lines start then Is (itself told) (so_far.served told begin from on)
 
-  tells : (phases : List (List Order)) (lines : List (List Line)) → Before Tells Ports start then phases lines → IsToldFrom Ports start then.faults phases lines
-  tells phases lines so_far = (standing_of then, so_far.told)
+  tells : (phases : List (List Order)) (lines : List (List Line)) → Before Tells Ports start then behind Is phases lines → IsToldFrom Ports start then.faults phases lines
+  tells phases lines so_far = (standing_of then behind, so_far.told)
 
   -- all were answered
-  all : (phases : List (List Order)) (lines : List (List Line)) (old new : Option Bytes) (refused : Bool) → Before Tells Ports start then phases lines → Appends old new (text_of lines) → has_refusal lines ≡ refused
+  all : (phases : List (List Order)) (lines : List (List Line)) (old new : Option Bytes) (refused : Bool) → Before Tells Ports start then behind Is phases lines → Appends old new (text_of lines) → has_refusal lines ≡ refused
       → All Tells Ports start then.disk then.faults old new phases refused
   all phases lines old new refused so_far written is = record { lines = lines; told = tells phases lines so_far; served = serves phases lines so_far; written = written; is = is }
 
-  pub all_ends : (phases : List (List Order)) (lines : List (List Line)) (old new : Option Bytes) (SinkRose : Type 0) (refused : Bool) → Before Tells Ports start then phases lines → Appends old new (text_of lines) → has_refusal lines ≡ refused
+  pub all_ends : (phases : List (List Order)) (lines : List (List Line)) (old new : Option Bytes) (SinkRose : Type 0) (refused : Bool) → Before Tells Ports start then behind Is phases lines → Appends old new (text_of lines) → has_refusal lines ≡ refused
       → ScriptEnds Tells Ports start then.disk then.faults old new SinkRose phases (cond refused Refused Answered)
   all_ends phases lines old new SinkRose true so_far written is = all phases lines old new true so_far written is
   all_ends phases lines old new SinkRose false so_far written is = all phases lines old new false so_far written is
 
   -- some were, and of the next one a part
-  module _ (now : View) (up : start.faults ≤ now.faults) (later : now.faults ≤ then.faults) (phases yielded rest : List (List Order)) (orders : List Order) (are : phases ≡ yielded ++ orders ∷ rest) (lines : List (List Line)) (more : List Line) (whole : Bool)
-      (so_far : Before Tells Ports start now yielded lines) (phase : Phase Tells Ports now then orders whole more) where
+  module _ (now : View) (between : Slots) (Was : History → Type 0) (up : start.faults ≤ now.faults) (later : now.faults ≤ then.faults) (phases yielded rest : List (List Order)) (orders : List Order) (are : phases ≡ yielded ++ orders ∷ rest) (lines : List (List Line)) (more : List Line) (whole : Bool)
+      (so_far : Before Tells Ports start now between Was yielded lines) (phase : Phase Tells Ports now then between behind Was Is orders whole more) where
     abbrev part : List Order
     part = phase.0
 
-    begun_so_far : Before Tells Ports start then (yielded ++ part ∷ []) (lines ++ more ∷ [])
+    begun_so_far : Before Tells Ports start then behind Is (yielded ++ part ∷ []) (lines ++ more ∷ [])
     begun_so_far = record {
-      told = through_more Ports start now then up later yielded lines part more so_far.told phase.4;
+      told = through_more Ports start now then no_slots between behind up later yielded lines part more so_far.told phase.4;
       served = λ told begin from on.
           let prior = so_far.served told begin from on in
-          let next = phase.5 told begin from prior.history prior.on in
-          so_far_more Ports begin from next.0 yielded lines part more start now then later prior next.1;
+          let next = phase.5 told begin from prior.history prior.on prior.shown in
+          so_far_more Ports begin from next.0 yielded lines part more start now then Was Is later prior next.1 next.2;
     }
 
-    pub next_so_far : whole ≡ true → Before Tells Ports start then (yielded ++ orders ∷ []) (lines ++ more ∷ [])
-    next_so_far is = subst (λ p. Before Tells Ports start then (yielded ++ p ∷ []) (lines ++ more ∷ [])) (part_whole orders orders part phase.1 refl phase.2 (phase.3 is)) begun_so_far
+    pub next_so_far : whole ≡ true → Before Tells Ports start then behind Is (yielded ++ orders ∷ []) (lines ++ more ∷ [])
+    next_so_far is = subst (λ p. Before Tells Ports start then behind Is (yielded ++ p ∷ []) (lines ++ more ∷ [])) (part_whole orders orders part phase.1 refl phase.2 (phase.3 is)) begun_so_far
 
-    behind : (old new : Option Bytes) → whole ≡ true → AppendsFront old new (text_of (lines ++ more ∷ [])) → Behind Tells Ports start then.disk then.faults old new phases
-    behind old new is written =
+    stopped_behind : (old new : Option Bytes) → whole ≡ true → AppendsFront old new (text_of (lines ++ more ∷ [])) → Behind Tells Ports start then.disk then.faults old new phases
+    stopped_behind old new is written =
         let count = suc (length yielded) in
-        let next = subst (λ p. Before Tells Ports start then p (lines ++ more ∷ [])) (sym (ap (take count) are ∙ take_more yielded orders rest)) (next_so_far is) in
+        let next = subst (λ p. Before Tells Ports start then behind Is p (lines ++ more ∷ [])) (sym (ap (take count) are ∙ take_more yielded orders rest)) (next_so_far is) in
         record {
           lines = lines ++ more ∷ [];
           count = count;
@@ -120,7 +124,7 @@ module _ (Tells Ports : Type 0) (start then : View) (itself : Tells → Image th
     pub cut_ends : (old new : Option Bytes) (Rose SinkRose : Type 0) (status : Status) → (Rose → SinkRose) → AppendsFront old new (text_of (lines ++ more ∷ [])) → IsCutBy (whole ≡ true) Rose status
         → ScriptEnds Tells Ports start then.disk then.faults old new SinkRose phases status
     cut_ends old new Rose SinkRose NoMemory rose written cut = inside old new written
-    cut_ends old new Rose SinkRose WriteFault rose written cut = (rose cut.1, behind old new cut.0 written)
+    cut_ends old new Rose SinkRose WriteFault rose written cut = (rose cut.1, stopped_behind old new cut.0 written)
     cut_ends old new Rose SinkRose Answered rose written cut = absurd cut
     cut_ends old new Rose SinkRose Refused rose written cut = absurd cut
     cut_ends old new Rose SinkRose BadWords rose written cut = absurd cut
@@ -163,8 +167,8 @@ module _ (Tells Ports : Type 0) (start mid : View) (idle : Tells → IsIdle star
       told_idle : (phases : List (List Order)) (lines : List (List Line)) → IsToldFrom Ports mid now phases lines → IsToldFrom Ports start now phases lines
       told_idle phases lines told = (
         told.0,
-        subst (λ s. AreToldThrough Ports start.faults now phases s lines told.0) (stands_so mid start.state.count start.state.stopped (ap (λ (state : State). state.count) state) (ap (λ (state : State). state.stopped) state))
-            (subst (λ n. AreToldThrough Ports n now phases (standing_of mid) lines told.0) faults told.1),
+        subst (λ s. AreToldThrough Ports start.faults now phases s lines told.0) (stands_so mid no_slots (standing_of start no_slots) (ap (λ (state : State). state.count) state) (ap (λ (state : State). state.stopped) state) refl)
+            (subst (λ n. AreToldThrough Ports n now phases (standing_of mid no_slots) lines told.0) faults told.1),
       )
 
       all_idle : (phases : List (List Order)) (refused : Bool) → All Tells Ports mid finish now old new phases refused → All Tells Ports start finish now old new phases refused
@@ -203,7 +207,7 @@ module _ (Tells Ports : Type 0) (start mid : View) (idle : Tells → IsIdle star
     lines = [];
     front = [];
     begun = inl refl;
-    told = (standing_of start, refl);
-    served = serves_idle mid.disk mid.faults [] [] (λ told begin from on. carried Ports begin from [] [] mid mid (itself told) (so_far_start Ports begin from mid on));
+    told = (standing_of start no_slots, refl);
+    served = serves_idle mid.disk mid.faults [] [] (λ told begin from on. carried Ports begin from [] [] mid mid (λ h. Unit {0}) (itself told) (so_far_start Ports begin from mid (λ h. Unit {0}) on tt));
     written = none;
   }

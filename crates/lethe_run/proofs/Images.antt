@@ -166,4 +166,4 @@ module _ (begin : Start) (from : Point) (h : History) (view : View) (on : IsOn b
       let clash : None ≡ Some now.change = sym none ∙ ap failed_in now.history ∙ last in cc
 
   pub is_clean : failed_in h ≡ None → IsClean begin.config.threshold view.disk.directory h (after h).clock
-  is_clean none = now_clean begin.config h view on.stands.now (runs_by view.state.stopped on.stands.now.held none)
+  is_clean none = now_clean begin.config h view on.stands.pages on.stands.now (runs_by view.state.stopped on.stands.now.held none)

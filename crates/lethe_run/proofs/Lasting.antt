@@ -55,9 +55,14 @@ module _ (told : Told) (most : ℕ) (bound : (caller place : ℕ) (call : Call) 
   done_within (order ∷ orders) (line.Answer caller (reply.Ticked ticked) ∷ lines) a =
       All-cons (λ place. place ≤ most) ticked.place (filter_map ok_place lines) (bound order.caller ticked.place (call.Tick a.1.0) a.1.2.done) (done_within orders lines a.2)
   done_within (order ∷ orders) (line.Answer caller (reply.Backwards point clock) ∷ lines) a = done_within orders lines a.2
+  done_within (order ∷ orders) (line.Answer caller (reply.Barred number limit) ∷ lines) a = done_within orders lines a.2
   done_within (order ∷ orders) (line.Answer caller (reply.Got point held) ∷ lines) a = done_within orders lines a.2
   done_within (order ∷ orders) (line.Answer caller (reply.Scanned point pairs) ∷ lines) a = done_within orders lines a.2
   done_within (order ∷ orders) (line.Answer caller (reply.Counted point stat) ∷ lines) a = done_within orders lines a.2
+  done_within (order ∷ orders) (line.Answer caller (reply.Pinned point number limit) ∷ lines) a = done_within orders lines a.2
+  done_within (order ∷ orders) (line.Answer caller (reply.PinGot number point held) ∷ lines) a = done_within orders lines a.2
+  done_within (order ∷ orders) (line.Answer caller (reply.PinScanned number point pairs) ∷ lines) a = done_within orders lines a.2
+  done_within (order ∷ orders) (line.Answer caller (reply.Unpinned point number) ∷ lines) a = done_within orders lines a.2
   done_within (order ∷ orders) (line.Answer caller (reply.Fault place before after) ∷ lines) a = done_within orders lines a.2
   done_within (order ∷ orders) (line.Answer caller (reply.Stopped at) ∷ lines) a = done_within orders lines a.2
   done_within (order ∷ orders) (line.Answer caller (reply.Exhausted last) ∷ lines) a = done_within orders lines a.2
@@ -136,6 +141,7 @@ module _ (begin : Start) (from : Point) (h : History) (view : View) (on : IsOn b
         counted = on.counted;
         stands = record {
           now = on.stands.now;
+          pages = on.stands.pages;
           begins = (added.0, added.1);
           later = omega arith;
           images = λ m c low high left. image_by view.state.stopped held c (subst (λ n. view.disk.left n c) (omega (arith, low, high)) left);

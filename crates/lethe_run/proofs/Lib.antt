@@ -5,9 +5,13 @@ pub mod Lasting
 pub mod Outcomes
 pub mod Shorts
 pub mod Steps
+pub mod Pins
+pub mod Holding
 pub mod Anywhere
 pub mod Ticking
 pub mod Looks
+pub mod Pinned
+pub mod Slotted
 pub mod Runs
 pub mod Options
 pub mod Turns

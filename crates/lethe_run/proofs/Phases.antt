@@ -68,17 +68,18 @@ refusal_more lines more = list_any-append (list_any is_refusal) lines (more ∷ 
 abbrev pub AreBorneOn : Start → History → View → List Line → Type 0
 AreBorneOn begin h view lines = All (IsBorneOn begin h view) (certificates_in lines)
 
--- the phases so far
-pub record SoFar (Ports : Type 0) (begin : Start) (from : Point) (phases : List (List Order)) (lines : List (List Line)) (start now : View) : Type 0 where
+-- the phases so far, and what else is shown of the history that they made
+pub record SoFar (Ports : Type 0) (begin : Start) (from : Point) (phases : List (List Order)) (lines : List (List Line)) (start now : View) (Shown : History → Type 0) : Type 0 where
   pub history : History
   pub served : AreServed (course Ports begin now.faults now.disk.moment) from.history phases lines history
   pub goes : Advances begin from.history history start now
   pub on : IsOn begin from history now
   pub lasting : All (Stays begin from.history history now) lines
   pub certified : All (AreBorneOn begin history now) lines
+  pub shown : Shown history
 
-pub so_far_start : (Ports : Type 0) (begin : Start) (from : Point) (view : View) → IsOn begin from from.history view → SoFar Ports begin from [] [] view view
-so_far_start Ports begin from view on = record { history = from.history; served = refl; goes = still begin from.history view; on = on; lasting = All-nil (Stays begin from.history from.history view); certified = All-nil (AreBorneOn begin from.history view) }
+pub so_far_start : (Ports : Type 0) (begin : Start) (from : Point) (view : View) (Shown : History → Type 0) → IsOn begin from from.history view → Shown from.history → SoFar Ports begin from [] [] view view Shown
+so_far_start Ports begin from view Shown on shown = record { history = from.history; served = refl; goes = still begin from.history view; on = on; lasting = All-nil (Stays begin from.history from.history view); certified = All-nil (AreBorneOn begin from.history view); shown = shown }
 
 phases_more : (c : Course) (start middle h : History) (phases : List (List Order)) (lines : List (List Line)) (orders : List Order) (more : List Line)
     → AreServed c start phases lines middle → IsServed c middle orders more h → AreServed c start (phases ++ orders ∷ []) (lines ++ more ∷ []) h
@@ -97,10 +98,10 @@ stays_now Ports begin from start h orders lines view on served = record {
   places = done_within (record { history = h; course = course Ports begin view.faults view.disk.moment }) (length (without_failed h)) (bound_now begin from h view on) orders lines served.answered;
 }
 
-pub so_far_more : (Ports : Type 0) (begin : Start) (from : Point) (h : History) (phases : List (List Order)) (lines : List (List Line)) (part : List Order) (more : List Line) (start now then : View) → now.faults ≤ then.faults
-    → (so_far : SoFar Ports begin from phases lines start now) → IsPhase Ports begin so_far.history h part more now then
-    → SoFar Ports begin from (phases ++ part ∷ []) (lines ++ more ∷ []) start then
-so_far_more Ports begin from h phases lines part more start now then le so_far phase =
+pub so_far_more : (Ports : Type 0) (begin : Start) (from : Point) (h : History) (phases : List (List Order)) (lines : List (List Line)) (part : List Order) (more : List Line) (start now then : View) (Was Is : History → Type 0) → now.faults ≤ then.faults
+    → (so_far : SoFar Ports begin from phases lines start now Was) → IsPhase Ports begin so_far.history h part more now then → Is h
+    → SoFar Ports begin from (phases ++ part ∷ []) (lines ++ more ∷ []) start then Is
+so_far_more Ports begin from h phases lines part more start now then Was Is le so_far phase shown =
     let on = phase.goes.stands from so_far.on in
     record {
       history = h;
@@ -114,6 +115,7 @@ so_far_more Ports begin from h phases lines part more start now then le so_far p
       certified = All-append (AreBorneOn begin h then) lines (more ∷ [])
           (All-weaker (AreBorneOn begin so_far.history now) (AreBorneOn begin h then) (λ ls is. all_borne_later begin so_far.history h now then phase.goes (certificates_in ls) is) lines so_far.certified)
           (All-cons (AreBorneOn begin h then) more [] phase.certified (All-nil (AreBorneOn begin h then)));
+      shown = shown;
     }
 
 -- at the end of a run what each certificate says was so at its moment
@@ -129,9 +131,9 @@ borne_out begin h view told is =
       kept = λ m c low high left. subst (λ l. IsKeptFor begin.config l h c) front (is.on.stands.images m c low high left);
     }
 
-pub carried : (Ports : Type 0) (begin : Start) (from : Point) (phases : List (List Order)) (lines : List (List Line)) (start now : View) → Image now.disk now.disk.directory → SoFar Ports begin from phases lines start now
+pub carried : (Ports : Type 0) (begin : Start) (from : Point) (phases : List (List Order)) (lines : List (List Line)) (start now : View) (Shown : History → Type 0) → Image now.disk now.disk.directory → SoFar Ports begin from phases lines start now Shown
     → IsCarried (course Ports begin now.faults now.disk.moment) begin from phases lines start.disk now.disk
-carried Ports begin from phases lines start now itself so_far = record {
+carried Ports begin from phases lines start now Shown itself so_far = record {
   history = so_far.history;
   served = so_far.served;
   calls = so_far.goes.calls;

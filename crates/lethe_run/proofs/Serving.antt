@@ -6,6 +6,7 @@ use Rattle.std.proofs.lemmas.List.Sorted.{IsPermutation-refl}
 use Rattle.std.proofs.lemmas.List.{length-append, take-append-le}
 use Rattle.std.proofs.lemmas.List.Elements.{All-append, All-cons, All-nil, All-weaker, filter_map-append}
 use Rattle.lethe_base.specs.declared.call.Call.{Call}
+use Rattle.lethe_base.specs.declared.config.Fields.{Fields}
 use Rattle.lethe_base.specs.History.{History, IsLegal, after}
 use Rattle.lethe_base.specs.Read.{Read, Answer, answer}
 use Rattle.lethe_base.specs.Read as answers
@@ -22,14 +23,14 @@ use Rattle.lethe_script.specs.declared.order.Act.{Act}
 use Rattle.lethe_run.specs.declared.reply.Line.{Line}
 use Rattle.lethe_run.specs.declared.reply.Line.TheVariants as line
 use Rattle.lethe_run.specs.declared.reply.Reply.{Reply}
-use Rattle.lethe_run.specs.declared.reply.Reply.TheVariants.{Done, Ticked, Got, Scanned, Counted, Fault, Stopped, Exhausted, Backwards, ReadFault, Damaged}
+use Rattle.lethe_run.specs.declared.reply.Reply.TheVariants.{Done, Ticked, Got, Scanned, Counted, Pinned, PinGot, PinScanned, Unpinned, Fault, Stopped, Exhausted, Backwards, Barred, ReadFault, Damaged}
 use Rattle.lethe_run.specs.Carried.{certificate_in, certificate_of, certificates_in}
 use Rattle.lethe_run.specs.Serving.{Advances, IsBorneOn, IsOn, IsAnswered, IsPhase, Point}
 use Rattle.lethe_run.proofs.Images.{calls_then, still}
 use Rattle.lethe_run.proofs.Lasting.{within}
 use Rattle.lethe_run.proofs.Outcomes.{told_of}
 use Rattle.lethe_run.proofs.Turns.{places_in_turn, sees_in_turn}
-use Rattle.lethe_run.specs.Transcript.{Course, Start, Told, IsShort, course, call_of, change_of, read_of, IsAhead, IsDoneAt, IsAnswerAt, IsStatAt, IsTickAt, IsFailedAt, IsFaultOf, Answers, Answered, places_behind, is_of, Follows, InTurn, IsServed, AreServed}
+use Rattle.lethe_run.specs.Transcript.{Course, Start, Told, IsShort, course, call_of, change_of, read_of, slot_read_of, IsAhead, IsDoneAt, IsAnswerAt, IsPinAt, IsStatAt, IsTickAt, IsFailedAt, IsFaultOf, Answers, Answered, places_behind, is_of, Follows, InTurn, IsServed, AreServed}
 
 -- What a line says of a history it says of a longer one, and when the count of faults rises, unless the places were used up: then nothing follows.
 
@@ -55,12 +56,21 @@ stat_before h more one other point stat same a =
     record {
       within = omega (arith, a.within, length-append h more);
       clock = a.clock ∙ ap (λ l. (after l).clock) front;
-      pins = a.pins;
       stored = a.stored;
       config_is = a.config_is ∙ same;
       coherent = a.coherent;
       stands = subst (λ l. IsFor (without_failed l) a.stored) front a.stands;
       shape = a.shape;
+    }
+
+pin_before : (h more : History) (one other : Course) (point limit : ℕ) → one.config ≡ other.config → IsPinAt (told_of h one) point limit → IsPinAt (told_of (h ++ more) other) point limit
+pin_before h more one other point limit same a =
+    let clock = ap (λ (l : History). (after l).clock) (take-append-le point h more a.within) in
+    let threshold = ap (λ (fields : Fields). fields.threshold) same in
+    record {
+      within = omega (arith, a.within, length-append h more);
+      above = let above = a.above in omega (arith, above, clock);
+      near = let near = a.near in omega (arith, near, clock, threshold);
     }
 
 -- numbers that ran out have run out when more device calls and changes were made
@@ -107,9 +117,14 @@ module _ (h more : History) (legal : IsLegal (h ++ more)) (Ports : Type 0) (begi
   answers_before caller act (Done place) a = done_before h more caller place (change_of act) a
   answers_before caller act (Ticked ticked) a = (a.0, a.1, tick_before caller a.0 ticked a.2)
   answers_before caller act (Backwards point clock) a = (a.0, a.1, ahead_before point clock a.0 a.2)
+  answers_before caller act (Barred number limit) a = a
   answers_before caller act (Got point held) a = read_before h more point (answers.Found held) (read_of act) a
   answers_before caller act (Scanned point pairs) a = read_before h more point (listed pairs) (read_of act) a
   answers_before caller act (Counted point stat) a = (a.0, stat_before h more First Last point stat refl a.1)
+  answers_before caller act (Pinned point number limit) a = (a.0, pin_before h more First Last point limit refl a.1)
+  answers_before caller act (PinGot number point held) a = read_before h more point (answers.Found held) (slot_read_of act) a
+  answers_before caller act (PinScanned number point pairs) a = read_before h more point (listed pairs) (slot_read_of act) a
+  answers_before caller act (Unpinned point number) a = (a.0, let within = a.1 in omega (arith, within, length-append h more))
   answers_before caller act (Fault place b a) f = fault_before caller place b a (call_of act) f
   answers_before caller act (Stopped at) a = (a.0, record { before = a.1.before; after = a.1.after; fails = failed_before at a.1.before a.1.after a.1.fails })
   answers_before caller act (Exhausted last) a = (
@@ -149,9 +164,14 @@ module _ (Ports : Type 0) (begin : Start) (f0 f1 m0 m1 : ℕ) (on : m0 ≤ m1) w
   follows_later n m (Done place) f = f
   follows_later n m (Ticked ticked) f = f
   follows_later n m (Backwards point clock) f = f
+  follows_later n m (Barred number limit) f = f
   follows_later n m (Got point held) f = f
   follows_later n m (Scanned point pairs) f = f
   follows_later n m (Counted point stat) f = f
+  follows_later n m (Pinned point number limit) f = f
+  follows_later n m (PinGot number point held) f = f
+  follows_later n m (PinScanned number point pairs) f = f
+  follows_later n m (Unpinned point number) f = f
   follows_later n m (Fault place b a) f = f
   follows_later n m (Stopped at) f = f
   follows_later n m (Exhausted last) f = (elim f.0 [ inl all ↦ inl all | inr few ↦ inr (short_later Ports begin f0 f1 m0 m1 n n on (omega arith) few) ], f.1)

@@ -18,17 +18,18 @@ use Rattle.lethe_core.specs.Asked.{done_by}
 use Rattle.lethe_core.specs.Merges.{IsShortToMergeBy, due_choice}
 use Rattle.lethe_core.specs.Reasons.{HasReason, IsUnreadable}
 use Rattle.lethe_core.specs.StandsNow.{IsOpenOrStopped, StandsNow}
-use Rattle.lethe_core.specs.View.{Face, View}
+use Rattle.lethe_core.specs.View.{Face, View, face_of}
 use Rattle.lethe_core.proofs.Histories.{all_done}
 use Rattle.lethe_core.proofs.Standing.{stands_for}
 use Rattle.lethe_cover.specs.Steps.{with_done}
 use Rattle.lethe_disk.specs.Directory.{Directory}
 use Rattle.lethe_disk.specs.Disk.{IsSynced}
 use Rattle.lethe_engine.specs.Certificates.{HasCommitted, IsTrueCertificate}
-use Rattle.lethe_engine.specs.Ticks.{HasReasonOfTick, IsBehind, ticked_face}
+use Rattle.lethe_engine.specs.Ticks.{HasReasonOfTick, IsBarred, IsBehind, IsTickable, passes, ticked_face}
 use Rattle.lethe_engine.specs.declared.ticking.Ticked.{Ticked}
 use Rattle.lethe_engine.proofs.Clean.{now_clean}
 use Rattle.lethe_manifest.specs.declared.manifest.Manifest.{Manifest}
+use Rattle.lethe_pins.specs.Held.{AreHeld}
 use Rattle.lethe_script.specs.declared.order.Act.{Act}
 use Rattle.lethe_script.specs.declared.order.Act.TheVariants as acts
 use Rattle.lethe_state.specs.Room.{frozen_len}
@@ -38,35 +39,71 @@ use Rattle.lethe_stored.specs.Left.{without_failed}
 use Rattle.lethe_tick.specs.Certified.{IsCertificateAt}
 use Rattle.lethe_tick.specs.Ripened.{IsShortToTick}
 use Rattle.lethe_run.specs.declared.reply.Reply.TheVariants as reply
-use Rattle.lethe_run.specs.Replies.{refusal_of, tick_refusal_of, tick_reply_of}
+use Rattle.lethe_run.specs.Holding.{HoldsPins}
+use Rattle.lethe_run.specs.Replies.{IsOfTick, refusal_of, tick_refusal_of, tick_reply_of}
 use Rattle.lethe_run.specs.Serving.{IsBorneOn, IsOn, Point}
+use Rattle.lethe_run.specs.Slots.{Slots, pins_of}
 use Rattle.lethe_run.specs.Transcript.{Course, IsShort, Start, course}
 use Rattle.lethe_run.proofs.Anywhere.{Tells, ok_runs, stands_so}
 use Rattle.lethe_run.proofs.Anywhere as anywhere
+use Rattle.lethe_run.proofs.Holding.{chosen_pins}
 use Rattle.lethe_run.proofs.Lasting.{here, seen_now}
 use Rattle.lethe_run.proofs.Outcomes.{Outcome}
+use Rattle.lethe_run.proofs.Pins.{barred_by}
 use Rattle.lethe_run.proofs.Steps.{Replied, Says, advances, hindered, longer, next_place, not_made, unreadable}
 
--- But for its own refusal, where its time is behind the clock, a tick is refused as a change is
+-- But for its own refusals, where its time is behind the clock or a pin bars it, a tick is refused as a change is
 
-not_behind : (point : ℕ) (why : Refused) → ((clock : ℕ) → why ≡ refused.Backwards clock → ⊥) → refusal_of why ≡ tick_refusal_of point why
-not_behind point (refused.Fault place before after) never = refl
-not_behind point (refused.Stopped at) never = refl
-not_behind point (refused.Exhausted last) never = refl
-not_behind point refused.NoMemory never = refl
-not_behind point (refused.Backwards clock) never = absurd (never clock refl)
-not_behind point (refused.Pinned pin limit) never = refl
-not_behind point refused.NothingDue never = refl
-not_behind point (refused.Cancelled begun now) never = refl
-not_behind point (refused.ReadFault before after) never = refl
-not_behind point (refused.Damaged name) never = refl
+not_behind : (point : ℕ) (why : Refused) → ((clock : ℕ) → why ≡ refused.Backwards clock → ⊥) → ((pin limit : ℕ) → why ≡ refused.Pinned pin limit → ⊥) → refusal_of why ≡ tick_refusal_of point why
+not_behind point (refused.Fault place before after) never free = refl
+not_behind point (refused.Stopped at) never free = refl
+not_behind point (refused.Exhausted last) never free = refl
+not_behind point refused.NoMemory never free = refl
+not_behind point (refused.Backwards clock) never free = absurd (never clock refl)
+not_behind point (refused.Pinned pin limit) never free = absurd (free pin limit refl)
+not_behind point refused.NothingDue never free = refl
+not_behind point (refused.Cancelled begun now) never free = refl
+not_behind point (refused.ReadFault before after) never free = refl
+not_behind point (refused.Damaged name) never free = refl
 
 module _ (point : ℕ) (why : Refused) where
   hindered_not_behind : (Short : Type 0) (old : View) (upto : ℕ) → HasReason Short old.state old.faults upto why → refusal_of why ≡ tick_refusal_of point why
-  hindered_not_behind Short old upto reason = not_behind point why (λ clock is. subst (HasReason Short old.state old.faults upto) is reason)
+  hindered_not_behind Short old upto reason = not_behind point why (λ clock is. subst (HasReason Short old.state old.faults upto) is reason) (λ pin limit is. subst (HasReason Short old.state old.faults upto) is reason)
 
   unreadable_not_behind : (Told Ports : Type 0) (before now : ℕ) → IsUnreadable Told Ports before now why → refusal_of why ≡ tick_refusal_of point why
-  unreadable_not_behind Told Ports before now reason = not_behind point why (λ clock is. subst (IsUnreadable Told Ports before now) is reason)
+  unreadable_not_behind Told Ports before now reason = not_behind point why (λ clock is. subst (IsUnreadable Told Ports before now) is reason) (λ pin limit is. subst (IsUnreadable Told Ports before now) is reason)
+
+of_hindered : (Short : Type 0) (view : View) (upto : ℕ) (why : Refused) → HasReason Short view.state view.faults upto why → IsOfTick why
+of_hindered Short view upto (refused.Fault place before after) reason = tt
+of_hindered Short view upto (refused.Stopped at) reason = tt
+of_hindered Short view upto (refused.Exhausted last) reason = tt
+of_hindered Short view upto refused.NoMemory reason = tt
+of_hindered Short view upto (refused.Backwards clock) reason = tt
+of_hindered Short view upto (refused.Pinned pin limit) reason = absurd reason
+of_hindered Short view upto refused.NothingDue reason = absurd reason
+of_hindered Short view upto (refused.Cancelled begun other) reason = absurd reason
+of_hindered Short view upto (refused.ReadFault before after) reason = tt
+of_hindered Short view upto (refused.Damaged name) reason = tt
+
+of_unreadable : (Told Ports : Type 0) (before now : ℕ) (why : Refused) → IsUnreadable Told Ports before now why → IsOfTick why
+of_unreadable Told Ports before now (refused.Fault place b a) reason = tt
+of_unreadable Told Ports before now (refused.Stopped at) reason = tt
+of_unreadable Told Ports before now (refused.Exhausted last) reason = tt
+of_unreadable Told Ports before now refused.NoMemory reason = tt
+of_unreadable Told Ports before now (refused.Backwards clock) reason = tt
+of_unreadable Told Ports before now (refused.Pinned pin limit) reason = absurd reason
+of_unreadable Told Ports before now refused.NothingDue reason = absurd reason
+of_unreadable Told Ports before now (refused.Cancelled begun other) reason = absurd reason
+of_unreadable Told Ports before now (refused.ReadFault b a) reason = tt
+of_unreadable Told Ports before now (refused.Damaged name) reason = tt
+
+-- so what it is refused for is printed
+pub of_tick : (Told Ports : Type 0) (to : ℕ) (old new : View) (before now : ℕ) (result : Result Ticked Refused) → IfErr result (HasReasonOfTick Told Ports to old new before now) → IfErr result IsOfTick
+of_tick Told Ports to old new before now (Ok ticked) why = tt
+of_tick Told Ports to old new before now (Err why) (inl behind) = subst IsOfTick (sym behind.2) tt
+of_tick Told Ports to old new before now (Err why) (inr (inl barred)) = subst IsOfTick (sym barred.1.told) tt
+of_tick Told Ports to old new before now (Err why) (inr (inr (inl reason))) = of_hindered _ old new.faults why reason
+of_tick Told Ports to old new before now (Err why) (inr (inr (inr reason))) = of_unreadable Told Ports before now why reason.1
 
 module _ (to : ℕ) (old new : View) where
   abbrev act : Act
@@ -78,25 +115,41 @@ module _ (to : ℕ) (old new : View) where
   abbrev face : Face
   face = ticked_face old to new.retired
 
+  -- the pins are as they were
+  pub pins_kept : face_of new ≡ face → new.pins ≡ old.pins
+  pins_kept is = ap (λ (f : Face). f.pins) is ∙ chosen_pins (passes old to) (record { begun = old.begun; rounds = old.rounds + 1; flight = None; retired = new.retired; pins = old.pins }) (face_of old) refl
+
   -- On any disk
 
-  module _ (Told Ports : Type 0) (point : ℕ) (at : point ≡ old.state.count) where
-    backwards_tells : (why : Refused) → IsBehind old to why → anywhere.Says Told Ports act call refl face old new (Some why) → Tells Ports act (tick_refusal_of point why) old new
+  module _ (Told Ports : Type 0) (point : ℕ) (at : point ≡ old.state.count) (slots behind : Slots) (kept : behind ≡ slots) where
+    backwards_tells : (why : Refused) → IsBehind old to why → anywhere.Says Told Ports act call refl face old new slots behind kept (Some why) → Tells Ports act (tick_refusal_of point why) old slots new behind
     backwards_tells why (runs, ahead, is) says =
-        let told = subst (λ e. anywhere.Says Told Ports act call refl face old new (Some e)) is says in
-        subst (λ e. Tells Ports act (tick_refusal_of point e) old new) (sym is)
-        ((to, refl, ahead), runs, at, anywhere.still Told Ports act call refl face old new told.count told.stopped)
+        let told = subst (λ e. anywhere.Says Told Ports act call refl face old new slots behind kept (Some e)) is says in
+        subst (λ e. Tells Ports act (tick_refusal_of point e) old slots new behind) (sym is)
+        (((to, refl, ahead), runs, at, anywhere.still Told Ports act call refl face old new slots behind kept told.count told.stopped), kept)
 
-    pub tick_tells : (before now : ℕ) (result : Result Ticked Refused) → anywhere.Says Told Ports act call refl face old new (result_err result) → IfOk result (λ told. (told.place ≡ old.state.count + 1) × (told.clock ≡ to))
-        → IfErr result (HasReasonOfTick Told Ports to old new before now) → ((at : ℕ) → old.state.stopped ≡ Some at → IsErrOf result (refused.Stopped at)) → Tells Ports act (tick_reply_of point result) old new
-    tick_tells before now (Ok ticked) says is why stop =
+    -- the first pin of the least limit is in a slot
+    barred_tells : HoldsPins old slots → AreHeld old.pins → (why : Refused) → IsTickable old to × IsBarred old to why → anywhere.Says Told Ports act call refl face old new slots behind kept (Some why)
+        → Tells Ports act (tick_refusal_of point why) old slots new behind
+    barred_tells holds pins why (may, barred) says =
+        let told = subst (λ e. anywhere.Says Told Ports act call refl face old new slots behind kept (Some e)) barred.told says in
+        let by = barred_by old.pins.pins (pins_of slots) barred.pin barred.limit holds.those pins.ordered barred.first in
+        subst (λ e. Tells Ports act (tick_refusal_of point e) old slots new behind) (sym barred.told)
+        (((to, refl, barred.reached), may.runs, anywhere.still Told Ports act call refl face old new slots behind kept told.count told.stopped), (by.0, by.1, by.2, by.3, by.4, kept))
+
+    pub tick_tells : HoldsPins old slots → AreHeld old.pins → (before now : ℕ) (result : Result Ticked Refused) → anywhere.Says Told Ports act call refl face old new slots behind kept (result_err result)
+        → IfOk result (λ told. (told.place ≡ old.state.count + 1) × (told.clock ≡ to))
+        → IfErr result (HasReasonOfTick Told Ports to old new before now) → ((at : ℕ) → old.state.stopped ≡ Some at → IsErrOf result (refused.Stopped at)) → Tells Ports act (tick_reply_of point result) old slots new behind
+    tick_tells holds pins before now (Ok ticked) says is why stop =
         let runs = ok_runs old (Ok ticked) ticked refl stop in
-        ((to, refl, is.1), runs, is.0, stands_so new ticked.place None (says.count ∙ sym is.0) (says.stopped ∙ runs))
-    tick_tells before now (Err why) says is (inl behind) stop = backwards_tells why behind says
-    tick_tells before now (Err why) says is (inr (inl reason)) stop =
-        subst (λ r. Tells Ports act r old new) (hindered_not_behind point why _ old new.faults reason) (anywhere.hindered Told Ports act call refl face old new _ why reason says)
-    tick_tells before now (Err why) says is (inr (inr reason)) stop =
-        subst (λ r. Tells Ports act r old new) (unreadable_not_behind point why Told Ports before now reason.1) (anywhere.unreadable Told Ports act call refl face old new before now why reason.0 reason.1 says)
+        (((to, refl, is.1), runs, is.0, stands_so new behind (record { count = ticked.place; failed = None; slots = slots }) (says.count ∙ sym is.0) (says.stopped ∙ runs) kept), kept)
+    tick_tells holds pins before now (Err why) says is (inl ahead) stop = backwards_tells why ahead says
+    tick_tells holds pins before now (Err why) says is (inr (inl barred)) stop = barred_tells holds pins why barred says
+    tick_tells holds pins before now (Err why) says is (inr (inr (inl reason))) stop =
+        subst (λ r. Tells Ports act r old slots new behind) (hindered_not_behind point why _ old new.faults reason) (anywhere.hindered Told Ports act call refl face old new slots behind kept _ why reason says)
+    tick_tells holds pins before now (Err why) says is (inr (inr (inr reason))) stop =
+        subst (λ r. Tells Ports act r old slots new behind) (unreadable_not_behind point why Told Ports before now reason.1)
+        (anywhere.unreadable Told Ports act call refl face old new slots behind kept before now why reason.0 reason.1 says)
 
   -- Over a store that stands for a history
 
@@ -136,7 +189,7 @@ module _ (to : ℕ) (old new : View) where
       borne synced place place_is certificate clock true =
           let same : without_failed g ≡ g = all_done g done in
           let clocks : (after g).clock ≡ certificate.clock = ap (λ (s : State). s.clock) (after-push h change) ∙ sym clock in
-          let clean : IsClean begin.config.threshold new.disk.directory g certificate.clock = subst (IsClean begin.config.threshold new.disk.directory g) clocks (now_clean begin.config g new now runs_now) in
+          let clean : IsClean begin.config.threshold new.disk.directory g certificate.clock = subst (IsClean begin.config.threshold new.disk.directory g) clocks (now_clean begin.config g new on_g.stands.pages now runs_now) in
           record {
             point = here begin from g new on_g;
             place = ap length same ∙ sym place_is;
@@ -189,6 +242,13 @@ module _ (to : ℕ) (old new : View) where
         (advances Tells Ports told begin from h caller act call refl face old new on (Some (refused.Backwards old.state.manifest.clock)) told_so)
         (to, refl, record { within = omega (arith, all); is = clock ∙ ap (λ (l : History). (after l).clock) (sym (take_all point h (omega (arith, all)))); ahead = ahead }) (all, refl))
 
+    barred : (point : ℕ) (why : Refused) → IsBarred old to why → Telling (Some why) → Outcome Ports begin h caller act (tick_refusal_of point why) old new
+    barred point why is says =
+        let told_so = subst (λ e. Telling (Some e)) is.told says in
+        subst (λ e. Outcome Ports begin h caller act (tick_refusal_of point e) old new) (sym is.told)
+        (not_made Tells Ports told begin from h caller act call refl face old new on (reply.Barred is.pin is.limit) tt
+        (advances Tells Ports told begin from h caller act call refl face old new on (Some (refused.Pinned is.pin is.limit)) told_so) (to, refl, is.reached) refl)
+
     module _ (rounds : old.rounds < max_place) (small : frozen_len new.state.frozen ≤ 16384)
         (merges : StandsNow begin.config h new → new.state.stopped ≡ None → IsShortToMergeBy (due_choice to) Tells new → max_place ≤ new.state.next + most_numbers (length h)) where
       -- numbers run out for a flush, for a freeze, or for a merge that is due
@@ -211,10 +271,11 @@ module _ (to : ℕ) (old new : View) where
           → IfErr result (HasReasonOfTick Tells Ports to old new before now) → ((at : ℕ) → old.state.stopped ≡ Some at → IsErrOf result (refused.Stopped at)) → Outcome Ports begin h caller act (tick_reply_of point result) old new
       ticks point at before behind (Ok done) says is synced due true why stop = ticks_done says (ok_runs old (Ok done) done refl stop) done is synced due true
       ticks point at before behind (Err e) says is synced due true (inl ahead) stop = backwards point at e ahead says
-      ticks point at before behind (Err e) says is synced due true (inr (inl reason)) stop =
+      ticks point at before behind (Err e) says is synced due true (inr (inl pinned)) stop = barred point e pinned.1 says
+      ticks point at before behind (Err e) says is synced due true (inr (inr (inl reason))) stop =
           let Short = (max_place ≤ old.rounds) ⊎ IsShortToTick Tells to new in
           subst (λ r. Outcome Ports begin h caller act r old new) (hindered_not_behind point e Short old new.faults reason)
           (hindered Tells Ports told begin from h caller act call refl face old new on Short lacks e reason says)
-      ticks point at before behind (Err e) says is synced due true (inr (inr reason)) stop =
+      ticks point at before behind (Err e) says is synced due true (inr (inr (inr reason))) stop =
           subst (λ r. Outcome Ports begin h caller act r old new) (unreadable_not_behind point e Tells Ports before behind reason.1)
           (unreadable Tells Ports told begin from h caller act call refl face old new on before behind e reason.1 says)

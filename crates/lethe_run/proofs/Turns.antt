@@ -4,7 +4,7 @@ use Rattle.std.specs.Prelude.{filter, filter_map}
 use Rattle.lethe_run.specs.declared.reply.Line.{Line}
 use Rattle.lethe_run.specs.declared.reply.Line.TheVariants as line
 use Rattle.lethe_run.specs.declared.reply.Reply.{Reply}
-use Rattle.lethe_run.specs.declared.reply.Reply.TheVariants.{Done, Ticked, Got, Scanned, Counted, Fault, Stopped, Exhausted, Backwards, ReadFault, Damaged}
+use Rattle.lethe_run.specs.declared.reply.Reply.TheVariants.{Done, Ticked, Got, Scanned, Counted, Pinned, PinGot, PinScanned, Unpinned, Fault, Stopped, Exhausted, Backwards, Barred, ReadFault, Damaged}
 use Rattle.lethe_run.specs.Transcript.{Course, place_of, places_behind, Sees, Follows, InTurn}
 
 module _ (c : Course) (caller : ℕ) (p : Line → Bool) where
@@ -14,9 +14,14 @@ module _ (c : Course) (caller : ℕ) (p : Line → Bool) where
   picked false seen n m next (Done place) lines le f end rest = rest seen (omega arith)
   picked false seen n m next (Ticked ticked) lines le f end rest = rest seen (omega arith)
   picked false seen n m next (Backwards point clock) lines le f end rest = rest seen (omega arith)
+  picked false seen n m next (Barred number limit) lines le f end rest = rest seen (omega arith)
   picked false seen n m next (Got point held) lines le f end rest = rest seen (omega arith)
   picked false seen n m next (Scanned point pairs) lines le f end rest = rest seen (omega arith)
   picked false seen n m next (Counted point stat) lines le f end rest = rest seen (omega arith)
+  picked false seen n m next (Pinned point number limit) lines le f end rest = rest seen (omega arith)
+  picked false seen n m next (PinGot number point held) lines le f end rest = rest seen (omega arith)
+  picked false seen n m next (PinScanned number point pairs) lines le f end rest = rest seen (omega arith)
+  picked false seen n m next (Unpinned point number) lines le f end rest = rest seen (omega arith)
   picked false seen n m next (Fault place b a) lines le f end rest = rest seen (omega arith)
   picked false seen n m next (Stopped at) lines le f end rest = rest seen (omega arith)
   picked false seen n m next (Exhausted last) lines le f end rest = let same = f.1 in rest seen (omega (arith, same))
@@ -25,9 +30,14 @@ module _ (c : Course) (caller : ℕ) (p : Line → Bool) where
   picked true seen n m next (Done place) lines le f end rest = (omega arith, omega arith, rest (max seen place) (omega arith))
   picked true seen n m next (Ticked ticked) lines le f end rest = (omega arith, omega arith, rest (max seen ticked.place) (omega arith))
   picked true seen n m next (Backwards point clock) lines le f end rest = (omega arith, omega arith, rest (max seen 0) (omega arith))
+  picked true seen n m next (Barred number limit) lines le f end rest = (tt, omega arith, rest (max seen 0) (omega arith))
   picked true seen n m next (Got point held) lines le f end rest = (omega arith, omega arith, rest (max seen point) (omega arith))
   picked true seen n m next (Scanned point pairs) lines le f end rest = (omega arith, omega arith, rest (max seen point) (omega arith))
   picked true seen n m next (Counted point stat) lines le f end rest = (omega arith, omega arith, rest (max seen point) (omega arith))
+  picked true seen n m next (Pinned point number limit) lines le f end rest = (omega arith, omega arith, rest (max seen point) (omega arith))
+  picked true seen n m next (PinGot number point held) lines le f end rest = (tt, omega arith, rest (max seen 0) (omega arith))
+  picked true seen n m next (PinScanned number point pairs) lines le f end rest = (tt, omega arith, rest (max seen 0) (omega arith))
+  picked true seen n m next (Unpinned point number) lines le f end rest = (omega arith, omega arith, rest (max seen point) (omega arith))
   picked true seen n m next (Fault place b a) lines le f end rest = (omega arith, omega arith, rest (max seen place) (omega arith))
   picked true seen n m next (Stopped at) lines le f end rest = (tt, omega arith, rest (max seen 0) (omega arith))
   picked true seen n m next (Exhausted last) lines le f end rest = let same = f.1 in (tt, omega (arith, same), rest (max seen 0) (omega (arith, same)))
@@ -39,9 +49,14 @@ module _ (c : Course) where
   follows_up n m (Done place) f = omega arith
   follows_up n m (Ticked ticked) f = omega arith
   follows_up n m (Backwards point clock) f = omega arith
+  follows_up n m (Barred number limit) f = omega arith
   follows_up n m (Got point held) f = omega arith
   follows_up n m (Scanned point pairs) f = omega arith
   follows_up n m (Counted point stat) f = omega arith
+  follows_up n m (Pinned point number limit) f = omega arith
+  follows_up n m (PinGot number point held) f = omega arith
+  follows_up n m (PinScanned number point pairs) f = omega arith
+  follows_up n m (Unpinned point number) f = omega arith
   follows_up n m (Fault place b a) f = omega arith
   follows_up n m (Stopped at) f = omega arith
   follows_up n m (Exhausted last) f = let same = f.1 in omega (arith, same)
@@ -69,9 +84,14 @@ module _ (c : Course) where
   place_next n next m caller (Ticked ticked) lines f end rest = place_taken n next m ticked.place lines f.0 f.1 end rest
   place_next n next m caller (Fault place b a) lines f end rest = place_taken n next m place lines f.0 f.1 end rest
   place_next n next m caller (Backwards point clock) lines f end rest = rest ∙ ap (λ k. places_behind k (m - k)) f.1
+  place_next n next m caller (Barred number limit) lines f end rest = rest ∙ ap (λ k. places_behind k (m - k)) f
   place_next n next m caller (Got point held) lines f end rest = rest ∙ ap (λ k. places_behind k (m - k)) f.1
   place_next n next m caller (Scanned point pairs) lines f end rest = rest ∙ ap (λ k. places_behind k (m - k)) f.1
   place_next n next m caller (Counted point stat) lines f end rest = rest ∙ ap (λ k. places_behind k (m - k)) f.1
+  place_next n next m caller (Pinned point number limit) lines f end rest = rest ∙ ap (λ k. places_behind k (m - k)) f.1
+  place_next n next m caller (PinGot number point held) lines f end rest = rest ∙ ap (λ k. places_behind k (m - k)) f.1
+  place_next n next m caller (PinScanned number point pairs) lines f end rest = rest ∙ ap (λ k. places_behind k (m - k)) f.1
+  place_next n next m caller (Unpinned point number) lines f end rest = rest ∙ ap (λ k. places_behind k (m - k)) f.1
   place_next n next m caller (Stopped at) lines f end rest = rest ∙ ap (λ k. places_behind k (m - k)) f.1
   place_next n next m caller (Exhausted last) lines f end rest = rest ∙ ap (λ k. places_behind k (m - k)) f.1
   place_next n next m caller ReadFault lines f end rest = rest ∙ ap (λ k. places_behind k (m - k)) f

@@ -56,10 +56,15 @@ certificate_in (reply.Done place) = None
 certificate_in (reply.Got point held) = None
 certificate_in (reply.Scanned point pairs) = None
 certificate_in (reply.Counted point stat) = None
+certificate_in (reply.Pinned point number limit) = None
+certificate_in (reply.PinGot number point held) = None
+certificate_in (reply.PinScanned number point pairs) = None
+certificate_in (reply.Unpinned point number) = None
 certificate_in (reply.Fault place before after) = None
 certificate_in (reply.Stopped at) = None
 certificate_in (reply.Exhausted last) = None
 certificate_in (reply.Backwards point clock) = None
+certificate_in (reply.Barred number limit) = None
 certificate_in reply.ReadFault = None
 certificate_in (reply.Damaged page) = None
 

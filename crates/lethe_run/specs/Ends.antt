@@ -168,7 +168,7 @@ abbrev pub script_ends : List ℕ
 script_ends = 0 ∷ 4 ∷ 5 ∷ 6 ∷ 7 ∷ 8 ∷ 9 ∷ []
 
 pub record Ends (run : Run) (status : ℕ) : Type 0 where
-  -- each line was answered, each change is done or is a tick behind the clock, and each read was answered
+  -- each line was answered, each change is done or is a tick behind the clock or barred by a pin, and each read was answered
   pub answered : status ≡ 0 → (config : Fields) × Asks run config × Answered run config false
   -- `bad words`
   pub bad_words : status ≡ 2 → IsNoCommand run × Appends run.taken_before run.taken bad_words × IsUnused run
@@ -193,7 +193,7 @@ pub record Ends (run : Run) (status : ℕ) : Type 0 where
       → IsQuiet run.start run.finish × (status ≡ 0 → ⊥) × (status ≡ 6 → IsOpenFault run config)
   -- whatever the status, numbers keep pace with the run's device calls, from a number on that none of what a crash leaves at the start has passed
   pub pace : OnLeft run (λ kept left change. (first : ℕ) → KeepsPace first run.start.moment run.start.moment run.start → KeepsPace first run.start.moment run.start.moment run.finish)
-  -- Without a fault, and where ports can't fail, the bytes are no script, or there is no memory, or they are one, each line is answered and each change is done or is a tick behind the clock, on a disk
+  -- Without a fault, and where ports can't fail, the bytes are no script, or there is no memory, or they are one, each line is answered and each change is done or is a tick behind the clock or barred by a pin, on a disk
   -- that was left for a history and is of this configuration, where neither numbers nor places run out.
   pub complete : (config : Fields) → Asks run config → (run.SourceRose → ⊥) → (run.SinkRose → ⊥) → (Rose run.faults_before run.faults → ⊥) → (run.PortsFail → ⊥)
       → Contains (3 ∷ 7 ∷ []) status ⊎ OnScript run (λ phases. OnLeft run (λ kept left change.

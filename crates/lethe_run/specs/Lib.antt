@@ -1,4 +1,5 @@
 pub mod Printed
+pub mod Slots
 pub mod Transcript
 pub mod Anywhere
 pub mod Carried
@@ -7,5 +8,6 @@ pub mod Status
 pub mod Scans
 pub mod Asked
 pub mod Replies
+pub mod Holding
 pub mod Serving
 pub mod Scripts

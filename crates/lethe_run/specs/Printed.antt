@@ -19,7 +19,7 @@ use Rattle.lethe_script.specs.Words.{why_text}
 use Rattle.lethe_run.specs.declared.reply.Line.{Line}
 use Rattle.lethe_run.specs.declared.reply.Line.TheVariants.{Answer}
 use Rattle.lethe_run.specs.declared.reply.Reply.{Reply}
-use Rattle.lethe_run.specs.declared.reply.Reply.TheVariants.{Done, Ticked, Got, Scanned, Counted, Fault, Stopped, Exhausted, Backwards, ReadFault, Damaged}
+use Rattle.lethe_run.specs.declared.reply.Reply.TheVariants.{Done, Ticked, Got, Scanned, Counted, Pinned, PinGot, PinScanned, Unpinned, Fault, Stopped, Exhausted, Backwards, Barred, ReadFault, Damaged}
 
 -- with its end
 abbrev pub ended : Bytes → Bytes
@@ -28,6 +28,15 @@ ended text = text ++ 10 ∷ []
 -- a key, its delete key and its value, with a space before each
 abbrev pub pair_text : Bytes × ℕ × Bytes → Bytes
 pair_text pair = codes " " ++ field_text pair.0 ++ codes " " ++ decimal pair.1 ++ codes " " ++ field_text pair.2
+
+-- what a key has, behind what says where it was looked up
+abbrev pub found_text : Option (ℕ × Bytes) → Bytes
+found_text None = codes " none"
+found_text (Some pair) = codes " val " ++ decimal pair.0 ++ codes " " ++ field_text pair.1
+
+-- what the keys of a range have
+abbrev pub pairs_text : List (Bytes × ℕ × Bytes) → Bytes
+pairs_text pairs = codes " scan " ++ decimal (length pairs) ++ flat_map pair_text pairs
 
 -- what a store tells of itself
 abbrev pub stat_text : Stat → Bytes
@@ -45,10 +54,14 @@ abbrev pub reply_text : Reply → Bytes
 reply_text (Done place) = codes "ok " ++ decimal place
 reply_text (Ticked ticked) = codes "ok " ++ decimal ticked.place ++ codes " clock " ++ decimal ticked.clock ++ certificate_part ticked.certificate
 reply_text (Backwards point clock) = codes "backwards " ++ decimal clock
-reply_text (Got point None) = codes "at " ++ decimal point ++ codes " none"
-reply_text (Got point (Some pair)) = codes "at " ++ decimal point ++ codes " val " ++ decimal pair.0 ++ codes " " ++ field_text pair.1
-reply_text (Scanned point pairs) = codes "at " ++ decimal point ++ codes " scan " ++ decimal (length pairs) ++ flat_map pair_text pairs
+reply_text (Barred number limit) = codes "pinned " ++ decimal number ++ codes " limit " ++ decimal limit
+reply_text (Got point held) = codes "at " ++ decimal point ++ found_text held
+reply_text (Scanned point pairs) = codes "at " ++ decimal point ++ pairs_text pairs
 reply_text (Counted point stat) = codes "at " ++ decimal point ++ codes " stat " ++ stat_text stat
+reply_text (Pinned point number limit) = codes "at " ++ decimal point ++ codes " pin " ++ decimal number ++ codes " limit " ++ decimal limit
+reply_text (PinGot number point held) = codes "pin " ++ decimal number ++ codes " at " ++ decimal point ++ found_text held
+reply_text (PinScanned number point pairs) = codes "pin " ++ decimal number ++ codes " at " ++ decimal point ++ pairs_text pairs
+reply_text (Unpinned point number) = codes "at " ++ decimal point ++ codes " unpin " ++ decimal number
 reply_text (Fault place before after) = codes "fault " ++ decimal place ++ codes " before " ++ decimal before ++ codes " after " ++ decimal after
 reply_text (Stopped at) = codes "stopped " ++ decimal at
 reply_text (Exhausted last) = codes "exhausted " ++ decimal last

@@ -3,9 +3,11 @@ use Rattle.std.specs.Prelude.{ℕ, Result, Ok, Err}
 use Rattle.lethe_base.specs.declared.memory.NoMemory.{NoMemory}
 use Rattle.lethe_base.specs.declared.refused.Refused.{Refused}
 use Rattle.lethe_base.specs.declared.refused.Refused.TheVariants as refused
+use Rattle.lethe_disk.specs.declared.cursor.ReadRefused.{ReadRefused}
+use Rattle.lethe_disk.specs.declared.cursor.ReadRefused.TheVariants as read
 use Rattle.lethe_engine.specs.declared.ticking.Ticked.{Ticked}
 use Rattle.lethe_run.specs.declared.reply.Reply.{Reply}
-use Rattle.lethe_run.specs.declared.reply.Reply.TheVariants.{Done, Fault, Stopped, Exhausted, Backwards, ReadFault, Damaged}
+use Rattle.lethe_run.specs.declared.reply.Reply.TheVariants.{Done, Fault, Stopped, Exhausted, Backwards, Barred, ReadFault, Damaged}
 use Rattle.lethe_run.specs.declared.reply.Reply.TheVariants as reply
 
 -- the refusals that a change may be answered
@@ -41,7 +43,7 @@ IsOfTick (refused.Stopped at) = Unit {0}
 IsOfTick (refused.Exhausted last) = Unit {0}
 IsOfTick refused.NoMemory = Unit {0}
 IsOfTick (refused.Backwards clock) = Unit {0}
-IsOfTick (refused.Pinned pin limit) = ⊥
+IsOfTick (refused.Pinned pin limit) = Unit {0}
 IsOfTick refused.NothingDue = ⊥
 IsOfTick (refused.Cancelled begun now) = ⊥
 IsOfTick (refused.ReadFault before after) = Unit {0}
@@ -54,11 +56,11 @@ reply_of (Err why) = refusal_of why
 -- the reply to a refusal of a tick that was asked for behind so many places
 abbrev pub tick_refusal_of : ℕ → Refused → Result Reply NoMemory
 tick_refusal_of point (refused.Backwards clock) = Ok (Backwards point clock)
+tick_refusal_of point (refused.Pinned pin limit) = Ok (Barred pin limit)
 tick_refusal_of point (refused.Fault place before after) = refusal_of (refused.Fault place before after)
 tick_refusal_of point (refused.Stopped at) = refusal_of (refused.Stopped at)
 tick_refusal_of point (refused.Exhausted last) = refusal_of (refused.Exhausted last)
 tick_refusal_of point refused.NoMemory = refusal_of refused.NoMemory
-tick_refusal_of point (refused.Pinned pin limit) = refusal_of (refused.Pinned pin limit)
 tick_refusal_of point refused.NothingDue = refusal_of refused.NothingDue
 tick_refusal_of point (refused.Cancelled begun now) = refusal_of (refused.Cancelled begun now)
 tick_refusal_of point (refused.ReadFault before after) = refusal_of (refused.ReadFault before after)
@@ -80,3 +82,9 @@ unread_of (refused.Backwards clock) = Err (record {})
 unread_of (refused.Pinned pin limit) = Err (record {})
 unread_of refused.NothingDue = Err (record {})
 unread_of (refused.Cancelled begun now) = Err (record {})
+
+-- and of a read of what a slot holds
+abbrev pub slot_unread_of : ReadRefused → Result Reply NoMemory
+slot_unread_of (read.ReadFault before after) = Ok ReadFault
+slot_unread_of (read.Damaged name) = Ok (Damaged name.no)
+slot_unread_of read.NoMemory = Err (record {})

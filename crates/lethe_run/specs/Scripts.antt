@@ -12,6 +12,7 @@ use Rattle.lethe_run.specs.declared.status.Status.TheVariants.{Answered, BadWord
 use Rattle.lethe_run.specs.Anywhere.{AreToldThrough, Standing, standing_of}
 use Rattle.lethe_run.specs.Ends.{IsBegun}
 use Rattle.lethe_run.specs.Serving.{IsOn, IsCarried, Point}
+use Rattle.lethe_run.specs.Slots.{no_slots}
 use Rattle.lethe_run.specs.Transcript.{Start, course, text_of, has_refusal}
 
 -- the lines answer these phases, over each history for which the store stands, from each start of the run on
@@ -19,9 +20,9 @@ abbrev pub Serves : Type 0 → Type 0 → View → Seen → ℕ → List (List O
 Serves Tells PortsFail start finish now phases lines =
     Tells → (begin : Start) (from : Point) → IsOn begin from from.history start → IsCarried (course PortsFail begin now finish.moment) begin from phases lines start.disk finish
 
--- the lines answer these phases as they may on any disk
+-- the lines answer these phases as they may on any disk, where no slot holds a pin at first
 abbrev pub IsToldFrom : Type 0 → View → ℕ → List (List Order) → List (List Line) → Type 0
-IsToldFrom PortsFail start now phases lines = (end : Standing) × AreToldThrough PortsFail start.faults now phases (standing_of start) lines end
+IsToldFrom PortsFail start now phases lines = (end : Standing) × AreToldThrough PortsFail start.faults now phases (standing_of start no_slots) lines end
 
 -- all phases were answered
 pub record All (Tells PortsFail : Type 0) (start : View) (finish : Seen) (now : ℕ) (old new : Option Bytes) (phases : List (List Order)) (refused : Bool) : Type 0 where

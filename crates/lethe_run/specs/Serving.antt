@@ -60,6 +60,11 @@ pub record IsAnswered (PortsFail : Type 0) (begin : Start) (h g : History) (call
   pub certified : IfSome (certificate_in reply) (IsBorneOn begin g new)
   pub goes : Advances begin h g old new
 
+-- the act was answered so by what only looked, with these counts of faults and at this moment
+abbrev pub IsLookedUp : Type 0 → Start → ℕ → ℕ → History → ℕ → Act → Reply → Type 0
+IsLookedUp PortsFail begin faults moment h caller act reply =
+    Answers (record { history = h; course = course PortsFail begin faults moment }) caller act reply × Follows (course PortsFail begin faults moment) (length h) reply (length h) × (certificate_in reply ≡ None)
+
 -- the orders were answered by the lines, and the history went on from h to g
 pub record IsPhase (PortsFail : Type 0) (begin : Start) (h g : History) (orders : List Order) (lines : List Line) (old new : View) : Type 0 where
   pub served : IsServed (course PortsFail begin new.faults new.disk.moment) h orders lines g

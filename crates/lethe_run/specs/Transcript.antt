@@ -17,11 +17,11 @@ use Rattle.lethe_base.specs.Read.{Read, Answer, answer}
 use Rattle.lethe_base.specs.Read as answers
 use Rattle.lethe_script.specs.declared.order.Order.{Order}
 use Rattle.lethe_script.specs.declared.order.Act.{Act}
-use Rattle.lethe_script.specs.declared.order.Act.TheVariants.{Put, Get, Scan, Delete, Erase, Stat, Tick}
+use Rattle.lethe_script.specs.declared.order.Act.TheVariants.{Put, Get, Scan, Delete, Erase, Stat, Tick, Pin, PinGet, PinScan, Unpin}
 use Rattle.lethe_run.specs.declared.reply.Line.{Line}
 use Rattle.lethe_run.specs.declared.reply.Line.TheVariants as line
 use Rattle.lethe_run.specs.declared.reply.Reply.{Reply}
-use Rattle.lethe_run.specs.declared.reply.Reply.TheVariants.{Done, Got, Scanned, Counted, Fault, Stopped, Exhausted, Backwards, ReadFault, Damaged}
+use Rattle.lethe_run.specs.declared.reply.Reply.TheVariants.{Done, Got, Scanned, Counted, Pinned, PinGot, PinScanned, Unpinned, Fault, Stopped, Exhausted, Backwards, Barred, ReadFault, Damaged}
 use Rattle.lethe_run.specs.declared.reply.Reply.TheVariants as reply
 use Rattle.lethe_stored.specs.Kept.{IsFor, certificates}
 use Rattle.lethe_stored.specs.Left.{without_failed}
@@ -71,6 +71,10 @@ call_of (Delete key) = Some (call.Delete key)
 call_of (Erase range) = Some (call.Erase range)
 call_of Stat = None
 call_of (Tick to) = Some (call.Tick to)
+call_of (Pin slot) = None
+call_of (PinGet slot key) = None
+call_of (PinScan slot lo hi) = None
+call_of (Unpin slot) = None
 
 -- the same, but for a tick
 abbrev pub change_of : Act → Option Call
@@ -81,6 +85,10 @@ change_of (Delete key) = Some (call.Delete key)
 change_of (Erase range) = Some (call.Erase range)
 change_of Stat = None
 change_of (Tick to) = None
+change_of (Pin slot) = None
+change_of (PinGet slot key) = None
+change_of (PinScan slot lo hi) = None
+change_of (Unpin slot) = None
 
 -- the read that an act asks for
 abbrev pub read_of : Act → Option Read
@@ -91,6 +99,28 @@ read_of (Delete key) = None
 read_of (Erase range) = None
 read_of Stat = None
 read_of (Tick to) = None
+read_of (Pin slot) = None
+read_of (PinGet slot key) = None
+read_of (PinScan slot lo hi) = None
+read_of (Unpin slot) = None
+
+-- the read that it asks for of what a slot holds
+abbrev pub slot_read_of : Act → Option Read
+slot_read_of (Put key dkey value) = None
+slot_read_of (Get key) = None
+slot_read_of (Scan lo hi) = None
+slot_read_of (Delete key) = None
+slot_read_of (Erase range) = None
+slot_read_of Stat = None
+slot_read_of (Tick to) = None
+slot_read_of (Pin slot) = None
+slot_read_of (PinGet slot key) = Some (answers.Get key)
+slot_read_of (PinScan slot lo hi) = Some (answers.Scan lo hi)
+slot_read_of (Unpin slot) = None
+
+-- it asks for a read, of the store or of what a slot holds
+abbrev pub IsRead : Act → Type 0
+IsRead act = IsSome (read_of act) ⊎ IsSome (slot_read_of act)
 
 -- the change of a caller stands done at a place
 abbrev pub IsDoneAt : History → ℕ → ℕ → Call → Type 0
@@ -101,12 +131,17 @@ pub record IsAnswerAt (h : History) (point : ℕ) (read : Read) (given : Answer)
   pub within : point ≤ length h
   pub is : given ≡ answer (after (take point h)) read
 
+-- A pin that was made behind so many places has a limit above the clock there, and at most a threshold above it.
+pub record IsPinAt (told : Told) (point limit : ℕ) : Type 0 where
+  pub within : point ≤ length told.history
+  pub above : (after (take point told.history)).clock < limit
+  pub near : limit ≤ told.course.config.threshold + (after (take point told.history)).clock
+
 -- The store is told as a whole as it was behind so many places: the clock, and of something stored that stands for that history the erases, the files and their
--- tombstones. No call makes a pin.
+-- tombstones.
 pub record IsStatAt (told : Told) (point : ℕ) (stat : stats.Stat) : Type 0 where
   pub within : point ≤ length told.history
   pub clock : stat.clock ≡ (after (take point told.history)).clock
-  pub pins : stat.pins ≡ 0
   pub stored : Stored
   pub config_is : stored.manifest.config ≡ told.course.config
   pub coherent : IsCoherent stored
@@ -161,19 +196,24 @@ IsShort n course = max_place ≤ course.next + course.calls + most_of_a_change +
 abbrev pub IsUsedUp : Told → ℕ → Type 0
 IsUsedUp told last = (last ≡ max_place) × ((length told.history ≡ max_place) ⊎ IsShort (length told.history) told.course)
 
--- What a reply means: a change stands at its place, done or failed, or isn't made; a read is a map's at its printed point, or isn't answered. A fetch may fail in both, since a
--- change may merge files. A disk that tells what it holds has no damaged page.
+-- What a reply means: a change stands at its place, done or failed, or isn't made; a read, of the store or of what a slot holds, is a map's at its printed point, or isn't
+-- answered. A fetch may fail in both, since a change may merge files. A disk that tells what it holds has no damaged page.
 abbrev pub Answers : Told → ℕ → Act → Reply → Type 0
 Answers told caller act (Done place) = IsSomeAnd (change_of act) (IsDoneAt told.history caller place)
 Answers told caller act (reply.Ticked ticked) = (to : ℕ) × (act ≡ Tick to) × IsTickAt told caller to ticked
 Answers told caller act (Backwards point clock) = (to : ℕ) × (act ≡ Tick to) × IsAhead told point clock to
+Answers told caller act (Barred number limit) = (to : ℕ) × (act ≡ Tick to) × (limit ≤ to)
 Answers told caller act (Got point held) = IsSomeAnd (read_of act) (λ read. IsAnswerAt told.history point read (answers.Found held))
 Answers told caller act (Scanned point pairs) = IsSomeAnd (read_of act) (λ read. IsAnswerAt told.history point read (listed pairs))
 Answers told caller act (Counted point stat) = (act ≡ Stat) × IsStatAt told point stat
+Answers told caller act (Pinned point number limit) = ((slot : ℕ) × (act ≡ Pin slot)) × IsPinAt told point limit
+Answers told caller act (PinGot number point held) = IsSomeAnd (slot_read_of act) (λ read. IsAnswerAt told.history point read (answers.Found held))
+Answers told caller act (PinScanned number point pairs) = IsSomeAnd (slot_read_of act) (λ read. IsAnswerAt told.history point read (listed pairs))
+Answers told caller act (Unpinned point number) = ((slot : ℕ) × (act ≡ Unpin slot)) × (point ≤ length told.history)
 Answers told caller act (Fault place before after) = IsSomeAnd (call_of act) (IsFaultOf told caller place before after)
 Answers told caller act (Stopped at) = IsSome (call_of act) × WasStopped told at
 Answers told caller act (Exhausted last) = IsSome (call_of act) × IsUsedUp told last
-Answers told caller act ReadFault = (IsSome (read_of act) ⊎ IsSome (call_of act)) × told.course.PortsFail
+Answers told caller act ReadFault = (IsRead act ⊎ IsSome (call_of act)) × told.course.PortsFail
 Answers told caller act (Damaged page) = ⊥
 
 -- the lines of a phase
@@ -192,9 +232,14 @@ abbrev pub place_of : Line → Option ℕ
 place_of (line.Answer caller (Done place)) = Some place
 place_of (line.Answer caller (reply.Ticked ticked)) = Some ticked.place
 place_of (line.Answer caller (Backwards point clock)) = None
+place_of (line.Answer caller (Barred number limit)) = None
 place_of (line.Answer caller (Got point held)) = None
 place_of (line.Answer caller (Scanned point pairs)) = None
 place_of (line.Answer caller (Counted point stat)) = None
+place_of (line.Answer caller (Pinned point number limit)) = None
+place_of (line.Answer caller (PinGot number point held)) = None
+place_of (line.Answer caller (PinScanned number point pairs)) = None
+place_of (line.Answer caller (Unpinned point number)) = None
 place_of (line.Answer caller (Fault place before after)) = Some place
 place_of (line.Answer caller (Stopped at)) = None
 place_of (line.Answer caller (Exhausted last)) = None
@@ -206,9 +251,14 @@ abbrev pub ok_place : Line → Option ℕ
 ok_place (line.Answer caller (Done place)) = Some place
 ok_place (line.Answer caller (reply.Ticked ticked)) = Some ticked.place
 ok_place (line.Answer caller (Backwards point clock)) = None
+ok_place (line.Answer caller (Barred number limit)) = None
 ok_place (line.Answer caller (Got point held)) = None
 ok_place (line.Answer caller (Scanned point pairs)) = None
 ok_place (line.Answer caller (Counted point stat)) = None
+ok_place (line.Answer caller (Pinned point number limit)) = None
+ok_place (line.Answer caller (PinGot number point held)) = None
+ok_place (line.Answer caller (PinScanned number point pairs)) = None
+ok_place (line.Answer caller (Unpinned point number)) = None
 ok_place (line.Answer caller (Fault place before after)) = None
 ok_place (line.Answer caller (Stopped at)) = None
 ok_place (line.Answer caller (Exhausted last)) = None
@@ -224,14 +274,19 @@ places_behind n (suc more) = suc n ∷ places_behind (suc n) more
 abbrev pub is_of : ℕ → Line → Bool
 is_of caller (line.Answer other reply) = other == caller
 
--- all places up to this one stood when the reply was made; what isn't made or answered shows none
+-- all places up to this one stood when the reply was made; what isn't made or answered shows none, nor does a read of what a slot holds, which may be older
 abbrev pub shown_by : Reply → ℕ
 shown_by (Done place) = place
 shown_by (reply.Ticked ticked) = ticked.place
 shown_by (Backwards point clock) = 0
+shown_by (Barred number limit) = 0
 shown_by (Got point held) = point
 shown_by (Scanned point pairs) = point
 shown_by (Counted point stat) = point
+shown_by (Pinned point number limit) = point
+shown_by (PinGot number point held) = 0
+shown_by (PinScanned number point pairs) = 0
+shown_by (Unpinned point number) = point
 shown_by (Fault place before after) = place
 shown_by (Stopped at) = 0
 shown_by (Exhausted last) = 0
@@ -243,9 +298,14 @@ abbrev pub IsBehind : ℕ → Reply → Type 0
 IsBehind seen (Done place) = seen < place
 IsBehind seen (reply.Ticked ticked) = seen < ticked.place
 IsBehind seen (Backwards point clock) = seen ≤ point
+IsBehind seen (Barred number limit) = Unit {0}
 IsBehind seen (Got point held) = seen ≤ point
 IsBehind seen (Scanned point pairs) = seen ≤ point
 IsBehind seen (Counted point stat) = seen ≤ point
+IsBehind seen (Pinned point number limit) = seen ≤ point
+IsBehind seen (PinGot number point held) = Unit {0}
+IsBehind seen (PinScanned number point pairs) = Unit {0}
+IsBehind seen (Unpinned point number) = seen ≤ point
 IsBehind seen (Fault place before after) = seen < place
 IsBehind seen (Stopped at) = Unit {0}
 IsBehind seen (Exhausted last) = Unit {0}
@@ -257,15 +317,20 @@ abbrev pub Sees : ℕ → ℕ → List Line → Type 0
 Sees seen end [] = Unit {0}
 Sees seen end (line.Answer caller reply ∷ lines) = IsBehind seen reply × (shown_by reply ≤ end) × Sees (max seen (shown_by reply)) end lines
 
--- With n places before it, a change takes the next place, done or failed, and a read is made at n. What isn't made says which place is the last,
--- unless it is for want of numbers. Then there are m.
+-- With n places before it, a change takes the next place, done or failed, and a read is made at n, or at an earlier point where a slot holds that. What isn't made says which
+-- place is the last, unless it is for want of numbers. Then there are m.
 abbrev pub Follows : Course → ℕ → Reply → ℕ → Type 0
 Follows course n (Done place) m = (place ≡ suc n) × (m ≡ suc n)
 Follows course n (reply.Ticked ticked) m = (ticked.place ≡ suc n) × (m ≡ suc n)
 Follows course n (Backwards point clock) m = (point ≡ n) × (m ≡ n)
+Follows course n (Barred number limit) m = m ≡ n
 Follows course n (Got point held) m = (point ≡ n) × (m ≡ n)
 Follows course n (Scanned point pairs) m = (point ≡ n) × (m ≡ n)
 Follows course n (Counted point stat) m = (point ≡ n) × (m ≡ n)
+Follows course n (Pinned point number limit) m = (point ≡ n) × (m ≡ n)
+Follows course n (PinGot number point held) m = (point ≤ n) × (m ≡ n)
+Follows course n (PinScanned number point pairs) m = (point ≤ n) × (m ≡ n)
+Follows course n (Unpinned point number) m = (point ≡ n) × (m ≡ n)
 Follows course n (Fault place before after) m = (place ≡ suc n) × (m ≡ suc n)
 Follows course n (Stopped at) m = (at ≡ n) × (m ≡ n)
 Follows course n (Exhausted last) m = ((n ≡ last) ⊎ IsShort n course) × (m ≡ n)
@@ -299,14 +364,19 @@ AreServed course start (orders ∷ phases) [] h = ⊥
 abbrev pub text_of : List (List Line) → Bytes
 text_of lines = flat_map lines_text lines
 
--- a change that wasn't made or failed, or a read that wasn't answered; a tick behind the clock is none
+-- a change that wasn't made or failed, or a read that wasn't answered; a tick behind the clock or barred by a pin is none
 abbrev pub is_refusal : Line → Bool
 is_refusal (line.Answer caller (Done place)) = false
 is_refusal (line.Answer caller (reply.Ticked ticked)) = false
 is_refusal (line.Answer caller (Backwards point clock)) = false
+is_refusal (line.Answer caller (Barred number limit)) = false
 is_refusal (line.Answer caller (Got point held)) = false
 is_refusal (line.Answer caller (Scanned point pairs)) = false
 is_refusal (line.Answer caller (Counted point stat)) = false
+is_refusal (line.Answer caller (Pinned point number limit)) = false
+is_refusal (line.Answer caller (PinGot number point held)) = false
+is_refusal (line.Answer caller (PinScanned number point pairs)) = false
+is_refusal (line.Answer caller (Unpinned point number)) = false
 is_refusal (line.Answer caller (Fault place before after)) = true
 is_refusal (line.Answer caller (Stopped at)) = true
 is_refusal (line.Answer caller (Exhausted last)) = true

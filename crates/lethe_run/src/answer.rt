@@ -1,45 +1,63 @@
 //! Answering one order.
-ghost use Rattle.std.specs.Prelude.{◌≡◌, ◌<◌, ◌≤◌, ◌+◌, ℕ, IfErr, MatchResult, Ok};
+ghost use Rattle.std.specs.Prelude.{◌≡◌, ◌<◌, ◌≤◌, ◌+◌, ℕ, IfErr, IsSome, MatchResult, Ok, OnOk, Some};
 ghost use Rattle.lethe_base.specs.History.{History};
 ghost use Rattle.lethe_base.specs.Limits.{max_place};
 ghost use Rattle.lethe_engine.specs.Reads.{IsReadRefusal};
 ghost use Rattle.lethe_core.specs.Running.{IsSound};
 ghost use Rattle.lethe_core.specs.View.{view_of};
+ghost use Rattle.lethe_script.specs.Slots.{held_behind};
 ghost use Rattle.lethe_run.specs.Anywhere.{IsTold, standing_of};
+ghost use Rattle.lethe_run.specs.Holding.{AreShown, HoldsPins, held_in, slots_of};
 ghost use Rattle.lethe_run.specs.declared.reply.Reply.TheVariants as reply;
 ghost use Rattle.lethe_run.specs.Replies.{IsOfChange, IsOfTick, refusal_of, reply_of, tick_reply_of, unread_of};
 ghost use Rattle.lethe_run.specs.Serving.{IsOn, IsAnswered, Advances, Point};
 ghost use Rattle.lethe_run.specs.Transcript.{Start};
 
+use crate::pinning::{pin, pin_get, pin_scan, unpin};
 use crate::reply::Reply;
+use crate::slots::Slots;
 use lethe_base::{List, NoMemory, Refused};
 use lethe_disk::Disk;
 use lethe_engine::{Engine, Ticked};
 use lethe_script::Act;
 use std::alloc::Global;
 
-/// Carries out one act, and reads through the port. For want of memory there is no reply, and the store stands for the history for which it stood.
+/// Carries out one act, and reads through the port. For want of memory there is no reply, the store stands for the history for which it stood, and the slots hold what they
+/// held.
 pub(crate) fn answer<D: Disk>(
     engine: &mut Engine<D>,
     alloc: Global,
     port: &mut D::Port,
+    slots: &mut Slots<D>,
     act: Act,
 ) -> Result<Reply, NoMemory>
     requires sound { IsSound D.tells (view_of engine.old.core) }
     requires rounds { engine.old.core.begun.rounds < max_place }
+    requires made { engine.old.core.pins.made < max_place }
+    requires pins { HoldsPins (view_of engine.old.core) (slots_of (view_of engine.old.core) slots.old.held.items) }
+    // The act finds its slot as it needs it.
+    requires slotted { IsSome (held_behind act (held_in slots.old.held.items)) }
     ensures sound { IsSound D.tells (view_of engine.new.core) }
     // On any disk:
     ensures told { MatchResult result
-        (λ reply. IsTold D.ports_fail (D.faults engine.old.core.disk) (D.faults engine.new.core.disk) act (standing_of (view_of engine.old.core)) reply (standing_of (view_of engine.new.core)))
-        (λ why. standing_of (view_of engine.new.core) ≡ standing_of (view_of engine.old.core)) }
+        (λ reply. IsTold D.ports_fail (D.faults engine.old.core.disk) (D.faults engine.new.core.disk) act (standing_of (view_of engine.old.core) (slots_of (view_of engine.old.core) slots.old.held.items))
+        reply (standing_of (view_of engine.new.core) (slots_of (view_of engine.new.core) slots.new.held.items)))
+        (λ why. standing_of (view_of engine.new.core) (slots_of (view_of engine.new.core) slots.new.held.items) ≡ standing_of (view_of engine.old.core) (slots_of (view_of engine.old.core) slots.old.held.items)) }
     ensures served { D.tells → (begin : Start) (from : Point) (h : History) (caller : ℕ)
-        → IsOn begin from h (view_of engine.old.core)
+        → IsOn begin from h (view_of engine.old.core) → AreShown h slots.old.held.items
         → MatchResult result
         (λ reply. (g : History) × IsAnswered D.ports_fail begin h g caller act reply (view_of engine.old.core) (view_of engine.new.core))
         (λ why. Advances begin h h (view_of engine.old.core) (view_of engine.new.core)) }
+    // What the slots hold shows the history, and so any that goes on from it.
+    ensures shown { D.tells → (begin : Start) (from : Point) (h : History)
+        → IsOn begin from h (view_of engine.old.core) → AreShown h slots.old.held.items → AreShown h slots.new.held.items }
     ensures faults { D.faults engine.old.core.disk ≤ D.faults engine.new.core.disk }
     // At most one round has ended in it.
     ensures rounds { engine.new.core.begun.rounds ≤ engine.old.core.begun.rounds + 1 }
+    // At most one pin was made.
+    ensures made { engine.new.core.pins.made ≤ engine.old.core.pins.made + 1 }
+    ensures pins { HoldsPins (view_of engine.new.core) (slots_of (view_of engine.new.core) slots.new.held.items) }
+    ensures slotted { OnOk result (held_behind act (held_in slots.old.held.items) ≡ Some (held_in slots.new.held.items)) }
     // On any disk a page is told as damaged only where a fetch was made.
     ensures fetched { (no : ℕ) → result ≡ Ok (reply.Damaged no) → D.fetches port.old < D.fetches port.new }
 {
@@ -69,6 +87,10 @@ pub(crate) fn answer<D: Disk>(
             let point = engine.count();
             ticked(engine.tick(alloc, port, to.get()), point)
         }
+        Act::Pin { slot } => pin(engine, alloc, slots, &slot),
+        Act::PinGet { slot, key } => pin_get(slots.snapshot(&slot), alloc, port, &key),
+        Act::PinScan { slot, lo, hi } => pin_scan(slots.snapshot(&slot), alloc, port, &lo, &hi),
+        Act::Unpin { slot } => Ok(unpin(engine, slots, &slot)),
     }
 }
 
@@ -91,6 +113,7 @@ fn ticked(answer: Result<Ticked, Refused>, point: u64) -> Result<Reply, NoMemory
     match answer {
         Ok(ticked) => Ok(Reply::Ticked(ticked)),
         Err(Refused::Backwards { clock }) => Ok(Reply::Backwards { point, clock }),
+        Err(Refused::Pinned { pin, limit }) => Ok(Reply::Barred { number: pin, limit }),
         Err(why) => unmade(why),
     }
 }

@@ -3,10 +3,12 @@
 
 mod answer;
 mod laws;
+mod pinning;
 mod print;
 mod reply;
 mod script;
 mod serve;
+mod slots;
 mod status;
 mod top;
 mod words;

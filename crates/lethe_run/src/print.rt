@@ -4,7 +4,7 @@ ghost use Rattle.lethe_base.specs.Keys.{Bytes};
 ghost use Rattle.std.specs.List.{flat_map, list_all};
 ghost use Rattle.std.specs.String.{string_bytes};
 ghost use Rattle.lethe_script.specs.Spelling.{field_text, is_plain, is_visible};
-ghost use Rattle.lethe_run.specs.Printed.{line_text, lines_text, reply_text, pair_text, stat_text, bad_line, open_line, open_fault_line, kind_text, pick_text, config_text};
+ghost use Rattle.lethe_run.specs.Printed.{line_text, lines_text, reply_text, found_text, pair_text, pairs_text, stat_text, bad_line, open_line, open_fault_line, kind_text, pick_text, config_text};
 
 use crate::reply::{Line, Reply};
 use lethe_base::{Fields, Key, Kind, NoMemory, Pick, Value};
@@ -60,45 +60,49 @@ fn push_reply(text: &mut Vec<u8>, alloc: Global, reply: &Reply) -> Result<(), No
     ensures { OnOk result (text.new.items ≡ text.old.items ++ reply_text reply.now) }
 {
     match reply {
-        Reply::Done { place } => {
-            text.extend_from_slice(format!(in alloc; "ok {place}")?.as_bytes())?;
-        }
-        Reply::Ticked(ticked) => push_ticked(text, alloc, ticked)?,
-        Reply::Backwards { clock, .. } => {
-            text.extend_from_slice(format!(in alloc; "backwards {clock}")?.as_bytes())?;
-        }
-        Reply::Got { point, held: None } => {
-            text.extend_from_slice(format!(in alloc; "at {point} none")?.as_bytes())?;
-        }
-        Reply::Got {
+        Reply::Done { place } => push_words(text, format!(in alloc; "ok {place}")?),
+        Reply::Ticked(ticked) => push_ticked(text, alloc, ticked),
+        Reply::Got { point, held } => push_got(text, alloc, *point, held),
+        Reply::Scanned { point, pairs } => push_scanned(text, alloc, *point, pairs.items()),
+        Reply::Counted { point, stat } => push_counted(text, alloc, *point, stat),
+        Reply::Pinned {
             point,
-            held: Some((dkey, value)),
-        } => push_found(text, alloc, *point, *dkey, value)?,
-        Reply::Scanned { point, pairs } => push_scanned(text, alloc, *point, pairs.items())?,
-        Reply::Counted { point, stat } => {
-            text.extend_from_slice(format!(in alloc; "at {point} stat ")?.as_bytes())?;
-            push_stat(text, alloc, stat)?;
-        }
+            number,
+            limit,
+        } => push_pinned(text, alloc, *point, *number, *limit),
+        Reply::PinGot {
+            number,
+            point,
+            held,
+        } => push_pin_got(text, alloc, *number, *point, held),
+        Reply::PinScanned {
+            number,
+            point,
+            pairs,
+        } => push_pin_scanned(text, alloc, *number, *point, pairs.items()),
+        Reply::Unpinned { point, number } => push_unpinned(text, alloc, *point, *number),
         Reply::Fault {
             place,
             before,
             after,
-        } => {
-            text.extend_from_slice(format!(in alloc;
-                "fault {place} before {before} after {after}"
-            )?.as_bytes())?;
-        }
-        Reply::Stopped { at } => {
-            text.extend_from_slice(format!(in alloc; "stopped {at}")?.as_bytes())?;
-        }
-        Reply::Exhausted { last } => {
-            text.extend_from_slice(format!(in alloc; "exhausted {last}")?.as_bytes())?;
-        }
-        Reply::ReadFault => text.extend_from_slice(b"readfault")?,
-        Reply::Damaged { no } => {
-            text.extend_from_slice(format!(in alloc; "damaged page {no}")?.as_bytes())?;
-        }
+        } => push_words(
+            text,
+            format!(in alloc; "fault {place} before {before} after {after}")?,
+        ),
+        Reply::Stopped { at } => push_words(text, format!(in alloc; "stopped {at}")?),
+        Reply::Exhausted { last } => push_words(text, format!(in alloc; "exhausted {last}")?),
+        Reply::Backwards { clock, .. } => push_words(text, format!(in alloc; "backwards {clock}")?),
+        Reply::Barred { number, limit } => push_barred(text, alloc, *number, *limit),
+        Reply::ReadFault => push_words(text, format!(in alloc; "readfault")?),
+        Reply::Damaged { no } => push_words(text, format!(in alloc; "damaged page {no}")?),
     }
+}
+
+/// Adds words that were formatted.
+fn push_words(text: &mut Vec<u8>, words: String) -> Result<(), NoMemory>
+    ensures { OnOk result (text.new.items ≡ text.old.items ++ string_bytes words) }
+{
+    text.extend_from_slice(words.as_bytes())?;
     Ok(())
 }
 
@@ -115,17 +119,73 @@ fn push_ticked(text: &mut Vec<u8>, alloc: Global, ticked: &Ticked) -> Result<(),
     Ok(())
 }
 
-fn push_found(
+fn push_pinned(
     text: &mut Vec<u8>,
     alloc: Global,
     point: u64,
-    dkey: u64,
-    value: &Value,
+    number: u64,
+    limit: u64,
 ) -> Result<(), NoMemory>
-    ensures { OnOk result (text.new.items ≡ text.old.items ++ reply_text (Reply.Got point (Some (dkey, value.now)))) }
+    ensures { OnOk result (text.new.items ≡ text.old.items ++ reply_text (Reply.Pinned point number limit)) }
 {
-    text.extend_from_slice(format!(in alloc; "at {point} val {dkey} ")?.as_bytes())?;
-    push_field(text, alloc, value.bytes())
+    push_words(
+        text,
+        format!(in alloc; "at {point} pin {number} limit {limit}")?,
+    )
+}
+
+fn push_unpinned(text: &mut Vec<u8>, alloc: Global, point: u64, number: u64) -> Result<(), NoMemory>
+    ensures { OnOk result (text.new.items ≡ text.old.items ++ reply_text (Reply.Unpinned point number)) }
+{
+    push_words(text, format!(in alloc; "at {point} unpin {number}")?)
+}
+
+fn push_barred(text: &mut Vec<u8>, alloc: Global, number: u64, limit: u64) -> Result<(), NoMemory>
+    ensures { OnOk result (text.new.items ≡ text.old.items ++ reply_text (Reply.Barred number limit)) }
+{
+    push_words(text, format!(in alloc; "pinned {number} limit {limit}")?)
+}
+
+fn push_got(
+    text: &mut Vec<u8>,
+    alloc: Global,
+    point: u64,
+    held: &Option<(u64, Value)>,
+) -> Result<(), NoMemory>
+    ensures { OnOk result (text.new.items ≡ text.old.items ++ reply_text (Reply.Got point held.now)) }
+{
+    push_words(text, format!(in alloc; "at {point}")?)?;
+    push_found(text, alloc, held)
+}
+
+fn push_pin_got(
+    text: &mut Vec<u8>,
+    alloc: Global,
+    number: u64,
+    point: u64,
+    held: &Option<(u64, Value)>,
+) -> Result<(), NoMemory>
+    ensures { OnOk result (text.new.items ≡ text.old.items ++ reply_text (Reply.PinGot number point held.now)) }
+{
+    push_words(text, format!(in alloc; "pin {number} at {point}")?)?;
+    push_found(text, alloc, held)
+}
+
+/// Adds what a key has.
+fn push_found(
+    text: &mut Vec<u8>,
+    alloc: Global,
+    held: &Option<(u64, Value)>,
+) -> Result<(), NoMemory>
+    ensures { OnOk result (text.new.items ≡ text.old.items ++ found_text held.now) }
+{
+    match held {
+        Some((dkey, value)) => {
+            push_words(text, format!(in alloc; " val {dkey} ")?)?;
+            push_field(text, alloc, value.bytes())
+        }
+        None => push_words(text, format!(in alloc; " none")?),
+    }
 }
 
 fn push_scanned(
@@ -136,8 +196,33 @@ fn push_scanned(
 ) -> Result<(), NoMemory>
     ensures { OnOk result (text.new.items ≡ text.old.items ++ reply_text (Reply.Scanned point pairs.now)) }
 {
+    push_words(text, format!(in alloc; "at {point}")?)?;
+    push_listed(text, alloc, pairs)
+}
+
+fn push_pin_scanned(
+    text: &mut Vec<u8>,
+    alloc: Global,
+    number: u64,
+    point: u64,
+    pairs: &[(Key, u64, Value)],
+) -> Result<(), NoMemory>
+    ensures { OnOk result (text.new.items ≡ text.old.items ++ reply_text (Reply.PinScanned number point pairs.now)) }
+{
+    push_words(text, format!(in alloc; "pin {number} at {point}")?)?;
+    push_listed(text, alloc, pairs)
+}
+
+/// Adds what the keys of a range have.
+fn push_listed(
+    text: &mut Vec<u8>,
+    alloc: Global,
+    pairs: &[(Key, u64, Value)],
+) -> Result<(), NoMemory>
+    ensures { OnOk result (text.new.items ≡ text.old.items ++ pairs_text pairs.now) }
+{
     let count = pairs.len();
-    text.extend_from_slice(format!(in alloc; "at {point} scan {count}")?.as_bytes())?;
+    push_words(text, format!(in alloc; " scan {count}")?)?;
     push_pairs(text, alloc, pairs)
 }
 
@@ -167,6 +252,13 @@ fn push_pair(
     push_field(text, alloc, key.bytes())?;
     text.extend_from_slice(format!(in alloc; " {dkey} ")?.as_bytes())?;
     push_field(text, alloc, value.bytes())
+}
+
+fn push_counted(text: &mut Vec<u8>, alloc: Global, point: u64, stat: &Stat) -> Result<(), NoMemory>
+    ensures { OnOk result (text.new.items ≡ text.old.items ++ reply_text (Reply.Counted point stat.now)) }
+{
+    push_words(text, format!(in alloc; "at {point} stat ")?)?;
+    push_stat(text, alloc, stat)
 }
 
 fn push_stat(text: &mut Vec<u8>, alloc: Global, stat: &Stat) -> Result<(), NoMemory>

@@ -27,6 +27,29 @@ pub(crate) enum Reply {
         point: u64,
         stat: Stat,
     },
+    /// A pin was made behind `point` places. It has this number, counted from 1 in the run, and while it is held a tick to its limit or a later time isn't made.
+    Pinned {
+        point: u64,
+        number: u64,
+        limit: u64,
+    },
+    /// What a key had behind `point` places, where the pin of this number was made.
+    PinGot {
+        number: u64,
+        point: u64,
+        held: Option<(u64, Value)>,
+    },
+    /// What the keys of a range had behind `point` places, where the pin of this number was made, ascending.
+    PinScanned {
+        number: u64,
+        point: u64,
+        pairs: List<(Key, u64, Value)>,
+    },
+    /// The pin of this number was let go behind `point` places.
+    Unpinned {
+        point: u64,
+        number: u64,
+    },
     /// The disk failed in a change, which has this place; its count of faults went from `before` to `after`.
     Fault {
         place: u64,
@@ -45,6 +68,11 @@ pub(crate) enum Reply {
     Backwards {
         point: u64,
         clock: u64,
+    },
+    /// A tick isn't made, since a pin is held whose limit is at most its time: of those of the least limit the first has this number.
+    Barred {
+        number: u64,
+        limit: u64,
     },
     /// A read isn't answered, or a change isn't made, since a fetch of a page failed.
     ReadFault,

@@ -1,16 +1,19 @@
 //! Carrying out the orders of a phase.
-ghost use Rattle.std.specs.Prelude.{◌≡◌, ◌≤◌, ◌+◌, List, [], ◌++◌, length, IsTrue};
+ghost use Rattle.std.specs.Prelude.{◌≡◌, ◌≤◌, ◌+◌, List, [], ◌++◌, length, Some, IsSome, IsTrue};
 ghost use Rattle.lethe_base.specs.History.{History};
 ghost use Rattle.lethe_base.specs.Limits.{max_place};
 ghost use Rattle.lethe_core.specs.Running.{IsSound};
 ghost use Rattle.lethe_core.specs.View.{view_of};
 ghost use Rattle.lethe_script.specs.declared.order.Order.{Order};
+ghost use Rattle.lethe_script.specs.Slots.{held_through};
 ghost use Rattle.lethe_run.specs.Anywhere.{AreTold, standing_of};
+ghost use Rattle.lethe_run.specs.Holding.{AreShown, HoldsPins, held_in, slots_of};
 ghost use Rattle.lethe_run.specs.Serving.{IsOn, IsPhase, Point};
 ghost use Rattle.lethe_run.specs.Transcript.{Start};
 
 use crate::answer::answer;
 use crate::reply::Line;
+use crate::slots::Slots;
 use lethe_base::NoMemory;
 use lethe_disk::Disk;
 use lethe_engine::Engine;
@@ -32,17 +35,26 @@ pub(crate) fn serve_phase<D: Disk>(
     engine: &mut Engine<D>,
     alloc: Global,
     port: &mut D::Port,
+    slots: &mut Slots<D>,
     orders: Vec<Order>,
 ) -> Served
     requires sound { IsSound D.tells (view_of engine.old.core) }
     requires rounds { engine.old.core.begun.rounds + length orders.items ≤ max_place }
+    requires made { engine.old.core.pins.made + length orders.items ≤ max_place }
+    requires pins { HoldsPins (view_of engine.old.core) (slots_of (view_of engine.old.core) slots.old.held.items) }
+    // Each order finds its slot as it needs it.
+    requires slotted { IsSome (held_through orders.items (held_in slots.old.held.items)) }
     ensures sound { IsSound D.tells (view_of engine.new.core) }
     ensures served { (part : List Order) × (rest : List Order) × (orders.items ≡ part ++ rest) × (IsTrue result.whole → rest ≡ [])
-        × AreTold D.ports_fail (D.faults engine.old.core.disk) (D.faults engine.new.core.disk) part (standing_of (view_of engine.old.core)) result.lines.items (standing_of (view_of engine.new.core))
-        × (D.tells → (begin : Start) (from : Point) (start : History) → IsOn begin from start (view_of engine.old.core)
-        → (h : History) × IsPhase D.ports_fail begin start h part result.lines.items (view_of engine.old.core) (view_of engine.new.core)) }
+        × AreTold D.ports_fail (D.faults engine.old.core.disk) (D.faults engine.new.core.disk) part (standing_of (view_of engine.old.core) (slots_of (view_of engine.old.core) slots.old.held.items))
+        result.lines.items (standing_of (view_of engine.new.core) (slots_of (view_of engine.new.core) slots.new.held.items))
+        × (D.tells → (begin : Start) (from : Point) (start : History) → IsOn begin from start (view_of engine.old.core) → AreShown start slots.old.held.items
+        → (h : History) × IsPhase D.ports_fail begin start h part result.lines.items (view_of engine.old.core) (view_of engine.new.core) × AreShown h slots.new.held.items) }
     ensures faults { D.faults engine.old.core.disk ≤ D.faults engine.new.core.disk }
     ensures rounds { engine.new.core.begun.rounds ≤ engine.old.core.begun.rounds + length orders.items }
+    ensures made { engine.new.core.pins.made ≤ engine.old.core.pins.made + length orders.items }
+    ensures pins { HoldsPins (view_of engine.new.core) (slots_of (view_of engine.new.core) slots.new.held.items) }
+    ensures slotted { IsTrue result.whole → held_through orders.items (held_in slots.old.held.items) ≡ Some (held_in slots.new.held.items) }
 {
     let Ok(mut lines) = Vec::with_capacity(alloc, orders.len()) else {
         return Served {
@@ -52,7 +64,7 @@ pub(crate) fn serve_phase<D: Disk>(
     };
     for order in orders {
         let Order { caller, act, .. } = order;
-        match answer(engine, alloc, port, act) {
+        match answer(engine, alloc, port, slots, act) {
             Ok(reply) => lines.push(Line::Answer { caller, reply }).unwrap(),
             Err(NoMemory) => {
                 return Served {

@@ -7,7 +7,7 @@ use lethe_recover::OpenWhy;
 /// How a run ended.
 #[derive(Clone, Copy, Debug, PartialEq, Eq)]
 pub(crate) enum Status {
-    /// Each line of the script was answered, each change is done or is a tick behind the clock, and each read was answered.
+    /// Each line of the script was answered, each change is done or is a tick behind the clock or barred by a pin, and each read was answered.
     Answered,
     /// The words are no command.
     BadWords,

@@ -1,5 +1,5 @@
 //! The top call.
-ghost use Rattle.std.specs.Prelude.{◌≡◌, ◌≤◌, ◌<◌, ◌⊎◌, ℕ, Option, None, map, IfErr, IfOk, IfSome, MatchResult, IsErrOf};
+ghost use Rattle.std.specs.Prelude.{◌≡◌, ◌≤◌, ◌<◌, ◌⊎◌, ℕ, [], Option, None, map, IfErr, IfOk, IfSome, MatchResult, IsErrOf};
 ghost use Rattle.std.specs.String.{string_bytes};
 ghost use Rattle.lethe_base.specs.Counts.{Rose};
 ghost use Rattle.lethe_base.specs.History.{History, Change};
@@ -42,7 +42,7 @@ pub struct Ended<D: Disk> {
 /// Reads the words, which are `run` and options, two words for each; then the whole source; opens the store of the disk with the configuration
 /// that the words ask for, carries out the script over it, prints a line for each line that asks for something, and gives the disk back.
 ///
-/// The status is 0 where all was answered and done, but for ticks behind the clock, 2 for words that are no command, 3 for bytes that are no script, 4 and 5 where the source and the sink
+/// The status is 0 where all was answered and done, but for ticks behind the clock or barred by a pin, 2 for words that are no command, 3 for bytes that are no script, 4 and 5 where the source and the sink
 /// failed, 6 where a change failed or wasn't made, a read wasn't answered, or the store couldn't be opened for a fault of the disk or want of numbers, 7 for
 /// want of memory, 8 for a damaged disk, and 9 for one of another configuration.
 pub fn run<S: Source, K: Sink, D: Disk>(
@@ -130,6 +130,8 @@ fn open_store<D: Disk>(alloc: Global, disk: D, config: &Config) -> Result<Engine
     ensures sound { IfOk result (λ engine. IsSound D.tells (view_of engine.core)) }
     ensures runs { IfOk result (λ engine. engine.core.state.stopped ≡ None) }
     ensures rounds { IfOk result (λ engine. engine.core.begun.rounds ≡ 0) }
+    // No pin was made.
+    ensures pins { IfOk result (λ engine. engine.core.pins ≡ record { pins = []; made = 0 }) }
     ensures resumed { D.tells → (kept : Fields) (h : History) (change : Option Change) → IsLeft kept (D.seen disk) h change
         → IfOk result (λ engine. IsResumed config.now h change (D.seen disk) (view_of engine.core)) }
     ensures any_moment { D.tells → (kept : Fields) (h : History) (change : Option Change) → IsLeft kept (D.seen disk) h change

@@ -1,7 +1,7 @@
 -- The first six fields of a line tell as much as all of them.
 use Rattle.std.proofs.Common.{◌≡◌, List, [], ◌∷◌, take, refl}
 use Rattle.lethe_base.specs.Keys.{Bytes}
-use Rattle.lethe_script.specs.Grammar.{request_of, caller_and_act, act_of, put_of, get_of, scan_of, del_of, erase_of, stat_of, tick_of}
+use Rattle.lethe_script.specs.Grammar.{request_of, caller_and_act, act_of, put_of, get_of, scan_of, del_of, erase_of, stat_of, tick_of, pin_of, pget_of, pscan_of, unpin_of}
 
 put_of_kept : (fields : List Bytes) → put_of (take 4 fields) ≡ put_of fields
 unfolding put_of
@@ -48,10 +48,37 @@ tick_of_kept [] = refl
 tick_of_kept (a ∷ []) = refl
 tick_of_kept (a ∷ b ∷ more) = refl
 
+pin_of_kept : (fields : List Bytes) → pin_of (take 4 fields) ≡ pin_of fields
+unfolding pin_of
+pin_of_kept [] = refl
+pin_of_kept (a ∷ []) = refl
+pin_of_kept (a ∷ b ∷ more) = refl
+
+pget_of_kept : (fields : List Bytes) → pget_of (take 4 fields) ≡ pget_of fields
+unfolding pget_of
+pget_of_kept [] = refl
+pget_of_kept (a ∷ []) = refl
+pget_of_kept (a ∷ b ∷ []) = refl
+pget_of_kept (a ∷ b ∷ c ∷ more) = refl
+
+pscan_of_kept : (fields : List Bytes) → pscan_of (take 4 fields) ≡ pscan_of fields
+unfolding pscan_of
+pscan_of_kept [] = refl
+pscan_of_kept (a ∷ []) = refl
+pscan_of_kept (a ∷ b ∷ []) = refl
+pscan_of_kept (a ∷ b ∷ c ∷ []) = refl
+pscan_of_kept (a ∷ b ∷ c ∷ d ∷ more) = refl
+
+unpin_of_kept : (fields : List Bytes) → unpin_of (take 4 fields) ≡ unpin_of fields
+unfolding unpin_of
+unpin_of_kept [] = refl
+unpin_of_kept (a ∷ []) = refl
+unpin_of_kept (a ∷ b ∷ more) = refl
+
 act_of_kept : (fields : List Bytes) → act_of (take 5 fields) ≡ act_of fields
 unfolding act_of
 act_of_kept [] = refl
-act_of_kept (command ∷ rest) = rw (put_of_kept rest, get_of_kept rest, scan_of_kept rest, del_of_kept rest, erase_of_kept rest, stat_of_kept rest, tick_of_kept rest) refl
+act_of_kept (command ∷ rest) = rw (put_of_kept rest, get_of_kept rest, scan_of_kept rest, del_of_kept rest, erase_of_kept rest, stat_of_kept rest, tick_of_kept rest, pin_of_kept rest, pget_of_kept rest, pscan_of_kept rest, unpin_of_kept rest) refl
 
 pub request_of_kept : (fields : List Bytes) → request_of (take 6 fields) ≡ request_of fields
 unfolding request_of caller_and_act

@@ -1,5 +1,5 @@
 -- Lines that are spelled are read as what they spell.
-use Rattle.std.proofs.Common.{◌≡◌, ◌≢◌, ℕ, suc, ◌+◌, ◌-◌, ◌/◌, ◌%◌, ◌^◌, ◌<◌, ◌≤◌, ◌&&◌, Bool, true, false, not, List, [], ◌∷◌, ◌++◌, length, get_or, take, filter, eqb, ltb, leb, cond, Some, Ok, Err}
+use Rattle.std.proofs.Common.{◌≡◌, ◌≢◌, ℕ, suc, ◌+◌, ◌-◌, ◌/◌, ◌%◌, ◌^◌, ◌<◌, ◌≤◌, ◌&&◌, Bool, true, false, not, List, [], ◌∷◌, ◌++◌, length, get_or, take, filter, eqb, ltb, leb, cond, IsSome, Some, ok_or, Ok, Err}
 use Rattle.std.proofs.Common.{lit<, lit≤, inl, inr, refl, sym, ap, ◌∙◌, arith, append_assoc}
 use Rattle.std.specs.List.{All, AllByRecursion, list_all, slice_split, join_with_byte, flat_map, cons_option}
 use Rattle.std.specs.Fmt.{decimal}
@@ -19,15 +19,17 @@ use Rattle.lethe_base.specs.Keys.{Bytes}
 use Rattle.lethe_base.specs.Limits.{IsKey, IsValue, max_time}
 use Rattle.lethe_base.specs.Numbers.{IsBytes}
 use Rattle.lethe_script.specs.declared.order.Act.{Act}
-use Rattle.lethe_script.specs.declared.order.Act.TheVariants.{Put, Get, Scan, Delete, Erase, Stat, Tick}
+use Rattle.lethe_script.specs.declared.order.Act.TheVariants.{Put, Get, Scan, Delete, Erase, Stat, Tick, Pin, PinGet, PinScan, Unpin}
 use Rattle.lethe_script.specs.declared.order.Order.{Order}
-use Rattle.lethe_script.specs.declared.refused.Why.TheVariants.{Byte}
+use Rattle.lethe_script.specs.declared.refused.Why.TheVariants.{Byte, Slot}
 use Rattle.lethe_base.specs.Results.{◌>>=◌}
-use Rattle.lethe_script.specs.Fields.{is_allowed, is_field, fields, caller_of, is_lower_digit, digit_bytes, field_bytes, text_of, key_of, time_of, value_of}
-use Rattle.lethe_script.specs.Grammar.{lines, put_fields, put_of, get_of, scan_fields, scan_of, del_of, erase_fields, erase_of, stat_of, tick_of, act_of, caller_and_act, request_of, line_of, order_of, orders_from, script_of}
+use Rattle.lethe_script.specs.Fields.{is_allowed, is_field, fields, caller_of, is_lower_digit, digit_bytes, field_bytes, text_of, key_of, slot_of, time_of, value_of}
+use Rattle.lethe_script.specs.Grammar.{lines, put_fields, put_of, get_of, scan_fields, scan_of, del_of, erase_fields, erase_of, stat_of, tick_of, pin_of, pget_fields, pget_of, pscan_fields, pscan_of, unpin_of, act_of, caller_and_act, request_of, line_of, order_of, slots_behind, orders_from, script_of}
 use Rattle.lethe_script.specs.Spelling.{is_plain, marked, field_text, act_fields, spelling, IsWritableAct, IsWritable, IsNumbered}
 use Rattle.lethe_script.proofs.Numbers.{number_again}
+use Rattle.lethe_script.specs.Slots.{Held, none_held, held_behind, held_through, AreSlotted}
 use Rattle.lethe_script.proofs.Lines.{orders_from-cons, lines_some}
+use Rattle.lethe_script.proofs.SlotLemmas.{slotted_step}
 
 -- a byte of a line
 pub record IsAllowed (byte : ℕ) : Type 0 where
@@ -179,8 +181,17 @@ value_again field value is v =
     let short : leb (length value) 4096 ≡ true = le-leb (length value) 4096 v in
     rw (is, short) refl
 
+slot_again : (slot : ℕ) → slot < 10 → slot_of (decimal slot) ≡ Ok slot
+unfolding slot_of
+slot_again slot small =
+    let digit : decimal slot ≡ (48 + slot) ∷ [] = decimal_digit slot small in
+    let low : leb 48 (48 + slot) ≡ true = le-leb 48 (48 + slot) (omega arith) in
+    let high : leb (48 + slot) 57 ≡ true = le-leb (48 + slot) 57 (omega arith) in
+    let same : 48 + slot - 48 ≡ slot = omega arith in
+    rw (digit, low, high) (ap Ok same)
+
 act_again : (act : Act) → IsWritableAct act → act_of (act_fields act) ≡ Ok act
-unfolding act_of put_of put_fields get_of scan_of scan_fields del_of erase_of erase_fields stat_of tick_of time_of
+unfolding act_of put_of put_fields get_of scan_of scan_fields del_of erase_of erase_fields stat_of tick_of time_of pin_of pget_of pget_fields pscan_of pscan_fields unpin_of
 act_again (Put key dkey value) w = rw (key_again (field_text key) key (text_again key w.0.1) w.0.0, number_again (decimal dkey) dkey w.1 refl, value_again (field_text value) value (text_again value w.2.1) w.2.0) refl
 act_again (Get key) w = rw (key_again (field_text key) key (text_again key w.1) w.0) refl
 act_again (Scan lo hi) w = rw (key_again (field_text lo) lo (text_again lo w.0.1) w.0.0, key_again (field_text hi) hi (text_again hi w.1.1) w.1.0) refl
@@ -190,10 +201,18 @@ act_again (Erase range) w =
     rw (number_again (decimal range.lo) range.lo low refl, number_again (decimal range.hi) range.hi w.1 refl, lt-ltb range.lo range.hi w.0) refl
 act_again Stat w = refl
 act_again (Tick to) w = rw (number_again (decimal to) to (omega (arith, w)) refl, le-leb to max_time w) refl
+act_again (Pin slot) w = rw (slot_again slot w) refl
+act_again (PinGet slot key) w = rw (slot_again slot w.0, key_again (field_text key) key (text_again key w.1.1) w.1.0) refl
+act_again (PinScan slot lo hi) w =
+    rw (slot_again slot w.0, key_again (field_text lo) lo (text_again lo w.1.1) w.1.0, key_again (field_text hi) hi (text_again hi w.2.1) w.2.0) refl
+act_again (Unpin slot) w = rw (slot_again slot w) refl
 
 request_again : (act : Act) → IsWritableAct act → request_of (decimal 1 ∷ act_fields act) ≡ Ok (Some (1, act))
 unfolding request_of caller_and_act caller_of
 request_again act w = ap (λ one. request_of (one ∷ act_fields act)) (decimal_digit 1 (lit< tt)) ∙ ap (λ a. (a >>= λ act. Ok (1, act)) >>= λ asked. Ok (Some asked)) (act_again act w)
+
+slot_field : (slot : ℕ) → slot < 10 → IsFieldText (decimal slot)
+slot_field slot small = decimal_field slot (omega (arith, small))
 
 act_texts : (act : Act) → IsWritableAct act → AllByRecursion IsFieldText (act_fields act)
 act_texts (Put key dkey value) w = (command_field _ (lit< tt) refl, (text_field key w.0.1, (decimal_field dkey w.1, (text_field value w.2.1, tt))))
@@ -203,6 +222,10 @@ act_texts (Delete key) w = (command_field _ (lit< tt) refl, (text_field key w.1,
 act_texts (Erase range) w = (command_field _ (lit< tt) refl, (decimal_field range.lo (omega (arith, w.0, w.1)), (decimal_field range.hi w.1, tt)))
 act_texts Stat w = (command_field _ (lit< tt) refl, tt)
 act_texts (Tick to) w = (command_field _ (lit< tt) refl, (decimal_field to (omega (arith, w)), tt))
+act_texts (Pin slot) w = (command_field _ (lit< tt) refl, (slot_field slot w, tt))
+act_texts (PinGet slot key) w = (command_field _ (lit< tt) refl, (slot_field slot w.0, (text_field key w.1.1, tt)))
+act_texts (PinScan slot lo hi) w = (command_field _ (lit< tt) refl, (slot_field slot w.0, (text_field lo w.1.1, (text_field hi w.2.1, tt))))
+act_texts (Unpin slot) w = (command_field _ (lit< tt) refl, (slot_field slot w, tt))
 
 -- the line of an order, without its LF
 abbrev line_text : Order → Bytes
@@ -237,27 +260,31 @@ module _ (order : Order) (w : IsWritable order) where
       ∙ slice_split_at (λ byte. eqb byte 10) (line_text order) 10 rest (no_lf (line_text order) allowed) refl
 
 -- an empty line gives no order
-none_left : (n : ℕ) → orders_from false n (lines []) ≡ Ok []
+none_left : (n : ℕ) (held : Held) → orders_from false n held (lines []) ≡ Ok []
 unfolding orders_from order_of line_of request_of
-none_left n = refl
+none_left n held = refl
 
-orders_again : (n : ℕ) (orders : List Order) → All IsWritable orders → IsNumbered n orders → orders_from false n (lines (flat_map spelling orders)) ≡ Ok orders
-orders_again n [] w numbered = none_left n
-orders_again n (order ∷ orders) w numbered =
+orders_again : (n : ℕ) (held : Held) (orders : List Order) → All IsWritable orders → IsNumbered n orders → IsSome (held_through orders held)
+    → orders_from false n held (lines (flat_map spelling orders)) ≡ Ok orders
+orders_again n held [] w numbered slotted = none_left n held
+orders_again n held (order ∷ orders) w numbered slotted =
     let here = All-head IsWritable order orders w in
     let rest = flat_map spelling orders in
     let read : order_of n (strip_carriage_return (line_text order)) ≡ Ok (Some order) = ap (order_of n) (no_cr (line_text order) (allowed order here)) ∙ order_again order here n numbered.0 in
-    ap (orders_from false n) (lines_again order here rest)
-    ∙ orders_from-cons false n (line_text order) (lines rest) (lines_some rest)
-    ∙ ap (λ r. r >>= λ order. orders_from false (n + 1) (lines rest) >>= λ orders. Ok (cons_option order orders)) read
-    ∙ ap (λ r. r >>= λ orders. Ok (order ∷ orders)) (orders_again (n + 1) orders (All-tail IsWritable order orders w) numbered.1)
+    let (behind, is, after) = slotted_step (held_behind order.act held) orders slotted in
+    let others = λ (slots : Held). orders_from false (n + 1) slots (lines rest) >>= λ orders. Ok (order ∷ orders) in
+    ap (orders_from false n held) (lines_again order here rest)
+    ∙ orders_from-cons false n held (line_text order) (lines rest) (lines_some rest)
+    ∙ ap (λ r. r >>= λ order. slots_behind order held >>= λ behind. orders_from false (n + 1) behind (lines rest) >>= λ orders. Ok (cons_option order orders)) read
+    ∙ ap (λ o. ok_or o (record { line = order.line; why = Slot }) >>= others) is
+    ∙ ap (λ r. r >>= λ orders. Ok (order ∷ orders)) (orders_again (n + 1) behind orders (All-tail IsWritable order orders w) numbered.1 after)
 
-pub script_again : (orders : List Order) → All IsWritable orders → IsNumbered 1 orders → length (flat_map spelling orders) ≤ 16777216
+pub script_again : (orders : List Order) → All IsWritable orders → IsNumbered 1 orders → AreSlotted orders → length (flat_map spelling orders) ≤ 16777216
     → script_of (flat_map spelling orders) ≡ Ok (orders ∷ [])
 unfolding script_of
-script_again orders w numbered small =
+script_again orders w numbered slotted small =
     let bytes = flat_map spelling orders in
     let short : ltb 16777216 (length bytes) ≡ false = le-ltb 16777216 (length bytes) small in
-    ap (λ b. orders_from b 1 (lines (take 16777216 bytes)) >>= λ orders. Ok (orders ∷ [])) short
-    ∙ ap (λ bs. orders_from false 1 (lines bs) >>= λ orders. Ok (orders ∷ [])) (take_all 16777216 bytes small)
-    ∙ ap (λ r. r >>= λ orders. Ok (orders ∷ [])) (orders_again 1 orders w numbered)
+    ap (λ b. orders_from b 1 none_held (lines (take 16777216 bytes)) >>= λ orders. Ok (orders ∷ [])) short
+    ∙ ap (λ bs. orders_from false 1 none_held (lines bs) >>= λ orders. Ok (orders ∷ [])) (take_all 16777216 bytes small)
+    ∙ ap (λ r. r >>= λ orders. Ok (orders ∷ [])) (orders_again 1 none_held orders w numbered slotted)

@@ -1,5 +1,5 @@
 -- What the fields of a line are, and what each of them stands for.
-use Rattle.std.specs.Prelude.{ℕ, ◌^◌, Bool, ◌&&◌, ◌||◌, not, List, [], ◌∷◌, length, filter, Option, Some, None, ok_or, Result, Ok, Err, nat_lt, nat_le, ◌==◌, if◌then◌else◌, slice_index, codes}
+use Rattle.std.specs.Prelude.{ℕ, ◌-◌, ◌^◌, Bool, ◌&&◌, ◌||◌, not, List, [], ◌∷◌, length, filter, Option, Some, None, ok_or, Result, Ok, Err, nat_lt, nat_le, ◌==◌, if◌then◌else◌, slice_index, codes}
 use Rattle.std.specs.List.{slice_split, list_all}
 use Rattle.std.specs.Result.{result_ok}
 use Rattle.std.specs.Str.{bytes_eq}
@@ -10,7 +10,7 @@ use Rattle.lethe_base.specs.Keys.{Bytes}
 use Rattle.lethe_base.specs.Limits.{max_time}
 use Rattle.lethe_base.specs.Results.{◌>>=◌}
 use Rattle.lethe_script.specs.declared.refused.Why.{Why}
-use Rattle.lethe_script.specs.declared.refused.Why.TheVariants.{Caller, Number, Key, Value}
+use Rattle.lethe_script.specs.declared.refused.Why.TheVariants.{Caller, Number, Slot, Key, Value}
 
 -- a space, or a byte that prints
 abbrev pub is_allowed : ℕ → Bool
@@ -42,6 +42,11 @@ unfoldable pub time_of : Bytes → Result ℕ Why
 time_of field = do
   n ← number_of field
   if nat_le n max_time then Ok n else Err Number
+
+-- a slot: one digit
+unfoldable pub slot_of : Bytes → Result ℕ Why
+slot_of (digit ∷ []) = if nat_le 48 digit && nat_le digit 57 then Ok (digit - 48) else Err Slot
+slot_of _ = Err Slot
 
 -- a digit of a hexadecimal number, in lower case
 abbrev pub is_lower_digit : ℕ → Bool

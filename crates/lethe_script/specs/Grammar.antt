@@ -1,17 +1,18 @@
 -- What the bytes of a script ask for, or the first line that is no part of one, and why.
-use Rattle.std.specs.Prelude.{ℕ, ◌+◌, Bool, List, [], ◌∷◌, length, take, option_map, Option, Some, None, Result, Ok, Err, nat_lt, ◌==◌, if◌then◌else◌, codes}
+use Rattle.std.specs.Prelude.{ℕ, ◌+◌, Bool, List, [], ◌∷◌, length, take, option_map, Option, Some, None, ok_or, Result, Ok, Err, nat_lt, ◌==◌, if◌then◌else◌, codes}
 use Rattle.std.specs.List.{slice_split, list_all, cons_option}
 use Rattle.std.specs.Str.{bytes_eq}
 use Rattle.std.specs.Str.Lines.{strip_carriage_return}
 use Rattle.lethe_base.specs.Keys.{Bytes}
 use Rattle.lethe_script.specs.declared.order.Act.{Act}
-use Rattle.lethe_script.specs.declared.order.Act.TheVariants.{Put, Get, Scan, Delete, Erase, Stat, Tick}
+use Rattle.lethe_script.specs.declared.order.Act.TheVariants.{Put, Get, Scan, Delete, Erase, Stat, Tick, Pin, PinGet, PinScan, Unpin}
 use Rattle.lethe_script.specs.declared.order.Order.{Order}
 use Rattle.lethe_script.specs.declared.refused.BadLine.{BadLine}
 use Rattle.lethe_script.specs.declared.refused.Why.{Why}
-use Rattle.lethe_script.specs.declared.refused.Why.TheVariants.{Size, Byte, Command, Count, Range}
+use Rattle.lethe_script.specs.declared.refused.Why.TheVariants.{Size, Byte, Command, Count, Slot, Range}
 use Rattle.lethe_base.specs.Results.{◌>>=◌}
-use Rattle.lethe_script.specs.Fields.{fields, is_allowed, is_comment, caller_of, key_of, number_of, time_of, value_of}
+use Rattle.lethe_script.specs.Fields.{fields, is_allowed, is_comment, caller_of, key_of, number_of, slot_of, time_of, value_of}
+use Rattle.lethe_script.specs.Slots.{Held, none_held, held_behind}
 
 unfoldable pub put_fields : Bytes → Bytes → Bytes → Result Act Why
 put_fields key dkey value = do
@@ -73,6 +74,43 @@ tick_of (to ∷ []) = do
   Ok (Tick t)
 tick_of _ = Err Count
 
+-- the field behind `pin`
+unfoldable pub pin_of : List Bytes → Result Act Why
+pin_of (slot ∷ []) = do
+  s ← slot_of slot
+  Ok (Pin s)
+pin_of _ = Err Count
+
+unfoldable pub pget_fields : Bytes → Bytes → Result Act Why
+pget_fields slot key = do
+  s ← slot_of slot
+  k ← key_of key
+  Ok (PinGet s k)
+
+-- the fields behind `pget`
+unfoldable pub pget_of : List Bytes → Result Act Why
+pget_of (slot ∷ key ∷ []) = pget_fields slot key
+pget_of _ = Err Count
+
+unfoldable pub pscan_fields : Bytes → Bytes → Bytes → Result Act Why
+pscan_fields slot lo hi = do
+  s ← slot_of slot
+  l ← key_of lo
+  h ← key_of hi
+  Ok (PinScan s l h)
+
+-- the fields behind `pscan`
+unfoldable pub pscan_of : List Bytes → Result Act Why
+pscan_of (slot ∷ lo ∷ hi ∷ []) = pscan_fields slot lo hi
+pscan_of _ = Err Count
+
+-- the field behind `unpin`
+unfoldable pub unpin_of : List Bytes → Result Act Why
+unpin_of (slot ∷ []) = do
+  s ← slot_of slot
+  Ok (Unpin s)
+unpin_of _ = Err Count
+
 -- the fields behind the caller
 unfoldable pub act_of : List Bytes → Result Act Why
 act_of [] = Err Command
@@ -83,7 +121,11 @@ act_of (command ∷ rest) =
     if bytes_eq command (codes "del") then del_of rest else
     if bytes_eq command (codes "erase") then erase_of rest else
     if bytes_eq command (codes "stat") then stat_of rest else
-    if bytes_eq command (codes "tick") then tick_of rest else Err Command
+    if bytes_eq command (codes "tick") then tick_of rest else
+    if bytes_eq command (codes "pin") then pin_of rest else
+    if bytes_eq command (codes "pget") then pget_of rest else
+    if bytes_eq command (codes "pscan") then pscan_of rest else
+    if bytes_eq command (codes "unpin") then unpin_of rest else Err Command
 
 -- the first field of a line, and those behind it
 unfoldable pub caller_and_act : Bytes → List Bytes → Result (ℕ × Act) Why
@@ -113,19 +155,26 @@ order_of n line = numbered n (line_of line)
 abbrev pub lines : Bytes → List Bytes
 lines bytes = slice_split (λ byte. byte == 10) bytes
 
--- The lines from this number on. An LF ends each but the last, and a CR before it is no part of the line. Where the script
--- is too long, its first byte that is too much stands in the last line.
-unfoldable pub orders_from : Bool → ℕ → List Bytes → Result (List Order) BadLine
-orders_from is_long n [] = Ok []
-orders_from is_long n (last ∷ []) =
-    if is_long then Err (record { line = n; why = Size }) else (order_of n last >>= λ order. Ok (cons_option order []))
-orders_from is_long n (line ∷ next ∷ more) = do
+-- the slots behind a line: the last test of a line
+abbrev pub slots_behind : Option Order → Held → Result Held BadLine
+slots_behind None held = Ok held
+slots_behind (Some order) held = ok_or (held_behind order.act held) (record { line = order.line; why = Slot })
+
+-- The lines from this number on, in front of which these slots are held. An LF ends each but the last, and a CR before it
+-- is no part of the line. Where the script is too long, its first byte that is too much stands in the last line.
+unfoldable pub orders_from : Bool → ℕ → Held → List Bytes → Result (List Order) BadLine
+orders_from is_long n held [] = Ok []
+orders_from is_long n held (last ∷ []) =
+    if is_long then Err (record { line = n; why = Size }) else
+    (order_of n last >>= λ order. slots_behind order held >>= λ behind. Ok (cons_option order []))
+orders_from is_long n held (line ∷ next ∷ more) = do
   order ← order_of n (strip_carriage_return line)
-  orders ← orders_from is_long (n + 1) (next ∷ more)
+  behind ← slots_behind order held
+  orders ← orders_from is_long (n + 1) behind (next ∷ more)
   Ok (cons_option order orders)
 
 -- the phases of a script, which has at most 16,777,216 bytes
 unfoldable pub script_of : Bytes → Result (List (List Order)) BadLine
 script_of bytes = do
-  orders ← orders_from (nat_lt 16777216 (length bytes)) 1 (lines (take 16777216 bytes))
+  orders ← orders_from (nat_lt 16777216 (length bytes)) 1 none_held (lines (take 16777216 bytes))
   Ok (orders ∷ [])

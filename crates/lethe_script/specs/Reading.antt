@@ -2,7 +2,8 @@
 use Rattle.std.specs.Prelude.{◌≡◌, ℕ, ◌+◌, ◌<◌, ◌≤◌, List, [], ◌∷◌, ◌++◌, length, slice_index, Option, Result, Ok, Err}
 use Rattle.std.specs.List.{cons_option}
 use Rattle.lethe_base.specs.Results.{◌>>=◌}
-use Rattle.lethe_script.specs.Grammar.{lines}
+use Rattle.lethe_script.specs.Slots.{Held}
+use Rattle.lethe_script.specs.Grammar.{lines, slots_behind}
 use Rattle.lethe_script.specs.declared.order.Order.{Order}
 use Rattle.lethe_script.specs.declared.refused.BadLine.{BadLine}
 use Rattle.lethe_script.specs.declared.refused.Why.{Why}
@@ -30,9 +31,12 @@ abbrev pub GivesScript : {X Y : Type 0} → (X → Y) → Result X ScriptRefused
 GivesScript view (Ok x) read = read ≡ Ok (view x)
 GivesScript view (Err e) read = FailsScript e read
 
--- orders with that of a further line behind them, if it has one
-abbrev pub with_order : List Order → Result (Option Order) BadLine → Result (List Order) BadLine
-with_order front read = read >>= λ order. Ok (front ++ cons_option order [])
+-- orders with that of a further line behind them, if it has one, and the slots that are held then
+abbrev pub with_order : List Order → Held → Result (Option Order) BadLine → Result (List Order × Held) BadLine
+with_order front held read = do
+  order ← read
+  behind ← slots_behind order held
+  Ok (front ++ cons_option order [], behind)
 
 -- there is a digit in front, and no zero before others
 pub record BeginsNumber (field : List ℕ) : Type 0 where

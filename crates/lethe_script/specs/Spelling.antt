@@ -7,7 +7,7 @@ use Rattle.lethe_base.specs.Keys.{Bytes}
 use Rattle.lethe_base.specs.Limits.{IsKey, IsValue, max_time}
 use Rattle.lethe_base.specs.Numbers.{IsBytes}
 use Rattle.lethe_script.specs.declared.order.Act.{Act}
-use Rattle.lethe_script.specs.declared.order.Act.TheVariants.{Put, Get, Scan, Delete, Erase, Stat, Tick}
+use Rattle.lethe_script.specs.declared.order.Act.TheVariants.{Put, Get, Scan, Delete, Erase, Stat, Tick, Pin, PinGet, PinScan, Unpin}
 use Rattle.lethe_script.specs.declared.order.Order.{Order}
 
 -- a byte that prints and is no space
@@ -35,6 +35,10 @@ act_fields (Delete key) = codes "del" ∷ field_text key ∷ []
 act_fields (Erase range) = codes "erase" ∷ decimal range.lo ∷ decimal range.hi ∷ []
 act_fields Stat = codes "stat" ∷ []
 act_fields (Tick to) = codes "tick" ∷ decimal to ∷ []
+act_fields (Pin slot) = codes "pin" ∷ decimal slot ∷ []
+act_fields (PinGet slot key) = codes "pget" ∷ decimal slot ∷ field_text key ∷ []
+act_fields (PinScan slot lo hi) = codes "pscan" ∷ decimal slot ∷ field_text lo ∷ field_text hi ∷ []
+act_fields (Unpin slot) = codes "unpin" ∷ decimal slot ∷ []
 
 -- the line of an order, with a space between its fields and the LF that ends it
 abbrev pub spelling : Order → Bytes
@@ -55,6 +59,10 @@ IsWritableAct (Delete key) = IsWritableKey key
 IsWritableAct (Erase range) = (range.lo < range.hi) × (range.hi < 2 ^ 64)
 IsWritableAct Stat = Unit {0}
 IsWritableAct (Tick to) = to ≤ max_time
+IsWritableAct (Pin slot) = slot < 10
+IsWritableAct (PinGet slot key) = (slot < 10) × IsWritableKey key
+IsWritableAct (PinScan slot lo hi) = (slot < 10) × IsWritableKey lo × IsWritableKey hi
+IsWritableAct (Unpin slot) = slot < 10
 
 -- an order that a line can ask for
 pub record IsWritable (order : Order) : Type 0 where

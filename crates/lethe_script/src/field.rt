@@ -1,10 +1,11 @@
 //! The fields of a line.
 ghost use Rattle.std.specs.Prelude.{◌≡◌, ◌↔◌, ◌∷◌, map, take, IsTrue, IfOk};
 ghost use Rattle.std.specs.List.{list_all};
-ghost use Rattle.lethe_script.specs.Fields.{number_of, time_of, text_of, key_of, value_of, fields, is_comment, caller_of, is_lower_digit};
+ghost use Rattle.lethe_script.specs.Fields.{number_of, slot_of, time_of, text_of, key_of, value_of, fields, is_comment, caller_of, is_lower_digit};
 ghost use Rattle.lethe_script.specs.Reading.{GivesLine, BeginsNumber};
 
 use crate::refused::{LineRefused, Why};
+use crate::slot::Slot;
 use hex::FromHexError;
 use lethe_base::{Key, MAX_KEY, MAX_VALUE, Value};
 use lethe_time::Time;
@@ -67,6 +68,20 @@ pub(crate) fn time(field: &[u8]) -> Result<Time, LineRefused>
     match Time::new(read_number(field)?) {
         Some(time) => Ok(time),
         None => Err(LineRefused::Bad(Why::Number)),
+    }
+}
+
+/// The slot that a field of a line is: one digit.
+#[tactic(auto, unfolding(crate::specs::Fields::slot_of))]
+pub(crate) fn slot(field: &[u8]) -> Result<Slot, LineRefused>
+    ensures { GivesLine (λ slot. slot) result (slot_of field.now) }
+{
+    match field {
+        [digit] if *digit >= b'0' => match Slot::new(usize::from(*digit - b'0')) {
+            Some(slot) => Ok(slot),
+            None => Err(LineRefused::Bad(Why::Slot)),
+        },
+        _ => Err(LineRefused::Bad(Why::Slot)),
     }
 }
 

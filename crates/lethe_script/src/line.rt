@@ -2,10 +2,10 @@
 ghost use Rattle.std.specs.Prelude.{◌≡◌, map};
 ghost use Rattle.std.specs.List.{list_all};
 ghost use Rattle.lethe_script.specs.Fields.{is_allowed};
-ghost use Rattle.lethe_script.specs.Grammar.{line_of, request_of, caller_and_act, act_of, put_of, put_fields, get_of, scan_of, scan_fields, del_of, erase_fields, erase_of, stat_of, tick_of};
+ghost use Rattle.lethe_script.specs.Grammar.{line_of, request_of, caller_and_act, act_of, put_of, put_fields, get_of, scan_of, scan_fields, del_of, erase_fields, erase_of, stat_of, tick_of, pin_of, pget_fields, pget_of, pscan_fields, pscan_of, unpin_of};
 ghost use Rattle.lethe_script.specs.Reading.{GivesLine};
 
-use crate::field::{caller, fields_of, is_comment, key, read_number, time, value};
+use crate::field::{caller, fields_of, is_comment, key, read_number, slot, time, value};
 use crate::order::Act;
 use crate::refused::{LineRefused, Why};
 use lethe_base::Range;
@@ -67,6 +67,10 @@ fn act(alloc: Global, fields: &[&[u8]]) -> Result<Act, LineRefused>
         [command, rest @ ..] if *command == b"erase".as_slice() => erase(rest),
         [command, rest @ ..] if *command == b"stat".as_slice() => stat(rest),
         [command, rest @ ..] if *command == b"tick".as_slice() => tick(rest),
+        [command, rest @ ..] if *command == b"pin".as_slice() => pin(rest),
+        [command, rest @ ..] if *command == b"pget".as_slice() => pin_get(alloc, rest),
+        [command, rest @ ..] if *command == b"pscan".as_slice() => pin_scan(alloc, rest),
+        [command, rest @ ..] if *command == b"unpin".as_slice() => unpin(rest),
         _ => Err(LineRefused::Bad(Why::Command)),
     }
 }
@@ -184,6 +188,78 @@ fn tick(fields: &[&[u8]]) -> Result<Act, LineRefused>
 {
     match fields {
         [to] => Ok(Act::Tick { to: time(to)? }),
+        _ => Err(LineRefused::Bad(Why::Count)),
+    }
+}
+
+/// What the field behind `pin` asks for.
+#[tactic(auto, unfolding(crate::specs::Grammar::pin_of))]
+fn pin(fields: &[&[u8]]) -> Result<Act, LineRefused>
+    ensures { GivesLine (λ act. act) result (pin_of (map (λ field. field.now) fields.now)) }
+{
+    match fields {
+        [slot_field] => Ok(Act::Pin {
+            slot: slot(slot_field)?,
+        }),
+        _ => Err(LineRefused::Bad(Why::Count)),
+    }
+}
+
+/// What the fields behind `pget` ask for.
+#[tactic(auto, unfolding(crate::specs::Grammar::pget_of))]
+fn pin_get(alloc: Global, fields: &[&[u8]]) -> Result<Act, LineRefused>
+    ensures { GivesLine (λ act. act) result (pget_of (map (λ field. field.now) fields.now)) }
+{
+    match fields {
+        [slot, key] => pin_get_fields(alloc, slot, key),
+        _ => Err(LineRefused::Bad(Why::Count)),
+    }
+}
+
+#[tactic(auto, unfolding(crate::specs::Grammar::pget_fields))]
+fn pin_get_fields(alloc: Global, slot_field: &[u8], key_field: &[u8]) -> Result<Act, LineRefused>
+    ensures { GivesLine (λ act. act) result (pget_fields slot_field.now key_field.now) }
+{
+    let slot = slot(slot_field)?;
+    let key = key(alloc, key_field)?;
+    Ok(Act::PinGet { slot, key })
+}
+
+/// What the fields behind `pscan` ask for.
+#[tactic(auto, unfolding(crate::specs::Grammar::pscan_of))]
+fn pin_scan(alloc: Global, fields: &[&[u8]]) -> Result<Act, LineRefused>
+    ensures { GivesLine (λ act. act) result (pscan_of (map (λ field. field.now) fields.now)) }
+{
+    match fields {
+        [slot, lo, hi] => pin_scan_fields(alloc, slot, lo, hi),
+        _ => Err(LineRefused::Bad(Why::Count)),
+    }
+}
+
+#[tactic(auto, unfolding(crate::specs::Grammar::pscan_fields))]
+fn pin_scan_fields(
+    alloc: Global,
+    slot_field: &[u8],
+    lo_field: &[u8],
+    hi_field: &[u8],
+) -> Result<Act, LineRefused>
+    ensures { GivesLine (λ act. act) result (pscan_fields slot_field.now lo_field.now hi_field.now) }
+{
+    let slot = slot(slot_field)?;
+    let lo = key(alloc, lo_field)?;
+    let hi = key(alloc, hi_field)?;
+    Ok(Act::PinScan { slot, lo, hi })
+}
+
+/// What the field behind `unpin` asks for.
+#[tactic(auto, unfolding(crate::specs::Grammar::unpin_of))]
+fn unpin(fields: &[&[u8]]) -> Result<Act, LineRefused>
+    ensures { GivesLine (λ act. act) result (unpin_of (map (λ field. field.now) fields.now)) }
+{
+    match fields {
+        [slot_field] => Ok(Act::Unpin {
+            slot: slot(slot_field)?,
+        }),
         _ => Err(LineRefused::Bad(Why::Count)),
     }
 }

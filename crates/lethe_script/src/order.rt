@@ -1,5 +1,6 @@
 //! What a script asks for.
 
+use crate::slot::Slot;
 use lethe_base::{Key, List, Range, Value};
 use lethe_time::Time;
 
@@ -20,6 +21,14 @@ pub enum Act {
     Stat,
     /// Move the clock to a time.
     Tick { to: Time },
+    /// Hold the store as it is now, in a slot.
+    Pin { slot: Slot },
+    /// Look a key up in what a slot holds.
+    PinGet { slot: Slot, key: Key },
+    /// List the keys of what a slot holds, from `lo` up to `hi`, which is excluded.
+    PinScan { slot: Slot, lo: Key, hi: Key },
+    /// Let go what a slot holds.
+    Unpin { slot: Slot },
 }
 
 /// What one line asks for, and who asks.

@@ -1,13 +1,15 @@
 //! Reading a script.
 ghost use Rattle.std.specs.Prelude.{◌≡◌, ◌==◌, ◌<◌, ◌≤◌, ◌∷◌, [], length, take, sum_by, IfOk, IfSome, MatchOption};
-ghost use Rattle.std.specs.List.{position};
+ghost use Rattle.std.specs.List.{flat_map, position};
 ghost use Rattle.std.specs.Str.Lines.{strip_carriage_return};
 ghost use Rattle.lethe_script.specs.Grammar.{order_of, orders_from, script_of, lines};
+ghost use Rattle.lethe_script.specs.Slots.{none_held, AreSlotted};
 ghost use Rattle.lethe_script.specs.Reading.{GivesScript, IsCut, with_order};
 
 use crate::line::read_line;
 use crate::order::{Order, Script};
 use crate::refused::{BadLine, LineRefused, ScriptRefused, Why};
+use crate::slot::HeldSlots;
 use lethe_base::List;
 use std::alloc::Global;
 
@@ -20,6 +22,8 @@ pub fn read_script(alloc: Global, bytes: &[u8]) -> Result<Script, ScriptRefused>
     ensures script { GivesScript (λ script. script.phases) result (script_of bytes.now) }
     // There are no more orders than lines.
     ensures few { IfOk result (λ script. sum_by length script.phases ≤ 16777217) }
+    // Each act finds its slot free or held, as it needs it.
+    ensures slots { IfOk result (λ script. AreSlotted (flat_map (λ orders. orders) script.phases)) }
 {
     let is_long = bytes.len() > MAX_SCRIPT;
     let orders = read_orders(alloc, within_limit(bytes), is_long)?;
@@ -45,13 +49,14 @@ fn within_limit(bytes: &[u8]) -> &[u8]
 /// The orders of the lines. Where the script is too long, its first byte that is too much stands in the last of them.
 fn read_orders(alloc: Global, bytes: &[u8], is_long: bool) -> Result<Vec<Order>, ScriptRefused>
     requires { length bytes.now ≤ 16777216 }
-    ensures { GivesScript (λ orders. orders.items) result (orders_from is_long 1 (lines bytes.now)) }
+    ensures { GivesScript (λ orders. orders.items) result (orders_from is_long 1 none_held (lines bytes.now)) }
 {
     let mut orders = Vec::new(alloc);
+    let mut held = HeldSlots::none();
     let mut rest = bytes;
     let mut line = 1u64;
     while let Some((text, after)) = cut_line(rest) {
-        push_order(alloc, &mut orders, line, without_cr(text))?;
+        push_order(alloc, &mut orders, &mut held, line, without_cr(text))?;
         rest = after;
         line += 1;
     }
@@ -61,7 +66,7 @@ fn read_orders(alloc: Global, bytes: &[u8], is_long: bool) -> Result<Vec<Order>,
             why: Why::Size,
         }));
     }
-    push_order(alloc, &mut orders, line, rest)?;
+    push_order(alloc, &mut orders, &mut held, line, rest)?;
     Ok(orders)
 }
 
@@ -93,16 +98,24 @@ fn without_cr(line: &[u8]) -> &[u8]
     }
 }
 
-/// Reads a line, and keeps its order behind the others, if it has one.
+/// Reads a line, and keeps its order behind the others, if it has one. The line is bad where the order's act doesn't find
+/// its slot as it needs it.
 fn push_order(
     alloc: Global,
     orders: &mut Vec<Order>,
+    held: &mut HeldSlots,
     line: u64,
     text: &[u8],
 ) -> Result<(), ScriptRefused>
-    ensures { GivesScript (λ _. orders.new.items) result (with_order orders.old.items (order_of line text.now)) }
+    ensures { GivesScript (λ _. (orders.new.items, held.new.slots)) result (with_order orders.old.items held.old.slots (order_of line text.now)) }
 {
     if let Some(order) = read_order(alloc, line, text)? {
+        if !held.take(&order.act) {
+            return Err(ScriptRefused::Bad(BadLine {
+                line: order.line,
+                why: Why::Slot,
+            }));
+        }
         orders.push(order)?;
     }
     Ok(())

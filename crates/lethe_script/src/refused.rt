@@ -19,6 +19,9 @@ pub enum Why {
     Count,
     /// A field should be a number: decimal digits without a leading zero, below 2^64.
     Number,
+    /// A field should be a slot: one digit. Or the slot is held where `pin` needs it free, or free where `pget`, `pscan` or
+    /// `unpin` needs it held: whether it is held is tested behind all else of the line.
+    Slot,
     /// A field should be a key: from 1 to 255 bytes, or `=` and two lower-case hexadecimal digits for each.
     Key,
     /// A field should be a value: at most 4,096 bytes, or `=` and two lower-case hexadecimal digits for each.
@@ -41,6 +44,7 @@ impl Why {
             Why::Command => "command",
             Why::Count => "count",
             Why::Number => "number",
+            Why::Slot => "slot",
             Why::Key => "key",
             Why::Value => "value",
             Why::Range => "range",

@@ -49,6 +49,17 @@ fn act_shown(alloc: Global, act: &Act) -> Result<String, Fail> {
         Act::Erase { range } => Ok(format!(in alloc; "erase {} {}", range.lo(), range.hi())?),
         Act::Stat => Ok(format!(in alloc; "stat")?),
         Act::Tick { to } => Ok(format!(in alloc; "tick {}", to.get())?),
+        Act::Pin { slot } => Ok(format!(in alloc; "pin {}", slot.get())?),
+        Act::PinGet { slot, key } => {
+            let key = text_of(key.bytes())?;
+            Ok(format!(in alloc; "pget {} {key}", slot.get())?)
+        }
+        Act::PinScan { slot, lo, hi } => {
+            let lo = text_of(lo.bytes())?;
+            let hi = text_of(hi.bytes())?;
+            Ok(format!(in alloc; "pscan {} {lo} {hi}", slot.get())?)
+        }
+        Act::Unpin { slot } => Ok(format!(in alloc; "unpin {}", slot.get())?),
     }
 }
 
@@ -104,6 +115,11 @@ const READ: &[(&[u8], &[u8])] = &[
         b"1 erase 1 2\n1 erase 0 18446744073709551615",
         b"1:1 erase 1 2;2:1 erase 0 18446744073709551615;",
     ),
+    // A slot is free again behind its unpin, and slots stand beside each other.
+    (
+        b"1 pin 0\n1 pget 0 a\n1 pscan 0 a b\n1 pin 9\n1 unpin 0\n1 pin 0\n1 pget 9 a",
+        b"1:1 pin 0;2:1 pget 0 a;3:1 pscan 0 a b;4:1 pin 9;5:1 unpin 0;6:1 pin 0;7:1 pget 9 a;",
+    ),
 ];
 
 #[test]
@@ -145,6 +161,24 @@ const BAD: &[(&[u8], u64, &[u8])] = &[
     (b"1 erase z 0\n", 1, b"number"),
     (b"1 erase 01 2\n", 1, b"number"),
     (b"1 erase 0 18446744073709551616\n", 1, b"number"),
+    (b"1 pin\n", 1, b"count"),
+    (b"1 pget 0\n", 1, b"count"),
+    (b"1 pscan 0 a\n", 1, b"count"),
+    (b"1 unpin 0 0\n", 1, b"count"),
+    // The form of a slot is tested in its turn, from left to right.
+    (b"1 pin a\n", 1, b"slot"),
+    (b"1 pin 10\n", 1, b"slot"),
+    (b"1 pin 00\n", 1, b"slot"),
+    (b"1 pin :\n", 1, b"slot"),
+    (b"1 pget x =\n", 1, b"slot"),
+    (b"1 pget 0 =\n", 1, b"key"),
+    (b"1 pscan 0 a =6\n", 1, b"key"),
+    // Last comes whether it is free or held, by the lines before.
+    (b"1 pget 0 a\n", 1, b"slot"),
+    (b"1 unpin 0\n", 1, b"slot"),
+    (b"1 pin 0\n1 pin 0\n", 2, b"slot"),
+    (b"1 pin 0\n1 pscan 1 a b\n", 2, b"slot"),
+    (b"1 pin 0\n1 unpin 0\n1 pget 0 a\n", 3, b"slot"),
     (b"1 erase 20 10\n", 1, b"range"),
     (b"1 erase 5 5\n", 1, b"range"),
     (b"1 erase 18446744073709551615 0\n", 1, b"range"),

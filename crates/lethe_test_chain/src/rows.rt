@@ -2,7 +2,7 @@
 ghost use Rattle.std.specs.Prelude.{◌≡◌, ◌<◌, ◌+◌, [], length, IfOk, IfSome, IsSome};
 ghost use Rattle.lethe_memdisk.specs.Held.{seen_of, calls_of};
 ghost use Rattle.lethe_commit.specs.Append.{EndsAt};
-ghost use Rattle.lethe_test_chain.specs.Rows.{Waits};
+ghost use Rattle.lethe_chain.specs.Chains.{Waits};
 
 use crate::disks::{GATE, MAKING, SEGMENT, count, count_left, disk_of_a_segment};
 use crate::records::{RECORDS, record_of};
@@ -29,7 +29,7 @@ fn gate_behind(at: u64, body: &[u8]) -> Result<u64, Fail>
 // Appends the first record of a row. The place of the gate behind it, and None where the disk failed.
 fn begin(alloc: Global, disk: &mut MemDisk) -> Result<Option<u64>, Fail>
     requires { EndsAt (seen_of disk.old) SEGMENT 3 [] GATE }
-    ensures waits { IfOk result (λ end. IfSome end (λ end. Waits disk.new SEGMENT GATE end 1)) }
+    ensures waits { IfOk result (λ end. IfSome end (λ end. Waits (seen_of disk.new) SEGMENT GATE end 1)) }
     ensures calls { IfOk result (λ end. IsSome end → calls_of disk.new ≡ calls_of disk.old + 2) }
 {
     let item = record_of(alloc, 1)?;
@@ -50,9 +50,9 @@ fn go_on(
     end: u64,
     seq: u64,
 ) -> Result<Option<u64>, Fail>
-    requires waits { Waits disk.old SEGMENT at end seq }
+    requires waits { Waits (seen_of disk.old) SEGMENT at end seq }
     requires below { seq < RECORDS }
-    ensures waits { IfOk result (λ next. IfSome next (λ next. Waits disk.new SEGMENT end next (seq + 1))) }
+    ensures waits { IfOk result (λ next. IfSome next (λ next. Waits (seen_of disk.new) SEGMENT end next (seq + 1))) }
     ensures calls { IfOk result (λ next. IsSome next → calls_of disk.new ≡ calls_of disk.old + 3) }
 {
     let item = record_of(alloc, seq + 1)?;

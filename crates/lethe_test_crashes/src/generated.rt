@@ -1,6 +1,7 @@
 //! Generated scripts, which print what a plain map gives.
 
-use lethe_rows::{Generated, roomy_disk};
+use lethe_generated::Generated;
+use lethe_images::roomy_disk;
 use std::alloc::Global;
 use std::test::Fail;
 

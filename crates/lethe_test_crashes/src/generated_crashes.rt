@@ -1,11 +1,10 @@
 //! Generated scripts whose disk is stopped at each device call, crashed, and run over again.
 
 use lethe_disk::Disk;
+use lethe_generated::{Generated, Lines, READ_AND_PUT};
+use lethe_images::{IMAGES, image_of, roomy_disk, take_calls};
 use lethe_memdisk::MemDisk;
-use lethe_rows::{
-    Generated, IMAGES, Lines, READ_AND_PUT, count_lines, done_lines, image_of, roomy_disk,
-    take_calls,
-};
+use lethe_rows::{Printed, count_lines, done_lines};
 use std::alloc::Global;
 use std::str;
 use std::test::Fail;
@@ -15,6 +14,14 @@ use std::test::Fail;
 struct Owed {
     done: usize,
     failed: bool,
+}
+
+impl Owed {
+    // Counts the changes that a run has answered. Whether one failed is that of the last run.
+    fn add(&mut self, text: &[u8]) {
+        self.done = self.done.saturating_add(done_lines(text));
+        self.failed = count_lines(text, b"1 fault ") != 0;
+    }
 }
 
 // Makes the runs one after another, until the disk fails.
@@ -29,13 +36,10 @@ fn run_all(
         failed: false,
     };
     for lines in runs {
-        let left = made.run(alloc, &lines.script, disk)?;
-        let text = left.printed.text.as_slice();
-        owed.done = owed.done.saturating_add(done_lines(text));
-        owed.failed = count_lines(text, b"1 fault ") != 0;
-        disk = left.disk;
-        if disk.faults() != 0 {
-            break;
+        if disk.faults() == 0 {
+            let left = made.run(alloc, &lines.script, disk)?;
+            owed.add(&left.printed.text);
+            disk = left.disk;
         }
     }
     Ok((owed, disk))
@@ -49,44 +53,89 @@ fn is_behind(alloc: Global, made: &Generated, kept: usize, text: &[u8]) -> Resul
     }
 }
 
-// Opens a disk that was left for this, reads all of it, and makes one more put.
-fn goes_on(alloc: Global, made: &Generated, owed: Owed, disk: MemDisk) -> Result<(), Fail> {
-    let printed = made.run(alloc, READ_AND_PUT, disk)?.printed;
+// Whether a text is that of a disk that was left for this.
+fn is_owed(alloc: Global, made: &Generated, owed: Owed, text: &[u8]) -> Result<bool, Fail> {
     let Owed { done, failed } = owed;
-    let is_done = is_behind(alloc, made, done, &printed.text)?;
-    let is_more = failed && is_behind(alloc, made, done.saturating_add(1), &printed.text)?;
-    if printed.status != 0 || !is_done && !is_more {
-        let text = str::from_utf8(&printed.text)?;
+    if is_behind(alloc, made, done, text)? {
+        return Ok(true);
+    }
+    Ok(failed && is_behind(alloc, made, done.saturating_add(1), text)?)
+}
+
+// Fails where something else is printed of such a disk.
+fn must_be_owed(
+    alloc: Global,
+    made: &Generated,
+    owed: Owed,
+    printed: &Printed,
+) -> Result<(), Fail> {
+    let is_owed = is_owed(alloc, made, owed, &printed.text)?;
+    if printed.status != 0 || !is_owed {
+        let (done, text) = (owed.done, str::from_utf8(&printed.text)?);
         return Err(Fail::new(format_args!("behind {done} changes: {text}")));
     }
     Ok(())
+}
+
+// Opens a disk that was left for this, reads all of it, and makes one more put.
+fn goes_on(alloc: Global, made: &Generated, owed: Owed, disk: MemDisk) -> Result<(), Fail> {
+    let left = made.run(alloc, READ_AND_PUT, disk)?;
+    must_be_owed(alloc, made, owed, &left.printed)
+}
+
+// The same of each disk that a crash may leave of one, behind so many of its calls.
+fn images_go_on(
+    alloc: Global,
+    made: &Generated,
+    owed: Owed,
+    disk: &mut MemDisk,
+    calls: u64,
+) -> Result<(), Fail> {
+    disk.fuse(20_000);
+    take_calls(alloc, disk, calls)?;
+    for image in IMAGES {
+        goes_on(alloc, made, owed, image_of(disk, calls, image)?)?;
+    }
+    Ok(())
+}
+
+// The same of those, and of the disk itself.
+fn all_go_on(
+    alloc: Global,
+    made: &Generated,
+    owed: Owed,
+    mut disk: MemDisk,
+    calls: u64,
+) -> Result<(), Fail> {
+    images_go_on(alloc, made, owed, &mut disk, calls)?;
+    goes_on(alloc, made, owed, disk)
 }
 
 // Stops the disk behind so many device calls, and sees that each disk that a crash may leave goes on. Whether a call failed.
 fn is_stopped(alloc: Global, made: &Generated, runs: &[Lines], calls: u64) -> Result<bool, Fail> {
     let mut disk = roomy_disk(alloc)?;
     disk.fuse(calls);
-    let (owed, mut disk) = run_all(alloc, made, runs, disk)?;
-    if disk.faults() == 0 {
-        return Ok(false);
-    }
-    disk.fuse(20_000);
-    take_calls(alloc, &mut disk, calls)?;
-    for image in IMAGES {
-        goes_on(alloc, made, owed, image_of(&disk, calls, image)?)?;
-    }
-    goes_on(alloc, made, owed, disk)?;
-    Ok(true)
+    let (owed, disk) = run_all(alloc, made, runs, disk)?;
+    let is_stopped = disk.faults() != 0;
+    all_go_on(alloc, made, owed, disk, calls)?;
+    Ok(is_stopped)
 }
 
 // Stops the disk behind each number of device calls that the runs take, and counts these.
-fn stop_at_each(alloc: Global, made: &Generated, runs: &[Lines]) -> Result<u64, Fail> {
+pub(crate) fn stop_at_each(alloc: Global, made: &Generated, runs: &[Lines]) -> Result<u64, Fail> {
     for calls in 0..5_000 {
         if !is_stopped(alloc, made, runs, calls)? {
             return Ok(calls);
         }
     }
     Err(Fail::new("too many calls"))
+}
+
+// The same of the script in one run, and opened again for each part. The lesser of the two counts.
+fn stop_both(alloc: Global, made: &Generated) -> Result<u64, Fail> {
+    let whole = vec![in alloc; made.whole(alloc)?]?;
+    let at_once = stop_at_each(alloc, made, &whole)?;
+    Ok(at_once.min(stop_at_each(alloc, made, &made.parts)?))
 }
 
 #[test]
@@ -96,12 +145,7 @@ fn a_generated_script_that_is_stopped_loses_nothing_that_was_answered(
     let alloc = rt.alloc();
     // Of `so` with many keys, and of `sd` with few.
     for seed in [14, 25] {
-        let made = Generated::of(alloc, seed, 4)?;
-        let whole = vec![in alloc; made.whole(alloc)?]?;
-        // In one run, and opened again for each part.
-        for runs in [whole.as_slice(), made.parts.as_slice()] {
-            assert!(rt; stop_at_each(alloc, &made, runs)? > 300);
-        }
+        assert!(rt; stop_both(alloc, &Generated::of(alloc, seed, 4)?)? > 300);
     }
     Ok(())
 }
@@ -111,10 +155,6 @@ fn a_generated_script_with_erases_that_is_stopped_loses_nothing_that_was_answere
     rt: HostRuntime,
 ) -> Result<(), Fail> {
     let alloc = rt.alloc();
-    let made = Generated::erasing(alloc, 14, 4)?;
-    let whole = vec![in alloc; made.whole(alloc)?]?;
-    for runs in [whole.as_slice(), made.parts.as_slice()] {
-        assert!(rt; stop_at_each(alloc, &made, runs)? > 200);
-    }
+    assert!(rt; stop_both(alloc, &Generated::erasing(alloc, 14, 4)?)? > 200);
     Ok(())
 }

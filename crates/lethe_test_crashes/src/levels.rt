@@ -1,10 +1,10 @@
 //! Stores whose buffers are small, so that their entries come into files.
 
 use lethe_base::{Kind, Name};
+use lethe_images::{IMAGES, crashed, disk_of, names_of, take_away};
 use lethe_memdisk::{FlakyDisk, MemDisk};
 use lethe_rows::{
-    IMAGES, Left, SMALL, answered_for, answered_small, crashed, disk_of, done_lines, names_of,
-    run_on, run_over, take_away, text_of,
+    Left, SMALL, answered_for, answered_small, done_lines, run_on, run_over, text_of,
 };
 use std::alloc::Global;
 use std::test::Fail;
@@ -71,19 +71,36 @@ fn two_files(alloc: Global) -> Result<MemDisk, Fail> {
     behind_nine(alloc, MORE, MORE_DONE)
 }
 
-#[test]
-fn a_store_that_lacks_a_page_is_told_and_stays(rt: HostRuntime) -> Result<(), Fail> {
-    let alloc = rt.alloc();
+// The same, but page 12.
+fn without_page(alloc: Global) -> Result<MemDisk, Fail> {
     let mut disk = two_files(alloc)?;
     take_away(alloc, &mut disk, Kind::Page, 12)?;
-    let before = names_of(alloc, &mut disk)?;
+    Ok(disk)
+}
+
+/// What is told where a store of the small configuration is opened with another ratio.
+const OTHER: &str =
+    "other config kept threshold=100 ratio=2 levels=2 page=2 tile=2 file=2 buffer=4 pick=so asked threshold=100 ratio=3 levels=2 page=2 tile=2 file=2 buffer=4 pick=so\n";
+
+// Opens that store, which is told to be damaged, and to be of another configuration where another is asked for.
+fn refused(alloc: Global, disk: MemDisk) -> Result<MemDisk, Fail> {
     let disk = answered_small(alloc, "1 get a\n", disk, 8, "damaged page 12\n")?;
     let mut other = SMALL;
     other[14] = "3";
-    let told =
-        "other config kept threshold=100 ratio=2 levels=2 page=2 tile=2 file=2 buffer=4 pick=so asked threshold=100 ratio=3 levels=2 page=2 tile=2 file=2 buffer=4 pick=so\n";
-    let mut disk = answered_for(alloc, &other, "1 get a\n", disk, 9, told)?;
-    assert_eq!(rt; names_of(alloc, &mut disk)?, before);
+    answered_for(alloc, &other, "1 get a\n", disk, 9, OTHER)
+}
+
+// The names of what is there then.
+fn names_behind(alloc: Global, disk: MemDisk) -> Result<Vec<Name>, Fail> {
+    names_of(alloc, &mut refused(alloc, disk)?)
+}
+
+#[test]
+fn a_store_that_lacks_a_page_is_told_and_stays(rt: HostRuntime) -> Result<(), Fail> {
+    let alloc = rt.alloc();
+    let mut disk = without_page(alloc)?;
+    let before = names_of(alloc, &mut disk)?;
+    assert!(rt; names_behind(alloc, disk)? == before);
     Ok(())
 }
 
@@ -98,12 +115,20 @@ const CHANGED: [(Kind, u64, &str); 7] = [
     (Kind::Manifest, 16, "damaged manifest 16\n"),
 ];
 
-// Puts other bytes into an object of a store of two files, which isn't opened then.
-fn is_told(alloc: Global, name: Name, bytes: &[u8], text: &str) -> Result<(), Fail> {
+// The store of two files, with other bytes in an object.
+fn changed(alloc: Global, name: Name, bytes: &[u8]) -> Result<MemDisk, Fail> {
+    let bytes = bytes.to_vec(alloc)?;
     let mut disk = two_files(alloc)?;
-    if !disk.swap(name, bytes.to_vec(alloc)?) {
-        return Err(Fail::new("an object"));
+    if disk.swap(name, bytes) {
+        Ok(disk)
+    } else {
+        Err(Fail::new("an object"))
     }
+}
+
+// That store isn't opened.
+fn is_told(alloc: Global, name: Name, bytes: &[u8], text: &str) -> Result<(), Fail> {
+    let disk = changed(alloc, name, bytes)?;
     let disk = answered_small(alloc, "1 put z 1 z\n", disk, 8, text)?;
     answered_small(alloc, "1 get a\n", disk, 8, text)?;
     Ok(())
@@ -150,14 +175,8 @@ fn front_of(alloc: Global, disk: MemDisk) -> Result<Option<usize>, Fail> {
     if printed.status != 0 {
         return Err(Fail::new("a store"));
     }
-    let mut count: usize = 0;
-    for text in FRONTS {
-        if printed.text.as_slice() == text.as_bytes() {
-            return Ok(Some(count));
-        }
-        count = count.saturating_add(1);
-    }
-    Ok(None)
+    let printed = printed.text.as_slice();
+    Ok(FRONTS.iter().position(|text| printed == text.as_bytes()))
 }
 
 // Fails where the store of a disk has other puts than so many, or one more.
@@ -169,22 +188,33 @@ fn has_kept(alloc: Global, disk: MemDisk, done: usize) -> Result<(), Fail> {
     Err(Fail::new("other puts"))
 }
 
+// The same of the disks that a crash may leave of this, behind so many of its calls.
+fn images_have_kept(
+    alloc: Global,
+    disk: &mut MemDisk,
+    calls: u64,
+    done: usize,
+) -> Result<(), Fail> {
+    disk.fuse(1_000);
+    for image in IMAGES {
+        has_kept(alloc, crashed(alloc, disk, calls, image)?, done)?;
+    }
+    Ok(())
+}
+
+// The same of those, and of the disk itself.
+fn have_kept(alloc: Global, mut disk: MemDisk, calls: u64, done: usize) -> Result<(), Fail> {
+    images_have_kept(alloc, &mut disk, calls, done)?;
+    has_kept(alloc, disk, done)
+}
+
 // Stops the nine puts behind so many device calls. Whether they weren't done by then.
 fn is_stopped(alloc: Global, calls: u64) -> Result<bool, Fail> {
     let mut disk = disk_of(alloc, &[])?;
     disk.fuse(calls);
-    let left = ran(alloc, NINE, disk)?;
-    if left.printed.status == 0 {
-        return Ok(false);
-    }
-    let done = done_lines(&left.printed.text);
-    let mut disk = left.disk;
-    disk.fuse(1_000);
-    for image in IMAGES {
-        has_kept(alloc, crashed(alloc, &mut disk, calls, image)?, done)?;
-    }
-    has_kept(alloc, disk, done)?;
-    Ok(true)
+    let Left { printed, disk } = ran(alloc, NINE, disk)?;
+    have_kept(alloc, disk, calls, done_lines(&printed.text))?;
+    Ok(printed.status != 0)
 }
 
 #[test]

@@ -10,4 +10,8 @@ mod journal;
 #[cfg(test)]
 mod levels;
 #[cfg(test)]
+mod slots;
+#[cfg(test)]
+mod spellings;
+#[cfg(test)]
 mod sweeps;

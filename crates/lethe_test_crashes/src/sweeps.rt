@@ -1,9 +1,8 @@
 //! Scripts that sweep files in a tick and to make room, stopped and crashed at each device call.
 
+use lethe_images::{IMAGES, image_of, objects_of, roomy_disk, take_calls};
 use lethe_memdisk::MemDisk;
-use lethe_rows::{
-    IMAGES, Left, SMALL, done_lines, image_of, objects_of, roomy_disk, run_over, take_calls,
-};
+use lethe_rows::{Left, SMALL, done_lines, run_over};
 use std::alloc::Global;
 use std::test::Fail;
 
@@ -64,18 +63,34 @@ impl Script {
         }
     }
 
+    /// Whether the first put is there behind so many changes.
+    fn has_first(&self, changes: usize) -> bool {
+        0 < changes && changes <= self.before
+    }
+
+    /// How many pairs a scan has behind so many changes.
+    fn count(&self, changes: usize) -> usize {
+        let others = self.puts(changes).saturating_sub(1);
+        others.saturating_add(usize::from(self.has_first(changes)))
+    }
+
+    /// What a scan prints of the pairs behind so many changes.
+    fn pairs(&self, alloc: Global, changes: usize) -> Result<String, Fail> {
+        let first = if self.has_first(changes) {
+            " a 5 Elm"
+        } else {
+            ""
+        };
+        let mut pairs = String::from_str(alloc, first)?;
+        for key in KEYS.iter().take(self.puts(changes)).skip(1) {
+            write!(pairs, " {key} 1 x")?;
+        }
+        Ok(pairs)
+    }
+
     /// What a scan prints behind so many changes.
     fn scanned(&self, alloc: Global, changes: usize) -> Result<String, Fail> {
-        let mut count: usize = 0;
-        let mut pairs = String::new(alloc);
-        if 0 < changes && changes <= self.before {
-            count = 1;
-            pairs.push_str(" a 5 Elm")?;
-        }
-        for key in KEYS.iter().take(self.puts(changes)).skip(1) {
-            count = count.saturating_add(1);
-            pairs.push_str(&format!(in alloc; " {key} 1 x")?)?;
-        }
+        let (count, pairs) = (self.count(changes), self.pairs(alloc, changes)?);
         Ok(format!(in alloc; "1 at {changes} scan {count}{pairs}\n")?)
     }
 }
@@ -85,7 +100,7 @@ const ERASED: &[u8] = b"Elm";
 
 // Whether an object has the value that is erased.
 fn has_erased(alloc: Global, disk: &mut MemDisk) -> Result<bool, Fail> {
-    for (_, bytes) in objects_of(alloc, disk)? {
+    for (_, bytes) in &objects_of(alloc, disk)? {
         if bytes.windows(ERASED.len()).any(|window| window == ERASED) {
             return Ok(true);
         }
@@ -110,34 +125,64 @@ fn is_front(
     Ok(true)
 }
 
-// Fails where the store of a disk has other changes than so many, or one more, or a value that was swept.
-fn has_kept(alloc: Global, script: &Script, disk: MemDisk, done: usize) -> Result<(), Fail> {
-    let mut left = script.run(alloc, "1 scan a z\n", disk)?;
-    let erased = has_erased(alloc, &mut left.disk)?;
-    let text = left.printed.text.as_slice();
-    if is_front(alloc, script, done, text, erased)?
-        || is_front(alloc, script, done.saturating_add(1), text, erased)?
-    {
-        return Ok(());
+// Fails where these are other changes than so many, or one more, or there is a value that was swept.
+fn must_be_front(
+    alloc: Global,
+    script: &Script,
+    done: usize,
+    text: &[u8],
+    erased: bool,
+) -> Result<(), Fail> {
+    for changes in [done, done.saturating_add(1)] {
+        if is_front(alloc, script, changes, text, erased)? {
+            return Ok(());
+        }
     }
     Err(Fail::new("other changes"))
+}
+
+// The same of the store of a disk.
+fn has_kept(alloc: Global, script: &Script, disk: MemDisk, done: usize) -> Result<(), Fail> {
+    let Left { printed, mut disk } = script.run(alloc, "1 scan a z\n", disk)?;
+    let erased = has_erased(alloc, &mut disk)?;
+    must_be_front(alloc, script, done, &printed.text, erased)
+}
+
+// The same of the disks that a crash may leave of this, behind so many of its calls.
+fn images_have_kept(
+    alloc: Global,
+    script: &Script,
+    disk: &mut MemDisk,
+    calls: u64,
+    done: usize,
+) -> Result<(), Fail> {
+    disk.fuse(20_000);
+    take_calls(alloc, disk, calls)?;
+    for image in IMAGES {
+        has_kept(alloc, script, image_of(disk, calls, image)?, done)?;
+    }
+    Ok(())
+}
+
+// The same of those, and of the disk itself.
+fn have_kept(
+    alloc: Global,
+    script: &Script,
+    mut disk: MemDisk,
+    calls: u64,
+    done: usize,
+) -> Result<(), Fail> {
+    images_have_kept(alloc, script, &mut disk, calls, done)?;
+    has_kept(alloc, script, disk, done)
 }
 
 // Stops the script behind so many device calls. Whether it wasn't done by then.
 fn is_stopped(alloc: Global, script: &Script, calls: u64) -> Result<bool, Fail> {
     let mut disk = roomy_disk(alloc)?;
     disk.fuse(calls);
-    let left = script.run(alloc, script.text, disk)?;
-    let is_whole = left.printed.status == 0;
-    let done = done_lines(&left.printed.text);
-    let mut disk = left.disk;
-    disk.fuse(20_000);
-    take_calls(alloc, &mut disk, calls)?;
-    for image in IMAGES {
-        has_kept(alloc, script, image_of(&disk, calls, image)?, done)?;
-    }
-    has_kept(alloc, script, disk, done)?;
-    Ok(!is_whole)
+    let Left { printed, disk } = script.run(alloc, script.text, disk)?;
+    have_kept(alloc, script, disk, calls, done_lines(&printed.text))?;
+    Ok(printed.status != 0)
 }
 
 // Stops it behind each number of device calls that it takes.

@@ -3,7 +3,7 @@ ghost use Rattle.std.specs.Prelude.{IfOk};
 ghost use Rattle.lethe_core.specs.Running.{IsSound};
 ghost use Rattle.lethe_core.specs.View.{view_of};
 
-use lethe_base::{Config, Fields, Key, Pick, Value};
+use lethe_base::{Config, Fields, Key, Pick, Refused, Value};
 use lethe_disk::Disk;
 use lethe_engine::Engine;
 use std::alloc::Global;
@@ -53,12 +53,28 @@ fn put<D: Disk>(alloc: Global, engine: &mut Engine<D>, text: &str) -> Result<u64
     Ok(engine.put(alloc, &mut port, key, 7, value)?)
 }
 
-fn put_all<D: Disk>(alloc: Global, engine: &mut Engine<D>, keys: &[&str]) -> Result<(), Fail>
+/// Puts the keys into a file of their own.
+fn add_file<D: Disk>(alloc: Global, engine: &mut Engine<D>, keys: &[&str]) -> Result<(), Fail>
     requires { IsSound D.tells (view_of engine.old.core) }
     ensures { IsSound D.tells (view_of engine.new.core) }
 {
     for text in keys {
         put(alloc, engine, *text)?;
+    }
+    engine.freeze(alloc)?;
+    engine.flush(alloc)?;
+    Ok(())
+}
+
+fn add_files<D: Disk>(alloc: Global, engine: &mut Engine<D>) -> Result<(), Fail>
+    requires { IsSound D.tells (view_of engine.old.core) }
+    ensures { IsSound D.tells (view_of engine.new.core) }
+{
+    for keys in &FILES {
+        add_file(alloc, engine, keys)?;
+    }
+    if engine.stat().files != 3 {
+        return Err(Fail::new("three files"));
     }
     Ok(())
 }
@@ -68,13 +84,23 @@ pub fn three_files<D: Disk>(alloc: Global, disk: D) -> Result<Engine<D>, Fail>
     ensures { IfOk result (λ engine. IsSound D.tells (view_of engine.core)) }
 {
     let mut engine = opened(alloc, disk)?;
-    for keys in &FILES {
-        put_all(alloc, &mut engine, keys)?;
-        engine.freeze(alloc)?;
-        engine.flush(alloc)?;
-    }
-    if engine.stat().files != 3 {
-        return Err(Fail::new("three files"));
-    }
+    add_files(alloc, &mut engine)?;
     Ok(engine)
+}
+
+/// How many pairs a scan answers.
+pub fn scan<D: Disk>(
+    alloc: Global,
+    engine: &mut Engine<D>,
+    lo: &str,
+    hi: &str,
+) -> Result<Result<usize, Refused>, Fail>
+    requires { IsSound D.tells (view_of engine.old.core) }
+    ensures { IsSound D.tells (view_of engine.new.core) }
+{
+    let lo = key_of(alloc, lo)?;
+    let hi = key_of(alloc, hi)?;
+    let mut port = engine.new_port(alloc)?;
+    let answer = engine.scan(alloc, &mut port, &lo, &hi);
+    Ok(answer.map(|pairs| pairs.len()))
 }

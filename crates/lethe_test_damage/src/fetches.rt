@@ -1,6 +1,6 @@
 //! How many pages a scan fetches.
 
-use crate::common::{key_of, three_files};
+use crate::common::{scan, three_files};
 use lethe_base::Refused;
 use lethe_memdisk::{FlakyDisk, MemDisk};
 use std::alloc::Global;
@@ -8,11 +8,8 @@ use std::test::Fail;
 
 /// Whether the scan answers so many pairs where the fetch of that number fails, counted from 1. Else the fault is told.
 fn answers(alloc: Global, lo: &str, hi: &str, failing: u64, pairs: usize) -> Result<bool, Fail> {
-    let disk = MemDisk::new(alloc, 1000, Vec::new(alloc))?;
-    let mut engine = three_files(alloc, FlakyDisk::new(disk, vec![in alloc; failing]?))?;
-    let mut port = engine.new_port(alloc)?;
-    match engine.scan(alloc, &mut port, &key_of(alloc, lo)?, &key_of(alloc, hi)?) {
-        Ok(found) if found.len() == pairs => Ok(true),
+    match scan_failing(alloc, lo, hi, failing)? {
+        Ok(found) if found == pairs => Ok(true),
         Err(
             Refused::ReadFault {
                 before: 0,
@@ -21,6 +18,18 @@ fn answers(alloc: Global, lo: &str, hi: &str, failing: u64, pairs: usize) -> Res
         ) => Ok(false),
         _ => Err(Fail::new(format_args!("scan {lo} {hi}"))),
     }
+}
+
+/// What the scan answers where the fetch of that number fails.
+fn scan_failing(
+    alloc: Global,
+    lo: &str,
+    hi: &str,
+    failing: u64,
+) -> Result<Result<usize, Refused>, Fail> {
+    let disk = MemDisk::new(alloc, 1000, Vec::new(alloc))?;
+    let mut engine = three_files(alloc, FlakyDisk::new(disk, vec![in alloc; failing]?))?;
+    scan(alloc, &mut engine, lo, hi)
 }
 
 /// Scans, with how many pairs they have and how many pages they fetch.

@@ -26,6 +26,16 @@ pub const SMALL: Fields = Fields {
 pub const MANIFEST: [u8; 71] =
     *b"LM\x01\0\0\0\0\0\0\0\x02\0\0\0\0\0\0\0\x64\x02\x02\0\x02\x02\0\x02\0\x04\0\0\0\0\0\0\0\0\0\0\0\0\0\0\0\0\0\0\0\0\0\0\0\0\x03\0\0\0\0\0\x01\0\0\0\0\0\0\0\x01\0\0\0\0";
 
+/// Whether a call of a disk or a port failed.
+pub fn fails<T: Drop>(answer: Result<T, DiskRefused>) -> bool {
+    matches!(answer, Err(DiskRefused::Failed))
+}
+
+/// Whether a read or a fetch gave these bytes.
+pub fn gives(answer: Result<Vec<u8>, DiskRefused>, bytes: &[u8]) -> bool {
+    matches!(answer, Ok(read) if read.as_slice() == bytes)
+}
+
 /// Whether there is an object of that name. This takes one device call.
 pub fn has(alloc: Global, disk: &mut MemDisk, name: Name) -> Result<bool, DiskRefused>
     ensures there { IfOk result (λ there. IsTrue there → IsSome (object (seen_of disk.new).directory name)) }

@@ -1,13 +1,13 @@
 //! A folder as a disk: its calls on a real folder, and the names of its files.
 
+use crate::common::{fails, gives};
 use lethe_base::{Kind, Name};
 use lethe_dirdisk::{DirDisk, DirPage, DirRefused, one_file_name, read_file_name, spell_file_name};
-use lethe_disk::{Disk, DiskRefused};
+use lethe_disk::Disk;
 use std::alloc::Global;
-use std::fs;
 use std::os::unix::fs::symlink;
-use std::process::Abort;
 use std::test::Fail;
+use std::{fs, io};
 
 fn name(kind: Kind, no: u64) -> Name {
     Name { kind, no }
@@ -16,6 +16,16 @@ fn name(kind: Kind, no: u64) -> Name {
 // A folder of that path that isn't there.
 fn clear(rt: &HostRuntime, path: &str) {
     let _ = fs::remove_dir_all(rt, path);
+}
+
+// Whether the system did what it was asked.
+fn is_done(answer: io::Result<()>) -> bool {
+    answer.is_ok()
+}
+
+// Whether a file has these bytes.
+fn has_bytes(rt: &HostRuntime, path: &str, bytes: &[u8]) -> bool {
+    matches!(fs::read(rt, path), Ok(read) if read.as_slice() == bytes)
 }
 
 const SEGMENT: Name = Name {
@@ -33,66 +43,60 @@ const GATE: Name = Name {
     no: 7,
 };
 
-fn make_objects(disk: &mut DirDisk) -> Result<(), DiskRefused> {
-    disk.create(PAGE, b"a page")?;
-    disk.create(SEGMENT, b"abc")?;
-    disk.create(GATE, b"")?;
-    disk.write_at(SEGMENT, 2, b"XYZ")?;
-    disk.write_at(SEGMENT, 0, b"A")?;
-    disk.sync()
+fn make_objects(disk: &mut DirDisk) -> bool {
+    disk.create(PAGE, b"a page").is_ok()
+        && disk.create(SEGMENT, b"abc").is_ok()
+        && disk.create(GATE, b"").is_ok()
+        && disk.write_at(SEGMENT, 2, b"XYZ").is_ok()
+        && disk.write_at(SEGMENT, 0, b"A").is_ok()
+        && disk.sync().is_ok()
 }
 
-fn check_objects(rt: &impl Abort, alloc: Global, disk: &mut DirDisk) -> Result<(), Fail> {
-    let bytes = disk.read(alloc, SEGMENT)?;
-    assert_eq!(rt; bytes.as_slice(), b"AbXYZ".as_slice());
-    disk.remove(GATE)?;
-    disk.sync()?;
-    let names = disk.names(alloc)?;
-    assert_eq!(rt; names.as_slice(), [SEGMENT, PAGE].as_slice());
-    Ok(())
+// Whether a disk has these names.
+fn has_names(alloc: Global, disk: &mut DirDisk, names: &[Name]) -> bool {
+    matches!(disk.names(alloc), Ok(listed) if listed.as_slice() == names)
 }
 
-fn check_page(rt: &impl Abort, alloc: Global, disk: &mut DirDisk) -> Result<(), Fail> {
+// Whether the segment is as it was written, and the gate may be removed.
+fn has_objects(alloc: Global, disk: &mut DirDisk) -> bool {
+    gives(disk.read(alloc, SEGMENT), b"AbXYZ")
+        && disk.remove(GATE).is_ok()
+        && disk.sync().is_ok()
+        && has_names(alloc, disk, &[SEGMENT, PAGE])
+}
+
+// Whether the page is fetched, and there are no faults.
+fn fetches_page(alloc: Global, disk: &mut DirDisk) -> Result<bool, Fail> {
     let opened = disk.open_page(alloc, PAGE)?;
     let mut port = disk.port(alloc)?;
-    let fetched = DirDisk::fetch(alloc, &mut port, &opened)?;
-    assert_eq!(rt; fetched.as_slice(), b"a page".as_slice());
-    assert_eq!(rt; (DirDisk::port_faults(&port), disk.faults()), (0, 0));
-    Ok(())
+    Ok(
+        gives(DirDisk::fetch(alloc, &mut port, &opened), b"a page")
+            && DirDisk::port_faults(&port) == 0
+            && disk.faults() == 0,
+    )
 }
 
-// Whether a file has these bytes.
-fn has_bytes(rt: &HostRuntime, path: &str, bytes: &[u8]) -> Result<bool, Fail> {
-    Ok(fs::read(rt, path)?.as_slice() == bytes)
-}
-
-// The page of the folder, opened again.
-fn page_of(rt: &HostRuntime, folder: &str) -> Result<Vec<u8>, Fail> {
-    let mut disk = DirDisk::open(rt, rt.alloc(), folder)?;
-    let page = disk.read(rt.alloc(), PAGE)?;
-    disk.sync()?;
-    Ok(page)
+// Whether the folder, opened again, has the page.
+fn keeps_page(rt: &HostRuntime, folder: &str) -> bool {
+    match DirDisk::open(rt, rt.alloc(), folder) {
+        Ok(mut disk) => gives(disk.read(rt.alloc(), PAGE), b"a page") && disk.sync().is_ok(),
+        Err(_) => false,
+    }
 }
 
 #[test]
 fn each_call_does_what_it_is_asked(rt: HostRuntime) -> Result<(), Fail> {
     const FOLDER: &str = "lethe_dirdisk_calls";
-    let alloc = rt.alloc();
     clear(&rt, FOLDER);
-    {
-        let mut disk = DirDisk::open(&rt, alloc, FOLDER)?;
-        make_objects(&mut disk)?;
-        check_objects(&rt, alloc, &mut disk)?;
-        check_page(&rt, alloc, &mut disk)?;
-    }
-    assert!(rt; has_bytes(&rt, "lethe_dirdisk_calls/s-00000000000000000002", b"AbXYZ")?);
-    let page = page_of(&rt, "lethe_dirdisk_calls/")?;
-    assert_eq!(rt; page.as_slice(), b"a page".as_slice());
+    let mut disk = DirDisk::open(&rt, rt.alloc(), FOLDER)?;
+    assert!(rt; make_objects(&mut disk) && has_objects(rt.alloc(), &mut disk));
+    assert!(rt; fetches_page(rt.alloc(), &mut disk)?);
+    drop(disk);
+    assert!(rt; has_bytes(&rt, "lethe_dirdisk_calls/s-00000000000000000002", b"AbXYZ"));
+    assert!(rt; keeps_page(&rt, "lethe_dirdisk_calls/"));
     clear(&rt, FOLDER);
     Ok(())
 }
-
-const FAILED: Option<DiskRefused> = Some(DiskRefused::Failed);
 
 /// A page that isn't there.
 const ABSENT: Name = Name {
@@ -100,53 +104,42 @@ const ABSENT: Name = Name {
     no: 2,
 };
 
-// Five calls that fail.
-fn check_failing_calls(rt: &impl Abort, alloc: Global, disk: &mut DirDisk) {
-    for told in [
-        disk.create(PAGE, b"new").err(),
-        disk.write_at(ABSENT, 0, b"x").err(),
-        disk.remove(ABSENT).err(),
-        disk.read(alloc, ABSENT).err(),
-        disk.open_page(alloc, ABSENT).err(),
-    ] {
-        assert_eq!(rt; told, FAILED);
-    }
+// Whether five calls fail.
+fn each_fails(alloc: Global, disk: &mut DirDisk) -> bool {
+    fails(disk.create(PAGE, b"new"))
+        && fails(disk.write_at(ABSENT, 0, b"x"))
+        && fails(disk.remove(ABSENT))
+        && fails(disk.read(alloc, ABSENT))
+        && fails(disk.open_page(alloc, ABSENT))
 }
 
-// A link isn't followed by what makes a new file: what is told, and whether there is a file behind the link then.
-fn created_at_link(
-    rt: &HostRuntime,
-    disk: &mut DirDisk,
-) -> Result<(Option<DiskRefused>, bool), Fail> {
-    symlink(
+// Whether a link isn't followed by what makes a new file, and there is no file behind the link then.
+fn stops_at_link(rt: &HostRuntime, disk: &mut DirDisk) -> bool {
+    is_done(symlink(
         rt,
         "elsewhere",
         "lethe_dirdisk_errors/p-00000000000000000002",
-    )?;
-    let told = disk.create(ABSENT, b"new").err();
-    Ok((told, fs::exists(rt, "lethe_dirdisk_errors/elsewhere")?))
+    )) && fails(disk.create(ABSENT, b"new"))
+        && matches!(fs::exists(rt, "lethe_dirdisk_errors/elsewhere"), Ok(false))
 }
 
-fn check_removed_page(
-    rt: &impl Abort,
-    alloc: Global,
-    disk: &mut DirDisk,
-    page: &DirPage,
-) -> Result<(), Fail> {
+// Whether the page isn't fetched once it is removed.
+fn forgets_page(alloc: Global, disk: &mut DirDisk, page: &DirPage) -> Result<bool, Fail> {
     disk.remove(PAGE)?;
     let mut port = disk.port(alloc)?;
-    let told = DirDisk::fetch(alloc, &mut port, page).err();
-    assert_eq!(rt; (told, DirDisk::port_faults(&port)), (FAILED, 1));
-    Ok(())
+    Ok(fails(DirDisk::fetch(alloc, &mut port, page)) && DirDisk::port_faults(&port) == 1)
 }
 
-fn check_errors(abort: &impl Abort, rt: &HostRuntime, disk: &mut DirDisk) -> Result<(), Fail> {
+// Whether six calls fail and are counted, and a fetch fails behind them.
+fn counts_errors(rt: &HostRuntime, disk: &mut DirDisk) -> Result<bool, Fail> {
     disk.create(PAGE, b"abc")?;
     let page = disk.open_page(rt.alloc(), PAGE)?;
-    check_failing_calls(abort, rt.alloc(), disk);
-    let told = created_at_link(rt, disk)?;
-    assert_eq!(abort; (told, disk.faults()), ((FAILED, false), 6));
-    check_removed_page(abort, rt.alloc(), disk, &page)
+    Ok(
+        each_fails(rt.alloc(), disk)
+            && stops_at_link(rt, disk)
+            && disk.faults() == 6
+            && forgets_page(rt.alloc(), disk, &page)?,
+    )
 }
 
 #[test]
@@ -154,19 +147,20 @@ fn each_error_is_counted(rt: HostRuntime) -> Result<(), Fail> {
     const FOLDER: &str = "lethe_dirdisk_errors";
     clear(&rt, FOLDER);
     let mut disk = DirDisk::open(&rt, rt.alloc(), FOLDER)?;
-    check_errors(&rt, &rt, &mut disk)?;
+    assert!(rt; counts_errors(&rt, &mut disk)?);
     clear(&rt, FOLDER);
-    let told = disk.names(rt.alloc()).err();
-    assert_eq!(rt; (told, disk.faults()), (FAILED, 7));
+    assert!(rt; fails(disk.names(rt.alloc())) && disk.faults() == 7);
     Ok(())
 }
 
-// What two syncs tell once the file of an object that was made before is gone.
-fn synced_without(rt: &HostRuntime, disk: &mut DirDisk) -> Result<[Option<DiskRefused>; 2], Fail> {
-    disk.create(name(Kind::Page, 1), b"abc")?;
-    disk.create(name(Kind::Page, 2), b"")?;
-    fs::remove_file(rt, "lethe_dirdisk_torn/p-00000000000000000001")?;
-    Ok([disk.sync().err(), disk.sync().err()])
+// Whether two syncs fail once the file of an object that was made before is gone.
+fn fails_for_ever(rt: &HostRuntime, disk: &mut DirDisk) -> bool {
+    disk.create(name(Kind::Page, 1), b"abc").is_ok()
+        && disk.create(name(Kind::Page, 2), b"").is_ok()
+        && is_done(fs::remove_file(rt, "lethe_dirdisk_torn/p-00000000000000000001"))
+        && fails(disk.sync())
+        && fails(disk.sync())
+        && disk.faults() == 2
 }
 
 #[test]
@@ -174,8 +168,7 @@ fn what_a_sync_cannot_reach_fails_for_ever(rt: HostRuntime) -> Result<(), Fail> 
     const FOLDER: &str = "lethe_dirdisk_torn";
     clear(&rt, FOLDER);
     let mut disk = DirDisk::open(&rt, rt.alloc(), FOLDER)?;
-    let told = synced_without(&rt, &mut disk)?;
-    assert_eq!(rt; (told, disk.faults()), ([FAILED, FAILED], 2));
+    assert!(rt; fails_for_ever(&rt, &mut disk));
     clear(&rt, FOLDER);
     Ok(())
 }
@@ -195,49 +188,43 @@ fn refused(rt: &HostRuntime, path: &str) -> Option<DirRefused> {
     DirDisk::open(rt, rt.alloc(), path).err()
 }
 
-// What is told of a folder with this file, whether the file has its bytes behind that, and what is told once it is gone.
-fn told_of_foreign(
-    rt: &HostRuntime,
-    folder: &str,
-    foreign: &str,
-) -> Result<(Option<DirRefused>, bool, Option<DirRefused>), Fail> {
-    fs::write(rt, foreign, b"kept".as_slice())?;
-    let told = refused(rt, folder);
-    let is_kept = has_bytes(rt, foreign, b"kept")?;
-    fs::remove_file(rt, foreign)?;
-    Ok((told, is_kept, refused(rt, folder)))
+// Whether a folder is refused for a file that keeps its bytes, and no more once that is gone.
+fn refuses_foreign(rt: &HostRuntime, folder: &str, foreign: &str) -> bool {
+    is_done(fs::write(rt, foreign, b"kept".as_slice()))
+        && refused(rt, folder) == Some(DirRefused::Foreign)
+        && has_bytes(rt, foreign, b"kept")
+        && is_done(fs::remove_file(rt, foreign))
+        && refused(rt, folder).is_none()
 }
 
-// A folder with one object.
-fn make_folder(rt: &HostRuntime, folder: &str) -> Result<(), Fail> {
+// Makes a folder with one object, and answers whether it is opened.
+fn opens_made(rt: &HostRuntime, folder: &str, object: &str) -> bool {
     clear(rt, folder);
-    fs::create_dir(rt, folder)?;
-    fs::write(
-        rt,
-        "lethe_dirdisk_foreign/p-18446744073709551615",
-        b"".as_slice(),
-    )?;
-    Ok(())
+    is_done(fs::create_dir(rt, folder))
+        && is_done(fs::write(rt, object, b"".as_slice()))
+        && refused(rt, folder).is_none()
 }
 
 #[test]
-fn a_foreign_name_is_refused(rt: HostRuntime) -> Result<(), Fail> {
+fn a_foreign_name_is_refused(rt: HostRuntime) {
     const FOLDER: &str = "lethe_dirdisk_foreign";
+    const OBJECT: &str = "lethe_dirdisk_foreign/p-18446744073709551615";
     for foreign in FOREIGN {
-        make_folder(&rt, FOLDER)?;
-        assert_eq!(rt; refused(&rt, FOLDER), None);
-        let told = told_of_foreign(&rt, FOLDER, foreign)?;
-        assert_eq!(rt; told, (Some(DirRefused::Foreign), true, None), "{foreign}");
+        assert!(rt; opens_made(&rt, FOLDER, OBJECT));
+        assert!(rt; refuses_foreign(&rt, FOLDER, foreign), "{foreign}");
     }
     clear(&rt, FOLDER);
-    Ok(())
 }
 
-// What a second opening is told while the first stands.
-fn refused_while_held(rt: &HostRuntime, folder: &str) -> Result<Option<DirRefused>, Fail> {
-    let mut disk = DirDisk::open(rt, rt.alloc(), folder)?;
-    disk.create(name(Kind::Page, 1), b"abc")?;
-    Ok(refused(rt, folder))
+// Whether a second opening is refused while the first stands.
+fn is_held(rt: &HostRuntime, folder: &str) -> bool {
+    match DirDisk::open(rt, rt.alloc(), folder) {
+        Ok(mut disk) => {
+            disk.create(name(Kind::Page, 1), b"abc").is_ok()
+                && refused(rt, folder) == Some(DirRefused::Folder)
+        }
+        Err(_) => false,
+    }
 }
 
 /// Paths of which no folder can be made.
@@ -248,19 +235,14 @@ const NO_FOLDERS: [&str; 3] = [
 ];
 
 #[test]
-fn a_folder_is_held_by_one(rt: HostRuntime) -> Result<(), Fail> {
+fn a_folder_is_held_by_one(rt: HostRuntime) {
     const FOLDER: &str = "lethe_dirdisk_held";
     clear(&rt, FOLDER);
-    let held = refused_while_held(&rt, FOLDER)?;
-    assert_eq!(rt;
-        (held, refused(&rt, FOLDER)),
-        (Some(DirRefused::Folder), None)
-    );
+    assert!(rt; is_held(&rt, FOLDER) && refused(&rt, FOLDER).is_none());
     for path in NO_FOLDERS {
-        assert_eq!(rt; refused(&rt, path), Some(DirRefused::Folder));
+        assert!(rt; refused(&rt, path) == Some(DirRefused::Folder));
     }
     clear(&rt, FOLDER);
-    Ok(())
 }
 
 /// Names, and what they are spelled as.
@@ -318,11 +300,11 @@ const UNREADABLE: [&[u8]; 9] = [
 #[test]
 fn names_are_spelled(rt: HostRuntime) {
     for (name, text) in SPELLED {
-        assert_eq!(rt; spell_file_name(name), *text);
-        assert_eq!(rt; read_file_name(text), Some(name));
+        assert!(rt; spell_file_name(name) == *text);
+        assert!(rt; read_file_name(text) == Some(name));
     }
     for text in UNREADABLE {
-        assert_eq!(rt; read_file_name(text), None);
+        assert!(rt; read_file_name(text).is_none());
     }
     one_file_name();
 }

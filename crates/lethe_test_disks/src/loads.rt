@@ -2,9 +2,9 @@
 
 use crate::common::{MANIFEST, SMALL, add, has};
 use lethe_base::{Config, Fields, Kind, Name};
-use lethe_load::{RecoverRefused, load};
+use lethe_load::{RecoverRefused, Recovered, load};
 use lethe_memdisk::MemDisk;
-use lethe_recover::{OpenWhy, open};
+use lethe_recover::{OpenWhy, Opened, open};
 use std::alloc::Global;
 use std::process::Abort;
 use std::test::Fail;
@@ -54,18 +54,26 @@ fn disk_of(alloc: Global, parts: Parts, failing: Vec<u64>) -> Result<MemDisk, Fa
     Ok(disk)
 }
 
-// How many records there are, if there is a gate, or why nothing was read.
-fn records(
-    alloc: Global,
-    disk: &mut MemDisk,
-    fields: Fields,
-) -> Result<Result<Option<usize>, RecoverRefused>, Fail> {
+// How many records there are, if there is a gate.
+fn count(read: &Recovered<MemDisk>) -> Option<usize> {
+    if read.manifest.is_none() {
+        return None;
+    }
+    match read.segments.items() {
+        [held, ..] => Some(held.items().len()),
+        [] => None,
+    }
+}
+
+/// How many records are read, if there is a gate, or why nothing is.
+type Told = Result<Option<usize>, RecoverRefused>;
+
+fn records(alloc: Global, disk: &mut MemDisk, fields: Fields) -> Result<Told, Fail> {
     let config = Config::new(fields).ok().ok_or("a configuration")?;
-    Ok(match load(alloc, disk, &config) {
-        Ok(read) if read.manifest.is_none() => Ok(None),
-        Ok(read) => Ok(read.segments.items().first().map(|held| held.items().len())),
-        Err(why) => Err(why),
-    })
+    match load(alloc, disk, &config) {
+        Ok(read) => Ok(Ok(count(&read))),
+        Err(why) => Ok(Err(why)),
+    }
 }
 
 // The same of a disk with these parts, where these calls fail.
@@ -74,7 +82,7 @@ fn records_of(
     parts: Parts,
     fields: Fields,
     failing: Vec<u64>,
-) -> Result<Result<Option<usize>, RecoverRefused>, Fail> {
+) -> Result<Told, Fail> {
     let mut disk = disk_of(alloc, parts, failing)?;
     records(alloc, &mut disk, fields)
 }
@@ -182,7 +190,7 @@ fn check_reads(rt: &impl Abort, alloc: Global, reads: &[Read]) -> Result<(), Fai
             name: name(kind, no),
         });
         let got = records_of(alloc, *parts, SMALL, Vec::new(alloc))?;
-        assert_eq!(rt; got, want);
+        assert!(rt; got == want);
     }
     Ok(())
 }
@@ -197,14 +205,14 @@ fn another_configuration_and_faults_are_told(rt: HostRuntime) -> Result<(), Fail
     let alloc = rt.alloc();
     let kept = Config::new(SMALL).ok().ok_or("a configuration")?;
     let other = records_of(alloc, WHOLE, Fields::default(), Vec::new(alloc))?;
-    assert_eq!(rt; other, Err(RecoverRefused::OtherConfig { kept }));
+    assert!(rt; other == Err(RecoverRefused::OtherConfig { kept }));
     for failing in 7..10 {
         let told = records_of(alloc, WHOLE, SMALL, vec![in alloc; failing]?)?;
         let fault = RecoverRefused::Fault {
             before: 0,
             after: 1,
         };
-        assert_eq!(rt; told, Err(fault));
+        assert!(rt; told == Err(fault));
     }
     Ok(())
 }
@@ -221,17 +229,22 @@ type Counts = (u64, usize, Option<u64>, u64);
 /// What is opened, or why nothing is.
 type Opening = Result<Counts, OpenWhy>;
 
+fn counts(store: &Opened<MemDisk>) -> Counts {
+    let manifest = &store.manifest;
+    let segment = match manifest.segments.items() {
+        [first, ..] => Some(*first),
+        [] => None,
+    };
+    let files = manifest.files.items().len();
+    (manifest.count, files, segment, manifest.next)
+}
+
 fn opened(alloc: Global, disk: &mut MemDisk, fields: Fields) -> Result<Opening, Fail> {
     let config = Config::new(fields).ok().ok_or("a configuration")?;
-    Ok(match open(alloc, disk, &config) {
-        Ok(store) => {
-            let manifest = store.manifest;
-            let segment = manifest.segments.items().first().copied();
-            let files = manifest.files.items().len();
-            Ok((manifest.count, files, segment, manifest.next))
-        }
-        Err(why) => Err(why),
-    })
+    match open(alloc, disk, &config) {
+        Ok(store) => Ok(Ok(counts(&store))),
+        Err(why) => Ok(Err(why)),
+    }
 }
 
 // What is opened of a disk with these parts, and what is opened again, by these configurations.
@@ -265,7 +278,7 @@ const OPENINGS: [(Parts, Counts, Counts); 3] = [
 fn a_store_is_opened_and_opened_again(rt: HostRuntime) -> Result<(), Fail> {
     for (parts, first, second) in OPENINGS {
         let told = opened_twice(rt.alloc(), parts, SMALL, SMALL)?;
-        assert_eq!(rt; told, (Ok(first), Ok(second)));
+        assert!(rt; told == (Ok(first), Ok(second)));
     }
     Ok(())
 }
@@ -285,10 +298,10 @@ const NO_SEGMENT: Parts = Parts {
 fn what_is_not_opened_stays(rt: HostRuntime) -> Result<(), Fail> {
     let kept = Config::new(SMALL).ok().ok_or("a configuration")?;
     let (other, own) = opened_twice(rt.alloc(), WHOLE, Fields::default(), SMALL)?;
-    assert_eq!(rt; other, Err(OpenWhy::OtherConfig { kept }));
-    assert_eq!(rt; own, Ok((1, 1, Some(5), 7)));
+    assert!(rt; other == Err(OpenWhy::OtherConfig { kept }));
+    assert!(rt; own == Ok((1, 1, Some(5), 7)));
     let (first, again) = opened_twice(rt.alloc(), NO_SEGMENT, SMALL, SMALL)?;
-    assert_eq!(rt; first, Err(without_segment()));
-    assert_eq!(rt; again, Err(without_segment()));
+    assert!(rt; first == Err(without_segment()));
+    assert!(rt; again == Err(without_segment()));
     Ok(())
 }

@@ -2,7 +2,7 @@
 ghost use Rattle.std.specs.Prelude.{◌≡◌, ◌≤◌, ◌+◌, IfOk};
 ghost use Rattle.lethe_memdisk.specs.Held.{calls_of};
 
-use crate::common::{crashed, has};
+use crate::common::{crashed, fails, gives, has};
 use lethe_base::{Kind, Name};
 use lethe_disk::{Disk, DiskRefused};
 use lethe_memdisk::{FlakyDisk, FlakyPort, MemDisk, MemPage, MemPort};
@@ -128,12 +128,12 @@ fn carry_out(alloc: Global, disk: &mut MemDisk, step: Step) -> Result<Answer, Di
     })
 }
 
-// What the step answers, or that it failed.
-fn take(alloc: Global, disk: &mut MemDisk, step: Step) -> Result<Vec<u8>, Fail> {
+// Whether the step answers that, or failed where it is to.
+fn answers(alloc: Global, disk: &mut MemDisk, step: Step, want: &[u8]) -> bool {
     match carry_out(alloc, disk, step) {
-        Ok(answer) => Ok(answer.bytes),
-        Err(DiskRefused::Failed) => Ok(FAILED.to_vec(alloc)?),
-        Err(DiskRefused::NoMemory) => Err(Fail::new("no memory")),
+        Ok(answer) => answer.bytes.as_slice() == want,
+        Err(DiskRefused::Failed) => want == FAILED,
+        Err(DiskRefused::NoMemory) => false,
     }
 }
 
@@ -175,31 +175,17 @@ const FUSED: [(Step, &[u8]); 4] = [
     (Step::Names, FAILED),
 ];
 
-fn check_answers(
-    rt: &impl Abort,
-    alloc: Global,
-    disk: &mut MemDisk,
-    answers: &[(Step, &[u8])],
-) -> Result<(), Fail> {
-    for (step, want) in answers {
-        let got = take(alloc, disk, *step)?;
-        assert_eq!(rt; got.as_slice(), *want);
+fn check_answers(rt: &impl Abort, alloc: Global, disk: &mut MemDisk, rows: &[(Step, &[u8])]) {
+    for (step, want) in rows {
+        assert!(rt; answers(alloc, disk, *step, want));
     }
-    Ok(())
 }
 
-// Other bytes are put into the object 7 alone, behind the last call that there is room for.
-fn check_swaps(rt: &impl Abort, alloc: Global, disk: &mut MemDisk) -> Result<(), Fail> {
+// Whether other bytes are put into the object 7 alone, behind the last call that there is room for.
+fn swaps(alloc: Global, disk: &mut MemDisk) -> Result<bool, Fail> {
     let absent = disk.swap(file(2), Vec::new(alloc));
     let there = disk.swap(file(7), b"new".to_vec(alloc)?);
-    assert_eq!(rt; (absent, there), (false, true));
-    check_answers(rt, alloc, disk, &[(Step::Read(7), FAILED)])
-}
-
-fn check_failing_calls(rt: &impl Abort, alloc: Global, disk: &mut MemDisk) -> Result<(), Fail> {
-    check_answers(rt, alloc, disk, &ANSWERS)?;
-    assert_eq!(rt; disk.faults(), 2);
-    check_swaps(rt, alloc, disk)
+    Ok(there && !absent && answers(alloc, disk, Step::Read(7), FAILED))
 }
 
 fn fused(alloc: Global) -> Result<MemDisk, Fail> {
@@ -212,8 +198,10 @@ fn fused(alloc: Global) -> Result<MemDisk, Fail> {
 fn each_call_answers_and_fails_where_it_is_told(rt: HostRuntime) -> Result<(), Fail> {
     let alloc = rt.alloc();
     let mut disk = MemDisk::new(alloc, 24, vec![in alloc; 7]?)?;
-    check_failing_calls(&rt, alloc, &mut disk)?;
-    check_answers(&rt, alloc, &mut fused(alloc)?, &FUSED)
+    check_answers(&rt, alloc, &mut disk, &ANSWERS);
+    assert!(rt; disk.faults() == 2 && swaps(alloc, &mut disk)?);
+    check_answers(&rt, alloc, &mut fused(alloc)?, &FUSED);
+    Ok(())
 }
 
 /// Steps of 16 device calls: up to the call of that number is done.
@@ -230,7 +218,9 @@ const STEPS: [Step; 8] = [
 
 /// The moment of a crash behind one of these steps, whether it keeps what was created and removed, and the names and the bytes of
 /// the object 1 that it leaves.
-const IMAGES: [(u64, bool, &[u8], &[u8]); 8] = [
+type Image = (u64, bool, &'static [u8], &'static [u8]);
+
+const IMAGES: [Image; 8] = [
     (0, true, &[], b""),
     (2, false, &[], b""),
     (4, true, &[1, 2], b"..."),
@@ -252,22 +242,24 @@ fn stepped(alloc: Global) -> Result<MemDisk, Fail>
     Ok(disk)
 }
 
-// The names and the bytes of the object 1 that a crash leaves.
-fn left(alloc: Global, disk: &MemDisk, moment: u64, keep: bool) -> Result<(Vec<u8>, Vec<u8>), Fail>
-    requires { moment ≤ calls_of disk.now }
+// Whether a crash leaves these names, and these bytes of the object 1.
+fn leaves(alloc: Global, disk: &MemDisk, image: Image) -> Result<bool, Fail>
+    requires { image.0 ≤ calls_of disk.now }
 {
+    let (moment, keep, names, bytes) = image;
     let mut left = crashed(disk, moment, b'.', keep)?;
-    let names = take(alloc, &mut left, Step::Names)?;
-    let bytes = take(alloc, &mut left, Step::Read(1))?;
-    Ok((names, bytes))
+    Ok(
+        answers(alloc, &mut left, Step::Names, names)
+            && answers(alloc, &mut left, Step::Read(1), bytes),
+    )
 }
 
 fn check_images(rt: &impl Abort, alloc: Global, disk: &MemDisk) -> Result<(), Fail>
     requires { 16 ≤ calls_of disk.now }
 {
     for (moment, keep, names, bytes) in IMAGES {
-        let image = left(alloc, disk, moment.min(16), keep)?;
-        assert_eq!(rt; (image.0.as_slice(), image.1.as_slice()), (names, bytes));
+        let image = (moment.min(16), keep, names, bytes);
+        assert!(rt; leaves(alloc, disk, image)?);
     }
     Ok(())
 }
@@ -296,20 +288,13 @@ fn open(alloc: Global, disk: &mut MemDisk, no: u64) -> Result<Option<MemPage>, D
     Ok(Some(disk.open_page(alloc, name)?))
 }
 
-fn fetch_twice<D: Disk>(
-    alloc: Global,
-    port: &mut D::Port,
-    page: &D::Page,
-) -> Result<Vec<u8>, DiskRefused>
+// Whether two fetches give these bytes.
+fn gives_twice<D: Disk>(alloc: Global, port: &mut D::Port, page: &D::Page, bytes: &[u8]) -> bool
     ensures { D.fetches port.new ≡ D.fetches port.old + 2 }
 {
-    let first = D::fetch(alloc, port, page);
-    let second = D::fetch(alloc, port, page)?;
-    if first? == second {
-        Ok(second)
-    } else {
-        Ok(Vec::new(alloc))
-    }
+    let first = gives(D::fetch(alloc, port, page), bytes);
+    let second = gives(D::fetch(alloc, port, page), bytes);
+    first && second
 }
 
 // A disk with room for so many calls, and with the page 1. This takes two calls.
@@ -325,13 +310,9 @@ fn open_first(alloc: Global, disk: &mut MemDisk) -> Result<MemPage, Fail> {
     Ok(open(alloc, disk, 1)?.ok_or("a page")?)
 }
 
-// Whether there is no page 2, and why the page 1 isn't opened for the first time.
-fn refused_openings(
-    alloc: Global,
-    disk: &mut MemDisk,
-) -> Result<(bool, Option<DiskRefused>), Fail> {
-    let is_absent = open(alloc, disk, 2)?.is_none();
-    Ok((is_absent, open(alloc, disk, 1).err()))
+// Whether there is no page 2, and the page 1 isn't opened for the first time.
+fn refuses_first(alloc: Global, disk: &mut MemDisk) -> Result<bool, Fail> {
+    Ok(open(alloc, disk, 2)?.is_none() && fails(open(alloc, disk, 1)))
 }
 
 // The page 1 as it is, and with other bytes.
@@ -347,26 +328,22 @@ fn is_removed(alloc: Global, disk: &mut MemDisk) -> Result<bool, Fail> {
     Ok(remove(alloc, disk, page(1))? == 2 && open(alloc, disk, 1)?.is_none())
 }
 
-fn check_fetches(
-    rt: &impl Abort,
-    alloc: Global,
-    port: &mut MemPort,
-    old: &MemPage,
-    new: &MemPage,
-) -> Result<(), Fail> {
-    for (page, want) in [(old, b"abc".as_slice()), (new, b"new"), (old, b"abc")] {
-        let got = fetch_twice::<MemDisk>(alloc, port, page)?;
-        assert_eq!(rt; got.as_slice(), want);
-    }
-    assert_eq!(rt; MemDisk::port_faults(port), 0);
-    Ok(())
+// Whether each page has its own bytes, the old one also behind the new.
+fn keep_apart(alloc: Global, port: &mut MemPort, old: &MemPage, new: &MemPage) -> bool {
+    gives_twice::<MemDisk>(alloc, port, old, b"abc")
+        && gives_twice::<MemDisk>(alloc, port, new, b"new")
+        && gives_twice::<MemDisk>(alloc, port, old, b"abc")
+        && MemDisk::port_faults(port) == 0
 }
 
-fn check_pages(rt: &impl Abort, alloc: Global, disk: &mut MemDisk) -> Result<(), Fail> {
+// Whether the pages keep their bytes where their object is removed.
+fn pages_keep(alloc: Global, disk: &mut MemDisk) -> Result<bool, Fail> {
     let (old, new) = two_pages(alloc, disk)?;
-    assert!(rt; is_removed(alloc, disk)?);
+    if !is_removed(alloc, disk)? {
+        return Ok(false);
+    }
     let mut port = disk.port(alloc)?;
-    check_fetches(rt, alloc, &mut port, &old, &new)
+    Ok(keep_apart(alloc, &mut port, &old, &new))
 }
 
 #[test]
@@ -374,37 +351,26 @@ fn a_page_keeps_the_bytes_that_it_had(rt: HostRuntime) -> Result<(), Fail> {
     let alloc = rt.alloc();
     // The call that opens the page for the first time, the fifth, fails.
     let mut disk = disk_of_a_page(alloc, 12, vec![in alloc; 5]?)?;
-    let refused = refused_openings(alloc, &mut disk)?;
-    assert_eq!(rt; refused, (true, Some(DiskRefused::Failed)));
-    check_pages(&rt, alloc, &mut disk)?;
-    assert_eq!(rt; disk.faults(), 1);
+    assert!(rt; refuses_first(alloc, &mut disk)?);
+    assert!(rt; pages_keep(alloc, &mut disk)? && disk.faults() == 1);
     Ok(())
 }
 
 /// What the fetches of a port give, and how often it has failed by then.
 const FETCHES: [(&[u8], u64); 4] = [(b"abc", 0), (FAILED, 1), (FAILED, 2), (b"abc", 2)];
 
-fn fetched(alloc: Global, port: &mut FlakyPort, page: &MemPage) -> Result<Vec<u8>, Fail> {
+// Whether a fetch gives these bytes, or failed where it is to.
+fn fetches(alloc: Global, port: &mut FlakyPort, page: &MemPage, want: &[u8]) -> bool {
     match FlakyDisk::fetch(alloc, port, page) {
-        Ok(bytes) => Ok(bytes),
-        Err(_) => Ok(FAILED.to_vec(alloc)?),
+        Ok(bytes) => bytes.as_slice() == want,
+        Err(_) => want == FAILED,
     }
 }
 
-fn check_port(
-    rt: &impl Abort,
-    alloc: Global,
-    port: &mut FlakyPort,
-    page: &MemPage,
-) -> Result<(), Fail> {
+fn check_port(rt: &impl Abort, alloc: Global, port: &mut FlakyPort, page: &MemPage) {
     for (want, faults) in FETCHES {
-        let got = fetched(alloc, port, page)?;
-        assert_eq!(rt;
-            (got.as_slice(), FlakyDisk::port_faults(port)),
-            (want, faults)
-        );
+        assert!(rt; fetches(alloc, port, page, want) && FlakyDisk::port_faults(port) == faults);
     }
-    Ok(())
 }
 
 fn check_two_ports(
@@ -415,18 +381,24 @@ fn check_two_ports(
 ) -> Result<(), Fail> {
     for _ in 0..2 {
         let mut port = disk.port(alloc)?;
-        check_port(rt, alloc, &mut port, page)?;
+        check_port(rt, alloc, &mut port, page);
     }
-    assert_eq!(rt; disk.faults(), 0);
+    assert!(rt; disk.faults() == 0);
     Ok(())
+}
+
+// A disk whose ports fail at the second fetch and the third, and its page.
+fn flaky(alloc: Global) -> Result<(FlakyDisk, MemPage), Fail> {
+    let mut disk = disk_of_a_page(alloc, 5, Vec::new(alloc))?;
+    let page = open_first(alloc, &mut disk)?;
+    Ok((FlakyDisk::new(disk, vec![in alloc; 2, 3]?), page))
 }
 
 #[test]
 fn each_port_fails_at_the_fetches_that_it_is_told(rt: HostRuntime) -> Result<(), Fail> {
-    let alloc = rt.alloc();
-    let mut disk = disk_of_a_page(alloc, 5, Vec::new(alloc))?;
-    let page = open_first(alloc, &mut disk)?;
-    let mut flaky = FlakyDisk::new(disk, vec![in alloc; 2, 3]?);
-    check_two_ports(&rt, alloc, &mut flaky, &page)?;
-    check_answers(&rt, alloc, &mut flaky.into_inner(), &[(Step::Names, &[1])])
+    let (mut disk, page) = flaky(rt.alloc())?;
+    check_two_ports(&rt, rt.alloc(), &mut disk, &page)?;
+    let mut disk = disk.into_inner();
+    assert!(rt; answers(rt.alloc(), &mut disk, Step::Names, &[1]));
+    Ok(())
 }

@@ -1,14 +1,12 @@
 //! Which erases are still to be done, and which of them a manifest keeps.
 
-use crate::common::{empty_disk, erases_of, key_of, opened};
-use lethe_base::{Range, Value};
-use lethe_drive::{Event, drive};
+use crate::common::{Ask, Store, erases_of};
 use lethe_memdisk::MemDisk;
 use std::alloc::Global;
 use std::test::Fail;
 
 /// What is done to a store. A put has the delete key 15, and an erase the range from 10 up to 20.
-#[derive(Clone, Copy, Debug)]
+#[derive(Clone, Copy)]
 enum Step {
     Put(&'static str),
     Erase,
@@ -80,33 +78,33 @@ const BESIDE_A_MERGE: [Row; 13] = [
     (Step::Install(1), 0, &[]),
 ];
 
-fn event_of(alloc: Global, step: Step) -> Result<Event, Fail> {
-    Ok(match step {
-        Step::Put(key) => Event::Put {
-            key: key_of(alloc, key)?,
-            dkey: 15,
-            value: Value::new(b"x".as_slice().to_vec(alloc)?)?,
-        },
-        Step::Erase => Event::Erase {
-            range: Range::new(10, 20).ok_or("a range")?,
-        },
-        Step::Freeze => Event::Freeze,
-        Step::Flush => Event::Flush,
-        Step::Begin => Event::Begin,
-        Step::Install(job) => Event::Install { job },
-    })
+fn ask_of(step: Step) -> Ask {
+    match step {
+        Step::Put(key) => Ask::Put(key, 15),
+        Step::Erase => Ask::Erase(10, 20),
+        Step::Freeze => Ask::Freeze,
+        Step::Flush => Ask::Flush,
+        Step::Begin => Ask::Begin,
+        Step::Install(job) => Ask::Install(job),
+    }
+}
+
+fn asks_of(alloc: Global, rows: &[Row], count: usize) -> Result<Vec<Ask>, Fail> {
+    let mut asks = Vec::new(alloc);
+    for (step, _, _) in rows.iter().take(count) {
+        asks.push(ask_of(*step))?;
+    }
+    Ok(asks)
 }
 
 /// How many erases are still to be done behind the first steps, and the disk then.
 fn behind(alloc: Global, rows: &[Row], count: usize) -> Result<(u64, MemDisk), Fail> {
-    let mut engine = opened(alloc, empty_disk(alloc)?)?;
-    let mut events = Vec::new(alloc);
-    for (step, _, _) in rows.iter().take(count) {
-        events.push(event_of(alloc, *step)?)?;
-    }
-    let mut port = engine.new_port(alloc)?;
-    drive(&mut engine, alloc, &mut port, events)?;
-    Ok((engine.stat().pending, engine.into_disk()))
+    let asks = asks_of(alloc, rows, count)?;
+    let mut store = Store::new(alloc)?;
+    let taken = store.take(alloc, &asks);
+    let left = store.close();
+    taken?;
+    Ok(left)
 }
 
 /// Carries the rows out from the first on, up to each of them.
@@ -139,9 +137,10 @@ fn a_flush_beside_a_job_keeps_its_erases(rt: HostRuntime) -> Result<(), Fail> {
 fn erases_that_are_done_leave_with_an_opening(rt: HostRuntime) -> Result<(), Fail> {
     let alloc = rt.alloc();
     let (_, disk) = behind(alloc, &IN_TURN, 9)?;
-    let engine = opened(alloc, disk)?;
-    assert_eq!(rt; engine.stat().pending, 2);
-    let mut disk = engine.into_disk();
-    assert_eq!(rt; erases_of(alloc, &mut disk)?.as_slice(), [4, 5].as_slice());
+    let store = Store::opened(alloc, disk)?;
+    let (pending, mut disk) = store.close();
+    let places = erases_of(alloc, &mut disk)?;
+    assert!(rt; pending == 2);
+    assert!(rt; places.as_slice() == [4, 5].as_slice());
     Ok(())
 }

@@ -1,13 +1,8 @@
 //! Stores whose files and jobs are told by steps.
-ghost use Rattle.std.specs.Prelude.{IfOk};
-ghost use Rattle.lethe_core.specs.Running.{IsSound};
-ghost use Rattle.lethe_core.specs.View.{view_of};
 
-use crate::common::{key_of, opened};
-use lethe_base::{Range, Refused, Value};
-use lethe_disk::Disk;
-use lethe_drive::{Event, Reply, Time, drive};
-use lethe_engine::Engine;
+use crate::common::{Ask, Store};
+use lethe_base::Refused;
+use lethe_drive::Reply;
 use std::alloc::Global;
 use std::test::Fail;
 
@@ -15,7 +10,7 @@ use std::test::Fail;
 pub type Change = (&'static str, Option<u64>);
 
 /// What is done to a store.
-#[derive(Clone, Copy, Debug)]
+#[derive(Clone, Copy)]
 pub enum Step {
     /// Makes the changes.
     Changes(&'static [Change]),
@@ -31,110 +26,85 @@ pub enum Step {
 }
 
 /// How a job is carried out.
-#[derive(Clone, Copy, Debug)]
+#[derive(Clone, Copy)]
 pub enum Way {
     Once,
     /// It is given up behind its first page, and begun again.
     GivenUp,
 }
 
-fn change_of(alloc: Global, change: Change) -> Result<Event, Fail> {
-    let (key, dkey) = change;
-    let key = key_of(alloc, key)?;
-    Ok(match dkey {
-        Some(dkey) => Event::Put {
-            key,
-            dkey,
-            value: Value::new(b"x".as_slice().to_vec(alloc)?)?,
-        },
-        None => Event::Delete { key },
-    })
-}
-
-fn add_changes(alloc: Global, events: &mut Vec<Event>, changes: &[Change]) -> Result<(), Fail> {
-    for change in changes {
-        events.push(change_of(alloc, *change)?)?;
+fn add_changes(asks: &mut Vec<Ask>, changes: &[Change]) -> Result<(), Fail> {
+    for (key, dkey) in changes {
+        asks.push(match dkey {
+            Some(dkey) => Ask::Put(*key, *dkey),
+            None => Ask::Delete(*key),
+        })?;
     }
     Ok(())
 }
 
-fn add_step(alloc: Global, events: &mut Vec<Event>, step: Step) -> Result<(), Fail> {
+fn add_step(asks: &mut Vec<Ask>, step: Step) -> Result<(), Fail> {
     match step {
-        Step::Changes(changes) => add_changes(alloc, events, changes)?,
+        Step::Changes(changes) => add_changes(asks, changes)?,
         Step::File(changes) => {
-            add_changes(alloc, events, changes)?;
-            events.push(Event::Freeze)?;
-            events.push(Event::Flush)?;
+            add_changes(asks, changes)?;
+            asks.push(Ask::Freeze)?;
+            asks.push(Ask::Flush)?;
         }
         Step::Job(job) => {
-            events.push(Event::Begin)?;
-            events.push(Event::Install { job })?;
+            asks.push(Ask::Begin)?;
+            asks.push(Ask::Install(job))?;
         }
-        Step::Begin => events.push(Event::Begin)?,
-        Step::Install(job) => events.push(Event::Install { job })?,
-        Step::Erase(lo, hi) => events.push(Event::Erase {
-            range: Range::new(lo, hi).ok_or("a range")?,
-        })?,
-        Step::Tick(to) => events.push(Event::Tick {
-            to: Time::new(to).ok_or("a time")?,
-        })?,
+        Step::Begin => asks.push(Ask::Begin)?,
+        Step::Install(job) => asks.push(Ask::Install(job))?,
+        Step::Erase(lo, hi) => asks.push(Ask::Erase(lo, hi))?,
+        Step::Tick(to) => asks.push(Ask::Tick(to))?,
     }
     Ok(())
+}
+
+fn asks_of(alloc: Global, steps: &[Step]) -> Result<Vec<Ask>, Fail> {
+    let mut asks = Vec::new(alloc);
+    for step in steps {
+        add_step(&mut asks, *step)?;
+    }
+    Ok(asks)
+}
+
+fn is_refusal(reply: &Reply) -> bool {
+    matches!(reply, Reply::Refused(_) | Reply::NoSuch)
 }
 
 /// Takes the steps, none of which is refused.
-pub fn take_steps<D: Disk>(
-    alloc: Global,
-    engine: &mut Engine<D>,
-    steps: &[Step],
-) -> Result<(), Fail>
-    requires { IsSound D.tells (view_of engine.old.core) }
-    ensures { IsSound D.tells (view_of engine.new.core) }
-{
-    let mut events = Vec::new(alloc);
-    for step in steps {
-        add_step(alloc, &mut events, *step)?;
-    }
-    let mut port = engine.new_port(alloc)?;
-    for reply in &drive(engine, alloc, &mut port, events)? {
-        if let Reply::Refused(_) | Reply::NoSuch = reply {
+pub fn take_steps(alloc: Global, store: &mut Store, steps: &[Step]) -> Result<(), Fail> {
+    for reply in &store.take(alloc, &asks_of(alloc, steps)?)? {
+        if is_refusal(reply) {
             return Err(Fail::new("a step is refused"));
         }
     }
     Ok(())
 }
 
-/// The store behind the steps.
-pub fn store_of<D: Disk>(alloc: Global, disk: D, steps: &[Step]) -> Result<Engine<D>, Fail>
-    ensures { IfOk result (λ engine. IsSound D.tells (view_of engine.core)) }
-{
-    let mut engine = opened(alloc, disk)?;
-    take_steps(alloc, &mut engine, steps)?;
-    Ok(engine)
-}
+const ONCE: [Ask; 2] = [Ask::Begin, Ask::Install(0)];
 
-fn job_in(alloc: Global, way: Way) -> Result<Vec<Event>, Fail> {
-    Ok(match way {
-        Way::Once => vec![in alloc; Event::Begin, Event::Install { job: 0 }]?,
-        Way::GivenUp => {
-            vec![in alloc;
-                Event::Begin,
-                Event::WriteOut { job: 0 },
-                Event::Cancel { job: 0 },
-                Event::Begin,
-                Event::Install { job: 1 },
-            ]?
-        }
-    })
+const GIVEN_UP: [Ask; 5] = [
+    Ask::Begin,
+    Ask::WriteOut(0),
+    Ask::Cancel(0),
+    Ask::Begin,
+    Ask::Install(1),
+];
+
+fn job_in(way: Way) -> &'static [Ask] {
+    match way {
+        Way::Once => &ONCE,
+        Way::GivenUp => &GIVEN_UP,
+    }
 }
 
 /// Carries the next job out in this way, and answers whether one was due.
-pub fn carry_out<D: Disk>(alloc: Global, engine: &mut Engine<D>, way: Way) -> Result<bool, Fail>
-    requires { IsSound D.tells (view_of engine.old.core) }
-    ensures { IsSound D.tells (view_of engine.new.core) }
-{
-    let mut port = engine.new_port(alloc)?;
-    let replies = drive(engine, alloc, &mut port, job_in(alloc, way)?)?;
+pub fn carry_out(alloc: Global, store: &mut Store, way: Way) -> Result<bool, Fail> {
+    let replies = store.take(alloc, job_in(way))?;
     match (replies.first(), replies.last()) {
         (Some(Reply::Job(_)), Some(Reply::Unit)) => Ok(true),
         (Some(Reply::Refused(Refused::NothingDue)), _) => Ok(false),
@@ -143,17 +113,9 @@ pub fn carry_out<D: Disk>(alloc: Global, engine: &mut Engine<D>, way: Way) -> Re
 }
 
 /// Carries so many jobs out in this way, each of which is due.
-pub fn carry_out_all<D: Disk>(
-    alloc: Global,
-    engine: &mut Engine<D>,
-    way: Way,
-    jobs: usize,
-) -> Result<(), Fail>
-    requires { IsSound D.tells (view_of engine.old.core) }
-    ensures { IsSound D.tells (view_of engine.new.core) }
-{
+pub fn carry_out_all(alloc: Global, store: &mut Store, way: Way, jobs: usize) -> Result<(), Fail> {
     for _ in 0..jobs {
-        if !carry_out(alloc, engine, way)? {
+        if !carry_out(alloc, store, way)? {
             return Err(Fail::new("nothing is due"));
         }
     }

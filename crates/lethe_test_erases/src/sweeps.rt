@@ -1,23 +1,17 @@
 //! Which files are swept of an erase one after another, and what stays of their pages.
-ghost use Rattle.std.specs.Prelude.{IfOk};
-ghost use Rattle.lethe_core.specs.Running.{IsSound};
-ghost use Rattle.lethe_core.specs.View.{view_of};
 
-use crate::common::{count_puts, empty_disk, objects_of};
-use crate::stores::{Step, Way, carry_out, carry_out_all, store_of, take_steps};
+use crate::common::{Store, count_puts, objects_of};
+use crate::stores::{Step, Way, carry_out, carry_out_all, take_steps};
 use lethe_base::{Kind, Name};
-use lethe_disk::Disk;
-use lethe_engine::Engine;
-use lethe_header::read_header;
+use lethe_header::{Header, read_header};
+use lethe_images::bytes_at;
 use lethe_manifest::{Cited, Manifest, read_manifest};
 use lethe_memdisk::MemDisk;
-use lethe_rows::bytes_at;
 use std::alloc::Global;
 use std::str;
 use std::test::Fail;
 
 /// What a store is behind so many jobs.
-#[derive(Clone, Copy, Debug)]
 struct Row {
     /// The files as the manifest cites them: of each one its level, its least key and the place up to which it is swept.
     files: &'static str,
@@ -394,14 +388,17 @@ fn manifest_of(alloc: Global, disk: &mut MemDisk) -> Result<Manifest, Fail> {
     }
 }
 
-/// The level of a file, its least key and the place up to which it is swept.
-fn text_of(alloc: Global, disk: &mut MemDisk, file: &Cited) -> Result<String, Fail> {
+fn header_of(alloc: Global, disk: &mut MemDisk, no: u64) -> Result<Header, Fail> {
     let name = Name {
         kind: Kind::File,
-        no: file.no,
+        no,
     };
     let bytes = bytes_at(alloc, disk, name)?;
-    let header = read_header(alloc, &bytes).ok().ok_or("a header")?;
+    Ok(read_header(alloc, &bytes).ok().ok_or("a header")?)
+}
+
+/// The level of a file, its least key and the place up to which it is swept.
+fn text_of(alloc: Global, file: &Cited, header: &Header) -> Result<String, Fail> {
     let tile = header.tiles.items().first().ok_or("a tile")?;
     let least = str::from_utf8(tile.lo.bytes())?;
     let level = file.level;
@@ -409,24 +406,35 @@ fn text_of(alloc: Global, disk: &mut MemDisk, file: &Cited) -> Result<String, Fa
     Ok(format!(in alloc; "{level} {least} {swept}")?)
 }
 
-/// The files as the manifest cites them. No other header is on the disk.
-fn files_of(alloc: Global, disk: &mut MemDisk) -> Result<String, Fail> {
-    let manifest = manifest_of(alloc, disk)?;
-    if objects_of(alloc, disk, Kind::File)?.len() != manifest.files.items().len() {
-        return Err(Fail::new("another header"));
-    }
+/// These files, as a manifest cites them.
+fn texts_of(alloc: Global, disk: &mut MemDisk, files: &[Cited]) -> Result<String, Fail> {
     let mut texts = String::new(alloc);
-    for file in manifest.files.items() {
+    for file in files {
         if !texts.is_empty() {
             texts.push_str(", ")?;
         }
-        texts.push_str(&text_of(alloc, disk, file)?)?;
+        let header = header_of(alloc, disk, file.no)?;
+        texts.push_str(&text_of(alloc, file, &header)?)?;
     }
     Ok(texts)
 }
 
+/// The files as the manifest cites them. No other header is on the disk.
+fn files_of(alloc: Global, disk: &mut MemDisk) -> Result<String, Fail> {
+    let manifest = manifest_of(alloc, disk)?;
+    let files = manifest.files.items();
+    if objects_of(alloc, disk, Kind::File)?.len() == files.len() {
+        texts_of(alloc, disk, files)
+    } else {
+        Err(Fail::new("another header"))
+    }
+}
+
+/// A page by its number and its bytes.
+type Page = (u64, Vec<u8>);
+
 /// How many pages are the same on both disks by name and bytes, how many are gone, and how many are new.
-fn compare(before: &[(u64, Vec<u8>)], after: &[(u64, Vec<u8>)]) -> [usize; 3] {
+fn compare(before: &[Page], after: &[Page]) -> [usize; 3] {
     let mut stay: usize = 0;
     for page in after {
         if before.contains(page) {
@@ -440,41 +448,72 @@ fn compare(before: &[(u64, Vec<u8>)], after: &[(u64, Vec<u8>)]) -> [usize; 3] {
     ]
 }
 
-/// The store behind the steps and so many jobs.
-fn behind<D: Disk>(
+/// Takes the steps, and carries so many jobs out.
+fn go(alloc: Global, store: &mut Store, steps: &[Step], way: Way, jobs: usize) -> Result<(), Fail> {
+    take_steps(alloc, store, steps)?;
+    carry_out_all(alloc, store, way, jobs)
+}
+
+/// How many erases are still to be done, and the disk.
+type Left = (u64, MemDisk);
+
+/// What is left of a new store behind the steps and so many jobs.
+fn behind(alloc: Global, steps: &[Step], way: Way, jobs: usize) -> Result<Left, Fail> {
+    let mut store = Store::new(alloc)?;
+    let gone = go(alloc, &mut store, steps, way, jobs);
+    let left = store.close();
+    gone?;
+    Ok(left)
+}
+
+/// What is on a disk.
+struct Found {
+    files: String,
+    puts: usize,
+    pages: Vec<Page>,
+}
+
+fn found_on(alloc: Global, disk: &mut MemDisk) -> Result<Found, Fail> {
+    Ok(Found {
+        files: files_of(alloc, disk)?,
+        puts: count_puts(alloc, disk)?,
+        pages: objects_of(alloc, disk, Kind::Page)?,
+    })
+}
+
+/// Fails where what is left isn't what the row tells, given the pages of the one before. It hands the pages on.
+fn is_told(alloc: Global, left: Left, row: &Row, before: &[Page]) -> Result<Vec<Page>, Fail> {
+    let (pending, mut disk) = left;
+    let Found { files, puts, pages } = found_on(alloc, &mut disk)?;
+    let counts = compare(before, &pages);
+    if files.as_str() == row.files
+        && counts == row.pages
+        && (puts, pending) == (row.puts, row.pending)
+    {
+        Ok(pages)
+    } else {
+        Err(Fail::new(format_args!("{files}; {counts:?}, {puts} puts, pending {pending}")))
+    }
+}
+
+/// The same, and whether one more job is due.
+fn go_to_end(
     alloc: Global,
-    disk: D,
+    store: &mut Store,
     steps: &[Step],
     way: Way,
     jobs: usize,
-) -> Result<Engine<D>, Fail>
-    ensures { IfOk result (λ engine. IsSound D.tells (view_of engine.core)) }
-{
-    let mut engine = store_of(alloc, disk, steps)?;
-    carry_out_all(alloc, &mut engine, way, jobs)?;
-    Ok(engine)
+) -> Result<bool, Fail> {
+    go(alloc, store, steps, way, jobs)?;
+    carry_out(alloc, store, way)
 }
 
-/// Fails where the store isn't what the row tells, given the pages of the one before. It hands the pages on.
-fn is_told(
-    alloc: Global,
-    engine: Engine<MemDisk>,
-    row: &Row,
-    before: &[(u64, Vec<u8>)],
-) -> Result<Vec<(u64, Vec<u8>)>, Fail> {
-    let pending = engine.stat().pending;
-    let mut disk = engine.into_disk();
-    let files = files_of(alloc, &mut disk)?;
-    let puts = count_puts(alloc, &mut disk)?;
-    let after = objects_of(alloc, &mut disk, Kind::Page)?;
-    let pages = compare(before, &after);
-    if files.as_str() != row.files
-        || pages != row.pages
-        || (puts, pending) != (row.puts, row.pending)
-    {
-        return Err(Fail::new(format_args!("{files}; {pages:?}, {puts} puts, pending {pending}")));
-    }
-    Ok(after)
+/// Whether nothing is due behind so many jobs.
+fn is_over(alloc: Global, steps: &[Step], way: Way, jobs: usize) -> Result<bool, Fail> {
+    let mut store = Store::new(alloc)?;
+    let is_due = go_to_end(alloc, &mut store, steps, way, jobs);
+    store.close();
+    Ok(!is_due?)
 }
 
 /// The jobs of the store behind the steps, one after another until nothing is due.
@@ -482,21 +521,14 @@ fn are_told(alloc: Global, steps: &[Step], way: Way, rows: &[Row]) -> Result<(),
     let mut jobs: usize = 0;
     let mut pages = Vec::new(alloc);
     for row in rows {
-        let engine = behind(alloc, empty_disk(alloc)?, steps, way, jobs)?;
-        pages = is_told(alloc, engine, row, &pages)?;
+        pages = is_told(alloc, behind(alloc, steps, way, jobs)?, row, &pages)?;
         jobs = jobs.saturating_add(1);
     }
-    let mut last = behind(
-        alloc,
-        empty_disk(alloc)?,
-        steps,
-        way,
-        jobs.saturating_sub(1),
-    )?;
-    if carry_out(alloc, &mut last, way)? {
-        return Err(Fail::new("more is due"));
+    if is_over(alloc, steps, way, jobs.saturating_sub(1))? {
+        Ok(())
+    } else {
+        Err(Fail::new("more is due"))
     }
-    Ok(())
 }
 
 /// The same where each job is given up once.
@@ -505,14 +537,28 @@ fn are_told_twice(alloc: Global, steps: &[Step], rows: &[Row]) -> Result<(), Fai
     are_told(alloc, steps, Way::GivenUp, rows)
 }
 
+/// Takes the steps and more of them.
+fn go_on(alloc: Global, store: &mut Store, steps: &[Step], more: &[Step]) -> Result<(), Fail> {
+    take_steps(alloc, store, steps)?;
+    take_steps(alloc, store, more)
+}
+
+/// What is left of a new store behind the steps and more of them.
+fn behind_more(alloc: Global, steps: &[Step], more: &[Step]) -> Result<Left, Fail> {
+    let mut store = Store::new(alloc)?;
+    let gone = go_on(alloc, &mut store, steps, more);
+    let left = store.close();
+    gone?;
+    Ok(left)
+}
+
 /// What the store behind the steps is behind more of them, one after another.
 fn are_told_behind(alloc: Global, steps: &[Step], more: &[Step], rows: &[Row]) -> Result<(), Fail> {
     let mut count: usize = 0;
     let mut pages = Vec::new(alloc);
     for row in rows {
-        let mut engine = store_of(alloc, empty_disk(alloc)?, steps)?;
-        take_steps(alloc, &mut engine, more.get(..count).ok_or("a step")?)?;
-        pages = is_told(alloc, engine, row, &pages)?;
+        let left = behind_more(alloc, steps, more.get(..count).ok_or("a step")?)?;
+        pages = is_told(alloc, left, row, &pages)?;
         count = count.saturating_add(1);
     }
     Ok(())

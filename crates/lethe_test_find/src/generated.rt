@@ -3,9 +3,10 @@
 use crate::alike::{finds_alike, key_of};
 use lethe_base::{Kind, Name};
 use lethe_disk::Disk;
+use lethe_generated::Generated;
+use lethe_images::{names_of, roomy_disk};
 use lethe_memdisk::MemDisk;
 use lethe_page::read_page;
-use lethe_rows::{Generated, names_of, roomy_disk};
 use std::alloc::Global;
 use std::test::Fail;
 

@@ -1,12 +1,11 @@
 use lethe_base::{Kind, Name};
-use lethe_dirdisk::{DirDisk, DirRefused};
+use lethe_dirdisk::{DirDisk, DirPage, DirPort, DirRefused};
 use lethe_disk::{Disk, DiskRefused};
+use std::alloc::Global;
 use std::fs::{self, File, Permissions};
 use std::io;
 use std::os::unix::fs::{MetadataExt, PermissionsExt, symlink};
 use std::test::Fail;
-
-const FAILED: Option<DiskRefused> = Some(DiskRefused::Failed);
 
 fn page(no: u64) -> Name {
     Name {
@@ -20,98 +19,220 @@ fn clear(rt: &HostRuntime, path: &str) {
     let _ = fs::remove_dir_all(rt, path);
 }
 
-// Who may do what with a file or a folder.
-fn mode_of(rt: &HostRuntime, path: &str) -> io::Result<u32> {
-    Ok(fs::metadata(rt, path)?.mode() & 0o777)
+// Whether a call of a disk or a port failed.
+fn fails<T: Drop>(answer: Result<T, DiskRefused>) -> bool {
+    matches!(answer, Err(DiskRefused::Failed))
 }
 
-#[test]
-fn what_is_made_is_its_owners_alone(rt: HostRuntime) -> Result<(), Fail> {
-    const FOLDER: &str = "lethe_folder_modes";
-    let alloc = rt.alloc();
-    clear(&rt, FOLDER);
-    {
-        let mut disk = DirDisk::open(&rt, alloc, FOLDER)?;
-        disk.create(page(1), b"abc")?;
+// Whether a read or a fetch gave these bytes.
+fn gives(answer: Result<Vec<u8>, DiskRefused>, bytes: &[u8]) -> bool {
+    matches!(answer, Ok(read) if read.as_slice() == bytes)
+}
+
+// Whether a disk has these names.
+fn has_names(alloc: Global, disk: &mut DirDisk, names: &[Name]) -> bool {
+    matches!(disk.names(alloc), Ok(listed) if listed.as_slice() == names)
+}
+
+// Whether the system did what it was asked.
+fn is_done(answer: io::Result<()>) -> bool {
+    answer.is_ok()
+}
+
+// Whether a file has these bytes.
+fn has_bytes(rt: &HostRuntime, path: &str, bytes: &[u8]) -> bool {
+    matches!(fs::read(rt, path), Ok(read) if read.as_slice() == bytes)
+}
+
+// Why a folder isn't opened.
+fn refused(rt: &HostRuntime, path: &str) -> Option<DirRefused> {
+    DirDisk::open(rt, rt.alloc(), path).err()
+}
+
+// Makes the pages 1 and 2, and answers whether that was done.
+fn make_pages(disk: &mut DirDisk) -> bool {
+    disk.create(page(1), b"abc").is_ok() && disk.create(page(2), b"abc").is_ok()
+}
+
+// What fetches the page 1.
+#[derive(Drop)]
+struct Reader {
+    page: DirPage,
+    port: DirPort,
+}
+
+impl Reader {
+    fn of(alloc: Global, disk: &mut DirDisk) -> Result<Reader, Fail> {
+        let page = disk.open_page(alloc, page(1))?;
+        let port = disk.port(alloc)?;
+        Ok(Reader { page, port })
     }
-    assert_eq!(rt; mode_of(&rt, FOLDER)?, 0o700);
-    assert_eq!(rt;
-        mode_of(&rt, "lethe_folder_modes/p-00000000000000000001")?,
-        0o600
-    );
-    // What is there already stays as it is.
-    fs::set_permissions(&rt, FOLDER, Permissions::from_mode(0o755))?;
-    drop(DirDisk::open(&rt, alloc, FOLDER)?);
-    assert_eq!(rt; mode_of(&rt, FOLDER)?, 0o755);
-    clear(&rt, FOLDER);
-    Ok(())
+
+    fn fetch(&mut self, alloc: Global) -> Result<Vec<u8>, DiskRefused> {
+        DirDisk::fetch(alloc, &mut self.port, &self.page)
+    }
+
+    fn faults(&self) -> u64 {
+        DirDisk::port_faults(&self.port)
+    }
+}
+
+// Whether a folder is made, with the page 1.
+fn is_made(rt: &HostRuntime, folder: &str) -> bool {
+    match DirDisk::open(rt, rt.alloc(), folder) {
+        Ok(mut disk) => disk.create(page(1), b"abc").is_ok(),
+        Err(_) => false,
+    }
+}
+
+// Whether that is who may do what with a file or a folder.
+fn has_mode(rt: &HostRuntime, path: &str, mode: u32) -> bool {
+    matches!(fs::metadata(rt, path), Ok(seen) if seen.mode() & 0o777 == mode)
 }
 
 #[test]
-fn what_is_no_file_is_refused(rt: HostRuntime) -> Result<(), Fail> {
+fn what_is_made_is_its_owners_alone(rt: HostRuntime) {
+    const FOLDER: &str = "lethe_folder_modes";
+    clear(&rt, FOLDER);
+    assert!(rt; is_made(&rt, FOLDER));
+    assert!(rt; has_mode(&rt, FOLDER, 0o700));
+    assert!(rt; has_mode(&rt, "lethe_folder_modes/p-00000000000000000001", 0o600));
+    // What is there already stays as it is.
+    let open_to_all = Permissions::from_mode(0o755);
+    assert!(rt; is_done(fs::set_permissions(&rt, FOLDER, open_to_all)));
+    assert!(rt; refused(&rt, FOLDER).is_none());
+    assert!(rt; has_mode(&rt, FOLDER, 0o755));
+    clear(&rt, FOLDER);
+}
+
+fn is_link(rt: &HostRuntime, path: &str) -> bool {
+    matches!(fs::symlink_metadata(rt, path), Ok(seen) if seen.is_symlink())
+}
+
+fn is_folder(rt: &HostRuntime, path: &str) -> bool {
+    matches!(fs::metadata(rt, path), Ok(seen) if seen.is_dir())
+}
+
+// Whether a folder is refused where a link stands for an object, and the link stays.
+fn link_is_refused(rt: &HostRuntime, folder: &str, object: &str, target: &str) -> bool {
+    is_done(symlink(rt, target, object))
+        && refused(rt, folder) == Some(DirRefused::Folder)
+        && is_link(rt, object)
+        && is_done(fs::remove_file(rt, object))
+}
+
+// Whether a folder is refused where a folder stands for an object, and that one stays.
+fn folder_is_refused(rt: &HostRuntime, folder: &str, object: &str) -> bool {
+    is_done(fs::create_dir(rt, object))
+        && refused(rt, folder) == Some(DirRefused::Foreign)
+        && is_folder(rt, object)
+}
+
+/// A file outside, the link itself, and nothing.
+const TARGETS: [&str; 3] = [
+    "../lethe_folder_refused_outside",
+    "p-00000000000000000001",
+    "nothing",
+];
+
+#[test]
+fn what_is_no_file_is_refused(rt: HostRuntime) {
     const FOLDER: &str = "lethe_folder_refused";
     const OUTSIDE: &str = "lethe_folder_refused_outside";
     const OBJECT: &str = "lethe_folder_refused/p-00000000000000000001";
-    let alloc = rt.alloc();
     clear(&rt, FOLDER);
-    fs::write(&rt, OUTSIDE, b"kept".as_slice())?;
-    fs::create_dir(&rt, FOLDER)?;
-    // A file outside, the link itself, and nothing.
-    for target in [
-        "../lethe_folder_refused_outside",
-        "p-00000000000000000001",
-        "nothing",
-    ] {
-        symlink(&rt, target, OBJECT)?;
-        assert_eq!(rt;
-            DirDisk::open(&rt, alloc, FOLDER).err(),
-            Some(DirRefused::Folder),
-            "{target}"
-        );
-        assert!(rt; fs::symlink_metadata(&rt, OBJECT)?.is_symlink());
-        fs::remove_file(&rt, OBJECT)?;
+    assert!(rt; is_done(fs::write(&rt, OUTSIDE, b"kept".as_slice())));
+    assert!(rt; is_done(fs::create_dir(&rt, FOLDER)));
+    for target in TARGETS {
+        assert!(rt; link_is_refused(&rt, FOLDER, OBJECT, target), "{target}");
     }
-    fs::create_dir(&rt, OBJECT)?;
-    assert_eq!(rt;
-        DirDisk::open(&rt, alloc, FOLDER).err(),
-        Some(DirRefused::Foreign)
-    );
-    assert!(rt; fs::metadata(&rt, OBJECT)?.is_dir());
-    assert_eq!(rt; fs::read(&rt, OUTSIDE)?.as_slice(), b"kept".as_slice());
-    fs::remove_file(&rt, OUTSIDE)?;
+    assert!(rt; folder_is_refused(&rt, FOLDER, OBJECT));
+    assert!(rt; has_bytes(&rt, OUTSIDE, b"kept"));
+    assert!(rt; is_done(fs::remove_file(&rt, OUTSIDE)));
     clear(&rt, FOLDER);
-    Ok(())
+}
+
+// Whether each call of the disk that would follow the link of the page 1 fails.
+fn no_call_follows(alloc: Global, disk: &mut DirDisk) -> bool {
+    fails(disk.read(alloc, page(1)))
+        && fails(disk.open_page(alloc, page(1)))
+        && fails(disk.write_at(page(1), 0, b"new"))
+        && fails(disk.create(page(1), b"new"))
+        && fails(disk.sync())
+        && disk.faults() == 5
+}
+
+// Whether a fetch fails where a link has come in place of the page 1.
+fn no_fetch_follows(
+    rt: &HostRuntime,
+    disk: &mut DirDisk,
+    target: &str,
+    object: &str,
+) -> Result<bool, Fail> {
+    let mut reader = Reader::of(rt.alloc(), disk)?;
+    Ok(
+        is_done(fs::remove_file(rt, object))
+            && is_done(symlink(rt, target, object))
+            && fails(reader.fetch(rt.alloc()))
+            && reader.faults() == 1,
+    )
 }
 
 #[test]
 fn a_link_that_comes_later_is_not_followed(rt: HostRuntime) -> Result<(), Fail> {
     const FOLDER: &str = "lethe_folder_link";
     const OUTSIDE: &str = "lethe_folder_link_outside";
+    const TARGET: &str = "../lethe_folder_link_outside";
     const OBJECT: &str = "lethe_folder_link/p-00000000000000000001";
-    let alloc = rt.alloc();
     clear(&rt, FOLDER);
-    fs::write(&rt, OUTSIDE, b"kept".as_slice())?;
-    let mut disk = DirDisk::open(&rt, alloc, FOLDER)?;
-    disk.create(page(1), b"abc")?;
-    disk.create(page(2), b"abc")?;
-    let opened = disk.open_page(alloc, page(1))?;
-    let mut port = disk.port(alloc)?;
-    fs::remove_file(&rt, OBJECT)?;
-    symlink(&rt, "../lethe_folder_link_outside", OBJECT)?;
-    assert_eq!(rt; disk.read(alloc, page(1)).err(), FAILED);
-    assert_eq!(rt; disk.open_page(alloc, page(1)).err(), FAILED);
-    assert_eq!(rt; disk.write_at(page(1), 0, b"new").err(), FAILED);
-    assert_eq!(rt; disk.create(page(1), b"new").err(), FAILED);
-    assert_eq!(rt; disk.sync().err(), FAILED);
-    assert_eq!(rt; disk.faults(), 5);
-    assert_eq!(rt; DirDisk::fetch(alloc, &mut port, &opened).err(), FAILED);
-    assert_eq!(rt; DirDisk::port_faults(&port), 1);
+    assert!(rt; is_done(fs::write(&rt, OUTSIDE, b"kept".as_slice())));
+    let mut disk = DirDisk::open(&rt, rt.alloc(), FOLDER)?;
+    assert!(rt; make_pages(&mut disk));
+    assert!(rt; no_fetch_follows(&rt, &mut disk, TARGET, OBJECT)?);
+    assert!(rt; no_call_follows(rt.alloc(), &mut disk));
     // The link itself may be removed.
-    disk.remove(page(1))?;
-    assert_eq!(rt; fs::read(&rt, OUTSIDE)?.as_slice(), b"kept".as_slice());
-    fs::remove_file(&rt, OUTSIDE)?;
+    assert!(rt; disk.remove(page(1)).is_ok());
+    assert!(rt; has_bytes(&rt, OUTSIDE, b"kept"));
+    assert!(rt; is_done(fs::remove_file(&rt, OUTSIDE)));
     clear(&rt, FOLDER);
     Ok(())
+}
+
+// Makes the disk of a folder with other files, and answers whether that was done.
+fn make_other(rt: &HostRuntime, folder: &str) -> bool {
+    match DirDisk::open(rt, rt.alloc(), folder) {
+        Ok(mut other) => {
+            other.create(page(1), b"other").is_ok() && other.create(page(9), b"other").is_ok()
+        }
+        Err(_) => false,
+    }
+}
+
+// Whether the disk of a folder that was moved takes changes, and tells them of itself.
+fn changes(alloc: Global, disk: &mut DirDisk) -> bool {
+    disk.create(page(4), b"four").is_ok()
+        && disk.write_at(page(2), 1, b"new").is_ok()
+        && disk.remove(page(3)).is_ok()
+        && disk.sync().is_ok()
+        && has_names(alloc, disk, &[page(1), page(2), page(4)])
+        && gives(disk.read(alloc, page(1)), b"abc")
+}
+
+// Whether a new port has no faults.
+fn has_new_port(alloc: Global, disk: &mut DirDisk) -> bool {
+    matches!(disk.port(alloc), Ok(port) if DirDisk::port_faults(&port) == 0)
+}
+
+// Whether both folders can be opened beside a reader of the one that was moved.
+fn are_free_beside(rt: &HostRuntime, reader: &mut Reader, folder: &str, moved: &str) -> bool {
+    match DirDisk::open(rt, rt.alloc(), folder) {
+        Ok(mut other) => {
+            has_names(rt.alloc(), &mut other, &[page(1), page(9)])
+                && refused(rt, moved).is_none()
+                && gives(reader.fetch(rt.alloc()), b"abc")
+        }
+        Err(_) => false,
+    }
 }
 
 #[test]
@@ -122,109 +243,90 @@ fn a_folder_is_the_same_behind_a_rename(rt: HostRuntime) -> Result<(), Fail> {
     clear(&rt, FOLDER);
     clear(&rt, MOVED);
     let mut disk = DirDisk::open(&rt, alloc, FOLDER)?;
-    disk.create(page(1), b"abc")?;
-    disk.create(page(2), b"abc")?;
-    disk.create(page(3), b"")?;
-    let opened = disk.open_page(alloc, page(1))?;
-    let mut port = disk.port(alloc)?;
-    fs::rename(&rt, FOLDER, MOVED)?;
+    assert!(rt; make_pages(&mut disk) && disk.create(page(3), b"").is_ok());
+    let mut reader = Reader::of(alloc, &mut disk)?;
     // Another folder takes the name, with other files.
-    {
-        let mut other = DirDisk::open(&rt, alloc, FOLDER)?;
-        other.create(page(1), b"other")?;
-        other.create(page(9), b"other")?;
-    }
-    assert_eq!(rt;
-        DirDisk::open(&rt, alloc, MOVED).err(),
-        Some(DirRefused::Folder)
-    );
-    disk.create(page(4), b"four")?;
-    disk.write_at(page(2), 1, b"new")?;
-    disk.remove(page(3))?;
-    disk.sync()?;
-    assert_eq!(rt;
-        disk.names(alloc)?.as_slice(),
-        [page(1), page(2), page(4)].as_slice()
-    );
-    assert_eq!(rt; disk.read(alloc, page(1))?.as_slice(), b"abc".as_slice());
-    assert_eq!(rt;
-        DirDisk::fetch(alloc, &mut port, &opened)?.as_slice(),
-        b"abc".as_slice()
-    );
-    let late = disk.port(alloc)?;
-    assert_eq!(rt; DirDisk::port_faults(&late), 0);
-    drop(late);
+    assert!(rt; is_done(fs::rename(&rt, FOLDER, MOVED)) && make_other(&rt, FOLDER));
+    assert!(rt; refused(&rt, MOVED) == Some(DirRefused::Folder));
+    assert!(rt; changes(alloc, &mut disk) && has_new_port(alloc, &mut disk));
+    assert!(rt; gives(reader.fetch(alloc), b"abc"));
     drop(disk);
-    assert_eq!(rt;
-        fs::read(&rt, "lethe_folder_moved/p-00000000000000000004")?.as_slice(),
-        b"four".as_slice()
-    );
-    assert_eq!(rt;
-        fs::read(&rt, "lethe_folder_moved/p-00000000000000000002")?.as_slice(),
-        b"anew".as_slice()
-    );
+    assert!(rt; has_bytes(&rt, "lethe_folder_moved/p-00000000000000000004", b"four"));
+    assert!(rt; has_bytes(&rt, "lethe_folder_moved/p-00000000000000000002", b"anew"));
     // A port has the folder open and doesn't hold it.
-    let mut other = DirDisk::open(&rt, alloc, FOLDER)?;
-    assert_eq!(rt;
-        other.names(alloc)?.as_slice(),
-        [page(1), page(9)].as_slice()
-    );
-    drop(DirDisk::open(&rt, alloc, MOVED)?);
-    assert_eq!(rt;
-        DirDisk::fetch(alloc, &mut port, &opened)?.as_slice(),
-        b"abc".as_slice()
-    );
+    assert!(rt; are_free_beside(&rt, &mut reader, FOLDER, MOVED));
     clear(&rt, FOLDER);
     clear(&rt, MOVED);
     Ok(())
 }
 
+// Whether there is nothing of that path.
+fn is_absent(rt: &HostRuntime, path: &str) -> bool {
+    matches!(fs::exists(rt, path), Ok(false))
+}
+
 #[test]
 fn a_removed_folder_is_a_fault(rt: HostRuntime) -> Result<(), Fail> {
     const FOLDER: &str = "lethe_folder_removed";
-    let alloc = rt.alloc();
     clear(&rt, FOLDER);
-    let mut disk = DirDisk::open(&rt, alloc, FOLDER)?;
+    let mut disk = DirDisk::open(&rt, rt.alloc(), FOLDER)?;
     clear(&rt, FOLDER);
-    assert_eq!(rt; disk.create(page(1), b"abc").err(), FAILED);
-    assert_eq!(rt; disk.names(alloc).err(), FAILED);
-    assert_eq!(rt; disk.faults(), 2);
-    assert!(rt; !fs::exists(&rt, FOLDER)?);
+    assert!(rt; fails(disk.create(page(1), b"abc")) && fails(disk.names(rt.alloc())));
+    assert!(rt; disk.faults() == 2);
+    assert!(rt; is_absent(&rt, FOLDER));
     Ok(())
+}
+
+/// The most bytes that a page is read of, and written.
+const MOST: u64 = 1 << 25;
+
+// Whether as many bytes were read or fetched as there may be.
+fn gives_most(answer: Result<Vec<u8>, DiskRefused>) -> bool {
+    matches!(answer, Ok(read) if read.len() == MOST as usize)
+}
+
+// Whether a disk and its reader give of the page 1 no more than that.
+fn is_read_up_to_most(alloc: Global, disk: &mut DirDisk) -> Result<bool, Fail> {
+    let mut reader = Reader::of(alloc, disk)?;
+    Ok(gives_most(disk.read(alloc, page(1))) && gives_most(reader.fetch(alloc)))
+}
+
+// Whether what couldn't be read again isn't written.
+fn is_written_up_to_most(disk: &mut DirDisk) -> bool {
+    let gate = Name {
+        kind: Kind::Gate,
+        no: 1,
+    };
+    disk.create(page(2), b"abc").is_ok()
+        && disk.write_at(page(2), MOST - 3, b"end").is_ok()
+        && fails(disk.write_at(page(2), MOST - 2, b"end"))
+        && fails(disk.write_at(page(2), u64::MAX, b"end"))
+        && fails(disk.create(gate, b"x"))
+        && disk.faults() == 3
+}
+
+// Makes a file of that length with no bytes written, and answers whether that was done.
+fn make_sparse(rt: &HostRuntime, path: &str, len: u64) -> bool {
+    match File::create(rt, path) {
+        Ok(file) => is_done(file.set_len(len)),
+        Err(_) => false,
+    }
+}
+
+fn has_len(rt: &HostRuntime, path: &str, len: u64) -> bool {
+    matches!(fs::metadata(rt, path), Ok(seen) if seen.len() == len)
 }
 
 #[test]
 fn a_sparse_object_is_read_up_to_its_bound(rt: HostRuntime) -> Result<(), Fail> {
     const FOLDER: &str = "lethe_folder_sparse";
-    const OBJECT: &str = "lethe_folder_sparse/p-00000000000000000001";
-    const MOST: u64 = 1 << 25;
-    let alloc = rt.alloc();
     clear(&rt, FOLDER);
-    let mut disk = DirDisk::open(&rt, alloc, FOLDER)?;
-    File::create(&rt, OBJECT)?.set_len(1 << 36)?;
-    assert_eq!(rt; disk.read(alloc, page(1))?.len(), MOST as usize);
-    let opened = disk.open_page(alloc, page(1))?;
-    let mut port = disk.port(alloc)?;
-    assert_eq!(rt;
-        DirDisk::fetch(alloc, &mut port, &opened)?.len(),
-        MOST as usize
-    );
-    // What couldn't be read again isn't written.
-    disk.create(page(2), b"abc")?;
-    disk.write_at(page(2), MOST - 3, b"end")?;
-    assert_eq!(rt; disk.write_at(page(2), MOST - 2, b"end").err(), FAILED);
-    assert_eq!(rt; disk.write_at(page(2), u64::MAX, b"end").err(), FAILED);
-    let gate = Name {
-        kind: Kind::Gate,
-        no: 1,
-    };
-    assert_eq!(rt; disk.create(gate, b"x").err(), FAILED);
-    assert_eq!(rt; disk.faults(), 3);
-    assert_eq!(rt;
-        fs::metadata(&rt, "lethe_folder_sparse/p-00000000000000000002")?.len(),
-        MOST
-    );
-    assert!(rt; !fs::exists(&rt, "lethe_folder_sparse/g-00000000000000000001")?);
+    let mut disk = DirDisk::open(&rt, rt.alloc(), FOLDER)?;
+    assert!(rt; make_sparse(&rt, "lethe_folder_sparse/p-00000000000000000001", 1 << 36));
+    assert!(rt; is_read_up_to_most(rt.alloc(), &mut disk)?);
+    assert!(rt; is_written_up_to_most(&mut disk));
+    assert!(rt; has_len(&rt, "lethe_folder_sparse/p-00000000000000000002", MOST));
+    assert!(rt; is_absent(&rt, "lethe_folder_sparse/g-00000000000000000001"));
     clear(&rt, FOLDER);
     Ok(())
 }

@@ -1,13 +1,9 @@
 //! A tick with two flushes and two merges, whose device calls and fetches fail in turn.
-ghost use Rattle.std.specs.Prelude.{IfOk, IfSome};
-ghost use Rattle.lethe_core.specs.Running.{IsSound};
-ghost use Rattle.lethe_core.specs.View.{view_of};
 
-use crate::common::{Ask, answer, disk_of, opened, opened_if_sound, put, tick};
-use crate::objects::{Held, held_by};
+use crate::common::{Ask, Store};
 use lethe_base::Refused;
 use lethe_disk::Disk;
-use lethe_engine::Engine;
+use lethe_images::{Held, held_by, roomy_disk};
 use lethe_memdisk::{FlakyDisk, MemDisk};
 use std::alloc::Global;
 use std::test::Fail;
@@ -39,12 +35,9 @@ const YOUNG: [Ask; 5] = [
 ];
 
 /// Makes these calls, and tells whether none was refused.
-fn make_all<D: Disk>(alloc: Global, engine: &mut Engine<D>, asks: &[Ask]) -> Result<bool, Fail>
-    requires { IsSound D.tells (view_of engine.old.core) }
-    ensures { IsSound D.tells (view_of engine.new.core) }
-{
+fn make_all<D: Disk>(alloc: Global, store: &mut Store<D>, asks: &[Ask]) -> Result<bool, Fail> {
     for ask in asks {
-        if answer(alloc, engine, *ask)?.is_err() {
+        if store.answer(alloc, *ask)?.is_err() {
             return Ok(false);
         }
     }
@@ -52,48 +45,68 @@ fn make_all<D: Disk>(alloc: Global, engine: &mut Engine<D>, asks: &[Ask]) -> Res
 }
 
 /// Puts the keys that begin with a letter.
-fn put_row<D: Disk>(alloc: Global, engine: &mut Engine<D>, first: &str) -> Result<(), Fail>
-    requires { IsSound D.tells (view_of engine.old.core) }
-    ensures { IsSound D.tells (view_of engine.new.core) }
-{
+fn put_row(alloc: Global, store: &mut Store<MemDisk>, first: &str) -> Result<(), Fail> {
     for second in &SECOND {
         let key = format!(in alloc; "{first}{second}")?;
-        put(alloc, engine, &key, 5, "many")?;
+        store.put(alloc, &key, 5, "many")??;
     }
     Ok(())
 }
 
-fn put_keys<D: Disk>(alloc: Global, engine: &mut Engine<D>) -> Result<(), Fail>
-    requires { IsSound D.tells (view_of engine.old.core) }
-    ensures { IsSound D.tells (view_of engine.new.core) }
-{
+fn put_keys(alloc: Global, store: &mut Store<MemDisk>) -> Result<(), Fail> {
     for first in &FIRST {
-        put_row(alloc, engine, *first)?;
+        put_row(alloc, store, *first)?;
     }
     Ok(())
 }
 
-/// The disk of a store with files in two levels, of which the upper one has a tombstone over the lower.
-fn disk_of_levels(alloc: Global) -> Result<MemDisk, Fail> {
-    let mut engine = opened(alloc, disk_of(alloc, &[])?)?;
-    put_keys(alloc, &mut engine)?;
-    if !make_all(alloc, &mut engine, &OLD)? {
-        return Err(Fail::new("levels"));
+/// Fills two levels with files, of which the upper one has a tombstone over the lower.
+fn fill_levels(alloc: Global, store: &mut Store<MemDisk>) -> Result<(), Fail> {
+    put_keys(alloc, store)?;
+    if make_all(alloc, store, &OLD)? {
+        Ok(())
+    } else {
+        Err(Fail::new("levels"))
     }
-    Ok(engine.into_disk())
 }
 
-/// The store over such a disk behind the other changes, or none where a device call fails.
-fn aged<D: Disk>(alloc: Global, disk: D) -> Result<Option<Engine<D>>, Fail>
-    ensures { IfOk result (λ aged. IfSome aged (λ engine. IsSound D.tells (view_of engine.core))) }
-{
-    let Some(mut engine) = opened_if_sound(alloc, disk)? else {
+/// The disk of a store with such levels.
+fn disk_of_levels(alloc: Global) -> Result<MemDisk, Fail> {
+    let mut store = Store::opened(alloc, roomy_disk(alloc)?)?;
+    let filled = fill_levels(alloc, &mut store);
+    let disk = store.into_disk();
+    filled?;
+    Ok(disk)
+}
+
+/// What comes of the tick.
+#[derive(Clone, Copy)]
+enum Came {
+    /// It isn't asked for, since a device call fails before it.
+    Early,
+    Made,
+    Refused(Refused),
+}
+
+/// Makes the other changes and then the tick.
+fn age_and_tick<D: Disk>(alloc: Global, store: &mut Store<D>) -> Result<Came, Fail> {
+    if !make_all(alloc, store, &YOUNG)? {
+        return Ok(Came::Early);
+    }
+    Ok(match store.tick(alloc, TO)? {
+        Ok(_) => Came::Made,
+        Err(why) => Came::Refused(why),
+    })
+}
+
+/// The same over the disk of such levels, with the disk that it leaves; none where it isn't opened.
+fn came_over<D: Disk>(alloc: Global, disk: D) -> Result<Option<(Came, D)>, Fail> {
+    let Some(mut store) = Store::opened_if_sound(alloc, disk)? else {
         return Ok(None);
     };
-    if !make_all(alloc, &mut engine, &YOUNG)? {
-        return Ok(None);
-    }
-    Ok(Some(engine))
+    let came = age_and_tick(alloc, &mut store);
+    let disk = store.into_disk();
+    Ok(Some((came?, disk)))
 }
 
 /// Whether the objects hold none of the puts that are to be gone, and each of the others.
@@ -103,30 +116,40 @@ fn is_clean(held: &Held) -> bool {
     gone && left
 }
 
-/// Makes the tick over a disk that is opened, and tells whether it leaves none of the puts that are to be gone.
-fn ends_clean(alloc: Global, disk: MemDisk) -> Result<bool, Fail> {
-    let mut engine = opened(alloc, disk)?;
-    tick(alloc, &mut engine, TO)??;
-    let mut disk = engine.into_disk();
-    Ok(is_clean(&held_by(alloc, &mut disk)?))
+/// Makes the tick over a disk that is opened, and fails where it leaves any of the puts that are to be gone.
+fn must_end_clean(alloc: Global, disk: MemDisk) -> Result<(), Fail> {
+    let mut store = Store::opened(alloc, disk)?;
+    let ticked = store.must_tick(alloc, TO);
+    let mut disk = store.into_disk();
+    ticked?;
+    if is_clean(&held_by(alloc, &mut disk)?) {
+        Ok(())
+    } else {
+        Err(Fail::new("not clean"))
+    }
+}
+
+/// Whether the tick is refused where the device fails behind so many calls; then the same tick over what is left has to end clean.
+fn is_refused_behind(alloc: Global, calls: u64) -> Result<bool, Fail> {
+    let mut disk = disk_of_levels(alloc)?;
+    disk.fuse(calls);
+    match came_over(alloc, disk)? {
+        Some((Came::Refused(Refused::Fault { place: 48, .. }), mut disk)) => {
+            disk.fuse(1_000);
+            must_end_clean(alloc, disk)?;
+            Ok(true)
+        }
+        Some((Came::Refused(_), _)) => Err(Fail::new("another refusal")),
+        _ => Ok(false),
+    }
 }
 
 #[test]
 fn a_fault_at_each_device_call_is_made_good_by_the_same_tick(rt: HostRuntime) -> Result<(), Fail> {
-    let alloc = rt.alloc();
     let mut refused: usize = 0;
     for calls in 0..200 {
-        let mut disk = disk_of_levels(alloc)?;
-        disk.fuse(calls);
-        let Some(mut engine) = aged(alloc, disk)? else {
-            continue;
-        };
-        if let Err(why) = tick(alloc, &mut engine, TO)? {
-            assert!(rt; matches!(why, Refused::Fault { place: 48, .. }));
+        if is_refused_behind(rt.alloc(), calls)? {
             refused = refused.saturating_add(1);
-            let mut disk = engine.into_disk();
-            disk.fuse(1_000);
-            assert!(rt; ends_clean(alloc, disk)?);
         }
     }
     // Two flushes, two merges and the last step.
@@ -134,44 +157,34 @@ fn a_fault_at_each_device_call_is_made_good_by_the_same_tick(rt: HostRuntime) ->
     Ok(())
 }
 
-/// Why the tick is refused over a store behind these changes, with the disk that it leaves; none where it is made.
-fn refused_tick<D: Disk>(alloc: Global, disk: D) -> Result<Option<(Refused, D)>, Fail> {
-    let Some(mut engine) = aged(alloc, disk)? else {
-        return Err(Fail::new("not aged"));
-    };
-    match tick(alloc, &mut engine, TO)? {
-        Ok(_) => Ok(None),
-        Err(why) => Ok(Some((why, engine.into_disk()))),
-    }
-}
-
 /// Whether the tick is refused where that fetch fails; then the same tick over what is left has to end clean.
 fn is_refused_at(alloc: Global, fetch: u64) -> Result<bool, Fail> {
     let disk = FlakyDisk::new(disk_of_levels(alloc)?, vec![in alloc; fetch]?);
-    let Some((why, disk)) = refused_tick(alloc, disk)? else {
-        return Ok(false);
-    };
-    if why
-        != (Refused::ReadFault {
-            before: 0,
-            after: 1,
-        })
-    {
-        return Err(Fail::new("another refusal"));
-    }
-    if ends_clean(alloc, disk.into_inner())? {
-        Ok(true)
-    } else {
-        Err(Fail::new("not clean"))
+    match came_over(alloc, disk)? {
+        Some(
+            (
+                Came::Refused(
+                    Refused::ReadFault {
+                        before: 0,
+                        after: 1,
+                    },
+                ),
+                disk,
+            ),
+        ) => {
+            must_end_clean(alloc, disk.into_inner())?;
+            Ok(true)
+        }
+        Some((Came::Made, _)) => Ok(false),
+        _ => Err(Fail::new("another refusal")),
     }
 }
 
 #[test]
 fn a_fetch_that_fails_is_made_good_by_the_same_tick(rt: HostRuntime) -> Result<(), Fail> {
-    let alloc = rt.alloc();
     let mut refused: usize = 0;
     for fetch in 1..20 {
-        if is_refused_at(alloc, fetch)? {
+        if is_refused_at(rt.alloc(), fetch)? {
             refused = refused.saturating_add(1);
         }
     }

@@ -4,10 +4,10 @@ ghost use Rattle.lethe_core.specs.Jobs.{IsAtWork};
 ghost use Rattle.lethe_core.specs.Running.{IsSound};
 ghost use Rattle.lethe_core.specs.View.{view_of};
 
-use crate::common::{opened, put};
-use crate::objects::held_by;
+use crate::common::Store;
 use lethe_disk::Disk;
 use lethe_engine::Engine;
+use lethe_images::{Held, held_by};
 use lethe_job::Job;
 use lethe_memdisk::MemDisk;
 use std::alloc::Global;
@@ -16,13 +16,12 @@ use std::test::Fail;
 // A store of two files of level 0, each of two pages, and of a buffer of one record.
 const KEYS: [&str; 9] = ["a", "b", "c", "d", "e", "f", "g", "h", "i"];
 
-pub fn put_all<D: Disk>(alloc: Global, engine: &mut Engine<D>) -> Result<(), Fail>
-    requires { IsSound D.tells (view_of engine.old.core) }
-    ensures { IsSound D.tells (view_of engine.new.core) }
-{
+/// Fills two files of level 0.
+pub fn fill(alloc: Global, store: &mut Store<MemDisk>) -> Result<(), Fail> {
     for text in &KEYS {
-        put(alloc, engine, *text, 7, *text)?;
+        store.put(alloc, *text, 7, *text)??;
     }
+    store.flush(alloc)?;
     Ok(())
 }
 
@@ -40,31 +39,44 @@ fn write_one<D: Disk>(alloc: Global, engine: &mut Engine<D>, job: &mut Job<D>) -
     Ok(())
 }
 
-/// The disk of a store that has a job in flight, of which so many pages are written.
-fn in_flight<D: Disk>(alloc: Global, disk: D, pages: usize) -> Result<D, Fail> {
-    let mut engine = opened(alloc, disk)?;
-    put_all(alloc, &mut engine)?;
-    engine.flush(alloc)?;
+/// Begins a job and writes so many of its pages.
+fn write_pages<D: Disk>(alloc: Global, engine: &mut Engine<D>, pages: usize) -> Result<(), Fail>
+    requires { IsSound D.tells (view_of engine.old.core) }
+{
     let mut job = engine.begin(alloc)?;
     for _ in 0..pages {
-        write_one(alloc, &mut engine, &mut job)?;
+        write_one(alloc, engine, &mut job)?;
     }
-    Ok(engine.into_disk())
+    Ok(())
+}
+
+/// A store of two files of level 0.
+fn store_of_two_files(alloc: Global) -> Result<Store<MemDisk>, Fail> {
+    let disk = MemDisk::new(alloc, 1000, Vec::new(alloc))?;
+    let mut store = Store::opened(alloc, disk)?;
+    fill(alloc, &mut store)?;
+    Ok(store)
+}
+
+/// What is on the disk of a store that has a job in flight, of which so many pages are written.
+fn held_in_flight(alloc: Global, pages: usize) -> Result<Held, Fail> {
+    let mut engine = store_of_two_files(alloc)?.into_engine();
+    let written = write_pages(alloc, &mut engine, pages);
+    let mut disk = engine.into_disk();
+    written?;
+    held_by(alloc, &mut disk)
 }
 
 #[test]
 fn pages_of_a_job_are_spellings_of_stored_puts(rt: HostRuntime) -> Result<(), Fail> {
     let alloc = rt.alloc();
     for pages in 0..5 {
-        let mut disk = in_flight(alloc, MemDisk::new(alloc, 1000, Vec::new(alloc))?, pages)?;
-        let held = held_by(alloc, &mut disk)?;
-        assert_eq!(rt; (held.gates, held.manifests, held.files), (1, 1, 2));
+        let held = held_in_flight(alloc, pages)?;
+        assert!(rt; (held.gates, held.manifests, held.files) == (1, 1, 2));
         // Two files of two pages, and those of the job, which have the files' puts again.
-        assert_eq!(rt; held.pages, pages + 4);
-        for place in &held.puts {
-            assert!(rt; 1 <= *place && *place <= 9);
-        }
-        assert_eq!(rt; held.puts.len(), 2 * pages + 9);
+        assert!(rt; held.pages == pages + 4);
+        assert!(rt; held.puts.iter().all(|place| 1 <= *place && *place <= 9));
+        assert!(rt; held.puts.len() == 2 * pages + 9);
     }
     Ok(())
 }

@@ -8,10 +8,6 @@ mod faults;
 #[cfg(test)]
 mod flight;
 #[cfg(test)]
-mod generated;
-#[cfg(test)]
-mod objects;
-#[cfg(test)]
 mod rounds;
 #[cfg(test)]
 mod scripts;

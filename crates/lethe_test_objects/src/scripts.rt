@@ -1,13 +1,11 @@
 //! Generated changes with a tick behind every tenth, compared with a plain map. Those of an odd seed have erases.
-ghost use Rattle.lethe_core.specs.Running.{IsSound};
-ghost use Rattle.lethe_core.specs.View.{view_of};
+ghost use Rattle.std.specs.Prelude.{◌≤◌};
+ghost use Rattle.lethe_memdisk.specs.Held.{calls_of};
 
-use crate::common::{THRESHOLD, delete, disk_of, erase, key_of, opened, put, tick};
-use crate::objects::held_by;
-use lethe_disk::Disk;
-use lethe_engine::Engine;
+use crate::common::{Store, THRESHOLD};
+use lethe_base::{Key, Value};
+use lethe_images::{Dice, IMAGES, held_by, image_of, roomy_disk, take_calls};
 use lethe_memdisk::MemDisk;
-use lethe_rows::{Dice, IMAGES, image_of, take_calls};
 use std::alloc::Global;
 use std::collections::BTreeMap;
 use std::test::Fail;
@@ -16,14 +14,14 @@ use std::test::Fail;
 const LETTERS: [&str; 5] = ["a", "b", "c", "d", "e"];
 
 /// A put of a plain map.
-#[derive(Clone, Copy, Debug, PartialEq, Eq)]
+#[derive(Clone, Copy)]
 struct Held {
     dkey: u64,
     place: u64,
 }
 
 /// A change of a store.
-#[derive(Debug, Drop)]
+#[derive(Drop)]
 enum Change {
     Put(String, u64),
     Delete(String),
@@ -130,102 +128,88 @@ fn value_at(alloc: Global, place: u64) -> Result<String, Fail> {
     Ok(format!(in alloc; "v{place}")?)
 }
 
+// Whether a delete key and a value that were read are those of the put.
+fn is_told(alloc: Global, held: Held, dkey: u64, value: &Value) -> Result<bool, Fail> {
+    let wanted = value_at(alloc, held.place)?;
+    Ok(dkey == held.dkey && value.bytes() == wanted.as_bytes())
+}
+
 // What the store answers of a key is what the map has.
-fn answers_as<D: Disk>(
+fn answers_as(
     alloc: Global,
-    engine: &mut Engine<D>,
+    store: &mut Store<MemDisk>,
     plain: &Plain,
     key: &String,
-) -> Result<bool, Fail>
-    requires { IsSound D.tells (view_of engine.old.core) }
-    ensures { IsSound D.tells (view_of engine.new.core) }
-{
-    let mut port = engine.new_port(alloc)?;
-    let got = engine.get(alloc, &mut port, &key_of(alloc, key)?)?;
-    match (got, plain.map.get(key)) {
+) -> Result<bool, Fail> {
+    match (store.get(alloc, key)?, plain.map.get(key)) {
         (None, None) => Ok(true),
-        (Some((dkey, value)), Some(held)) => {
-            let wanted = value_at(alloc, held.place)?;
-            Ok(dkey == held.dkey && value.bytes() == wanted.as_bytes())
-        }
+        (Some((dkey, value)), Some(held)) => is_told(alloc, *held, dkey, &value),
         _ => Ok(false),
     }
 }
 
-// A put or a delete of the store and of the map, which answer the same.
-fn take_change<D: Disk>(
+// A put to the store and to the map, which answer the same.
+fn take_put(
     alloc: Global,
-    engine: &mut Engine<D>,
+    store: &mut Store<MemDisk>,
     plain: &mut Plain,
     key: String,
-    dkey: Option<u64>,
-) -> Result<bool, Fail>
-    requires { IsSound D.tells (view_of engine.old.core) }
-    ensures { IsSound D.tells (view_of engine.new.core) }
-{
-    match dkey {
-        Some(dkey) => {
-            let value = value_at(alloc, plain.count().saturating_add(1))?;
-            let place = put(alloc, engine, &key, dkey, &value)?;
-            Ok(place == plain.put(key, dkey)?)
-        }
-        None => {
-            let place = delete(alloc, engine, &key)?;
-            Ok(place == plain.delete(key)?)
-        }
-    }
+    dkey: u64,
+) -> Result<bool, Fail> {
+    let value = value_at(alloc, plain.count().saturating_add(1))?;
+    let place = store.put(alloc, &key, dkey, &value)??;
+    Ok(place == plain.put(key, dkey)?)
+}
+
+// A delete of both.
+fn take_delete(
+    alloc: Global,
+    store: &mut Store<MemDisk>,
+    plain: &mut Plain,
+    key: String,
+) -> Result<bool, Fail> {
+    let place = store.delete(alloc, &key)??;
+    Ok(place == plain.delete(key)?)
 }
 
 // An erase of both, of at most three of the nine delete keys.
-fn take_erase<D: Disk>(
+fn take_erase(
     alloc: Global,
-    engine: &mut Engine<D>,
+    store: &mut Store<MemDisk>,
     plain: &mut Plain,
     dice: &mut Dice,
-) -> Result<bool, Fail>
-    requires { IsSound D.tells (view_of engine.old.core) }
-    ensures { IsSound D.tells (view_of engine.new.core) }
-{
+) -> Result<bool, Fail> {
     let lo = dice.below(9) as u64;
     let hi = lo.saturating_add(dice.below(3) as u64).saturating_add(1);
-    let place = erase(alloc, engine, lo, hi)?;
+    let place = store.erase(alloc, lo, hi)?;
     Ok(place == plain.erase(lo, hi)?)
 }
 
 // A change or a read of the store and of the map, which answer the same.
-fn take_line<D: Disk>(
+fn take_line(
     alloc: Global,
-    engine: &mut Engine<D>,
+    store: &mut Store<MemDisk>,
     plain: &mut Plain,
     dice: &mut Dice,
-) -> Result<bool, Fail>
-    requires { IsSound D.tells (view_of engine.old.core) }
-    ensures { IsSound D.tells (view_of engine.new.core) }
-{
+) -> Result<bool, Fail> {
     let key = dice.key(alloc, &LETTERS)?;
     match dice.below(if plain.erases { 14 } else { 10 }) {
-        0..5 | 10..13 => {
-            let dkey = dice.below(9) as u64;
-            take_change(alloc, engine, plain, key, Some(dkey))
-        }
-        5..8 => take_change(alloc, engine, plain, key, None),
-        8..10 => answers_as(alloc, engine, plain, &key),
-        _ => take_erase(alloc, engine, plain, dice),
+        0..5 | 10..13 => take_put(alloc, store, plain, key, dice.below(9) as u64),
+        5..8 => take_delete(alloc, store, plain, key),
+        8..10 => answers_as(alloc, store, plain, &key),
+        _ => take_erase(alloc, store, plain, dice),
     }
 }
 
 // Ten lines.
-fn take_lines<D: Disk>(
+fn take_lines(
     alloc: Global,
-    engine: &mut Engine<D>,
+    store: &mut Store<MemDisk>,
     plain: &mut Plain,
     dice: &mut Dice,
-) -> Result<(), Fail>
-    requires { IsSound D.tells (view_of engine.old.core) }
-    ensures { IsSound D.tells (view_of engine.new.core) }
-{
+) -> Result<(), Fail> {
     for _ in 0..10 {
-        if !take_line(alloc, engine, plain, dice)? {
+        if !take_line(alloc, store, plain, dice)? {
             return Err(Fail::new("another answer"));
         }
     }
@@ -233,41 +217,31 @@ fn take_lines<D: Disk>(
 }
 
 // Ten lines and a tick.
-fn take_part<D: Disk>(
+fn take_part(
     alloc: Global,
-    engine: &mut Engine<D>,
+    store: &mut Store<MemDisk>,
     plain: &mut Plain,
     dice: &mut Dice,
-) -> Result<(), Fail>
-    requires { IsSound D.tells (view_of engine.old.core) }
-    ensures { IsSound D.tells (view_of engine.new.core) }
-{
-    take_lines(alloc, engine, plain, dice)?;
+) -> Result<(), Fail> {
+    take_lines(alloc, store, plain, dice)?;
     // Ticks that are far apart find erases due in files that weren't merged since.
     let most = if plain.erases { 150 } else { 60 };
     let to = plain.clock.saturating_add(dice.below(most) as u64);
-    let ticked = tick(alloc, engine, to)??;
+    let ticked = store.must_tick(alloc, to)?;
     if ticked.place != plain.tick(to)? || ticked.clock != to {
         return Err(Fail::new("another tick"));
     }
     Ok(())
 }
 
-// Whether a scan of all keys tells what the map has.
-fn scans_as<D: Disk>(alloc: Global, engine: &mut Engine<D>, plain: &Plain) -> Result<bool, Fail>
-    requires { IsSound D.tells (view_of engine.old.core) }
-    ensures { IsSound D.tells (view_of engine.new.core) }
-{
-    let mut port = engine.new_port(alloc)?;
-    let pairs = engine.scan(alloc, &mut port, &key_of(alloc, "a")?, &key_of(alloc, "f")?)?;
+// Whether the pairs of a scan of all keys are what the map has.
+fn are_told(alloc: Global, plain: &Plain, pairs: &[(Key, u64, Value)]) -> Result<bool, Fail> {
     let mut place: usize = 0;
     for (key, held) in plain.map.iter() {
         let Some((other, dkey, value)) = pairs.get(place) else {
             return Ok(false);
         };
-        let wanted = value_at(alloc, held.place)?;
-        let is_same = other.bytes() == key.as_bytes() && value.bytes() == wanted.as_bytes();
-        if !is_same || *dkey != held.dkey {
+        if other.bytes() != key.as_bytes() || !is_told(alloc, *held, *dkey, value)? {
             return Ok(false);
         }
         place = place.saturating_add(1);
@@ -275,44 +249,62 @@ fn scans_as<D: Disk>(alloc: Global, engine: &mut Engine<D>, plain: &Plain) -> Re
     Ok(place == pairs.len())
 }
 
-// One more part over the disk, which is opened and tells what the map has.
+// Fails where a scan of all keys tells something else than the map has.
+fn must_scan_as(alloc: Global, store: &mut Store<MemDisk>, plain: &Plain) -> Result<(), Fail> {
+    let pairs = store.scan(alloc, "a", "f")?;
+    if are_told(alloc, plain, &pairs)? {
+        Ok(())
+    } else {
+        Err(Fail::new("another scan"))
+    }
+}
+
+// One more part over a store that tells what the map has.
+fn take_next_part(
+    alloc: Global,
+    store: &mut Store<MemDisk>,
+    plain: &mut Plain,
+    dice: &mut Dice,
+) -> Result<(), Fail> {
+    must_scan_as(alloc, store, plain)?;
+    take_part(alloc, store, plain, dice)
+}
+
+// The same over the disk, which is opened.
 fn take_opened(
     alloc: Global,
     disk: MemDisk,
     plain: &mut Plain,
     dice: &mut Dice,
 ) -> Result<MemDisk, Fail> {
-    let mut engine = opened(alloc, disk)?;
-    if !scans_as(alloc, &mut engine, plain)? {
-        return Err(Fail::new("another scan"));
-    }
-    take_part(alloc, &mut engine, plain, dice)?;
-    Ok(engine.into_disk())
+    let mut store = Store::opened(alloc, disk)?;
+    let taken = take_next_part(alloc, &mut store, plain, dice);
+    let disk = store.into_disk();
+    taken?;
+    Ok(disk)
 }
 
 // So many parts of the script of a seed, and what the store has to hold behind them.
-fn take_parts<D: Disk>(
+fn take_parts(
     alloc: Global,
-    engine: &mut Engine<D>,
+    store: &mut Store<MemDisk>,
     seed: u64,
     parts: usize,
-) -> Result<Plain, Fail>
-    requires { IsSound D.tells (view_of engine.old.core) }
-    ensures { IsSound D.tells (view_of engine.new.core) }
-{
+) -> Result<Plain, Fail> {
     let mut dice = Dice::new(seed);
     let mut plain = Plain::new(alloc, seed % 2 == 1);
     for _ in 0..parts {
-        take_part(alloc, engine, &mut plain, &mut dice)?;
+        take_part(alloc, store, &mut plain, &mut dice)?;
     }
     Ok(plain)
 }
 
 // The disk behind them.
 fn behind(alloc: Global, seed: u64, parts: usize) -> Result<(MemDisk, Plain), Fail> {
-    let mut engine = opened(alloc, disk_of(alloc, &[])?)?;
-    let plain = take_parts(alloc, &mut engine, seed, parts)?;
-    Ok((engine.into_disk(), plain))
+    let mut store = Store::opened(alloc, roomy_disk(alloc)?)?;
+    let plain = take_parts(alloc, &mut store, seed, parts);
+    let disk = store.into_disk();
+    Ok((disk, plain?))
 }
 
 // Whether no object holds a put that was erased a threshold before a time, or longer ago.
@@ -348,7 +340,7 @@ fn behind_each_tick_no_object_holds_what_was_erased_a_threshold_ago(
 fn is_opened_again(alloc: Global, seed: u64, parts: usize) -> Result<(), Fail> {
     let mut dice = Dice::new(seed);
     let mut plain = Plain::new(alloc, seed % 2 == 1);
-    let mut disk = disk_of(alloc, &[])?;
+    let mut disk = roomy_disk(alloc)?;
     for _ in 0..parts {
         disk = take_opened(alloc, disk, &mut plain, &mut dice)?;
         if !holds_nothing_overdue(alloc, &mut disk, &plain, plain.clock)? {
@@ -368,15 +360,24 @@ fn a_store_that_is_opened_again_and_again_tells_what_the_map_has(
     Ok(())
 }
 
-// The image is opened. What it holds then was not erased a threshold before its clock, which it tells.
-fn image_clock(alloc: Global, image: MemDisk, plain: &Plain) -> Result<u64, Fail> {
-    let engine = opened(alloc, image)?;
-    let clock = engine.stat().clock;
-    let mut disk = engine.into_disk();
-    if !holds_nothing_overdue(alloc, &mut disk, plain, clock)? {
-        return Err(Fail::new("an overdue put"));
+// Opens an image. What it holds then was not erased a threshold before its clock, which is not later than that of the map.
+fn is_image_clean(alloc: Global, image: MemDisk, plain: &Plain) -> Result<bool, Fail> {
+    let store = Store::opened(alloc, image)?;
+    let clock = store.clock();
+    let is_clean = holds_nothing_overdue(alloc, &mut store.into_disk(), plain, clock)?;
+    Ok(is_clean && clock <= plain.clock)
+}
+
+// Opens each image that a crash after so many calls leaves.
+fn are_images_clean(alloc: Global, disk: &MemDisk, plain: &Plain, calls: u64) -> Result<bool, Fail>
+    requires { calls ≤ calls_of disk.now }
+{
+    for image in &IMAGES {
+        if !is_image_clean(alloc, image_of(disk, calls, *image)?, plain)? {
+            return Ok(false);
+        }
     }
-    Ok(clock)
+    Ok(true)
 }
 
 #[test]
@@ -386,10 +387,10 @@ fn no_image_that_is_opened_to_a_tick_holds_an_overdue_put(rt: HostRuntime) -> Re
         let (mut disk, plain) = behind(alloc, seed, 3)?;
         take_calls(alloc, &mut disk, 400)?;
         for calls in 0..400 {
-            for image in &IMAGES {
-                let clock = image_clock(alloc, image_of(&disk, calls, *image)?, &plain)?;
-                assert!(rt; clock <= plain.clock);
-            }
+            assert!(rt;
+                are_images_clean(alloc, &disk, &plain, calls)?,
+                "{calls} calls"
+            );
         }
     }
     Ok(())

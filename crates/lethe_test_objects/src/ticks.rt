@@ -1,20 +1,16 @@
 //! Rows of changes and ticks, and what the disk holds behind them.
-ghost use Rattle.lethe_core.specs.Running.{IsSound};
-ghost use Rattle.lethe_core.specs.View.{view_of};
 
-use crate::common::{Ask, answer, disk_of, opened, tick};
-use crate::objects::held_by;
+use crate::common::{Ask, Store};
 use lethe_base::{Kind, MAX_TIME, Refused};
-use lethe_disk::Disk;
-use lethe_engine::Engine;
+use lethe_engine::Ticked;
+use lethe_images::{Held, held_by, objects_of, roomy_disk};
 use lethe_memdisk::MemDisk;
-use lethe_rows::objects_of;
 use sha2::{Digest, Sha256};
 use std::alloc::Global;
 use std::test::Fail;
 
 /// What is answered.
-#[derive(Clone, Copy, Debug, PartialEq, Eq)]
+#[derive(Clone, Copy, PartialEq, Eq)]
 enum Told {
     Place(u64),
     /// The place, the clock, and of the certificate the number and the time up to which what was erased is gone.
@@ -23,7 +19,6 @@ enum Told {
 }
 
 /// What is left: the places of the puts that objects hold, how many pages there are, the levels of the files, and how many entries have a time.
-#[derive(Clone, Copy, Debug)]
 struct Left {
     puts: &'static [u64],
     pages: usize,
@@ -143,72 +138,93 @@ const ROWS: [Row; 6] = [
 ];
 
 /// Makes the call, and tells what is answered.
-fn told_of<D: Disk>(alloc: Global, engine: &mut Engine<D>, ask: Ask) -> Result<Told, Fail>
-    requires { IsSound D.tells (view_of engine.old.core) }
-    ensures { IsSound D.tells (view_of engine.new.core) }
-{
-    if let Ask::Tick(to) = ask {
-        return match tick(alloc, engine, to)? {
-            Ok(ticked) => Ok(Told::Ticked(
-                ticked.place,
-                ticked.clock,
-                ticked.certificate.map(|is| (is.number, is.before)),
-            )),
-            Err(Refused::Backwards { clock }) => Ok(Told::Backwards(clock)),
-            Err(_) => Err(Fail::new(format_args!("tick {to}"))),
-        };
+fn told_of(alloc: Global, store: &mut Store<MemDisk>, ask: Ask) -> Result<Told, Fail> {
+    let Ask::Tick(to) = ask else {
+        return Ok(Told::Place(store.answer(alloc, ask)??));
+    };
+    match store.tick(alloc, to)? {
+        Ok(ticked) => Ok(Told::Ticked(
+            ticked.place,
+            ticked.clock,
+            ticked.certificate.map(|is| (is.number, is.before)),
+        )),
+        Err(Refused::Backwards { clock }) => Ok(Told::Backwards(clock)),
+        Err(_) => Err(Fail::new("another refusal")),
     }
-    Ok(Told::Place(answer(alloc, engine, ask)??))
 }
 
 /// What is answered to these.
-fn answers<D: Disk>(alloc: Global, engine: &mut Engine<D>, asks: &[Ask]) -> Result<Vec<Told>, Fail>
-    requires { IsSound D.tells (view_of engine.old.core) }
-    ensures { IsSound D.tells (view_of engine.new.core) }
-{
+fn answers(alloc: Global, store: &mut Store<MemDisk>, asks: &[Ask]) -> Result<Vec<Told>, Fail> {
     let mut told = Vec::new(alloc);
     for ask in asks {
-        told.push(told_of(alloc, engine, *ask)?)?;
+        told.push(told_of(alloc, store, *ask)?)?;
     }
     Ok(told)
+}
+
+/// What a new store answers to these, and what its disk holds then.
+fn told_and_held(alloc: Global, asks: &[Ask]) -> Result<(Vec<Told>, Held), Fail> {
+    let mut store = Store::opened(alloc, roomy_disk(alloc)?)?;
+    let told = answers(alloc, &mut store, asks);
+    let mut disk = store.into_disk();
+    Ok((told?, held_by(alloc, &mut disk)?))
+}
+
+fn is_left(left: &Left, held: &Held) -> bool {
+    held.puts.as_slice() == left.puts
+        && held.levels.as_slice() == left.levels
+        && (held.pages, held.timed) == (left.pages, left.timed)
 }
 
 #[test]
 fn ticks_leave_what_may_be_there(rt: HostRuntime) -> Result<(), Fail> {
     let alloc = rt.alloc();
     for row in &ROWS {
-        let mut engine = opened(alloc, disk_of(alloc, &[])?)?;
-        let told = answers(alloc, &mut engine, row.asks)?;
-        assert_eq!(rt; told.as_slice(), row.told);
-        let mut disk = engine.into_disk();
-        let held = held_by(alloc, &mut disk)?;
-        assert_eq!(rt; held.puts.as_slice(), row.left.puts);
-        assert_eq!(rt; held.levels.as_slice(), row.left.levels);
-        assert_eq!(rt; (held.pages, held.timed), (row.left.pages, row.left.timed));
+        let (told, held) = told_and_held(alloc, row.asks)?;
+        assert!(rt; told.as_slice() == row.told);
+        assert!(rt; is_left(&row.left, &held));
     }
     Ok(())
+}
+
+/// Makes two ticks at the threshold, and answers the second. The store has kept the certificates of both.
+fn certify_twice(alloc: Global, store: &mut Store<MemDisk>) -> Result<Ticked, Fail> {
+    let first = store.must_tick(alloc, 100)?;
+    let second = store.must_tick(alloc, 100)?;
+    if store.has_certified(&first, &second) {
+        Ok(second)
+    } else {
+        Err(Fail::new("other certificates"))
+    }
+}
+
+/// The same over a new store, with its disk behind them.
+fn certified_twice(alloc: Global) -> Result<(Ticked, MemDisk), Fail> {
+    let mut store = Store::opened(alloc, roomy_disk(alloc)?)?;
+    let second = certify_twice(alloc, &mut store);
+    let disk = store.into_disk();
+    Ok((second?, disk))
 }
 
 /// The digest of the manifest that counts, and how many certificates the store has kept.
 #[test]
 fn a_certificate_has_the_digest_of_the_manifest(rt: HostRuntime) -> Result<(), Fail> {
-    let alloc = rt.alloc();
-    let mut engine = opened(alloc, disk_of(alloc, &[])?)?;
-    let first = tick(alloc, &mut engine, 100)??
-        .certificate
-        .ok_or("a certificate")?;
-    let second = tick(alloc, &mut engine, 100)??
-        .certificate
-        .ok_or("a certificate")?;
-    assert_eq!(rt; engine.certificates(), [first, second].as_slice());
-    assert_eq!(rt; (second.number, second.clock, second.before), (2, 100, 0));
-    let mut disk = engine.into_disk();
-    let manifests = manifests_of(alloc, &mut disk)?;
-    assert_eq!(rt; manifests.len(), 1);
-    let mut hasher = Sha256::new();
-    hasher.update(&manifests[0]);
-    assert_eq!(rt; hasher.finalize(), second.digest);
+    let (ticked, mut disk) = certified_twice(rt.alloc())?;
+    let certificate = ticked.certificate.ok_or("a certificate")?;
+    assert!(rt; (certificate.number, certificate.clock, certificate.before) == (2, 100, 0));
+    assert!(rt; manifest_digest(rt.alloc(), &mut disk)? == certificate.digest);
     Ok(())
+}
+
+/// The digest of the one manifest.
+fn manifest_digest(alloc: Global, disk: &mut MemDisk) -> Result<[u8; 32], Fail> {
+    let manifests = manifests_of(alloc, disk)?;
+    let [bytes] = manifests.as_slice() else {
+        return Err(Fail::new("one manifest"));
+    };
+    let mut hasher = Sha256::new();
+    hasher.update(bytes);
+    Ok(hasher.finalize())
 }
 
 /// The bytes of the manifests.

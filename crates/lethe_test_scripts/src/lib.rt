@@ -10,6 +10,8 @@ mod options;
 #[cfg(test)]
 mod phases;
 #[cfg(test)]
+mod pins;
+#[cfg(test)]
 mod refusals;
 #[cfg(test)]
 mod scripts;

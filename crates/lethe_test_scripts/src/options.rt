@@ -1,6 +1,7 @@
 //! The words of a run: which configuration they ask for.
 
-use lethe_rows::{SMALL, answered, answered_for, answered_small, disk_of, text_of};
+use lethe_images::disk_of;
+use lethe_rows::{SMALL, answered, answered_for, answered_small, text_of};
 use std::test::Fail;
 
 /// Words, and the configuration of a store that they make.

@@ -1,7 +1,8 @@
 //! When the text of a phase is printed.
 
 use crate::counting::{Calls, CountingDisk, NotingSink};
-use lethe_rows::{Printed, SMALL, disk_of};
+use lethe_images::disk_of;
+use lethe_rows::{Printed, SMALL};
 use lethe_run::run;
 use lethe_wire::{MemSink, MemSource};
 use std::alloc::Global;

@@ -1,8 +1,9 @@
 //! Ticks and their certificates.
 
 use lethe_base::Kind;
+use lethe_images::{disk_of, objects_of};
 use lethe_memdisk::MemDisk;
-use lethe_rows::{SMALL, disk_of, objects_of, run_over};
+use lethe_rows::{SMALL, run_over};
 use sha2::{Digest, Sha256};
 use std::alloc::Global;
 use std::test::Fail;
@@ -13,7 +14,7 @@ type Row = (&'static str, &'static str, bool);
 /// The put of the key `a` with the delete key 5 and the value `x`, as it stands in a segment or a page.
 const PUT: &[u8] = b"\x01a\0\0\0\0\0\0\0\x05\0\x01x";
 
-const ROWS: [Row; 14] = [
+const ROWS: [Row; 16] = [
     (
         "1 put a 5 x\n1 del a\n1 tick 99\n1 get a\n1 tick 100\n",
         "1 ok 1\n1 ok 2\n1 ok 3 clock 99\n1 at 3 none\n1 ok 4 clock 100 cert 1 before 0 sha256 H\n",
@@ -79,6 +80,18 @@ const ROWS: [Row; 14] = [
         "1 put a 5 x\n1 put b 1 x\n1 put c 1 x\n1 put d 1 x\n1 put e 1 x\n1 put f 1 x\n1 put g 1 x\n1 put h 1 x\n1 put i 1 x\n1 erase 1 2\n1 tick 100\n1 scan a z\n1 stat\n",
         "1 ok 1\n1 ok 2\n1 ok 3\n1 ok 4\n1 ok 5\n1 ok 6\n1 ok 7\n1 ok 8\n1 ok 9\n1 ok 10\n1 ok 11 clock 100 cert 1 before 0 sha256 H\n1 at 11 scan 1 a 5 x\n1 at 11 stat clock 100 pins 0 pending 0 files 1 tombs 0\n",
         true,
+    ),
+    // A tick to the limit of a pin isn't made while the pin is held.
+    (
+        "1 put a 5 x\n1 pin 0\n1 del a\n1 tick 100\n1 pget 0 a\n1 unpin 0\n1 tick 100\n",
+        "1 ok 1\n1 at 1 pin 1 limit 100\n1 ok 2\n1 pinned 1 limit 100\n1 pin 1 at 1 val 5 x\n1 at 2 unpin 1\n1 ok 3 clock 100 cert 1 before 0 sha256 H\n",
+        false,
+    ),
+    // The limit is a threshold behind the delete, and not behind the clock.
+    (
+        "1 put a 5 x\n1 tick 10\n1 del a\n1 tick 40\n1 pin 0\n1 tick 109\n1 tick 110\n",
+        "1 ok 1\n1 ok 2 clock 10\n1 ok 3\n1 ok 4 clock 40\n1 at 4 pin 1 limit 110\n1 ok 5 clock 109 cert 1 before 9 sha256 H\n1 pinned 1 limit 110\n",
+        false,
     ),
     // The least and the greatest time.
     ("1 tick 0\n", "1 ok 1 clock 0\n", false),

@@ -1,10 +1,9 @@
 //! Disks that a run doesn't open, or where numbers run out, and runs that leave their disk untouched.
 
 use lethe_base::Kind;
+use lethe_images::{add, disk_of, names_of, objects_of};
 use lethe_memdisk::MemDisk;
-use lethe_rows::{
-    add, answered, bytes_of, disk_of, filled, names_of, objects_of, open_small, run_over,
-};
+use lethe_rows::{answered, bytes_of, filled, open_small, run_over};
 use std::alloc::Global;
 use std::test::Fail;
 

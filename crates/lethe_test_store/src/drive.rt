@@ -3,8 +3,8 @@ ghost use Rattle.std.specs.Prelude.{IfOk};
 ghost use Rattle.lethe_core.specs.Running.{IsSound};
 ghost use Rattle.lethe_core.specs.View.{view_of};
 
-use crate::common::{key_of, opened};
-use lethe_base::{Range, Refused, Value};
+use crate::common::{empty_disk, key_of, opened, value_of};
+use lethe_base::{Kind, Range, Refused};
 use lethe_disk::Disk;
 use lethe_drive::{Event, Reply, Time, drive};
 use lethe_engine::Engine;
@@ -27,6 +27,8 @@ enum Ask {
     WriteOut(usize),
     Install(usize),
     Cancel(usize),
+    Pin,
+    Release(u64),
 }
 
 /// What is told of a reply: of a value its delete key alone, and of pairs how many there are.
@@ -39,6 +41,7 @@ enum Told {
     Pairs(usize),
     Flag(bool),
     Job(usize),
+    Pinned(u64),
     Unit,
     Refused(Refused),
     NoSuch,
@@ -75,13 +78,24 @@ const FILES_TOLD: [Told; 12] = [
     Told::Flag(true),
 ];
 
+fn put_of(alloc: Global, text: &str) -> Result<Event, Fail> {
+    Ok(Event::Put {
+        key: key_of(alloc, text)?,
+        dkey: 7,
+        value: value_of(alloc, text)?,
+    })
+}
+
+fn scan_of(alloc: Global, lo: &str, hi: &str) -> Result<Event, Fail> {
+    Ok(Event::Scan {
+        lo: key_of(alloc, lo)?,
+        hi: key_of(alloc, hi)?,
+    })
+}
+
 fn event_of(alloc: Global, ask: Ask) -> Result<Event, Fail> {
     Ok(match ask {
-        Ask::Put(text) => Event::Put {
-            key: key_of(alloc, text)?,
-            dkey: 7,
-            value: Value::new(text.as_bytes().to_vec(alloc)?)?,
-        },
+        Ask::Put(text) => put_of(alloc, text)?,
         Ask::Delete(text) => Event::Delete {
             key: key_of(alloc, text)?,
         },
@@ -94,16 +108,15 @@ fn event_of(alloc: Global, ask: Ask) -> Result<Event, Fail> {
         Ask::Get(text) => Event::Get {
             key: key_of(alloc, text)?,
         },
-        Ask::Scan(lo, hi) => Event::Scan {
-            lo: key_of(alloc, lo)?,
-            hi: key_of(alloc, hi)?,
-        },
+        Ask::Scan(lo, hi) => scan_of(alloc, lo, hi)?,
         Ask::Freeze => Event::Freeze,
         Ask::Flush => Event::Flush,
         Ask::Begin => Event::Begin,
         Ask::WriteOut(job) => Event::WriteOut { job },
         Ask::Install(job) => Event::Install { job },
         Ask::Cancel(job) => Event::Cancel { job },
+        Ask::Pin => Event::Pin,
+        Ask::Release(pin) => Event::Release { pin },
     })
 }
 
@@ -116,10 +129,41 @@ fn told_of(reply: &Reply) -> Told {
         Reply::Pairs(pairs) => Told::Pairs(pairs.items().len()),
         Reply::Flag(flag) => Told::Flag(*flag),
         Reply::Job(job) => Told::Job(*job),
+        Reply::Pinned(pin) => Told::Pinned(*pin),
         Reply::Unit => Told::Unit,
         Reply::Refused(why) => Told::Refused(*why),
         Reply::NoSuch => Told::NoSuch,
     }
+}
+
+fn events_of(alloc: Global, asks: &[Ask]) -> Result<Vec<Event>, Fail> {
+    let mut events = Vec::new(alloc);
+    for ask in asks {
+        events.push(event_of(alloc, *ask)?)?;
+    }
+    Ok(events)
+}
+
+/// Drives the store through the events.
+fn replies_to<D: Disk>(
+    alloc: Global,
+    engine: &mut Engine<D>,
+    asks: &[Ask],
+) -> Result<Vec<Reply>, Fail>
+    requires { IsSound D.tells (view_of engine.old.core) }
+    ensures { IsSound D.tells (view_of engine.new.core) }
+{
+    let events = events_of(alloc, asks)?;
+    let mut port = engine.new_port(alloc)?;
+    Ok(drive(engine, alloc, &mut port, events)?)
+}
+
+fn are_told(replies: &[Reply], told: &[Told]) -> bool {
+    replies.len() == told.len()
+        && replies
+            .iter()
+            .zip(told)
+            .all(|(reply, told)| told_of(reply) == *told)
 }
 
 /// Drives the store through the events, and tells whether the replies are these.
@@ -132,28 +176,8 @@ fn answers_so<D: Disk>(
     requires { IsSound D.tells (view_of engine.old.core) }
     ensures { IsSound D.tells (view_of engine.new.core) }
 {
-    let mut events = Vec::new(alloc);
-    for ask in asks {
-        events.push(event_of(alloc, *ask)?)?;
-    }
-    let mut port = engine.new_port(alloc)?;
-    let replies = drive(engine, alloc, &mut port, events)?;
-    let mut said = Vec::new(alloc);
-    for reply in &replies {
-        said.push(told_of(reply))?;
-    }
-    Ok(said.as_slice() == told)
-}
-
-/// A store of two files of level 0.
-fn two_files<D: Disk>(alloc: Global, disk: D) -> Result<Engine<D>, Fail>
-    ensures { IfOk result (λ engine. IsSound D.tells (view_of engine.core)) }
-{
-    let mut engine = opened(alloc, disk)?;
-    if !answers_so(alloc, &mut engine, &FILES, &FILES_TOLD)? || engine.stat().files != 2 {
-        return Err(Fail::new("two files"));
-    }
-    Ok(engine)
+    let replies = replies_to(alloc, engine, asks)?;
+    Ok(are_told(&replies, told))
 }
 
 /// The events of a run, its replies, and how many files there are behind it.
@@ -172,10 +196,24 @@ fn answer_all<D: Disk>(alloc: Global, engine: &mut Engine<D>, runs: &[Run]) -> R
     Ok(())
 }
 
+/// A store of two files of level 0.
+fn two_files<D: Disk>(alloc: Global, disk: D) -> Result<Engine<D>, Fail>
+    ensures { IfOk result (λ engine. IsSound D.tells (view_of engine.core)) }
+{
+    let mut engine = opened(alloc, disk)?;
+    answer_all(alloc, &mut engine, &[(&FILES, &FILES_TOLD, 2)])?;
+    Ok(engine)
+}
+
 /// Carries the runs out over a store of two files.
 fn run_over_two_files<D: Disk>(alloc: Global, disk: D, runs: &[Run]) -> Result<(), Fail> {
     let mut engine = two_files(alloc, disk)?;
     answer_all(alloc, &mut engine, runs)
+}
+
+/// Carries the runs out over a store of two files on a disk that doesn't fail.
+fn run_in_memory(alloc: Global, runs: &[Run]) -> Result<(), Fail> {
+    run_over_two_files(alloc, empty_disk(alloc)?, runs)
 }
 
 const MERGE: [Ask; 15] = [
@@ -216,9 +254,7 @@ const MERGE_TOLD: [Told; 15] = [
 
 #[test]
 fn a_job_merges_two_files(rt: HostRuntime) -> Result<(), Fail> {
-    let alloc = rt.alloc();
-    let disk = MemDisk::new(alloc, 1000, Vec::new(alloc))?;
-    run_over_two_files(alloc, disk, &[(&MERGE, &MERGE_TOLD, 1)])
+    run_in_memory(rt.alloc(), &[(&MERGE, &MERGE_TOLD, 1)])
 }
 
 const TICKS: [Ask; 6] = [
@@ -241,9 +277,7 @@ const TICKS_TOLD: [Told; 6] = [
 
 #[test]
 fn a_tick_takes_a_place(rt: HostRuntime) -> Result<(), Fail> {
-    let alloc = rt.alloc();
-    let disk = MemDisk::new(alloc, 1000, Vec::new(alloc))?;
-    run_over_two_files(alloc, disk, &[(&TICKS, &TICKS_TOLD, 1)])
+    run_in_memory(rt.alloc(), &[(&TICKS, &TICKS_TOLD, 1)])
 }
 
 /// A job that was begun before an erase doesn't apply it. The tick a threshold later sweeps the file that it made, of which nothing is left.
@@ -277,9 +311,7 @@ const ERASED_TOLD: [Told; 11] = [
 
 #[test]
 fn a_job_keeps_the_erases_of_its_begin(rt: HostRuntime) -> Result<(), Fail> {
-    let alloc = rt.alloc();
-    let disk = MemDisk::new(alloc, 1000, Vec::new(alloc))?;
-    run_over_two_files(alloc, disk, &[(&ERASED, &ERASED_TOLD, 0)])
+    run_in_memory(rt.alloc(), &[(&ERASED, &ERASED_TOLD, 0)])
 }
 
 const ENDS: [Ask; 11] = [
@@ -318,11 +350,8 @@ const WHOLE_TOLD: [Told; 2] = [Told::Job(0), Told::Unit];
 
 #[test]
 fn a_job_is_there_until_it_ends(rt: HostRuntime) -> Result<(), Fail> {
-    let alloc = rt.alloc();
-    let disk = MemDisk::new(alloc, 1000, Vec::new(alloc))?;
-    run_over_two_files(
-        alloc,
-        disk,
+    run_in_memory(
+        rt.alloc(),
         &[(&ENDS, &ENDS_TOLD, 2), (&WHOLE, &WHOLE_TOLD, 1)],
     )
 }
@@ -354,8 +383,103 @@ const REFUSED_TOLD: [Told; 8] = [
 #[test]
 fn a_job_that_was_refused_can_only_be_given_up(rt: HostRuntime) -> Result<(), Fail> {
     let alloc = rt.alloc();
-    let disk = MemDisk::new(alloc, 1000, Vec::new(alloc))?;
     // The first fetch of each port fails.
-    let flaky = FlakyDisk::new(disk, vec![in alloc; 1]?);
+    let flaky = FlakyDisk::new(empty_disk(alloc)?, vec![in alloc; 1]?);
     run_over_two_files(alloc, flaky, &[(&REFUSED, &REFUSED_TOLD, 2)])
+}
+
+/// While a pin is held no tick reaches its limit, and of two pins of one limit the first is told.
+const PINS: [Ask; 13] = [
+    Ask::Release(1),
+    Ask::Pin,
+    Ask::Pin,
+    Ask::Delete("a"),
+    Ask::Tick(99),
+    Ask::Tick(100),
+    Ask::Release(1),
+    Ask::Release(1),
+    Ask::Tick(100),
+    Ask::Release(2),
+    Ask::Tick(100),
+    Ask::Get("a"),
+    Ask::Pin,
+];
+
+const PINS_TOLD: [Told; 13] = [
+    Told::NoSuch,
+    Told::Pinned(1),
+    Told::Pinned(2),
+    Told::Place(9),
+    Told::Ticked(10, 99),
+    Told::Refused(Refused::Pinned { pin: 1, limit: 100 }),
+    Told::Unit,
+    Told::NoSuch,
+    Told::Refused(Refused::Pinned { pin: 2, limit: 100 }),
+    Told::Unit,
+    Told::Ticked(11, 100),
+    Told::Found(None),
+    Told::Pinned(3),
+];
+
+/// The pin that was left at the end of the run before is held no more, and is no pin of this run.
+const LATER: [Ask; 3] = [Ask::Release(3), Ask::Tick(300), Ask::Pin];
+
+const LATER_TOLD: [Told; 3] = [Told::NoSuch, Told::Ticked(12, 300), Told::Pinned(4)];
+
+#[test]
+fn a_pin_is_held_until_it_is_let_go_or_the_run_ends(rt: HostRuntime) -> Result<(), Fail> {
+    run_in_memory(
+        rt.alloc(),
+        &[(&PINS, &PINS_TOLD, 1), (&LATER, &LATER_TOLD, 1)],
+    )
+}
+
+/// The pages of two files that a job merges stay while a pin is held that names them.
+const KEPT: [Ask; 6] = [
+    Ask::Pin,
+    Ask::Begin,
+    Ask::Install(0),
+    Ask::Get("a"),
+    Ask::Tick(99),
+    Ask::Tick(100),
+];
+
+const KEPT_TOLD: [Told; 6] = [
+    Told::Pinned(1),
+    Told::Job(0),
+    Told::Unit,
+    Told::Found(Some(7)),
+    Told::Ticked(9, 99),
+    Told::Refused(Refused::Pinned { pin: 1, limit: 100 }),
+];
+
+const FREED: [Ask; 1] = [Ask::Tick(100)];
+
+const FREED_TOLD: [Told; 1] = [Told::Ticked(10, 100)];
+
+fn count_pages(alloc: Global, mut disk: MemDisk) -> Result<usize, Fail> {
+    let names = disk.names(alloc)?;
+    Ok(names.iter().filter(|name| name.kind == Kind::Page).count())
+}
+
+/// How many pages there are behind these runs over two files.
+fn pages_behind(alloc: Global, runs: &[Run]) -> Result<usize, Fail> {
+    let mut engine = two_files(alloc, empty_disk(alloc)?)?;
+    answer_all(alloc, &mut engine, runs)?;
+    count_pages(alloc, engine.into_disk())
+}
+
+/// Runs, and how many pages there are behind them.
+const PAGES: [(&[Run], usize); 3] = [
+    (&[], 4),
+    (&[(&KEPT, &KEPT_TOLD, 1)], 8),
+    (&[(&KEPT, &KEPT_TOLD, 1), (&FREED, &FREED_TOLD, 1)], 4),
+];
+
+#[test]
+fn a_pin_of_a_run_keeps_pages_until_a_tick_behind_it(rt: HostRuntime) -> Result<(), Fail> {
+    for (runs, pages) in PAGES {
+        assert!(rt; pages_behind(rt.alloc(), runs)? == pages, "{pages} pages");
+    }
+    Ok(())
 }

@@ -3,11 +3,9 @@ ghost use Rattle.std.specs.Prelude.{IfOk};
 ghost use Rattle.lethe_core.specs.Running.{IsSound};
 ghost use Rattle.lethe_core.specs.View.{view_of};
 
-use crate::common::{key_of, opened};
-use lethe_base::Value;
+use crate::common::{empty_disk, key_of, opened, value_of};
 use lethe_disk::Disk;
 use lethe_engine::{Engine, Stat};
-use lethe_memdisk::MemDisk;
 use std::alloc::Global;
 use std::test::Fail;
 
@@ -42,7 +40,7 @@ fn put<D: Disk>(alloc: Global, engine: &mut Engine<D>, text: &str, dkey: u64) ->
     ensures { IsSound D.tells (view_of engine.new.core) }
 {
     let key = key_of(alloc, text)?;
-    let value = Value::new(text.as_bytes().to_vec(alloc)?)?;
+    let value = value_of(alloc, text)?;
     let mut port = engine.new_port(alloc)?;
     Ok(engine.put(alloc, &mut port, key, dkey, value)?)
 }
@@ -95,22 +93,18 @@ fn got<D: Disk>(
     }
 }
 
-/// The delete keys of the keys in the range.
-fn listed<D: Disk>(
+/// Whether the keys in the range have these delete keys.
+fn lists<D: Disk>(
     alloc: Global,
     engine: &Engine<D>,
     port: &mut D::Port,
-    lo: &str,
-    hi: &str,
-) -> Result<Vec<u64>, Fail> {
-    let lo = key_of(alloc, lo)?;
-    let hi = key_of(alloc, hi)?;
+    range: (&str, &str),
+    dkeys: &[u64],
+) -> Result<bool, Fail> {
+    let lo = key_of(alloc, range.0)?;
+    let hi = key_of(alloc, range.1)?;
     let pairs = engine.scan(alloc, port, &lo, &hi)?;
-    let mut dkeys = Vec::new(alloc);
-    for (_, dkey, _) in &pairs {
-        dkeys.push(*dkey)?;
-    }
-    Ok(dkeys)
+    Ok(pairs.len() == dkeys.len() && pairs.iter().zip(dkeys).all(|(pair, dkey)| pair.1 == *dkey))
 }
 
 /// Whether reads find what the steps left.
@@ -121,8 +115,8 @@ fn is_read<D: Disk>(alloc: Global, engine: &mut Engine<D>) -> Result<bool, Fail>
     let mut port = engine.new_port(alloc)?;
     let gone = got(alloc, engine, &mut port, "a")?;
     let there = got(alloc, engine, &mut port, "b")?;
-    let dkeys = listed(alloc, engine, &mut port, "b", "d")?;
-    Ok(gone.is_none() && there == Some(15) && dkeys.as_slice() == [15, 12].as_slice())
+    let listed = lists(alloc, engine, &mut port, ("b", "d"), &[15, 12])?;
+    Ok(gone.is_none() && there == Some(15) && listed)
 }
 
 /// A store behind the steps.
@@ -155,8 +149,8 @@ fn read_again<D: Disk>(alloc: Global, disk: D) -> Result<u64, Fail> {
 #[test]
 fn calls_are_answered_also_once_it_is_opened_again(rt: HostRuntime) -> Result<(), Fail> {
     let alloc = rt.alloc();
-    let disk = read_disk(alloc, MemDisk::new(alloc, 1000, Vec::new(alloc))?)?;
-    assert_eq!(rt; read_again(alloc, disk)?, 6);
+    let disk = read_disk(alloc, empty_disk(alloc)?)?;
+    assert!(rt; read_again(alloc, disk)? == 6);
     Ok(())
 }
 
@@ -171,9 +165,9 @@ fn told_twice<D: Disk>(alloc: Global, disk: D) -> Result<(Stat, Stat), Fail> {
 #[test]
 fn a_store_tells_of_its_files(rt: HostRuntime) -> Result<(), Fail> {
     let alloc = rt.alloc();
-    let (before, after) = told_twice(alloc, MemDisk::new(alloc, 1000, Vec::new(alloc))?)?;
-    assert_eq!(rt; (before.files, before.tombs), (1, 0));
-    assert_eq!(rt; (after.files, after.tombs), (3, 1));
-    assert_eq!(rt; (after.clock, after.pins, after.pending), (0, 0, 0));
+    let (before, after) = told_twice(alloc, empty_disk(alloc)?)?;
+    assert!(rt; (before.files, before.tombs) == (1, 0));
+    assert!(rt; (after.files, after.tombs) == (3, 1));
+    assert!(rt; (after.clock, after.pins, after.pending) == (0, 0, 0));
     Ok(())
 }

@@ -1,8 +1,8 @@
 //! The time of each level, and which merge is picked.
 
-use crate::common::{SMALL, config_of, key_of};
+use crate::common::{SMALL, config_of, key_of, picked};
 use lethe_base::{Fields, FileFacts, List, Pick, Shape};
-use lethe_fade::{Claim, Plan, cum, pick, pick_due};
+use lethe_fade::{Claim, cum};
 use std::alloc::Global;
 use std::test::Fail;
 
@@ -56,27 +56,32 @@ fn claims_of(alloc: Global, rows: &[ClaimRow]) -> Result<Vec<Claim>, Fail> {
     Ok(claims)
 }
 
-fn chosen(shape: &Shape, order: Pick, claims: &[Claim]) -> Result<Option<Plan>, Fail> {
-    let config = config_of(Fields {
-        pick: order,
-        ..SMALL
-    })?;
-    if shape.levels.items().len() as u64 != config.fields().levels + 1 {
-        return Err(Fail::from("a list for each level"));
-    }
-    Ok(pick(shape, &config, 0, claims))
+/// The files that `pick` and `pick_due` name at a clock, where the claims stand.
+fn named(
+    alloc: Global,
+    fields: Fields,
+    rows: &[Row],
+    claimed: &[ClaimRow],
+    clock: u64,
+) -> Result<(Option<u64>, Option<u64>), Fail> {
+    let shape = shape_of(alloc, rows)?;
+    let claims = claims_of(alloc, claimed)?;
+    let (picked, due) = picked(&shape, fields, &claims, clock)?;
+    Ok((picked.map(|named| named.0), due.map(|named| named.0)))
 }
 
-/// The file that is picked from levels 0 to 2, where the claims stand.
-fn picked(
+/// The file that is picked where nothing is expired.
+fn merged(
     alloc: Global,
     order: Pick,
     rows: &[Row],
     claimed: &[ClaimRow],
 ) -> Result<Option<u64>, Fail> {
-    let shape = shape_of(alloc, rows)?;
-    let claims = claims_of(alloc, claimed)?;
-    Ok(chosen(&shape, order, &claims)?.map(|plan| plan.file))
+    let fields = Fields {
+        pick: order,
+        ..SMALL
+    };
+    Ok(named(alloc, fields, rows, claimed, 0)?.0)
 }
 
 /// The time of each level of a configuration, from level 0 on.
@@ -92,9 +97,9 @@ fn times_of(alloc: Global, fields: Fields) -> Result<Vec<u64>, Fail> {
 #[test]
 fn the_time_of_a_level_is_its_part_of_the_threshold(rt: HostRuntime) -> Result<(), Fail> {
     let default = times_of(rt.alloc(), Fields::default())?;
-    assert_eq!(rt; default.as_slice(), [47, 238, 1000].as_slice());
+    assert!(rt; default.as_slice() == [47, 238, 1000].as_slice());
     let small = times_of(rt.alloc(), SMALL)?;
-    assert_eq!(rt; small.as_slice(), [33, 100].as_slice());
+    assert!(rt; small.as_slice() == [33, 100].as_slice());
     Ok(())
 }
 
@@ -125,8 +130,8 @@ const PICKS: [(Pick, &[Row], &[ClaimRow], Option<u64>); 9] = [
 #[test]
 fn level_0_is_merged_from_as_many_files_as_the_ratio(rt: HostRuntime) -> Result<(), Fail> {
     for (order, files, claims, file) in PICKS {
-        let got = picked(rt.alloc(), order, files, claims)?;
-        assert_eq!(rt; got, file, "{order:?} {claims:?}");
+        let got = merged(rt.alloc(), order, files, claims)?;
+        assert!(rt; got == file, "{order:?} {claims:?}");
     }
     Ok(())
 }
@@ -148,8 +153,8 @@ fn a_deeper_level_is_saturated_by_its_entries(rt: HostRuntime) -> Result<(), Fai
             (1, 4, "d", "f", None, 0, second),
             (2, 1, "f", "h", None, 0, deepest),
         ];
-        let got = picked(rt.alloc(), Pick::So, &files, &[])?;
-        assert_eq!(rt; got, file, "{first} {second} {deepest}");
+        let got = merged(rt.alloc(), Pick::So, &files, &[])?;
+        assert!(rt; got == file, "{first} {second} {deepest}");
     }
     Ok(())
 }
@@ -181,11 +186,10 @@ fn files_of(first: Candidate, second: Candidate) -> [Row; 4] {
 fn files_are_merged_in_the_order_of_the_configuration(rt: HostRuntime) -> Result<(), Fail> {
     for (first, second, so, sd) in ORDERS {
         let files = files_of(first, second);
-        let by_so = picked(rt.alloc(), Pick::So, &files, &[])?;
-        let by_sd = picked(rt.alloc(), Pick::Sd, &files, &[])?;
-        assert_eq!(rt;
-            (by_so, by_sd),
-            (Some(so), Some(sd)),
+        let by_so = merged(rt.alloc(), Pick::So, &files, &[])?;
+        let by_sd = merged(rt.alloc(), Pick::Sd, &files, &[])?;
+        assert!(rt;
+            (by_so, by_sd) == (Some(so), Some(sd)),
             "{first:?} {second:?}"
         );
     }
@@ -215,8 +219,8 @@ const CLAIMED: [(&[ClaimRow], Option<u64>); 6] = [
 #[test]
 fn a_claim_in_the_way_leaves_the_next_candidate(rt: HostRuntime) -> Result<(), Fail> {
     for (claims, file) in CLAIMED {
-        let got = picked(rt.alloc(), Pick::So, &CANDIDATES, claims)?;
-        assert_eq!(rt; got, file, "{claims:?}");
+        let got = merged(rt.alloc(), Pick::So, &CANDIDATES, claims)?;
+        assert!(rt; got == file, "{claims:?}");
     }
     Ok(())
 }
@@ -276,30 +280,12 @@ const AGES: [(u64, &[Row], u64, Option<u64>, Option<u64>); 20] = [
     (100, &WHOLE, 43, Some(8), Some(8)),
 ];
 
-/// The files that `pick` and `pick_due` name at a clock.
-fn named(
-    alloc: Global,
-    threshold: u64,
-    rows: &[Row],
-    claimed: &[ClaimRow],
-    clock: u64,
-) -> Result<(Option<u64>, Option<u64>), Fail> {
-    let config = config_of(Fields { threshold, ..SMALL })?;
-    let shape = shape_of(alloc, rows)?;
-    if shape.levels.items().len() as u64 != config.fields().levels + 1 {
-        return Err(Fail::from("a list for each level"));
-    }
-    let claims = claims_of(alloc, claimed)?;
-    let picked = pick(&shape, &config, clock, &claims).map(|plan| plan.file);
-    let due = pick_due(&shape, &config, clock).map(|plan| plan.file);
-    Ok((picked, due))
-}
-
 #[test]
 fn a_file_is_due_when_the_time_of_its_level_is_over(rt: HostRuntime) -> Result<(), Fail> {
     for (threshold, files, clock, picked, due) in AGES {
-        let got = named(rt.alloc(), threshold, files, &[], clock)?;
-        assert_eq!(rt; got, (picked, due), "{threshold} {files:?} {clock}");
+        let fields = Fields { threshold, ..SMALL };
+        let got = named(rt.alloc(), fields, files, &[], clock)?;
+        assert!(rt; got == (picked, due), "{threshold} {files:?} {clock}");
     }
     Ok(())
 }
@@ -319,10 +305,9 @@ fn expired_files_come_by_time_then_tombstones_then_number(rt: HostRuntime) -> Re
                 (level, first.0, "a", "c", Some(first.1), first.2, 8),
                 (level, second.0, "d", "f", Some(second.1), second.2, 4),
             ];
-            let got = named(rt.alloc(), 100, &files, &[], 1000)?;
-            assert_eq!(rt;
-                got,
-                (Some(file), Some(file)),
+            let got = named(rt.alloc(), SMALL, &files, &[], 1000)?;
+            assert!(rt;
+                got == (Some(file), Some(file)),
                 "{level} {first:?} {second:?}"
             );
         }
@@ -349,8 +334,8 @@ const STANDING: [(&[ClaimRow], Option<u64>); 4] = [
 #[test]
 fn claims_hold_back_what_is_picked_but_not_what_is_due(rt: HostRuntime) -> Result<(), Fail> {
     for (claims, picked) in STANDING {
-        let got = named(rt.alloc(), 100, &EXPIRED, claims, 1000)?;
-        assert_eq!(rt; got, (picked, Some(6)), "{claims:?}");
+        let got = named(rt.alloc(), SMALL, &EXPIRED, claims, 1000)?;
+        assert!(rt; got == (picked, Some(6)), "{claims:?}");
     }
     Ok(())
 }

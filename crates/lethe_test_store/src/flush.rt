@@ -1,4 +1,6 @@
 //! What a buffer becomes: files, their objects, and the erases that are pending.
+ghost use Rattle.std.specs.Prelude.{◌≤◌, length, All, IfOk};
+ghost use Rattle.lethe_base.specs.Spelling.{HasSpelling};
 
 use crate::common::{SMALL, config_of};
 use lethe_base::{Kind, List, Pending, Range};
@@ -38,13 +40,21 @@ const FILE: [u8; 182] =
 const DIGEST: [u8; 32] =
     *b"\x05u`\xed\x9d\x14\x80{\xc1\xd1a$\x80\xd7\xd2\x83v\x1d\x7f=\xca\xdb\x80%\xd8\xd5\x93\xc9\xd8\xa9\xc0\x06";
 
-/// What is made of the records of a segment where one erase of a range of delete keys is pending, at place 9 and time 40.
-fn flush_row(alloc: Global, segment: &[u8], erased: Range, alone: bool) -> Result<MadeFiles, Fail> {
+/// The newest entries of the records of a segment.
+fn buffer_of(alloc: Global, segment: &[u8]) -> Result<VecBuffer, Fail>
+    ensures spelled { IfOk result (λ buffer. All HasSpelling buffer.entries) }
+    ensures few { IfOk result (λ buffer. length buffer.entries ≤ 10) }
+{
     let records = replay(alloc, segment).map_err(|_| "no records")?;
     if records.len() > 10 {
         return Err(Fail::new("too many records"));
     }
-    let buffer = newest_of(alloc, List::of(records))?;
+    Ok(newest_of(alloc, List::of(records))?)
+}
+
+/// What is made of the records of a segment where one erase of a range of delete keys is pending, at place 9 and time 40.
+fn flush_row(alloc: Global, segment: &[u8], erased: Range, alone: bool) -> Result<MadeFiles, Fail> {
+    let buffer = buffer_of(alloc, segment)?;
     let erases = [Pending {
         seq: 9,
         time: 40,
@@ -62,8 +72,8 @@ fn check_cited(rt: &impl Abort, cited: &[Cited]) -> Result<(), Fail> {
     let [file] = cited else {
         return Err(Fail::new("one file"));
     };
-    assert_eq!(rt; (file.level, file.no, file.swept), (0, 3, 9));
-    assert_eq!(rt; file.digest, DIGEST);
+    assert!(rt; (file.level, file.no, file.swept) == (0, 3, 9));
+    assert!(rt; file.digest == DIGEST);
     Ok(())
 }
 
@@ -80,16 +90,16 @@ fn check_objects(rt: &impl Abort, objects: &[Object]) -> Result<(), Fail> {
     let [header, first, second] = objects else {
         return Err(Fail::new("three objects"));
     };
-    assert_eq!(rt; holding(header, &FILE), Some((Kind::File, 3)));
-    assert_eq!(rt; holding(first, &PAGE_AC), Some((Kind::Page, 1)));
-    assert_eq!(rt; holding(second, &PAGE_BD), Some((Kind::Page, 2)));
+    assert!(rt; holding(header, &FILE) == Some((Kind::File, 3)));
+    assert!(rt; holding(first, &PAGE_AC) == Some((Kind::Page, 1)));
+    assert!(rt; holding(second, &PAGE_BD) == Some((Kind::Page, 2)));
     Ok(())
 }
 
 #[test]
 fn four_puts_are_one_file_with_two_pages(rt: HostRuntime) -> Result<(), Fail> {
     let flushed = flush_row(rt.alloc(), &PUTS, range_of(100, 200)?, false)?;
-    assert_eq!(rt; (flushed.headers.len(), flushed.next), (1, 4));
+    assert!(rt; (flushed.headers.len(), flushed.next) == (1, 4));
     check_cited(&rt, &flushed.cited)?;
     check_objects(&rt, &flushed.objects)
 }
@@ -126,43 +136,35 @@ fn left_of(
 fn what_nothing_is_left_of_makes_no_file(rt: HostRuntime) -> Result<(), Fail> {
     for (segment, (lo, hi), alone, objects) in LEFTOVERS {
         let left = left_of(rt.alloc(), segment, range_of(lo, hi)?, alone)?;
-        assert_eq!(rt; left, (objects, objects == 0, objects as u64 + 1));
+        assert!(rt;
+            left == (objects, objects == 0, objects as u64 + 1),
+            "{lo} {hi} {alone}"
+        );
     }
     Ok(())
 }
 
-fn erase_of(seq: u64, time: u64) -> Result<Pending, Fail> {
-    Ok(Pending {
-        seq,
-        time,
-        range: range_of(0, 1)?,
-    })
-}
-
 // What is pending of a manifest with the erases at 3 and 5 and of records with those at 5 and 8.
 fn pending(alloc: Global) -> Result<Vec<Pending>, Fail> {
-    let erases = [erase_of(3, 1)?, erase_of(5, 2)?];
-    let records = [
-        Record::Erase(erase_of(5, 7)?),
+    let range = range_of(0, 1)?;
+    let erase_of = |seq, time| Pending { seq, time, range };
+    let erases = [erase_of(3, 1), erase_of(5, 2)];
+    let records = vec![in alloc;
+        Record::Erase(erase_of(5, 7)),
         Record::Blind { seq: 6 },
-        Record::Erase(erase_of(8, 9)?),
-    ];
+        Record::Erase(erase_of(8, 9)),
+    ]?;
     Ok(pending_of(alloc, &erases, &records)?)
 }
 
 #[test]
 fn erases_are_pending_by_place_and_the_manifests_first(rt: HostRuntime) -> Result<(), Fail> {
     let pending = pending(rt.alloc())?;
-    assert_eq!(rt; pending.len(), 3);
+    assert!(rt; pending.len() == 3);
     for (erase, (seq, time)) in pending.iter().zip([(3, 1), (5, 2), (8, 9)]) {
-        assert_eq!(rt; (erase.seq, erase.time), (seq, time));
+        assert!(rt; (erase.seq, erase.time) == (seq, time), "{seq}");
     }
     Ok(())
-}
-
-fn tombstone_buffer(alloc: Global) -> Result<VecBuffer, Fail> {
-    let records = replay(alloc, &TOMB).map_err(|_| "no records")?;
-    Ok(newest_of(alloc, List::of(records))?)
 }
 
 // The draft of the file, without its pages.
@@ -180,13 +182,16 @@ fn is_clear_of(alloc: Global, buffer: &VecBuffer, drafts: &[Draft]) -> Result<bo
     Ok(is_clear(buffer, &version, drafts))
 }
 
+fn is_tombstone_clear_of(alloc: Global, drafts: &[Draft]) -> Result<bool, Fail> {
+    let buffer = buffer_of(alloc, &TOMB)?;
+    is_clear_of(alloc, &buffer, drafts)
+}
+
 #[test]
 fn a_buffer_is_clear_of_files_beside_its_keys(rt: HostRuntime) -> Result<(), Fail> {
     let alloc = rt.alloc();
-    let buffer = tombstone_buffer(alloc)?;
-    assert!(rt; is_clear_of(alloc, &buffer, &[])?);
-    assert!(rt; !is_clear_of(alloc, &buffer, &[draft(alloc)?])?);
-    let empty = VecBuffer::new(alloc);
-    assert!(rt; !is_clear_of(alloc, &empty, &[])?);
+    assert!(rt; is_tombstone_clear_of(alloc, &[])?);
+    assert!(rt; !is_tombstone_clear_of(alloc, &[draft(alloc)?])?);
+    assert!(rt; !is_clear_of(alloc, &VecBuffer::new(alloc), &[])?);
     Ok(())
 }

@@ -7,9 +7,9 @@ ghost use Rattle.lethe_segment.specs.Records.{RecordHasSpelling};
 ghost use Rattle.lethe_state.specs.Room.{IsStepFrom};
 ghost use Rattle.lethe_state.specs.Writable.{IsWritable};
 
-use crate::common::key_of;
+use crate::common::{key_of, value_of};
 use lethe_advance::Step;
-use lethe_base::{Kind, Name, Refused, Value};
+use lethe_base::{Kind, Name, Refused};
 use lethe_manifest::{Manifest, read_manifest};
 use lethe_mem::Buffer;
 use lethe_memdisk::MemDisk;
@@ -50,8 +50,7 @@ fn put(alloc: Global, state: &mut State, text: &str) -> Result<(), Fail>
     ensures { OnOk result (IsWritable state.new) }
 {
     state.may_change()?;
-    let value = Value::new(b"x".as_slice().to_vec(alloc)?)?;
-    let next = state.put_record(key_of(alloc, text)?, 5, value);
+    let next = state.put_record(key_of(alloc, text)?, 5, value_of(alloc, "x")?);
     enter(alloc, state, next)
 }
 
@@ -136,15 +135,15 @@ fn has_room_at_first(alloc: Global) -> Result<bool, Fail> {
 fn check_filled(rt: &impl Abort, state: &State) {
     assert!(rt; !state.has_room());
     let counts = (state.count(), state.records(), state.active().len());
-    assert_eq!(rt; (counts, state.end()), ((4, 4, 2), 90));
+    assert!(rt; (counts, state.end()) == ((4, 4, 2), 90));
 }
 
 fn check_stop(rt: &impl Abort, state: &mut State) -> Result<(), Fail>
     requires { IsWritable state.old }
 {
     state.may_change()?;
-    assert_eq!(rt; state.stop(), 5);
-    assert_eq!(rt; state.may_change(), Err(Refused::Stopped { at: 5 }));
+    assert!(rt; state.stop() == 5);
+    assert!(rt; state.may_change() == Err(Refused::Stopped { at: 5 }));
     Ok(())
 }
 
@@ -157,21 +156,18 @@ fn changes_are_entered_while_there_is_room(rt: HostRuntime) -> Result<(), Fail> 
 }
 
 fn check_new_segment(rt: &impl Abort, step: &Step) -> Result<(), Fail> {
-    assert_eq!(rt; numbers_of(&step.manifest), (4, 5, 4));
-    assert_eq!(rt; step.manifest.segments.items(), [1, 3].as_slice());
+    assert!(rt; numbers_of(&step.manifest) == (4, 5, 4));
+    assert!(rt; step.manifest.segments.items() == [1, 3].as_slice());
     let made = step.objects.first().ok_or("an object")?;
-    assert_eq!(rt; (made.name.kind, made.name.no), (Kind::Segment, 3));
-    assert_eq!(rt; made.bytes.items(), new_segment(3).as_slice());
+    assert!(rt; (made.name.kind, made.name.no) == (Kind::Segment, 3));
+    assert!(rt; made.bytes.items() == new_segment(3).as_slice());
     Ok(())
 }
 
 fn check_frozen(rt: &impl Abort, state: &State) {
-    assert_eq!(rt;
-        (state.count(), state.records(), state.end(), state.next()),
-        (4, 0, 11, 5)
-    );
+    assert!(rt; (state.count(), state.records(), state.end(), state.next()) == (4, 0, 11, 5));
     let frozen = state.frozen().map(|frozen| frozen.len());
-    assert_eq!(rt; frozen, Some(2));
+    assert!(rt; frozen == Some(2));
 }
 
 #[test]
@@ -184,21 +180,35 @@ fn a_buffer_is_frozen(rt: HostRuntime) -> Result<(), Fail> {
     Ok(())
 }
 
+fn drawn_state(alloc: Global) -> Result<State, Fail>
+    ensures writable { IfOk result IsWritable }
+{
+    let mut state = filled_state(alloc)?;
+    draw(&mut state)?;
+    Ok(state)
+}
+
 fn check_drawn(rt: &impl Abort, manifest: &Manifest) {
-    assert_eq!(rt; numbers_of(manifest), (11, 12, 4));
-    assert_eq!(rt; manifest.segments.items(), [1, 10].as_slice());
+    assert!(rt; numbers_of(manifest) == (11, 12, 4));
+    assert!(rt; manifest.segments.items() == [1, 10].as_slice());
+}
+
+fn check_drawn_flush(rt: &impl Abort, alloc: Global, state: &State) -> Result<(), Fail>
+    requires writable { IsWritable state.now }
+    requires frozen { IsSome state.now.frozen }
+{
+    let (_, step) = flushing(alloc, state)?;
+    assert!(rt; numbers_of(&step.manifest) == (14, 15, 4));
+    Ok(())
 }
 
 #[test]
 fn drawn_numbers_are_left_out(rt: HostRuntime) -> Result<(), Fail> {
-    let mut state = filled_state(rt.alloc())?;
-    draw(&mut state)?;
+    let mut state = drawn_state(rt.alloc())?;
     let step = freezing(rt.alloc(), &state)?;
     check_drawn(&rt, &step.manifest);
     state.freeze(rt.alloc(), step);
-    let (_, step) = flushing(rt.alloc(), &state)?;
-    assert_eq!(rt; numbers_of(&step.manifest), (14, 15, 4));
-    Ok(())
+    check_drawn_flush(&rt, rt.alloc(), &state)
 }
 
 const SEGMENT: Name = Name {
@@ -208,14 +218,11 @@ const SEGMENT: Name = Name {
 
 // No file is below, so the tombstone is gone: one page with one put.
 fn check_flush(rt: &impl Abort, headers: usize, step: &Step) {
-    assert_eq!(rt; (headers, step.objects.len()), (1, 2));
+    assert!(rt; (headers, step.objects.len()) == (1, 2));
     let manifest = &step.manifest;
-    assert_eq!(rt;
-        (numbers_of(manifest), manifest.files.items().len()),
-        ((7, 8, 4), 1)
-    );
-    assert_eq!(rt; manifest.segments.items(), [3].as_slice());
-    assert_eq!(rt; step.gone.as_slice(), [SEGMENT].as_slice());
+    assert!(rt; (numbers_of(manifest), manifest.files.items().len()) == ((7, 8, 4), 1));
+    assert!(rt; manifest.segments.items() == [3].as_slice());
+    assert!(rt; step.gone.as_slice() == [SEGMENT].as_slice());
 }
 
 #[test]

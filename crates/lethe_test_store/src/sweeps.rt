@@ -1,8 +1,8 @@
 //! Which sweep is picked.
 
-use crate::common::{SMALL, config_of, key_of};
+use crate::common::{Named, SMALL, key_of, picked};
 use lethe_base::{FileFacts, List, Pending, Range, Shape};
-use lethe_fade::{Claim, pick, pick_due};
+use lethe_fade::Claim;
 use std::alloc::Global;
 use std::test::Fail;
 
@@ -11,9 +11,6 @@ type FileRow = (u64, u64, &'static str, &'static str, Option<u64>, u64, u64);
 
 /// The level of a claim, and its keys.
 type ClaimRow = (u64, &'static str, &'static str);
-
-/// A file, and the place of an erase where it is swept.
-type Named = Option<(u64, Option<u64>)>;
 
 /// Files, the places and times of the pending erases, the claims that stand, a clock, and what `pick` and `pick_due` name then.
 type Row = (
@@ -89,18 +86,9 @@ fn named(
     claimed: &[ClaimRow],
     clock: u64,
 ) -> Result<(Named, Named), Fail> {
-    let config = config_of(SMALL)?;
     let shape = shape_of(alloc, files, erases)?;
-    if shape.levels.items().len() as u64 != config.fields().levels + 1 {
-        return Err(Fail::from("a list for each level"));
-    }
     let claims = claims_of(alloc, claimed)?;
-    let picked = pick(&shape, &config, clock, &claims);
-    let due = pick_due(&shape, &config, clock);
-    Ok((
-        picked.map(|plan| (plan.file, plan.erase)),
-        due.map(|plan| (plan.file, plan.erase)),
-    ))
+    picked(&shape, SMALL, &claims, clock)
 }
 
 /// One file of the last level.
@@ -217,7 +205,7 @@ fn sweeps_are_picked_in_their_order(rt: HostRuntime) -> Result<(), Fail> {
     for (files, erases, claims, clock, picked, due) in &ROWS {
         count = count.saturating_add(1);
         let got = named(rt.alloc(), *files, *erases, *claims, *clock)?;
-        assert_eq!(rt; got, (*picked, *due), "row {count}");
+        assert!(rt; got == (*picked, *due), "row {count}");
     }
     Ok(())
 }

@@ -3,9 +3,9 @@ ghost use Rattle.std.specs.Prelude.{IfOk};
 ghost use Rattle.lethe_state.specs.Writable.{IsWritable};
 
 use lethe_base::{Config, Fields, Kind, MAX_PLACE, MAX_TIME, Pick};
+use lethe_images::{add, disk_of};
 use lethe_manifest::LastCert;
 use lethe_recover::open;
-use lethe_rows::{add, disk_of};
 use lethe_segment::new_segment;
 use lethe_state::State;
 use std::alloc::Global;

@@ -1,6 +1,6 @@
 -- Both buffers are flushed.
 use Rattle.std.proofs.Common.{◌≡◌, ◌≢◌, ◌<◌, ◌≤◌, inl, inr, ℕ, List, [], ◌∷◌, length, Result, Ok, Err, None, refl, sym, ap, subst, arith}
-use Rattle.std.specs.Prelude.{IfErr, sum_by}
+use Rattle.std.specs.Prelude.{IfErr, OnOk, sum_by}
 use Rattle.lethe_base.specs.declared.refused.Refused.{Refused}
 use Rattle.lethe_base.specs.declared.refused.Refused.TheVariants.{Fault, Stopped, Backwards, Pinned, NothingDue, Cancelled, Exhausted, ReadFault, NoMemory, Damaged}
 use Rattle.lethe_build.specs.Drafts.{AreDraftsOf}
@@ -64,6 +64,11 @@ none_of (first ∷ records) none = absurd (omega (arith, none))
 
 pub some_of : (records : List Record) → 0 < length records → records ≢ []
 some_of records some none = let few : length records ≡ 0 = ap length none in absurd (omega (arith, few, some))
+
+-- what is so anyway
+pub if_ok : {T E : Type 0} (result : Result T E) (P : Type 0) → P → OnOk result P
+if_ok (Ok x) P is = is
+if_ok (Err why) P is = tt
 
 -- two facts of a refusal together
 pub if_both : {T E : Type 0} (result : Result T E) (P Q R : E → Type 0) → ((why : E) → P why → Q why → R why) → IfErr result P → IfErr result Q → IfErr result R

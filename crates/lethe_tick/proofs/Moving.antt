@@ -1,11 +1,15 @@
 -- The clock moves: where no job is in flight what is stored next is held, and stands for the history with the tick.
-use Rattle.std.proofs.Common.{◌≡◌, ◌≤◌, ◌<◌, ◌+◌, ◌⊎◌, inl, inr, ℕ, List, [], ◌++◌, length, All, Contains, Some, None, refl, sym, ap, ◌∙◌, subst, arith}
-use Rattle.std.specs.Prelude.{IfSome}
-use Rattle.lethe_base.specs.History.{History, after}
+use Rattle.std.proofs.Common.{◌≡◌, ◌≤◌, ◌<◌, ◌+◌, ◌⊎◌, inl, inr, ℕ, List, [], ◌∷◌, ◌++◌, length, All, Contains, Some, None, refl, sym, ap, ◌∙◌, subst, arith}
+use Rattle.std.specs.Prelude.{IfSome, IsTrue}
+use Rattle.std.proofs.lemmas.List.Elements.{All-contains, All-weaker}
+use Rattle.lethe_base.proofs.Histories.{after-push}
+use Rattle.lethe_base.specs.History.{Change, History, State as Stand, after}
 use Rattle.lethe_base.specs.Limits.{max_place}
 use Rattle.lethe_base.specs.Spent.{done_upto}
 use Rattle.lethe_base.specs.declared.call.Call.TheVariants.{Tick}
+use Rattle.lethe_base.specs.declared.call.Did.TheVariants.{Done}
 use Rattle.lethe_base.specs.declared.config.Fields.{Fields}
+use Rattle.lethe_base.specs.declared.name.Kind.TheVariants.{Page}
 use Rattle.lethe_base.specs.declared.name.Name.{Name}
 use Rattle.lethe_base.specs.declared.pending.Pending.{Pending}
 use Rattle.lethe_base.specs.declared.refused.Refused.{Refused}
@@ -19,7 +23,9 @@ use Rattle.lethe_clean.proofs.Copied.{all_copied}
 use Rattle.lethe_clean.proofs.Stays.{step_untorn}
 use Rattle.lethe_clean.specs.Copied.{IsCopied}
 use Rattle.lethe_commit.specs.Append.{EndsAt}
+use Rattle.lethe_commit.specs.Place.{insert_all}
 use Rattle.lethe_cover.specs.Steps.{with_done}
+use Rattle.lethe_disk.specs.Directory.{object}
 use Rattle.lethe_disk.specs.Disk.{Image}
 use Rattle.lethe_follows.proofs.Behind.{later_others}
 use Rattle.lethe_follows.proofs.Ticking.{kept_clocked, ticked_for}
@@ -28,6 +34,8 @@ use Rattle.lethe_follows.specs.Ticked.{ticked}
 use Rattle.lethe_follows.specs.Young.{AreLaterRecorded}
 use Rattle.lethe_manifest.specs.declared.manifest.Manifest.{Manifest}
 use Rattle.lethe_moves.specs.Due.{HasNothingDue}
+use Rattle.lethe_pins.specs.Held.{AreHeld, Held, is_named}
+use Rattle.lethe_pins.specs.declared.pin.Pin.{Pin}
 use Rattle.lethe_state.proofs.TickStep.{tick_remembered}
 use Rattle.lethe_state.specs.Remembered.{IsCurrent, Remembers}
 use Rattle.lethe_state.specs.Records.{halted}
@@ -42,9 +50,10 @@ use Rattle.lethe_stored.specs.Kept.{IsFor, IsKept}
 use Rattle.lethe_stored.specs.Left.{IsKeptOr}
 use Rattle.lethe_stored.specs.Levels.{HasFiles}
 use Rattle.lethe_stored.specs.Numbers.{GoesFrom}
-use Rattle.lethe_stored.specs.Stored.{Stored, layout_of, pending_of, segment_name}
+use Rattle.lethe_stored.specs.Stored.{Stored, layout_of, part_names, pending_of, segment_name}
 use Rattle.lethe_core.specs.Asked.{Makes, behind, done_by, written_by}
 use Rattle.lethe_core.specs.Keeps.{MayStep}
+use Rattle.lethe_core.specs.Pinned.{AreKept, AreNamed, AreTimely}
 use Rattle.lethe_core.specs.Running.{Holds, IsFlying, IsRunning, IsSmall, IsSound, IsTasked}
 use Rattle.lethe_core.specs.StandsNow.{IsCounted, StandsNow}
 use Rattle.lethe_core.specs.Steps.{IsHindered}
@@ -52,9 +61,11 @@ use Rattle.lethe_core.specs.View.{Flying, View, beside_at, beside_in, loose_in, 
 use Rattle.lethe_core.proofs.Beside.{beside_stays}
 use Rattle.lethe_core.proofs.Carried.{IsCarried, active_ends}
 use Rattle.lethe_core.proofs.Hindered.{drawn_on, flies_on}
+use Rattle.lethe_core.proofs.Kept.{carried_same, page_cited, retired_beside}
 use Rattle.lethe_core.proofs.Next.{beside_drawn}
 use Rattle.lethe_core.proofs.Recorded.{failed_stands}
 use Rattle.lethe_core.proofs.Standing.{is_beside, moments_or, next_drawn, open_stands, stands_back, stands_for, stands_holds}
+use Rattle.lethe_core.proofs.Timely.{timely_kept, timely_ticked}
 
 -- The state
 
@@ -80,15 +91,15 @@ module _ (Tells : Type 0) (old : View) (before to : ℕ) (may : MayStep Tells ol
       (λ erase there. (from_filter (λ (e : Pending). is_kept (done_upto (layout_of s)) (first_erase s) e.seq) (pending_of s) erase
       (subst (λ erases. Contains erases erase) (kept_clocked s to old.state.next) there)).0)
 
-  pub tick_is : (s : Stored) → Holds old s → IsStep s (beside_in old) (t s) (beside_in old) headers step
-  tick_is s holds = subst (λ headers. IsStep s (beside_in old) (t s) (beside_in old) headers step) (sym none)
-      (ticks s old.levels holds.remembers holds.running.current (beside_in old) (beside_drawn old may.sound.drawn) holds.running.uncited)
+  pub tick_is : Tells → (s : Stored) → Holds old s → IsStep s (beside_in old) (t s) (beside_in old) headers step
+  tick_is told s holds = subst (λ headers. IsStep s (beside_in old) (t s) (beside_in old) headers step) (sym none)
+      (ticks s old.levels holds.remembers holds.running.current (beside_in old) (beside_drawn old (may.sound.drawn told)) holds.running.uncited)
 
   held_now : Tells → (s : Stored) × Holds old s
   held_now told = let held = may.sound.held told in (held.0, record { remembers = held.1; running = held.2 may.runs })
 
   pub tick_step : Tells → (s t : Stored) × (left : List (Name × List ℕ)) × IsRunning old s × IsStep s (beside_in old) t left headers step
-  tick_step told = let held = held_now told in (held.0, t held.0, beside_in old, held.1.running, tick_is held.0 held.1)
+  tick_step told = let held = held_now told in (held.0, t held.0, beside_in old, held.1.running, tick_is told held.0 held.1)
 
   -- A crash leaves what is kept for the history, or for it with the tick
 
@@ -120,7 +131,7 @@ module _ (Tells : Type 0) (old : View) (before to : ℕ) (may : MayStep Tells ol
         subst (λ (fields : Fields). GoesFrom old.state.next (IsKeptOr fields h (Some (done_by caller (Tick to)))) old.disk new.disk) stands.config_is
         (goes_from_weaker (λ c. IsKept s.manifest.config c h ⊎ IsKept s.manifest.config c g) (IsKeptOr s.manifest.config h (Some (done_by caller (Tick to)))) old.state.next old.disk new.disk
         (λ c either. elim either [ inl was ↦ (h, inl refl, was) | inr is ↦ (g, inr refl, is) ])
-        (moments told s (t s) (beside_in old) holds.running (tick_is s holds) h g for then_for (next_drawn old s may.sound.writable stands.remembers) (omega arith)))
+        (moments told s (t s) (beside_in old) holds.running (tick_is told s holds) h g for then_for (next_drawn old s may.sound.writable stands.remembers) (omega arith)))
 
     -- where there was no memory it leaves what is kept for the history
     pub tick_unmoved : (new : View) → (Tells → (s t : Stored) (left : List (Name × List ℕ)) → IsRunning old s → IsStep s (beside_in old) t left headers step → (h : History) → IsFor h s
@@ -128,7 +139,7 @@ module _ (Tells : Type 0) (old : View) (before to : ℕ) (may : MayStep Tells ol
         → Tells → GoesFrom old.state.next (λ c. IsKept config c h) old.disk new.disk
     tick_unmoved new unmoved told =
         subst (λ (fields : Fields). GoesFrom old.state.next (λ c. IsKept fields c h) old.disk new.disk) stands.config_is
-        (unmoved told s (t s) (beside_in old) holds.running (tick_is s holds) h for (next_drawn old s may.sound.writable stands.remembers))
+        (unmoved told s (t s) (beside_in old) holds.running (tick_is told s holds) h for (next_drawn old s may.sound.writable stands.remembers))
 
     -- It was hindered
 
@@ -150,7 +161,7 @@ module _ (Tells : Type 0) (old : View) (before to : ℕ) (may : MayStep Tells ol
   module _ (new : View) (carried : IsCarried Tells old new headers step) (new_is : new.state ≡ moved step.manifest old.state) (free : old.flight ≡ None) (here : Tells → Image old.disk old.disk.directory) where
     module _ (told : Tells) (s : Stored) (holds : Holds old s) where
       is : IsStep s (beside_in old) (t s) (beside_in old) headers step
-      is = tick_is s holds
+      is = tick_is told s holds
 
       done : IsSettled new.disk (t s) × HasOnly (t s) (beside_in old) new.disk.directory
       done = carried.done told s (t s) (beside_in old) holds.running is
@@ -183,7 +194,11 @@ module _ (Tells : Type 0) (old : View) (before to : ℕ) (may : MayStep Tells ol
           only = subst (λ l. HasOnly (t s) l new.disk.directory) (sym same_beside) done.1;
           uncited = subst (AreUncited (t s)) (sym same_beside) is.left_uncited;
           untorn = untorn;
-          copied = subst (All (IsCopied (t s))) (sym same_beside) (all_copied s (t s) refl (λ file there. there) (beside_in old) holds.running.copied);
+          copied = subst (λ flight. All (IsCopied (t s)) (loose_in flight)) (sym carried.flight) (all_copied s (t s) refl (λ file there. there) (loose_in old.flight) holds.running.copied);
+          kept = λ name named. elim (holds.running.kept name (subst (λ (held : Held). IsTrue (is_named held.pins name)) carried.pins named)) [
+            | inl page ↦ inl page
+            | inr retired ↦ inr (subst (λ names. Contains names name) (sym carried.retired) retired)
+          ];
           rising = holds.running.rising;
           ends = subst (EndsAt new.disk (segment_name s.active.no) s.active.no s.active.records) (sym (ap (λ (state : State). state.end) new_is)) ends;
           current = both.1;
@@ -191,7 +206,25 @@ module _ (Tells : Type 0) (old : View) (before to : ℕ) (may : MayStep Tells ol
         };
       }
 
-  module _ (new : View) (new_is : new.state ≡ moved step.manifest old.state) (retired : new.retired ≡ old.retired) (flight : new.flight ≡ old.flight) (held : Tells → (s : Stored) → Holds old s → Holds new (t s)) where
+  -- each object that a pin names stays as it is
+  module _ (new : View) (done_is : Tells → (s t : Stored) (left : List (Name × List ℕ)) → IsRunning old s → IsStep s (beside_in old) t left headers step → IsSettled new.disk t × HasOnly t left new.disk.directory)
+      (kept_is : Tells → (s t : Stored) (left : List (Name × List ℕ)) → IsRunning old s → IsStep s (beside_in old) t left headers step → (name : Name) → Contains (part_names t) name
+      → object new.disk.directory name ≡ object (insert_all step.objects.items old.disk.directory) name) where
+    pub ticked_kept : Tells → AreKept old.pins.pins old.disk.directory new.disk.directory
+    ticked_kept told name named =
+        let now = held_now told in
+        let s = now.0 in
+        let running = now.1.running in
+        let is = tick_is told s now.1 in
+        let was = running.kept name named in
+        carried_same old s (t s) (beside_in old) headers step running is new.disk.directory (done_is told s (t s) (beside_in old) running is).1 (kept_is told s (t s) (beside_in old) running is) name was
+        (elim was as (λ _. Contains (part_names (t s)) name ⊎ Contains (names_in (beside_in old)) name) [
+          | inl page ↦ inl (page_cited (t s) is.coherent name page)
+          | inr there ↦ inr (retired_beside old s (t s) (beside_in old) headers step running is name there)
+        ])
+
+  module _ (new : View) (new_is : new.state ≡ moved step.manifest old.state) (retired : new.retired ≡ old.retired) (flight : new.flight ≡ old.flight) (pins : new.pins ≡ old.pins)
+      (held : Tells → (s : Stored) → Holds old s → Holds new (t s)) where
     config_is : new.state.manifest.config ≡ old.state.manifest.config
     config_is = ap (λ (state : State). state.manifest.config) new_is ∙ from.config
 
@@ -201,18 +234,42 @@ module _ (Tells : Type 0) (old : View) (before to : ℕ) (may : MayStep Tells ol
       small = subst IsSmall (sym new_is) (small_moved step.manifest old.state from.config may.sound.small);
       count = levels ∙ may.sound.count ∙ ap (λ (fields : Fields). fields.levels + 1) (sym config_is);
       flies = subst (λ flight. IfSome flight (IsFlying new.state)) (sym flight) (flies_on old.state new.state (ap (λ (fields : Fields). fields.levels) config_is) old.flight may.sound.flies);
-      drawn =
+      loose =
           let next = ap (λ (state : State). state.next) new_is in
           let number = from.numbers in
           let above = from.next in
-          subst (AreDrawn new.state.next) (λ i. (sym retired) i ++ names_in (loose_in ((sym flight) i))) (drawn_on old.state.next new.state.next (names_beside old) (omega (arith, next, number, above)) may.sound.drawn);
+          subst (λ flight. AreDrawn new.state.next (names_in (loose_in flight))) (sym flight)
+          (drawn_on old.state.next new.state.next (names_in (loose_in old.flight)) (omega (arith, next, number, above)) may.sound.loose);
+      drawn = λ told.
+          let next = ap (λ (state : State). state.next) new_is in
+          let number = from.numbers in
+          let above = from.next in
+          subst (AreDrawn new.state.next) (λ i. (sym retired) i ++ names_in (loose_in ((sym flight) i))) (drawn_on old.state.next new.state.next (names_beside old) (omega (arith, next, number, above)) (may.sound.drawn told));
+      pins = subst AreHeld (sym pins) may.sound.pins;
+      pages = subst (λ (held : Held). All (λ pin. All (λ name. name.kind ≡ Page) pin.names) held.pins) (sym pins) may.sound.pages;
       held = λ told. let now = held_now told in let holds = held told now.0 now.1 in (t now.0, holds.remembers, λ runs. holds.running);
     }
 
-    pub ticked_stands : Tells → (config : Fields) (h : History) (stands : StandsNow config h old) → (after h).clock ≤ to → HasNothingDue stands.stored.manifest.config to (layout_of (let_go stands.stored)) → (caller : ℕ)
-        → StandsNow config (with_done h caller (Tick to)) new
-    ticked_stands told config h stands forward due caller =
-        let for = then_for config h stands forward due caller in
-        let holds = held told stands.stored (stands_holds config h old stands may.runs) in
-        open_stands config (with_done h caller (Tick to)) new (t stands.stored) for.legal for.done (holds.running.current.count ∙ for.count) stands.config_is for holds
-        (subst (λ flight. IfSome flight (λ (flying : Flying). IsCounted flying.task)) (sym flight) stands.counted) (ticked_recorded stands.stored stands.recorded)
+    module _ (passes : All (λ (pin : Pin). to < pin.limit) old.pins.pins) (named : Tells → AreNamed old.pins.pins old.retired) (kept : Tells → AreKept old.pins.pins old.disk.directory new.disk.directory) where
+      -- what pins keep was erased a threshold ago at no time before their limits, which are above the clock then too
+      ticked_timely : Tells → (threshold : ℕ) (h : History) → (after h).clock ≤ to → (caller : ℕ) → AreTimely threshold h old.pins.pins old.retired old.disk.directory
+          → AreTimely threshold (with_done h caller (Tick to)) new.pins.pins new.retired new.disk.directory
+      ticked_timely told threshold h forward caller timely =
+          let change : Change = record { caller = caller; call = Tick to; did = Done } in
+          let clock : (after (h ++ change ∷ [])).clock ≡ to = ap (λ (stand : Stand). stand.clock) (after-push h change) in
+          let limits : All (λ (pin : Pin). (after (h ++ change ∷ [])).clock < pin.limit) old.pins.pins =
+          All-weaker (λ (pin : Pin). to < pin.limit) (λ (pin : Pin). (after (h ++ change ∷ [])).clock < pin.limit) (λ pin above. omega (arith, above, clock)) old.pins.pins passes in
+          let there = timely_kept threshold h old.pins.pins old.retired old.retired old.disk.directory new.disk.directory (kept told) timely
+          (λ name there. inr (All-contains (λ (name : Name). IsTrue (is_named old.pins.pins name)) old.retired name (named told) there)) in
+          subst (λ (held : Held). AreTimely threshold (h ++ change ∷ []) held.pins new.retired new.disk.directory) (sym pins)
+          (subst (λ names. AreTimely threshold (h ++ change ∷ []) old.pins.pins names new.disk.directory) (sym retired)
+          (timely_ticked threshold h old.pins.pins old.retired new.disk.directory change (omega (arith, forward, clock)) limits (named told) there))
+
+      pub ticked_stands : Tells → (config : Fields) (h : History) (stands : StandsNow config h old) → (after h).clock ≤ to → HasNothingDue stands.stored.manifest.config to (layout_of (let_go stands.stored)) → (caller : ℕ)
+          → StandsNow config (with_done h caller (Tick to)) new
+      ticked_stands told config h stands forward due caller =
+          let for = then_for config h stands forward due caller in
+          let holds = held told stands.stored (stands_holds config h old stands may.runs) in
+          open_stands config (with_done h caller (Tick to)) new (t stands.stored) for.legal for.done (holds.running.current.count ∙ for.count) stands.config_is for holds
+          (subst (λ flight. IfSome flight (λ (flying : Flying). IsCounted flying.task)) (sym flight) stands.counted) (ticked_recorded stands.stored stands.recorded)
+          (ticked_timely told config.threshold h forward caller (stands.timely may.runs))

@@ -1,11 +1,12 @@
 -- What is stored once a tick has done all but move the clock: nothing is due once the erases that are done have left.
-use Rattle.std.proofs.Common.{◌≡◌, ◌≤◌, inl, inr, ℕ, List, [], ◌∷◌, Option, Some, None, refl, sym, ap, ◌∙◌, subst, arith}
+use Rattle.std.proofs.Common.{◌≡◌, ◌≤◌, inl, inr, ℕ, List, [], ◌∷◌, true, Option, None, sym, ap, ◌∙◌, subst, arith}
+use Rattle.std.specs.Prelude.{IsTrue, filter}
+use Rattle.std.proofs.lemmas.List.Elements.{All-weaker, filter_passes}
 use Rattle.lethe_base.specs.History.{History, after}
-use Rattle.lethe_base.specs.Limits.{max_place}
 use Rattle.lethe_base.specs.declared.call.Call.TheVariants.{Work}
 use Rattle.lethe_base.specs.declared.config.Fields.{Fields}
-use Rattle.lethe_base.specs.declared.refused.Refused.{Refused}
-use Rattle.lethe_base.specs.declared.refused.Refused.TheVariants.{Fault, Stopped, Exhausted, NoMemory}
+use Rattle.lethe_base.specs.declared.name.Name.{Name}
+use Rattle.lethe_disk.specs.Directory.{Directory}
 use Rattle.lethe_fade.specs.Expired.{is_passed}
 use Rattle.lethe_fade.specs.declared.plan.Plan.{Plan}
 use Rattle.lethe_follows.proofs.NothingDue.{nothing_due}
@@ -17,14 +18,14 @@ use Rattle.lethe_job.specs.Works.{Merges, PlainTask, Sweeps}
 use Rattle.lethe_manifest.specs.declared.manifest.Manifest.{Manifest}
 use Rattle.lethe_moves.specs.Due.{HasNothingDue}
 use Rattle.lethe_state.specs.Room.{IsUnfrozen}
-use Rattle.lethe_state.specs.declared.state.State.{State}
 use Rattle.lethe_stored.proofs.Unique.{one_stored}
 use Rattle.lethe_stored.specs.Kept.{IsFor}
 use Rattle.lethe_stored.specs.Stored.{Segment, Stored, layout_of, records_in}
-use Rattle.lethe_core.specs.Asked.{failure_of}
+use Rattle.lethe_pins.specs.Held.{is_named}
+use Rattle.lethe_pins.specs.declared.pin.Pin.{Pin}
 use Rattle.lethe_core.specs.Keeps.{Keeps, MayStep}
-use Rattle.lethe_core.specs.Merges.{AreOutcomesBy, AreSomeOutcomesBy, HasNoMergeBy, Outcome, due_choice}
-use Rattle.lethe_core.specs.Reasons.{HasReason}
+use Rattle.lethe_core.specs.Merges.{AreOutcomesBy, AreRetiredBehind, AreSomeOutcomesBy, HasNoMergeBy, Outcome, due_choice}
+use Rattle.lethe_core.specs.Pinned.{AreKept, AreNamed}
 use Rattle.lethe_core.specs.Running.{Holds}
 use Rattle.lethe_core.specs.StandsNow.{StandsNow}
 use Rattle.lethe_core.specs.View.{View}
@@ -116,12 +117,17 @@ module _ (Tells : Type 0) (old new : View) (before to : ℕ) (may : MayStep Tell
       (nothing_due h t is.5.remembers.coherent (subst (IsFor h) (sym same) (stands_for config h new stands_then runs)) (subst AreLaterRecorded (sym same) stands_then.recorded) to
       (none_more (due_choice to) ripe is.2 t is.4) (outcomes_young to (due_choice to) ripe is.2 t is.4 (ripened_young to stands.stored ripe is.3)))
 
--- A refusal
+-- What pins name
 
--- where nothing but a failure of the disk can have refused it
-pub only_failed : (state : State) (before now : ℕ) → state.stopped ≡ None → (state.count ≡ max_place → ⊥) → (why : Refused) → HasReason ⊥ state before now why → (why ≡ NoMemory → ⊥) → failure_of why ≡ None → ⊥
-only_failed state before now runs fits (Fault place b a) is memory none = cc
-only_failed state before now runs fits NoMemory is memory none = memory refl
-only_failed state before now runs fits (Stopped at) is memory none = let clash : Some at ≡ None = sym is ∙ runs in cc
-only_failed state before now runs fits (Exhausted last) is memory none = elim is.2 [ inl full ↦ fits full | inr short ↦ short ]
-only_failed state before now runs fits why is memory none = absurd is
+-- what stays twice stays
+pub kept_twice : (pins : List Pin) (d mid end : Directory) → AreKept pins d mid → AreKept pins mid end → AreKept pins d end
+kept_twice pins d mid end first last name named = last name named ∙ first name named
+
+-- of names those that pins name are named
+pub named_left : (pins : List Pin) (names : List Name) → AreNamed pins (filter (is_named pins) names)
+named_left pins names = All-weaker (λ (name : Name). is_named pins name ≡ true) (λ (name : Name). IsTrue (is_named pins name)) (λ name is. is) (filter (is_named pins) names) (filter_passes (is_named pins) names)
+
+-- what was named before merges and sweeps is behind them
+pub named_behind : (outcomes : List Outcome) (pins : List Pin) (before now : List Name) → AreNamed pins before → AreRetiredBehind outcomes pins before now → AreNamed pins now
+named_behind [] pins before now named is = subst (AreNamed pins) (sym is) named
+named_behind (outcome ∷ more) pins before now named is = is

@@ -1,5 +1,5 @@
 //! Moving the clock.
-ghost use Rattle.std.specs.Prelude.{◌≡◌, ◌≤◌, ◌<◌, ◌+◌, ◌++◌, ℕ, IfErr, IfOk, MatchResult, OnOk, option_to_list};
+ghost use Rattle.std.specs.Prelude.{◌≡◌, ◌≤◌, ◌<◌, ◌+◌, ◌++◌, ℕ, All, None, IfErr, IfOk, MatchResult, OnOk, option_to_list};
 ghost use Rattle.std.specs.Vec.{vec_capacity, vec_len};
 ghost use Rattle.std.specs.Result.{result_err};
 ghost use Rattle.lethe_base.specs.History.{History, after};
@@ -15,6 +15,7 @@ ghost use Rattle.lethe_stored.specs.Numbers.{GoesFrom};
 ghost use Rattle.lethe_stored.specs.Stored.{Stored, layout_of};
 ghost use Rattle.lethe_core.specs.Asked.{Makes, behind, counted, stopped_by, written_by};
 ghost use Rattle.lethe_core.specs.Keeps.{MayStep};
+ghost use Rattle.lethe_core.specs.Pinned.{AreKept, AreNamed};
 ghost use Rattle.lethe_core.specs.Reasons.{HasReason};
 ghost use Rattle.lethe_core.specs.Running.{Holds, IsSound};
 ghost use Rattle.lethe_core.specs.StandsNow.{StandsNow};
@@ -42,6 +43,10 @@ pub(crate) fn move_clock<D: Disk>(
     requires may { MayStep D.tells (view_of core.old) before }
     requires within { to ≤ max_time }
     requires free { core.old.flight ≡ None }
+
+    // No held pin bars the tick, and the pages that are retired are those that held pins name.
+    requires passes { All (λ pin. to < pin.limit) (view_of core.old).pins.pins }
+    requires named { D.tells → AreNamed (view_of core.old).pins.pins (view_of core.old).retired }
     ensures sound { IsSound D.tells (view_of core.new) }
     ensures count { core.new.state.count ≡ counted (Makes (Tick to)) (result_err result) core.old.state.count }
     ensures stopped { core.new.state.stopped ≡ stopped_by (result_err result) core.old.state.stopped }
@@ -63,6 +68,8 @@ pub(crate) fn move_clock<D: Disk>(
     ensures retired { core.new.retired ≡ core.old.retired }
     ensures flight { core.new.flight ≡ core.old.flight }
     ensures begun { core.new.begun ≡ core.old.begun }
+    ensures pins { core.new.pins ≡ core.old.pins }
+    ensures pinned { D.tells → core.new.state.stopped ≡ None → AreKept (view_of core.old).pins.pins (D.seen core.old.disk).directory (D.seen core.new.disk).directory }
     ensures certificate { IfOk result (λ told. told ≡ certificate_of core.new.state.manifest to) }
     ensures manifest { OnOk result ((core.new.state.manifest.clock ≡ to) × (core.new.state.manifest.count ≡ core.new.state.count)) }
     ensures due { IfOk result (IsCertificateAt core.new.state.manifest.config.threshold to) }

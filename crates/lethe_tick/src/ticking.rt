@@ -1,5 +1,5 @@
 //! A tick.
-ghost use Rattle.std.specs.Prelude.{◌≡◌, ◌≤◌, ◌<◌, ◌+◌, ◌⊎◌, ◌++◌, ℕ, List, None, IfErr, IfOk, IsErrOf, MatchResult, OnOk, option_to_list};
+ghost use Rattle.std.specs.Prelude.{◌≡◌, ◌≤◌, ◌<◌, ◌+◌, ◌⊎◌, ◌++◌, ℕ, List, All, None, IfErr, IfOk, IsErrOf, MatchResult, OnOk, option_to_list};
 ghost use Rattle.std.specs.Result.{result_err};
 ghost use Rattle.lethe_base.specs.History.{History};
 ghost use Rattle.lethe_base.specs.Limits.{max_time};
@@ -13,7 +13,8 @@ ghost use Rattle.lethe_stored.specs.Numbers.{GoesFrom};
 ghost use Rattle.lethe_stored.specs.Stored.{Stored};
 ghost use Rattle.lethe_core.specs.Asked.{Makes, behind, counted, stopped_by, written_by};
 ghost use Rattle.lethe_core.specs.Keeps.{Keeps, MayStep};
-ghost use Rattle.lethe_core.specs.Merges.{AreOutcomesBy, Outcome, due_choice, pages_of, retired_behind};
+ghost use Rattle.lethe_core.specs.Merges.{AreOutcomesBy, Outcome, due_choice, pages_of};
+ghost use Rattle.lethe_core.specs.Pinned.{AreKept, AreNamed};
 ghost use Rattle.lethe_core.specs.Reasons.{HasReason, IsUnreadable};
 ghost use Rattle.lethe_core.specs.Running.{Holds, IsSound};
 ghost use Rattle.lethe_core.specs.StandsNow.{StandsNow};
@@ -31,10 +32,10 @@ use lethe_core::Core;
 use lethe_disk::Disk;
 use std::alloc::Global;
 
-/// Carries out a tick to a time that isn't behind the clock. The job in flight is given up. Where a record of a segment is as old at that time as level 0 may have it, both
-/// buffers are flushed. The merges and sweeps that are due then are carried out, one after another until none is: each page of a merge's inputs is fetched once through the
-/// port, and of a swept file those that its header tells. Then the clock moves, the erases that are done leave, and where the time is at least the threshold the certificate
-/// is added, which is answered. `before` is the count of faults from which a failure is told.
+/// Carries out a tick to a time that isn't behind the clock. The job in flight is given up, and retired pages that no held pin names are removed. Where a record of a segment
+/// is as old at that time as level 0 may have it, both buffers are flushed. The merges and sweeps that are due then are carried out, one after another until none is: each page
+/// of a merge's inputs is fetched once through the port, and of a swept file those that its header tells. Then the clock moves, the erases that are done leave, and where the
+/// time is at least the threshold the certificate is added, which is answered. `before` is the count of faults from which a failure is told.
 ///
 /// # Errors
 ///
@@ -50,6 +51,9 @@ pub fn tick<D: Disk>(
     requires may { MayStep D.tells (view_of core.old) before }
     requires within { to ≤ max_time }
     requires forward { core.old.state.manifest.clock ≤ to }
+
+    // No held pin bars it.
+    requires passes { All (λ pin. to < pin.limit) (view_of core.old).pins.pins }
     ensures sound { IsSound D.tells (view_of core.new) }
     ensures count { core.new.state.count ≡ counted (Makes (Tick to)) (result_err result) core.old.state.count }
     ensures stopped { core.new.state.stopped ≡ stopped_by (result_err result) core.old.state.stopped }
@@ -65,7 +69,7 @@ pub fn tick<D: Disk>(
     // Acknowledged: the buffers were flushed where they had to be, then exactly the merges and sweeps that were due were carried out, and the clock moved.
     ensures done { D.tells → (s : Stored) → Holds (view_of core.old) s
         → OnOk result ((ripe t : Stored) × (outcomes : List Outcome) × (number : ℕ) × IsRipened to s ripe × AreOutcomesBy (due_choice to) ripe outcomes t
-        × Holds (view_of core.new) (ticked t to number) × (D.fetches port.new ≡ D.fetches port.old + pages_of outcomes) × ((view_of core.new).retired ≡ retired_behind outcomes (view_of core.old).retired)) }
+        × Holds (view_of core.new) (ticked t to number) × (D.fetches port.new ≡ D.fetches port.old + pages_of outcomes)) }
     ensures partly { IfErr result (IsDoneInPart D.tells (IsTickedInPart to) (view_of core.old) (view_of core.new)) }
     ensures why { IfErr result (λ why. HasReason (IsShortToTick D.tells to (view_of core.new)) core.old.state before (D.faults core.new.disk) why
         ⊎ IsUnreadable D.tells D.ports_fail (D.port_faults port.old) (D.port_faults port.new) why) }
@@ -73,6 +77,11 @@ pub fn tick<D: Disk>(
     ensures faults { D.faults core.old.disk ≤ D.faults core.new.disk }
     ensures free { core.new.flight ≡ None }
     ensures begun { core.new.begun ≡ core.old.begun }
+    ensures pins { core.new.pins ≡ core.old.pins }
+
+    // What pins name stays as it is, unless the disk fails; behind a tick nothing else lies beside what is stored.
+    ensures pinned { D.tells → core.new.state.stopped ≡ None → AreKept (view_of core.old).pins.pins (D.seen core.old.disk).directory (D.seen core.new.disk).directory }
+    ensures named { D.tells → OnOk result (AreNamed (view_of core.new).pins.pins (view_of core.new).retired) }
     ensures port_faults { D.port_faults port.old ≤ D.port_faults port.new }
     // Where a page is told as damaged, a fetch was made in this call, on any disk.
     ensures fetched { (name : Name) → IsErrOf result (refused.Damaged name) → D.fetches port.old < D.fetches port.new }
@@ -99,16 +108,17 @@ fn ripen_store<D: Disk>(
     ensures partly { IfErr result (IsDoneInPart D.tells (IsTickedInPart to) (view_of core.old) (view_of core.new)) }
     ensures done { D.tells → (s : Stored) → Holds (view_of core.old) s
         → OnOk result ((ripe t : Stored) × (outcomes : List Outcome) × IsRipened to s ripe × AreOutcomesBy (due_choice to) ripe outcomes t × Holds (view_of core.new) t
-        × (D.fetches port.new ≡ D.fetches port.old + pages_of outcomes) × ((view_of core.new).retired ≡ retired_behind outcomes (view_of core.old).retired)) }
+        × (D.fetches port.new ≡ D.fetches port.old + pages_of outcomes)) }
     ensures why { IfErr result (λ why. HasReason (IsShortToTick D.tells to (view_of core.new)) core.old.state before (D.faults core.new.disk) why
         ⊎ IsUnreadable D.tells D.ports_fail (D.port_faults port.old) (D.port_faults port.new) why) }
     ensures free { core.new.flight ≡ None }
     ensures begun { core.new.begun ≡ core.old.begun }
+    ensures named { D.tells → OnOk result (AreNamed (view_of core.new).pins.pins (view_of core.new).retired) }
     ensures port_faults { D.port_faults port.old ≤ D.port_faults port.new }
     ensures fetched { (name : Name) → IsErrOf result (refused.Damaged name) → D.fetches port.old < D.fetches port.new }
     ensures fetches { D.fetches port.old ≤ D.fetches port.new }
 {
-    core.cancel_now(before)?;
+    core.clear_now(alloc, before)?;
     ripen_buffers(core, alloc, before, to)?;
     core.ripen(alloc, port, before, to)
 }

@@ -18,7 +18,7 @@ use Rattle.lethe_engine.specs.Reads.{listed}
 use Rattle.lethe_engine.specs.StandsFor.{Opened, StandsSince}
 use Rattle.lethe_engine.specs.Work.{HasNoFlush, HasNoFreeze}
 use Rattle.lethe_drive.specs.Answers.{IsRead, ReadAnswers}
-use Rattle.lethe_drive.specs.Moments.{IsKnown, Moment, moment_of, there_of}
+use Rattle.lethe_drive.specs.Moments.{IsKnown, Moment, moment_of, numbers_of, there_of}
 use Rattle.lethe_drive.specs.Past.{IsTickAsked}
 use Rattle.lethe_drive.specs.Replies.{got, paired}
 use Rattle.lethe_drive.specs.Steps.{IsStep}
@@ -60,18 +60,19 @@ returns-in-Put-clause-step g c = λ told config opened h stands s known.
     let old = view_of c.args.engine.now.core in
     let new = view_of c.put.new.self.core in
     let jobs = c.args.jobs.now in
+    let snapshots = numbers_of c.args.snapshots.now.items in
     let Put = call.Put c.in-Put.key c.in-Put.dkey c.in-Put.value in
     let result = c.put.result in
     let fetches = g.D.Disk.fetches c.put.new.port in
     let faults = g.D.Disk.port_faults c.put.new.port in
-    let before = moment_of old s (g.D.Disk.fetches c.args.port.now) (g.D.Disk.port_faults c.args.port.now) jobs.begun (there_of jobs) in
+    let before = moment_of old s (g.D.Disk.fetches c.args.port.now) (g.D.Disk.port_faults c.args.port.now) jobs.begun (there_of jobs) snapshots in
     let stood = c.put.ensures.answers.stands told config opened h stands 0 in
     let is = changed g.D.Disk.tells g.D.Disk.ports_fail told Put (λ s headers next. next ≡ put_over s c.in-Put.key c.in-Put.dkey c.in-Put.value) config opened h old new s known
-    (g.D.Disk.fetches c.args.port.now) fetches (g.D.Disk.port_faults c.args.port.now) faults jobs.begun (there_of jobs) stands (ap (λ (face : Face). face.flight) c.put.ensures.answers.face_is)
-    (λ room. room) (λ t begun. begun) result stood c.put.ensures.answers.still c.put.ensures.answers.refused c.put.ensures.place c.put.ensures.why
+    (g.D.Disk.fetches c.args.port.now) fetches (g.D.Disk.port_faults c.args.port.now) faults jobs.begun (there_of jobs) snapshots stands (ap (λ (face : Face). face.flight) c.put.ensures.answers.face_is)
+    (ap (λ (face : Face). face.pins) c.put.ensures.answers.face_is) (λ room. room) (λ t begun. begun) result stood c.put.ensures.answers.still c.put.ensures.answers.refused c.put.ensures.place c.put.ensures.why
     (λ holds. on_ok result _ _ (c.put.ensures.written told s holds) (λ done. (done.0, done.1, put_over done.0 c.in-Put.key c.in-Put.dkey c.in-Put.value, done.2, refl, done.3, done.4, done.5)))
     (λ at e. (c.put.ensures.stopped at e).0) (λ runs full. (c.put.ensures.exhausted runs full).0) in
-    subst (Comes g.D.Disk.ports_fail config opened h before new (λ t. moment_of new t fetches faults jobs.begun (there_of jobs)) c.placed.result) (sym c.in-Put.is)
+    subst (Comes g.D.Disk.ports_fail config opened h before new (λ t. moment_of new t fetches faults jobs.begun (there_of jobs) snapshots) c.placed.result) (sym c.in-Put.is)
     (behind h 0 (Makes Put) (result_err result), is.0, is.1, stood, (result, c.placed.ensures, is.2))
 
 -- Delete
@@ -85,17 +86,18 @@ returns-in-Delete-clause-step g c = λ told config opened h stands s known.
     let old = view_of c.args.engine.now.core in
     let new = view_of c.delete.new.self.core in
     let jobs = c.args.jobs.now in
+    let snapshots = numbers_of c.args.snapshots.now.items in
     let Delete = call.Delete c.in-Delete.key in
     let result = c.delete.result in
     let fetches = g.D.Disk.fetches c.delete.new.port in
     let faults = g.D.Disk.port_faults c.delete.new.port in
-    let before = moment_of old s (g.D.Disk.fetches c.args.port.now) (g.D.Disk.port_faults c.args.port.now) jobs.begun (there_of jobs) in
+    let before = moment_of old s (g.D.Disk.fetches c.args.port.now) (g.D.Disk.port_faults c.args.port.now) jobs.begun (there_of jobs) snapshots in
     let stood = c.delete.ensures.answers.stands told config opened h stands 0 in
     let is = changed g.D.Disk.tells g.D.Disk.ports_fail told Delete (λ s headers next. IsDeleteOver s headers c.in-Delete.key next) config opened h old new s known
-    (g.D.Disk.fetches c.args.port.now) fetches (g.D.Disk.port_faults c.args.port.now) faults jobs.begun (there_of jobs) stands (ap (λ (face : Face). face.flight) c.delete.ensures.answers.face_is)
-    (λ room. room) (λ t begun. begun) result stood c.delete.ensures.answers.still c.delete.ensures.answers.refused c.delete.ensures.place c.delete.ensures.why (c.delete.ensures.written told s)
+    (g.D.Disk.fetches c.args.port.now) fetches (g.D.Disk.port_faults c.args.port.now) faults jobs.begun (there_of jobs) snapshots stands (ap (λ (face : Face). face.flight) c.delete.ensures.answers.face_is)
+    (ap (λ (face : Face). face.pins) c.delete.ensures.answers.face_is) (λ room. room) (λ t begun. begun) result stood c.delete.ensures.answers.still c.delete.ensures.answers.refused c.delete.ensures.place c.delete.ensures.why (c.delete.ensures.written told s)
     (λ at e. (c.delete.ensures.stopped at e).0) (λ runs full. (c.delete.ensures.exhausted runs full).0) in
-    subst (Comes g.D.Disk.ports_fail config opened h before new (λ t. moment_of new t fetches faults jobs.begun (there_of jobs)) c.placed-in-Delete.result) (sym c.in-Delete.is)
+    subst (Comes g.D.Disk.ports_fail config opened h before new (λ t. moment_of new t fetches faults jobs.begun (there_of jobs) snapshots) c.placed-in-Delete.result) (sym c.in-Delete.is)
     (behind h 0 (Makes Delete) (result_err result), is.0, is.1, stood, (result, c.placed-in-Delete.ensures, is.2))
 
 -- Erase
@@ -110,18 +112,19 @@ returns-in-Erase-clause-step g c = λ told config opened h stands s known.
     let old = view_of c.args.engine.now.core in
     let new = view_of c.erase.new.self.core in
     let jobs = c.args.jobs.now in
+    let snapshots = numbers_of c.args.snapshots.now.items in
     let Erase = call.Erase c.in-Erase.range in
     let result = c.erase.result in
     let fetches = g.D.Disk.fetches c.erase.new.port in
     let faults = g.D.Disk.port_faults c.erase.new.port in
-    let before = moment_of old s (g.D.Disk.fetches c.args.port.now) (g.D.Disk.port_faults c.args.port.now) jobs.begun (there_of jobs) in
+    let before = moment_of old s (g.D.Disk.fetches c.args.port.now) (g.D.Disk.port_faults c.args.port.now) jobs.begun (there_of jobs) snapshots in
     let stood = c.erase.ensures.answers.stands told config opened h stands 0 in
     let is = changed g.D.Disk.tells g.D.Disk.ports_fail told Erase (λ s headers next. next ≡ erase_over s c.in-Erase.range) config opened h old new s known
-    (g.D.Disk.fetches c.args.port.now) fetches (g.D.Disk.port_faults c.args.port.now) faults jobs.begun (there_of jobs) stands (ap (λ (face : Face). face.flight) c.erase.ensures.answers.face_is)
-    (λ room. room) (λ t begun. begun) result stood c.erase.ensures.answers.still c.erase.ensures.answers.refused c.erase.ensures.place c.erase.ensures.why
+    (g.D.Disk.fetches c.args.port.now) fetches (g.D.Disk.port_faults c.args.port.now) faults jobs.begun (there_of jobs) snapshots stands (ap (λ (face : Face). face.flight) c.erase.ensures.answers.face_is)
+    (ap (λ (face : Face). face.pins) c.erase.ensures.answers.face_is) (λ room. room) (λ t begun. begun) result stood c.erase.ensures.answers.still c.erase.ensures.answers.refused c.erase.ensures.place c.erase.ensures.why
     (λ holds. on_ok result _ _ (c.erase.ensures.written told s holds) (λ done. (done.0, done.1, erase_over done.0 c.in-Erase.range, done.2, refl, done.3, done.4, done.5)))
     (λ at e. (c.erase.ensures.stopped at e).0) (λ runs full. (c.erase.ensures.exhausted runs full).0) in
-    subst (Comes g.D.Disk.ports_fail config opened h before new (λ t. moment_of new t fetches faults jobs.begun (there_of jobs)) c.placed-in-Erase.result) (sym c.in-Erase.is)
+    subst (Comes g.D.Disk.ports_fail config opened h before new (λ t. moment_of new t fetches faults jobs.begun (there_of jobs) snapshots) c.placed-in-Erase.result) (sym c.in-Erase.is)
     (behind h 0 (Makes Erase) (result_err result), is.0, is.1, stood, (result, c.placed-in-Erase.ensures, is.2))
 
 -- Tick
@@ -130,12 +133,13 @@ pub returns-in-Tick-clause-step : goal.returns-in-Tick-clause-step
 returns-in-Tick-clause-step g c = λ told config opened h stands s known.
     let new = view_of c.tick.new.engine.core in
     let jobs = c.tick.new.jobs in
+    let snapshots = numbers_of c.args.snapshots.now.items in
     let fetches = g.D.Disk.fetches c.tick.new.port in
     let faults = g.D.Disk.port_faults c.tick.new.port in
-    let before = moment_of (view_of c.args.engine.now.core) s (g.D.Disk.fetches c.args.port.now) (g.D.Disk.port_faults c.args.port.now) c.args.jobs.now.begun (there_of c.args.jobs.now) in
-    let is = c.tick.ensures.step told config opened h stands s known in
-    let now = moment_of new is.1 fetches faults jobs.begun (there_of jobs) in
-    subst (Comes g.D.Disk.ports_fail config opened h before new (λ t. moment_of new t fetches faults jobs.begun (there_of jobs)) c.told.result) (sym c.in-Tick.is)
+    let before = moment_of (view_of c.args.engine.now.core) s (g.D.Disk.fetches c.args.port.now) (g.D.Disk.port_faults c.args.port.now) c.args.jobs.now.begun (there_of c.args.jobs.now) snapshots in
+    let is = c.tick.ensures.step told config opened h stands s known snapshots in
+    let now = moment_of new is.1 fetches faults jobs.begun (there_of jobs) snapshots in
+    subst (Comes g.D.Disk.ports_fail config opened h before new (λ t. moment_of new t fetches faults jobs.begun (there_of jobs) snapshots) c.told.result) (sym c.in-Tick.is)
     (is.0, is.1, is.2, is.3, (c.tick.result, c.told.ensures, subst (λ (to : ℕ). IsTick g.D.Disk.ports_fail to h before c.tick.result is.0 now) c.get.ensures.number is.4))
 
 pub returns-in-Tick-clause-rounds : goal.returns-in-Tick-clause-rounds
@@ -147,24 +151,26 @@ pub returns-in-Ok-clause-step : goal.returns-in-Ok-clause-step
 returns-in-Ok-clause-step g c = λ told config opened h stands s known.
     let view = view_of c.args.engine.now.core in
     let jobs = c.args.jobs.now in
+    let snapshots = numbers_of c.args.snapshots.now.items in
     let fetches = g.D.Disk.fetches c.get-in-Get.new.port in
     let faults = g.D.Disk.port_faults c.get-in-Get.new.port in
-    let before = moment_of view s (g.D.Disk.fetches c.args.port.now) (g.D.Disk.port_faults c.args.port.now) jobs.begun (there_of jobs) in
-    let is = is_read g.D.Disk.ports_fail (reads.Get c.in-Get.key) reads.Found h view s (g.D.Disk.fetches c.args.port.now) fetches (g.D.Disk.port_faults c.args.port.now) faults jobs.begun (there_of jobs)
+    let before = moment_of view s (g.D.Disk.fetches c.args.port.now) (g.D.Disk.port_faults c.args.port.now) jobs.begun (there_of jobs) snapshots in
+    let is = is_read g.D.Disk.ports_fail (reads.Get c.in-Get.key) reads.Found h view s (g.D.Disk.fetches c.args.port.now) fetches (g.D.Disk.port_faults c.args.port.now) faults jobs.begun (there_of jobs) snapshots
     c.get-in-Get.result (c.get-in-Get.ensures.answer told config h stands.now) c.get-in-Get.ensures.why c.get-in-Get.ensures.fault c.get-in-Get.ensures.can_fail (c.get-in-Get.ensures.undamaged told c.requires.sound) in
-    subst (Comes g.D.Disk.ports_fail config opened h before view (λ t. moment_of view t fetches faults jobs.begun (there_of jobs)) (reply.Got c.in-Ok.held)) (sym c.in-Get.is)
+    subst (Comes g.D.Disk.ports_fail config opened h before view (λ t. moment_of view t fetches faults jobs.begun (there_of jobs) snapshots) (reply.Got c.in-Ok.held)) (sym c.in-Get.is)
     (h, s, known, stands, (c.get-in-Get.result, sym (ap got c.in-Ok.is), is))
 
 pub returns-in-Get-clause-step : goal.returns-in-Get-clause-step
 returns-in-Get-clause-step g c = λ told config opened h stands s known.
     let view = view_of c.args.engine.now.core in
     let jobs = c.args.jobs.now in
+    let snapshots = numbers_of c.args.snapshots.now.items in
     let fetches = g.D.Disk.fetches c.get-in-Get.new.port in
     let faults = g.D.Disk.port_faults c.get-in-Get.new.port in
-    let before = moment_of view s (g.D.Disk.fetches c.args.port.now) (g.D.Disk.port_faults c.args.port.now) jobs.begun (there_of jobs) in
-    let is = is_read g.D.Disk.ports_fail (reads.Get c.in-Get.key) reads.Found h view s (g.D.Disk.fetches c.args.port.now) fetches (g.D.Disk.port_faults c.args.port.now) faults jobs.begun (there_of jobs)
+    let before = moment_of view s (g.D.Disk.fetches c.args.port.now) (g.D.Disk.port_faults c.args.port.now) jobs.begun (there_of jobs) snapshots in
+    let is = is_read g.D.Disk.ports_fail (reads.Get c.in-Get.key) reads.Found h view s (g.D.Disk.fetches c.args.port.now) fetches (g.D.Disk.port_faults c.args.port.now) faults jobs.begun (there_of jobs) snapshots
     c.get-in-Get.result (c.get-in-Get.ensures.answer told config h stands.now) c.get-in-Get.ensures.why c.get-in-Get.ensures.fault c.get-in-Get.ensures.can_fail (c.get-in-Get.ensures.undamaged told c.requires.sound) in
-    subst (Comes g.D.Disk.ports_fail config opened h before view (λ t. moment_of view t fetches faults jobs.begun (there_of jobs)) (reply.Refused c.in-Err.why)) (sym c.in-Get.is)
+    subst (Comes g.D.Disk.ports_fail config opened h before view (λ t. moment_of view t fetches faults jobs.begun (there_of jobs) snapshots) (reply.Refused c.in-Err.why)) (sym c.in-Get.is)
     (h, s, known, stands, (c.get-in-Get.result, sym (ap got c.in-Err.is), is))
 
 -- Scan
@@ -176,29 +182,31 @@ pub returns-in-Ok-scan-clause-step : goal.returns-in-Ok-scan-clause-step
 returns-in-Ok-scan-clause-step g c = λ told config opened h stands s known.
     let view = view_of c.args.engine.now.core in
     let jobs = c.args.jobs.now in
+    let snapshots = numbers_of c.args.snapshots.now.items in
     let Scan = reads.Scan c.in-Scan.lo c.in-Scan.hi in
     let fetches = g.D.Disk.fetches c.scan.new.port in
     let faults = g.D.Disk.port_faults c.scan.new.port in
-    let before = moment_of view s (g.D.Disk.fetches c.args.port.now) (g.D.Disk.port_faults c.args.port.now) jobs.begun (there_of jobs) in
-    let now = moment_of view s fetches faults jobs.begun (there_of jobs) in
-    let is = is_read g.D.Disk.ports_fail Scan (λ pairs. listed (items_in pairs)) h view s (g.D.Disk.fetches c.args.port.now) fetches (g.D.Disk.port_faults c.args.port.now) faults jobs.begun (there_of jobs)
+    let before = moment_of view s (g.D.Disk.fetches c.args.port.now) (g.D.Disk.port_faults c.args.port.now) jobs.begun (there_of jobs) snapshots in
+    let now = moment_of view s fetches faults jobs.begun (there_of jobs) snapshots in
+    let is = is_read g.D.Disk.ports_fail Scan (λ pairs. listed (items_in pairs)) h view s (g.D.Disk.fetches c.args.port.now) fetches (g.D.Disk.port_faults c.args.port.now) faults jobs.begun (there_of jobs) snapshots
     c.scan.result (c.scan.ensures.answer told config h stands.now) c.scan.ensures.why c.scan.ensures.fault c.scan.ensures.can_fail (c.scan.ensures.undamaged told c.requires.sound) in
     let told_as : reply.Pairs c.of.result ≡ paired (seen_as items_in c.scan.result) = ap reply.Pairs c.of.ensures ∙ sym (ap (λ result. paired (seen_as items_in result)) c.in-Ok-scan.is) in
-    subst (Comes g.D.Disk.ports_fail config opened h before view (λ t. moment_of view t fetches faults jobs.begun (there_of jobs)) (reply.Pairs c.of.result)) (sym c.in-Scan.is)
+    subst (Comes g.D.Disk.ports_fail config opened h before view (λ t. moment_of view t fetches faults jobs.begun (there_of jobs) snapshots) (reply.Pairs c.of.result)) (sym c.in-Scan.is)
     (h, s, known, stands, (seen_as items_in c.scan.result, told_as, read_as items_in g.D.Disk.ports_fail Scan listed h before now c.scan.result h is))
 
 pub returns-in-Scan-clause-step : goal.returns-in-Scan-clause-step
 returns-in-Scan-clause-step g c = λ told config opened h stands s known.
     let view = view_of c.args.engine.now.core in
     let jobs = c.args.jobs.now in
+    let snapshots = numbers_of c.args.snapshots.now.items in
     let Scan = reads.Scan c.in-Scan.lo c.in-Scan.hi in
     let fetches = g.D.Disk.fetches c.scan.new.port in
     let faults = g.D.Disk.port_faults c.scan.new.port in
-    let before = moment_of view s (g.D.Disk.fetches c.args.port.now) (g.D.Disk.port_faults c.args.port.now) jobs.begun (there_of jobs) in
-    let now = moment_of view s fetches faults jobs.begun (there_of jobs) in
-    let is = is_read g.D.Disk.ports_fail Scan (λ pairs. listed (items_in pairs)) h view s (g.D.Disk.fetches c.args.port.now) fetches (g.D.Disk.port_faults c.args.port.now) faults jobs.begun (there_of jobs)
+    let before = moment_of view s (g.D.Disk.fetches c.args.port.now) (g.D.Disk.port_faults c.args.port.now) jobs.begun (there_of jobs) snapshots in
+    let now = moment_of view s fetches faults jobs.begun (there_of jobs) snapshots in
+    let is = is_read g.D.Disk.ports_fail Scan (λ pairs. listed (items_in pairs)) h view s (g.D.Disk.fetches c.args.port.now) fetches (g.D.Disk.port_faults c.args.port.now) faults jobs.begun (there_of jobs) snapshots
     c.scan.result (c.scan.ensures.answer told config h stands.now) c.scan.ensures.why c.scan.ensures.fault c.scan.ensures.can_fail (c.scan.ensures.undamaged told c.requires.sound) in
-    subst (Comes g.D.Disk.ports_fail config opened h before view (λ t. moment_of view t fetches faults jobs.begun (there_of jobs)) (reply.Refused c.in-Err-scan.why)) (sym c.in-Scan.is) (
+    subst (Comes g.D.Disk.ports_fail config opened h before view (λ t. moment_of view t fetches faults jobs.begun (there_of jobs) snapshots) (reply.Refused c.in-Err-scan.why)) (sym c.in-Scan.is) (
       h,
       s,
       known,
@@ -217,14 +225,15 @@ returns-in-Freeze-clause-step g c = λ told config opened h stands s known.
     let old = view_of c.args.engine.now.core in
     let new = view_of c.freeze.new.self.core in
     let jobs = c.args.jobs.now in
+    let snapshots = numbers_of c.args.snapshots.now.items in
     let result = c.freeze.result in
     let fetches = g.D.Disk.fetches c.args.port.now in
     let faults = g.D.Disk.port_faults c.args.port.now in
     let stood = c.freeze.ensures.answers.stands told config opened h stands 0 in
-    let is = worked g.D.Disk.tells told config opened h old new s known fetches faults jobs.begun (there_of jobs) HasNoFreeze IsFrozen (IsShortToFreeze old.state) c.freeze.ensures.answers.face_is
+    let is = worked g.D.Disk.tells told config opened h old new s known fetches faults jobs.begun (there_of jobs) snapshots HasNoFreeze IsFrozen (IsShortToFreeze old.state) c.freeze.ensures.answers.face_is
     result stood c.freeze.ensures.answers.still c.freeze.ensures.answers.refused c.freeze.ensures.idle (λ none. (let same = c.freeze.ensures.same none in λ i. view_of (same i).core)) (c.freeze.ensures.done told s) c.freeze.ensures.why (λ at e. (c.freeze.ensures.stopped at e).0)
     (λ runs some full. (c.freeze.ensures.exhausted runs some full).0) in
-    subst (Comes g.D.Disk.ports_fail config opened h (moment_of old s fetches faults jobs.begun (there_of jobs)) new (λ t. moment_of new t fetches faults jobs.begun (there_of jobs)) c.flagged.result) (sym c.in-Freeze.is)
+    subst (Comes g.D.Disk.ports_fail config opened h (moment_of old s fetches faults jobs.begun (there_of jobs) snapshots) new (λ t. moment_of new t fetches faults jobs.begun (there_of jobs) snapshots) c.flagged.result) (sym c.in-Freeze.is)
     (behind h 0 (Serves call.Work) (result_err result), is.0, is.1, stood, (result, c.flagged.ensures, is.2))
 
 -- Flush
@@ -238,14 +247,15 @@ returns-in-Flush-clause-step g c = λ told config opened h stands s known.
     let old = view_of c.args.engine.now.core in
     let new = view_of c.flush.new.self.core in
     let jobs = c.args.jobs.now in
+    let snapshots = numbers_of c.args.snapshots.now.items in
     let result = c.flush.result in
     let fetches = g.D.Disk.fetches c.args.port.now in
     let faults = g.D.Disk.port_faults c.args.port.now in
     let stood = c.flush.ensures.answers.stands told config opened h stands 0 in
-    let is = worked g.D.Disk.tells told config opened h old new s known fetches faults jobs.begun (there_of jobs) HasNoFlush IsFlushed (IsShortToFlush old.state) c.flush.ensures.answers.face_is
+    let is = worked g.D.Disk.tells told config opened h old new s known fetches faults jobs.begun (there_of jobs) snapshots HasNoFlush IsFlushed (IsShortToFlush old.state) c.flush.ensures.answers.face_is
     result stood c.flush.ensures.answers.still c.flush.ensures.answers.refused c.flush.ensures.idle (λ none. (let same = c.flush.ensures.same none in λ i. view_of (same i).core)) (c.flush.ensures.done told s) c.flush.ensures.why (λ at e. (c.flush.ensures.stopped at e).0)
     (λ runs some full. (c.flush.ensures.exhausted runs some full).0) in
-    subst (Comes g.D.Disk.ports_fail config opened h (moment_of old s fetches faults jobs.begun (there_of jobs)) new (λ t. moment_of new t fetches faults jobs.begun (there_of jobs)) c.flagged-in-Flush.result) (sym c.in-Flush.is)
+    subst (Comes g.D.Disk.ports_fail config opened h (moment_of old s fetches faults jobs.begun (there_of jobs) snapshots) new (λ t. moment_of new t fetches faults jobs.begun (there_of jobs) snapshots) c.flagged-in-Flush.result) (sym c.in-Flush.is)
     (behind h 0 (Serves call.Work) (result_err result), is.0, is.1, stood, (result, c.flagged-in-Flush.ensures, is.2))
 
 -- Jobs
@@ -253,38 +263,74 @@ returns-in-Flush-clause-step g c = λ told config opened h stands s known.
 pub returns-in-Begin-clause-step : goal.returns-in-Begin-clause-step
 returns-in-Begin-clause-step g c = λ told config opened h stands s known.
     let jobs = c.args.jobs.now in
+    let snapshots = numbers_of c.args.snapshots.now.items in
     let new = c.begin.new.jobs in
     let fetches = g.D.Disk.fetches c.args.port.now in
     let faults = g.D.Disk.port_faults c.args.port.now in
-    subst (Comes g.D.Disk.ports_fail config opened h (moment_of (view_of c.args.engine.now.core) s fetches faults jobs.begun (there_of jobs)) (view_of c.begin.new.engine.core)
-    (λ t. moment_of (view_of c.begin.new.engine.core) t fetches faults new.begun (there_of new)) c.begin.result) (sym c.in-Begin.is) (c.begin.ensures.step told config opened h stands s known fetches faults)
+    subst (Comes g.D.Disk.ports_fail config opened h (moment_of (view_of c.args.engine.now.core) s fetches faults jobs.begun (there_of jobs) snapshots) (view_of c.begin.new.engine.core)
+    (λ t. moment_of (view_of c.begin.new.engine.core) t fetches faults new.begun (there_of new) snapshots) c.begin.result) (sym c.in-Begin.is) (c.begin.ensures.step told config opened h stands s known fetches faults snapshots)
 
 pub returns-in-WriteOut-clause-step : goal.returns-in-WriteOut-clause-step
 returns-in-WriteOut-clause-step g c = λ told config opened h stands s known.
     let jobs = c.args.jobs.now in
+    let snapshots = numbers_of c.args.snapshots.now.items in
     let new = c.write_out.new.jobs in
     let fetches = g.D.Disk.fetches c.args.port.now in
     let faults = g.D.Disk.port_faults c.args.port.now in
-    subst (Comes g.D.Disk.ports_fail config opened h (moment_of (view_of c.args.engine.now.core) s fetches faults jobs.begun (there_of jobs)) (view_of c.write_out.new.engine.core)
-    (λ t. moment_of (view_of c.write_out.new.engine.core) t fetches faults new.begun (there_of new)) c.write_out.result) (sym c.in-WriteOut.is) (c.write_out.ensures.step told config opened h stands s known fetches faults)
+    subst (Comes g.D.Disk.ports_fail config opened h (moment_of (view_of c.args.engine.now.core) s fetches faults jobs.begun (there_of jobs) snapshots) (view_of c.write_out.new.engine.core)
+    (λ t. moment_of (view_of c.write_out.new.engine.core) t fetches faults new.begun (there_of new) snapshots) c.write_out.result) (sym c.in-WriteOut.is) (c.write_out.ensures.step told config opened h stands s known fetches faults snapshots)
 
 pub returns-in-Install-clause-step : goal.returns-in-Install-clause-step
 returns-in-Install-clause-step g c = λ told config opened h stands s known.
     let jobs = c.args.jobs.now in
+    let snapshots = numbers_of c.args.snapshots.now.items in
     let new = c.install.new.jobs in
     let fetches = g.D.Disk.fetches c.args.port.now in
     let faults = g.D.Disk.port_faults c.args.port.now in
-    subst (Comes g.D.Disk.ports_fail config opened h (moment_of (view_of c.args.engine.now.core) s fetches faults jobs.begun (there_of jobs)) (view_of c.install.new.engine.core)
-    (λ t. moment_of (view_of c.install.new.engine.core) t fetches faults new.begun (there_of new)) c.install.result) (sym c.in-Install.is) (c.install.ensures.step told config opened h stands s known fetches faults)
+    subst (Comes g.D.Disk.ports_fail config opened h (moment_of (view_of c.args.engine.now.core) s fetches faults jobs.begun (there_of jobs) snapshots) (view_of c.install.new.engine.core)
+    (λ t. moment_of (view_of c.install.new.engine.core) t fetches faults new.begun (there_of new) snapshots) c.install.result) (sym c.in-Install.is) (c.install.ensures.step told config opened h stands s known fetches faults snapshots)
+
+pub returns-in-Cancel-clause-step : goal.returns-in-Cancel-clause-step
+returns-in-Cancel-clause-step g c = λ told config opened h stands s known.
+    let jobs = c.args.jobs.now in
+    let snapshots = numbers_of c.args.snapshots.now.items in
+    let new = c.cancel.new.jobs in
+    let fetches = g.D.Disk.fetches c.args.port.now in
+    let faults = g.D.Disk.port_faults c.args.port.now in
+    subst (Comes g.D.Disk.ports_fail config opened h (moment_of (view_of c.args.engine.now.core) s fetches faults jobs.begun (there_of jobs) snapshots) (view_of c.cancel.new.engine.core)
+    (λ t. moment_of (view_of c.cancel.new.engine.core) t fetches faults new.begun (there_of new) snapshots) c.cancel.result) (sym c.in-Cancel.is) (c.cancel.ensures.step told config opened h stands s known fetches faults snapshots)
+
+-- Pins
+
+pub returns-in-Pin-clause-jobs : goal.returns-in-Pin-clause-jobs
+returns-in-Pin-clause-jobs g c =
+    let same = c.pin.ensures.same in
+    let view : view_of c.pin.new.engine.core ≡ record (view_of c.args.engine.now.core) { pins = (view_of c.pin.new.engine.core).pins } = λ i. view_of (same i).core in
+    theirs_on g.D.Disk.tells (view_of c.args.engine.now.core) (view_of c.pin.new.engine.core) c.args.jobs.now (ap (λ (view : View). view.flight) view) (ap (λ (view : View). view.rounds) view) c.requires.jobs
+
+pub returns-in-Pin-clause-step : goal.returns-in-Pin-clause-step
+returns-in-Pin-clause-step g c = λ told config opened h stands s known.
+    let jobs = c.args.jobs.now in
+    let fetches = g.D.Disk.fetches c.args.port.now in
+    let faults = g.D.Disk.port_faults c.args.port.now in
+    subst (Comes g.D.Disk.ports_fail config opened h (moment_of (view_of c.args.engine.now.core) s fetches faults jobs.begun (there_of jobs) (numbers_of c.args.snapshots.now.items)) (view_of c.pin.new.engine.core)
+    (λ t. moment_of (view_of c.pin.new.engine.core) t fetches faults jobs.begun (there_of jobs) (numbers_of c.pin.new.snapshots.items)) c.pin.result) (sym c.in-Pin.is)
+    (c.pin.ensures.step told config opened h stands s known fetches faults jobs.begun (there_of jobs))
+
+pub returns-clause-jobs : goal.returns-clause-jobs
+returns-clause-jobs g c =
+    let same = c.release.ensures.same in
+    let view : view_of c.release.new.engine.core ≡ record (view_of c.args.engine.now.core) { pins = (view_of c.release.new.engine.core).pins } = λ i. view_of (same i).core in
+    theirs_on g.D.Disk.tells (view_of c.args.engine.now.core) (view_of c.release.new.engine.core) c.args.jobs.now (ap (λ (view : View). view.flight) view) (ap (λ (view : View). view.rounds) view) c.requires.jobs
 
 pub returns-clause-step : goal.returns-clause-step
 returns-clause-step g c = λ told config opened h stands s known.
     let jobs = c.args.jobs.now in
-    let new = c.cancel.new.jobs in
     let fetches = g.D.Disk.fetches c.args.port.now in
     let faults = g.D.Disk.port_faults c.args.port.now in
-    subst (Comes g.D.Disk.ports_fail config opened h (moment_of (view_of c.args.engine.now.core) s fetches faults jobs.begun (there_of jobs)) (view_of c.cancel.new.engine.core)
-    (λ t. moment_of (view_of c.cancel.new.engine.core) t fetches faults new.begun (there_of new)) c.cancel.result) (sym c.in-Cancel.is) (c.cancel.ensures.step told config opened h stands s known fetches faults)
+    subst (Comes g.D.Disk.ports_fail config opened h (moment_of (view_of c.args.engine.now.core) s fetches faults jobs.begun (there_of jobs) (numbers_of c.args.snapshots.now.items)) (view_of c.release.new.engine.core)
+    (λ t. moment_of (view_of c.release.new.engine.core) t fetches faults jobs.begun (there_of jobs) (numbers_of c.release.new.snapshots.items)) c.release.result) (sym c.in-Release.is)
+    (c.release.ensures.step told config opened h stands s known fetches faults jobs.begun (there_of jobs))
 
 -- No round ends but by a tick
 
@@ -312,5 +358,11 @@ returns-in-WriteOut-clause-rounds g c = inl c.write_out.ensures.rounds
 pub returns-in-Install-clause-rounds : goal.returns-in-Install-clause-rounds
 returns-in-Install-clause-rounds g c = inl c.install.ensures.rounds
 
+pub returns-in-Cancel-clause-rounds : goal.returns-in-Cancel-clause-rounds
+returns-in-Cancel-clause-rounds g c = inl c.cancel.ensures.rounds
+
+pub returns-in-Pin-clause-rounds : goal.returns-in-Pin-clause-rounds
+returns-in-Pin-clause-rounds g c = inl (let same = c.pin.ensures.same in λ i. (same i).core.begun.rounds)
+
 pub returns-clause-rounds : goal.returns-clause-rounds
-returns-clause-rounds g c = inl c.cancel.ensures.rounds
+returns-clause-rounds g c = inl (let same = c.release.ensures.same in λ i. (same i).core.begun.rounds)

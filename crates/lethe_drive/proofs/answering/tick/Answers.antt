@@ -17,12 +17,13 @@ tested g c =
       stops = λ at e. let first = is.stopped at e in let same = first.1 in (first.0, λ i. view_of (same i).core);
       backwards = λ runs behind. let first = is.backwards runs behind in let same = first.1 in (first.0, λ i. view_of (same i).core);
       last = λ runs forward none. let first = is.exhausted runs forward none in let same = first.1 in (first.0, λ i. view_of (same i).core);
+      pinned = λ may pin limit barred reached. let first = is.pinned may pin limit barred reached in let same = first.1 in (first.0, λ i. view_of (same i).core);
     }
 
 -- The round ends
 
 pub returns-then-rounds-clause-step : goal.returns-then-rounds-clause-step
-returns-then-rounds-clause-step g c = λ told config opened h stands s known.
+returns-then-rounds-clause-step g c = λ told config opened h stands s known snapshots.
     let to = c.args.to in
     let old = view_of c.args.engine.now.core in
     let new = view_of c.tick-answer.new.self.core in
@@ -35,8 +36,8 @@ returns-then-rounds-clause-step g c = λ told config opened h stands s known.
     let all = passed to old new face (omega (arith, many, c.rounds.ensures, c.rounds-rounds.ensures)) in
     let made =
     tick_ends g.D.Disk.tells g.D.Disk.ports_fail told to config opened h old new s known (g.D.Disk.fetches c.args.port.now) (g.D.Disk.fetches c.tick-answer.new.port) (g.D.Disk.port_faults c.args.port.now)
-    (g.D.Disk.port_faults c.tick-answer.new.port) jobs.begun (there_of jobs) None stands face all refl result (tested g (goal.at.returns-then-rounds-clause-step g c).After-tick-answer) stood is.answers.still
-    is.answers.refused is.place (is.done told s) is.why is.due (is.is_true told config opened h stands 0) in
+    (g.D.Disk.port_faults c.tick-answer.new.port) jobs.begun (there_of jobs) None snapshots stands face all refl result (tested g (goal.at.returns-then-rounds-clause-step g c).After-tick-answer) stood is.answers.still
+    is.answers.refused is.place (is.done told s) (is.named told) is.why is.due (is.is_true told config opened h stands 0) in
     (behind h 0 (Makes (call.Tick to)) (result_err result), made.0, made.1, stood, made.2)
 
 -- It goes on
@@ -51,7 +52,7 @@ returns-else-rounds-clause-jobs g c =
     theirs_on g.D.Disk.tells old new c.args.jobs.now (ap (λ (face : Face). face.flight) stays) (ap (λ (face : Face). face.rounds) stays) c.requires.jobs
 
 pub returns-else-rounds-clause-step : goal.returns-else-rounds-clause-step
-returns-else-rounds-clause-step g c = λ told config opened h stands s known.
+returns-else-rounds-clause-step g c = λ told config opened h stands s known snapshots.
     let to = c.args.to in
     let old = view_of c.args.engine.now.core in
     let new = view_of c.tick-answer.new.self.core in
@@ -64,6 +65,6 @@ returns-else-rounds-clause-step g c = λ told config opened h stands s known.
     let not = not_passed to old new face (omega (arith, few, c.rounds.ensures, c.rounds-rounds.ensures)) in
     let made =
     tick_stays g.D.Disk.tells g.D.Disk.ports_fail told to config opened h old new s known (g.D.Disk.fetches c.args.port.now) (g.D.Disk.fetches c.tick-answer.new.port) (g.D.Disk.port_faults c.args.port.now)
-    (g.D.Disk.port_faults c.tick-answer.new.port) jobs.begun (there_of jobs) (there_of jobs) stands face result (tested g (goal.at.returns-else-rounds-clause-step g c).After-tick-answer)
+    (g.D.Disk.port_faults c.tick-answer.new.port) jobs.begun (there_of jobs) (there_of jobs) snapshots stands face result (tested g (goal.at.returns-else-rounds-clause-step g c).After-tick-answer)
     c.requires.sound.writable.count not refl in
     (behind h 0 (Makes (call.Tick to)) (result_err result), made.0, made.1, stood, made.2)

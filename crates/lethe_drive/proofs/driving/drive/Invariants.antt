@@ -15,7 +15,8 @@ use Rattle.lethe_drive.proofs.Left.{IsGivenUpTo}
 use Rattle.lethe_drive.proofs.Stepping.{run_at}
 use Rattle.lethe_drive.proofs.driving.drive.Given as goal
 
--- the events so far are answered, no more jobs of earlier rounds are left than these, and there is room for the replies of the others, of twice as many jobs and one more
+-- the events so far are answered, no more jobs of earlier rounds are left and no more pins are held than these, and there is room for the replies of the others, of twice as many
+-- jobs and one more, and for as many pins
 abbrev pub invariant-loop-event : goal.invariant-loop-event
 invariant-loop-event g l =
     let old = view_of l.fn.engine.core in
@@ -27,13 +28,15 @@ invariant-loop-event g l =
       begun : l.jobs.begun ≤ length l.yielded;
       driven : g.D.Disk.tells → (config : Fields) (opened : Opened) (h : History) → StandsSince config opened h old → (s : Stored) → IsKnown config h old s
           → (k : History) × (t : Stored) × IsKnown config k now t × StandsSince config opened k now
-          × Steps g.D.Disk.ports_fail config h (run_at (moment_of old s (g.D.Disk.fetches l.fn.port) (g.D.Disk.port_faults l.fn.port) 0 None) []) l.yielded l.replies.items k
-          (run_of now t (g.D.Disk.fetches l.port) (g.D.Disk.port_faults l.port) l.jobs l.past.items);
+          × Steps g.D.Disk.ports_fail config h (run_at (moment_of old s (g.D.Disk.fetches l.fn.port) (g.D.Disk.port_faults l.fn.port) 0 None []) []) l.yielded l.replies.items k
+          (run_of now t (g.D.Disk.fetches l.port) (g.D.Disk.port_faults l.port) l.jobs l.snapshots.items l.past.items);
       faults : old.faults ≤ now.faults;
       room : 2 * length l.fn.events.items + 1 ≤ vec_capacity l.replies;
       len : vec_len l.replies ≡ length l.yielded;
       places : length l.fn.events.items ≤ vec_capacity l.past;
       few : length l.past.items ≤ length l.yielded;
+      pin_places : length l.fn.events.items ≤ vec_capacity l.snapshots;
+      few_pins : length l.snapshots.items ≤ length l.yielded;
     }
 
 -- those before it were given up, and there is room for the replies of the others and one more

@@ -23,8 +23,8 @@ returns-in-Some-place_of-clause-event g c = λ told config opened h stands s kno
     let view = view_of c.args.engine.now.core in
     let fetches = g.D.Disk.fetches c.args.port.now in
     let faults = g.D.Disk.port_faults c.args.port.now in
-    let old = run_of view s fetches faults c.args.jobs.now past in
-    let new = run_of view s fetches faults c.args.jobs.now c.match-event.past.items in
+    let old = run_of view s fetches faults c.args.jobs.now c.args.snapshots.now.items past in
+    let new = run_of view s fetches faults c.args.jobs.now c.args.snapshots.now.items c.match-event.past.items in
     let reply = c.match-event.result in
     let named : named_by c.args.event ≡ Some number = sym c.job.ensures ∙ c.in-Some.is in
     elim c.match-event.branch [
@@ -39,7 +39,7 @@ returns-in-Some-place_of-clause-event g c = λ told config opened h stands s kno
               job = gone.2;
               back = gone.1;
               among = gone.4;
-              number_is = number_at number past c.deref.result.now c.deref.ensures.value c.place_of.result c.place_of.ensures.first place c.in-Some-place_of.is gone.0 gone.1 gone.2 gone.3 gone.4;
+              number_is = number_at (λ (job : Past). job.number) number past c.deref.result.now c.deref.ensures.value c.place_of.result c.place_of.ensures.first place c.in-Some-place_of.is gone.0 gone.1 gone.2 gone.3 gone.4;
               answer_is = w.result-is ∙ w.give_up.ensures.reply;
               history = refl;
               now = refl;
@@ -57,7 +57,7 @@ returns-in-Some-place_of-clause-event g c = λ told config opened h stands s kno
               job = refused.2;
               back = refused.1;
               among = refused.4;
-              number_is = number_at number past c.deref.result.now c.deref.ensures.value c.place_of.result c.place_of.ensures.first place c.in-Some-place_of.is refused.0 refused.1 refused.2 refused.3 refused.4;
+              number_is = number_at (λ (job : Past). job.number) number past c.deref.result.now c.deref.ensures.value c.place_of.result c.place_of.ensures.first place c.in-Some-place_of.is refused.0 refused.1 refused.2 refused.3 refused.4;
               answer_is = w.result-is ∙ refused.6;
               history = refl;
               now = refl;
@@ -88,15 +88,15 @@ absent g c = elim c.match-job.branch [
   | in-Some+in_default-place_of w ↦ λ number named.
       let same : w.in-Some.number ≡ number = same_Some w.in-Some.number number (sym w.in-Some.is ∙ c.job.ensures ∙ named) in
       subst (λ (number : ℕ). IsNoneOf number c.args.past.now.items) same
-      (none_named w.in-Some.number c.args.past.now.items w.deref.result.now w.deref.ensures.value w.place_of.result w.place_of.ensures.first w.in_default-place_of.is)
+      (none_named (λ (job : Past). job.number) w.in-Some.number c.args.past.now.items w.deref.result.now w.deref.ensures.value w.place_of.result w.place_of.ensures.first w.in_default-place_of.is)
   | in_default w ↦ λ number named. absurd (none-some number (sym (sym c.job.ensures ∙ w.in_default.is) ∙ named))
 ]
 
 abbrev before : (g : _) → After-answer-reply g → Stored → Run
-before g c s = run_of (view_of c.args.engine.now.core) s (g.D.Disk.fetches c.args.port.now) (g.D.Disk.port_faults c.args.port.now) c.args.jobs.now c.args.past.now.items
+before g c s = run_of (view_of c.args.engine.now.core) s (g.D.Disk.fetches c.args.port.now) (g.D.Disk.port_faults c.args.port.now) c.args.jobs.now c.args.snapshots.now.items c.args.past.now.items
 
 abbrev behind : (g : _) → After-answer-reply g → Stored → List Past → Run
-behind g c t past = run_of (view_of c.answer-reply.new.engine.core) t (g.D.Disk.fetches c.answer-reply.new.port) (g.D.Disk.port_faults c.answer-reply.new.port) c.answer-reply.new.jobs past
+behind g c t past = run_of (view_of c.answer-reply.new.engine.core) t (g.D.Disk.fetches c.answer-reply.new.port) (g.D.Disk.port_faults c.answer-reply.new.port) c.answer-reply.new.jobs c.answer-reply.new.snapshots.items past
 
 -- what it says of the round
 rounds : (g : _) (c : After-answer-reply g) → (c.answer-reply.new.engine.core.begun.rounds ≡ c.args.engine.now.core.begun.rounds)

@@ -26,7 +26,7 @@ returns-in-Ok-clause-jobs g c =
     }
 
 pub returns-in-Ok-clause-step : goal.returns-in-Ok-clause-step
-returns-in-Ok-clause-step g c = λ told config opened h stands s known fetches faults.
+returns-in-Ok-clause-step g c = λ told config opened h stands s known fetches faults snapshots.
     let old = view_of c.args.engine.now.core in
     let new = view_of c.begin.new.self.core in
     let jobs = c.args.jobs.now in
@@ -34,7 +34,8 @@ returns-in-Ok-clause-step g c = λ told config opened h stands s known fetches f
     let is = c.in-Ok.ensures in
     let runs : old.state.stopped ≡ None = not_stopped old.state.stopped (λ at e. ok_or_err job (Stopped at) (is.stopped at e).0) in
     let begun = is.begun told s (known.held runs) in
-    let retired : new.retired ≡ old.retired = ap (λ (face : Face). face.retired) is.answers.face_is in (
+    let retired : new.retired ≡ old.retired = ap (λ (face : Face). face.retired) is.answers.face_is in
+    let pins : new.pins ≡ old.pins = ap (λ (face : Face). face.pins) is.answers.face_is in (
       h,
       s,
       known_held config opened h new (is.answers.stands told config opened h stands 0) s begun.1,
@@ -42,7 +43,7 @@ returns-in-Ok-clause-step g c = λ told config opened h stands s known fetches f
       (
         Ok jobs.begun,
         refl,
-        has_begun config h old new s fetches faults jobs.begun (there_of jobs) is.same.0 (λ i. parts_by_level (is.same.1 i)) retired (is.idle told) g.D.Disk.tells job is.number.1 runs
+        has_begun config h old new s fetches faults jobs.begun (there_of jobs) snapshots is.same.0 (λ i. parts_by_level (is.same.1 i)) retired pins (is.idle told) g.D.Disk.tells job is.number.1 runs
             (λ busy. ok_or_err job NothingDue (is.busy runs (some_mapped flying_of c.args.engine.now.core.flight busy)).0) begun.0 is.works is.unmade.0 is.unmade.2,
       ),
     )
@@ -52,7 +53,7 @@ returns-in-Err-clause-jobs g c =
     theirs_on g.D.Disk.tells (view_of c.args.engine.now.core) (view_of c.begin.new.self.core) c.args.jobs.now (ap (λ (face : Face). face.flight) c.in-Err.ensures.answers.face_is) (ap (λ (face : Face). face.rounds) c.in-Err.ensures.answers.face_is) c.requires.jobs
 
 pub returns-in-Err-clause-step : goal.returns-in-Err-clause-step
-returns-in-Err-clause-step g c = λ told config opened h stands s known fetches faults.
+returns-in-Err-clause-step g c = λ told config opened h stands s known fetches faults snapshots.
     let old = view_of c.args.engine.now.core in
     let new = view_of c.begin.new.self.core in
     let jobs = c.args.jobs.now in
@@ -60,6 +61,7 @@ returns-in-Err-clause-step g c = λ told config opened h stands s known fetches 
     let is = c.in-Err.ensures in
     let flight : new.flight ≡ old.flight = ap (λ (face : Face). face.flight) is.answers.face_is in
     let retired : new.retired ≡ old.retired = ap (λ (face : Face). face.retired) is.answers.face_is in
+    let pins : new.pins ≡ old.pins = ap (λ (face : Face). face.pins) is.answers.face_is in
     let levels : new.levels ≡ old.levels = λ i. parts_by_level (is.same.1 i) in (
       h,
       s,
@@ -68,7 +70,7 @@ returns-in-Err-clause-step g c = λ told config opened h stands s known fetches 
       (
         Err why,
         refl,
-        has_not_begun config h old new s fetches faults jobs.begun (there_of jobs) is.same.0 levels retired (is.idle told) g.D.Disk.tells told known why is.why flight
+        has_not_begun config h old new s fetches faults jobs.begun (there_of jobs) snapshots is.same.0 levels retired pins (is.idle told) g.D.Disk.tells told known why is.why flight
             (λ at e. refused_as c.begin.result why (Stopped at) c.in-Err.is (c.begin.ensures.stopped at e).0)
             (λ runs busy. refused_as c.begin.result why NothingDue c.in-Err.is (c.begin.ensures.busy runs (some_mapped flying_of c.args.engine.now.core.flight busy)).0),
       ),

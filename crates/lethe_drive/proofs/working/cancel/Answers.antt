@@ -7,7 +7,7 @@ use Rattle.lethe_engine.proofs.Faces.{given_up_free}
 use Rattle.lethe_engine.proofs.Rounds.{cancelled_flying}
 use Rattle.lethe_drive.specs.Moments.{going_of, moment_of, there_of}
 use Rattle.lethe_drive.specs.Steps.{IsThere}
-use Rattle.lethe_drive.proofs.Giving.{given, given_up, given_up_retired, given_up_rounds, theirs_back, theirs_flies, theirs_none}
+use Rattle.lethe_drive.proofs.Giving.{given, given_up, given_up_pins, given_up_retired, given_up_rounds, theirs_back, theirs_flies, theirs_none}
 use Rattle.lethe_drive.proofs.Naming.{no_such, none_there, other_there, put_back, there_is, there_none}
 use Rattle.lethe_drive.proofs.working.cancel.Goals as goal
 
@@ -15,7 +15,7 @@ pub returns-in_default-clause-jobs : goal.returns-in_default-clause-jobs
 returns-in_default-clause-jobs g c = theirs_none g.D.Disk.tells (view_of c.args.engine.now.core) c.args.jobs.now.begun c.take.new.self c.take.ensures.after
 
 pub returns-in_default-clause-step : goal.returns-in_default-clause-step
-returns-in_default-clause-step g c = λ told config opened h stands s known fetches faults.
+returns-in_default-clause-step g c = λ told config opened h stands s known fetches faults snapshots.
     let view = view_of c.args.engine.now.core in
     let jobs = c.args.jobs.now in
     let number = c.args.number in
@@ -25,7 +25,7 @@ returns-in_default-clause-step g c = λ told config opened h stands s known fetc
       s,
       known,
       stands,
-      inl (no_such jobs h view s fetches faults number (IsThere number (moment_of view s fetches faults jobs.begun (there_of jobs))) (none_there jobs h view s fetches faults number none)
+      inl (no_such jobs h view s fetches faults number snapshots (IsThere number (moment_of view s fetches faults jobs.begun (there_of jobs) snapshots)) (none_there jobs h view s fetches faults number snapshots none)
           (record jobs { there = c.take.new.self }) (λ i. record jobs { there = left i })),
     )
 
@@ -34,7 +34,7 @@ returns-then-numbered-number-clause-jobs g c =
     theirs_back g.D.Disk.tells (view_of c.args.engine.now.core) c.args.jobs.now c.requires.jobs c.in-Some.numbered (sym c.take.ensures.value ∙ c.in-Some.is)
 
 pub returns-then-numbered-number-clause-step : goal.returns-then-numbered-number-clause-step
-returns-then-numbered-number-clause-step g c = λ told config opened h stands s known fetches faults.
+returns-then-numbered-number-clause-step g c = λ told config opened h stands s known fetches faults snapshots.
     let view = view_of c.args.engine.now.core in
     let jobs = c.args.jobs.now in
     let number = c.args.number in
@@ -43,8 +43,8 @@ returns-then-numbered-number-clause-step g c = λ told config opened h stands s 
       s,
       known,
       stands,
-      inl (no_such jobs h view s fetches faults number (IsThere number (moment_of view s fetches faults jobs.begun (there_of jobs)))
-          (other_there jobs h view s fetches faults number c.in-Some.numbered there c.if-numbered-number.true) (record jobs { there = Some c.in-Some.numbered }) (put_back jobs c.in-Some.numbered there)),
+      inl (no_such jobs h view s fetches faults number snapshots (IsThere number (moment_of view s fetches faults jobs.begun (there_of jobs) snapshots))
+          (other_there jobs h view s fetches faults number snapshots c.in-Some.numbered there c.if-numbered-number.true) (record jobs { there = Some c.in-Some.numbered }) (put_back jobs c.in-Some.numbered there)),
     )
 
 pub cancel-requires-clause-flies : goal.cancel-requires-clause-flies
@@ -63,7 +63,7 @@ returns-clause-rounds g c =
     ap (λ (face : Face). face.rounds) (c.cancel.ensures.answers.face_is ∙ cancelled_flying old numbered.job flies) ∙ given_up_rounds (face_of old) old.state
 
 pub returns-clause-step : goal.returns-clause-step
-returns-clause-step g c = λ told config opened h stands s known fetches faults.
+returns-clause-step g c = λ told config opened h stands s known fetches faults snapshots.
     let old = view_of c.args.engine.now.core in
     let new = view_of c.cancel.new.self.core in
     let jobs = c.args.jobs.now in
@@ -73,9 +73,9 @@ returns-clause-step g c = λ told config opened h stands s known fetches faults.
     let is = c.cancel.ensures in
     let face = is.answers.face_is ∙ cancelled_flying old numbered.job (theirs_flies g.D.Disk.tells old jobs c.requires.jobs numbered there) in
     let is_given =
-    given_up g.D.Disk.tells told config opened h old new s known fetches faults jobs.begun (there_of jobs) (there_of gone) (there_none gone c.take.ensures.after) c.cancel.result
+    given_up g.D.Disk.tells told config opened h old new s known fetches faults jobs.begun (there_of jobs) (there_of gone) snapshots (there_none gone c.take.ensures.after) c.cancel.result
     (is.answers.stands told config opened h stands 0) is.answers.still is.answers.refused (is.held told s) (λ may. ap (λ (face : Face). face.flight) (face ∙ given_up_free (face_of old) old.state may))
-    (ap (λ (face : Face). face.retired) face ∙ given_up_retired (face_of old) old.state) is.why is.no_memory is.exhausted (λ at e. (is.stopped at e).0)
+    (ap (λ (face : Face). face.retired) face ∙ given_up_retired (face_of old) old.state) (ap (λ (face : Face). face.pins) face ∙ given_up_pins (face_of old) old.state) is.why is.no_memory is.exhausted (λ at e. (is.stopped at e).0)
     (λ runs full. let last = is.last runs full in (given c.cancel.result last.0, (let same = last.1 in λ i. view_of (same i).core))) in (
       behind h 0 (Serves Work) (result_err c.cancel.result),
       is_given.0,

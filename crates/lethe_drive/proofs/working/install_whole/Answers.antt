@@ -8,25 +8,25 @@ use Rattle.lethe_drive.proofs.Naming.{there_none}
 use Rattle.lethe_drive.proofs.working.install_whole.Goals as goal
 
 pub returns-in-Err-clause-step : goal.returns-in-Err-clause-step
-returns-in-Err-clause-step g c = λ told config opened h stands s known fetches faults.
+returns-in-Err-clause-step g c = λ told config opened h stands s known fetches faults snapshots.
     let numbered = c.args.numbered in
     let step = c.in-Err.ensures.step told config opened h stands s known in (
       step.0,
       step.1,
       step.2,
-      rest_refused g.D.Disk.tells g.D.Disk.ports_fail h (view_of c.args.engine.now.core) s numbered.number fetches faults c.args.jobs.now.begun numbered.job (view_of c.write_rest.new.engine.core) step.0
+      rest_refused g.D.Disk.tells g.D.Disk.ports_fail h (view_of c.args.engine.now.core) s numbered.number fetches faults c.args.jobs.now.begun snapshots numbered.job (view_of c.write_rest.new.engine.core) step.0
           c.write_rest.new.job c.in-Err.why c.write_rest.ensures.task c.write_rest.ensures.round c.in-Err.ensures.refused step.3,
     )
 
 pub returns-in-Ok-clause-step : goal.returns-in-Ok-clause-step
-returns-in-Ok-clause-step g c = λ told config opened h stands s known fetches faults.
+returns-in-Ok-clause-step g c = λ told config opened h stands s known fetches faults snapshots.
     let numbered = c.args.numbered in
     let step = c.in_default.ensures.step told config opened h stands s known in
     let stood = c.in-Ok.ensures.answers.stands told config opened h step.2 0 in
-    let made = installed_whole g.D.Disk.tells g.D.Disk.ports_fail h (view_of c.args.engine.now.core) s numbered.number fetches faults c.args.jobs.now.begun numbered.job config opened tt
+    let made = installed_whole g.D.Disk.tells g.D.Disk.ports_fail h (view_of c.args.engine.now.core) s numbered.number fetches faults c.args.jobs.now.begun snapshots numbered.job config opened tt
     (view_of c.write_rest.new.engine.core) (view_of c.install.new.self.core) stood c.write_rest.new.job step.0 (there_of c.args.jobs.now) c.write_rest.ensures.task step.1 step.3.done
     (λ at is. (c.in-Ok.ensures.stopped at is).1) (c.in-Ok.ensures.done told step.0) (ap (λ (face : Face). face.flight) c.in-Ok.ensures.answers.face_is)
-    (ap (λ (face : Face). face.retired) c.in-Ok.ensures.answers.face_is) (there_none c.args.jobs.now c.requires.none) in
+    (ap (λ (face : Face). face.pins) c.in-Ok.ensures.answers.face_is) step.3.pins c.in-Ok.ensures.named (there_none c.args.jobs.now c.requires.none) in
     (made.0, made.1, stood, made.2)
 
 pub install-requires-clause-works : goal.install-requires-clause-works
@@ -40,7 +40,7 @@ returns-in-Err-install-clause-jobs g c =
     (task_back numbered.job c.write_rest.new.job c.in-Err-install.job c.write_rest.ensures.task c.in-Err-install.ensures.handed.0) c.requires.reads (back.0 c.in_default.ensures.works.flies) back.1
 
 pub returns-in-Err-install-clause-step : goal.returns-in-Err-install-clause-step
-returns-in-Err-install-clause-step g c = λ told config opened h stands s known fetches faults.
+returns-in-Err-install-clause-step g c = λ told config opened h stands s known fetches faults snapshots.
     let numbered = c.args.numbered in
     let step = c.in_default.ensures.step told config opened h stands s known in
     let mid = view_of c.write_rest.new.engine.core in
@@ -48,9 +48,9 @@ returns-in-Err-install-clause-step g c = λ told config opened h stands s known 
     let is = c.in-Err-install.ensures in
     let after = is.answers.stands told config opened h step.2 0 in
     let not_made =
-    install_refused g.D.Disk.tells g.D.Disk.ports_fail h (view_of c.args.engine.now.core) s numbered.number fetches faults c.args.jobs.now.begun numbered.job told (c.requires.reads told)
+    install_refused g.D.Disk.tells g.D.Disk.ports_fail h (view_of c.args.engine.now.core) s numbered.number fetches faults c.args.jobs.now.begun snapshots numbered.job told (c.requires.reads told)
     (view_of c.write_rest.new.engine.core) c.write_rest.new.job c.write_rest.ensures.task c.in_default.ensures.works c.in_default.ensures.whole config opened stands step.2 c.write_rest.ensures.faults
-    step.0 step.1 step.3.done step.3.flight step.3.retired (view_of c.install.new.self.core) c.in-Err-install.job c.in-Err-install.why after is.answers.still is.answers.refused is.answers.face_is
+    step.0 step.1 step.3.done step.3.flight step.3.retired step.3.pins (view_of c.install.new.self.core) c.in-Err-install.job c.in-Err-install.why after is.answers.still is.answers.refused is.answers.face_is
     (task_back numbered.job c.write_rest.new.job c.in-Err-install.job c.write_rest.ensures.task is.handed.0) (is.handed.2 ∙ c.write_rest.ensures.round) is.back.1
     (reason_of_work mid whole (IsShortToInstall mid whole) (view_of c.install.new.self.core) c.in-Err-install.why (flies_now mid whole c.in_default.ensures.works.flies) is.why) is.drawn in
     (not_made.0, not_made.1, after, not_made.2)

@@ -12,8 +12,8 @@ use Rattle.lethe_drive.proofs.working.write_next.Goals as goal
 -- the outputs can't be made
 
 pub returns-in_err-piece-clause-step : goal.returns-in_err-piece-clause-step
-returns-in_err-piece-clause-step g c = λ told config opened h stands s known number fetches faults begun.
-    unread_paged g.D.Disk.tells g.D.Disk.ports_fail h (view_of c.args.engine.now.core) s number fetches faults begun c.args.job.now c.next_piece.new.self c.next_piece.ensures.task c.next_piece.ensures.round config opened
+returns-in_err-piece-clause-step g c = λ told config opened h stands s known number fetches faults begun snapshots.
+    unread_paged g.D.Disk.tells g.D.Disk.ports_fail h (view_of c.args.engine.now.core) s number fetches faults begun snapshots c.args.job.now c.next_piece.new.self c.next_piece.ensures.task c.next_piece.ensures.round config opened
     told (c.requires.reads told) stands known c.from_residual.result c.in_err-piece.field-0.0 (search rules) c.in_err-piece.ensures.unread c.in_err-piece.ensures.err
 
 -- there is a next page
@@ -26,7 +26,7 @@ write_out-requires-clause-works g c κs within =
 -- the engine refuses it
 
 pub returns-in_err-write_out-in-Some-clause-step : goal.returns-in_err-write_out-in-Some-clause-step
-returns-in_err-write_out-in-Some-clause-step g c = λ told config opened h stands s known number fetches faults begun.
+returns-in_err-write_out-in-Some-clause-step g c = λ told config opened h stands s known number fetches faults begun snapshots.
     let refused = c.in_err-write_out-in-Some.ensures in
     let same : c.write_out.new.job.task.value ≡ c.next_piece.new.self.task.value = λ i. (c.write_out.ensures.same.1 i).value in
     let old = view_of c.args.engine.now.core in
@@ -34,7 +34,7 @@ returns-in_err-write_out-in-Some-clause-step g c = λ told config opened h stand
     let why = c.in_err-write_out-in-Some.field-0.0 in
     let present : IsPast old mid → ⊥ = λ past. flies_now old c.args.job.now c.requires.works.flies (subst (λ (round : ℕ). round < old.rounds) c.next_piece.ensures.round past) in
     let reason = reason_of_work old mid (max_place ≤ old.state.next) (view_of c.write_out.new.self.core) why present refused.why in
-    refused_paged g.D.Disk.tells g.D.Disk.ports_fail h (view_of c.args.engine.now.core) s number fetches faults begun c.args.job.now c.write_out.new.job (same ∙ c.next_piece.ensures.task)
+    refused_paged g.D.Disk.tells g.D.Disk.ports_fail h (view_of c.args.engine.now.core) s number fetches faults begun snapshots c.args.job.now c.write_out.new.job (same ∙ c.next_piece.ensures.task)
     (c.write_out.ensures.same.4 ∙ c.next_piece.ensures.round) told config opened known (view_of c.write_out.new.self.core) c.in_err-write_out-in-Some.field-0.0 refused.answers.refused refused.answers.face_is refused.answers.still
     c.from_residual-in_err-write_out-in-Some.result (search rules) (refused.answers.stands told config opened h stands 0) reason refused.refused
 
@@ -62,7 +62,7 @@ returns-in_ok-write_out-in-Some-clause-fewer g c = λ done.
     (left_of mid.made next c.in-Some.piece c.args.job.now.written is asked.left) c.write_out.ensures.same.0 c.in_ok-write_out-in-Some.ensures.written
 
 pub returns-in_ok-write_out-in-Some-clause-step : goal.returns-in_ok-write_out-in-Some-clause-step
-returns-in_ok-write_out-in-Some-clause-step g c = λ told config opened h stands s known number fetches faults begun.
+returns-in_ok-write_out-in-Some-clause-step g c = λ told config opened h stands s known number fetches faults begun snapshots.
     let old : View = view_of c.args.engine.now.core in
     let new : View = view_of c.write_out.new.self.core in
     let mid = c.next_piece.new.self in
@@ -74,7 +74,7 @@ returns-in_ok-write_out-in-Some-clause-step g c = λ told config opened h stands
       s,
       known_held config opened h new (written.answers.stands told config opened h stands 0) s (written.held told s (known.held runs)),
       written.answers.stands told config opened h stands 0,
-      page_written g.D.Disk.tells g.D.Disk.ports_fail h old s number fetches faults begun c.args.job.now mid c.next_piece.ensures.task c.next_piece.ensures.round told (c.requires.reads told) c.requires.works
+      page_written g.D.Disk.tells g.D.Disk.ports_fail h old s number fetches faults begun snapshots c.args.job.now mid c.next_piece.ensures.task c.next_piece.ensures.round told (c.requires.reads told) c.requires.works
           c.next_piece.ensures.written asked.made c.next_piece.ensures.job new c.write_out.new.job (λ i. (c.write_out.ensures.same.1 i).value) c.write_out.ensures.same.4 written.works.asked written.written
           (left_of mid.made next c.in-Some.piece c.args.job.now.written is asked.left) written.answers.face_is (written.page told),
     )
@@ -87,7 +87,7 @@ returns-in-None-clause-works g c =
     (view_of c.args.engine.now.core) c.next_piece.ensures.round c.requires.works c.in_ok-piece.ensures.ok
 
 pub returns-in-None-clause-step : goal.returns-in-None-clause-step
-returns-in-None-clause-step g c = λ told config opened h stands s known number fetches faults begun.
+returns-in-None-clause-step g c = λ told config opened h stands s known number fetches faults begun snapshots.
     let old : View = view_of c.args.engine.now.core in
     let mid = c.next_piece.new.self in
     let next = c.in_ok-piece.field-0 in
@@ -96,6 +96,6 @@ returns-in-None-clause-step g c = λ told config opened h stands s known number 
       s,
       known,
       stands,
-      no_page g.D.Disk.tells g.D.Disk.ports_fail h old s number fetches faults begun c.args.job.now mid c.next_piece.ensures.task c.next_piece.ensures.round told (c.requires.reads told) c.requires.works c.next_piece.ensures.written asked.made
+      no_page g.D.Disk.tells g.D.Disk.ports_fail h old s number fetches faults begun snapshots c.args.job.now mid c.next_piece.ensures.task c.next_piece.ensures.round told (c.requires.reads told) c.requires.works c.next_piece.ensures.written asked.made
           c.next_piece.ensures.job asked.ok (none_left mid.made next c.args.job.now.written is asked.left),
     )

@@ -26,7 +26,7 @@ returns-in-Some-clause-jobs g c =
     is.flies is.refused is.works is.task
 
 pub returns-in-Some-clause-step : goal.returns-in-Some-clause-step
-returns-in-Some-clause-step g c = λ told config opened h stands s known fetches faults.
+returns-in-Some-clause-step g c = λ told config opened h stands s known fetches faults snapshots.
     let old = view_of c.args.engine.now.core in
     let new = view_of c.write_next.new.engine.core in
     let jobs = c.args.jobs.now in
@@ -34,7 +34,7 @@ returns-in-Some-clause-step g c = λ told config opened h stands s known fetches
     let going : Going = going_of numbered.number numbered.job in
     let result = c.write_next.result in
     let there = there_is jobs numbered c.in-Some.is in
-    let step = c.write_next.ensures.step told config opened h stands s known numbered.number fetches faults jobs.begun in (
+    let step = c.write_next.ensures.step told config opened h stands s known numbered.number fetches faults jobs.begun snapshots in (
       behind h 0 (Serves Work) (result_err result),
       step.0,
       step.1,
@@ -44,24 +44,24 @@ returns-in-Some-clause-step g c = λ told config opened h stands s known fetches
         ((there, c.if-numbered-number.true), (sym c.is_refused.ensures ∙ c.if-not-is_refused.true)),
         result,
         c.flagged.ensures,
-        subst (λ (o : Option Going). IsWriteOut g.D.Disk.ports_fail going h (moment_of old s fetches faults jobs.begun o) result (behind h 0 (Serves Work) (result_err result))
-            (moment_of new step.0 fetches faults jobs.begun (Some (going_of numbered.number c.write_next.new.job)))) (sym there) step.3,
+        subst (λ (o : Option Going). IsWriteOut g.D.Disk.ports_fail going h (moment_of old s fetches faults jobs.begun o snapshots) result (behind h 0 (Serves Work) (result_err result))
+            (moment_of new step.0 fetches faults jobs.begun (Some (going_of numbered.number c.write_next.new.job)) snapshots)) (sym there) step.3,
       ),
     )
 
 pub returns-in_default-clause-step : goal.returns-in_default-clause-step
-returns-in_default-clause-step g c = λ told config opened h stands s known fetches faults.
+returns-in_default-clause-step g c = λ told config opened h stands s known fetches faults snapshots.
     let view = view_of c.args.engine.now.core in
     let jobs = c.args.jobs.now in
     let number = c.args.number in
-    let none : (going : Going) → IsAsked number (moment_of view s fetches faults jobs.begun (there_of jobs)) going → ⊥ = elim c.in_default.branch [
-      | in_default-via-in-Some+then-numbered-number+else-not-is_refused w ↦ refused_there jobs h view s fetches faults number w.in-Some.numbered w.in-Some.is (sym w.is_refused.ensures ∙ w.if-not-is_refused.false)
-      | in_default-via-in-Some+else-numbered-number w ↦ λ going asked. other_there jobs h view s fetches faults number w.in-Some.numbered w.in-Some.is w.if-numbered-number.false going asked.0
-      | in_default-via-in_default w ↦ λ going asked. none_there jobs h view s fetches faults number w.in_default.is going asked.0
+    let none : (going : Going) → IsAsked number (moment_of view s fetches faults jobs.begun (there_of jobs) snapshots) going → ⊥ = elim c.in_default.branch [
+      | in_default-via-in-Some+then-numbered-number+else-not-is_refused w ↦ refused_there jobs h view s fetches faults number snapshots w.in-Some.numbered w.in-Some.is (sym w.is_refused.ensures ∙ w.if-not-is_refused.false)
+      | in_default-via-in-Some+else-numbered-number w ↦ λ going asked. other_there jobs h view s fetches faults number snapshots w.in-Some.numbered w.in-Some.is w.if-numbered-number.false going asked.0
+      | in_default-via-in_default w ↦ λ going asked. none_there jobs h view s fetches faults number snapshots w.in_default.is going asked.0
     ] in
     let same : c.in_default.jobs ≡ jobs = elim c.in_default.branch [
       | in_default-via-in-Some+then-numbered-number+else-not-is_refused w ↦ w.jobs-is ∙ put_back jobs w.in-Some.numbered w.in-Some.is
       | in_default-via-in-Some+else-numbered-number w ↦ w.jobs-is ∙ put_back jobs w.in-Some.numbered w.in-Some.is
       | in_default-via-in_default w ↦ w.jobs-is
     ] in
-    (h, s, known, stands, inl (no_such jobs h view s fetches faults number (IsAsked number (moment_of view s fetches faults jobs.begun (there_of jobs))) none c.in_default.jobs same))
+    (h, s, known, stands, inl (no_such jobs h view s fetches faults number snapshots (IsAsked number (moment_of view s fetches faults jobs.begun (there_of jobs) snapshots)) none c.in_default.jobs same))

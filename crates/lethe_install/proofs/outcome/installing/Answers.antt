@@ -1,4 +1,5 @@
 use Rattle.lethe_flush.proofs.Results.{ok_weaker}
+use Rattle.lethe_pins.specs.Held.{is_named}
 use Rattle.lethe_install.specs.Inputs.{numbered}
 use Rattle.lethe_install.specs.Left.{left_of}
 use Rattle.lethe_install.proofs.Outputs.{merge_drafts, sweep_draft}
@@ -31,13 +32,13 @@ pub returns-in-Files-clause-objects : goal.returns-in-Files-clause-objects
 returns-in-Files-clause-objects g c = rw c.in-Files.is c.installing_merge.ensures.objects
 
 pub returns-in-Files-clause-installs : goal.returns-in-Files-clause-installs
-returns-in-Files-clause-installs g c = λ tells s beside is current rising begun named uncited.
+returns-in-Files-clause-installs g c = λ tells s beside is current rising begun named uncited drawn.
     let m = rw c.in-Merge.is at begun in
     let are = rw c.in-Files.is at (rw c.in-Merge.is at c.requires.outputs) in
     let loose = rw c.in-Files.is at uncited in
     let of = merge_drafts g.D.Disk.tells tells s is.coherent m.0 _ m.1 _ are in
-    rw (c.in-Merge.is, c.in-Files.is) (ok_weaker c.installing_merge.result _ _ (c.installing_merge.ensures.installs s m.0 beside is current rising m.1 named loose of)
-    (λ made found. (found.0, record { m = m.0; tasked = m.1; merged_is = found.1 }, (left_of c.args.needed.now (numbered made.step.merged.items s.files) beside, found.2, found.3))))
+    rw (c.in-Merge.is, c.in-Files.is) (ok_weaker c.installing_merge.result _ _ (c.installing_merge.ensures.installs s m.0 beside is current rising m.1 named loose drawn of)
+    (λ made found. (found.0, record { m = m.0; tasked = m.1; merged_is = found.1 }, (left_of (is_named c.args.pins.now.pins) (numbered made.step.merged.items s.files) beside, found.2, found.3, found.4))))
 
 -- A sweep
 
@@ -63,9 +64,9 @@ pub returns-in-Left-made-clause-objects : goal.returns-in-Left-made-clause-objec
 returns-in-Left-made-clause-objects g c = rw c.in-Left-made.is c.installing_sweep.ensures.objects
 
 pub returns-in-Left-made-clause-installs : goal.returns-in-Left-made-clause-installs
-returns-in-Left-made-clause-installs g c = λ tells s beside is current rising begun named uncited.
+returns-in-Left-made-clause-installs g c = λ tells s beside is current rising begun named uncited drawn.
     let w = rw c.in-Sweep.is at begun in
     let output = rw c.in-Left-made.is at (rw c.in-Sweep.is at c.requires.outputs) in
     let loose = rw c.in-Left-made.is at uncited in
     let of = sweep_draft g.D.Disk.tells tells s is.coherent w.0 _ w.1 _ output in
-    rw (c.in-Sweep.is, c.in-Left-made.is) (c.installing_sweep.ensures.installs s w.0 _ beside is current rising w.1 named loose of)
+    rw (c.in-Sweep.is, c.in-Left-made.is) (c.installing_sweep.ensures.installs s w.0 _ beside is current rising w.1 named loose drawn of)

@@ -1,38 +1,21 @@
-use Rattle.std.proofs.Common.{◌≡◌, sym, ap, ◌∙◌, subst}
-use Rattle.lethe_disk.specs.Directory.{SameBeside, object}
-use Rattle.lethe_disk.specs.Disk.{IsSynced}
-use Rattle.lethe_disk.specs.Runs.{Leads}
-use Rattle.lethe_disk.proofs.Quieting.{on_ok, on_ok_both}
-use Rattle.lethe_commit.specs.Clear.{ArePresent, IsCleared, remove_all}
-use Rattle.lethe_commit.proofs.Removals.{cleared_others}
-use Rattle.lethe_advance.specs.Settled.{IsSettled, HasOnly, names_in}
-use Rattle.lethe_loose.proofs.Pages.{pages_present, remove_moments, settled_alone}
+use Rattle.std.proofs.Common.{subst}
+use Rattle.std.specs.Prelude.{OnOk}
+use Rattle.lethe_disk.specs.Directory.{SameBeside}
 use Rattle.lethe_loose.proofs.removing.remove_pages.Goals as goal
 
-pub clear-requires-after_bounds : goal.clear-requires-after_bounds
-clear-requires-after_bounds g c κs within = λ told.
+pub remove_named-requires-clause-there : goal.remove_named-requires-clause-there
+remove_named-requires-clause-there g c κs within = λ told.
     let asked = c.requires.there told in
-    let s0 = g.D.Disk.seen c.args.disk.now in
-    subst (λ l. ArePresent l s0.directory) (sym c.names.ensures) (pages_present s0 asked.0 asked.1 c.args.written asked.2)
+    (asked.0, asked.1, c.args.written, asked.2, c.names.ensures)
 
 pub returns-clause-any_moment : goal.returns-clause-any_moment
-returns-clause-any_moment g c = λ told s left may.
-    let s0 = g.D.Disk.seen c.args.disk.now in
-    let s1 = g.D.Disk.seen c.clear.new.disk in
-    remove_moments s0 s left c.args.written may s1 (subst (λ l. Leads (IsCleared l) s0 s1) c.names.ensures (c.clear.ensures.any_moment told))
+returns-clause-any_moment g c = λ told s left may. c.remove_named.ensures.any_moment told s left c.args.written may c.names.ensures
 
 pub returns-clause-done : goal.returns-clause-done
-returns-clause-done g c = λ told s left may.
-    let s0 = g.D.Disk.seen c.args.disk.now in
-    let s1 = g.D.Disk.seen c.clear.new.disk in
-    on_ok_both c.clear.result (IsSynced s1) (s1.directory ≡ remove_all c.names.result.now s0.directory) (IsSettled s1 s × HasOnly s left s1.directory)
-    (c.clear.ensures.synced told) (c.clear.ensures.done told) (λ synced done.
-    settled_alone s0 s left c.args.written may s1 synced (done ∙ ap (λ l. remove_all l s0.directory) c.names.ensures))
+returns-clause-done g c = λ told s left may. c.remove_named.ensures.done told s left c.args.written may c.names.ensures
 
 pub returns-clause-others : goal.returns-clause-others
 returns-clause-others g c = λ told.
     let s0 = g.D.Disk.seen c.args.disk.now in
-    let s1 = g.D.Disk.seen c.clear.new.disk in
-    let names = names_in c.args.written in
-    on_ok c.clear.result (s1.directory ≡ remove_all c.names.result.now s0.directory) (SameBeside names s0.directory s1.directory) (c.clear.ensures.done told) (λ done name none.
-    ap (λ d. object d name) (done ∙ ap (λ l. remove_all l s0.directory) c.names.ensures) ∙ cleared_others names s0.directory name none)
+    let s1 = g.D.Disk.seen c.remove_named.new.disk in
+    subst (λ l. OnOk c.remove_named.result (SameBeside l s0.directory s1.directory)) c.names.ensures (c.remove_named.ensures.others told)

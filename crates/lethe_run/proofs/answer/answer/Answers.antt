@@ -1,26 +1,32 @@
-use Rattle.std.proofs.Common.{◌≡◌, Err, refl, sym, ap, ◌∙◌, subst}
+use Rattle.std.proofs.Common.{◌≡◌, inl, Err, Some, refl, sym, ap, ◌∙◌, subst, arith}
+use Rattle.std.specs.Prelude.{IsSome, is_some}
 use Rattle.lethe_base.specs.declared.call.Call.TheVariants as calls
 use Rattle.lethe_base.specs.History.{History, after}
 use Rattle.lethe_base.specs.Read.{answer}
 use Rattle.lethe_base.specs.Read as answers
-use Rattle.lethe_core.specs.View.{view_of}
+use Rattle.lethe_pins.specs.Held.{Held}
+use Rattle.lethe_core.specs.View.{Face, view_of}
 use Rattle.lethe_core.specs.Merges.{due_choice}
 use Rattle.lethe_core.proofs.Short.{chosen_are_short, merges_are_short}
 use Rattle.lethe_engine.specs.Reads.{IsReadRefusal, listed}
+use Rattle.lethe_script.specs.Slots.{held_behind}
 use Rattle.lethe_script.specs.declared.order.Act.TheVariants as acts
 use Rattle.lethe_run.specs.declared.reply.Reply.TheVariants as reply
+use Rattle.lethe_run.specs.Anywhere.{IsTold, standing_of}
+use Rattle.lethe_run.specs.Holding.{held_in, slots_of}
 use Rattle.lethe_run.specs.Replies.{reply_of, tick_reply_of, unread_of}
 use Rattle.lethe_run.specs.Serving.{IsAnswered, opened_in}
 use Rattle.lethe_run.proofs.Anywhere.{Tells, change_tells, unread_tells}
-use Rattle.lethe_run.proofs.Looks.{reads, read_answer, stat_answer, unread}
+use Rattle.lethe_run.proofs.Holding.{behind_held, counted, finds_free, finds_held, on_ok, pin_at, same_holds, same_slots, shown_at, ten_of}
+use Rattle.lethe_run.proofs.Looks.{looked_up, reads, read_answer, stat_answer, unread}
 use Rattle.lethe_run.proofs.Outcomes.{Outcome, ok_of, err_of}
 use Rattle.lethe_run.proofs.Shorts.{few_frozen}
 use Rattle.lethe_run.proofs.Steps.{changes}
-use Rattle.lethe_run.proofs.Ticking.{tick_tells, ticks}
+use Rattle.lethe_run.proofs.Ticking.{of_tick, pins_kept, tick_tells, ticks}
 use Rattle.lethe_run.proofs.answer.answer.Goals as goal
 
 pub returns-in-Put-clause-served : goal.returns-in-Put-clause-served
-returns-in-Put-clause-served g c = λ told begin from h caller on.
+returns-in-Put-clause-served g c = λ told begin from h caller on shown.
     let old = view_of c.args.engine.now.core in
     let new = view_of c.put.new.self.core in
     let Tells = g.D.Disk.tells in
@@ -39,13 +45,29 @@ returns-in-Put-clause-told g c =
     let Ports = g.D.Disk.ports_fail in
     let act = acts.Put c.in-Put.key c.in-Put.dkey c.in-Put.value in
     let call = calls.Put c.in-Put.key c.in-Put.dkey c.in-Put.value in
-    subst (λ r. Tells Ports c.args.act r old new) (sym c.changed.ensures)
-    (subst (λ a. Tells Ports a (reply_of c.put.result) old new) (sym c.in-Put.is)
-    (change_tells g.D.Disk.tells Ports act call refl refl old new (g.D.Disk.port_faults c.args.port.now) (g.D.Disk.port_faults c.put.new.port) c.put.result c.put.ensures.answers c.put.ensures.place c.put.ensures.why
+    let held = c.args.slots.now.held.items in
+    let before = slots_of old held in
+    let behind = slots_of new held in
+    let kept = same_slots held old new (ap (λ (face : Face). face.pins) c.put.ensures.answers.face_is) in
+    subst (λ r. Tells Ports c.args.act r old before new behind) (sym c.changed.ensures)
+    (subst (λ a. Tells Ports a (reply_of c.put.result) old before new behind) (sym c.in-Put.is)
+    (change_tells g.D.Disk.tells Ports act call refl refl old new before behind kept (g.D.Disk.port_faults c.args.port.now) (g.D.Disk.port_faults c.put.new.port) c.put.result c.put.ensures.answers c.put.ensures.place c.put.ensures.why
     (λ at was. (c.put.ensures.stopped at was).0)))
 
+pub returns-in-Put-clause-pins : goal.returns-in-Put-clause-pins
+returns-in-Put-clause-pins g c =
+    same_holds c.args.slots.now.held.items (view_of c.args.engine.now.core) (view_of c.put.new.self.core) (ap (λ (face : Face). face.pins) c.put.ensures.answers.face_is) c.requires.pins
+
+pub returns-in-Put-clause-made : goal.returns-in-Put-clause-made
+returns-in-Put-clause-made g c = let same = ap (λ (face : Face). face.pins.made) c.put.ensures.answers.face_is in omega (arith, same)
+
+pub returns-in-Put-clause-slotted : goal.returns-in-Put-clause-slotted
+returns-in-Put-clause-slotted g c =
+    let held = held_in c.args.slots.now.held.items in
+    on_ok c.changed.result (ap (λ act. held_behind act held) c.in-Put.is)
+
 pub returns-in-Delete-clause-served : goal.returns-in-Delete-clause-served
-returns-in-Delete-clause-served g c = λ told begin from h caller on.
+returns-in-Delete-clause-served g c = λ told begin from h caller on shown.
     let old = view_of c.args.engine.now.core in
     let new = view_of c.delete.new.self.core in
     let Tells = g.D.Disk.tells in
@@ -64,13 +86,29 @@ returns-in-Delete-clause-told g c =
     let Ports = g.D.Disk.ports_fail in
     let act = acts.Delete c.in-Delete.key in
     let call = calls.Delete c.in-Delete.key in
-    subst (λ r. Tells Ports c.args.act r old new) (sym c.changed-in-Delete.ensures)
-    (subst (λ a. Tells Ports a (reply_of c.delete.result) old new) (sym c.in-Delete.is)
-    (change_tells g.D.Disk.tells Ports act call refl refl old new (g.D.Disk.port_faults c.args.port.now) (g.D.Disk.port_faults c.delete.new.port) c.delete.result c.delete.ensures.answers c.delete.ensures.place c.delete.ensures.why
+    let held = c.args.slots.now.held.items in
+    let before = slots_of old held in
+    let behind = slots_of new held in
+    let kept = same_slots held old new (ap (λ (face : Face). face.pins) c.delete.ensures.answers.face_is) in
+    subst (λ r. Tells Ports c.args.act r old before new behind) (sym c.changed-in-Delete.ensures)
+    (subst (λ a. Tells Ports a (reply_of c.delete.result) old before new behind) (sym c.in-Delete.is)
+    (change_tells g.D.Disk.tells Ports act call refl refl old new before behind kept (g.D.Disk.port_faults c.args.port.now) (g.D.Disk.port_faults c.delete.new.port) c.delete.result c.delete.ensures.answers c.delete.ensures.place c.delete.ensures.why
     (λ at was. (c.delete.ensures.stopped at was).0)))
 
+pub returns-in-Delete-clause-pins : goal.returns-in-Delete-clause-pins
+returns-in-Delete-clause-pins g c =
+    same_holds c.args.slots.now.held.items (view_of c.args.engine.now.core) (view_of c.delete.new.self.core) (ap (λ (face : Face). face.pins) c.delete.ensures.answers.face_is) c.requires.pins
+
+pub returns-in-Delete-clause-made : goal.returns-in-Delete-clause-made
+returns-in-Delete-clause-made g c = let same = ap (λ (face : Face). face.pins.made) c.delete.ensures.answers.face_is in omega (arith, same)
+
+pub returns-in-Delete-clause-slotted : goal.returns-in-Delete-clause-slotted
+returns-in-Delete-clause-slotted g c =
+    let held = held_in c.args.slots.now.held.items in
+    on_ok c.changed-in-Delete.result (ap (λ act. held_behind act held) c.in-Delete.is)
+
 pub returns-in-Erase-clause-served : goal.returns-in-Erase-clause-served
-returns-in-Erase-clause-served g c = λ told begin from h caller on.
+returns-in-Erase-clause-served g c = λ told begin from h caller on shown.
     let old = view_of c.args.engine.now.core in
     let new = view_of c.erase.new.self.core in
     let Tells = g.D.Disk.tells in
@@ -89,13 +127,29 @@ returns-in-Erase-clause-told g c =
     let Ports = g.D.Disk.ports_fail in
     let act = acts.Erase c.in-Erase.range in
     let call = calls.Erase c.in-Erase.range in
-    subst (λ r. Tells Ports c.args.act r old new) (sym c.changed-in-Erase.ensures)
-    (subst (λ a. Tells Ports a (reply_of c.erase.result) old new) (sym c.in-Erase.is)
-    (change_tells g.D.Disk.tells Ports act call refl refl old new (g.D.Disk.port_faults c.args.port.now) (g.D.Disk.port_faults c.erase.new.port) c.erase.result c.erase.ensures.answers c.erase.ensures.place c.erase.ensures.why
+    let held = c.args.slots.now.held.items in
+    let before = slots_of old held in
+    let behind = slots_of new held in
+    let kept = same_slots held old new (ap (λ (face : Face). face.pins) c.erase.ensures.answers.face_is) in
+    subst (λ r. Tells Ports c.args.act r old before new behind) (sym c.changed-in-Erase.ensures)
+    (subst (λ a. Tells Ports a (reply_of c.erase.result) old before new behind) (sym c.in-Erase.is)
+    (change_tells g.D.Disk.tells Ports act call refl refl old new before behind kept (g.D.Disk.port_faults c.args.port.now) (g.D.Disk.port_faults c.erase.new.port) c.erase.result c.erase.ensures.answers c.erase.ensures.place c.erase.ensures.why
     (λ at was. (c.erase.ensures.stopped at was).0)))
 
+pub returns-in-Erase-clause-pins : goal.returns-in-Erase-clause-pins
+returns-in-Erase-clause-pins g c =
+    same_holds c.args.slots.now.held.items (view_of c.args.engine.now.core) (view_of c.erase.new.self.core) (ap (λ (face : Face). face.pins) c.erase.ensures.answers.face_is) c.requires.pins
+
+pub returns-in-Erase-clause-made : goal.returns-in-Erase-clause-made
+returns-in-Erase-clause-made g c = let same = ap (λ (face : Face). face.pins.made) c.erase.ensures.answers.face_is in omega (arith, same)
+
+pub returns-in-Erase-clause-slotted : goal.returns-in-Erase-clause-slotted
+returns-in-Erase-clause-slotted g c =
+    let held = held_in c.args.slots.now.held.items in
+    on_ok c.changed-in-Erase.result (ap (λ act. held_behind act held) c.in-Erase.is)
+
 pub returns-in-Ok-clause-served : goal.returns-in-Ok-clause-served
-returns-in-Ok-clause-served g c = λ told begin from h caller on.
+returns-in-Ok-clause-served g c = λ told begin from h caller on shown.
     let view = view_of c.args.engine.now.core in
     let Ports = g.D.Disk.ports_fail in
     let key = c.in-Get.key in
@@ -106,26 +160,34 @@ returns-in-Ok-clause-served g c = λ told begin from h caller on.
     (read_answer Ports begin from h caller (acts.Get key) view on (answers.Get key) c.count.result (answers.Found c.in-Ok.held) c.count.ensures given) (c.count.ensures ∙ on.stands.now.count, refl))
 
 pub returns-in-Get-clause-served : goal.returns-in-Get-clause-served
-returns-in-Get-clause-served g c = λ told begin from h caller on.
+returns-in-Get-clause-served g c = λ told begin from h caller on shown.
     let view = view_of c.args.engine.now.core in
     let Ports = g.D.Disk.ports_fail in
     let why = c.in-Err.why in
     subst (λ r. Outcome Ports begin h caller c.args.act r view view) (sym c.unread.ensures)
     (subst (λ a. Outcome Ports begin h caller a (unread_of why) view view) (sym c.in-Get.is)
-    (unread Ports begin from h caller (acts.Get c.in-Get.key) view on refl why (err_of IsReadRefusal c.get.result c.get.ensures.why why c.in-Err.is)
+    (unread Ports begin from h caller (acts.Get c.in-Get.key) view on (inl refl) why (err_of IsReadRefusal c.get.result c.get.ensures.why why c.in-Err.is)
     (λ before behind is. c.get.ensures.can_fail before behind (c.in-Err.is ∙ ap Err is)) (λ name is. c.get.ensures.undamaged told c.requires.sound name (c.in-Err.is ∙ ap Err is))))
+
+pub returns-in-Ok-clause-told : goal.returns-in-Ok-clause-told
+returns-in-Ok-clause-told g c =
+    let view = view_of c.args.engine.now.core in
+    let slots = slots_of view c.args.slots.now.held.items in
+    subst (λ act. IsTold g.D.Disk.ports_fail view.faults view.faults act (standing_of view slots) (reply.Got c.count.result c.in-Ok.held) (standing_of view slots)) (sym c.in-Get.is)
+    (((c.in-Get.key, refl), c.count.ensures, refl), refl)
 
 pub returns-in-Get-clause-told : goal.returns-in-Get-clause-told
 returns-in-Get-clause-told g c =
     let view = view_of c.args.engine.now.core in
     let Ports = g.D.Disk.ports_fail in
+    let slots = slots_of view c.args.slots.now.held.items in
     let why = c.in-Err.why in
-    subst (λ r. Tells Ports c.args.act r view view) (sym c.unread.ensures)
-    (subst (λ a. Tells Ports a (unread_of why) view view) (sym c.in-Get.is)
-    (unread_tells Ports (acts.Get c.in-Get.key) view refl why (err_of IsReadRefusal c.get.result c.get.ensures.why why c.in-Err.is) (λ before after is. c.get.ensures.can_fail before after (c.in-Err.is ∙ ap Err is))))
+    subst (λ r. Tells Ports c.args.act r view slots view slots) (sym c.unread.ensures)
+    (subst (λ a. Tells Ports a (unread_of why) view slots view slots) (sym c.in-Get.is)
+    (unread_tells Ports (acts.Get c.in-Get.key) view slots (inl refl) why (err_of IsReadRefusal c.get.result c.get.ensures.why why c.in-Err.is) (λ before after is. c.get.ensures.can_fail before after (c.in-Err.is ∙ ap Err is))))
 
 pub returns-in-Ok-scan-clause-served : goal.returns-in-Ok-scan-clause-served
-returns-in-Ok-scan-clause-served g c = λ told begin from h caller on.
+returns-in-Ok-scan-clause-served g c = λ told begin from h caller on shown.
     let view = view_of c.args.engine.now.core in
     let Ports = g.D.Disk.ports_fail in
     let lo = c.in-Scan.lo in
@@ -139,36 +201,70 @@ returns-in-Ok-scan-clause-served g c = λ told begin from h caller on.
     (read_answer Ports begin from h caller (acts.Scan lo hi) view on (answers.Scan lo hi) point (listed pairs) c.count-in-Ok-scan.ensures given) (c.count-in-Ok-scan.ensures ∙ on.stands.now.count, refl))
 
 pub returns-in-Scan-clause-served : goal.returns-in-Scan-clause-served
-returns-in-Scan-clause-served g c = λ told begin from h caller on.
+returns-in-Scan-clause-served g c = λ told begin from h caller on shown.
     let view = view_of c.args.engine.now.core in
     let Ports = g.D.Disk.ports_fail in
     let why = c.in-Err-scan.why in
     subst (λ r. Outcome Ports begin h caller c.args.act r view view) (sym c.unread-in-Err-scan.ensures)
     (subst (λ a. Outcome Ports begin h caller a (unread_of why) view view) (sym c.in-Scan.is)
-    (unread Ports begin from h caller (acts.Scan c.in-Scan.lo c.in-Scan.hi) view on refl why (err_of IsReadRefusal c.scan.result c.scan.ensures.why why c.in-Err-scan.is)
+    (unread Ports begin from h caller (acts.Scan c.in-Scan.lo c.in-Scan.hi) view on (inl refl) why (err_of IsReadRefusal c.scan.result c.scan.ensures.why why c.in-Err-scan.is)
     (λ before behind is. c.scan.ensures.can_fail before behind (c.in-Err-scan.is ∙ ap Err is)) (λ name is. c.scan.ensures.undamaged told c.requires.sound name (c.in-Err-scan.is ∙ ap Err is))))
+
+pub returns-in-Ok-scan-clause-told : goal.returns-in-Ok-scan-clause-told
+returns-in-Ok-scan-clause-told g c =
+    let view = view_of c.args.engine.now.core in
+    let slots = slots_of view c.args.slots.now.held.items in
+    subst (λ act. IsTold g.D.Disk.ports_fail view.faults view.faults act (standing_of view slots) (reply.Scanned c.count-in-Ok-scan.result c.of.result) (standing_of view slots)) (sym c.in-Scan.is)
+    (((c.in-Scan.lo, c.in-Scan.hi, refl), c.count-in-Ok-scan.ensures, refl), refl)
 
 pub returns-in-Scan-clause-told : goal.returns-in-Scan-clause-told
 returns-in-Scan-clause-told g c =
     let view = view_of c.args.engine.now.core in
     let Ports = g.D.Disk.ports_fail in
+    let slots = slots_of view c.args.slots.now.held.items in
     let why = c.in-Err-scan.why in
-    subst (λ r. Tells Ports c.args.act r view view) (sym c.unread-in-Err-scan.ensures)
-    (subst (λ a. Tells Ports a (unread_of why) view view) (sym c.in-Scan.is)
-    (unread_tells Ports (acts.Scan c.in-Scan.lo c.in-Scan.hi) view refl why (err_of IsReadRefusal c.scan.result c.scan.ensures.why why c.in-Err-scan.is) (λ before after is. c.scan.ensures.can_fail before after (c.in-Err-scan.is ∙ ap Err is))))
+    subst (λ r. Tells Ports c.args.act r view slots view slots) (sym c.unread-in-Err-scan.ensures)
+    (subst (λ a. Tells Ports a (unread_of why) view slots view slots) (sym c.in-Scan.is)
+    (unread_tells Ports (acts.Scan c.in-Scan.lo c.in-Scan.hi) view slots (inl refl) why (err_of IsReadRefusal c.scan.result c.scan.ensures.why why c.in-Err-scan.is) (λ before after is. c.scan.ensures.can_fail before after (c.in-Err-scan.is ∙ ap Err is))))
+
+pub returns-in-Ok-clause-slotted : goal.returns-in-Ok-clause-slotted
+returns-in-Ok-clause-slotted g c = ap (λ act. held_behind act (held_in c.args.slots.now.held.items)) c.in-Get.is
+
+pub returns-in-Get-clause-slotted : goal.returns-in-Get-clause-slotted
+returns-in-Get-clause-slotted g c =
+    let held = held_in c.args.slots.now.held.items in
+    on_ok c.unread.result (ap (λ act. held_behind act held) c.in-Get.is)
+
+pub returns-in-Ok-scan-clause-slotted : goal.returns-in-Ok-scan-clause-slotted
+returns-in-Ok-scan-clause-slotted g c = ap (λ act. held_behind act (held_in c.args.slots.now.held.items)) c.in-Scan.is
+
+pub returns-in-Scan-clause-slotted : goal.returns-in-Scan-clause-slotted
+returns-in-Scan-clause-slotted g c =
+    let held = held_in c.args.slots.now.held.items in
+    on_ok c.unread-in-Err-scan.result (ap (λ act. held_behind act held) c.in-Scan.is)
+
+pub returns-in-Stat-clause-slotted : goal.returns-in-Stat-clause-slotted
+returns-in-Stat-clause-slotted g c = ap (λ act. held_behind act (held_in c.args.slots.now.held.items)) c.in-Stat.is
 
 pub returns-in-Stat-clause-served : goal.returns-in-Stat-clause-served
-returns-in-Stat-clause-served g c = λ told begin from h caller on.
+returns-in-Stat-clause-served g c = λ told begin from h caller on shown.
     let view = view_of c.args.engine.now.core in
     let Ports = g.D.Disk.ports_fail in
     let point = c.count-in-Stat.result in
     let stat = c.stat.result in
     subst (λ a. (k : History) × IsAnswered Ports begin h k caller a (reply.Counted point stat) view view) (sym c.in-Stat.is)
     (reads Ports begin from h caller acts.Stat view on (reply.Counted point stat) tt
-    (refl, stat_answer Ports begin from h caller acts.Stat view on point stat c.count-in-Stat.ensures (c.stat.ensures.stat begin.config h on.stands.now) c.stat.ensures.pins c.stat.ensures.shape) (c.count-in-Stat.ensures ∙ on.stands.now.count, refl))
+    (refl, stat_answer Ports begin from h caller acts.Stat view on point stat c.count-in-Stat.ensures (c.stat.ensures.stat begin.config h on.stands.now) c.stat.ensures.shape) (c.count-in-Stat.ensures ∙ on.stands.now.count, refl))
 
-pub returns-clause-served : goal.returns-clause-served
-returns-clause-served g c = λ told begin from h caller on.
+pub returns-in-Stat-clause-told : goal.returns-in-Stat-clause-told
+returns-in-Stat-clause-told g c =
+    let view = view_of c.args.engine.now.core in
+    let slots = slots_of view c.args.slots.now.held.items in
+    subst (λ act. IsTold g.D.Disk.ports_fail view.faults view.faults act (standing_of view slots) (reply.Counted c.count-in-Stat.result c.stat.result) (standing_of view slots)) (sym c.in-Stat.is)
+    ((refl, c.count-in-Stat.ensures, refl), (c.stat.ensures.pins ∙ counted view slots c.requires.pins, refl))
+
+pub returns-in-Tick-clause-served : goal.returns-in-Tick-clause-served
+returns-in-Tick-clause-served g c = λ told begin from h caller on shown.
     let old = view_of c.args.engine.now.core in
     let new = view_of c.tick.new.self.core in
     let Tells = g.D.Disk.tells in
@@ -182,13 +278,121 @@ returns-clause-served g c = λ told begin from h caller on.
     c.count-point.result c.count-point.ensures (g.D.Disk.port_faults c.args.port.now) (g.D.Disk.port_faults c.tick.new.port) result c.tick.ensures.answers c.tick.ensures.place (c.tick.ensures.one_image told) c.tick.ensures.due
     (c.tick.ensures.is_true told begin.config opened h on.stands caller) c.tick.ensures.why (λ at was. (c.tick.ensures.stopped at was).0)))
 
-pub returns-clause-told : goal.returns-clause-told
-returns-clause-told g c =
+pub returns-in-Tick-clause-told : goal.returns-in-Tick-clause-told
+returns-in-Tick-clause-told g c =
     let old = view_of c.args.engine.now.core in
     let new = view_of c.tick.new.self.core in
     let Ports = g.D.Disk.ports_fail in
     let to = c.get-in-Tick.result in
-    subst (λ r. Tells Ports c.args.act r old new) (sym c.ticked.ensures)
-    (subst (λ a. Tells Ports a (tick_reply_of c.count-point.result c.tick.result) old new) (sym (c.in-Tick.is ∙ ap acts.Tick (sym c.get-in-Tick.ensures.number)))
-    (tick_tells to old new g.D.Disk.tells Ports c.count-point.result c.count-point.ensures (g.D.Disk.port_faults c.args.port.now) (g.D.Disk.port_faults c.tick.new.port) c.tick.result c.tick.ensures.answers c.tick.ensures.place c.tick.ensures.why
-    (λ at was. (c.tick.ensures.stopped at was).0)))
+    let held = c.args.slots.now.held.items in
+    let before = slots_of old held in
+    let behind = slots_of new held in
+    let kept = same_slots held old new (pins_kept to old new c.tick.ensures.answers.face_is) in
+    subst (λ r. Tells Ports c.args.act r old before new behind) (sym c.ticked.ensures)
+    (subst (λ a. Tells Ports a (tick_reply_of c.count-point.result c.tick.result) old before new behind) (sym (c.in-Tick.is ∙ ap acts.Tick (sym c.get-in-Tick.ensures.number)))
+    (tick_tells to old new g.D.Disk.tells Ports c.count-point.result c.count-point.ensures before behind kept c.requires.pins c.requires.sound.pins (g.D.Disk.port_faults c.args.port.now) (g.D.Disk.port_faults c.tick.new.port) c.tick.result
+    c.tick.ensures.answers c.tick.ensures.place c.tick.ensures.why (λ at was. (c.tick.ensures.stopped at was).0)))
+
+pub returns-in-Tick-clause-pins : goal.returns-in-Tick-clause-pins
+returns-in-Tick-clause-pins g c =
+    let old = view_of c.args.engine.now.core in
+    let new = view_of c.tick.new.self.core in
+    same_holds c.args.slots.now.held.items old new (pins_kept c.get-in-Tick.result old new c.tick.ensures.answers.face_is) c.requires.pins
+
+pub returns-in-Tick-clause-made : goal.returns-in-Tick-clause-made
+returns-in-Tick-clause-made g c =
+    let old = view_of c.args.engine.now.core in
+    let new = view_of c.tick.new.self.core in
+    let same = ap (λ (pins : Held). pins.made) (pins_kept c.get-in-Tick.result old new c.tick.ensures.answers.face_is) in
+    omega (arith, same)
+
+pub returns-in-Tick-clause-slotted : goal.returns-in-Tick-clause-slotted
+returns-in-Tick-clause-slotted g c =
+    let held = held_in c.args.slots.now.held.items in
+    on_ok c.ticked.result (ap (λ act. held_behind act held) c.in-Tick.is)
+
+pub ticked-requires : goal.ticked-requires
+ticked-requires g c =
+    let old = view_of c.args.engine.now.core in
+    let new = view_of c.tick.new.self.core in
+    of_tick g.D.Disk.tells g.D.Disk.ports_fail c.get-in-Tick.result old new (g.D.Disk.port_faults c.args.port.now) (g.D.Disk.port_faults c.tick.new.port) c.tick.result c.tick.ensures.why
+
+pub pin-requires-clause-free : goal.pin-requires-clause-free
+pin-requires-clause-free g c κs within = finds_free c.args.slots.now.held.items c.in-Pin.slot _ (subst (λ act. IsSome (held_behind act (held_in c.args.slots.now.held.items))) c.in-Pin.is c.requires.slotted)
+
+pub returns-in-Pin-clause-told : goal.returns-in-Pin-clause-told
+returns-in-Pin-clause-told g c = rw c.in-Pin.is c.pin.ensures.told
+
+pub returns-in-Pin-clause-served : goal.returns-in-Pin-clause-served
+returns-in-Pin-clause-served g c = λ told begin from h caller on shown. rw c.in-Pin.is (c.pin.ensures.served told begin from h caller on)
+
+pub returns-in-Pin-clause-slotted : goal.returns-in-Pin-clause-slotted
+returns-in-Pin-clause-slotted g c = rw c.in-Pin.is c.pin.ensures.slotted
+
+pub snapshot-requires-clause-held : goal.snapshot-requires-clause-held
+snapshot-requires-clause-held g c κs within = finds_held c.args.slots.now.held.items c.in-PinGet.slot _ (subst (λ act. IsSome (held_behind act (held_in c.args.slots.now.held.items))) c.in-PinGet.is c.requires.slotted)
+
+pub snapshot-requires-clause-ten : goal.snapshot-requires-clause-ten
+snapshot-requires-clause-ten g c κs within = ten_of c.args.slots.now.held.items (view_of c.args.engine.now.core) c.requires.pins
+
+pub returns-in-PinGet-clause-told : goal.returns-in-PinGet-clause-told
+returns-in-PinGet-clause-told g c =
+    let view = view_of c.args.engine.now.core in
+    let held = c.args.slots.now.held.items in
+    let slots = slots_of view held in
+    rw c.in-PinGet.is (c.pin_get.ensures.told view.faults view.faults (standing_of view slots) c.in-PinGet.slot (pin_at held view c.in-PinGet.slot (Some c.snapshot.result.now) c.snapshot.ensures.held))
+
+pub returns-in-PinGet-clause-served : goal.returns-in-PinGet-clause-served
+returns-in-PinGet-clause-served g c = λ told begin from h caller on shown.
+    let view = view_of c.args.engine.now.core in
+    let held = c.args.slots.now.held.items in
+    let slot = c.in-PinGet.slot in
+    let ten = ten_of held view c.requires.pins in
+    let within = c.snapshot.ensures.within in
+    let is = c.pin_get.ensures.served told begin h caller slot view.faults view.disk.moment (shown_at held h slot (omega (arith, ten, within)) c.snapshot.result.now c.snapshot.ensures.held shown) in
+    rw c.in-PinGet.is (looked_up g.D.Disk.ports_fail begin from h caller (acts.PinGet slot c.in-PinGet.key) view on c.pin_get.result is)
+
+pub returns-in-PinGet-clause-slotted : goal.returns-in-PinGet-clause-slotted
+returns-in-PinGet-clause-slotted g c =
+    let held = c.args.slots.now.held.items in
+    on_ok c.pin_get.result (ap (λ act. held_behind act (held_in held)) c.in-PinGet.is ∙ behind_held held c.in-PinGet.slot _ (ap is_some c.snapshot.ensures.held))
+
+pub snapshot-requires-in-PinScan-clause-held : goal.snapshot-requires-in-PinScan-clause-held
+snapshot-requires-in-PinScan-clause-held g c κs within = finds_held c.args.slots.now.held.items c.in-PinScan.slot _ (subst (λ act. IsSome (held_behind act (held_in c.args.slots.now.held.items))) c.in-PinScan.is c.requires.slotted)
+
+pub snapshot-requires-in-PinScan-clause-ten : goal.snapshot-requires-in-PinScan-clause-ten
+snapshot-requires-in-PinScan-clause-ten g c κs within = ten_of c.args.slots.now.held.items (view_of c.args.engine.now.core) c.requires.pins
+
+pub returns-in-PinScan-clause-told : goal.returns-in-PinScan-clause-told
+returns-in-PinScan-clause-told g c =
+    let view = view_of c.args.engine.now.core in
+    let held = c.args.slots.now.held.items in
+    let slots = slots_of view held in
+    rw c.in-PinScan.is (c.pin_scan.ensures.told view.faults view.faults (standing_of view slots) c.in-PinScan.slot (pin_at held view c.in-PinScan.slot (Some c.snapshot-in-PinScan.result.now) c.snapshot-in-PinScan.ensures.held))
+
+pub returns-in-PinScan-clause-served : goal.returns-in-PinScan-clause-served
+returns-in-PinScan-clause-served g c = λ told begin from h caller on shown.
+    let view = view_of c.args.engine.now.core in
+    let held = c.args.slots.now.held.items in
+    let slot = c.in-PinScan.slot in
+    let ten = ten_of held view c.requires.pins in
+    let within = c.snapshot-in-PinScan.ensures.within in
+    let is = c.pin_scan.ensures.served told begin h caller slot view.faults view.disk.moment (shown_at held h slot (omega (arith, ten, within)) c.snapshot-in-PinScan.result.now c.snapshot-in-PinScan.ensures.held shown) in
+    rw c.in-PinScan.is (looked_up g.D.Disk.ports_fail begin from h caller (acts.PinScan slot c.in-PinScan.lo c.in-PinScan.hi) view on c.pin_scan.result is)
+
+pub returns-in-PinScan-clause-slotted : goal.returns-in-PinScan-clause-slotted
+returns-in-PinScan-clause-slotted g c =
+    let held = c.args.slots.now.held.items in
+    on_ok c.pin_scan.result (ap (λ act. held_behind act (held_in held)) c.in-PinScan.is ∙ behind_held held c.in-PinScan.slot _ (ap is_some c.snapshot-in-PinScan.ensures.held))
+
+pub unpin-requires-clause-held : goal.unpin-requires-clause-held
+unpin-requires-clause-held g c κs within = finds_held c.args.slots.now.held.items c.in-Unpin.slot _ (subst (λ act. IsSome (held_behind act (held_in c.args.slots.now.held.items))) c.in-Unpin.is c.requires.slotted)
+
+pub returns-clause-told : goal.returns-clause-told
+returns-clause-told g c = rw c.in-Unpin.is c.unpin.ensures.told
+
+pub returns-clause-served : goal.returns-clause-served
+returns-clause-served g c = λ told begin from h caller on shown. rw c.in-Unpin.is (c.unpin.ensures.served told begin from h caller on)
+
+pub returns-clause-slotted : goal.returns-clause-slotted
+returns-clause-slotted g c = rw c.in-Unpin.is c.unpin.ensures.slotted

@@ -1,5 +1,6 @@
-use Rattle.std.proofs.Common.{rules, ◌≡◌, ◌||◌, ◌++◌, length, ◌∷◌, [], refl, sym, ap, ◌∙◌, subst, arith}
-use Rattle.std.specs.List.{list_any, sum_by}
+use Rattle.std.proofs.Common.{rules, ◌≡◌, ◌||◌, ◌++◌, length, ◌∷◌, [], Some, refl, sym, ap, ◌∙◌, subst, arith}
+use Rattle.std.specs.Prelude.{IsSome}
+use Rattle.std.specs.List.{flat_map, list_any, sum_by}
 use Rattle.std.proofs.lemmas.List.{map-id}
 use Rattle.std.proofs.lemmas.List.Sums.{sum_by-append, sum_by-cons, sum_by_push}
 use Rattle.std.proofs.lemmas.Iterator.Consumers.{YieldsList-end}
@@ -7,25 +8,35 @@ use Rattle.std.proofs.lemmas.Iterator.Adapters.{YieldsList-from_vec}
 use Rattle.lethe_base.specs.Counts.{Rose}
 use Rattle.lethe_core.specs.View.{view_of}
 use Rattle.lethe_script.specs.declared.order.Order.{Order}
+use Rattle.lethe_script.specs.Slots.{held_through, none_held}
+use Rattle.lethe_run.specs.Holding.{AreShown, HoldsPins, held_in, slots_of}
 use Rattle.lethe_run.specs.Scripts.{ScriptEnds}
 use Rattle.lethe_run.specs.Transcript.{is_refusal}
 use Rattle.lethe_run.proofs.Endings.{Phase, Before, before_any, next_so_far, cut_ends, all_ends}
+use Rattle.lethe_run.proofs.Holding.{first_slots, none_shown}
 use Rattle.lethe_run.proofs.Phases.{appends_none, whole_text, front_text, refusal_more}
 use Rattle.lethe_run.proofs.Runs.{taken_next}
+use Rattle.lethe_run.proofs.Slotted.{flat_more, flat_parts, part_finds, part_holds}
 use Rattle.lethe_run.proofs.script.serve_phases.Goals as goal
 
 pub loop-orders-init : goal.loop-orders-init
 loop-orders-init g c =
+    let old = view_of c.args.engine.core in
+    let held = c.args.slots.held.items in
+    let first = first_slots old held c.requires.none c.requires.pins in
     record {
       sound = c.requires.sound;
       sink = omega arith;
       faults = omega arith;
       rounds = omega arith;
+      made = omega arith;
+      pins = subst (HoldsPins old) (sym first) c.requires.pins;
+      slotted = ap (λ held. Some (held_in held)) (sym c.requires.none);
       lines = (
         [],
         appends_none (g.K.Sink.taken c.args.sink.now),
         refl,
-        before_any g.D.Disk.tells g.D.Disk.ports_fail (view_of c.args.engine.core),
+        before_any g.D.Disk.tells g.D.Disk.ports_fail old (slots_of old held) (λ h. AreShown h held) first (λ h. none_shown h held c.requires.none),
       );
     }
 
@@ -38,8 +49,12 @@ loop-orders-preserved g c =
     let more = c.serve_phase-served.result.lines.items in
     let whole = c.serve_phase-served.result.whole in
     let laws = g.met.D.Disk g.world.𝓛 g.world.𝓜 g.world.𝓡 ((λ s x. x), (λ x. x), (λ x. x), λ x. x) in
-    let phase : Phase g.D.Disk.tells g.D.Disk.ports_fail mid new c.in-Some.orders whole more =
-    subst (λ o. Phase g.D.Disk.tells g.D.Disk.ports_fail mid new o whole more) c.into_vec.ensures c.serve_phase-served.ensures.served in
+    let was = c.loop-orders.slots.held.items in
+    let held = c.serve_phase-served.new.slots.held.items in
+    let between = slots_of mid was in
+    let behind = slots_of new held in
+    let phase : Phase g.D.Disk.tells g.D.Disk.ports_fail mid new between behind (λ h. AreShown h was) (λ h. AreShown h held) c.in-Some.orders whole more =
+    subst (λ o. Phase g.D.Disk.tells g.D.Disk.ports_fail mid new between behind (λ h. AreShown h was) (λ h. AreShown h held) o whole more) c.into_vec.ensures c.serve_phase-served.ensures.served in
     record {
       sound = c.serve_phase-served.ensures.sound;
       sink = let a = c.loop-orders.invariant.sink in let b = c.print_phase.ensures.faults in omega (arith, a, b);
@@ -50,11 +65,22 @@ loop-orders-preserved g c =
           let size = ap length c.into_vec.ensures in
           let more = sum_by_push (length {A = Order}) c.loop-orders.yielded c.in-Some.orders in
           omega (arith, before, step, size, more);
+      made =
+          let before = c.loop-orders.invariant.made in
+          let step = c.serve_phase-served.ensures.made in
+          let size = ap length c.into_vec.ensures in
+          let more = sum_by_push (length {A = Order}) c.loop-orders.yielded c.in-Some.orders in
+          omega (arith, before, step, size, more);
+      pins = c.serve_phase-served.ensures.pins;
+      slotted =
+          ap (λ orders. held_through orders none_held) (flat_more c.loop-orders.yielded c.in-Some.orders)
+          ∙ part_holds (flat_map (λ orders. orders) c.loop-orders.yielded) none_held (held_in was) c.loop-orders.invariant.slotted c.in-Some.orders (held_in held)
+          (subst (λ orders. held_through orders (held_in was) ≡ Some (held_in held)) c.into_vec.ensures (c.serve_phase-served.ensures.slotted c.in_default.ensures.ok.0));
       lines = (
         so_far.0 ++ more ∷ [],
         whole_text (g.K.Sink.taken c.args.sink.now) (g.K.Sink.taken c.loop-orders.sink) (g.K.Sink.taken c.print_phase.new.sink) so_far.0 more so_far.1 c.in_default.ensures.ok.1,
         refusal_more so_far.0 more ∙ ap (λ b. b || list_any is_refusal more) so_far.2 ∙ sym (search rules),
-        next_so_far g.D.Disk.tells g.D.Disk.ports_fail old new (λ told. laws.itself told c.serve_phase-served.new.engine.core.disk) mid c.loop-orders.invariant.faults c.serve_phase-served.ensures.faults (c.loop-orders.yielded ++ c.in-Some.orders ∷ []) c.loop-orders.yielded [] c.in-Some.orders refl so_far.0 more
+        next_so_far g.D.Disk.tells g.D.Disk.ports_fail old new (λ told. laws.itself told c.serve_phase-served.new.engine.core.disk) behind (λ h. AreShown h held) mid between (λ h. AreShown h was) c.loop-orders.invariant.faults c.serve_phase-served.ensures.faults (c.loop-orders.yielded ++ c.in-Some.orders ∷ []) c.loop-orders.yielded [] c.in-Some.orders refl so_far.0 more
             whole so_far.3 phase c.in_default.ensures.ok.0,
       );
     }
@@ -68,8 +94,12 @@ returns-in-Err-clause-ends g c =
     let more = c.serve_phase-served.result.lines.items in
     let whole = c.serve_phase-served.result.whole in
     let laws = g.met.D.Disk g.world.𝓛 g.world.𝓜 g.world.𝓡 ((λ s x. x), (λ x. x), (λ x. x), λ x. x) in
-    let phase : Phase g.D.Disk.tells g.D.Disk.ports_fail mid new c.in-Some.orders whole more =
-    subst (λ o. Phase g.D.Disk.tells g.D.Disk.ports_fail mid new o whole more) c.into_vec.ensures c.serve_phase-served.ensures.served in
+    let was = c.loop-orders.slots.held.items in
+    let held = c.serve_phase-served.new.slots.held.items in
+    let between = slots_of mid was in
+    let behind = slots_of new held in
+    let phase : Phase g.D.Disk.tells g.D.Disk.ports_fail mid new between behind (λ h. AreShown h was) (λ h. AreShown h held) c.in-Some.orders whole more =
+    subst (λ o. Phase g.D.Disk.tells g.D.Disk.ports_fail mid new between behind (λ h. AreShown h was) (λ h. AreShown h held) o whole more) c.into_vec.ensures c.serve_phase-served.ensures.served in
     let s0 = g.K.Sink.faults c.args.sink.now in
     let s1 = g.K.Sink.faults c.loop-orders.sink in
     let s2 = g.K.Sink.faults c.print_phase.new.sink in
@@ -79,8 +109,8 @@ returns-in-Err-clause-ends g c =
     let rest = c.next.new.self.rest.items in
     let are : c.args.phases ≡ c.loop-orders.yielded ++ c.in-Some.orders ∷ rest =
     taken_next c.args.phases c.into_iter-orders-iterator.result c.loop-orders.yielded c.loop-orders.orders-iterator c.in-Some.orders rest (c.into_iter-orders-iterator.ensures.into_iter_gives.0 ∙ c.into_vec-orders-items.ensures) c.loop-orders.yielded_by c.in-Some.ensures.steps.0 in
-    subst (λ d. ScriptEnds g.D.Disk.tells g.D.Disk.ports_fail old (g.D.Disk.seen d) (g.D.Disk.faults d) t0 t2 (Rose s0 s2) c.args.phases c.in-Err.status) (sym c.into_disk.ensures)
-    (cut_ends g.D.Disk.tells g.D.Disk.ports_fail old new (λ told. laws.itself told c.serve_phase-served.new.engine.core.disk) mid c.loop-orders.invariant.faults c.serve_phase-served.ensures.faults c.args.phases c.loop-orders.yielded rest c.in-Some.orders are so_far.0 more
+    subst (λ d. ScriptEnds g.D.Disk.tells g.D.Disk.ports_fail old (g.D.Disk.seen d) (g.D.Disk.faults d) t0 t2 (Rose s0 s2) c.args.phases c.in-Err.status) (sym c.hand_back.ensures)
+    (cut_ends g.D.Disk.tells g.D.Disk.ports_fail old new (λ told. laws.itself told c.serve_phase-served.new.engine.core.disk) behind (λ h. AreShown h held) mid between (λ h. AreShown h was) c.loop-orders.invariant.faults c.serve_phase-served.ensures.faults c.args.phases c.loop-orders.yielded rest c.in-Some.orders are so_far.0 more
     whole so_far.3 phase t0 t2 (Rose s1 s2) (Rose s0 s2) c.in-Err.status (λ rose. omega (arith, rose, low))
     (front_text t0 (g.K.Sink.taken c.loop-orders.sink) t2 so_far.0 more so_far.1 c.print_phase.ensures.front) c.in-Err.ensures.err)
 
@@ -88,6 +118,7 @@ pub returns-clause-ends : goal.returns-clause-ends
 returns-clause-ends g c =
     let old = view_of c.args.engine.core in
     let mid = view_of c.loop-orders.engine.core in
+    let held = c.loop-orders.slots.held.items in
     let so_far = c.loop-orders.invariant.lines in
     let laws = g.met.D.Disk g.world.𝓛 g.world.𝓜 g.world.𝓡 ((λ s x. x), (λ x. x), (λ x. x), λ x. x) in
     let gives = c.into_iter-orders-iterator.ensures.into_iter_gives in
@@ -97,10 +128,10 @@ returns-clause-ends g c =
     let s1 = g.K.Sink.faults c.loop-orders.sink in
     let t0 = g.K.Sink.taken c.args.sink.now in
     let t1 = g.K.Sink.taken c.loop-orders.sink in
-    subst (λ d. ScriptEnds g.D.Disk.tells g.D.Disk.ports_fail old (g.D.Disk.seen d) (g.D.Disk.faults d) t0 t1 (Rose s0 s1) c.args.phases c.status_of.result) (sym c.into_disk-2.ensures)
+    subst (λ d. ScriptEnds g.D.Disk.tells g.D.Disk.ports_fail old (g.D.Disk.seen d) (g.D.Disk.faults d) t0 t1 (Rose s0 s1) c.args.phases c.status_of.result) (sym c.hand_back-2.ensures)
     (subst (λ st. ScriptEnds g.D.Disk.tells g.D.Disk.ports_fail old mid.disk mid.faults t0 t1 (Rose s0 s1) c.args.phases st) (sym c.status_of.ensures)
-    (all_ends g.D.Disk.tells g.D.Disk.ports_fail old mid (λ told. laws.itself told c.loop-orders.engine.core.disk) c.args.phases so_far.0 t0 t1 (Rose s0 s1) c.loop-orders.refused
-    (subst (λ p. Before g.D.Disk.tells g.D.Disk.ports_fail old mid p so_far.0) whole so_far.3) so_far.1 so_far.2))
+    (all_ends g.D.Disk.tells g.D.Disk.ports_fail old mid (λ told. laws.itself told c.loop-orders.engine.core.disk) (slots_of mid held) (λ h. AreShown h held) c.args.phases so_far.0 t0 t1 (Rose s0 s1) c.loop-orders.refused
+    (subst (λ p. Before g.D.Disk.tells g.D.Disk.ports_fail old mid (slots_of mid held) (λ h. AreShown h held) p so_far.0) whole so_far.3) so_far.1 so_far.2))
 
 pub serve_phase-served-requires-clause-rounds : goal.serve_phase-served-requires-clause-rounds
 serve_phase-served-requires-clause-rounds g c =
@@ -114,3 +145,27 @@ serve_phase-served-requires-clause-rounds g c =
     let so_far = c.loop-orders.invariant.rounds in
     let most = c.requires.rounds in
     omega (arith, all, first, size, so_far, most)
+
+pub serve_phase-served-requires-clause-made : goal.serve_phase-served-requires-clause-made
+serve_phase-served-requires-clause-made g c =
+    let orders = c.in-Some.orders in
+    let rest = c.next.new.self.rest.items in
+    let are : c.args.phases ≡ c.loop-orders.yielded ++ orders ∷ rest =
+    taken_next c.args.phases c.into_iter-orders-iterator.result c.loop-orders.yielded c.loop-orders.orders-iterator orders rest (c.into_iter-orders-iterator.ensures.into_iter_gives.0 ∙ c.into_vec-orders-items.ensures) c.loop-orders.yielded_by c.in-Some.ensures.steps.0 in
+    let all = ap (sum_by (length {A = Order})) are ∙ sum_by-append (length {A = Order}) c.loop-orders.yielded (orders ∷ rest) in
+    let first = sum_by-cons (length {A = Order}) orders rest in
+    let size = ap length c.into_vec.ensures in
+    let so_far = c.loop-orders.invariant.made in
+    let most = c.requires.made in
+    omega (arith, all, first, size, so_far, most)
+
+pub serve_phase-served-requires-clause-slotted : goal.serve_phase-served-requires-clause-slotted
+serve_phase-served-requires-clause-slotted g c κs within =
+    let orders = c.in-Some.orders in
+    let rest = c.next.new.self.rest.items in
+    let was = held_in c.loop-orders.slots.held.items in
+    let are : c.args.phases ≡ c.loop-orders.yielded ++ orders ∷ rest =
+    taken_next c.args.phases c.into_iter-orders-iterator.result c.loop-orders.yielded c.loop-orders.orders-iterator orders rest (c.into_iter-orders-iterator.ensures.into_iter_gives.0 ∙ c.into_vec-orders-items.ensures) c.loop-orders.yielded_by c.in-Some.ensures.steps.0 in
+    subst (λ orders. IsSome (held_through orders was)) (sym c.into_vec.ensures)
+    (part_finds (flat_map (λ orders. orders) c.loop-orders.yielded) none_held was c.loop-orders.invariant.slotted orders (flat_map (λ orders. orders) rest)
+    (subst (λ l. IsSome (held_through l none_held)) (flat_parts c.args.phases c.loop-orders.yielded rest orders are) c.requires.slotted))

@@ -5,6 +5,7 @@ use Rattle.lethe_script.specs.Reading.{FailsScript}
 use Rattle.lethe_disk.proofs.Quieting.{quiet_itself}
 use Rattle.lethe_core.specs.View.{view_of}
 use Rattle.lethe_run.proofs.Ending.{keeps_still, said_bad_words, said_bad_script, said_not_opened, script_ended, on_script, no_script, drawn_by}
+use Rattle.lethe_run.proofs.Holding.{fresh_holds}
 use Rattle.lethe_run.proofs.top.carry_out.Goals as goal
 
 pub returns-in_default : goal.returns-in_default
@@ -53,3 +54,6 @@ returns g c =
       any_moment = c.in-Err.ensures.any_moment;
       pace = c.in-Err.ensures.pace;
     }) c.tell.ensures
+
+pub serve_script-requires-clause-pins : goal.serve_script-requires-clause-pins
+serve_script-requires-clause-pins g c κs within = fresh_holds (view_of c.in-Ok-open_store.engine.core) c.in-Ok-open_store.ensures.pins

@@ -3,8 +3,7 @@ use Rattle.lethe_memdisk.specs.Held.{Held, seen_of}
 use Rattle.lethe_segment.specs.declared.record.Record.{Record}
 use Rattle.lethe_segment.specs.Records.{record_bytes, record_seq, RecordHasSpelling}
 use Rattle.lethe_commit.specs.Append.{Addition, EndsAt, IsReady}
-use Rattle.lethe_chain.specs.Chains.{IsWaiting}
-use Rattle.lethe_test_chain.specs.Rows.{Waits}
+use Rattle.lethe_chain.specs.Chains.{IsWaiting, Waits}
 use Rattle.lethe_test_chain.specs.declared.disks.TheConstants.{SEGMENT}
 use Rattle.lethe_test_chain.proofs.rows.begin.Goals as goal
 
@@ -16,7 +15,7 @@ ready_for : (disk : Held) (r : Record) (body : List ℕ) → EndsAt (seen_of dis
 ready_for disk r body ends spelled place is = record { ends = ends; spelled = spelled; above = omega (arith, place); bytes = is }
 
 waits_first : (disk : Held) (r : Record) (body : List ℕ) (end : ℕ) → IsWaiting (seen_of disk) SEGMENT 11 (first r) → record_seq r ≡ 1 → body ≡ record_bytes r → end ≡ 11 + 1 + length body
-    → Waits disk SEGMENT 11 end 1
+    → Waits (seen_of disk) SEGMENT 11 end 1
 waits_first disk r body end waits place is ends = record { addition = first r; waits = waits; ends = ends ∙ ap (λ (l : List ℕ). 11 + 1 + length l) is; place = place }
 
 pub append_first-requires-after_bounds : goal.append_first-requires-after_bounds

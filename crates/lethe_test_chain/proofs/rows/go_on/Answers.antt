@@ -3,8 +3,7 @@ use Rattle.lethe_memdisk.specs.Held.{Held, seen_of}
 use Rattle.lethe_segment.specs.declared.record.Record.{Record}
 use Rattle.lethe_segment.specs.Records.{record_bytes, record_seq, RecordHasSpelling}
 use Rattle.lethe_commit.specs.Append.{Addition, longer}
-use Rattle.lethe_chain.specs.Chains.{IsWaiting, IsBehind}
-use Rattle.lethe_test_chain.specs.Rows.{Waits}
+use Rattle.lethe_chain.specs.Chains.{IsWaiting, IsBehind, Waits}
 use Rattle.lethe_test_chain.specs.declared.disks.TheConstants.{SEGMENT}
 use Rattle.lethe_test_chain.proofs.rows.go_on.Goals as goal
 
@@ -16,7 +15,7 @@ behind_it : (a : Addition) (r : Record) (body : List ℕ) (seq : ℕ) → record
 behind_it a r body seq waiting spelled place is = record { number = refl; records = refl; spelled = spelled; above = omega (arith, waiting, place); bytes = is }
 
 waits_next : (disk : Held) (b : Addition) (body : List ℕ) (at end seq : ℕ) → IsWaiting (seen_of disk) SEGMENT at b → record_seq b.next ≡ seq + 1 → body ≡ record_bytes b.next → end ≡ at + 1 + length body
-    → Waits disk SEGMENT at end (seq + 1)
+    → Waits (seen_of disk) SEGMENT at end (seq + 1)
 waits_next disk b body at end seq waits place is ends = record { addition = b; waits = waits; ends = ends ∙ ap (λ (l : List ℕ). at + 1 + length l) is; place = place }
 
 pub append_next-requires-after_bounds : goal.append_next-requires-after_bounds

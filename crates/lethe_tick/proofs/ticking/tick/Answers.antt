@@ -1,9 +1,10 @@
-use Rattle.std.proofs.Common.{rules, ◌≡◌, ◌≤◌, ◌⊎◌, ◌+◌, inl, inr, ℕ, List, Option, Result, Err, sym, ap, ◌∙◌, subst, arith}
-use Rattle.std.specs.Prelude.{IfErr}
+use Rattle.std.proofs.Common.{rules, ◌≡◌, ◌≤◌, ◌<◌, ◌⊎◌, ◌+◌, inl, inr, ℕ, List, Option, Result, Err, sym, ap, ◌∙◌, subst, arith}
+use Rattle.std.specs.Prelude.{All, IfErr}
 use Rattle.std.specs.Result.{result_err}
 use Rattle.std.proofs.lemmas.Result.{IfErr-weaker}
 use Rattle.lethe_base.specs.Limits.{max_place}
 use Rattle.lethe_base.specs.declared.call.Call.TheVariants.{Tick}
+use Rattle.lethe_base.specs.declared.name.Name.{Name}
 use Rattle.lethe_base.specs.declared.refused.Refused.{Refused}
 use Rattle.lethe_cert.specs.declared.certificate.Certificate.{Certificate}
 use Rattle.lethe_disk.proofs.Quieting.{on_ok}
@@ -11,8 +12,11 @@ use Rattle.lethe_follows.specs.Ticked.{ticked}
 use Rattle.lethe_stored.specs.Left.{IsKeptOr}
 use Rattle.lethe_stored.specs.Stored.{Stored}
 use Rattle.lethe_stored.proofs.Numbers.{goes_from_then}
+use Rattle.lethe_pins.specs.Held.{Held}
+use Rattle.lethe_pins.specs.declared.pin.Pin.{Pin}
 use Rattle.lethe_core.specs.Asked.{Makes, behind, counted, stopped_by, written_by}
-use Rattle.lethe_core.specs.Merges.{AreOutcomesBy, Outcome, due_choice, pages_of, retired_behind}
+use Rattle.lethe_core.specs.Merges.{AreOutcomesBy, Outcome, due_choice, pages_of}
+use Rattle.lethe_core.specs.Pinned.{AreKept, AreNamed}
 use Rattle.lethe_core.specs.Reasons.{HasReason, IsUnreadable}
 use Rattle.lethe_core.specs.Running.{Holds}
 use Rattle.lethe_core.specs.StandsNow.{StandsNow}
@@ -23,13 +27,16 @@ use Rattle.lethe_core.proofs.Likes.{before_holds, jobs_same}
 use Rattle.lethe_core.proofs.Standing.{moments_or, stands_holds}
 use Rattle.lethe_tick.specs.Last.{HasLastStep}
 use Rattle.lethe_tick.specs.Ripened.{IsRipened, IsShortToTick, IsTickedInPart}
-use Rattle.lethe_tick.proofs.Buffers.{if_both, reason_told}
+use Rattle.lethe_tick.proofs.Buffers.{if_both, if_ok, reason_told}
 use Rattle.lethe_tick.proofs.Last.{last_step}
-use Rattle.lethe_tick.proofs.Ripe.{all_some, due_nothing, stands_then, time_forward}
+use Rattle.lethe_tick.proofs.Ripe.{all_some, due_nothing, kept_twice, stands_then, time_forward}
 use Rattle.lethe_tick.proofs.ticking.tick.Goals as goal
 
 pub move_clock-requires-clause-may : goal.move_clock-requires-clause-may
 move_clock-requires-clause-may g c κs within = next_may g.D.Disk.tells (view_of c.args.core.now) (view_of c.ripen_store.new.core) c.args.before c.requires.may c.in_ok-ripen_store.ensures.keeps
+
+pub move_clock-requires-clause-passes : goal.move_clock-requires-clause-passes
+move_clock-requires-clause-passes g c κs within = subst (λ (held : Held). All (λ (pin : Pin). c.args.to < pin.limit) held.pins) (sym c.in_ok-ripen_store.ensures.keeps.pins) c.requires.passes
 
 -- What is due could not be done
 
@@ -68,6 +75,12 @@ returns-in_err-ripen_store-clause-partly g c =
     let why = c.in_err-ripen_store.field-0.0 in
     let refusal : c.from_residual.result ≡ Err why = search rules in
     subst (λ (r : Result (Option Certificate) Refused). IfErr r (IsDoneInPart g.D.Disk.tells (IsTickedInPart c.args.to) (view_of c.args.core.now) (view_of c.ripen_store.new.core))) (sym refusal) c.in_err-ripen_store.ensures.partly
+
+pub returns-in_err-ripen_store-clause-pins : goal.returns-in_err-ripen_store-clause-pins
+returns-in_err-ripen_store-clause-pins g c = c.in_err-ripen_store.ensures.keeps.pins
+
+pub returns-in_err-ripen_store-clause-pinned : goal.returns-in_err-ripen_store-clause-pinned
+returns-in_err-ripen_store-clause-pinned g c = c.in_err-ripen_store.ensures.keeps.pinned
 
 -- The clock
 
@@ -135,23 +148,39 @@ returns-clause-done g c = λ told s holds.
     let is = c.in_ok-ripen_store.ensures.done told s holds in
     let start = g.D.Disk.fetches c.args.port.now in
     let now = g.D.Disk.fetches c.ripen_store.new.port in
-    let retired : new.retired ≡ mid.retired = λ i. (c.move_clock.ensures.retired i).items in
     on_ok c.move_clock.result (Holds new (ticked is.1 c.args.to mid.state.next))
     ((ripe t : Stored) × (outcomes : List Outcome) × (number : ℕ) × IsRipened c.args.to s ripe × AreOutcomesBy (due_choice c.args.to) ripe outcomes t × Holds new (ticked t c.args.to number)
-    × (now ≡ start + pages_of outcomes) × (new.retired ≡ retired_behind outcomes old.retired))
+    × (now ≡ start + pages_of outcomes))
     (c.move_clock.ensures.done told is.1 is.5)
-    (λ holds. (is.0, is.1, is.2, mid.state.next, is.3, is.4, holds, is.6, retired ∙ is.7))
+    (λ holds. (is.0, is.1, is.2, mid.state.next, is.3, is.4, holds, is.6))
 
 pub returns-clause-partly : goal.returns-clause-partly
 returns-clause-partly g c =
     let old = view_of c.args.core.now in
     let mid = c.ripen_store.new.core in
     let new = c.move_clock.new.core in
-    let same = jobs_same mid new c.move_clock.ensures.begun c.move_clock.ensures.flight (λ i. (c.move_clock.ensures.retired i).items) in
+    let same = jobs_same mid new c.move_clock.ensures.begun c.move_clock.ensures.flight (λ i. (c.move_clock.ensures.retired i).items) c.move_clock.ensures.pins in
     IfErr-weaker c.move_clock.result (IsUndone g.D.Disk.tells (view_of mid) (view_of new)) (IsDoneInPart g.D.Disk.tells (IsTickedInPart c.args.to) old (view_of new))
     (λ why undone none told s holds.
     let is = c.in_ok-ripen_store.ensures.done told s holds in
     (is.1, inr (is.0, is.2, is.3, all_some (due_choice c.args.to) is.0 is.2 is.1 is.4), before_holds g.D.Disk.tells told (view_of mid) (view_of new) is.1 same (undone none) is.5)) c.move_clock.ensures.undone
+
+pub returns-clause-pins : goal.returns-clause-pins
+returns-clause-pins g c = subst (λ (held : Held). c.move_clock.new.core.pins ≡ held) c.in_ok-ripen_store.ensures.keeps.pins c.move_clock.ensures.pins
+
+pub returns-clause-pinned : goal.returns-clause-pinned
+returns-clause-pinned g c = λ told runs.
+    let old = view_of c.args.core.now in
+    let d = old.disk.directory in
+    let mid = (view_of c.ripen_store.new.core).disk.directory in
+    let end = (view_of c.move_clock.new.core).disk.directory in
+    let keeps = c.in_ok-ripen_store.ensures.keeps in
+    kept_twice old.pins.pins d mid end (keeps.pinned told (keeps.stopped ∙ c.requires.may.runs)) (subst (λ (held : Held). AreKept held.pins mid end) keeps.pins (c.move_clock.ensures.pinned told runs))
+
+pub returns-clause-named : goal.returns-clause-named
+returns-clause-named g c = λ told.
+    if_ok c.move_clock.result (AreNamed c.move_clock.new.core.pins.pins c.move_clock.new.core.retired.items) (subst (λ (held : Held). AreNamed held.pins c.move_clock.new.core.retired.items) (sym c.move_clock.ensures.pins)
+    (subst (λ (names : List Name). AreNamed c.ripen_store.new.core.pins.pins names) (λ i. (sym c.move_clock.ensures.retired i).items) (c.in_ok-ripen_store.ensures.named told)))
 
 pub returns-clause-why : goal.returns-clause-why
 returns-clause-why g c =

@@ -8,7 +8,7 @@ use Rattle.lethe_core.specs.View.{flying_of, view_of}
 use Rattle.lethe_core.proofs.Asked.{not_none}
 use Rattle.lethe_core.proofs.Hindered.{keeps_itself}
 use Rattle.lethe_core.proofs.Pages.{flying_is, held_now, may_remove, refused_keeps, stays}
-use Rattle.lethe_core.proofs.Removed.{grounded_keeps, only_failed, removed_holds, removed_keeps}
+use Rattle.lethe_core.proofs.Removed.{all_drawn, grounded_keeps, only_failed, removed_holds, removed_keeps}
 use Rattle.lethe_core.proofs.holding.Core.cancel_now.Goals as goal
 
 -- beside what is stored the retired pages and the job's lie there
@@ -18,7 +18,7 @@ remove_pages-requires-clause-there g c κs within = λ told.
     let may = c.requires.may in
     let is = flying_is self c.take.result c.in-Some.flight c.take.ensures.value c.in-Some.is in
     let held = held_now g.D.Disk.tells (view_of self) may.sound told may.runs in
-    (held.0, stays g.D.Disk.tells (view_of self) (flying_of c.in-Some.flight) is may.sound, may_remove g.D.Disk.tells (view_of self) (flying_of c.in-Some.flight) is may.sound held.0 held.1)
+    (held.0, stays g.D.Disk.tells (view_of self) (flying_of c.in-Some.flight) is may.sound, may_remove g.D.Disk.tells (view_of self) (flying_of c.in-Some.flight) is may.sound told held.0 held.1)
 
 pub returns-in_default-clause-keeps : goal.returns-in_default-clause-keeps
 returns-in_default-clause-keeps g c =
@@ -36,8 +36,9 @@ returns-in-Ok-clause-keeps g c =
     let is = flying_is self c.take.result c.in-Some.flight c.take.ensures.value c.in-Some.is in
     let left = stays g.D.Disk.tells (view_of self) (flying_of c.in-Some.flight) is may.sound in
     subst (λ f. Keeps g.D.Disk.tells (view_of self) (view_of (record self { disk = disk; flight = f })) None) (sym c.take.ensures.after)
-    (removed_keeps g.D.Disk.tells (view_of self) (flying_of c.in-Some.flight) is may.sound (g.D.Disk.seen disk) (g.D.Disk.faults disk) (λ told. laws.itself told self.disk)
-    (λ told s. c.in-Ok.ensures.done told s left) c.in-Ok.ensures.others may.runs (λ told s. c.in-Ok.ensures.any_moment told s left) c.in-Ok.ensures.cause.later)
+    (removed_keeps g.D.Disk.tells (view_of self) may.sound may.runs self.retired.items c.in-Some.flight.written (g.D.Disk.seen disk) (g.D.Disk.faults disk) (λ told. laws.itself told self.disk)
+    (λ name there. there) (λ name named there. there) (all_drawn g.D.Disk.tells (view_of self) may.sound) (may_remove g.D.Disk.tells (view_of self) (flying_of c.in-Some.flight) is may.sound)
+    (λ told s. c.in-Ok.ensures.done told s left) c.in-Ok.ensures.others (λ told s. c.in-Ok.ensures.any_moment told s left) c.in-Ok.ensures.cause.later)
 
 pub returns-in-Ok-clause-held : goal.returns-in-Ok-clause-held
 returns-in-Ok-clause-held g c = λ told s holds.
@@ -48,7 +49,8 @@ returns-in-Ok-clause-held g c = λ told s holds.
     let is = flying_is self c.take.result c.in-Some.flight c.take.ensures.value c.in-Some.is in
     let left = stays g.D.Disk.tells (view_of self) (flying_of c.in-Some.flight) is may.sound in
     subst (λ f. Holds (view_of (record self { disk = disk; flight = f })) s) (sym c.take.ensures.after)
-    (removed_holds g.D.Disk.tells (view_of self) (flying_of c.in-Some.flight) is c.requires.may.sound (g.D.Disk.seen disk) (g.D.Disk.faults disk) (λ told. laws.itself told self.disk)
+    (removed_holds g.D.Disk.tells (view_of self) may.sound may.runs self.retired.items c.in-Some.flight.written (g.D.Disk.seen disk) (g.D.Disk.faults disk) (λ told. laws.itself told self.disk)
+    (λ name there. there) (λ name named there. there) (all_drawn g.D.Disk.tells (view_of self) may.sound) (may_remove g.D.Disk.tells (view_of self) (flying_of c.in-Some.flight) is may.sound)
     (λ told s. c.in-Ok.ensures.done told s left) c.in-Ok.ensures.others told s holds)
 
 pub returns-clause-keeps : goal.returns-clause-keeps
@@ -67,9 +69,9 @@ returns-clause-keeps g c =
     subst (λ f. Keeps g.D.Disk.tells old (view_of (record self { disk = disk; state = state; flight = f })) (Some why)) (sym c.take.ensures.after)
     (grounded_keeps g.D.Disk.tells old (record old { disk = g.D.Disk.seen disk; faults = g.D.Disk.faults disk; state = state }) (Some why) (self.state.count + 1) (ap (λ (s : State). s.stopped) c.stop-place.ensures.is)
     (refused_keeps g.D.Disk.tells old may.sound (record old { disk = g.D.Disk.seen disk; faults = g.D.Disk.faults disk; state = state }) c.args.before may
-    (λ told s holds. c.remove_pages.ensures.any_moment told s (stays g.D.Disk.tells old (flying_of c.in-Some.flight) is may.sound) (may_remove g.D.Disk.tells old (flying_of c.in-Some.flight) is may.sound s holds))
+    (λ told s holds. c.remove_pages.ensures.any_moment told s (stays g.D.Disk.tells old (flying_of c.in-Some.flight) is may.sound) (may_remove g.D.Disk.tells old (flying_of c.in-Some.flight) is may.sound told s holds))
     (λ told. laws.itself told disk) c.remove_pages.ensures.cause.later why
-    (c.stop-place.ensures.place, refl, c.faults.ensures, told, c.stop-place.ensures.is, record { levels = refl; retired = refl; flight = refl; begun = refl; rounds = refl })))
+    (c.stop-place.ensures.place, refl, c.faults.ensures, told, c.stop-place.ensures.is, record { levels = refl; retired = refl; flight = refl; begun = refl; rounds = refl; pins = refl })))
 
 pub returns-clause-undone : goal.returns-clause-undone
 returns-clause-undone g c = λ none. absurd (not_none (record { place = c.stop-place.result; before = c.args.before; after = c.faults.result }) none)

@@ -35,7 +35,7 @@ carry_out-requires-clause-step g c κs within =
     let old = view_of c.args.self.now in
     let headers = c.in_ok-headers.headers.items in
     let step = c.in_ok-headers.step in
-    next_step IsFlushed g.D.Disk.tells old headers step c.args.before c.requires.may (flushed_next old c.requires.may.sound.drawn headers step c.in_ok-headers.ensures.flushes)
+    next_step IsFlushed g.D.Disk.tells old headers step c.args.before c.requires.may (flushed_next g.D.Disk.tells old c.requires.may.sound.drawn headers step c.in_ok-headers.ensures.flushes)
 
 pub returns-in_err-carry_out-clause-keeps : goal.returns-in_err-carry_out-clause-keeps
 returns-in_err-carry_out-clause-keeps g c =
@@ -46,7 +46,7 @@ returns-in_err-carry_out-clause-keeps g c =
     let why = c.in_err-carry_out.field-0.0 in
     let laws = g.met.D.Disk g.world.𝓛 g.world.𝓜 g.world.𝓡 ((λ s x. x), (λ x. x), (λ x. x), λ x. x) in
     let refusal : c.from_residual-in_err-carry_out.result ≡ Err why = search rules in
-    let goes = next_moments IsFlushed g.D.Disk.tells old headers step c.args.before c.requires.may (flushed_next old c.requires.may.sound.drawn headers step c.in_ok-headers.ensures.flushes)
+    let goes = next_moments IsFlushed g.D.Disk.tells old headers step c.args.before c.requires.may (flushed_next g.D.Disk.tells old c.requires.may.sound.drawn headers step c.in_ok-headers.ensures.flushes)
     new (λ h s t holds for is. flush_for h s t holds.remembers.coherent for is) 1 c.in_ok-headers.ensures.step c.carry_out.ensures.moments in
     subst (λ (r : Result (Unit {0}) Refused). Keeps g.D.Disk.tells old new (result_err r)) (sym refusal)
     (hindered_keeps g.D.Disk.tells old new c.args.before c.requires.may why c.in_err-carry_out.ensures.refused goes (λ told. laws.itself told c.carry_out.new.self.disk) c.carry_out.ensures.later c.carry_out.ensures.faults)
@@ -76,11 +76,12 @@ returns-clause-keeps g c =
       levels = c.carry_out.ensures.levels;
       retired = λ i. (c.carry_out.ensures.retired i).items;
       flight = ap (option_map flying_of) c.carry_out.ensures.flight;
+      pins = c.carry_out.ensures.pins;
       calls = c.in_ok-carry_out.ensures.calls;
       faults = c.carry_out.ensures.faults;
     } in
     let from = c.in_ok-headers.ensures.step in
-    next_keeps IsFlushed g.D.Disk.tells old headers step c.args.before c.requires.may (flushed_next old c.requires.may.sound.drawn headers step c.in_ok-headers.ensures.flushes)
+    next_keeps IsFlushed g.D.Disk.tells old headers step c.args.before c.requires.may (flushed_next g.D.Disk.tells old c.requires.may.sound.drawn headers step c.in_ok-headers.ensures.flushes)
     new (λ h s t holds for is. flush_for h s t holds.remembers.coherent for is) carried
     (λ told s t holds made is. flushed_holds g.D.Disk.tells s t old new headers step carried told holds is made new_is (laws.itself told c.args.self.now.disk))
     (λ h s t holds for recorded is. flushed_recorded h s t for recorded is)
@@ -104,9 +105,10 @@ returns-clause-done g c =
       levels = c.carry_out.ensures.levels;
       retired = λ i. (c.carry_out.ensures.retired i).items;
       flight = ap (option_map flying_of) c.carry_out.ensures.flight;
+      pins = c.carry_out.ensures.pins;
       calls = c.in_ok-carry_out.ensures.calls;
       faults = c.carry_out.ensures.faults;
     } in
-    next_done IsFlushed g.D.Disk.tells old headers step c.args.before c.requires.may (flushed_next old c.requires.may.sound.drawn headers step c.in_ok-headers.ensures.flushes)
+    next_done IsFlushed g.D.Disk.tells old headers step c.args.before c.requires.may (flushed_next g.D.Disk.tells old c.requires.may.sound.drawn headers step c.in_ok-headers.ensures.flushes)
     new (λ h s t holds for is. flush_for h s t holds.remembers.coherent for is) carried
     (λ told s t holds made is. flushed_holds g.D.Disk.tells s t old new headers step carried told holds is made new_is (laws.itself told c.args.self.now.disk))

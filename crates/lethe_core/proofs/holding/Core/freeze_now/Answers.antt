@@ -33,7 +33,7 @@ carry_out-requires-clause-step g c κs within =
     let old = view_of c.args.self.now in
     let headers = c.new.result.items in
     let step = c.in_ok-step.step in
-    next_step IsFrozen g.D.Disk.tells old headers step c.args.before c.requires.may (frozen_next old c.requires.may.sound.drawn headers step c.requires.may.sound.writable c.new.ensures.items c.in_ok-step.ensures.freezes)
+    next_step IsFrozen g.D.Disk.tells old headers step c.args.before c.requires.may (frozen_next g.D.Disk.tells old c.requires.may.sound.drawn headers step c.requires.may.sound.writable c.new.ensures.items c.in_ok-step.ensures.freezes)
 
 pub returns-in_err-carry_out-clause-keeps : goal.returns-in_err-carry_out-clause-keeps
 returns-in_err-carry_out-clause-keeps g c =
@@ -45,7 +45,7 @@ returns-in_err-carry_out-clause-keeps g c =
     let laws = g.met.D.Disk g.world.𝓛 g.world.𝓜 g.world.𝓡 ((λ s x. x), (λ x. x), (λ x. x), λ x. x) in
     let refusal : c.from_residual-in_err-carry_out.result ≡ Err why = search rules in
     let from = subst (λ headers. IsStepFrom 2 old.state headers step) (sym c.new.ensures.items) c.in_ok-step.ensures.step in
-    let goes = next_moments IsFrozen g.D.Disk.tells old headers step c.args.before c.requires.may (frozen_next old c.requires.may.sound.drawn headers step c.requires.may.sound.writable c.new.ensures.items c.in_ok-step.ensures.freezes)
+    let goes = next_moments IsFrozen g.D.Disk.tells old headers step c.args.before c.requires.may (frozen_next g.D.Disk.tells old c.requires.may.sound.drawn headers step c.requires.may.sound.writable c.new.ensures.items c.in_ok-step.ensures.freezes)
     new (λ h s t holds for is. frozen_for h s t old.state old.levels holds.remembers (not_frozen s old.state old.levels holds.remembers c.requires.unfrozen) for is) 2 from c.carry_out.ensures.moments in
     subst (λ (r : Result (Unit {0}) Refused). Keeps g.D.Disk.tells old new (result_err r)) (sym refusal)
     (hindered_keeps g.D.Disk.tells old new c.args.before c.requires.may why c.in_err-carry_out.ensures.refused goes (λ told. laws.itself told c.carry_out.new.self.disk) c.carry_out.ensures.later c.carry_out.ensures.faults)
@@ -74,11 +74,12 @@ returns-clause-keeps g c =
       levels = c.carry_out.ensures.levels;
       retired = λ i. (c.carry_out.ensures.retired i).items;
       flight = ap (option_map flying_of) c.carry_out.ensures.flight;
+      pins = c.carry_out.ensures.pins;
       calls = c.in_ok-carry_out.ensures.calls;
       faults = c.carry_out.ensures.faults;
     } in
     let from = subst (λ headers. IsStepFrom 2 old.state headers step) (sym c.new.ensures.items) c.in_ok-step.ensures.step in
-    next_keeps IsFrozen g.D.Disk.tells old headers step c.args.before c.requires.may (frozen_next old c.requires.may.sound.drawn headers step c.requires.may.sound.writable c.new.ensures.items c.in_ok-step.ensures.freezes)
+    next_keeps IsFrozen g.D.Disk.tells old headers step c.args.before c.requires.may (frozen_next g.D.Disk.tells old c.requires.may.sound.drawn headers step c.requires.may.sound.writable c.new.ensures.items c.in_ok-step.ensures.freezes)
     new (λ h s t holds for is. frozen_for h s t old.state old.levels holds.remembers (not_frozen s old.state old.levels holds.remembers c.requires.unfrozen) for is) carried
     (λ told s t holds made is. frozen_holds g.D.Disk.tells s t old new headers step carried told holds is made c.requires.unfrozen with)
     (λ h s t holds for recorded is. frozen_recorded s t (not_frozen s old.state old.levels holds.remembers c.requires.unfrozen) recorded is)
@@ -101,9 +102,10 @@ returns-clause-done g c =
       levels = c.carry_out.ensures.levels;
       retired = λ i. (c.carry_out.ensures.retired i).items;
       flight = ap (option_map flying_of) c.carry_out.ensures.flight;
+      pins = c.carry_out.ensures.pins;
       calls = c.in_ok-carry_out.ensures.calls;
       faults = c.carry_out.ensures.faults;
     } in
-    next_done IsFrozen g.D.Disk.tells old headers step c.args.before c.requires.may (frozen_next old c.requires.may.sound.drawn headers step c.requires.may.sound.writable c.new.ensures.items c.in_ok-step.ensures.freezes)
+    next_done IsFrozen g.D.Disk.tells old headers step c.args.before c.requires.may (frozen_next g.D.Disk.tells old c.requires.may.sound.drawn headers step c.requires.may.sound.writable c.new.ensures.items c.in_ok-step.ensures.freezes)
     new (λ h s t holds for is. frozen_for h s t old.state old.levels holds.remembers (not_frozen s old.state old.levels holds.remembers c.requires.unfrozen) for is) carried
     (λ told s t holds made is. frozen_holds g.D.Disk.tells s t old new headers step carried told holds is made c.requires.unfrozen with)

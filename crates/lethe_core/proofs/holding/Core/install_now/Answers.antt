@@ -1,4 +1,4 @@
-use Rattle.std.proofs.Common.{rules, ◌≡◌, Some, Result, Err, refl, sym, ap, subst}
+use Rattle.std.proofs.Common.{rules, ◌≡◌, Some, Result, Err, sym, ap, subst}
 use Rattle.std.specs.Result.{result_err}
 use Rattle.lethe_base.specs.declared.refused.Refused.{Refused}
 use Rattle.std.specs.Prelude.{IfErr, IfSome, OnOk, option_map}
@@ -38,8 +38,8 @@ merge_now-requires-clause-merges g c κs within = λ told s holds.
     let flying = flying_of c.in-Some.flight in
     let flies : view.flight ≡ Some flying = ap (option_map flying_of) c.in-Some.is in
     let outputs = subst (λ flight. IfSome flight (λ flying. AreOutputsOf g.D.Disk.tells flying c.args.made)) flies c.requires.outputs in
-    let next = next_install g.D.Disk.tells view flying flies c.args.made outputs c.in_ok-made.made (plain_task c.deref.result.now) c.names.result.now c.deref-2.result.now
-    c.in_ok-made.ensures.installs (ap plain_task c.deref.ensures) c.names.ensures (c.in_ok-made.ensures.none refl) (sym c.deref-2.ensures.value) told s holds in
+    let next = next_install g.D.Disk.tells view c.requires.may.sound.drawn flying flies c.args.made outputs c.in_ok-made.made (plain_task c.deref.result.now) c.names.result.now c.deref-2.result.now
+    c.in_ok-made.ensures.installs (ap plain_task c.deref.ensures) c.names.ensures (record { named = c.in_ok-made.ensures.named; gone = c.in_ok-made.ensures.gone }) (sym c.deref-2.ensures.value) told s holds in
     (flying.task, next.0, next.1, λ config h stands. subst (λ flight. IfSome flight (λ flying. IsCounted flying.task)) flies stands.counted)
 
 pub returns-clause-done : goal.returns-clause-done
@@ -49,7 +49,7 @@ returns-clause-done g c = λ told s holds.
     let flying = flying_of c.in-Some.flight in
     let flies : view.flight ≡ Some flying = ap (option_map flying_of) c.in-Some.is in
     let outputs = subst (λ flight. IfSome flight (λ flying. AreOutputsOf g.D.Disk.tells flying c.args.made)) flies c.requires.outputs in
-    let next = next_install g.D.Disk.tells view flying flies c.args.made outputs c.in_ok-made.made (plain_task c.deref.result.now) c.names.result.now c.deref-2.result.now
-    c.in_ok-made.ensures.installs (ap plain_task c.deref.ensures) c.names.ensures (c.in_ok-made.ensures.none refl) (sym c.deref-2.ensures.value) told s holds in
+    let next = next_install g.D.Disk.tells view c.requires.may.sound.drawn flying flies c.args.made outputs c.in_ok-made.made (plain_task c.deref.result.now) c.names.result.now c.deref-2.result.now
+    c.in_ok-made.ensures.installs (ap plain_task c.deref.ensures) c.names.ensures (record { named = c.in_ok-made.ensures.named; gone = c.in_ok-made.ensures.gone }) (sym c.deref-2.ensures.value) told s holds in
     subst (λ flight. IfSome flight (λ flying. OnOk c.merge_now.result ((t : Stored) × IsInstalled s flying.task t × Holds after t))) (sym flies)
     (ok_weaker c.merge_now.result _ _ (c.merge_now.ensures.done told s flying.task next.0 holds next.1) (λ done holds. (next.0, next.1.installed, holds)))

@@ -7,7 +7,7 @@ use Rattle.lethe_disk.proofs.Quieting.{on_ok}
 use Rattle.lethe_stored.specs.Stored.{Stored}
 use Rattle.lethe_state.specs.Room.{HasRoom, IsShortToFreeze}
 use Rattle.lethe_core.specs.Keeps.{Keeps}
-use Rattle.lethe_core.specs.Merges.{IsMergedInPart, IsRoomBegun, IsRoomMadeBy, IsShortToMerge, IsUncrowded, Outcome, pages_of, retired_behind}
+use Rattle.lethe_core.specs.Merges.{AreRetiredBehind, IsMergedInPart, IsRoomBegun, IsRoomMadeBy, IsShortToMerge, IsUncrowded, Outcome, pages_of}
 use Rattle.lethe_core.specs.Reasons.{HasReason, IsShort, IsShortOfRoom, IsUnreadable}
 use Rattle.lethe_core.specs.Running.{Holds}
 use Rattle.lethe_core.specs.Steps.{IsDoneInPart, IsReady, IsSteady}
@@ -16,6 +16,7 @@ use Rattle.lethe_core.proofs.Behind.{next_may, reason_behind}
 use Rattle.lethe_core.proofs.Fetched.{not_damaged}
 use Rattle.lethe_core.proofs.Hindered.{keeps_itself, keeps_then}
 use Rattle.lethe_core.proofs.Likes.{before_holds, jobs_same}
+use Rattle.lethe_core.proofs.Outcomes.{retired_since}
 use Rattle.lethe_core.proofs.Roomed.{clash, has_room, room_ready, sees_room}
 use Rattle.lethe_core.proofs.holding.Core.make_room.Goals as goal
 
@@ -57,7 +58,7 @@ returns-in_err-unfreeze-clause-partly g c =
     let refusal : c.from_residual.result ≡ Err why = search rules in
     subst (λ (r : Result (Unit {0}) Refused). IfErr r (IsDoneInPart g.D.Disk.tells (IsRoomBegun (view_of old).flight) (view_of old) (view_of new))) (sym refusal)
     (λ none told s holds.
-    (s, inl refl, before_holds g.D.Disk.tells told (view_of old) (view_of new) s (jobs_same old new c.unfreeze.ensures.begun c.unfreeze.ensures.flight (λ i. (c.unfreeze.ensures.retired i).items)) (c.in_err-unfreeze.ensures.undone none) holds))
+    (s, inl refl, before_holds g.D.Disk.tells told (view_of old) (view_of new) s (jobs_same old new c.unfreeze.ensures.begun c.unfreeze.ensures.flight (λ i. (c.unfreeze.ensures.retired i).items) c.unfreeze.ensures.keeps.pins) (c.in_err-unfreeze.ensures.undone none) holds))
 
 pub returns-in_err-unfreeze-clause-why : goal.returns-in_err-unfreeze-clause-why
 returns-in_err-unfreeze-clause-why g c =
@@ -94,7 +95,7 @@ returns-in_err-freeze_now-clause-partly g c =
     let middle = c.in_ok-unfreeze.ensures.done told s holds in (
       middle.0,
       inr (full, record { middle = middle.0; unfrozen = middle.1; rest = inl refl }),
-      before_holds g.D.Disk.tells told (view_of mid) (view_of new) middle.0 (jobs_same mid new c.freeze_now.ensures.begun c.freeze_now.ensures.flight (λ i. (c.freeze_now.ensures.retired i).items)) (c.in_err-freeze_now.ensures.undone none) middle.2,
+      before_holds g.D.Disk.tells told (view_of mid) (view_of new) middle.0 (jobs_same mid new c.freeze_now.ensures.begun c.freeze_now.ensures.flight (λ i. (c.freeze_now.ensures.retired i).items) c.freeze_now.ensures.keeps.pins) (c.in_err-freeze_now.ensures.undone none) middle.2,
     ))
 
 pub returns-in_err-freeze_now-clause-why : goal.returns-in_err-freeze_now-clause-why
@@ -147,13 +148,13 @@ returns-clause-done g c = λ told s holds.
     let flight = ap (option_map flying_of) (c.freeze_now.ensures.flight ∙ c.unfreeze.ensures.flight) in
     let retired : (view_of c.freeze_now.new.self).retired ≡ old.retired = (λ i. (c.freeze_now.ensures.retired i).items) ∙ λ i. (c.unfreeze.ensures.retired i).items in
     let P : Option Flying → Type 0 = λ flight. (t : Stored) × (outcomes : List Outcome) × IsUncrowded flight cleared.0 outcomes t × Holds new t × (now ≡ start + pages_of outcomes)
-    × (new.retired ≡ retired_behind outcomes (view_of c.freeze_now.new.self).retired) in
+    × AreRetiredBehind outcomes (view_of c.freeze_now.new.self).pins.pins (view_of c.freeze_now.new.self).retired new.retired in
     on_ok c.merge_due.result (P (view_of c.freeze_now.new.self).flight)
-    ((t : Stored) × (outcomes : List Outcome) × IsRoomMadeBy old.flight s outcomes t × Holds new t × (now ≡ start + pages_of outcomes) × (new.retired ≡ retired_behind outcomes old.retired))
+    ((t : Stored) × (outcomes : List Outcome) × IsRoomMadeBy old.flight s outcomes t × Holds new t × (now ≡ start + pages_of outcomes) × AreRetiredBehind outcomes old.pins.pins old.retired new.retired)
     (c.merge_due.ensures.done told cleared.0 cleared.2)
     (λ done.
     let merges = subst (λ flight. IsUncrowded flight cleared.0 done.1 done.0) flight done.2 in
-    (done.0, done.1, inr (full, record { middle = middle.0; unfrozen = middle.1; cleared = cleared.0; frozen = cleared.1; merges = merges }), done.3, done.4, done.5 ∙ ap (retired_behind done.1) retired))
+    (done.0, done.1, inr (full, record { middle = middle.0; unfrozen = middle.1; cleared = cleared.0; frozen = cleared.1; merges = merges }), done.3, done.4, retired_since done.1 (view_of c.freeze_now.new.self).pins old.pins (view_of c.freeze_now.new.self).retired old.retired new.retired (c.in_ok-freeze_now.ensures.keeps.pins ∙ c.in_ok-unfreeze.ensures.keeps.pins) retired done.5))
 
 pub returns-clause-why : goal.returns-clause-why
 returns-clause-why g c =

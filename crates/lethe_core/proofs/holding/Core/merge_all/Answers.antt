@@ -1,19 +1,38 @@
-use Rattle.std.proofs.Common.{◌≡◌, ◌⊎◌, Some, None, Result, Ok, Err, refl, sym, ap, ◌∙◌, subst, arith}
-use Rattle.std.specs.Prelude.{Bool, true}
+use Rattle.std.proofs.Common.{rules, ◌≡◌, ◌⊎◌, inr, List, [], Some, None, Result, Ok, Err, refl, sym, ap, ◌∙◌, subst, arith}
+use Rattle.std.specs.Prelude.{Bool, IfErr, true}
 use Rattle.std.specs.Result.{result_err}
 use Rattle.lethe_base.specs.declared.refused.Refused.{Refused}
 use Rattle.lethe_base.specs.declared.refused.Refused.TheVariants.{Damaged}
 use Rattle.lethe_core.specs.Asked.{failure_of}
 use Rattle.lethe_core.specs.Keeps.{Keeps}
-use Rattle.lethe_core.specs.Merges.{IsShortToMergeBy, chosen_by}
+use Rattle.lethe_core.specs.Merges.{AreRetiredBehind, AreSomeOutcomesBy, IsShortToMergeBy, Outcome, chosen_by}
 use Rattle.lethe_core.specs.Reasons.{HasReason, IsUnreadable, told_since}
 use Rattle.lethe_core.specs.Running.{Holds}
+use Rattle.lethe_core.specs.Steps.{IsDoneInPart}
 use Rattle.lethe_core.specs.View.{view_of}
-use Rattle.lethe_core.proofs.Fetched.{damaged_since}
+use Rattle.lethe_core.proofs.Asked.{not_failed}
+use Rattle.lethe_core.proofs.Fetched.{damaged_since, not_short}
+use Rattle.lethe_core.proofs.Hindered.{keeps_itself}
 use Rattle.lethe_core.proofs.Outcomes.{merged_may, no_more, none_merged, once_more, some_merged, too_many}
 use Rattle.lethe_core.proofs.Behind.{either_since, keeps_since, since_failed}
 use Rattle.lethe_core.proofs.Likes.{before_holds, jobs_same}
 use Rattle.lethe_core.proofs.holding.Core.merge_all.Goals as goal
+
+pub returns-in_err-most_jobs-clause-keeps : goal.returns-in_err-most_jobs-clause-keeps
+returns-in_err-most_jobs-clause-keeps g c =
+    let why = c.in_err-most_jobs.field-0.0 in
+    let refusal : c.from_residual.result ≡ Err why = search rules in
+    let old = view_of c.args.self.now in
+    subst (λ (r : Result (Unit {0}) Refused). Keeps g.D.Disk.tells old old (result_err r)) (sym refusal)
+    (keeps_itself g.D.Disk.tells old c.requires.may.sound c.requires.may.runs (Some why) (not_failed why (inr c.in_err-most_jobs.ensures.refused)))
+
+pub returns-in_err-most_jobs-clause-partly : goal.returns-in_err-most_jobs-clause-partly
+returns-in_err-most_jobs-clause-partly g c =
+    let why = c.in_err-most_jobs.field-0.0 in
+    let refusal : c.from_residual.result ≡ Err why = search rules in
+    let old = view_of c.args.self.now in
+    subst (λ (r : Result (Unit {0}) Refused). IfErr r (IsDoneInPart g.D.Disk.tells (λ s t. (outcomes : List Outcome) × AreSomeOutcomesBy (chosen_by c.args.choice) s outcomes t) old old)) (sym refusal)
+    (λ none told s holds. (s, ([], refl), holds))
 
 pub loop-init : goal.loop-init
 loop-init g c = record {
@@ -50,7 +69,7 @@ returns-in-Ok-false-clause-done g c = λ told s holds.
     let ended = c.merge_next.ensures.ended (c.in-Ok-false.is ∙ ap Ok c.in-Ok-false.field-0-test) in
     let done = no_more (chosen_by c.args.choice) g.D.Disk.tells (view_of c.args.self.now) (view_of c.loop.self) c.args.before c.loop.counter (g.D.Disk.fetches c.args.port.now) (g.D.Disk.fetches c.loop.port)
     (g.D.Disk.port_faults c.args.port.now) (g.D.Disk.port_faults c.loop.port) c.loop.invariant.merged told s holds ended.2 in
-    (done.0, done.1, done.2, subst (λ core. Holds (view_of core) done.0) (sym ended.0) done.3, ended.1 ∙ done.4, (λ i. (ended.0 i).retired.items) ∙ done.5)
+    (done.0, done.1, done.2, subst (λ core. Holds (view_of core) done.0) (sym ended.0) done.3, ended.1 ∙ done.4, subst (λ core. AreRetiredBehind done.1 (view_of c.args.self.now).pins.pins (view_of c.args.self.now).retired (view_of core).retired) (sym ended.0) done.5)
 
 pub returns-in-Err-clause-keeps : goal.returns-in-Err-clause-keeps
 returns-in-Err-clause-keeps g c =
@@ -71,7 +90,7 @@ returns-in-Err-clause-partly g c = λ none told s holds.
     let why = c.in-Err.why in
     let earlier = c.port_faults-earlier.result in
     let not : failure_of why ≡ None = since_failed earlier why (ap failure_of (sym c.told_since.ensures) ∙ none) in
-    let same = jobs_same c.loop.self c.merge_next.new.self c.merge_next.ensures.begun (c.merge_next.ensures.free ∙ sym c.loop.invariant.free) (c.in-Err.ensures.undone not).retired in
+    let same = jobs_same c.loop.self c.merge_next.new.self c.merge_next.ensures.begun (c.merge_next.ensures.free ∙ sym c.loop.invariant.free) (c.in-Err.ensures.undone not).retired c.merge_next.ensures.keeps.pins in
     (some.0, some.1, before_holds g.D.Disk.tells told mid new some.0 same (c.in-Err.ensures.undone not) some.2)
 
 pub returns-in-Err-clause-why : goal.returns-in-Err-clause-why
@@ -92,8 +111,16 @@ returns-in-Err-clause-fetched g c = λ name e.
     let fetched = c.in-Err.ensures.fetched name (ap (λ (why : Refused). let r : Result Bool Refused = Err why in r) last) in
     omega (arith, fetched, c.loop.invariant.fetches)
 
+pub returns-in_err-most_jobs-clause-fetched : goal.returns-in_err-most_jobs-clause-fetched
+returns-in_err-most_jobs-clause-fetched g c = λ name e.
+    let why = c.in_err-most_jobs.field-0.0 in
+    let refusal : c.from_residual.result ≡ Err why = search rules in
+    let told : why ≡ Damaged name = cc in
+    absurd (not_short why (inr c.in_err-most_jobs.ensures.refused) name told)
+
 pub returns-clause-done : goal.returns-clause-done
 returns-clause-done g c = λ told s holds.
-    let over = c.loop-test.false in
     absurd (too_many (chosen_by c.args.choice) g.D.Disk.tells (view_of c.args.self.now) (view_of c.loop.self) c.args.before c.loop.counter (g.D.Disk.fetches c.args.port.now) (g.D.Disk.fetches c.loop.port)
-    (g.D.Disk.port_faults c.args.port.now) (g.D.Disk.port_faults c.loop.port) c.loop.invariant.merged c.requires.may told s holds (omega (arith, over)))
+    (g.D.Disk.port_faults c.args.port.now) (g.D.Disk.port_faults c.loop.port) c.loop.invariant.merged c.requires.may told s holds (c.in_ok-most_jobs.ensures.counted s holds)
+    c.in_ok-most_jobs.field-0 (c.in_ok-most_jobs.ensures.most s holds)
+    (let over = c.loop-test.false in let end = c.saturating_add-rounds.ensures in omega (arith, over, end)))

@@ -1,5 +1,4 @@
 use Rattle.std.proofs.Common.{◌≡◌, ◌≤◌, ◌-◌, None}
-use Rattle.std.specs.Prelude.{◌^◌}
 use Rattle.lethe_core.specs.Merges.{chosen_by}
 use Rattle.lethe_core.specs.View.{view_of}
 use Rattle.lethe_core.proofs.Outcomes.{HasMerged}
@@ -15,4 +14,4 @@ invariant-loop g l = record {
 }
 
 abbrev pub decreases-loop : goal.decreases-loop
-decreases-loop g l = 2 ^ 127 - l.counter
+decreases-loop g l = l.rounds - l.counter

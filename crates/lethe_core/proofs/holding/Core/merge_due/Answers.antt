@@ -3,7 +3,7 @@ use Rattle.std.specs.Prelude.{IsSome, IsTrue, List, ◌+◌, false, option_map}
 use Rattle.std.proofs.lemmas.Result.{IfErr-weaker}
 use Rattle.lethe_disk.proofs.Quieting.{on_ok}
 use Rattle.lethe_stored.specs.Stored.{Stored}
-use Rattle.lethe_core.specs.Merges.{AreOutcomes, AreSomeOutcomes, IsCrowded, IsMergedInPart, IsUncrowded, Outcome, pages_of, retired_behind}
+use Rattle.lethe_core.specs.Merges.{AreOutcomes, AreRetiredBehind, AreSomeOutcomes, IsCrowded, IsMergedInPart, IsUncrowded, Outcome, pages_of}
 use Rattle.lethe_core.specs.Running.{Holds}
 use Rattle.lethe_core.specs.Steps.{IsDoneInPart}
 use Rattle.lethe_core.specs.View.{flying_of, view_of}
@@ -43,7 +43,7 @@ returns-clause-done g c = λ told s holds.
     let many : IsTrue c.is_crowded.result = search rules in
     let start = g.D.Disk.fetches c.args.port.now in
     let now = g.D.Disk.fetches c.merge_all.new.port in
-    on_ok c.merge_all.result ((t : Stored) × (outcomes : List Outcome) × AreOutcomes s outcomes t × Holds new t × (now ≡ start + pages_of outcomes) × (new.retired ≡ retired_behind outcomes view.retired))
-    ((t : Stored) × (outcomes : List Outcome) × IsUncrowded view.flight s outcomes t × Holds new t × (now ≡ start + pages_of outcomes) × (new.retired ≡ retired_behind outcomes view.retired))
+    on_ok c.merge_all.result ((t : Stored) × (outcomes : List Outcome) × AreOutcomes s outcomes t × Holds new t × (now ≡ start + pages_of outcomes) × AreRetiredBehind outcomes view.pins.pins view.retired new.retired)
+    ((t : Stored) × (outcomes : List Outcome) × IsUncrowded view.flight s outcomes t × Holds new t × (now ≡ start + pages_of outcomes) × AreRetiredBehind outcomes view.pins.pins view.retired new.retired)
     (c.merge_all.ensures.done told s holds)
     (λ done. (done.0, done.1, merged_uncrowded view.flight s done.1 done.0 (ap (option_map flying_of) none) ((c.is_crowded.ensures told s holds).0 many) done.2, done.3, done.4, done.5))

@@ -125,8 +125,8 @@ merge_now-requires-clause-merges g c κs within = λ told s holds.
     let found : c.in-Ok-Some.field-0 ≡ Some c.in-Ok-Some.task = cc in
     let begins : (s : Stored) → Holds view s → IsBegunBy (chosen_by c.args.choice) s task = λ s holds.
     subst (λ found. IfSome found (λ task. IsBegunBy (chosen_by c.args.choice) s (plain_task task))) found (c.in-Ok-Some.ensures.some s holds) in
-    let next = next_outcome view task (λ s holds. (begins s holds).planned) (ap (option_map flying_of) c.requires.free) g.D.Disk.tells
-    c.in-Ok.outcome c.deref.result.now c.in_ok-made.made c.in_ok-made.ensures.installs (c.in_ok-made.ensures.none refl) (sym c.deref.ensures.value) told s holds in
+    let next = next_outcome view task (λ s holds. (begins s holds).planned) (ap (option_map flying_of) c.requires.free) g.D.Disk.tells c.requires.may.sound.drawn
+    c.in-Ok.outcome c.deref.result.now c.in_ok-made.made c.in_ok-made.ensures.installs (record { named = c.in_ok-made.ensures.named; gone = c.in_ok-made.ensures.gone }) (sym c.deref.ensures.value) told s holds in
     (task, next.0, next.1, chosen_counted view task (λ s holds. (begins s holds).planned) c.requires.may.runs)
 
 pub returns-in_err-merge_now-clause-keeps : goal.returns-in_err-merge_now-clause-keeps
@@ -150,8 +150,8 @@ returns-clause-done g c = λ told s holds is.
     let found : c.in-Ok-Some.field-0 ≡ Some c.in-Ok-Some.task = cc in
     let begins : (s : Stored) → Holds view s → IsBegunBy (chosen_by c.args.choice) s task = λ s holds.
     subst (λ found. IfSome found (λ task. IsBegunBy (chosen_by c.args.choice) s (plain_task task))) found (c.in-Ok-Some.ensures.some s holds) in
-    let next = next_outcome view task (λ s holds. (begins s holds).planned) (ap (option_map flying_of) c.requires.free) g.D.Disk.tells
-    c.in-Ok.outcome c.deref.result.now c.in_ok-made.made c.in_ok-made.ensures.installs (c.in_ok-made.ensures.none refl) (sym c.deref.ensures.value) told s holds in (
+    let next = next_outcome view task (λ s holds. (begins s holds).planned) (ap (option_map flying_of) c.requires.free) g.D.Disk.tells c.requires.may.sound.drawn
+    c.in-Ok.outcome c.deref.result.now c.in_ok-made.made c.in_ok-made.ensures.installs (record { named = c.in_ok-made.ensures.named; gone = c.in_ok-made.ensures.gone }) (sym c.deref.ensures.value) told s holds in (
       record { task = task; to = next.0 },
       record { begun = begins s holds; installed = next.1.installed },
       c.in_ok-merge_now.ensures.done told s task next.0 holds next.1,

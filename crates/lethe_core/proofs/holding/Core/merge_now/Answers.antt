@@ -9,12 +9,14 @@ use Rattle.lethe_job.specs.Works.{PlainTask}
 use Rattle.lethe_clean.proofs.Stays.{step_untorn}
 use Rattle.lethe_core.specs.Keeps.{Keeps}
 use Rattle.lethe_core.specs.Merges.{MayMerge}
+use Rattle.lethe_pins.specs.Held.{Held}
+use Rattle.lethe_core.specs.Pinned.{AreKept}
 use Rattle.lethe_core.specs.Running.{Holds}
 use Rattle.lethe_core.specs.Steps.{IsUndone}
 use Rattle.lethe_core.specs.View.{View, beside_in, view_of}
 use Rattle.lethe_core.proofs.Carried.{active_ends}
 use Rattle.lethe_core.proofs.Hindered.{hindered_keeps, hindered_next, hindered_undone}
-use Rattle.lethe_core.proofs.Merged.{merge_keeps, merge_moments, merged_holds, merged_view, same_active}
+use Rattle.lethe_core.proofs.Merged.{merge_keeps, merge_moments, merged_holds, merged_same, merged_view, same_active}
 use Rattle.lethe_core.proofs.holding.Core.merge_now.Goals as goal
 
 pub carry_out-requires-clause-step : goal.carry_out-requires-clause-step
@@ -66,8 +68,9 @@ returns-clause-done g c = λ told s task t holds may.
     let untorn = step_untorn s t (beside_in old) may.left made.headers.items made.step old.disk.directory mid.disk.directory holds.remembers.coherent is running.only running.untorn kept gate in
     let ends = active_ends s t (beside_in old) may.left made.headers.items made.step is holds.remembers.coherent old.disk mid.disk done.0 kept old.state.end (same_active s task t may.installed) (laws.itself told c.args.self.now.disk) running.ends in
     let state = c.install.ensures.is ∙ ap (installed made.step.manifest) c.in_ok-carry_out.ensures.state in
-    subst (λ (state : State). Holds (record (merged_view old mid.disk mid.faults mid.levels mid.begun mid.rounds made) { state = state }) t) (sym state)
-    (merged_holds old mid.disk mid.faults mid.levels mid.begun mid.rounds made s t task holds may files done.0 done.1 untorn ends)
+    subst (λ (held : Held). Holds (record (merged_view old mid.disk mid.faults mid.levels mid.begun mid.rounds made) { state = c.install.new.self; pins = held }) t) (sym c.carry_out.ensures.pins)
+    (subst (λ (state : State). Holds (record (merged_view old mid.disk mid.faults mid.levels mid.begun mid.rounds made) { state = state }) t) (sym state)
+    (merged_holds old mid.disk mid.faults mid.levels mid.begun mid.rounds made s t task holds may files done.0 done.1 untorn ends))
 
 pub returns-clause-keeps : goal.returns-clause-keeps
 returns-clause-keeps g c =
@@ -75,9 +78,13 @@ returns-clause-keeps g c =
     let mid = view_of c.carry_out.new.self in
     let made = c.args.made in
     let moments = merge_moments old mid.disk mid.faults mid.levels mid.begun mid.rounds made g.D.Disk.tells c.args.before c.requires.may c.requires.from c.requires.merges c.carry_out.ensures.moments in
-    let view : State → View = λ state. record (merged_view old mid.disk mid.faults mid.levels mid.begun mid.rounds made) { state = state } in
-    let P : State → Type 0 = λ state. (g.D.Disk.tells → (s : Stored) (task : PlainTask) (t : Stored) → Holds old s → MayMerge old s task t made → Holds (view state) t) → Keeps g.D.Disk.tells old (view state) None in
-    subst P (sym (c.install.ensures.is ∙ ap (installed made.step.manifest) c.in_ok-carry_out.ensures.state))
-    (λ behind. merge_keeps old mid.disk mid.faults mid.levels mid.begun mid.rounds made g.D.Disk.tells c.args.before c.requires.may c.requires.from c.requires.merges behind c.requires.drawn c.carry_out.ensures.levels moments
-    c.in_ok-carry_out.ensures.calls c.carry_out.ensures.faults)
+    let view : State → Held → View = λ state held. record (merged_view old mid.disk mid.faults mid.levels mid.begun mid.rounds made) { state = state; pins = held } in
+    let P : State → Held → Type 0 = λ state held. (g.D.Disk.tells → (s : Stored) (task : PlainTask) (t : Stored) → Holds old s → MayMerge old s task t made → Holds (view state held) t) → Keeps g.D.Disk.tells old (view state held) None in
+    let state = c.install.ensures.is ∙ ap (installed made.step.manifest) c.in_ok-carry_out.ensures.state in
+    let same : g.D.Disk.tells → (s : Stored) (task : PlainTask) (t : Stored) → Holds old s → MayMerge old s task t made → AreKept old.pins.pins old.disk.directory mid.disk.directory = λ told s task t holds may.
+    merged_same old mid.disk mid.faults mid.levels mid.begun mid.rounds made s t task holds may (c.in_ok-carry_out.ensures.files told s t may.left holds.running may.step_is holds.remembers.files)
+    (c.in_ok-carry_out.ensures.done told s t may.left holds.running may.step_is).1 (c.in_ok-carry_out.ensures.kept told s t may.left holds.running may.step_is) in
+    subst (P c.install.new.self) (sym c.carry_out.ensures.pins) (subst (λ state. P state old.pins) (sym state)
+    (λ behind. merge_keeps old mid.disk mid.faults mid.levels mid.begun mid.rounds made g.D.Disk.tells c.args.before c.requires.may c.requires.from c.requires.merges behind same c.carry_out.ensures.levels moments
+    c.in_ok-carry_out.ensures.calls c.carry_out.ensures.faults))
     (returns-clause-done g c)

@@ -12,13 +12,14 @@ use Rattle.lethe_cover.specs.Steps.{with_done, with_failed}
 use Rattle.lethe_stored.specs.Stored.{appended, segment_name}
 use Rattle.lethe_state.specs.Records.{pending_with}
 use Rattle.lethe_state.specs.declared.state.State.{State}
+use Rattle.lethe_advance.specs.Settled.{names_in}
 use Rattle.lethe_core.specs.Asked.{done_by}
 use Rattle.lethe_core.specs.Running.{Holds, IsSound}
 use Rattle.lethe_core.specs.StandsNow.{StandsNow}
-use Rattle.lethe_core.specs.View.{names_beside, view_of}
+use Rattle.lethe_core.specs.View.{loose_in, names_beside, view_of}
 use Rattle.lethe_core.proofs.Hindered.{drawn_on, flies_on, sound_halted}
 use Rattle.lethe_core.proofs.Likes.{like_holds, like_small, like_sound, like_stands, next_small, with_state}
-use Rattle.lethe_core.proofs.Recorded.{failed_stands, holds_longer, inserted, moments, moved, ready, untouched_moments}
+use Rattle.lethe_core.proofs.Recorded.{failed_stands, holds_longer, inserted, moments, moved, ready, record_kept, record_timely, untouched_moments}
 use Rattle.lethe_core.proofs.Standing.{moments_or, open_stands, sound_back, stands_back, stands_for, stands_holds, stands_moments}
 use Rattle.lethe_core.proofs.holding.Core.record.Goals as goal
 
@@ -83,20 +84,34 @@ returns-in-Ok-append-clause-sound g c =
       small = next_small c.args.next c.in-Ok.field-0.end c.prepare.new.self c.enter.new.self c.enter.ensures.is room (like_small c.args.self.now.state c.prepare.new.self like sound.small);
       count = sound.count ∙ ap (λ (m : Manifest). m.config.levels + 1) (sym manifest);
       flies = flies_on old.state c.enter.new.self (ap (λ (m : Manifest). m.config.levels) manifest) old.flight sound.flies;
-      drawn = drawn_on old.state.next c.enter.new.self.next (names_beside old) (omega (arith, drawn)) sound.drawn;
+      loose = drawn_on old.state.next c.enter.new.self.next (names_in (loose_in old.flight)) (omega (arith, drawn)) sound.loose;
+      drawn = λ told. drawn_on old.state.next c.enter.new.self.next (names_beside old) (omega (arith, drawn)) (sound.drawn told);
+      pins = sound.pins;
+      pages = sound.pages;
       held = λ told.
           let held = sound.held told in
           let both = returns-in-Ok-append-clause-written g c told held.0 (record { remembers = held.1; running = held.2 c.requires.may.runs }) in
           (appended held.0 c.args.next, both.0.remembers, λ runs. both.0.running);
     }
 
+pub returns-in-Ok-append-clause-pinned : goal.returns-in-Ok-append-clause-pinned
+returns-in-Ok-append-clause-pinned g c = λ told.
+    let old = view_of c.args.self.now in
+    let sound = c.requires.may.sound in
+    let held = sound.held told in
+    let both = returns-in-Ok-append-clause-written g c told held.0 (record { remembers = held.1; running = held.2 c.requires.may.runs }) in
+    record_kept old held.0 c.args.next (g.D.Disk.seen c.append.new.disk).directory both.1 g.D.Disk.tells sound
+
 pub returns-in-Ok-append-clause-stands : goal.returns-in-Ok-append-clause-stands
 returns-in-Ok-append-clause-stands g c = λ told config h caller call change stands with.
     let old = view_of c.args.self.now in
-    let holds = (returns-in-Ok-append-clause-written g c told stands.stored (stands_holds config h old stands c.requires.may.runs)).0 in
+    let both = returns-in-Ok-append-clause-written g c told stands.stored (stands_holds config h old stands c.requires.may.runs) in
+    let holds = both.0 in
     open_stands config (with_done h caller call) (moved old (g.D.Disk.seen c.append.new.disk) (g.D.Disk.faults c.append.new.disk) c.enter.new.self) (appended stands.stored c.args.next)
     with.legal with.done (holds.running.current.count ∙ with.count) stands.config_is with holds stands.counted
     (later_appended h stands.stored (stands_for config h old stands c.requires.may.runs) stands.recorded c.args.next (let place = c.requires.place in let count = stands.count in omega (arith, place, count)))
+    (record_timely old stands.stored c.args.next (g.D.Disk.seen c.append.new.disk).directory both.1 g.D.Disk.tells c.requires.may.sound told config.threshold h caller call
+    (stands_for config h old stands c.requires.may.runs) with (stands.timely c.requires.may.runs))
 
 pub returns-in-Ok-append-clause-any_moment : goal.returns-in-Ok-append-clause-any_moment
 returns-in-Ok-append-clause-any_moment g c = λ told config h caller call stands with.
@@ -169,14 +184,14 @@ returns-clause-sound g c =
     let mid = with_state (view_of c.args.self.now) c.prepare.new.self in
     let disk = g.D.Disk.seen c.append.new.disk in
     sound_back g.D.Disk.tells mid (moved mid disk (g.D.Disk.faults c.append.new.disk) c.prepare.new.self) (λ told. refused_at_once mid.disk disk (c.in-Err-NoMemory.ensures.no_memory told (ap Err c.in-Err-NoMemory.field-0-is))) refl
-    (record { levels = refl; retired = refl; flight = refl; begun = refl; rounds = refl }) (like_sound (view_of c.args.self.now) c.prepare.new.self c.prepare.ensures.same g.D.Disk.tells c.prepare.ensures.writable c.requires.may.sound)
+    (record { levels = refl; retired = refl; flight = refl; begun = refl; rounds = refl; pins = refl }) (like_sound (view_of c.args.self.now) c.prepare.new.self c.prepare.ensures.same g.D.Disk.tells c.prepare.ensures.writable c.requires.may.sound)
 
 pub returns-clause-stands : goal.returns-clause-stands
 returns-clause-stands g c = λ told config h caller call change stands with.
     let mid = with_state (view_of c.args.self.now) c.prepare.new.self in
     let disk = g.D.Disk.seen c.append.new.disk in
     stands_back mid (moved mid disk (g.D.Disk.faults c.append.new.disk) c.prepare.new.self) (refused_at_once mid.disk disk (c.in-Err-NoMemory.ensures.no_memory told (ap Err c.in-Err-NoMemory.field-0-is))) config h refl
-    (record { levels = refl; retired = refl; flight = refl; begun = refl; rounds = refl }) (like_stands (view_of c.args.self.now) c.prepare.new.self c.prepare.ensures.same config h stands c.requires.may.runs)
+    (record { levels = refl; retired = refl; flight = refl; begun = refl; rounds = refl; pins = refl }) (like_stands (view_of c.args.self.now) c.prepare.new.self c.prepare.ensures.same config h stands c.requires.may.runs)
 
 pub returns-clause-any_moment : goal.returns-clause-any_moment
 returns-clause-any_moment g c = λ told config h caller call stands with.

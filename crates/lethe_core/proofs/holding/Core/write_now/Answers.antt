@@ -1,4 +1,4 @@
-use Rattle.std.proofs.Common.{rules, ◌≡◌, ◌≤◌, ◌+◌, ◌++◌, None, Some, Err, refl, sym, ap, subst, ◌∙◌, arith}
+use Rattle.std.proofs.Common.{rules, ◌≡◌, ◌≤◌, ◌+◌, ◌++◌, [], None, Some, Err, refl, sym, ap, subst, ◌∙◌, arith}
 use Rattle.lethe_base.specs.Counts.{Rose}
 use Rattle.lethe_base.specs.Limits.{max_place}
 use Rattle.lethe_base.specs.declared.refused.Refused.TheVariants as refused
@@ -30,7 +30,7 @@ write_page-placed-requires-clause-fresh g c κs within = λ told.
       held.0,
       stays g.D.Disk.tells (view_of self) (flying_of c.in-Some-take.flight) is may.sound,
       subst (MayWrite (view_of self).disk held.0 (stays g.D.Disk.tells (view_of self) (flying_of c.in-Some-take.flight) is may.sound ++ c.in-Some-take.flight.written)) (sym c.in-Some.ensures.some)
-          (may_write g.D.Disk.tells (view_of self) (flying_of c.in-Some-take.flight) is may.sound held.0 held.1),
+          (may_write g.D.Disk.tells (view_of self) (flying_of c.in-Some-take.flight) is may.sound told held.0 held.1),
     )
 
 pub returns-in-Ok-clause-keeps : goal.returns-in-Ok-clause-keeps
@@ -44,7 +44,7 @@ returns-in-Ok-clause-keeps g c =
     let fits : self.state.next + 1 ≤ max_place = search rules in
     let view : State → View = λ state. record (view_of self) { disk = g.D.Disk.seen disk; faults = g.D.Disk.faults disk; state = state; flight = Some (record (flying_of c.in-Some-take.flight) { written = c.write_page-placed.new.written }) } in
     subst (λ (state : State). Keeps g.D.Disk.tells (view_of self) (view state) None) (sym c.draw.ensures.is) (written_keeps g.D.Disk.tells (view_of self) (flying_of c.in-Some-take.flight) is c.requires.may.sound (g.D.Disk.seen disk) (g.D.Disk.faults disk) c.write_page-placed.new.written c.args.bytes.now
-    (λ told. laws.itself told self.disk) fits (λ told s. rw number at (c.in-Ok.ensures.done told s left)) (λ s. rw number at (c.in-Ok.ensures.loose s left)) (rw number at (c.in-Ok.ensures.drawn left))
+    (λ told. laws.itself told self.disk) fits (λ told s. rw number at (c.in-Ok.ensures.done told s left)) (λ s. rw number at (c.in-Ok.ensures.loose s left)) (rw number at (c.in-Ok.ensures.drawn left)) (rw number at (c.in-Ok.ensures.drawn []))
     (rw number at c.in-Ok.ensures.others) (rw number at c.in-Ok.ensures.written) c.requires.copied
     c.requires.may.runs (λ told s. rw number at (c.in-Ok.ensures.any_moment told s left)) c.in-Ok.ensures.calls c.in-Ok.ensures.cause.later)
 
@@ -59,7 +59,7 @@ returns-in-Ok-clause-held g c =
     let fits : self.state.next + 1 ≤ max_place = search rules in
     let view : State → View = λ state. record (view_of self) { disk = g.D.Disk.seen disk; faults = g.D.Disk.faults disk; state = state; flight = Some (record (flying_of c.in-Some-take.flight) { written = c.write_page-placed.new.written }) } in
     subst (λ (state : State). g.D.Disk.tells → (s : Stored) → Holds (view_of self) s → Holds (view state) s) (sym c.draw.ensures.is) (written_holds g.D.Disk.tells (view_of self) (flying_of c.in-Some-take.flight) is c.requires.may.sound (g.D.Disk.seen disk) (g.D.Disk.faults disk) c.write_page-placed.new.written c.args.bytes.now
-    (λ told. laws.itself told self.disk) fits (λ told s. rw number at (c.in-Ok.ensures.done told s left)) (λ s. rw number at (c.in-Ok.ensures.loose s left)) (rw number at (c.in-Ok.ensures.drawn left))
+    (λ told. laws.itself told self.disk) fits (λ told s. rw number at (c.in-Ok.ensures.done told s left)) (λ s. rw number at (c.in-Ok.ensures.loose s left)) (rw number at (c.in-Ok.ensures.drawn left)) (rw number at (c.in-Ok.ensures.drawn []))
     (rw number at c.in-Ok.ensures.others) (rw number at c.in-Ok.ensures.written) c.requires.copied)
 
 pub returns-in-Err-Failed-clause-keeps : goal.returns-in-Err-Failed-clause-keeps
@@ -77,9 +77,9 @@ returns-in-Err-Failed-clause-keeps g c =
     let from = may.told_from in
     let told : Rose c.args.before (g.D.Disk.faults c.write_page-placed.new.disk) = omega (arith, rose, from) in
     refused_keeps g.D.Disk.tells (view_of self) may.sound _ c.args.before may
-    (λ told s holds. (rw c.in-Some.ensures.some at (c.write_page-placed.ensures.any_moment told s (stays g.D.Disk.tells (view_of self) flying is may.sound))) (may_write g.D.Disk.tells (view_of self) flying is may.sound s holds))
+    (λ told s holds. (rw c.in-Some.ensures.some at (c.write_page-placed.ensures.any_moment told s (stays g.D.Disk.tells (view_of self) flying is may.sound))) (may_write g.D.Disk.tells (view_of self) flying is may.sound told s holds))
     (λ told. laws.itself told c.write_page-placed.new.disk) c.write_page-placed.ensures.cause.later (refused.Fault c.stop-place.result c.args.before c.faults.result)
-    (c.stop-place.ensures.place, refl, c.faults.ensures, told, c.stop-place.ensures.is, record { levels = refl; retired = refl; flight = as_written g.D.Disk.tells (view_of self) flying is may.sound written kept; begun = refl; rounds = refl })
+    (c.stop-place.ensures.place, refl, c.faults.ensures, told, c.stop-place.ensures.is, record { levels = refl; retired = refl; flight = as_written g.D.Disk.tells (view_of self) flying is may.sound written kept; begun = refl; rounds = refl; pins = refl })
 
 pub returns-in-Err-Failed-clause-drawn : goal.returns-in-Err-Failed-clause-drawn
 returns-in-Err-Failed-clause-drawn g c = ap (λ (state : State). state.next) c.stop-place.ensures.is
@@ -96,10 +96,10 @@ returns-in-Err-NoMemory-clause-keeps g c =
     let failed : c.write_page-placed.result ≡ Err NoMemory = c.in-Err-NoMemory.is ∙ ap (λ e. Err e) why in
     let kept = on_err c.write_page-placed.result NoMemory (written ≡ c.in-Some-take.flight.written) failed c.write_page-placed.ensures.kept in
     refused_keeps g.D.Disk.tells (view_of self) may.sound _ c.args.before may
-    (λ told s holds. (rw c.in-Some.ensures.some at (c.write_page-placed.ensures.any_moment told s (stays g.D.Disk.tells (view_of self) flying is may.sound))) (may_write g.D.Disk.tells (view_of self) flying is may.sound s holds))
+    (λ told s holds. (rw c.in-Some.ensures.some at (c.write_page-placed.ensures.any_moment told s (stays g.D.Disk.tells (view_of self) flying is may.sound))) (may_write g.D.Disk.tells (view_of self) flying is may.sound told s holds))
     (λ told. laws.itself told c.write_page-placed.new.disk) c.write_page-placed.ensures.cause.later refused.NoMemory (
       refl,
-      record { levels = refl; retired = refl; flight = as_written g.D.Disk.tells (view_of self) flying is may.sound written kept; begun = refl; rounds = refl },
+      record { levels = refl; retired = refl; flight = as_written g.D.Disk.tells (view_of self) flying is may.sound written kept; begun = refl; rounds = refl; pins = refl },
       λ told. refused_at_once (g.D.Disk.seen self.disk) (g.D.Disk.seen c.write_page-placed.new.disk) (c.write_page-placed.ensures.no_memory told failed),
     )
 

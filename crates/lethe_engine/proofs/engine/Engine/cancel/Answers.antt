@@ -65,7 +65,7 @@ returns-clause-answers g c =
     let begun = c.cancel_now.ensures.begun in
     let free = c.cancel_now.ensures.free in
     let retired = c.cancel_now.ensures.retired in
-    let now : face_of new ≡ record (face_of old) { flight = None } = λ i. record { begun = (begun i).jobs.count; rounds = (begun i).rounds; flight = option_map flying_of (free i); retired = (retired i).items } in
+    let now : face_of new ≡ record (face_of old) { flight = None } = λ i. record { begun = (begun i).jobs.count; rounds = (begun i).rounds; flight = option_map flying_of (free i); retired = (retired i).items; pins = c.cancel_now.ensures.keeps.pins i } in
     subst (λ face. Answers g.D.Disk.tells (Serves Work) (result_err result) face old new) (now ∙ sym (cancelled_now old c.args.job present ∙ given_up_now (face_of old) old.state runs (omega (arith, left, count))))
     (step_answers g.D.Disk.tells ⊥ (result_err result) old new c.faults-before.result runs c.faults-before.ensures c.cancel_now.ensures.keeps
     (if_refused result (HasReason ⊥ old.state c.faults-before.result new.faults) c.cancel_now.ensures.why) (if_refused result (IsUndone g.D.Disk.tells old new) c.cancel_now.ensures.undone))

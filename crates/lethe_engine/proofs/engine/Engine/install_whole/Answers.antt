@@ -5,12 +5,14 @@ use Rattle.lethe_base.specs.Limits.{max_place}
 use Rattle.lethe_base.specs.declared.call.Call.TheVariants.{Work}
 use Rattle.lethe_base.specs.declared.refused.Refused.{Refused}
 use Rattle.lethe_core.specs.Asked.{Serves, failure_of}
+use Rattle.lethe_core.specs.Pinned.{AreNamed}
 use Rattle.lethe_core.specs.Reasons.{HasReason}
 use Rattle.lethe_core.specs.Steps.{IsUndone}
 use Rattle.lethe_core.specs.View.{Flying, View, face_of, flying_of, view_of}
 use Rattle.lethe_core.specs.Jobs.{IsAtWork}
 use Rattle.lethe_core.specs.Running.{Holds}
 use Rattle.lethe_core.proofs.Behind.{reason_behind}
+use Rattle.lethe_disk.proofs.Quieting.{on_ok}
 use Rattle.lethe_disk.specs.declared.disk.Disk.{Ghosts}
 use Rattle.lethe_stored.specs.Stored.{Stored}
 use Rattle.lethe_install.specs.Outcomes.{IsInstalled}
@@ -32,7 +34,7 @@ returns-in_err-check_round-clause-answers g c =
     let old = view_of c.args.self.now.core in
     let why = c.in_err-check_round.field-0.0 in
     let refusal : c.from_residual.result ≡ Err why = search rules in
-    subst (λ (r : Result (Unit {0}) Refused). Answers g.D.Disk.tells (Serves Work) (result_err r) (ended_face (face_of old) r) old old) (sym refusal)
+    subst (λ (r : Result (Unit {0}) Refused). Answers g.D.Disk.tells (Serves Work) (result_err r) (ended_face (face_of old) old.retired r) old old) (sym refusal)
     (itself_answers g.D.Disk.tells (Serves Work) (Some why) old c.requires.sound (refused_is_none (Serves Work) why (ap failure_of c.in_err-check_round.ensures.refused.0)))
 
 pub returns-in_err-may_change-clause-answers : goal.returns-in_err-may_change-clause-answers
@@ -40,7 +42,7 @@ returns-in_err-may_change-clause-answers g c =
     let old = view_of c.args.self.now.core in
     let why = c.in_err-may_change.field-0.0 in
     let refusal : c.from_residual-in_err-may_change.result ≡ Err why = search rules in
-    subst (λ (r : Result (Unit {0}) Refused). Answers g.D.Disk.tells (Serves Work) (result_err r) (ended_face (face_of old) r) old old) (sym refusal)
+    subst (λ (r : Result (Unit {0}) Refused). Answers g.D.Disk.tells (Serves Work) (result_err r) (ended_face (face_of old) old.retired r) old old) (sym refusal)
     (itself_answers g.D.Disk.tells (Serves Work) (Some why) old c.requires.sound (refused_is_none (Serves Work) why (not_begun old.state why c.in_err-may_change.ensures.refused)))
 
 some_unmapped : {A B : Type 0} (f : A → B) (o : Option A) → IsSome (option_map f o) → IsSome o
@@ -98,6 +100,11 @@ returns-clause-answers g c =
     let new = view_of c.install_now.new.self in
     let result = c.install_now.result in
     let Short = IfSome old.flight (λ flying. max_place ≤ old.state.next + (numbers_in c.unwrap-made.result - length flying.written)) in
-    subst (λ face. Answers g.D.Disk.tells (Serves Work) (result_err result) face old new) (ended_by core c.install_now.new.self result c.install_now.ensures.begun c.install_now.ensures.free c.install_now.ensures.kept)
+    subst (λ face. Answers g.D.Disk.tells (Serves Work) (result_err result) face old new) (ended_by core c.install_now.new.self result c.install_now.ensures.begun c.install_now.ensures.keeps.pins c.install_now.ensures.free c.install_now.ensures.kept)
     (step_answers g.D.Disk.tells Short (result_err result) old new c.faults-before.result c.in_ok-may_change.ensures.fits.0 c.faults-before.ensures c.install_now.ensures.keeps
     (if_refused result (HasReason Short old.state c.faults-before.result new.faults) c.install_now.ensures.why) (if_refused result (IsUndone g.D.Disk.tells old new) c.install_now.ensures.undone))
+
+pub returns-clause-named : goal.returns-clause-named
+returns-clause-named g c =
+    let new = view_of c.install_now.new.self in
+    on_ok c.install_now.result ((c.install_now.new.self.flight ≡ None) × AreNamed new.pins.pins new.retired) (AreNamed new.pins.pins new.retired) c.install_now.ensures.free (λ free. free.1)

@@ -8,6 +8,8 @@ use Rattle.lethe_disk.proofs.Quieting.{on_ok, on_ok_both}
 use Rattle.lethe_stored.specs.Stored.{appended}
 use Rattle.lethe_core.specs.Asked.{Makes}
 use Rattle.lethe_core.specs.Changes.{with_record}
+use Rattle.lethe_core.specs.Merges.{AreRetiredBehind}
+use Rattle.lethe_core.specs.Pinned.{AreKept}
 use Rattle.lethe_core.specs.Reasons.{HasReason, IsShortOfRoom, IsUnreadable}
 use Rattle.lethe_core.specs.Running.{Holds}
 use Rattle.lethe_core.specs.Steps.{IsUndone}
@@ -16,7 +18,7 @@ use Rattle.lethe_core.proofs.Likes.{jobs_same}
 use Rattle.lethe_core.proofs.Roomed.{sees_room}
 use Rattle.lethe_engine.specs.Answers.{Answers}
 use Rattle.lethe_engine.specs.Refusals.{HasReasonOfChange}
-use Rattle.lethe_engine.proofs.Calls.{if_refused, itself_answers, recorded_answers, refused_is_none, unroomed_answers}
+use Rattle.lethe_engine.proofs.Calls.{if_done, if_refused, itself_answers, recorded_answers, refused_is_none, unroomed_answers}
 use Rattle.lethe_engine.proofs.Faces.{jobs_with}
 use Rattle.lethe_engine.proofs.Onward.{put_works}
 use Rattle.lethe_engine.proofs.Overs.{put_for, put_same}
@@ -46,7 +48,7 @@ returns-in_err-make_room-clause-answers g c =
     let cause : HasReason (IsShortOfRoom g.D.Disk.tells old.state new) old.state old.faults new.faults why ⊎ IsUnreadable g.D.Disk.tells g.D.Disk.ports_fail first last why = search rules in
     let reason = reason_of_room g.D.Disk.tells g.D.Disk.ports_fail old new first last why full c.in_ok-may_change.ensures.fits.0 cause in
     subst (λ (r : Result ℕ Refused). Answers g.D.Disk.tells (Makes Asks) (result_err r) (record (face_of old) { retired = new.retired }) old new) (sym refusal)
-    (subst (λ face. Answers g.D.Disk.tells (Makes Asks) (Some why) face old new) (jobs_with core c.make_room.new.self c.make_room.ensures.begun c.make_room.ensures.flight)
+    (subst (λ face. Answers g.D.Disk.tells (Makes Asks) (Some why) face old new) (jobs_with core c.make_room.new.self c.make_room.ensures.begun c.make_room.ensures.flight c.in_err-make_room.ensures.keeps.pins)
     (unroomed_answers g.D.Disk.tells Asks (put_works c.args.key c.args.dkey c.args.value) old c.in_ok-may_change.ensures.fits.0 g.D.Disk.ports_fail first last new why c.in_err-make_room.ensures.keeps reason
     full c.in_err-make_room.ensures.partly))
 
@@ -75,11 +77,12 @@ returns-clause-answers g c =
     let fits = c.in_ok-may_change.ensures.fits in
     let reason = if_refused c.record.result (HasReason ⊥ mid.state old.faults new.faults) (subst (λ n. IfErr c.record.result (HasReason ⊥ mid.state n new.faults)) c.faults-before.ensures c.record.ensures.why) in
     subst (λ face. Answers g.D.Disk.tells (Makes Asks) why face old new)
-    (jobs_with core c.make_room.new.self c.make_room.ensures.begun c.make_room.ensures.flight ∙ ap (λ names. record (face_of old) { retired = names.items }) (sym c.record.ensures.retired))
+    (jobs_with core c.make_room.new.self c.make_room.ensures.begun c.make_room.ensures.flight c.in_ok-make_room.ensures.keeps.pins ∙ ap (λ names. record (face_of old) { retired = names.items }) (sym c.record.ensures.retired))
     (recorded_answers g.D.Disk.tells Asks (put_works c.args.key c.args.dkey c.args.value) old fits.0 mid new why c.in_ok-make_room.ensures.keeps
     (λ told s holds. let done = c.in_ok-make_room.ensures.done told s holds in (done.0, done.1, done.2, done.3)) (λ s t is. is) (λ room. ap view_of (c.in_ok-make_room.ensures.room room).1)
-    (jobs_same c.make_room.new.self c.record.new.self c.record.ensures.begun c.record.ensures.flight (ap (λ names. names.items) c.record.ensures.retired)) c.record.ensures.sound (c.record.ensures.count Asks) c.record.ensures.stopped reason
+    (jobs_same c.make_room.new.self c.record.new.self c.record.ensures.begun c.record.ensures.flight (ap (λ names. names.items) c.record.ensures.retired) c.record.ensures.pins) c.record.ensures.sound (c.record.ensures.count Asks) c.record.ensures.stopped reason
     (if_refused c.record.result (IsUndone g.D.Disk.tells mid new) c.record.ensures.undone) c.record.ensures.numbers c.record.ensures.faults
+    (λ none told. if_done c.record.result (AreKept mid.pins.pins mid.disk.directory new.disk.directory) (c.record.ensures.pinned told) none)
     (λ told config h caller still. c.record.ensures.stands told config h caller Asks refl still
     (put_for config h mid still (ready.stopped ∙ fits.0) (subst (λ n. n < max_place) (sym ready.count) fits.1) caller c.args.key (search rules) c.args.dkey c.args.value c.ranges.dkey.fits (search rules) c.put_record-next.result c.put_record-next.ensures.is))
     (λ told config h caller still. c.record.ensures.any_moment told config h caller Asks still
@@ -87,12 +90,13 @@ returns-clause-answers g c =
 
 pub returns-clause-written : goal.returns-clause-written
 returns-clause-written g c = λ told s holds.
+    let old = view_of c.args.self.now.core in
     let room = c.in_ok-make_room.ensures.done told s holds in
     let t = room.0 in
     let mid : View = view_of c.make_room.new.self in
     let new : View = view_of c.record.new.self in
     let is = put_same mid t room.3 c.args.key c.args.dkey c.args.value c.put_record-next.result c.put_record-next.ensures.is in
-    on_ok c.record.result _ _ (c.record.ensures.written told t room.3) (λ done. (t, room.1, room.2, subst (λ next. Holds new (appended t next)) is done.0, room.4, ap (λ names. names.items) c.record.ensures.retired ∙ room.5))
+    on_ok c.record.result _ _ (c.record.ensures.written told t room.3) (λ done. (t, room.1, room.2, subst (λ next. Holds new (appended t next)) is done.0, room.4, subst (λ names. AreRetiredBehind room.1 old.pins.pins old.retired names) (ap (λ names. names.items) (sym c.record.ensures.retired)) room.5))
 
 pub returns-clause-room : goal.returns-clause-room
 returns-clause-room g c = λ told s holds has.

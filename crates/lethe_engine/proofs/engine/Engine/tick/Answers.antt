@@ -1,4 +1,4 @@
-use Rattle.std.proofs.Common.{rules, ◌≡◌, ◌+◌, Some, None, Result, Err, sym, subst}
+use Rattle.std.proofs.Common.{rules, ◌≡◌, ◌+◌, Some, None, Result, Err, refl, sym, ap, ◌∙◌, subst}
 use Rattle.std.specs.Prelude.{IfErr, option_map}
 use Rattle.std.specs.Result.{result_err}
 use Rattle.lethe_base.specs.declared.call.Call.TheVariants as call
@@ -12,7 +12,8 @@ use Rattle.lethe_engine.specs.Ticks.{HasReasonOfTick, ticked_face}
 use Rattle.lethe_engine.specs.declared.ticking.Ticked.{Ticked}
 use Rattle.lethe_engine.proofs.Certified.{answer_true, call_certified, with_answer}
 use Rattle.lethe_engine.proofs.Calls.{itself_answers, made_answers, refused_is_none}
-use Rattle.lethe_engine.proofs.Ticks.{holds_in_round, may_in_round, may_refuse_none, may_refuse_reason, partly_in_round, passes_all, reason_of_tick, stands_in_round, still_runs, tick_told, tick_works, ticked_gone, ticked_not, ticked_now}
+use Rattle.lethe_engine.proofs.Onward.{sound_pages}
+use Rattle.lethe_engine.proofs.Ticks.{barred_not, barred_why, holds_in_round, may_in_round, may_refuse_none, may_refuse_reason, partly_in_round, passes_all, reason_of_tick, stands_in_round, still_runs, tick_told, tick_works, ticked_gone, ticked_not, ticked_now}
 use Rattle.lethe_engine.proofs.engine.Engine.tick.Goals as goal
 
 -- No tick was begun
@@ -39,13 +40,29 @@ returns-in_err-may_tick-clause-why g c =
     subst (λ (r : Result Ticked Refused). IfErr r (HasReasonOfTick g.D.Disk.tells g.D.Disk.ports_fail to old old count count)) (sym refusal)
     (may_refuse_reason old to g.D.Disk.tells g.D.Disk.ports_fail old count count why c.in_err-may_tick.ensures.refused)
 
+pub returns-in_err-may_tick-clause-pinned : goal.returns-in_err-may_tick-clause-pinned
+returns-in_err-may_tick-clause-pinned g c = λ may pin limit first reached.
+    let old = view_of c.args.self.now.core in
+    let why = c.in_err-may_tick.field-0.0 in
+    let refusal : c.from_residual.result ≡ Err why = search rules in
+    (refusal ∙ ap (λ (e : Refused). Err e) (barred_why old c.args.to pin limit may first why c.in_err-may_tick.ensures.refused), refl)
+
 -- A tick was begun
+
+pub returns-in_err-certificate-clause-pinned : goal.returns-in_err-certificate-clause-pinned
+returns-in_err-certificate-clause-pinned g c = λ may pin limit first reached. absurd (barred_not c.args.self.now.core.pins.pins c.args.to pin limit first reached c.in_ok-may_tick.ensures.may.1)
+
+pub returns-clause-pinned : goal.returns-clause-pinned
+returns-clause-pinned g c = λ may pin limit first reached. absurd (barred_not c.args.self.now.core.pins.pins c.args.to pin limit first reached c.in_ok-may_tick.ensures.may.1)
+
+pub tick-requires-clause-passes : goal.tick-requires-clause-passes
+tick-requires-clause-passes g c κs within = c.in_ok-may_tick.ensures.may.1
 
 pub tick-requires-clause-may : goal.tick-requires-clause-may
 tick-requires-clause-may g c κs within =
     let old = view_of c.args.self.now.core in
     let may = c.in_ok-may_tick.ensures.may in
-    may_in_round old (old.rounds + 1) g.D.Disk.tells c.faults-before.result c.requires.sound may.0 may.2 c.faults-before.ensures
+    may_in_round old (old.rounds + 1) g.D.Disk.tells c.faults-before.result c.requires.sound may.0.runs may.0.place c.faults-before.ensures
 
 pub returns-in_err-certificate-clause-answers : goal.returns-in_err-certificate-clause-answers
 returns-in_err-certificate-clause-answers g c =
@@ -60,15 +77,15 @@ returns-in_err-certificate-clause-answers g c =
     let last = g.D.Disk.port_faults c.tick.new.port in
     let is = c.in_err-certificate.ensures in
     let all = c.tick.ensures in
-    let face = ticked_now old to new (passes_all old to may.0 may.1 may.2 may.3) (λ i. (all.begun i).jobs.count) (λ i. (all.begun i).rounds) (λ i. option_map flying_of (all.free i)) in
-    let told = tick_told tells g.D.Disk.ports_fail to old new c.faults-before.result first last may.0 c.faults-before.ensures why is.why in
+    let face = ticked_now old to new (passes_all old to may.0 may.1) (λ i. (all.begun i).jobs.count) (λ i. (all.begun i).rounds) (λ i. option_map flying_of (all.free i)) all.pins in
+    let told = tick_told tells g.D.Disk.ports_fail to old new c.faults-before.result first last may.0.runs c.faults-before.ensures why is.why in
     subst (λ (r : Result Ticked Refused). Answers tells (Makes (call.Tick to)) (result_err r) (ticked_face old to new.retired) old new) (sym refusal)
     (subst (λ face. Answers tells (Makes (call.Tick to)) (Some why) face old new) face
-    (made_answers tells (call.Tick to) (tick_works to) old may.0 new (Some why) all.sound is.count is.stopped
+    (made_answers tells (call.Tick to) (tick_works to) old may.0.runs new (Some why) all.sound is.count is.stopped
     (λ told config h caller before. is.stands told config h (stands_in_round old (old.rounds + 1) config h before) caller)
     (λ told config h caller before. is.any_moment told config h (stands_in_round old (old.rounds + 1) config h before) caller)
     all.numbers all.faults told
-    ((λ ready. absurd ready), partly_in_round old (old.rounds + 1) tells (IsTickedInPart to) new why is.partly)))
+    ((λ ready. absurd ready), partly_in_round old (old.rounds + 1) tells (IsTickedInPart to) new why is.partly) all.pinned))
 
 pub returns-in_err-certificate-clause-why : goal.returns-in_err-certificate-clause-why
 returns-in_err-certificate-clause-why g c =
@@ -81,7 +98,7 @@ returns-in_err-certificate-clause-why g c =
     let first = g.D.Disk.port_faults c.args.port.now in
     let last = g.D.Disk.port_faults c.tick.new.port in
     subst (λ (r : Result Ticked Refused). IfErr r (HasReasonOfTick g.D.Disk.tells g.D.Disk.ports_fail to old new first last)) (sym refusal)
-    (reason_of_tick g.D.Disk.tells g.D.Disk.ports_fail to old new c.faults-before.result first last may.0 c.faults-before.ensures why c.in_err-certificate.ensures.why)
+    (reason_of_tick g.D.Disk.tells g.D.Disk.ports_fail to old new c.faults-before.result first last may.0.runs c.faults-before.ensures why c.in_err-certificate.ensures.why)
 
 -- A tick was carried out
 
@@ -94,12 +111,12 @@ returns-clause-answers g c =
     let may = c.in_ok-may_tick.ensures.may in
     let is = c.in_ok-certificate.ensures in
     let all = c.tick.ensures in
-    let face = ticked_now old to new (passes_all old to may.0 may.1 may.2 may.3) (λ i. (all.begun i).jobs.count) (λ i. (all.begun i).rounds) (λ i. option_map flying_of (all.free i)) in
+    let face = ticked_now old to new (passes_all old to may.0 may.1) (λ i. (all.begun i).jobs.count) (λ i. (all.begun i).rounds) (λ i. option_map flying_of (all.free i)) all.pins in
     subst (λ face. Answers tells (Makes (call.Tick to)) None face old new) face
-    (made_answers tells (call.Tick to) (tick_works to) old may.0 new None all.sound is.count is.stopped
+    (made_answers tells (call.Tick to) (tick_works to) old may.0.runs new None all.sound is.count is.stopped
     (λ told config h caller before. is.stands told config h (stands_in_round old (old.rounds + 1) config h before) caller)
     (λ told config h caller before. is.any_moment told config h (stands_in_round old (old.rounds + 1) config h before) caller)
-    all.numbers all.faults tt tt)
+    all.numbers all.faults tt tt all.pinned)
 
 pub returns-clause-gone : goal.returns-clause-gone
 returns-clause-gone g c = λ told config opened h stands caller.
@@ -107,7 +124,7 @@ returns-clause-gone g c = λ told config opened h stands caller.
     let may = c.in_ok-may_tick.ensures.may in
     let is = c.in_ok-certificate.ensures in
     let new : View = view_of c.tick.new.core in
-    ticked_gone config h caller c.args.to new (is.stands told config h (stands_in_round old (old.rounds + 1) config h stands.now) caller) (still_runs old new is.stopped may.0)
+    ticked_gone config h caller c.args.to new (sound_pages g.D.Disk.tells new c.tick.ensures.sound told) (is.stands told config h (stands_in_round old (old.rounds + 1) config h stands.now) caller) (still_runs old new is.stopped may.0.runs)
 
 pub returns-clause-one_image : goal.returns-clause-one_image
 returns-clause-one_image g c = λ told.
@@ -116,7 +133,7 @@ returns-clause-one_image g c = λ told.
     let may = c.in_ok-may_tick.ensures.may in
     let is = c.in_ok-certificate.ensures in
     let held = c.tick.ensures.sound.held told in
-    (held.2 (still_runs old new is.stopped may.0)).settled.synced
+    (held.2 (still_runs old new is.stopped may.0.runs)).settled.synced
 
 pub returns-clause-done : goal.returns-clause-done
 returns-clause-done g c = λ told s holds.
@@ -136,7 +153,7 @@ returns-clause-is_true g c = λ told config opened h stands caller.
     let new : View = view_of c.tick.new.core in
     let may = c.in_ok-may_tick.ensures.may in
     let is = c.in_ok-certificate.ensures in
-    let runs = still_runs old new is.stopped may.0 in
+    let runs = still_runs old new is.stopped may.0.runs in
     let answers = returns-clause-answers g c in
     answer_true config opened h caller c.args.to new (answers.stands told config opened h stands caller) runs c.tick.ensures.sound.writable ((c.tick.ensures.sound.held told).2 runs).settled.synced
     is.manifest.0 is.manifest.1 c.in_ok-certificate.certificate is.certificate is.due
@@ -147,7 +164,7 @@ returns-clause-certified g c = λ told config opened h stands caller.
     let new : View = view_of c.tick.new.core in
     let may = c.in_ok-may_tick.ensures.may in
     let is = c.in_ok-certificate.ensures in
-    let runs = still_runs old new is.stopped may.0 in
+    let runs = still_runs old new is.stopped may.0.runs in
     let answers = returns-clause-answers g c in
     let stood = call_certified g.D.Disk.tells (Makes (call.Tick c.args.to)) None (ticked_face old c.args.to new.retired) old new answers told config opened h caller c.args.self.now.certificates.items stands in
     with_answer config opened h caller c.args.to new stood.since runs c.tick.ensures.sound.writable ((c.tick.ensures.sound.held told).2 runs).settled.synced is.manifest.0 is.manifest.1 stands.since.begins

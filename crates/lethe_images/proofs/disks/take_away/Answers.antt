@@ -1,0 +1,17 @@
+use Rattle.std.proofs.Common.{◌≡◌, sym, ap, subst, ◌∙◌}
+use Rattle.std.specs.FinMap.{keys}
+use Rattle.std.specs.Prelude.{Contains, IsSome}
+use Rattle.lethe_base.specs.declared.name.Name.{Name}
+use Rattle.lethe_disk.specs.Directory.{object}
+use Rattle.lethe_memdisk.specs.Held.{Held, seen_of}
+use Rattle.lethe_commit.proofs.Listed.{listed, found_decides}
+use Rattle.lethe_images.proofs.disks.take_away.Goals as goal
+
+pub remove-requires : goal.remove-requires
+remove-requires c =
+    let d = (seen_of c.args.disk.now).directory in
+    let name : Name = record { kind = c.args.kind; no = c.args.no } in
+    let is : c.deref.result.now ≡ keys d = c.deref.ensures.value ∙ c.in-Ok.ensures.done in
+    let found = found_decides c.deref.result.now name c.contains.result c.contains.ensures.cases in
+    let in_names : Contains (keys d) name = subst (λ l. Contains l name) is (found.0 c.if-contains.true) in
+    subst IsSome (sym (ap (λ (held : Held). object (seen_of held).directory name) c.in-Ok.ensures.call.answer)) ((listed d name).0 in_names)

@@ -1,0 +1,107 @@
+-- A pin is made, what a slot holds is read, and it is let go.
+use Rattle.std.proofs.Common.{◌≡◌, inl, ◌≤◌, ◌<◌, ◌+◌, ℕ, [], length, take, Option, Some, None, refl, sym, ap, ◌∙◌, subst, arith, append-nil}
+use Rattle.std.specs.Prelude.{IfOk, IfSome}
+use Rattle.std.proofs.lemmas.List.{take_all}
+use Rattle.lethe_base.specs.History.{History, State, after}
+use Rattle.lethe_base.specs.Read.{Answer, Read, answer}
+use Rattle.lethe_base.specs.declared.call.Call.TheVariants.{Work}
+use Rattle.lethe_base.specs.declared.config.Fields.{Fields}
+use Rattle.lethe_base.specs.declared.refused.Refused.{Refused}
+use Rattle.lethe_base.specs.declared.name.Name.{Name}
+use Rattle.lethe_disk.specs.declared.cursor.ReadRefused.{ReadRefused}
+use Rattle.lethe_disk.specs.declared.cursor.ReadRefused.TheVariants as read
+use Rattle.lethe_disk.specs.declared.disk.Disk.{Ghosts}
+use Rattle.lethe_manifest.specs.declared.manifest.Manifest.{Manifest}
+use Rattle.lethe_snapshot.specs.declared.snapshot.Snapshot.{Snapshot}
+use Rattle.lethe_stored.specs.Left.{without_failed}
+use Rattle.lethe_core.specs.Asked.{Serves, behind}
+use Rattle.lethe_core.specs.StandsNow.{StandsNow}
+use Rattle.lethe_core.specs.View.{Face, View}
+use Rattle.lethe_core.proofs.Histories.{after_without}
+use Rattle.lethe_engine.specs.Answers as engine
+use Rattle.lethe_engine.specs.StandsFor.{StandsSince}
+use Rattle.lethe_script.specs.declared.order.Act.{Act}
+use Rattle.lethe_script.specs.declared.order.Act.TheVariants as acts
+use Rattle.lethe_run.specs.declared.reply.Reply.{Reply}
+use Rattle.lethe_run.specs.declared.reply.Reply.TheVariants as reply
+use Rattle.lethe_run.specs.Anywhere.{IsTold, standing_of}
+use Rattle.lethe_run.specs.Carried.{certificate_in}
+use Rattle.lethe_run.specs.Holding.{IsShown}
+use Rattle.lethe_run.specs.Replies.{slot_unread_of}
+use Rattle.lethe_run.specs.Serving.{Advances, IsAnswered, IsBorneOn, IsLookedUp, IsOn, Point, opened_in}
+use Rattle.lethe_run.specs.Slots.{Pin, Slots, pin_in, with_pin, without_pin}
+use Rattle.lethe_run.specs.Transcript.{Answers, Course, Follows, IsAnswerAt, IsRead, Start, course}
+use Rattle.lethe_run.proofs.Outcomes.{told_of}
+
+-- the clock of a store is that of its history, also where a change failed
+clock_is : (config : Fields) (h : History) (view : View) → StandsNow config h view → view.state.manifest.clock ≡ (after h).clock
+clock_is config h view stands = ap (λ (manifest : Manifest). manifest.clock) stands.remembers.manifest ∙ stands.stands.clock ∙ ap (λ (s : State). s.clock) (after_without h)
+
+-- what is no change leaves the history as it was
+pub looked : (Tells : Type 0) → Tells → (begin : Start) (from : Point) (h : History) (old new : View) → IsOn begin from h old → (why : Option Refused) (face : Face) → engine.Answers Tells (Serves Work) why face old new
+    → behind h 0 (Serves Work) why ≡ h → Advances begin h h old new
+looked Tells told begin from h old new on why face says same = record {
+  calls = let run = says.goes told begin.config (opened_in begin from on.counted) h on.stands 0 in record { later = run.later; past = run.past };
+  stands = λ point on. record {
+    done = on.done;
+    counted = on.counted;
+    stands = subst (λ g. StandsSince begin.config (opened_in begin point on.counted) g new) same (says.stands told begin.config (opened_in begin point on.counted) h on.stands 0);
+    faults_since = on.faults_since;
+    moment_since = on.moment_since;
+  };
+}
+
+module _ (Ports : Type 0) (begin : Start) (from : Point) (h : History) (caller : ℕ) (old new : View) (on : IsOn begin from h old) (goes : Advances begin h h old new) where
+  abbrev Here : Course
+  Here = course Ports begin new.faults new.disk.moment
+
+  looks : (act : Act) (r : Reply) → IfSome (certificate_in r) (IsBorneOn begin h new) → Answers (told_of h Here) caller act r → Follows Here (length h) r (length h) → (g : History) × IsAnswered Ports begin h g caller act r old new
+  looks act r certified what follows = (h, record { grows = ([], sym (append-nil h)); answers = what; follows = follows; certified = certified; goes = goes })
+
+  pub pin_served : (slot point number limit : ℕ) → point ≡ old.state.count → (old.state.manifest.clock < limit) × (limit ≤ begin.config.threshold + old.state.manifest.clock)
+      → (g : History) × IsAnswered Ports begin h g caller (acts.Pin slot) (reply.Pinned point number limit) old new
+  pin_served slot point number limit at near =
+      let all = at ∙ on.stands.now.count in
+      let clock = clock_is begin.config h old on.stands.now ∙ ap (λ (l : History). (after l).clock) (sym (take_all point h (omega (arith, all)))) in
+      looks (acts.Pin slot) (reply.Pinned point number limit) tt
+      ((slot, refl), record { within = omega (arith, all); above = let above = near.0 in omega (arith, above, clock); near = let most = near.1 in omega (arith, most, clock) }) (all, refl)
+
+  pub unpin_served : (slot point number : ℕ) → point ≡ old.state.count → (g : History) × IsAnswered Ports begin h g caller (acts.Unpin slot) (reply.Unpinned point number) old new
+  unpin_served slot point number at =
+      let all = at ∙ on.stands.now.count in
+      looks (acts.Unpin slot) (reply.Unpinned point number) tt ((slot, refl), omega (arith, all)) (all, refl)
+
+-- what a slot holds is read as the map was at its point
+pub slot_answer : {D Page Port : Type 0} {kind : Ghosts D Page Port} (h : History) (snapshot : Snapshot D Page Port kind) (read : Read) (given : Answer) (point : ℕ) → point ≡ snapshot.point → IsShown h snapshot
+    → answer (after (without_failed (take snapshot.point h))) read ≡ given → IsAnswerAt h point read given
+slot_answer h snapshot read given point at shown is =
+    let within = shown.within in
+    record {
+      within = omega (arith, at, within);
+      is = sym is ∙ ap (λ s. answer s read) (after_without (take snapshot.point h)) ∙ ap (λ n. answer (after (take n h)) read) (sym at);
+    }
+
+pub slot_unread : (Ports : Type 0) (begin : Start) (faults moment : ℕ) (h : History) (caller : ℕ) (act : Act) → IsRead act → (why : ReadRefused) → ((before behind : ℕ) → why ≡ read.ReadFault before behind → Ports)
+    → ((name : Name) → why ≡ read.Damaged name → ⊥) → IfOk (slot_unread_of why) (IsLookedUp Ports begin faults moment h caller act)
+slot_unread Ports begin faults moment h caller act is (read.ReadFault before behind) fails sound = ((inl is, fails before behind refl), refl, refl)
+slot_unread Ports begin faults moment h caller act is (read.Damaged name) fails sound = absurd (sound name refl)
+slot_unread Ports begin faults moment h caller act is read.NoMemory fails sound = tt
+
+-- On any disk
+
+-- nothing but the slots changes
+module _ (old new : View) (state : new.state ≡ old.state) where
+  pub slots_alone : (before behind : Slots) → standing_of new behind ≡ record (standing_of old before) { slots = behind }
+  slots_alone before behind = λ i. record { count = (state i).count; failed = (state i).stopped; slots = behind }
+
+  module _ (Ports : Type 0) (before behind : Slots) (slot : ℕ) (pin : Pin) where
+    pub pin_told : (point number limit : ℕ) → point ≡ pin.point → number ≡ pin.number → limit ≡ pin.limit → pin.point ≡ old.state.count → pin.number ≡ before.made + 1 → pin_in before slot ≡ None → behind ≡ with_pin slot pin before
+        → IsTold Ports old.faults new.faults (acts.Pin slot) (standing_of old before) (reply.Pinned point number limit) (standing_of new behind)
+    pin_told point number limit point_is number_is limit_is at next free is = (
+      ((slot, refl), point_is ∙ at, slots_alone before behind),
+      (slot, refl, free, number_is ∙ next, is ∙ (λ i. with_pin slot (record { number = sym number_is i; point = sym point_is i; limit = sym limit_is i }) before)),
+    )
+
+    pub unpin_told : (point number : ℕ) → point ≡ old.state.count → number ≡ pin.number → pin_in before slot ≡ Some pin → behind ≡ without_pin slot before
+        → IsTold Ports old.faults new.faults (acts.Unpin slot) (standing_of old before) (reply.Unpinned point number) (standing_of new behind)
+    unpin_told point number at number_is there is = ((at, slots_alone before behind), (slot, refl, pin, there, sym number_is, is))

@@ -1,0 +1,46 @@
+use Rattle.std.proofs.Common.{◌≡◌, inr, Err, take, refl, sym, ap, ◌∙◌, subst, arith}
+use Rattle.std.specs.Prelude.{IfOk, MatchResult}
+use Rattle.lethe_base.specs.History.{after}
+use Rattle.lethe_base.specs.Read.{answer}
+use Rattle.lethe_base.specs.Read as answers
+use Rattle.lethe_stored.specs.Left.{without_failed}
+use Rattle.lethe_engine.specs.Reads.{listed}
+use Rattle.lethe_script.specs.declared.order.Act.TheVariants as acts
+use Rattle.lethe_run.specs.Anywhere.{IsTold}
+use Rattle.lethe_run.specs.Holding.{pin_of}
+use Rattle.lethe_run.specs.Serving.{IsLookedUp}
+use Rattle.lethe_run.proofs.Anywhere.{slot_unread_tells}
+use Rattle.lethe_run.proofs.Outcomes.{ok_of}
+use Rattle.lethe_run.proofs.Pinned.{slot_answer, slot_unread}
+use Rattle.lethe_run.proofs.pinning.pin_scan.Goals as goal
+
+pub returns-in-Ok-clause-told : goal.returns-in-Ok-clause-told
+returns-in-Ok-clause-told g c = λ from upto s slot there. (refl, (slot, c.args.lo.now, c.args.hi.now, refl, (pin_of c.args.snapshot.now, there, sym c.number.ensures, sym c.point.ensures), refl))
+
+pub returns-in-Ok-clause-served : goal.returns-in-Ok-clause-served
+returns-in-Ok-clause-served g c = λ told begin h caller slot faults moment shown.
+    let snapshot = c.args.snapshot.now in
+    let lo = c.args.lo.now in
+    let hi = c.args.hi.now in
+    let pairs = c.of.result in
+    let point = c.point.result in
+    let given : answer (after (without_failed (take snapshot.point h))) (answers.Scan lo hi) ≡ listed pairs =
+    ok_of (λ found. answer (after (without_failed (take snapshot.point h))) (answers.Scan lo hi) ≡ listed found.items) c.scan.result
+    (c.scan.ensures.answer told (without_failed (take snapshot.point h)) shown.shows) c.in-Ok.pairs c.in-Ok.is ∙ ap listed (sym c.of.ensures) in
+    (slot_answer h snapshot (answers.Scan lo hi) (listed pairs) point c.point.ensures shown given, (omega (arith, shown.within, c.point.ensures), refl), refl)
+
+pub returns-in-Err-clause-told : goal.returns-in-Err-clause-told
+returns-in-Err-clause-told g c = λ from upto s slot there.
+    let Ports = g.D.Disk.ports_fail in
+    let act = acts.PinScan slot c.args.lo.now c.args.hi.now in
+    subst (λ r. MatchResult r (λ reply. IsTold Ports from upto act s reply s) (λ why. s ≡ s)) (sym c.unread.ensures)
+    (slot_unread_tells Ports from upto act s (inr refl) c.in-Err.why (λ before after is. c.scan.ensures.can_fail (before, after, c.in-Err.is ∙ ap Err is)))
+
+pub returns-in-Err-clause-served : goal.returns-in-Err-clause-served
+returns-in-Err-clause-served g c = λ told begin h caller slot faults moment shown.
+    let Ports = g.D.Disk.ports_fail in
+    let act = acts.PinScan slot c.args.lo.now c.args.hi.now in
+    let snapshot = c.args.snapshot.now in
+    subst (λ r. IfOk r (IsLookedUp Ports begin faults moment h caller act)) (sym c.unread.ensures)
+    (slot_unread Ports begin faults moment h caller act (inr refl) c.in-Err.why (λ before after is. c.scan.ensures.can_fail (before, after, c.in-Err.is ∙ ap Err is))
+    (λ name is. c.scan.ensures.undamaged told (without_failed (take snapshot.point h)) shown.shows name (c.in-Err.is ∙ ap Err is)))

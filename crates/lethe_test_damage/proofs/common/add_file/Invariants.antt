@@ -1,0 +1,7 @@
+use Rattle.lethe_core.specs.Running.{IsSound}
+use Rattle.lethe_core.specs.View.{view_of}
+use Rattle.lethe_test_damage.proofs.common.add_file.Given as goal
+
+-- each put leaves it sound
+abbrev pub invariant-loop-text : goal.invariant-loop-text
+invariant-loop-text g l = IsSound g.D.Disk.tells (view_of l.engine.core)
