@@ -25,10 +25,10 @@ use Rattle.lethe_stored.specs.Files.{StoredFile, IsFile}
 use Rattle.lethe_stored.specs.Stored.{Stored, IsCoherent, pending_of}
 use Rattle.lethe_stored.proofs.Leveled.{from_level}
 use Rattle.lethe_version.specs.Order.{is_kept}
-use Rattle.lethe_core.specs.Descent.{HasCountedErases, jobs_left, steps_down}
+use Rattle.lethe_core.specs.Descent.{HasCountedErases, jobs_at_most, jobs_left, steps_down, unswept_pairs}
 use Rattle.lethe_core.proofs.Counted.{entries_by, all_counted, cut_long, some_counted}
 use Rattle.lethe_core.proofs.Sums.{kept_sum, part_sum, scaled, two_levels}
-use Rattle.lethe_core.proofs.Unswept.{files_few, no_steps_up, pairs_fall, pairs_few, pairs_kept}
+use Rattle.lethe_core.proofs.Unswept.{files_few, no_steps_up, pairs_fall, pairs_few, pairs_kept, pending_few}
 use Rattle.lethe_core.proofs.Waiting.{pairs_stay}
 
 -- The bound
@@ -58,6 +58,9 @@ few_steps s coherent =
 
 pub few_jobs : (s : Stored) → IsCoherent s → length (pending_of s) < 2 ^ 32 → jobs_left s < 2 ^ 65
 few_jobs s coherent few = omega (arith, few_steps s coherent, pairs_few s.files (pending_of s) (files_few s coherent) few)
+
+pub few_at_most : (s : Stored) → IsCoherent s → length (pending_of s) < 2 ^ 32 → jobs_at_most s < 2 ^ 127
+few_at_most s coherent few = omega (arith, few_steps s coherent, pairs_few s.files (pending_of s) (files_few s coherent) few)
 
 -- A merge
 
@@ -178,3 +181,29 @@ goes_on s t (Sweeps task) coherent counted planned is =
     let kept = pairs_kept s (Sweeps task) t is t.files in
     let fall = pairs_fall s coherent is.w task.erase task.alone is.tasked.sweep t is.swept_is in
     omega (arith, levels, up, kept, fall)
+
+-- A job, whatever the places of the erases
+
+-- steps count for more than pairs
+falls : (steps before pairs others : ℕ) → steps < before → pairs < 2 ^ 64 → steps * 2 ^ 64 + pairs < before * 2 ^ 64 + others
+falls steps before pairs others less few = omega (arith, less, few)
+
+falls_beside : (steps before pairs others : ℕ) → steps ≤ before → pairs < others → steps * 2 ^ 64 + pairs < before * 2 ^ 64 + others
+falls_beside steps before pairs others up less = omega (arith, up, less)
+
+pub any_goes_on : (s t : Stored) (task : PlainTask) → IsCoherent s → length (pending_of s) < 2 ^ 32 → IsInstalled s task t → IsCoherent t → jobs_at_most t < jobs_at_most s
+any_goes_on s t (Merges task) coherent few is then =
+    let levels = ap (λ (m : Manifest). steps_down m.config.levels t.files) is.merged_is.manifest in
+    let down = goes_down s is.m coherent is.tasked.merge t (erases_upto task.upto (pending_of s)) task.alone task.upto is.merged_is in
+    let fewer = pending_few s (Merges task) t is in
+    falls (steps_down t.manifest.config.levels t.files) (steps_down s.manifest.config.levels s.files)
+    (unswept_pairs t.files (pending_of t)) (unswept_pairs s.files (pending_of s))
+    (subst (λ n. n < steps_down s.manifest.config.levels s.files) (sym levels) down) (pairs_few t.files (pending_of t) (files_few t then) (omega (arith, fewer, few)))
+any_goes_on s t (Sweeps task) coherent few is then =
+    let levels = ap (λ (m : Manifest). steps_down m.config.levels t.files) is.swept_is.manifest in
+    let up = no_steps_up s coherent is.w task.erase task.alone is.tasked.sweep t is.swept_is s.manifest.config.levels in
+    let kept = pairs_kept s (Sweeps task) t is t.files in
+    let fall = pairs_fall s coherent is.w task.erase task.alone is.tasked.sweep t is.swept_is in
+    falls_beside (steps_down t.manifest.config.levels t.files) (steps_down s.manifest.config.levels s.files)
+    (unswept_pairs t.files (pending_of t)) (unswept_pairs s.files (pending_of s))
+    (subst (λ n. n ≤ steps_down s.manifest.config.levels s.files) (sym levels) up) (omega (arith, kept, fall))

@@ -1,5 +1,5 @@
 -- Merges and sweeps one after another.
-use Rattle.std.proofs.Common.{◌≡◌, ◌≤◌, ◌<◌, ℕ, ◌+◌, ◌-◌, ◌^◌, min, List, [], ◌∷◌, ◌++◌, length, None, refl, ◌∙◌, subst, arith}
+use Rattle.std.proofs.Common.{◌≡◌, ◌≤◌, ◌<◌, ◌⊎◌, inl, inr, ℕ, ◌+◌, ◌-◌, ◌^◌, min, List, [], ◌∷◌, ◌++◌, length, None, refl, ◌∙◌, subst, arith}
 use Rattle.std.specs.Prelude.{Option}
 use Rattle.std.proofs.lemmas.List.Sums.{sum_by-append}
 use Rattle.lethe_base.specs.declared.name.Name.{Name}
@@ -9,7 +9,7 @@ use Rattle.lethe_stored.specs.Stored.{Stored, pending_of}
 use Rattle.lethe_job.specs.Works.{reads_of}
 use Rattle.lethe_pins.specs.Held.{Held}
 use Rattle.lethe_pins.specs.declared.pin.Pin.{Pin}
-use Rattle.lethe_core.specs.Descent.{HasCountedErases, jobs_left}
+use Rattle.lethe_core.specs.Descent.{HasCountedErases, jobs_at_most, jobs_left}
 use Rattle.lethe_core.specs.Keeps.{Keeps, MayStep}
 use Rattle.lethe_core.specs.Merges.{AreOutcomesBy, AreRetiredBehind, AreSomeOutcomesBy, HasNoMergeBy, IsOutcomeBy, Outcome, pages_of}
 use Rattle.lethe_core.specs.Pinned.{AreNamed}
@@ -17,7 +17,7 @@ use Rattle.lethe_core.specs.Running.{Holds, IsSound}
 use Rattle.lethe_core.specs.Steps.{IsSteady}
 use Rattle.lethe_core.specs.View.{View}
 use Rattle.lethe_core.proofs.Behind.{next_may}
-use Rattle.lethe_core.proofs.Descending.{few_jobs, goes_on}
+use Rattle.lethe_core.proofs.Descending.{any_goes_on, few_at_most, few_jobs, goes_on}
 use Rattle.lethe_core.proofs.Hindered.{keeps_itself, keeps_then}
 use Rattle.lethe_core.proofs.Waiting.{still_counted}
 
@@ -50,6 +50,7 @@ pub record AreBehind (chosen : Stored → Option Plan) (s : Stored) (old new : V
   pub pages : pages_of outcomes ≡ fetched
   pub retired : AreRetiredBehind outcomes old.pins.pins old.retired new.retired
   pub down : HasCountedErases s → HasCountedErases to × (jobs_left to + count ≤ jobs_left s)
+  pub always : jobs_at_most to + count ≤ jobs_at_most s
 
 -- Of a store that has carried out so many jobs: what it keeps and what is stored, by its port's counts of fetches and of faults.
 pub record HasMerged (chosen : Stored → Option Plan) (Tells : Type 0) (old new : View) (count fetches fetches' faults faults' : ℕ) : Type 0 where
@@ -62,7 +63,7 @@ pub none_merged : (chosen : Stored → Option Plan) (Tells : Type 0) (view : Vie
 none_merged chosen Tells view before fetches faults may = record {
   keeps = keeps_itself Tells view may.sound may.runs None tt;
   steady = record { stopped = refl; count = refl; records = refl; config = refl };
-  behind = λ told s holds. (0, record { outcomes = []; to = s; are = refl; holds = holds; pages = refl; retired = refl; down = λ counted. (counted, omega arith) }, omega arith);
+  behind = λ told s holds. (0, record { outcomes = []; to = s; are = refl; holds = holds; pages = refl; retired = refl; down = λ counted. (counted, omega arith); always = omega arith }, omega arith);
   port_faults = omega arith;
 }
 
@@ -113,6 +114,11 @@ module _ (chosen : Stored → Option Plan) (Tells : Type 0) (old mid : View) (be
                 let before = down.1 in
                 let below : jobs_left next.to < jobs_left t = goes_on t next.to next.task are.holds.remembers.coherent down.0 is.begun.planned is.installed in
                 (still_counted t next.task next.to is.installed down.0, omega (arith, below, before));
+            always =
+                let few = few_pending Tells mid t merged.keeps.sound are.holds in
+                let below : jobs_at_most next.to < jobs_at_most t = any_goes_on t next.to next.task are.holds.remembers.coherent few is.installed made.2.remembers.coherent in
+                let before = are.always in
+                omega (arith, below, before);
           },
           omega (arith, first, then),
         );
@@ -133,9 +139,15 @@ module _ (chosen : Stored → Option Plan) (Tells : Type 0) (old mid : View) (be
   pub some_merged : Tells → (s : Stored) → Holds old s → (t : Stored) × ((outcomes : List Outcome) × AreSomeOutcomesBy chosen s outcomes t) × Holds mid t
   some_merged told s holds = let are = (merged.behind told s holds).1 in (are.to, (are.outcomes, are.are), are.holds)
 
-  -- there are no more jobs than there is to do
-  pub too_many : MayStep Tells old before → Tells → (s : Stored) → Holds old s → HasCountedErases s → (most : ℕ) → most ≡ jobs_left s → min (most + 1) (2 ^ 128 - 1) ≤ count → ⊥
-  too_many may told s holds counted most most_is many =
-      let down = ((merged.behind told s holds).1.down counted).1 in
+  -- there are no more jobs than there is to do, by either measure
+  pub too_many : MayStep Tells old before → Tells → (s : Stored) → Holds old s → (most : ℕ) → (HasCountedErases s × (most ≡ jobs_left s)) ⊎ (most ≡ jobs_at_most s)
+      → min (most + 1) (2 ^ 128 - 1) ≤ count → ⊥
+  too_many may told s holds most (inl counted) many =
+      let down = ((merged.behind told s holds).1.down counted.0).1 in
+      let most_is = counted.1 in
       let few = few_jobs s holds.remembers.coherent (few_pending Tells old s may.sound holds) in
+      omega (arith, down, few, most_is, many)
+  too_many may told s holds most (inr most_is) many =
+      let down = (merged.behind told s holds).1.always in
+      let few = few_at_most s holds.remembers.coherent (few_pending Tells old s may.sound holds) in
       omega (arith, down, few, most_is, many)

@@ -5,7 +5,7 @@ use Rattle.std.specs.List.{cons_option}
 use Rattle.std.proofs.Math.Nat.{mul-le-mul_left}
 use Rattle.std.proofs.lemmas.List.{length-map}
 use Rattle.std.proofs.lemmas.List.Elements.{All-contains, All-head, Contains-append_right}
-use Rattle.std.proofs.lemmas.List.Sums.{count_by-le-length, sum_by-append, sum_by-cons, sum_by-le, sum_by-le-sum_by}
+use Rattle.std.proofs.lemmas.List.Sums.{count_by-le-length, length-filter, sum_by-append, sum_by-cons, sum_by-le, sum_by-le-sum_by}
 use Rattle.lethe_base.specs.Keys.{Bytes}
 use Rattle.lethe_base.specs.Layout.{entries_of}
 use Rattle.lethe_base.specs.Spent.{done_upto}
@@ -61,7 +61,13 @@ some_pending s (Sweeps task) t is =
       ap pending_of (sym (left_is s is.w task.erase task.alone t is.swept_is)) ∙ pending_kept all ∙ ap (filter keeps) (pending_all s is.w task.erase task.alone t is.swept_is),
     )
 
--- so no file has more that it isn't swept of
+-- so they are no more
+pub pending_few : (s : Stored) (task : PlainTask) (t : Stored) → IsInstalled s task t → length (pending_of t) ≤ length (pending_of s)
+pending_few s task t is =
+    let some = some_pending s task t is in
+    omega (arith, ap length some.1, length-filter some.0 (pending_of s), count_by-le-length some.0 (pending_of s))
+
+-- and no file has more that it isn't swept of
 pub pairs_kept : (s : Stored) (task : PlainTask) (t : Stored) → IsInstalled s task t → (files : List StoredFile)
     → unswept_pairs files (pending_of t) ≤ unswept_pairs files (pending_of s)
 pairs_kept s task t is files =

@@ -1,5 +1,5 @@
 -- How much merges and sweeps have still to do.
-use Rattle.std.specs.Prelude.{ℕ, ◌+◌, ◌*◌, ◌-◌, ◌≤◌, nat_lt, List, count_by, sum_by, All}
+use Rattle.std.specs.Prelude.{ℕ, ◌+◌, ◌*◌, ◌-◌, ◌^◌, ◌≤◌, nat_lt, List, count_by, sum_by, All}
 use Rattle.lethe_base.specs.declared.pending.Pending.{Pending}
 use Rattle.lethe_header.specs.Headers.{entries_in}
 use Rattle.lethe_stored.specs.Files.{StoredFile, lines_in}
@@ -20,3 +20,8 @@ HasCountedErases s = All (λ erase. erase.seq ≤ count_of s) (pending_of s)
 -- A merge brings entries a level down, and what a merge that was just begun makes is swept up to the count, so that it waits for no erase. A sweep brings none up, and makes a pair less.
 abbrev pub jobs_left : Stored → ℕ
 jobs_left s = steps_down s.manifest.config.levels s.files + unswept_pairs s.files (pending_of s)
+
+-- A store whose manifest was altered may have erases pending that it doesn't count. What a merge makes there may wait for them, so each step down counts for more than all pairs, of
+-- which there are fewer than 2^64.
+abbrev pub jobs_at_most : Stored → ℕ
+jobs_at_most s = steps_down s.manifest.config.levels s.files * 2 ^ 64 + unswept_pairs s.files (pending_of s)

@@ -11,7 +11,7 @@ ghost use Rattle.lethe_state.specs.Room.{IsStepFrom};
 ghost use Rattle.lethe_state.specs.Writable.{segments_for};
 ghost use Rattle.lethe_job.specs.Jobs.{told_as};
 ghost use Rattle.lethe_job.specs.Works.{PlainTask, reads_of};
-ghost use Rattle.lethe_core.specs.Descent.{HasCountedErases, jobs_left};
+ghost use Rattle.lethe_core.specs.Descent.{HasCountedErases, jobs_at_most, jobs_left};
 ghost use Rattle.lethe_core.specs.Keeps.{Keeps, MayStep};
 ghost use Rattle.lethe_core.specs.Merges.{AreOutcomesBy, AreSomeOutcomesBy, HasNoMergeBy, IsOutcomeBy, IsShortToMergeBy, chosen_by, due_choice};
 ghost use Rattle.lethe_core.specs.Merges.{IsCrowded, IsMergedInPart, IsShortToMerge, IsUncrowded, AreRetiredBehind, MayMerge, Outcome, pages_of};
@@ -30,6 +30,9 @@ use lethe_disk::{Disk, ReadRefused};
 use lethe_install::{Installation, installing};
 use lethe_job::cited_files;
 use std::alloc::Global;
+
+/// More than there are pairs of a file and a pending erase.
+const MORE_THAN_PAIRS: u128 = 1 << 64;
 
 impl<D: Disk> Core<D> {
     /// Carries out the merges and sweeps that are due, one after another until none is, where level 0 is crowded and no job is in flight.
@@ -137,24 +140,24 @@ impl<D: Disk> Core<D> {
         Ok(())
     }
 
-    /// How many merges and sweeps there may still be, one after another, by the headers of the files.
+    /// No fewer than there may still be of merges and sweeps, one after another, by the headers of the files.
     fn most_jobs(&self, alloc: Global) -> Result<u128, Refused>
         requires { IsSound D.tells (view_of self.now) }
-        ensures most { (s : Stored) → Holds (view_of self.now) s → IfOk result (λ most. most ≡ jobs_left s) }
-        ensures counted { (s : Stored) → Holds (view_of self.now) s → IfOk result (λ most. HasCountedErases s) }
+        ensures most { (s : Stored) → Holds (view_of self.now) s → IfOk result (λ most. (HasCountedErases s × (most ≡ jobs_left s)) ⊎ (most ≡ jobs_at_most s)) }
         ensures refused { IfErr result (λ why. why ≡ refused.NoMemory) }
     {
         let manifest = self.state.manifest();
         let erases = self.state.pending();
-        // Each erase was accepted at a place that is counted, so this is never so in a store.
-        if !are_counted(erases, self.state.count()) {
-            return Err(Refused::NoMemory);
-        }
         match cited_files(alloc, &self.version, manifest.files.items()) {
             Ok(files) => {
                 let steps = steps_down(&files, manifest.config.fields().levels);
                 let pairs = unswept_pairs(&files, erases);
-                Ok(steps as u128 + pairs as u128)
+                // What a merge makes waits for no erase whose place is counted. An altered manifest may have others, and so a step counts for more than all pairs there.
+                if are_counted(erases, self.state.count()) {
+                    Ok(steps as u128 + pairs as u128)
+                } else {
+                    Ok(steps as u128 * MORE_THAN_PAIRS + pairs as u128)
+                }
             }
             Err(NoMemory) => Err(Refused::NoMemory),
         }

@@ -121,6 +121,6 @@ returns-in_err-most_jobs-clause-fetched g c = λ name e.
 pub returns-clause-done : goal.returns-clause-done
 returns-clause-done g c = λ told s holds.
     absurd (too_many (chosen_by c.args.choice) g.D.Disk.tells (view_of c.args.self.now) (view_of c.loop.self) c.args.before c.loop.counter (g.D.Disk.fetches c.args.port.now) (g.D.Disk.fetches c.loop.port)
-    (g.D.Disk.port_faults c.args.port.now) (g.D.Disk.port_faults c.loop.port) c.loop.invariant.merged c.requires.may told s holds (c.in_ok-most_jobs.ensures.counted s holds)
+    (g.D.Disk.port_faults c.args.port.now) (g.D.Disk.port_faults c.loop.port) c.loop.invariant.merged c.requires.may told s holds
     c.in_ok-most_jobs.field-0 (c.in_ok-most_jobs.ensures.most s holds)
     (let over = c.loop-test.false in let end = c.saturating_add-rounds.ensures in omega (arith, over, end)))

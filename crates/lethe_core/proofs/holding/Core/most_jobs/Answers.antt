@@ -1,18 +1,22 @@
-use Rattle.std.proofs.Common.{◌≡◌, ◌≤◌, map, List, All, sym, ap, ◌∙◌, subst, arith}
+use Rattle.std.proofs.Common.{◌≡◌, ◌≤◌, inl, inr, map, List, All, sym, ap, ◌∙◌, subst, arith}
 use Rattle.lethe_base.specs.declared.config.Fields.{Fields}
 use Rattle.lethe_base.specs.declared.pending.Pending.{Pending}
 use Rattle.lethe_manifest.specs.declared.manifest.Manifest.{Manifest}
-use Rattle.lethe_stored.specs.Stored.{count_of, pending_of}
+use Rattle.lethe_stored.specs.Stored.{Stored, count_of, pending_of}
 use Rattle.lethe_job.specs.Tasks.{plain_file}
-use Rattle.lethe_core.specs.Descent.{steps_down, unswept_pairs}
+use Rattle.lethe_core.specs.Descent.{HasCountedErases, steps_down, unswept_pairs}
+use Rattle.lethe_core.specs.Running.{Holds}
 use Rattle.lethe_core.specs.View.{view_of}
 use Rattle.lethe_core.proofs.Descending.{few_steps}
 use Rattle.lethe_core.proofs.Outcomes.{few_pending}
 use Rattle.lethe_core.proofs.Unswept.{files_few, pairs_few}
 use Rattle.lethe_core.proofs.holding.Core.most_jobs.Goals as goal
+use Rattle.lethe_core.proofs.holding.Core.most_jobs.Goals.{After-unswept_pairs-pairs}
 
-pub returns-in-Ok-clause-most : goal.returns-in-Ok-clause-most
-returns-in-Ok-clause-most g c = λ s holds.
+-- what the headers tell
+told : (g : _) (c : After-unswept_pairs-pairs g) (s : Stored) → Holds (view_of c.args.self.now) s
+    → (c.steps_down-steps.result ≡ steps_down s.manifest.config.levels s.files) × (c.unswept_pairs-pairs.result ≡ unswept_pairs s.files (pending_of s))
+told g c s holds =
     let remembers = holds.remembers in
     let coherent = remembers.coherent in
     let told = c.manifest-manifest.ensures ∙ remembers.manifest in
@@ -28,11 +32,18 @@ returns-in-Ok-clause-most g c = λ s holds.
     ap (λ files. unswept_pairs files c.pending-erases.result.now) second ∙ ap (unswept_pairs s.files) erases in
     let few = few_steps s coherent in
     let fewer = pairs_few s.files (pending_of s) (files_few s coherent) (few_pending g.D.Disk.tells (view_of c.args.self.now) s c.requires holds) in
-    omega (arith, c.steps_down-steps.ensures, c.unswept_pairs-pairs.ensures, steps, pairs, few, fewer)
+    (omega (arith, c.steps_down-steps.ensures, steps, few), omega (arith, c.unswept_pairs-pairs.ensures, pairs, fewer))
 
-pub returns-in-Ok-clause-counted : goal.returns-in-Ok-clause-counted
-returns-in-Ok-clause-counted g c = λ s holds.
+pub returns-in-Ok-then-are_counted-clause-most : goal.returns-in-Ok-then-are_counted-clause-most
+returns-in-Ok-then-are_counted-clause-most g c = λ s holds.
+    let are = told g (goal.at.returns-in-Ok-then-are_counted-clause-most g c).After-unswept_pairs-pairs s holds in
     let count : c.count.result ≡ count_of s = c.count.ensures ∙ holds.running.current.count in
     let erases : c.pending-erases.result.now ≡ pending_of s = c.pending-erases.ensures ∙ holds.remembers.pending in
-    let low : All (λ (erase : Pending). erase.seq ≤ c.count.result) c.pending-erases.result.now = c.are_counted.ensures c.if-not-are_counted.false in
-    subst (λ n. All (λ (erase : Pending). erase.seq ≤ n) (pending_of s)) count (subst (λ (erases : List Pending). All (λ (erase : Pending). erase.seq ≤ c.count.result) erases) erases low)
+    let low : All (λ (erase : Pending). erase.seq ≤ c.count.result) c.pending-erases.result.now = c.are_counted.ensures c.if-are_counted.true in
+    let counted : HasCountedErases s = subst (λ n. All (λ (erase : Pending). erase.seq ≤ n) (pending_of s)) count (subst (λ (erases : List Pending). All (λ (erase : Pending). erase.seq ≤ c.count.result) erases) erases low) in
+    inl (counted, omega (arith, are.0, are.1))
+
+pub returns-in-Ok-else-are_counted-clause-most : goal.returns-in-Ok-else-are_counted-clause-most
+returns-in-Ok-else-are_counted-clause-most g c = λ s holds.
+    let are = told g (goal.at.returns-in-Ok-else-are_counted-clause-most g c).After-unswept_pairs-pairs s holds in
+    inr (omega (arith, are.0, are.1))
