@@ -1,5 +1,5 @@
 -- What a step leaves as it was, whatever became of it.
-use Rattle.std.proofs.Common.{◌≡◌, ◌≢◌, ◌⊎◌, inl, inr, ℕ, List, map, Some, true, false, sym, ap, ◌∙◌, subst, arith}
+use Rattle.std.proofs.Common.{◌≡◌, ◌≢◌, ◌⊎◌, inl, inr, ℕ, List, map, None, Some, true, false, sym, ap, ◌∙◌, subst, arith}
 use Rattle.std.specs.Prelude.{Contains, IsSome, is_some}
 use Rattle.std.proofs.lemmas.List.Elements.{All-contains}
 use Rattle.lethe_base.specs.declared.name.Kind.TheVariants as kinds
