@@ -7,3 +7,4 @@ pub mod Lists
 pub mod Leveled
 pub mod Opened
 pub mod Quiet
+pub mod Stayed

@@ -1,6 +1,7 @@
 -- From what is stored to what is stored next.
-use Rattle.std.specs.Prelude.{◌≡◌, ◌≢◌, ◌⊎◌, ◌≤◌, ℕ, List, ◌++◌, map, filter, All, AllPairs, Contains}
+use Rattle.std.specs.Prelude.{◌≡◌, ◌≢◌, ◌⊎◌, ◌≤◌, ℕ, List, ◌++◌, map, filter, All, AllPairs, Contains, IsSome}
 use Rattle.std.specs.List.Sorted.{IsPermutation}
+use Rattle.lethe_disk.specs.Directory.{Directory, object}
 use Rattle.lethe_disk.specs.Disk.{Seen}
 use Rattle.lethe_base.specs.declared.name.Kind.TheVariants.{Page}
 use Rattle.lethe_base.specs.declared.name.Name.{Name}
@@ -81,3 +82,7 @@ pub record MayAdvance (disk : Seen) (s : Stored) (loose : List (Name × List ℕ
   pub settled : IsSettled disk s
   pub only : HasOnly s loose disk.directory
   pub step_is : IsStep s loose t left headers step
+
+-- each object that is there, and is cited next or left beside that, is in the second directory as it is in the first, byte for byte
+abbrev pub HasStayed : Stored → List (Name × List ℕ) → Directory → Directory → Type 0
+HasStayed t left d c = (name : Name) → Contains (part_names t) name ⊎ Contains (names_in left) name → IsSome (object d name) → object c name ≡ object d name

@@ -18,7 +18,7 @@ ghost use Rattle.lethe_stored.specs.Levels.{HasFiles};
 ghost use Rattle.lethe_version.specs.Versions.{levels_of};
 ghost use Rattle.lethe_advance.specs.Settled.{IsSettled, HasOnly};
 ghost use Rattle.lethe_advance.specs.Shown.{parts_by_level};
-ghost use Rattle.lethe_advance.specs.Steps.{MayAdvance};
+ghost use Rattle.lethe_advance.specs.Steps.{HasStayed, MayAdvance};
 
 use crate::exchanging::exchange;
 use crate::{NewHeader, Step};
@@ -64,6 +64,10 @@ pub fn advance<D: Disk>(
     ensures kept { D.tells → (s t : Stored) (loose left : List (Name × List ℕ)) → MayAdvance (D.seen disk.old) s loose t left headers.items step.now
         → OnOk result ((name : Name) → Contains (part_names t) name
         → object (D.seen disk.new).directory name ≡ object (insert_all step.now.objects.items (D.seen disk.old).directory) name) }
+
+    // Each object that was there, and is cited next or left beside that, is as it was, whatever is answered.
+    ensures stays { D.tells → (s t : Stored) (loose left : List (Name × List ℕ)) → MayAdvance (D.seen disk.old) s loose t left headers.items step.now
+        → HasStayed t left (D.seen disk.old).directory (D.seen disk.new).directory }
 
     // The new gate is empty.
     ensures gate { D.tells → (s t : Stored) (loose left : List (Name × List ℕ)) → MayAdvance (D.seen disk.old) s loose t left headers.items step.now

@@ -25,7 +25,7 @@ use Rattle.lethe_stored.proofs.Lists.{from_map, in_map}
 use Rattle.lethe_stored.proofs.Numbers.{goes_from_encoded, goes_from_weaker, pace_stepped}
 use Rattle.lethe_stored.proofs.Parts.{active_part, part_below}
 use Rattle.lethe_advance.specs.Settled.{IsSettled, HasOnly}
-use Rattle.lethe_advance.specs.Steps.{IsStep, IsSegmentFrom, MayAdvance}
+use Rattle.lethe_advance.specs.Steps.{HasStayed, IsStep, IsSegmentFrom, MayAdvance}
 use Rattle.lethe_advance.specs.declared.new_header.NewHeader.{NewHeader}
 use Rattle.lethe_advance.specs.declared.step.Step.{Step}
 use Rattle.lethe_advance.proofs.Placed.{written_absent}
@@ -70,6 +70,7 @@ pub record IsCarried (Tells : Type 0) (old new : View) (headers : List NewHeader
   pub done : Tells → (s t : Stored) (left : List (Name × List ℕ)) → IsRunning old s → IsStep s (beside_in old) t left headers step → IsSettled new.disk t × HasOnly t left new.disk.directory
   pub kept : Tells → (s t : Stored) (left : List (Name × List ℕ)) → IsRunning old s → IsStep s (beside_in old) t left headers step
       → (name : Name) → Contains (part_names t) name → object new.disk.directory name ≡ object (insert_all step.objects.items old.disk.directory) name
+  pub stays : Tells → (s t : Stored) (left : List (Name × List ℕ)) → IsRunning old s → IsStep s (beside_in old) t left headers step → HasStayed t left old.disk.directory new.disk.directory
   pub gate : Tells → (s t : Stored) (left : List (Name × List ℕ)) → IsRunning old s → IsStep s (beside_in old) t left headers step → object new.disk.directory (gate_name t.manifest.no) ≡ Some []
   pub files : Tells → (s t : Stored) (left : List (Name × List ℕ)) → IsRunning old s → IsStep s (beside_in old) t left headers step → HasFiles s old.levels → HasFiles t new.levels
   pub levels : length new.levels ≡ length old.levels

@@ -19,10 +19,11 @@ use Rattle.lethe_advance.specs.Settled.{AreDrawn, HasOnly, IsSettled, names_in}
 use Rattle.lethe_loose.specs.Loose.{MayRemove}
 use Rattle.lethe_pins.specs.Held.{is_named}
 use Rattle.lethe_core.specs.Keeps.{Keeps}
+use Rattle.lethe_core.specs.Pinned.{AreKept}
 use Rattle.lethe_core.specs.Running.{Holds, IsSound}
 use Rattle.lethe_core.specs.View.{Flying, View, beside_in, loose_in, named_in}
 use Rattle.lethe_core.proofs.Beside.{names_beside_at, names_named}
-use Rattle.lethe_core.proofs.Removed.{all_drawn, removed_holds, removed_keeps}
+use Rattle.lethe_core.proofs.Removed.{all_drawn, named_kept, removed_holds, removed_keeps}
 
 -- Lists in two parts
 
@@ -169,6 +170,10 @@ module _ (Tells : Type 0) (old : View) (sound : IsSound Tells old) where
             (λ named there. All-contains (λ (named : Name × List ℕ). IsCited s named.0 → ⊥) (beside_in old) named holds.running.uncited (from_parts named there));
         once = subst (AllPairs Other) (sym names_parted) (parts_once needs old.retired (names_in (loose_in old.flight)) (sound.drawn told).once);
       }
+
+  -- whether they went or not, what pins name is as it was
+  pub cleared_kept : (runs : old.state.stopped ≡ None) (disk : Seen) → (Tells → SameBeside (names_in gone) old.disk.directory disk.directory) → Tells → AreKept old.pins.pins old.disk.directory disk.directory
+  cleared_kept runs disk others = named_kept Tells old sound runs stay gone disk may_clear others stay_needed
 
   module _ (runs : old.state.stopped ≡ None) (disk : Seen) (faults : ℕ) (here : Tells → Image old.disk old.disk.directory)
       (done : Tells → (s : Stored) → MayRemove old.disk s left gone → IsSettled disk s × HasOnly s left disk.directory) (others : Tells → SameBeside (names_in gone) old.disk.directory disk.directory) where

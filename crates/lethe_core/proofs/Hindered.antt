@@ -1,7 +1,6 @@
 -- Steps that went wrong, and steps one after another: what they keep.
 use Rattle.std.proofs.Common.{◌≡◌, ◌≤◌, ◌<◌, ℕ, ◌+◌, List, Option, Some, None, refl, sym, ap, ◌∙◌, subst, arith}
-use Rattle.std.specs.Prelude.{IfSome, IsTrue, option_map}
-use Rattle.std.specs.Option.{option_or}
+use Rattle.std.specs.Prelude.{IfSome, IsTrue}
 use Rattle.std.proofs.lemmas.List.Elements.{All-weaker}
 use Rattle.lethe_base.specs.History.{History, Change}
 use Rattle.lethe_base.specs.Limits.{max_place}
@@ -13,7 +12,6 @@ use Rattle.lethe_base.specs.declared.name.Kind.TheVariants.{Page}
 use Rattle.lethe_base.specs.declared.name.Name.{Name}
 use Rattle.lethe_base.specs.declared.refused.Refused.{Refused}
 use Rattle.lethe_base.specs.declared.refused.Refused.TheVariants.{Fault, NoMemory}
-use Rattle.lethe_disk.specs.Directory.{object}
 use Rattle.lethe_disk.specs.Disk.{Image}
 use Rattle.lethe_stored.specs.Files.{Parts}
 use Rattle.lethe_stored.specs.Kept.{IsKept}
@@ -27,7 +25,7 @@ use Rattle.lethe_state.specs.Writable.{IsWritable}
 use Rattle.lethe_state.specs.declared.state.State.{State}
 use Rattle.lethe_job.specs.Works.{IsInLevels}
 use Rattle.lethe_pins.specs.Held.{Held, is_named}
-use Rattle.lethe_core.specs.Asked.{Failure, Serves, counted, failure_of, refused_to, stopped_by}
+use Rattle.lethe_core.specs.Asked.{Serves, counted, failure_of, refused_to, stopped_by}
 use Rattle.lethe_core.specs.Keeps.{Keeps, MayStep}
 use Rattle.lethe_core.specs.Pinned.{AreKept}
 use Rattle.lethe_core.specs.Reasons.{HasReason}
@@ -156,16 +154,11 @@ module _ (Tells : Type 0) (old new : View) (before : ℕ) where
   hindered_undone NoMemory is none = record { state = like_of old.state new.state is.0; levels = is.1.levels; retired = is.1.retired; disk = is.2 }
   hindered_undone why is none = absurd is
 
-  -- the same pins are held, and where the disk didn't fail it is as it was
+  -- the same pins are held
   pub hindered_pins : (why : Refused) → IsHindered Tells old new before why → new.pins ≡ old.pins
   hindered_pins (Fault place b a) is = is.5.pins
   hindered_pins NoMemory is = is.1.pins
   hindered_pins why is = absurd is
-
-  pub hindered_pinned : (why : Refused) → IsHindered Tells old new before why → Tells → new.state.stopped ≡ None → AreKept old.pins.pins old.disk.directory new.disk.directory
-  hindered_pinned (Fault place b a) is told runs = absurd (runs_not (old.state.count + 1) (sym (ap (λ (state : State). state.stopped) is.4) ∙ runs))
-  hindered_pinned NoMemory is told runs = λ name named. ap (λ d. object d name) (is.2 told).directory
-  hindered_pinned why is told runs = absurd is
 
   pub hindered_next : (why : Refused) → IsHindered Tells old new before why → new.state.next ≡ old.state.next
   hindered_next (Fault place b a) is = ap (λ (state : State). state.next) is.4
@@ -193,8 +186,8 @@ module _ (Tells : Type 0) (old new : View) (before : ℕ) where
 -- `itself` of the disk gives the image that a read gives
 pub hindered_keeps : (Tells : Type 0) (old new : View) (before : ℕ) → MayStep Tells old before → (why : Refused) → IsHindered Tells old new before why
     → (Tells → (config : Fields) (h : History) → StandsNow config h old → GoesFrom old.state.next (λ c. IsKept config c h) old.disk new.disk) → (Tells → Image new.disk new.disk.directory)
-    → (Tells → old.disk.moment ≤ new.disk.moment) → old.faults ≤ new.faults → Keeps Tells old new (Some why)
-hindered_keeps Tells old new before may why is goes itself later faults = record {
+    → (Tells → old.disk.moment ≤ new.disk.moment) → old.faults ≤ new.faults → (Tells → AreKept old.pins.pins old.disk.directory new.disk.directory) → Keeps Tells old new (Some why)
+hindered_keeps Tells old new before may why is goes itself later faults kept = record {
   sound = hindered_sound Tells old new before may.fits may.sound why is;
   count = hindered_count Tells old new before why is;
   stopped = hindered_stopped Tells old new before why is;
@@ -203,7 +196,7 @@ hindered_keeps Tells old new before may why is goes itself later faults = record
   numbers = λ told. let same = hindered_next Tells old new before why is in let on = later told in omega (arith, same, on);
   faults = faults;
   pins = hindered_pins Tells old new before why is;
-  pinned = hindered_pinned Tells old new before why is;
+  pinned = kept;
 }
 
 -- where nothing was done, and what was answered is in no history
@@ -217,7 +210,7 @@ keeps_itself Tells view sound runs None none = record {
   numbers = λ told. omega arith;
   faults = omega arith;
   pins = refl;
-  pinned = λ told runs name named. refl;
+  pinned = λ told name named. refl;
 }
 keeps_itself Tells view sound runs (Some why) none = record {
   sound = sound;
@@ -228,17 +221,8 @@ keeps_itself Tells view sound runs (Some why) none = record {
   numbers = λ told. omega arith;
   faults = omega arith;
   pins = refl;
-  pinned = λ told runs name named. refl;
+  pinned = λ told name named. refl;
 }
-
--- what runs behind a step ran before it
-runs_before : (why : Option Refused) (stopped : Option ℕ) → stopped_by why stopped ≡ None → stopped ≡ None
-runs_before None stopped runs = runs
-runs_before (Some why) stopped runs = by (failure_of why) runs
-  where
-    by : (o : Option Failure) → option_or (option_map (λ failure. failure.place) o) stopped ≡ None → stopped ≡ None
-    by None runs = runs
-    by (Some failure) runs = absurd (runs_not failure.place runs)
 
 -- one step that was done, and then another
 pub keeps_then : (Tells : Type 0) (a b c : View) → Keeps Tells a b None → (why : Option Refused) → Keeps Tells b c why → Keeps Tells a c why
@@ -254,7 +238,5 @@ keeps_then Tells a b c one why two =
       numbers = λ told. let early = one.numbers told in let late = two.numbers told in omega (arith, early, late);
       faults = let early = one.faults in let late = two.faults in omega (arith, early, late);
       pins = two.pins ∙ one.pins;
-      pinned = λ told runs name named.
-          let mid_runs : b.state.stopped ≡ None = runs_before why b.state.stopped (sym two.stopped ∙ runs) in
-          two.pinned told runs name (subst (λ (held : Held). IsTrue (is_named held.pins name)) (sym one.pins) named) ∙ one.pinned told mid_runs name named;
+      pinned = λ told name named. two.pinned told name (subst (λ (held : Held). IsTrue (is_named held.pins name)) (sym one.pins) named) ∙ one.pinned told name named;
     }

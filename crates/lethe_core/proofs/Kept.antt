@@ -1,31 +1,28 @@
 -- What is cited and what lies beside that stays as it is where a step is carried out.
-use Rattle.std.proofs.Common.{◌≡◌, ◌⊎◌, ◌≤◌, inl, inr, ℕ, List, [], ◌∷◌, length, map, Some, sym, ap, ◌∙◌, subst, arith}
-use Rattle.std.specs.Prelude.{Contains, flat_map, zip}
+use Rattle.std.proofs.Common.{◌≡◌, ◌⊎◌, inl, inr, ℕ, List, [], ◌∷◌, length, map, sym, ap, ◌∙◌, subst, arith}
+use Rattle.std.specs.Prelude.{Contains, IsSome, flat_map, is_some, zip}
 use Rattle.std.proofs.lemmas.List.Elements.{All-contains, Contains-append_left}
 use Rattle.lethe_base.specs.declared.name.Kind.TheVariants as kinds
 use Rattle.lethe_base.specs.declared.name.Name.{Name}
-use Rattle.lethe_commit.specs.Place.{insert_all, name_of}
-use Rattle.lethe_commit.specs.declared.objects.Object.{Object}
-use Rattle.lethe_commit.proofs.Creations.{object_beside_all}
-use Rattle.lethe_disk.specs.Directory.{Directory, IsNoneOf, object}
+use Rattle.lethe_disk.specs.Directory.{Directory, object}
 use Rattle.lethe_cover.proofs.Common.{⊎_elim, first_is, first_or_rest, none_in}
 use Rattle.lethe_cover.proofs.Lists.{in_rest}
 use Rattle.lethe_file.specs.Agreement.{page_name}
 use Rattle.lethe_header.specs.declared.header.PageLine.{PageLine}
 use Rattle.lethe_stored.specs.Encodes.{HasObject}
-use Rattle.lethe_stored.specs.Files.{IsFile, StoredFile, lines_in, objects_in, objects_of}
+use Rattle.lethe_stored.specs.Files.{IsFile, StoredFile, lines_in, objects_in}
 use Rattle.lethe_stored.specs.Stored.{IsCoherent, Stored, part_names}
-use Rattle.lethe_stored.proofs.Frame.{none_of, same_no}
 use Rattle.lethe_stored.proofs.Lists.{from_flat, from_map, in_flat, in_map}
 use Rattle.lethe_stored.proofs.FileFacts.{as_many}
-use Rattle.lethe_stored.proofs.Parts.{IsNameOf, OfHeader, OfPage, OfSegment, name_cases, object_part, part_below}
-use Rattle.lethe_advance.specs.Settled.{HasOnly, names_in}
-use Rattle.lethe_advance.specs.Steps.{IsSettledBy, IsStep, WasThere}
+use Rattle.lethe_stored.proofs.Parts.{IsNameOf, OfHeader, OfPage, OfSegment, name_cases, object_part}
+use Rattle.lethe_advance.specs.Settled.{names_in}
+use Rattle.lethe_advance.specs.Steps.{HasStayed, IsSettledBy, IsStep}
 use Rattle.lethe_advance.specs.declared.new_header.NewHeader.{NewHeader}
 use Rattle.lethe_advance.specs.declared.step.Step.{Step}
 use Rattle.lethe_core.specs.Pinned.{pages_in}
 use Rattle.lethe_core.specs.Running.{IsRunning}
 use Rattle.lethe_core.specs.View.{View, beside_in, loose_in}
+use Rattle.lethe_advance.proofs.Placed.{part_there}
 use Rattle.lethe_core.proofs.Beside.{names_beside_at}
 
 -- Pages of stored files
@@ -86,34 +83,17 @@ module _ (old : View) (s t : Stored) (left : List (Name × List ℕ)) (headers :
   pub retired_beside : (name : Name) → Contains old.retired name → Contains (names_in (beside_in old)) name
   retired_beside name there = subst (λ names. Contains names name) (sym (names_beside_at old.disk.directory old.retired old.flight)) (Contains-append_left old.retired (names_in (loose_in old.flight)) name there)
 
-  -- no object is written under the name of a page that is cited or retired
-  unwritten : (name : Name) → Contains (pages_in s.files) name ⊎ Contains old.retired name → IsNoneOf (map name_of step.objects.items) name
-  unwritten name was = none_of (map name_of step.objects.items) name (λ there.
-      let made = from_map name_of step.objects.items name there in
-      elim was [
-        | inl page ↦
-            let below = part_below s name running.settled.coherent (page_cited s running.settled.coherent name page) in
-            let fresh = All-contains (λ (m : Object). s.manifest.next ≤ m.name.no) step.objects.items made.0 is.fresh made.1 in
-            let same = same_no (made.0).name name made.2 in
-            omega (arith, fresh, same, below)
-        | inr retired ↦ All-contains (λ (m : Object). Contains (names_in (beside_in old)) m.name → ⊥) step.objects.items made.0 is.beside made.1
-            (subst (Contains (names_in (beside_in old))) (sym made.2) (retired_beside name retired))
-      ])
-
-  -- what was there has the bytes that it had
-  was_there : (named : Name × List ℕ) → WasThere s (beside_in old) named → object old.disk.directory named.0 ≡ Some named.1
-  was_there named (inl loose) = All-contains (HasObject old.disk.directory) (beside_in old) named running.only.there loose
-  was_there named (inr stored) = All-contains (HasObject old.disk.directory) (objects_of s.files) named running.settled.encodes.parts.files stored
+  -- it is there
+  pub was_there : (name : Name) → Contains (pages_in s.files) name ⊎ Contains old.retired name → IsSome (object old.disk.directory name)
+  was_there name (inl page) = part_there old.disk.directory s name running.settled.encodes.parts (page_cited s running.settled.coherent name page)
+  was_there name (inr retired) =
+      let named = from_map (λ (named : Name × List ℕ). named.0) (beside_in old) name (retired_beside name retired) in
+      subst (λ name. IsSome (object old.disk.directory name)) named.2 (ap is_some (All-contains (HasObject old.disk.directory) (beside_in old) named.0 running.only.there named.1))
 
   -- a page that was cited or retired, and is cited or left then, is as it was
-  pub carried_same : (new : Directory) → HasOnly t left new → ((name : Name) → Contains (part_names t) name → object new name ≡ object (insert_all step.objects.items old.disk.directory) name)
-      → (name : Name) → Contains (pages_in s.files) name ⊎ Contains old.retired name → Contains (part_names t) name ⊎ Contains (names_in left) name → object new name ≡ object old.disk.directory name
-  carried_same new only kept name was (inl cited) = kept name cited ∙ object_beside_all step.objects.items old.disk.directory name (unwritten name was)
-  carried_same new only kept name was (inr left_there) =
-      let named = from_map (λ (named : Name × List ℕ). named.0) left name left_there in
-      let there = All-contains (HasObject new) left named.0 only.there named.1 in
-      let before = was_there named.0 (All-contains (WasThere s (beside_in old)) left named.0 is.left_there named.1) in
-      subst (λ name. object new name ≡ object old.disk.directory name) named.2 (there ∙ sym before)
+  pub carried_same : (new : Directory) → HasStayed t left old.disk.directory new → (name : Name) → Contains (pages_in s.files) name ⊎ Contains old.retired name → Contains (part_names t) name ⊎ Contains (names_in left) name
+      → object new name ≡ object old.disk.directory name
+  carried_same new stayed name was there = stayed name there (was_there name was)
 
   -- a page that was cited or retired, and doesn't go, is cited or left then
   pub settled_page : (name : Name) → Contains (pages_in s.files) name ⊎ Contains old.retired name → (Contains step.gone.items name → ⊥) → Contains (pages_in t.files) name ⊎ Contains (names_in left) name

@@ -8,11 +8,9 @@ use Rattle.lethe_base.specs.declared.config.Fields.{Fields}
 use Rattle.lethe_base.specs.declared.entry.Entry.{Entry}
 use Rattle.lethe_base.specs.declared.name.Name.{Name}
 use Rattle.lethe_base.specs.declared.pending.Pending.{Pending}
-use Rattle.lethe_disk.specs.Directory.{object}
 use Rattle.lethe_disk.specs.Disk.{Seen}
 use Rattle.lethe_manifest.specs.declared.manifest.Manifest.{Manifest}
 use Rattle.lethe_commit.specs.Append.{EndsAt}
-use Rattle.lethe_commit.specs.Place.{insert_all}
 use Rattle.lethe_follows.specs.Leaving.{first_erase, is_kept, kept_of}
 use Rattle.lethe_follows.specs.Merged.{StoredMerge, entries_in, erases_upto, inputs_of}
 use Rattle.lethe_follows.specs.Young.{AreLaterRecorded}
@@ -28,7 +26,7 @@ use Rattle.lethe_stored.specs.Stored.{IsCoherent, Stored, layout_of, part_names,
 use Rattle.lethe_stored.proofs.Leveled.{from_filter}
 use Rattle.lethe_pins.specs.Held.{is_named}
 use Rattle.lethe_advance.specs.Settled.{AreDrawn, AreUncited, HasOnly, IsSettled, names_in}
-use Rattle.lethe_advance.specs.Steps.{IsStep}
+use Rattle.lethe_advance.specs.Steps.{HasStayed, IsStep}
 use Rattle.lethe_advance.specs.Untorn.{IsUntorn}
 use Rattle.lethe_clean.specs.Copied.{IsCopied}
 use Rattle.lethe_advance.specs.declared.new_header.NewHeader.{NewHeader}
@@ -130,11 +128,7 @@ module _ (old : View) (disk : Seen) (faults : ℕ) (levels : List (List Parts)) 
   abbrev step : Step
   step = made.step
 
-  module _ (s t : Stored) (task : PlainTask) (holds : Holds old s) (may : MayMerge old s task t made) (files : HasFiles t levels) where
-    merged_both : Remembers t new.state levels × IsCurrent t new.state
-    merged_both = subst (λ manifest. Remembers t (installed manifest old.state) levels × IsCurrent t (installed manifest old.state)) (sym may.step_is.manifest)
-        (install_remembered s t old.state old.levels levels holds.remembers holds.running.current task may.installed may.step_is.coherent files)
-
+  module _ (s t : Stored) (task : PlainTask) (holds : Holds old s) (may : MayMerge old s task t made) where
     -- a page that a pin names stays
     not_gone : (name : Name) → IsTrue (is_named old.pins.pins name) → Contains made.step.gone.items name → ⊥
     not_gone name named gone = let off = All-contains (λ name. is_named old.pins.pins name ≡ false) made.step.gone.items name may.gone gone in let clash : true ≡ false = sym named ∙ off in cc
@@ -143,30 +137,34 @@ module _ (old : View) (disk : Seen) (faults : ℕ) (levels : List (List Parts)) 
     named_stays name named = settled_page old s t may.left made.headers.items made.step holds.running may.step_is name (holds.running.kept name named) (not_gone name named)
 
     -- with the bytes that it had
-    pub merged_same : HasOnly t may.left disk.directory → ((name : Name) → Contains (part_names t) name → object disk.directory name ≡ object (insert_all made.step.objects.items old.disk.directory) name)
-        → AreKept old.pins.pins old.disk.directory disk.directory
-    merged_same only kept name named =
+    pub merged_same : HasStayed t may.left old.disk.directory disk.directory → AreKept old.pins.pins old.disk.directory disk.directory
+    merged_same stayed name named =
         let there = elim (named_stays name named) as (λ _. Contains (part_names t) name ⊎ Contains (names_in may.left) name) [ inl page ↦ inl (page_cited t may.step_is.coherent name page) | inr left ↦ inr left ] in
-        carried_same old s t may.left made.headers.items made.step holds.running may.step_is disk.directory only kept name (holds.running.kept name named) there
+        carried_same old s t may.left made.headers.items made.step holds.running may.step_is disk.directory stayed name (holds.running.kept name named) there
 
-    pub merged_holds : IsSettled disk t → HasOnly t may.left disk.directory → IsUntorn t disk.directory → EndsAt disk (segment_name t.active.no) t.active.no t.active.records old.state.end → Holds new t
-    merged_holds settled only untorn ends =
-        let same : beside_in new ≡ may.left = append-nil _ ∙ named_left disk.directory made.left.items may.left only.there may.left_is in
-        record {
-          remembers = merged_both.0;
-          running = record {
-            settled = settled;
-            only = subst (λ l. HasOnly t l disk.directory) (sym same) only;
-            uncited = subst (AreUncited t) (sym same) may.step_is.left_uncited;
-            untorn = untorn;
-            copied = All-nil (IsCopied t);
-            kept = λ name named. elim (named_stays name named) as (λ _. Contains (pages_in t.files) name ⊎ Contains made.left.items name) [ inl page ↦ inl page | inr left ↦ inr (subst (λ names. Contains names name) (sym may.left_is) left) ];
-            rising = installed_rises s task t holds.remembers.coherent holds.running.rising may.installed;
-            ends = ends;
-            current = merged_both.1;
-            tasked = tt;
-          };
-        }
+    module _ (files : HasFiles t levels) where
+      merged_both : Remembers t new.state levels × IsCurrent t new.state
+      merged_both = subst (λ manifest. Remembers t (installed manifest old.state) levels × IsCurrent t (installed manifest old.state)) (sym may.step_is.manifest)
+          (install_remembered s t old.state old.levels levels holds.remembers holds.running.current task may.installed may.step_is.coherent files)
+
+      pub merged_holds : IsSettled disk t → HasOnly t may.left disk.directory → IsUntorn t disk.directory → EndsAt disk (segment_name t.active.no) t.active.no t.active.records old.state.end → Holds new t
+      merged_holds settled only untorn ends =
+          let same : beside_in new ≡ may.left = append-nil _ ∙ named_left disk.directory made.left.items may.left only.there may.left_is in
+          record {
+            remembers = merged_both.0;
+            running = record {
+              settled = settled;
+              only = subst (λ l. HasOnly t l disk.directory) (sym same) only;
+              uncited = subst (AreUncited t) (sym same) may.step_is.left_uncited;
+              untorn = untorn;
+              copied = All-nil (IsCopied t);
+              kept = λ name named. elim (named_stays name named) as (λ _. Contains (pages_in t.files) name ⊎ Contains made.left.items name) [ inl page ↦ inl page | inr left ↦ inr (subst (λ names. Contains names name) (sym may.left_is) left) ];
+              rising = installed_rises s task t holds.remembers.coherent holds.running.rising may.installed;
+              ends = ends;
+              current = merged_both.1;
+              tasked = tt;
+            };
+          }
 
   -- What the step keeps
 
@@ -235,7 +233,7 @@ module _ (old : View) (disk : Seen) (faults : ℕ) (levels : List (List Parts)) 
             omega (arith, called, number, next);
         faults = rise;
         pins = refl;
-        pinned = λ told runs.
+        pinned = λ told.
             let held = can.sound.held told in
             let holds : Holds old held.0 = record { remembers = held.1; running = held.2 can.runs } in
             let next = merges told held.0 holds in

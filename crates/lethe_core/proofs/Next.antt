@@ -5,17 +5,17 @@ use Rattle.lethe_base.specs.History.{History}
 use Rattle.lethe_base.specs.declared.config.Fields.{Fields}
 use Rattle.lethe_base.specs.declared.name.Kind.TheVariants.{Page}
 use Rattle.lethe_base.specs.declared.name.Name.{Name}
-use Rattle.lethe_disk.specs.Directory.{object}
+use Rattle.lethe_disk.specs.Directory.{Directory, object}
 use Rattle.lethe_follows.proofs.Behind.{later_flushed, later_frozen}
 use Rattle.lethe_follows.specs.Young.{AreLaterRecorded}
 use Rattle.lethe_manifest.specs.declared.manifest.Manifest.{Manifest}
-use Rattle.lethe_stored.specs.Files.{Parts}
+use Rattle.lethe_stored.specs.Files.{Parts, StoredFile}
 use Rattle.lethe_stored.specs.Kept.{IsFor, IsKept}
 use Rattle.lethe_stored.specs.Numbers.{GoesFrom}
 use Rattle.lethe_stored.specs.Stored.{Stored, froze, part_names}
 use Rattle.lethe_stored.proofs.Freezing.{froze_for}
 use Rattle.lethe_advance.specs.Settled.{AreDrawn, AreUncited, names_in}
-use Rattle.lethe_advance.specs.Steps.{IsStep}
+use Rattle.lethe_advance.specs.Steps.{HasStayed, IsStep}
 use Rattle.lethe_advance.specs.declared.new_header.NewHeader.{NewHeader}
 use Rattle.lethe_advance.specs.declared.step.Step.{Step}
 use Rattle.lethe_state.specs.Remembered.{IsCurrent, Remembers}
@@ -24,14 +24,14 @@ use Rattle.lethe_state.specs.Writable.{IsWritable}
 use Rattle.lethe_state.specs.declared.state.State.{State}
 use Rattle.lethe_core.specs.Keeps.{Keeps, MayStep}
 use Rattle.lethe_pins.specs.Held.{AreHeld, Held, is_named}
-use Rattle.lethe_core.specs.Pinned.{AreTimely}
+use Rattle.lethe_core.specs.Pinned.{AreKept, AreTimely}
 use Rattle.lethe_core.specs.Running.{Holds, IsFlying, IsRunning, IsSmall}
 use Rattle.lethe_core.specs.StandsNow.{IsCounted, StandsNow}
 use Rattle.lethe_core.specs.View.{Flying, View, beside_in, loose_in, names_beside}
 use Rattle.lethe_core.proofs.Beside.{names_beside_at}
 use Rattle.lethe_core.proofs.Carried.{IsCarried, one_kept}
 use Rattle.lethe_core.proofs.Hindered.{drawn_on, flies_on}
-use Rattle.lethe_core.proofs.Kept.{carried_same, page_cited, retired_beside}
+use Rattle.lethe_core.proofs.Kept.{carried_same, page_cited, pages_stay, retired_beside}
 use Rattle.lethe_core.proofs.Standing.{next_drawn, next_stands_now, stands_for, stands_holds}
 use Rattle.lethe_core.proofs.Timely.{timely_kept}
 
@@ -82,6 +82,22 @@ module _ (P : Stored → Stored → Type 0) (Tells : Type 0) (old : View) (heade
       let t = next_is told held.0 (record { remembers = held.1; running = running }) in
       (held.0, t.0, beside_in old, running, t.2)
 
+  -- where files stay, what pins name and what is retired stays as it is, whatever became of the step
+  pub next_kept : ((s t : Stored) → P s t → (file : StoredFile) → Contains s.files file → Contains t.files file) → (new : Directory)
+      → (Tells → (s t : Stored) (left : List (Name × List ℕ)) → IsRunning old s → IsStep s (beside_in old) t left headers step → HasStayed t left old.disk.directory new)
+      → Tells → AreKept old.pins.pins old.disk.directory new
+  next_kept stay new stayed told name named =
+      let held = may.sound.held told in
+      let s = held.0 in
+      let running = held.2 may.runs in
+      let t = next_is told s (record { remembers = held.1; running = running }) in
+      let was = running.kept name named in
+      carried_same old s t.0 (beside_in old) headers step running t.2 new (stayed told s t.0 (beside_in old) running t.2) name was
+      (elim was as (λ _. Contains (part_names t.0) name ⊎ Contains (names_in (beside_in old)) name) [
+        | inl page ↦ inl (page_cited t.0 t.2.coherent name (pages_stay s.files t.0.files (stay s t.0 t.1) name page))
+        | inr retired ↦ inr (retired_beside old s t.0 (beside_in old) headers step running t.2 name retired)
+      ])
+
   module _ (new : View) (stays : (h : History) (s t : Stored) → Holds old s → IsFor h s → P s t → IsFor h t) where
     -- a crash at any moment leaves what stands for the history
     pub next_moments : (segments : ℕ) → IsStepFrom segments old.state headers step
@@ -111,16 +127,15 @@ module _ (P : Stored → Stored → Type 0) (Tells : Type 0) (old : View) (heade
       next_same told s holds name was =
           let t = next_is told s holds in
           let after = behind told s t.0 holds t.1 t.2 in
-          let only = (carried.done told s t.0 (beside_in old) holds.running t.2).1 in
-          let kept = carried.kept told s t.0 (beside_in old) holds.running t.2 in
+          let stayed = carried.stays told s t.0 (beside_in old) holds.running t.2 in
           elim was [
             | inl named ↦
                 let there = elim (after.running.kept name (subst (λ (held : Held). IsTrue (is_named held.pins name)) (sym carried.pins) named)) as (λ _. Contains (part_names t.0) name ⊎ Contains (names_in (beside_in old)) name) [
                   | inl page ↦ inl (page_cited t.0 after.remembers.coherent name page)
                   | inr retired ↦ inr (retired_beside old s t.0 (beside_in old) headers step holds.running t.2 name (subst (λ names. Contains names name) carried.retired retired))
                 ] in
-                carried_same old s t.0 (beside_in old) headers step holds.running t.2 new.disk.directory only kept name (holds.running.kept name named) there
-            | inr retired ↦ carried_same old s t.0 (beside_in old) headers step holds.running t.2 new.disk.directory only kept name (inr retired)
+                carried_same old s t.0 (beside_in old) headers step holds.running t.2 new.disk.directory stayed name (holds.running.kept name named) there
+            | inr retired ↦ carried_same old s t.0 (beside_in old) headers step holds.running t.2 new.disk.directory stayed name (inr retired)
                 (inr (retired_beside old s t.0 (beside_in old) headers step holds.running t.2 name retired))
           ]
 
@@ -173,5 +188,5 @@ module _ (P : Stored → Stored → Type 0) (Tells : Type 0) (old : View) (heade
             numbers = λ told. let made = carried.calls told in omega (arith, made, number, above, next);
             faults = carried.faults;
             pins = carried.pins;
-            pinned = λ told runs name named. let held = may.sound.held told in next_same told held.0 (record { remembers = held.1; running = held.2 may.runs }) name (inl named);
+            pinned = λ told name named. let held = may.sound.held told in next_same told held.0 (record { remembers = held.1; running = held.2 may.runs }) name (inl named);
           }

@@ -9,7 +9,7 @@ use Rattle.lethe_base.specs.declared.config.Fields.{Fields}
 use Rattle.lethe_base.specs.declared.name.Kind.TheVariants as kinds
 use Rattle.lethe_base.specs.declared.name.Name.{Name}
 use Rattle.lethe_base.specs.declared.refused.Refused.{Refused}
-use Rattle.lethe_disk.specs.Directory.{object}
+use Rattle.lethe_disk.specs.Directory.{object, SameBut}
 use Rattle.lethe_disk.specs.Disk.{Image, Seen}
 use Rattle.lethe_disk.specs.Goes.{Goes}
 use Rattle.lethe_disk.specs.declared.disk.Disk.{Ghosts}
@@ -110,9 +110,9 @@ module _ (Tells : Type 0) (old : View) (sound : IsSound Tells old) where
 
   -- and so where the step was hindered
   pub refused_keeps : (new : View) (before : ℕ) → MayStep Tells old before → (Tells → (s : Stored) → Holds old s → Goes (λ c. Encodes c s) old.disk new.disk) → (Tells → Image new.disk new.disk.directory)
-      → old.faults ≤ new.faults → (why : Refused) → IsHindered Tells old new before why → Keeps Tells old new (Some why)
-  refused_keeps new before may goes itself rose why is = hindered_keeps Tells old new before may why is (λ told. kept_moments new.disk may.runs (goes told)) itself
-      (λ told. let held = held_now told may.runs in (goes told held.0 held.1).later) rose
+      → old.faults ≤ new.faults → (Tells → AreKept old.pins.pins old.disk.directory new.disk.directory) → (why : Refused) → IsHindered Tells old new before why → Keeps Tells old new (Some why)
+  refused_keeps new before may goes itself rose kept why is = hindered_keeps Tells old new before may why is (λ told. kept_moments new.disk may.runs (goes told)) itself
+      (λ told. let held = held_now told may.runs in (goes told held.0 held.1).later) rose kept
 
 -- The pages of the job in flight
 
@@ -148,6 +148,36 @@ module _ (Tells : Type 0) (old : View) (flying : Flying) (is : old.flight ≡ So
   pub as_written : (written : List (Name × List ℕ)) → written ≡ flying.written → Some (record flying { written = written }) ≡ old.flight
   as_written written same = ap (λ l. Some (record flying { written = l })) same ∙ sym is
 
+  -- what is cited has a number that was drawn before
+  cited_unwritten : (s : Stored) → Holds old s → (name : Name) → IsCited s name → name ≡ page_name old.state.next → ⊥
+  cited_unwritten s holds name (inl gate) same = let clash : kinds.Gate ≡ kinds.Page = ap (λ (n : Name). n.kind) (sym gate ∙ same) in cc
+  cited_unwritten s holds name (inr (inl manifest)) same = let clash : kinds.Manifest ≡ kinds.Page = ap (λ (n : Name). n.kind) (sym manifest ∙ same) in cc
+  cited_unwritten s holds name (inr (inr part)) same =
+      let below = part_below s name holds.remembers.coherent part in
+      let number : name.no ≡ old.state.next = ap (λ (n : Name). n.no) same in
+      let drawn = later s holds in
+      omega (arith, below, number, drawn)
+
+  -- the number of a retired page was drawn before, and what a held pin names is cited or retired
+  retired_unwritten : Tells → (name : Name) → Contains old.retired name → name ≡ page_name old.state.next → ⊥
+  retired_unwritten told name there same =
+      let drawn = sound.drawn told in
+      let each = All-contains (λ (name : Name). (name.kind ≡ kinds.Page) × (name.no < old.state.next)) (names_beside old) name drawn.each
+      (Contains-append_left old.retired (names_in (loose_in old.flight)) name there) in
+      let below = each.1 in
+      let number : name.no ≡ old.state.next = ap (λ (n : Name). n.no) same in
+      omega (arith, below, number)
+
+  named_unwritten : Tells → (s : Stored) → Holds old s → (name : Name) → IsTrue (is_named old.pins.pins name) → name ≡ page_name old.state.next → ⊥
+  named_unwritten told s holds name named same = elim (holds.running.kept name named) [
+    | inl page ↦ cited_unwritten s holds name (page_cited s holds.remembers.coherent name page) same
+    | inr retired ↦ retired_unwritten told name retired same
+  ]
+
+  -- where the page alone was touched, what pins name is as it was
+  pub unwritten_kept : (disk : Seen) → (Tells → SameBut (page_name old.state.next) old.disk.directory disk.directory) → old.state.stopped ≡ None → Tells → AreKept old.pins.pins old.disk.directory disk.directory
+  unwritten_kept disk beside runs told name named = let held = held_now Tells old sound told runs in beside told name (named_unwritten told held.0 held.1 name named)
+
   module _ (disk : Seen) (faults : ℕ) (written : List (Name × List ℕ)) (bytes : List ℕ) (here : Tells → Image old.disk old.disk.directory) (fits : old.state.next + 1 ≤ max_place)
       (done : Tells → (s : Stored) → MayWrite old.disk s (stays ++ flying.written) old.state.next → IsSettled disk s × HasOnly s (stays ++ written) disk.directory)
       (loose : (s : Stored) → IsCoherent s → s.manifest.next ≤ old.state.next → AreUncited s (stays ++ flying.written) → AreUncited s (stays ++ written))
@@ -162,36 +192,10 @@ module _ (Tells : Type 0) (old : View) (flying : Flying) (is : old.flight ≡ So
     segment_stays told number = ap (λ d. object d (segment_name number)) (page told) ∙ object_beside_insert old.disk.directory (page_name old.state.next) bytes (segment_name number)
         (λ e. let clash : kinds.Segment ≡ kinds.Page = ap (λ (n : Name). n.kind) e in cc)
 
-    -- what is cited has a number that was drawn before
-    cited_unwritten : (s : Stored) → Holds old s → (name : Name) → IsCited s name → name ≡ page_name old.state.next → ⊥
-    cited_unwritten s holds name (inl gate) same = let clash : kinds.Gate ≡ kinds.Page = ap (λ (n : Name). n.kind) (sym gate ∙ same) in cc
-    cited_unwritten s holds name (inr (inl manifest)) same = let clash : kinds.Manifest ≡ kinds.Page = ap (λ (n : Name). n.kind) (sym manifest ∙ same) in cc
-    cited_unwritten s holds name (inr (inr part)) same =
-        let below = part_below s name holds.remembers.coherent part in
-        let number : name.no ≡ old.state.next = ap (λ (n : Name). n.no) same in
-        let drawn = later s holds in
-        omega (arith, below, number, drawn)
-
     all_written : (s : Stored) → Holds old s → IsCopied s (page_name old.state.next, bytes) → All (IsCopied s) written
     all_written s holds page =
         let before : All (IsCopied s) flying.written = subst (λ f. All (IsCopied s) (loose_in f)) is holds.running.copied in
         subst (All (IsCopied s)) (sym longer) (All-push (IsCopied s) flying.written (page_name old.state.next, bytes) before page)
-
-    -- the number of a retired page was drawn before, and what a held pin names is cited or retired
-    retired_unwritten : Tells → (name : Name) → Contains old.retired name → name ≡ page_name old.state.next → ⊥
-    retired_unwritten told name there same =
-        let drawn = sound.drawn told in
-        let each = All-contains (λ (name : Name). (name.kind ≡ kinds.Page) × (name.no < old.state.next)) (names_beside old) name drawn.each
-        (Contains-append_left old.retired (names_in (loose_in old.flight)) name there) in
-        let below = each.1 in
-        let number : name.no ≡ old.state.next = ap (λ (n : Name). n.no) same in
-        omega (arith, below, number)
-
-    named_unwritten : Tells → (s : Stored) → Holds old s → (name : Name) → IsTrue (is_named old.pins.pins name) → name ≡ page_name old.state.next → ⊥
-    named_unwritten told s holds name named same = elim (holds.running.kept name named) [
-      | inl page ↦ cited_unwritten s holds name (page_cited s holds.remembers.coherent name page) same
-      | inr retired ↦ retired_unwritten told name retired same
-    ]
 
     others_stay : Tells → (name : Name) → (name ≡ page_name old.state.next → ⊥) → object disk.directory name ≡ object old.disk.directory name
     others_stay told name apart = ap (λ d. object d name) (page told) ∙ object_beside_insert old.disk.directory (page_name old.state.next) bytes name apart
@@ -250,5 +254,5 @@ module _ (Tells : Type 0) (old : View) (flying : Flying) (is : old.flight ≡ So
       numbers = λ told. let two = calls told in omega (arith, two);
       faults = rose;
       pins = refl;
-      pinned = λ told still. let held = held_now Tells old sound told runs in written_kept told held.0 held.1;
+      pinned = λ told. let held = held_now Tells old sound told runs in written_kept told held.0 held.1;
     }

@@ -11,7 +11,7 @@ use Rattle.lethe_base.specs.declared.config.Fields.{Fields}
 use Rattle.lethe_base.specs.declared.name.Kind.TheVariants as kinds
 use Rattle.lethe_base.specs.declared.name.Name.{Name}
 use Rattle.lethe_base.specs.declared.pending.Pending.{Pending}
-use Rattle.lethe_disk.specs.Directory.{Directory, object}
+use Rattle.lethe_disk.specs.Directory.{Directory, object, SameBut}
 use Rattle.lethe_disk.specs.Disk.{Seen, Image, IsSynced}
 use Rattle.lethe_disk.specs.Goes.{Goes}
 use Rattle.lethe_disk.specs.Runs.{Leads}
@@ -202,6 +202,15 @@ module _ (view : View) (s : Stored) (holds : Holds view s) (next : Record) (spel
             tasked = tasked_appended s next behind rise coherent_next view.flight running.tasked;
           };
         }
+
+-- What pins name are pages, and no segment
+
+pub beside_segment : (Tells : Type 0) (view : View) → IsSound Tells view → (d : Directory) (number : ℕ) → SameBut (segment_name number) view.disk.directory d → AreKept view.pins.pins view.disk.directory d
+beside_segment Tells view sound d number same name named =
+    let found = there_named view.pins.pins name named in
+    let pages = All-contains (λ (pin : Pin). All (λ (name : Name). name.kind ≡ kinds.Page) pin.names) view.pins.pins found.0 sound.pages found.1 in
+    let page : name.kind ≡ kinds.Page = All-contains (λ (name : Name). name.kind ≡ kinds.Page) (found.0).names name pages found.2 in
+    same name (λ e. let clash : kinds.Page ≡ kinds.Segment = sym page ∙ ap (λ (n : Name). n.kind) e in cc)
 
 -- What pins keep where the record stands there
 

@@ -50,16 +50,9 @@ once_apart xs ys once name left right =
     let R : Name → Name → Type 0 = λ a b. a ≢ b in
     (pairs_parts R xs ys (pairs_from R (xs ++ ys) once)).2 name name left right refl
 
--- The job in flight goes and some pages with it, and these retired ones stay.
-module _ (Tells : Type 0) (old : View) (sound : IsSound Tells old) (runs : old.state.stopped ≡ None) (retired : List Name) (gone : List (Name × List ℕ)) (disk : Seen) (faults : ℕ)
-    (here : Tells → Image old.disk old.disk.directory) (was : (name : Name) → Contains retired name → Contains old.retired name)
-    (needed : (name : Name) → IsTrue (is_named old.pins.pins name) → Contains old.retired name → Contains retired name) (drawn : Tells → AreDrawn old.state.next retired)
-    (may : Tells → (s : Stored) → Holds old s → MayRemove old.disk s (named_in old.disk.directory retired) gone)
-    (done : Tells → (s : Stored) → MayRemove old.disk s (named_in old.disk.directory retired) gone → IsSettled disk s × HasOnly s (named_in old.disk.directory retired) disk.directory)
-    (others : Tells → SameBeside (names_in gone) old.disk.directory disk.directory) where
-  abbrev alone : View
-  alone = record old { disk = disk; faults = faults; flight = None; retired = retired }
-
+-- Some pages go that lie beside what is stored, and these retired ones stay. Whether they went or not, each other object is as it was.
+module _ (Tells : Type 0) (old : View) (sound : IsSound Tells old) (runs : old.state.stopped ≡ None) (retired : List Name) (gone : List (Name × List ℕ)) (disk : Seen)
+    (may : Tells → (s : Stored) → Holds old s → MayRemove old.disk s (named_in old.disk.directory retired) gone) (others : Tells → SameBeside (names_in gone) old.disk.directory disk.directory) where
   abbrev left : List (Name × List ℕ)
   left = named_in old.disk.directory retired
 
@@ -80,14 +73,36 @@ module _ (Tells : Type 0) (old : View) (sound : IsSound Tells old) (runs : old.s
       stays_there told name (once_apart retired (names_in gone) (subst (AllPairs (λ a b. a ≢ b)) names_apart (may told held.0 held.1).once) name stays)
 
   -- and so what a held pin names
-  named_kept : Tells → AreKept old.pins.pins old.disk.directory disk.directory
-  named_kept told name named =
+  pub named_kept : ((name : Name) → IsTrue (is_named old.pins.pins name) → Contains old.retired name → Contains retired name) → Tells → AreKept old.pins.pins old.disk.directory disk.directory
+  named_kept needed told name named =
       let held = held_now Tells old sound told runs in
       let s = held.0 in
       elim (held.1.running.kept name named) [
         | inl page ↦ cited_stays told s held.1 name (page_cited s held.1.remembers.coherent name page)
         | inr is ↦ retired_stays told name (needed name named is)
       ]
+
+-- The job in flight goes and some pages with it, and these retired ones stay.
+module _ (Tells : Type 0) (old : View) (sound : IsSound Tells old) (runs : old.state.stopped ≡ None) (retired : List Name) (gone : List (Name × List ℕ)) (disk : Seen) (faults : ℕ)
+    (here : Tells → Image old.disk old.disk.directory) (was : (name : Name) → Contains retired name → Contains old.retired name)
+    (needed : (name : Name) → IsTrue (is_named old.pins.pins name) → Contains old.retired name → Contains retired name) (drawn : Tells → AreDrawn old.state.next retired)
+    (may : Tells → (s : Stored) → Holds old s → MayRemove old.disk s (named_in old.disk.directory retired) gone)
+    (done : Tells → (s : Stored) → MayRemove old.disk s (named_in old.disk.directory retired) gone → IsSettled disk s × HasOnly s (named_in old.disk.directory retired) disk.directory)
+    (others : Tells → SameBeside (names_in gone) old.disk.directory disk.directory) where
+  abbrev alone : View
+  alone = record old { disk = disk; faults = faults; flight = None; retired = retired }
+
+  abbrev left : List (Name × List ℕ)
+  left = named_in old.disk.directory retired
+
+  cited_as_was : Tells → (s : Stored) → Holds old s → (name : Name) → IsCited s name → object disk.directory name ≡ object old.disk.directory name
+  cited_as_was = cited_stays Tells old sound runs retired gone disk may others
+
+  retired_as_was : Tells → (name : Name) → Contains retired name → object disk.directory name ≡ object old.disk.directory name
+  retired_as_was = retired_stays Tells old sound runs retired gone disk may others
+
+  kept_as_was : Tells → AreKept old.pins.pins old.disk.directory disk.directory
+  kept_as_was = named_kept Tells old sound runs retired gone disk may others needed
 
   kept_on : (s : Stored) → Holds old s → (name : Name) → IsTrue (is_named old.pins.pins name) → Contains (pages_in s.files) name ⊎ Contains retired name
   kept_on s holds name named = elim (holds.running.kept name named) [ inl page ↦ inl page | inr is ↦ inr (needed name named is) ]
@@ -100,11 +115,11 @@ module _ (Tells : Type 0) (old : View) (sound : IsSound Tells old) (runs : old.s
         settled = after.0;
         only = subst (λ l. HasOnly s l disk.directory) (sym same) after.1;
         uncited = subst (AreUncited s) (sym same) (all_left (λ (named : Name × List ℕ). IsCited s named.0 → ⊥) left gone (may told s holds).uncited);
-        untorn = beside_untorn s old.disk.directory disk.directory holds.running.untorn (cited_stays told s holds);
+        untorn = beside_untorn s old.disk.directory disk.directory holds.running.untorn (cited_as_was told s holds);
         copied = All-nil (IsCopied s);
         kept = kept_on s holds;
         rising = holds.running.rising;
-        ends = ends_stay old.disk disk s old.state.end after.0 (cited_stays told s holds (segment_name s.active.no) (inr (inr (active_part s)))) (here told) holds.running.ends;
+        ends = ends_stay old.disk disk s old.state.end after.0 (cited_as_was told s holds (segment_name s.active.no) (inr (inr (active_part s)))) (here told) holds.running.ends;
         current = holds.running.current;
         tasked = tt;
       }
@@ -134,12 +149,12 @@ module _ (Tells : Type 0) (old : View) (sound : IsSound Tells old) (runs : old.s
         stopped = refl;
         stands = λ told config h stands caller call.
             next_stands_now config h old alone stands runs stands.stored refl refl (stands_for config h old stands runs) (removed_holds told stands.stored (stands_holds config h old stands runs)) tt stands.recorded
-            (timely_kept config.threshold h old.pins.pins old.retired retired old.disk.directory disk.directory (named_kept told) (stands.timely runs) (λ name there. inl (was name there, retired_stays told name there)));
+            (timely_kept config.threshold h old.pins.pins old.retired retired old.disk.directory disk.directory (kept_as_was told) (stands.timely runs) (λ name there. inl (was name there, retired_as_was told name there)));
         any_moment = λ told. kept_moments Tells old sound disk runs (moments told);
         numbers = λ told. let held = held_now Tells old sound told runs in let on = (moments told held.0 held.1).later in omega (arith, on);
         faults = rose;
         pins = refl;
-        pinned = λ told still. named_kept told;
+        pinned = kept_as_was;
       }
 
 -- where the job's pages go alone, all retired ones stay

@@ -96,10 +96,10 @@ frozen_tasked : (s t : Stored) → s.frozen ≡ None → IsFrozen s t → (flyin
 frozen_tasked s t none is flying tasked = subst (λ x. IsTasked x flying) (sym is.is) (stays_frozen s flying.task tasked none is.segment (is.segment + 1))
 
 -- files stay
-flushed_stay : (s t : Stored) → IsFlushed s t → (file : StoredFile) → Contains s.files file → Contains t.files file
+pub flushed_stay : (s t : Stored) → IsFlushed s t → (file : StoredFile) → Contains s.files file → Contains t.files file
 flushed_stay s t is file there = subst (λ (x : Stored). Contains x.files file) (sym is.is) (Contains-append_right is.made s.files file there)
 
-frozen_stay : (s t : Stored) → IsFrozen s t → (file : StoredFile) → Contains s.files file → Contains t.files file
+pub frozen_stay : (s t : Stored) → IsFrozen s t → (file : StoredFile) → Contains s.files file → Contains t.files file
 frozen_stay s t is file there = subst (λ (x : Stored). Contains x.files file) (sym is.is) there
 
 -- so copied pages stay so

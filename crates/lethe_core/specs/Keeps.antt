@@ -22,8 +22,8 @@ pub record MayStep (Tells : Type 0) (view : View) (before : ℕ) : Type 0 where
   pub told_from : before ≤ view.faults
 
 -- The store is sound, and stands for the same history, or where the disk failed for that with the call that failed in it, by which it is stopped then. A crash at any
--- moment of the step leaves what is kept for the history, and numbers are drawn no faster than device calls are made. The same pins are held, and unless the disk has failed each
--- object that one of them names is as it was, byte for byte.
+-- moment of the step leaves what is kept for the history, and numbers are drawn no faster than device calls are made. The same pins are held, and each object that one of them
+-- names is as it was, byte for byte, also where the disk failed.
 pub record Keeps (Tells : Type 0) (old new : View) (why : Option Refused) : Type 0 where
   pub sound : IsSound Tells new
   pub count : new.state.count ≡ counted (Serves Work) why old.state.count
@@ -33,4 +33,4 @@ pub record Keeps (Tells : Type 0) (old new : View) (why : Option Refused) : Type
   pub numbers : Tells → new.state.next + old.disk.moment ≤ old.state.next + new.disk.moment
   pub faults : old.faults ≤ new.faults
   pub pins : new.pins ≡ old.pins
-  pub pinned : Tells → new.state.stopped ≡ None → AreKept old.pins.pins old.disk.directory new.disk.directory
+  pub pinned : Tells → AreKept old.pins.pins old.disk.directory new.disk.directory

@@ -55,7 +55,7 @@ impl<D: Disk> Core<D> {
         ensures flight { self.new.flight ≡ self.old.flight }
         ensures begun { self.new.begun ≡ self.old.begun }
         ensures pins { self.new.pins ≡ self.old.pins }
-        ensures pinned { D.tells → OnOk result (AreKept (view_of self.old).pins.pins (D.seen self.old.disk).directory (D.seen self.new.disk).directory) }
+        ensures pinned { D.tells → AreKept (view_of self.old).pins.pins (D.seen self.old.disk).directory (D.seen self.new.disk).directory }
         ensures calls { D.tells → OnOk result ((D.seen self.new.disk).moment ≡ (D.seen self.old.disk).moment + 4) }
         ensures numbers { D.tells → self.new.state.next + (D.seen self.old.disk).moment ≤ self.old.state.next + (D.seen self.new.disk).moment }
         ensures faults { D.faults self.old.disk ≤ D.faults self.new.disk }

@@ -15,7 +15,7 @@ ghost use Rattle.lethe_stored.specs.Numbers.{GoesFrom};
 ghost use Rattle.lethe_stored.specs.Stored.{Stored, part_names};
 ghost use Rattle.lethe_advance.specs.Settled.{HasOnly, IsSettled};
 ghost use Rattle.lethe_advance.specs.Shown.{parts_by_level};
-ghost use Rattle.lethe_advance.specs.Steps.{IsStep};
+ghost use Rattle.lethe_advance.specs.Steps.{HasStayed, IsStep};
 ghost use Rattle.lethe_state.specs.Room.{IsFlushed, IsFrozen, IsShortToFlush, IsShortToFreeze, IsUnfrozen};
 ghost use Rattle.lethe_core.specs.Keeps.{Keeps, MayStep};
 ghost use Rattle.lethe_core.specs.Merges.{Outcome, IsRoomBegun, IsRoomMadeBy, pages_of, AreRetiredBehind};
@@ -151,6 +151,9 @@ impl<D: Disk> Core<D> {
         ensures kept { D.tells → (s t : Stored) (left : List (Name × List ℕ)) → IsRunning (view_of self.old) s → IsStep s (beside_in (view_of self.old)) t left headers.items step.now
             → OnOk result ((name : Name) → Contains (part_names t) name
             → object (D.seen self.new.disk).directory name ≡ object (insert_all step.now.objects.items (D.seen self.old.disk).directory) name) }
+        // Each object that was there, and is cited next or left beside that, is as it was, whatever is answered.
+        ensures stays { D.tells → (s t : Stored) (left : List (Name × List ℕ)) → IsRunning (view_of self.old) s → IsStep s (beside_in (view_of self.old)) t left headers.items step.now
+            → HasStayed t left (D.seen self.old.disk).directory (D.seen self.new.disk).directory }
         ensures gate { D.tells → (s t : Stored) (left : List (Name × List ℕ)) → IsRunning (view_of self.old) s → IsStep s (beside_in (view_of self.old)) t left headers.items step.now
             → OnOk result (object (D.seen self.new.disk).directory (gate_name t.manifest.no) ≡ Some []) }
         ensures files { D.tells → (s t : Stored) (left : List (Name × List ℕ)) → IsRunning (view_of self.old) s → IsStep s (beside_in (view_of self.old)) t left headers.items step.now
@@ -202,6 +205,9 @@ impl<D: Disk> Core<D> {
         ensures kept { D.tells → (s t : Stored) (left : List (Name × List ℕ)) → IsRunning (view_of self.old) s → IsStep s (beside_in (view_of self.old)) t left headers.items step.now
             → OnOk result ((name : Name) → Contains (part_names t) name
             → object (D.seen self.new.disk).directory name ≡ object (insert_all step.now.objects.items (D.seen self.old.disk).directory) name) }
+        // Each object that was there, and is cited next or left beside that, is as it was, whatever is answered.
+        ensures stays { D.tells → (s t : Stored) (left : List (Name × List ℕ)) → IsRunning (view_of self.old) s → IsStep s (beside_in (view_of self.old)) t left headers.items step.now
+            → HasStayed t left (D.seen self.old.disk).directory (D.seen self.new.disk).directory }
         ensures gate { D.tells → (s t : Stored) (left : List (Name × List ℕ)) → IsRunning (view_of self.old) s → IsStep s (beside_in (view_of self.old)) t left headers.items step.now
             → OnOk result (object (D.seen self.new.disk).directory (gate_name t.manifest.no) ≡ Some []) }
         ensures files { D.tells → (s t : Stored) (left : List (Name × List ℕ)) → IsRunning (view_of self.old) s → IsStep s (beside_in (view_of self.old)) t left headers.items step.now

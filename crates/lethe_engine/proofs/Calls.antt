@@ -1,7 +1,6 @@
 -- What a call answers, by how it went: nothing was done, a step was, or a change was tried.
 use Rattle.std.proofs.Common.{◌≡◌, ◌≤◌, inl, ◌+◌, ℕ, List, Option, Some, None, Result, Ok, Err, refl, sym, ap, ◌∙◌, subst, arith}
-use Rattle.std.specs.Prelude.{IfErr, IfSome, IsSome, IsTrue, OnOk, option_map}
-use Rattle.std.specs.Option.{option_or}
+use Rattle.std.specs.Prelude.{IfErr, IfSome, IsSome, IsTrue}
 use Rattle.std.specs.Result.{result_err}
 use Rattle.lethe_base.specs.History.{History}
 use Rattle.lethe_base.specs.declared.call.Call.{Call}
@@ -18,7 +17,7 @@ use Rattle.lethe_stored.specs.Stored.{Stored}
 use Rattle.lethe_stored.proofs.Numbers.{goes_from_then}
 use Rattle.lethe_state.specs.declared.state.State.{State}
 use Rattle.lethe_pins.specs.Held.{Held, is_named}
-use Rattle.lethe_core.specs.Asked.{Asked, Failure, Makes, Serves, behind, counted, failure_of, stopped_by, written_by}
+use Rattle.lethe_core.specs.Asked.{Asked, Makes, Serves, behind, counted, failure_of, stopped_by, written_by}
 use Rattle.lethe_core.specs.Keeps.{Keeps}
 use Rattle.lethe_core.specs.Merges.{IsRoomBegun, IsRoomMadeBy, Outcome}
 use Rattle.lethe_core.specs.Pinned.{AreKept}
@@ -109,7 +108,7 @@ itself_answers Tells asked why view sound none = record {
   still = λ some. record { state = refl; levels = refl; faults = refl; disk = λ told. idle_itself view };
   refused = undone asked why;
   face_is = refl;
-  pinned = λ told runs name was now. refl;
+  pinned = λ told name was now. refl;
 }
   where
     same : (config : Fields) (opened : Opened) (h : History) → StandsSince config opened h view → (caller : ℕ) → StandsSince config opened (behind h caller asked why) view
@@ -136,7 +135,7 @@ idle_answers Tells why old new sound state levels retired faults idle now none =
   still = λ some. record { state = state; levels = levels; faults = faults; disk = idle };
   refused = undone why;
   face_is = refl;
-  pinned = λ told runs name was now. ap (λ d. object d name) (idle told).directory;
+  pinned = λ told name was now. ap (λ d. object d name) (idle told).directory;
 }
   where
     next : new.state.next ≡ old.state.next
@@ -172,7 +171,7 @@ step_answers Tells Short why old new before runs is keeps reason undone = record
   still = λ some. absurd (runs_on old.state.stopped runs some);
   refused = undone;
   face_is = refl;
-  pinned = λ told runs name was now. keeps.pinned told runs name was;
+  pinned = λ told name was now. keeps.pinned told name was;
 }
   where
     worked : Tells → (config : Fields) (opened : Opened) (h : History) → StandsSince config opened h old → (caller : ℕ) → StandsSince config opened (behind h caller (Serves Work) why) new
@@ -182,28 +181,13 @@ step_answers Tells Short why old new before runs is keeps reason undone = record
 
 -- Changes
 
--- what is said of an answer that isn't a refusal
-pub if_done : {T : Type 0} (result : Result T Refused) (P : Type 0) → OnOk result P → result_err result ≡ None → P
-if_done (Ok done) P is none = is
-if_done (Err why) P is none = absurd (let clash : Some why ≡ None = none in cc)
-
--- A record was written, or wasn't: what pins name stays as it is, unless the disk failed.
-kept_then : (Tells : Type 0) (mid new : View) (why : Option Refused) → new.state.stopped ≡ stopped_by why mid.state.stopped → IfSome why (IsUndone Tells mid new)
-    → (why ≡ None → Tells → AreKept mid.pins.pins mid.disk.directory new.disk.directory) → Tells → new.state.stopped ≡ None → AreKept mid.pins.pins mid.disk.directory new.disk.directory
-kept_then Tells mid new None stopped undone kept told on = kept refl told
-kept_then Tells mid new (Some why) stopped undone kept told on = by (failure_of why) refl (sym stopped ∙ on)
-  where
-    by : (o : Option Failure) → failure_of why ≡ o → option_or (option_map (λ failure. failure.place) o) mid.state.stopped ≡ None → AreKept mid.pins.pins mid.disk.directory new.disk.directory
-    by None none runs = λ name named. ap (λ d. object d name) ((undone none).disk told).directory
-    by (Some failure) failed runs = absurd (let clash : Some failure.place ≡ None = runs in cc)
-
 module _ (Tells : Type 0) (call : Call) (works : call ≡ Work → ⊥) (old : View) (runs : old.state.stopped ≡ None) where
   -- the change was made, or wasn't, as its steps say together
   pub made_answers : (new : View) (why : Option Refused) → IsSound Tells new → new.state.count ≡ counted (Makes call) why old.state.count → new.state.stopped ≡ stopped_by why old.state.stopped
       → (Tells → (config : Fields) (h : History) (caller : ℕ) → StandsNow config h old → StandsNow config (behind h caller (Makes call) why) new)
       → (Tells → (config : Fields) (h : History) (caller : ℕ) → StandsNow config h old → GoesFrom old.state.next (IsKeptOr config h (written_by caller (Makes call) why)) old.disk new.disk)
       → (Tells → new.state.next + old.disk.moment ≤ old.state.next + new.disk.moment) → old.faults ≤ new.faults → IfSome why (IsTold old.faults new.faults) → IfSome why (IsRefused Tells (Makes call) old new)
-      → (Tells → new.state.stopped ≡ None → AreKept old.pins.pins old.disk.directory new.disk.directory) → Answers Tells (Makes call) why (face_of new) old new
+      → (Tells → AreKept old.pins.pins old.disk.directory new.disk.directory) → Answers Tells (Makes call) why (face_of new) old new
   made_answers new why sound count stopped stands moments numbers faults reason refused kept = record {
     sound = sound;
     count = count;
@@ -217,7 +201,7 @@ module _ (Tells : Type 0) (call : Call) (works : call ≡ Work → ⊥) (old : V
     still = λ some. absurd (runs_on old.state.stopped runs some);
     refused = refused;
     face_is = refl;
-    pinned = λ told runs name was now. kept told runs name was;
+    pinned = λ told name was now. kept told name was;
   }
     where
       answered : Tells → (config : Fields) (opened : Opened) (h : History) → StandsSince config opened h old → (caller : ℕ) → StandsSince config opened (behind h caller (Makes call) why) new
@@ -237,7 +221,7 @@ module _ (Tells : Type 0) (call : Call) (works : call ≡ Work → ⊥) (old : V
       (begun : (s t : Stored) → IsRoomBegun old.flight s t → IsBegun call old.flight s t) (same : IsReadyFor call old.state → mid ≡ old) (face : face_of new ≡ face_of mid) (sound : IsSound Tells new)
       (count : new.state.count ≡ counted (Makes call) why mid.state.count) (stopped : new.state.stopped ≡ stopped_by why mid.state.stopped)
       (reason : IfSome why (HasReason ⊥ mid.state old.faults new.faults)) (undone : IfSome why (IsUndone Tells mid new)) (numbers : Tells → new.state.next + mid.disk.moment ≤ mid.state.next + new.disk.moment) (faults : mid.faults ≤ new.faults)
-      (kept : why ≡ None → Tells → AreKept mid.pins.pins mid.disk.directory new.disk.directory) where
+      (kept : Tells → AreKept mid.pins.pins mid.disk.directory new.disk.directory) where
     recorded_refused : (why : Option Refused) → IfSome why (IsUndone Tells mid new) → IfSome why (IsRefused Tells (Makes call) old new)
     recorded_refused None undone = tt
     recorded_refused (Some why) undone = (
@@ -264,9 +248,8 @@ module _ (Tells : Type 0) (call : Call) (works : call ≡ Work → ⊥) (old : V
         behind_room : Tells → (config : Fields) (h : History) → StandsNow config h old → StandsNow config h mid
         behind_room told config h before = room.stands told config h before 0 Work
 
-        pinned : Tells → new.state.stopped ≡ None → AreKept old.pins.pins old.disk.directory new.disk.directory
-        pinned told on name named =
-            kept_then Tells mid new why stopped undone kept told on name (subst (λ (held : Held). IsTrue (is_named held.pins name)) (sym room.pins) named) ∙ room.pinned told (room.stopped ∙ runs) name named
+        pinned : Tells → AreKept old.pins.pins old.disk.directory new.disk.directory
+        pinned told name named = kept told name (subst (λ (held : Held). IsTrue (is_named held.pins name)) (sym room.pins) named) ∙ room.pinned told name named
 
         whole : Tells → (config : Fields) (h : History) (caller : ℕ) → StandsNow config h old → GoesFrom old.state.next (IsKeptOr config h (written_by caller (Makes call) why)) old.disk new.disk
         whole told config h caller before =

@@ -73,5 +73,5 @@ pub record Answers (Tells : Type 0) (asked : Asked) (why : Option Refused) (face
   pub refused : IfSome why (IsRefused Tells asked old new)
   -- what the jobs and the pins have come to
   pub face_is : face_of new ≡ face
-  -- unless the disk failed, each object that a pin names which is held before and behind is as it was, byte for byte
-  pub pinned : Tells → new.state.stopped ≡ None → (name : Name) → IsTrue (is_named old.pins.pins name) → IsTrue (is_named new.pins.pins name) → object new.disk.directory name ≡ object old.disk.directory name
+  -- each object that a pin names which is held before and behind is as it was, byte for byte, also where the disk failed
+  pub pinned : Tells → (name : Name) → IsTrue (is_named old.pins.pins name) → IsTrue (is_named new.pins.pins name) → object new.disk.directory name ≡ object old.disk.directory name

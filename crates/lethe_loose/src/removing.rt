@@ -34,8 +34,8 @@ pub fn remove_named<D: Disk>(disk: &mut D, names: &[Name]) -> Result<(), DiskRef
     ensures done { D.tells → (s : Stored) (left gone : List (Name × List ℕ)) → MayRemove (D.seen disk.old) s left gone → names.now ≡ names_in gone
         → OnOk result (IsSettled (D.seen disk.new) s × HasOnly s left (D.seen disk.new).directory) }
 
-    // Each object but the pages is as it was.
-    ensures others { D.tells → OnOk result (SameBeside names.now (D.seen disk.old).directory (D.seen disk.new).directory) }
+    // Each object but the pages is as it was, whatever is answered.
+    ensures others { D.tells → SameBeside names.now (D.seen disk.old).directory (D.seen disk.new).directory }
 
     ensures calls { D.tells → OnOk result ((D.seen disk.new).moment ≡ (D.seen disk.old).moment + length names.now + 1) }
     ensures no_memory { IsErrOf result NoMemory → ⊥ }
@@ -62,8 +62,8 @@ pub fn remove_pages<D: Disk>(disk: &mut D, written: Written) -> Result<(), DiskR
     ensures done { D.tells → (s : Stored) (left : List (Name × List ℕ)) → MayRemove (D.seen disk.old) s left written
         → OnOk result (IsSettled (D.seen disk.new) s × HasOnly s left (D.seen disk.new).directory) }
 
-    // Each object but the pages is as it was.
-    ensures others { D.tells → OnOk result (SameBeside (names_in written) (D.seen disk.old).directory (D.seen disk.new).directory) }
+    // Each object but the pages is as it was, whatever is answered.
+    ensures others { D.tells → SameBeside (names_in written) (D.seen disk.old).directory (D.seen disk.new).directory }
 
     ensures calls { D.tells → OnOk result ((D.seen disk.new).moment ≡ (D.seen disk.old).moment + length written + 1) }
     ensures no_memory { IsErrOf result NoMemory → ⊥ }

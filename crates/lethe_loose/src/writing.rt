@@ -3,6 +3,7 @@ ghost use Rattle.std.specs.Prelude.{◌≡◌, ◌+◌, ◌≤◌, ℕ, List, []
 ghost use Rattle.lethe_base.specs.declared.name.Name as name;
 ghost use Rattle.std.specs.FinMap.{insert};
 ghost use Rattle.lethe_disk.specs.declared.disk.DiskRefused.TheVariants.{NoMemory};
+ghost use Rattle.lethe_disk.specs.Directory.{SameBut};
 ghost use Rattle.lethe_disk.specs.Disk.{HasCause};
 ghost use Rattle.lethe_disk.specs.Goes.{Goes};
 ghost use Rattle.lethe_file.specs.Agreement.{page_name};
@@ -43,7 +44,9 @@ pub fn write_page<D: Disk>(
     ensures drawn { (left : List (name.Name × List ℕ)) → AreDrawn no (names_in (left ++ written.old)) → OnOk result (AreDrawn (no + 1) (names_in (left ++ written.new))) }
     ensures kept { OnErr result (written.new ≡ written.old) }
 
-    // Each object but the page is as it was.
+    // Each object but the page is as it was, whatever is answered.
+    ensures beside { D.tells → SameBut (page_name no) (D.seen disk.old).directory (D.seen disk.new).directory }
+
     ensures others { D.tells → OnOk result ((D.seen disk.new).directory ≡ insert (D.seen disk.old).directory (page_name no) bytes.now) }
 
     ensures calls { D.tells → OnOk result ((D.seen disk.new).moment ≡ (D.seen disk.old).moment + 2) }

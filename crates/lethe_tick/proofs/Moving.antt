@@ -15,7 +15,7 @@ use Rattle.lethe_base.specs.declared.pending.Pending.{Pending}
 use Rattle.lethe_base.specs.declared.refused.Refused.{Refused}
 use Rattle.lethe_base.specs.declared.refused.Refused.TheVariants.{Fault, NoMemory}
 use Rattle.lethe_advance.specs.Settled.{AreDrawn, AreUncited, HasOnly, IsSettled, names_in}
-use Rattle.lethe_advance.specs.Steps.{IsStep}
+use Rattle.lethe_advance.specs.Steps.{HasStayed, IsStep}
 use Rattle.lethe_advance.specs.Untorn.{IsUntorn}
 use Rattle.lethe_advance.specs.declared.new_header.NewHeader.{NewHeader}
 use Rattle.lethe_advance.specs.declared.step.Step.{Step}
@@ -23,7 +23,6 @@ use Rattle.lethe_clean.proofs.Copied.{all_copied}
 use Rattle.lethe_clean.proofs.Stays.{step_untorn}
 use Rattle.lethe_clean.specs.Copied.{IsCopied}
 use Rattle.lethe_commit.specs.Append.{EndsAt}
-use Rattle.lethe_commit.specs.Place.{insert_all}
 use Rattle.lethe_cover.specs.Steps.{with_done}
 use Rattle.lethe_disk.specs.Directory.{object}
 use Rattle.lethe_disk.specs.Disk.{Image}
@@ -206,22 +205,20 @@ module _ (Tells : Type 0) (old : View) (before to : ℕ) (may : MayStep Tells ol
         };
       }
 
-  -- each object that a pin names stays as it is
-  module _ (new : View) (done_is : Tells → (s t : Stored) (left : List (Name × List ℕ)) → IsRunning old s → IsStep s (beside_in old) t left headers step → IsSettled new.disk t × HasOnly t left new.disk.directory)
-      (kept_is : Tells → (s t : Stored) (left : List (Name × List ℕ)) → IsRunning old s → IsStep s (beside_in old) t left headers step → (name : Name) → Contains (part_names t) name
-      → object new.disk.directory name ≡ object (insert_all step.objects.items old.disk.directory) name) where
-    pub ticked_kept : Tells → AreKept old.pins.pins old.disk.directory new.disk.directory
-    ticked_kept told name named =
-        let now = held_now told in
-        let s = now.0 in
-        let running = now.1.running in
-        let is = tick_is told s now.1 in
-        let was = running.kept name named in
-        carried_same old s (t s) (beside_in old) headers step running is new.disk.directory (done_is told s (t s) (beside_in old) running is).1 (kept_is told s (t s) (beside_in old) running is) name was
-        (elim was as (λ _. Contains (part_names (t s)) name ⊎ Contains (names_in (beside_in old)) name) [
-          | inl page ↦ inl (page_cited (t s) is.coherent name page)
-          | inr there ↦ inr (retired_beside old s (t s) (beside_in old) headers step running is name there)
-        ])
+  -- each object that a pin names stays as it is, whatever became of the step
+  pub ticked_kept : (new : View) → (Tells → (s t : Stored) (left : List (Name × List ℕ)) → IsRunning old s → IsStep s (beside_in old) t left headers step → HasStayed t left old.disk.directory new.disk.directory)
+      → Tells → AreKept old.pins.pins old.disk.directory new.disk.directory
+  ticked_kept new stayed told name named =
+      let now = held_now told in
+      let s = now.0 in
+      let running = now.1.running in
+      let is = tick_is told s now.1 in
+      let was = running.kept name named in
+      carried_same old s (t s) (beside_in old) headers step running is new.disk.directory (stayed told s (t s) (beside_in old) running is) name was
+      (elim was as (λ _. Contains (part_names (t s)) name ⊎ Contains (names_in (beside_in old)) name) [
+        | inl page ↦ inl (page_cited (t s) is.coherent name page)
+        | inr there ↦ inr (retired_beside old s (t s) (beside_in old) headers step running is name there)
+      ])
 
   module _ (new : View) (new_is : new.state ≡ moved step.manifest old.state) (retired : new.retired ≡ old.retired) (flight : new.flight ≡ old.flight) (pins : new.pins ≡ old.pins)
       (held : Tells → (s : Stored) → Holds old s → Holds new (t s)) where

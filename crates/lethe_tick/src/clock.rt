@@ -69,7 +69,7 @@ pub(crate) fn move_clock<D: Disk>(
     ensures flight { core.new.flight ≡ core.old.flight }
     ensures begun { core.new.begun ≡ core.old.begun }
     ensures pins { core.new.pins ≡ core.old.pins }
-    ensures pinned { D.tells → core.new.state.stopped ≡ None → AreKept (view_of core.old).pins.pins (D.seen core.old.disk).directory (D.seen core.new.disk).directory }
+    ensures pinned { D.tells → AreKept (view_of core.old).pins.pins (D.seen core.old.disk).directory (D.seen core.new.disk).directory }
     ensures certificate { IfOk result (λ told. told ≡ certificate_of core.new.state.manifest to) }
     ensures manifest { OnOk result ((core.new.state.manifest.clock ≡ to) × (core.new.state.manifest.count ≡ core.new.state.count)) }
     ensures due { IfOk result (IsCertificateAt core.new.state.manifest.config.threshold to) }

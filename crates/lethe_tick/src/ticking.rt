@@ -80,7 +80,7 @@ pub fn tick<D: Disk>(
     ensures pins { core.new.pins ≡ core.old.pins }
 
     // What pins name stays as it is, unless the disk fails; behind a tick nothing else lies beside what is stored.
-    ensures pinned { D.tells → core.new.state.stopped ≡ None → AreKept (view_of core.old).pins.pins (D.seen core.old.disk).directory (D.seen core.new.disk).directory }
+    ensures pinned { D.tells → AreKept (view_of core.old).pins.pins (D.seen core.old.disk).directory (D.seen core.new.disk).directory }
     ensures named { D.tells → OnOk result (AreNamed (view_of core.new).pins.pins (view_of core.new).retired) }
     ensures port_faults { D.port_faults port.old ≤ D.port_faults port.new }
     // Where a page is told as damaged, a fetch was made in this call, on any disk.

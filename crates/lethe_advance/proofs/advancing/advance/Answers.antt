@@ -6,6 +6,7 @@ use Rattle.lethe_advance.specs.Shown.{AreLevelsWith, parts_by_level}
 use Rattle.lethe_advance.proofs.Leveled.{files_next}
 use Rattle.lethe_advance.proofs.Running.{absent_before, early_placed, early_exchanged, early_behind, exchanges_from, switched_from, place_still, place_moments, free_placed, older_placed, pages_placed, opened_placed}
 use Rattle.lethe_advance.proofs.Running.{exchange_moments, present_again, removal_moments, removal_still, back_again, present_placed, clear_moments, settled_next, kept_next, gate_next}
+use Rattle.lethe_advance.proofs.Stayed.{had_cleared, had_first, had_switched, had_taken_back, had_written}
 use Rattle.lethe_advance.proofs.advancing.advance.Goals as goal
 
 pub place_new-requires-clause-synced : goal.place_new-requires-clause-synced
@@ -456,3 +457,97 @@ returns-in_ok-clear-in-Ok-clause-gate g c = λ told s t loose left may.
     let s3 = g.D.Disk.seen c.clear.new.disk in
     let clearing = c.clear.ensures.any_moment told in
     gate_next s t loose left headers step s0 may objects same s1 placing synced done s2 exchanging new switched_is gone gone_is s3 clearing (c.in_ok-clear-in-Ok.ensures.done told)
+
+pub returns-in_err-place_new-clause-stays : goal.returns-in_err-place_new-clause-stays
+returns-in_err-place_new-clause-stays g c = λ told s t loose left may name stays there.
+    let s0 = g.D.Disk.seen c.args.disk.now in
+    let headers = c.args.headers.items in
+    let step = c.args.step.now in
+    let objects = c.deref.result.now in
+    let same = c.deref.ensures.value in
+    let s1 = g.D.Disk.seen c.place_new.new.disk in
+    let first = had_first s t loose left headers step s0 may name stays there in
+    let placed = had_written s t loose left headers step s0 may name stays there objects same s0 s1 (c.place_new.ensures.any_moment told) first in
+    placed s1.directory ((g.met.D.Disk g.world.𝓛 g.world.𝓜 g.world.𝓡 ((λ s x. x), (λ x. x), (λ x. x), λ x. x)).itself told c.place_new.new.disk)
+
+pub returns-in-Err-Failed-clause-stays : goal.returns-in-Err-Failed-clause-stays
+returns-in-Err-Failed-clause-stays g c = λ told s t loose left may name stays there.
+    let s0 = g.D.Disk.seen c.args.disk.now in
+    let headers = c.args.headers.items in
+    let step = c.args.step.now in
+    let objects = c.deref.result.now in
+    let same = c.deref.ensures.value in
+    let s1 = g.D.Disk.seen c.place_new.new.disk in
+    let first = had_first s t loose left headers step s0 may name stays there in
+    let placed = had_written s t loose left headers step s0 may name stays there objects same s0 s1 (c.place_new.ensures.any_moment told) first in
+    let s2 = g.D.Disk.seen c.exchange.new.disk in
+    let switched = had_switched s t loose left headers step s0 may name stays there s1 s2 (c.exchange.ensures.any_moment told) placed in
+    switched s2.directory ((g.met.D.Disk g.world.𝓛 g.world.𝓜 g.world.𝓡 ((λ s x. x), (λ x. x), (λ x. x), λ x. x)).itself told c.exchange.new.disk)
+
+pub returns-in_err-clear-in-Ok-clause-stays : goal.returns-in_err-clear-in-Ok-clause-stays
+returns-in_err-clear-in-Ok-clause-stays g c = λ told s t loose left may name stays there.
+    let s0 = g.D.Disk.seen c.args.disk.now in
+    let headers = c.args.headers.items in
+    let step = c.args.step.now in
+    let objects = c.deref.result.now in
+    let same = c.deref.ensures.value in
+    let s1 = g.D.Disk.seen c.place_new.new.disk in
+    let first = had_first s t loose left headers step s0 may name stays there in
+    let placed = had_written s t loose left headers step s0 may name stays there objects same s0 s1 (c.place_new.ensures.any_moment told) first in
+    let s2 = g.D.Disk.seen c.exchange.new.disk in
+    let switched = had_switched s t loose left headers step s0 may name stays there s1 s2 (c.exchange.ensures.any_moment told) placed in
+    let s3 = g.D.Disk.seen c.clear.new.disk in
+    let cleared = had_cleared s t loose left headers step s0 may name stays there c.deref-in-Ok.result.now c.deref-in-Ok.ensures.value s2 s3 (c.clear.ensures.any_moment told) switched in
+    cleared s3.directory ((g.met.D.Disk g.world.𝓛 g.world.𝓜 g.world.𝓡 ((λ s x. x), (λ x. x), (λ x. x), λ x. x)).itself told c.clear.new.disk)
+
+pub returns-in_ok-clear-in-Ok-clause-stays : goal.returns-in_ok-clear-in-Ok-clause-stays
+returns-in_ok-clear-in-Ok-clause-stays g c = λ told s t loose left may name stays there.
+    let s0 = g.D.Disk.seen c.args.disk.now in
+    let headers = c.args.headers.items in
+    let step = c.args.step.now in
+    let objects = c.deref.result.now in
+    let same = c.deref.ensures.value in
+    let s1 = g.D.Disk.seen c.place_new.new.disk in
+    let first = had_first s t loose left headers step s0 may name stays there in
+    let placed = had_written s t loose left headers step s0 may name stays there objects same s0 s1 (c.place_new.ensures.any_moment told) first in
+    let s2 = g.D.Disk.seen c.exchange.new.disk in
+    let switched = had_switched s t loose left headers step s0 may name stays there s1 s2 (c.exchange.ensures.any_moment told) placed in
+    let s3 = g.D.Disk.seen c.clear.new.disk in
+    let cleared = had_cleared s t loose left headers step s0 may name stays there c.deref-in-Ok.result.now c.deref-in-Ok.ensures.value s2 s3 (c.clear.ensures.any_moment told) switched in
+    cleared s3.directory ((g.met.D.Disk g.world.𝓛 g.world.𝓜 g.world.𝓡 ((λ s x. x), (λ x. x), (λ x. x), λ x. x)).itself told c.clear.new.disk)
+
+pub returns-in_err-take_back-in-Err-NoMemory-clause-stays : goal.returns-in_err-take_back-in-Err-NoMemory-clause-stays
+returns-in_err-take_back-in-Err-NoMemory-clause-stays g c = λ told s t loose left may name stays there.
+    let s0 = g.D.Disk.seen c.args.disk.now in
+    let headers = c.args.headers.items in
+    let step = c.args.step.now in
+    let objects = c.deref.result.now in
+    let same = c.deref.ensures.value in
+    let s1 = g.D.Disk.seen c.place_new.new.disk in
+    let first = had_first s t loose left headers step s0 may name stays there in
+    let placed = had_written s t loose left headers step s0 may name stays there objects same s0 s1 (c.place_new.ensures.any_moment told) first in
+    let s2 = g.D.Disk.seen c.exchange.new.disk in
+    let switched = had_switched s t loose left headers step s0 may name stays there s1 s2 (c.exchange.ensures.any_moment told) placed in
+    let s3 = g.D.Disk.seen c.take_back.new.disk in
+    let as_placed = c.deref-in-Err-NoMemory.ensures.value ∙ sym same in
+    let removing = subst (λ l. Leads (IsCleared (map name_of l)) s2 s3) as_placed (c.take_back.ensures.any_moment told) in
+    let back = had_taken_back s t loose left headers step s0 may name stays there objects same s2 s3 removing switched in
+    back s3.directory ((g.met.D.Disk g.world.𝓛 g.world.𝓜 g.world.𝓡 ((λ s x. x), (λ x. x), (λ x. x), λ x. x)).itself told c.take_back.new.disk)
+
+pub returns-in_ok-take_back-in-Err-NoMemory-clause-stays : goal.returns-in_ok-take_back-in-Err-NoMemory-clause-stays
+returns-in_ok-take_back-in-Err-NoMemory-clause-stays g c = λ told s t loose left may name stays there.
+    let s0 = g.D.Disk.seen c.args.disk.now in
+    let headers = c.args.headers.items in
+    let step = c.args.step.now in
+    let objects = c.deref.result.now in
+    let same = c.deref.ensures.value in
+    let s1 = g.D.Disk.seen c.place_new.new.disk in
+    let first = had_first s t loose left headers step s0 may name stays there in
+    let placed = had_written s t loose left headers step s0 may name stays there objects same s0 s1 (c.place_new.ensures.any_moment told) first in
+    let s2 = g.D.Disk.seen c.exchange.new.disk in
+    let switched = had_switched s t loose left headers step s0 may name stays there s1 s2 (c.exchange.ensures.any_moment told) placed in
+    let s3 = g.D.Disk.seen c.take_back.new.disk in
+    let as_placed = c.deref-in-Err-NoMemory.ensures.value ∙ sym same in
+    let removing = subst (λ l. Leads (IsCleared (map name_of l)) s2 s3) as_placed (c.take_back.ensures.any_moment told) in
+    let back = had_taken_back s t loose left headers step s0 may name stays there objects same s2 s3 removing switched in
+    back s3.directory ((g.met.D.Disk g.world.𝓛 g.world.𝓜 g.world.𝓡 ((λ s x. x), (λ x. x), (λ x. x), λ x. x)).itself told c.take_back.new.disk)

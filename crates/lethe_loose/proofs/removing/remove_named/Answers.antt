@@ -1,11 +1,10 @@
 use Rattle.std.proofs.Common.{◌≡◌, sym, ap, ◌∙◌, subst}
-use Rattle.lethe_disk.specs.Directory.{SameBeside, object}
 use Rattle.lethe_disk.specs.Disk.{IsSynced}
 use Rattle.lethe_disk.specs.Runs.{Leads}
-use Rattle.lethe_disk.proofs.Quieting.{on_ok, on_ok_both}
+use Rattle.lethe_disk.proofs.Quieting.{on_ok_both}
 use Rattle.lethe_commit.specs.Clear.{ArePresent, IsCleared, remove_all}
-use Rattle.lethe_commit.proofs.Removals.{cleared_others}
 use Rattle.lethe_advance.specs.Settled.{IsSettled, HasOnly}
+use Rattle.lethe_advance.proofs.Stayed.{came_now}
 use Rattle.lethe_loose.proofs.Pages.{pages_present, remove_moments, settled_alone}
 use Rattle.lethe_loose.proofs.removing.remove_named.Goals as goal
 
@@ -31,8 +30,8 @@ returns-clause-done g c = λ told s left gone may named.
 
 pub returns-clause-others : goal.returns-clause-others
 returns-clause-others g c = λ told.
+    let asked = c.requires.there told in
+    let laws = g.met.D.Disk g.world.𝓛 g.world.𝓜 g.world.𝓡 ((λ s x. x), (λ x. x), (λ x. x), λ x. x) in
     let s0 = g.D.Disk.seen c.args.disk.now in
     let s1 = g.D.Disk.seen c.clear.new.disk in
-    let names = c.args.names.now in
-    on_ok c.clear.result (s1.directory ≡ remove_all names s0.directory) (SameBeside names s0.directory s1.directory) (c.clear.ensures.done told) (λ done name none.
-    ap (λ d. object d name) done ∙ cleared_others names s0.directory name none)
+    (came_now (IsCleared c.args.names.now) s0 s1 asked.3.settled.synced (c.clear.ensures.any_moment told) (laws.itself told c.clear.new.disk)).others

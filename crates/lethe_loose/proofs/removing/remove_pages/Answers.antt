@@ -1,5 +1,4 @@
 use Rattle.std.proofs.Common.{subst}
-use Rattle.std.specs.Prelude.{OnOk}
 use Rattle.lethe_disk.specs.Directory.{SameBeside}
 use Rattle.lethe_loose.proofs.removing.remove_pages.Goals as goal
 
@@ -18,4 +17,4 @@ pub returns-clause-others : goal.returns-clause-others
 returns-clause-others g c = λ told.
     let s0 = g.D.Disk.seen c.args.disk.now in
     let s1 = g.D.Disk.seen c.remove_named.new.disk in
-    subst (λ l. OnOk c.remove_named.result (SameBeside l s0.directory s1.directory)) c.names.ensures (c.remove_named.ensures.others told)
+    subst (λ l. SameBeside l s0.directory s1.directory) c.names.ensures (c.remove_named.ensures.others told)

@@ -1,8 +1,10 @@
-use Rattle.std.proofs.Common.{◌≡◌, ◌+◌, ℕ, List, [], ◌∷◌, ◌++◌, append_assoc, sym, ap, ◌∙◌, subst}
+use Rattle.std.proofs.Common.{◌≡◌, ◌+◌, ℕ, List, [], ◌∷◌, ◌++◌, append_assoc, refl, sym, ap, ◌∙◌, subst}
 use Rattle.lethe_base.specs.declared.name.Name.{Name}
 use Rattle.std.specs.Prelude.{zip}
+use Rattle.lethe_disk.specs.Directory.{IsCreated}
 use Rattle.lethe_file.specs.Agreement.{page_name}
 use Rattle.lethe_advance.specs.Settled.{IsSettled, HasOnly, AreDrawn, AreUncited, names_in}
+use Rattle.lethe_advance.proofs.Stayed.{came_now}
 use Rattle.lethe_loose.proofs.Pages.{stays_settled, zip_push, page_absent, write_moments, settled_more, uncited_more, drawn_more}
 use Rattle.lethe_loose.proofs.writing.write_page.Goals as goal
 
@@ -49,3 +51,20 @@ pub returns-clause-drawn : goal.returns-clause-drawn
 returns-clause-drawn g c = λ left drawn.
     subst (λ l. AreDrawn (c.args.no + 1) (names_in l)) (more_beside left c.args.written.now _ (page_name c.args.no, c.args.bytes.now) (returns-clause-written g c))
     (drawn_more (left ++ c.args.written.now) c.args.no c.args.bytes.now drawn)
+
+-- the other objects
+
+pub returns-in_err-push-clause-beside : goal.returns-in_err-push-clause-beside
+returns-in_err-push-clause-beside g c = λ told other apart. refl
+
+pub returns-in-Err-clause-beside : goal.returns-in-Err-clause-beside
+returns-in-Err-clause-beside g c = λ told.
+    let asked = c.requires.fresh told in
+    let laws = g.met.D.Disk g.world.𝓛 g.world.𝓜 g.world.𝓡 ((λ s x. x), (λ x. x), (λ x. x), λ x. x) in
+    (came_now (IsCreated (page_name c.args.no)) (g.D.Disk.seen c.args.disk.now) (g.D.Disk.seen c.place.new.disk) asked.2.settled.synced (c.place.ensures.any_moment told) (laws.itself told c.place.new.disk)).others
+
+pub returns-clause-beside : goal.returns-clause-beside
+returns-clause-beside g c = λ told.
+    let asked = c.requires.fresh told in
+    let laws = g.met.D.Disk g.world.𝓛 g.world.𝓜 g.world.𝓡 ((λ s x. x), (λ x. x), (λ x. x), λ x. x) in
+    (came_now (IsCreated (page_name c.args.no)) (g.D.Disk.seen c.args.disk.now) (g.D.Disk.seen c.place.new.disk) asked.2.settled.synced (c.place.ensures.any_moment told) (laws.itself told c.place.new.disk)).others

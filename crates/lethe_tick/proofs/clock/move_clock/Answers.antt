@@ -16,7 +16,7 @@ use Rattle.lethe_core.specs.Steps.{IsUndone}
 use Rattle.lethe_core.specs.View.{flying_of, view_of}
 use Rattle.lethe_core.proofs.Asked.{behind_none, counted_none, not_failed, stopped_none, written_none}
 use Rattle.lethe_core.proofs.Carried.{IsCarried}
-use Rattle.lethe_core.proofs.Hindered.{as_itself, hindered_count, hindered_next, hindered_pinned, hindered_sound, hindered_stopped, hindered_undone}
+use Rattle.lethe_core.proofs.Hindered.{as_itself, hindered_count, hindered_next, hindered_sound, hindered_stopped, hindered_undone}
 use Rattle.lethe_core.proofs.Standing.{moments_or, stands_moments}
 use Rattle.lethe_tick.proofs.Moving.{hindered_moments, hindered_stands, tick_moments, tick_step, tick_unmoved, ticked_holds, ticked_kept, ticked_sound, ticked_stands}
 use Rattle.lethe_tick.proofs.clock.move_clock.Goals as goal
@@ -152,7 +152,10 @@ returns-in_err-carry_out_spelled-clause-numbers g c = λ told.
 
 pub returns-in_err-carry_out_spelled-clause-pinned : goal.returns-in_err-carry_out_spelled-clause-pinned
 returns-in_err-carry_out_spelled-clause-pinned g c =
-    hindered_pinned g.D.Disk.tells (view_of c.args.core.now) (view_of c.carry_out_spelled.new.self) c.args.before c.in_err-carry_out_spelled.field-0.0 c.in_err-carry_out_spelled.ensures.refused
+    let old = view_of c.args.core.now in
+    let new = view_of c.carry_out_spelled.new.self in
+    let from = subst (λ headers. IsStepFrom (segments_for old.state.frozen) old.state headers c.in_ok-step.step) (sym c.new.ensures.items) c.in_ok-step.ensures.step in
+    ticked_kept g.D.Disk.tells old c.args.before c.args.to c.requires.may c.new.result.items c.in_ok-step.step c.new.ensures.items from c.in_ok-step.ensures.ticks new c.carry_out_spelled.ensures.stays
 
 -- It was carried out
 
@@ -168,6 +171,7 @@ returns-clause-done g c = λ told s holds.
       moments = c.carry_out_spelled.ensures.moments;
       done = c.in_ok-carry_out_spelled.ensures.done;
       kept = c.in_ok-carry_out_spelled.ensures.kept;
+      stays = c.carry_out_spelled.ensures.stays;
       gate = c.in_ok-carry_out_spelled.ensures.gate;
       files = c.in_ok-carry_out_spelled.ensures.files;
       levels = c.carry_out_spelled.ensures.levels;
@@ -182,12 +186,11 @@ returns-clause-done g c = λ told s holds.
     (λ told. laws.itself told c.args.core.now.disk) told s holds
 
 pub returns-clause-pinned : goal.returns-clause-pinned
-returns-clause-pinned g c = λ told runs.
+returns-clause-pinned g c =
     let old = view_of c.args.core.now in
     let new = view_of (record c.carry_out_spelled.new.self { state = c.tick.new.self }) in
     let from = subst (λ headers. IsStepFrom (segments_for old.state.frozen) old.state headers c.in_ok-step.step) (sym c.new.ensures.items) c.in_ok-step.ensures.step in
-    ticked_kept g.D.Disk.tells old c.args.before c.args.to c.requires.may c.new.result.items c.in_ok-step.step c.new.ensures.items from c.in_ok-step.ensures.ticks new
-    c.in_ok-carry_out_spelled.ensures.done c.in_ok-carry_out_spelled.ensures.kept told
+    ticked_kept g.D.Disk.tells old c.args.before c.args.to c.requires.may c.new.result.items c.in_ok-step.step c.new.ensures.items from c.in_ok-step.ensures.ticks new c.carry_out_spelled.ensures.stays
 
 pub returns-clause-sound : goal.returns-clause-sound
 returns-clause-sound g c =
@@ -208,7 +211,7 @@ returns-clause-stands g c = λ told config h stands forward due caller.
     let from = subst (λ headers. IsStepFrom (segments_for old.state.frozen) old.state headers step) (sym c.new.ensures.items) c.in_ok-step.ensures.step in
     ticked_stands g.D.Disk.tells old c.args.before c.args.to c.requires.may c.new.result.items step c.new.ensures.items from c.in_ok-step.ensures.ticks new new_is (λ i. (c.carry_out_spelled.ensures.retired i).items)
     (ap (option_map flying_of) c.carry_out_spelled.ensures.flight) c.carry_out_spelled.ensures.pins (returns-clause-done g c) c.requires.passes c.requires.named
-    (λ told. returns-clause-pinned g c told (ap (λ (state : State). state.stopped) new_is ∙ c.requires.may.runs)) told config h stands forward due caller
+    (returns-clause-pinned g c) told config h stands forward due caller
 
 pub returns-clause-any_moment : goal.returns-clause-any_moment
 returns-clause-any_moment g c = λ told config h stands forward due caller.

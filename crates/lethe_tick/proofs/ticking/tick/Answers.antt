@@ -169,13 +169,13 @@ pub returns-clause-pins : goal.returns-clause-pins
 returns-clause-pins g c = subst (λ (held : Held). c.move_clock.new.core.pins ≡ held) c.in_ok-ripen_store.ensures.keeps.pins c.move_clock.ensures.pins
 
 pub returns-clause-pinned : goal.returns-clause-pinned
-returns-clause-pinned g c = λ told runs.
+returns-clause-pinned g c = λ told.
     let old = view_of c.args.core.now in
     let d = old.disk.directory in
     let mid = (view_of c.ripen_store.new.core).disk.directory in
     let end = (view_of c.move_clock.new.core).disk.directory in
     let keeps = c.in_ok-ripen_store.ensures.keeps in
-    kept_twice old.pins.pins d mid end (keeps.pinned told (keeps.stopped ∙ c.requires.may.runs)) (subst (λ (held : Held). AreKept held.pins mid end) keeps.pins (c.move_clock.ensures.pinned told runs))
+    kept_twice old.pins.pins d mid end (keeps.pinned told) (subst (λ (held : Held). AreKept held.pins mid end) keeps.pins (c.move_clock.ensures.pinned told))
 
 pub returns-clause-named : goal.returns-clause-named
 returns-clause-named g c = λ told.

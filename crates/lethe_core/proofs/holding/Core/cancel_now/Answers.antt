@@ -8,7 +8,7 @@ use Rattle.lethe_core.specs.View.{flying_of, view_of}
 use Rattle.lethe_core.proofs.Asked.{not_none}
 use Rattle.lethe_core.proofs.Hindered.{keeps_itself}
 use Rattle.lethe_core.proofs.Pages.{flying_is, held_now, may_remove, refused_keeps, stays}
-use Rattle.lethe_core.proofs.Removed.{all_drawn, grounded_keeps, only_failed, removed_holds, removed_keeps}
+use Rattle.lethe_core.proofs.Removed.{all_drawn, grounded_keeps, named_kept, only_failed, removed_holds, removed_keeps}
 use Rattle.lethe_core.proofs.holding.Core.cancel_now.Goals as goal
 
 -- beside what is stored the retired pages and the job's lie there
@@ -38,7 +38,7 @@ returns-in-Ok-clause-keeps g c =
     subst (λ f. Keeps g.D.Disk.tells (view_of self) (view_of (record self { disk = disk; flight = f })) None) (sym c.take.ensures.after)
     (removed_keeps g.D.Disk.tells (view_of self) may.sound may.runs self.retired.items c.in-Some.flight.written (g.D.Disk.seen disk) (g.D.Disk.faults disk) (λ told. laws.itself told self.disk)
     (λ name there. there) (λ name named there. there) (all_drawn g.D.Disk.tells (view_of self) may.sound) (may_remove g.D.Disk.tells (view_of self) (flying_of c.in-Some.flight) is may.sound)
-    (λ told s. c.in-Ok.ensures.done told s left) c.in-Ok.ensures.others (λ told s. c.in-Ok.ensures.any_moment told s left) c.in-Ok.ensures.cause.later)
+    (λ told s. c.in-Ok.ensures.done told s left) c.remove_pages.ensures.others (λ told s. c.in-Ok.ensures.any_moment told s left) c.in-Ok.ensures.cause.later)
 
 pub returns-in-Ok-clause-held : goal.returns-in-Ok-clause-held
 returns-in-Ok-clause-held g c = λ told s holds.
@@ -51,7 +51,7 @@ returns-in-Ok-clause-held g c = λ told s holds.
     subst (λ f. Holds (view_of (record self { disk = disk; flight = f })) s) (sym c.take.ensures.after)
     (removed_holds g.D.Disk.tells (view_of self) may.sound may.runs self.retired.items c.in-Some.flight.written (g.D.Disk.seen disk) (g.D.Disk.faults disk) (λ told. laws.itself told self.disk)
     (λ name there. there) (λ name named there. there) (all_drawn g.D.Disk.tells (view_of self) may.sound) (may_remove g.D.Disk.tells (view_of self) (flying_of c.in-Some.flight) is may.sound)
-    (λ told s. c.in-Ok.ensures.done told s left) c.in-Ok.ensures.others told s holds)
+    (λ told s. c.in-Ok.ensures.done told s left) c.remove_pages.ensures.others told s holds)
 
 pub returns-clause-keeps : goal.returns-clause-keeps
 returns-clause-keeps g c =
@@ -70,7 +70,9 @@ returns-clause-keeps g c =
     (grounded_keeps g.D.Disk.tells old (record old { disk = g.D.Disk.seen disk; faults = g.D.Disk.faults disk; state = state }) (Some why) (self.state.count + 1) (ap (λ (s : State). s.stopped) c.stop-place.ensures.is)
     (refused_keeps g.D.Disk.tells old may.sound (record old { disk = g.D.Disk.seen disk; faults = g.D.Disk.faults disk; state = state }) c.args.before may
     (λ told s holds. c.remove_pages.ensures.any_moment told s (stays g.D.Disk.tells old (flying_of c.in-Some.flight) is may.sound) (may_remove g.D.Disk.tells old (flying_of c.in-Some.flight) is may.sound told s holds))
-    (λ told. laws.itself told disk) c.remove_pages.ensures.cause.later why
+    (λ told. laws.itself told disk) c.remove_pages.ensures.cause.later
+    (named_kept g.D.Disk.tells old may.sound may.runs self.retired.items c.in-Some.flight.written (g.D.Disk.seen disk) (may_remove g.D.Disk.tells old (flying_of c.in-Some.flight) is may.sound) c.remove_pages.ensures.others (λ name named there. there))
+    why
     (c.stop-place.ensures.place, refl, c.faults.ensures, told, c.stop-place.ensures.is, record { levels = refl; retired = refl; flight = refl; begun = refl; rounds = refl; pins = refl })))
 
 pub returns-clause-undone : goal.returns-clause-undone

@@ -1,4 +1,4 @@
-use Rattle.std.proofs.Common.{◌⊎◌, inl}
+use Rattle.std.proofs.Common.{◌⊎◌, inl, refl}
 use Rattle.lethe_stored.specs.Kept.{IsKept}
 use Rattle.lethe_stored.proofs.Numbers.{goes_from_weaker}
 use Rattle.lethe_core.specs.View.{view_of}
@@ -17,3 +17,6 @@ pub returns-in_default-clause-unmoved : goal.returns-in_default-clause-unmoved
 returns-in_default-clause-unmoved g c = λ told s t left running is h stands below refused.
     let old = view_of c.args.self.now in
     unmoved_moments h s old.state.next old.disk old.disk running.settled.coherent stands below (running_encoded old s running)
+
+pub returns-in_default-clause-stays : goal.returns-in_default-clause-stays
+returns-in_default-clause-stays g c = λ told s t left running is name stays there. refl

@@ -63,3 +63,15 @@ returns-in-Err-NoMemory-clause-unmoved g c = λ told s t left running is h stand
     let may = may_advance old s t left c.args.headers.items c.args.step.now running is in
     unmoved_moments h s old.state.next old.disk (g.D.Disk.seen c.advance.new.disk) running.settled.coherent stands below
     (c.advance.ensures.unmoved told s t (beside_in old) left may (c.in-Err-NoMemory.is ∙ ap (λ e. Err e) c.in-Err-NoMemory.field-0-is))
+
+pub returns-in-Ok-clause-stays : goal.returns-in-Ok-clause-stays
+returns-in-Ok-clause-stays g c = λ told s t left running is.
+    c.advance.ensures.stays told s t (beside_in (view_of c.args.self.now)) left (may_advance (view_of c.args.self.now) s t left c.args.headers.items c.args.step.now running is)
+
+pub returns-in-Err-Failed-clause-stays : goal.returns-in-Err-Failed-clause-stays
+returns-in-Err-Failed-clause-stays g c = λ told s t left running is.
+    c.advance.ensures.stays told s t (beside_in (view_of c.args.self.now)) left (may_advance (view_of c.args.self.now) s t left c.args.headers.items c.args.step.now running is)
+
+pub returns-in-Err-NoMemory-clause-stays : goal.returns-in-Err-NoMemory-clause-stays
+returns-in-Err-NoMemory-clause-stays g c = λ told s t left running is.
+    c.advance.ensures.stays told s t (beside_in (view_of c.args.self.now)) left (may_advance (view_of c.args.self.now) s t left c.args.headers.items c.args.step.now running is)

@@ -11,7 +11,7 @@ use Rattle.lethe_state.specs.declared.state.State.{State}
 use Rattle.lethe_core.specs.Keeps.{Keeps}
 use Rattle.lethe_core.specs.Running.{Holds}
 use Rattle.lethe_core.specs.View.{view_of}
-use Rattle.lethe_core.proofs.Cleared.{cleared_holds, cleared_keeps, gone, idle_holds, idle_keeps, left, may_clear, names_gone, none_goes, none_written, nothing_goes, stays_same}
+use Rattle.lethe_core.proofs.Cleared.{cleared_holds, cleared_keeps, cleared_kept, gone, idle_holds, idle_keeps, left, may_clear, names_gone, none_goes, none_written, nothing_goes, stays_same}
 use Rattle.lethe_core.proofs.Pages.{held_now, refused_keeps}
 use Rattle.lethe_core.proofs.Removed.{grounded_keeps, only_failed}
 use Rattle.lethe_core.proofs.holding.Core.clear_now.Goals as goal
@@ -76,7 +76,7 @@ returns-in-Ok-remove_named-clause-keeps g c =
     (sym (returns-in-Ok-remove_named-clause-retired g c))
     (cleared_keeps g.D.Disk.tells old may.sound may.runs (g.D.Disk.seen disk) (g.D.Disk.faults disk) (λ told. laws.itself told self.disk)
     (λ told s may. c.in-Ok-remove_named.ensures.done told s stays goes may names)
-    (λ told. subst (λ names. SameBeside names (g.D.Disk.seen self.disk).directory (g.D.Disk.seen disk).directory) names (c.in-Ok-remove_named.ensures.others told))
+    (λ told. subst (λ names. SameBeside names (g.D.Disk.seen self.disk).directory (g.D.Disk.seen disk).directory) names (c.remove_named.ensures.others told))
     (λ told s may. c.in-Ok-remove_named.ensures.any_moment told s stays goes may names) c.in-Ok-remove_named.ensures.cause.later)
 
 pub returns-in-Ok-remove_named-clause-held : goal.returns-in-Ok-remove_named-clause-held
@@ -93,7 +93,7 @@ returns-in-Ok-remove_named-clause-held g c = λ told s holds.
     (sym (returns-in-Ok-remove_named-clause-retired g c))
     (cleared_holds g.D.Disk.tells old may.sound may.runs (g.D.Disk.seen disk) (g.D.Disk.faults disk) (λ told. laws.itself told self.disk)
     (λ told s may. c.in-Ok-remove_named.ensures.done told s stays goes may names)
-    (λ told. subst (λ names. SameBeside names (g.D.Disk.seen self.disk).directory (g.D.Disk.seen disk).directory) names (c.in-Ok-remove_named.ensures.others told)) told s holds)
+    (λ told. subst (λ names. SameBeside names (g.D.Disk.seen self.disk).directory (g.D.Disk.seen disk).directory) names (c.remove_named.ensures.others told)) told s holds)
 
 -- where all retired pages are named and the job has written nothing, none of them goes
 pub returns-in-Ok-remove_named-clause-idle : goal.returns-in-Ok-remove_named-clause-idle
@@ -124,5 +124,7 @@ returns-clause-keeps g c =
     grounded_keeps g.D.Disk.tells old (record old { disk = g.D.Disk.seen disk; faults = g.D.Disk.faults disk; state = state }) (Some why) (self.state.count + 1) (ap (λ (s : State). s.stopped) c.stop-place.ensures.is)
     (refused_keeps g.D.Disk.tells old may.sound (record old { disk = g.D.Disk.seen disk; faults = g.D.Disk.faults disk; state = state }) c.args.before may
     (λ told s holds. c.remove_named.ensures.any_moment told s stays goes (may_clear g.D.Disk.tells old may.sound told s holds) names)
-    (λ told. laws.itself told disk) c.remove_named.ensures.cause.later why
+    (λ told. laws.itself told disk) c.remove_named.ensures.cause.later
+    (cleared_kept g.D.Disk.tells old may.sound may.runs (g.D.Disk.seen disk) (λ told. subst (λ names. SameBeside names (g.D.Disk.seen self.disk).directory (g.D.Disk.seen disk).directory) names (c.remove_named.ensures.others told)))
+    why
     (c.stop-place.ensures.place, refl, c.faults.ensures, told, c.stop-place.ensures.is, record { levels = refl; retired = refl; flight = refl; begun = refl; rounds = refl; pins = refl }))

@@ -12,8 +12,8 @@ use Rattle.lethe_core.specs.View.{flying_of, view_of}
 use Rattle.lethe_core.proofs.Carried.{IsCarried}
 use Rattle.lethe_core.proofs.Asked.{not_failed}
 use Rattle.lethe_core.proofs.Hindered.{as_itself, hindered_keeps, hindered_undone, keeps_itself}
-use Rattle.lethe_core.proofs.Next.{flushed_next, flushed_recorded, next_done, next_keeps, next_moments, next_step}
-use Rattle.lethe_core.proofs.Stepped.{flushed_holds, small_unfrozen}
+use Rattle.lethe_core.proofs.Next.{flushed_next, flushed_recorded, next_done, next_keeps, next_kept, next_moments, next_step}
+use Rattle.lethe_core.proofs.Stepped.{flushed_holds, flushed_stay, small_unfrozen}
 use Rattle.lethe_core.proofs.holding.Core.flush_now.Goals as goal
 
 pub returns-in_err-headers-clause-keeps : goal.returns-in_err-headers-clause-keeps
@@ -49,7 +49,8 @@ returns-in_err-carry_out-clause-keeps g c =
     let goes = next_moments IsFlushed g.D.Disk.tells old headers step c.args.before c.requires.may (flushed_next g.D.Disk.tells old c.requires.may.sound.drawn headers step c.in_ok-headers.ensures.flushes)
     new (λ h s t holds for is. flush_for h s t holds.remembers.coherent for is) 1 c.in_ok-headers.ensures.step c.carry_out.ensures.moments in
     subst (λ (r : Result (Unit {0}) Refused). Keeps g.D.Disk.tells old new (result_err r)) (sym refusal)
-    (hindered_keeps g.D.Disk.tells old new c.args.before c.requires.may why c.in_err-carry_out.ensures.refused goes (λ told. laws.itself told c.carry_out.new.self.disk) c.carry_out.ensures.later c.carry_out.ensures.faults)
+    (hindered_keeps g.D.Disk.tells old new c.args.before c.requires.may why c.in_err-carry_out.ensures.refused goes (λ told. laws.itself told c.carry_out.new.self.disk) c.carry_out.ensures.later c.carry_out.ensures.faults
+    (next_kept IsFlushed g.D.Disk.tells old headers step c.args.before c.requires.may (flushed_next g.D.Disk.tells old c.requires.may.sound.drawn headers step c.in_ok-headers.ensures.flushes) flushed_stay new.disk.directory c.carry_out.ensures.stays))
 
 pub returns-in_err-carry_out-clause-undone : goal.returns-in_err-carry_out-clause-undone
 returns-in_err-carry_out-clause-undone g c =
@@ -71,6 +72,7 @@ returns-clause-keeps g c =
       moments = c.carry_out.ensures.moments;
       done = c.in_ok-carry_out.ensures.done;
       kept = c.in_ok-carry_out.ensures.kept;
+      stays = c.carry_out.ensures.stays;
       gate = c.in_ok-carry_out.ensures.gate;
       files = c.in_ok-carry_out.ensures.files;
       levels = c.carry_out.ensures.levels;
@@ -100,6 +102,7 @@ returns-clause-done g c =
       moments = c.carry_out.ensures.moments;
       done = c.in_ok-carry_out.ensures.done;
       kept = c.in_ok-carry_out.ensures.kept;
+      stays = c.carry_out.ensures.stays;
       gate = c.in_ok-carry_out.ensures.gate;
       files = c.in_ok-carry_out.ensures.files;
       levels = c.carry_out.ensures.levels;

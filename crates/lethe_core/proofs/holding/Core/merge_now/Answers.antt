@@ -35,7 +35,11 @@ returns-in_err-carry_out-clause-keeps g c =
     let refusal : c.from_residual.result ≡ Err why = search rules in
     subst (λ (r : Result (Unit {0}) Refused). Keeps g.D.Disk.tells old new (result_err r)) (sym refusal) (hindered_keeps g.D.Disk.tells old new c.args.before c.requires.may why c.in_err-carry_out.ensures.refused
     (merge_moments old new.disk new.faults new.levels new.begun new.rounds c.args.made g.D.Disk.tells c.args.before c.requires.may c.requires.from c.requires.merges c.carry_out.ensures.moments)
-    (λ told. laws.itself told c.carry_out.new.self.disk) c.carry_out.ensures.later c.carry_out.ensures.faults)
+    (λ told. laws.itself told c.carry_out.new.self.disk) c.carry_out.ensures.later c.carry_out.ensures.faults (λ told.
+    let held = c.requires.may.sound.held told in
+    let holds : Holds old held.0 = record { remembers = held.1; running = held.2 c.requires.may.runs } in
+    let next = c.requires.merges told held.0 holds in
+    merged_same old new.disk new.faults new.levels new.begun new.rounds c.args.made held.0 next.1 next.0 holds next.2 (c.carry_out.ensures.stays told held.0 next.1 next.2.left holds.running next.2.step_is)))
 
 pub returns-in_err-carry_out-clause-undone : goal.returns-in_err-carry_out-clause-undone
 returns-in_err-carry_out-clause-undone g c =
@@ -82,8 +86,7 @@ returns-clause-keeps g c =
     let P : State → Held → Type 0 = λ state held. (g.D.Disk.tells → (s : Stored) (task : PlainTask) (t : Stored) → Holds old s → MayMerge old s task t made → Holds (view state held) t) → Keeps g.D.Disk.tells old (view state held) None in
     let state = c.install.ensures.is ∙ ap (installed made.step.manifest) c.in_ok-carry_out.ensures.state in
     let same : g.D.Disk.tells → (s : Stored) (task : PlainTask) (t : Stored) → Holds old s → MayMerge old s task t made → AreKept old.pins.pins old.disk.directory mid.disk.directory = λ told s task t holds may.
-    merged_same old mid.disk mid.faults mid.levels mid.begun mid.rounds made s t task holds may (c.in_ok-carry_out.ensures.files told s t may.left holds.running may.step_is holds.remembers.files)
-    (c.in_ok-carry_out.ensures.done told s t may.left holds.running may.step_is).1 (c.in_ok-carry_out.ensures.kept told s t may.left holds.running may.step_is) in
+    merged_same old mid.disk mid.faults mid.levels mid.begun mid.rounds made s t task holds may (c.carry_out.ensures.stays told s t may.left holds.running may.step_is) in
     subst (P c.install.new.self) (sym c.carry_out.ensures.pins) (subst (λ state. P state old.pins) (sym state)
     (λ behind. merge_keeps old mid.disk mid.faults mid.levels mid.begun mid.rounds made g.D.Disk.tells c.args.before c.requires.may c.requires.from c.requires.merges behind same c.carry_out.ensures.levels moments
     c.in_ok-carry_out.ensures.calls c.carry_out.ensures.faults))

@@ -1,5 +1,6 @@
 use Rattle.std.proofs.Common.{◌≡◌, ◌<◌, ◌+◌, Err, None, Some, length, refl, sym, ap, ◌∙◌, subst, arith}
 use Rattle.lethe_base.specs.Limits.{max_place}
+use Rattle.lethe_disk.specs.Directory.{object}
 use Rattle.lethe_commit.specs.Append.{EndsAt, IsAppended, longer}
 use Rattle.lethe_commit.proofs.Placing.{refused_at_once}
 use Rattle.lethe_manifest.specs.Manifests.{AreErases}
@@ -10,6 +11,7 @@ use Rattle.lethe_stored.specs.Numbers.{GoesFrom}
 use Rattle.lethe_stored.specs.Steps.{addition}
 use Rattle.lethe_cover.specs.Steps.{with_done, with_failed}
 use Rattle.lethe_stored.specs.Stored.{appended, segment_name}
+use Rattle.lethe_advance.proofs.Stayed.{came_now}
 use Rattle.lethe_state.specs.Records.{pending_with}
 use Rattle.lethe_state.specs.declared.state.State.{State}
 use Rattle.lethe_advance.specs.Settled.{names_in}
@@ -19,7 +21,7 @@ use Rattle.lethe_core.specs.StandsNow.{StandsNow}
 use Rattle.lethe_core.specs.View.{loose_in, names_beside, view_of}
 use Rattle.lethe_core.proofs.Hindered.{drawn_on, flies_on, sound_halted}
 use Rattle.lethe_core.proofs.Likes.{like_holds, like_small, like_sound, like_stands, next_small, with_state}
-use Rattle.lethe_core.proofs.Recorded.{failed_stands, holds_longer, inserted, moments, moved, ready, record_kept, record_timely, untouched_moments}
+use Rattle.lethe_core.proofs.Recorded.{beside_segment, failed_stands, holds_longer, inserted, moments, moved, ready, record_kept, record_timely, untouched_moments}
 use Rattle.lethe_core.proofs.Standing.{moments_or, open_stands, sound_back, stands_back, stands_for, stands_holds, stands_moments}
 use Rattle.lethe_core.proofs.holding.Core.record.Goals as goal
 
@@ -46,6 +48,9 @@ pub returns-in_default-clause-any_moment : goal.returns-in_default-clause-any_mo
 returns-in_default-clause-any_moment g c = λ told config h caller call stands with.
     let old = view_of c.args.self.now in
     moments_or config h None old.state.next old.disk old.disk (stands_moments config h old stands c.requires.may.runs c.requires.may.sound.writable)
+
+pub returns-in_default-clause-pinned : goal.returns-in_default-clause-pinned
+returns-in_default-clause-pinned g c = λ told name named. refl
 
 -- It was appended
 
@@ -177,7 +182,24 @@ returns-in-Err-Failed-clause-numbers g c = λ told.
     let next : c.stop-place.new.self.next ≡ c.args.self.now.state.next = ap (λ (state : State). state.next) c.stop-place.ensures.is ∙ same.next in
     omega (arith, later, next)
 
+pub returns-in-Err-Failed-clause-pinned : goal.returns-in-Err-Failed-clause-pinned
+returns-in-Err-Failed-clause-pinned g c = λ told.
+    let held = c.requires.may.sound.held told in
+    let old = view_of c.args.self.now in
+    let holds : Holds old held.0 = record { remembers = held.1; running = held.2 c.requires.may.runs } in
+    let same = c.prepare.ensures.same in
+    let number = c.active_number-no.result in
+    let is_ready = rw (sym c.end.ensures) at (ready (with_state old c.prepare.new.self) held.0 (like_holds old c.prepare.new.self same held.0 holds) c.args.next c.requires.spelled (c.requires.place ∙ ap (λ n. n + 1) (sym same.count))
+    number c.active_number-no.ensures c.deref.result.now (c.deref.ensures.value ∙ c.in-Ok.ensures.body)) in
+    let laws = g.met.D.Disk g.world.𝓛 g.world.𝓜 g.world.𝓡 ((λ s x. x), (λ x. x), (λ x. x), λ x. x) in
+    let came = came_now (IsAppended (segment_name number) c.end.result (addition held.0 c.args.next)) old.disk (g.D.Disk.seen c.append.new.disk) holds.running.settled.synced
+    (c.append.ensures.any_moment told (addition held.0 c.args.next) is_ready) (laws.itself told c.append.new.disk) in
+    beside_segment g.D.Disk.tells old c.requires.may.sound (g.D.Disk.seen c.append.new.disk).directory number came.written.others
+
 -- There was no memory to append it
+
+pub returns-clause-pinned : goal.returns-clause-pinned
+returns-clause-pinned g c = λ told name named. ap (λ d. object d name) (c.in-Err-NoMemory.ensures.no_memory told (ap Err c.in-Err-NoMemory.field-0-is)).directory
 
 pub returns-clause-sound : goal.returns-clause-sound
 returns-clause-sound g c =

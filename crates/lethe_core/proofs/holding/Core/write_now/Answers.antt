@@ -11,7 +11,7 @@ use Rattle.lethe_core.specs.Running.{Holds}
 use Rattle.lethe_core.specs.View.{View, flying_of, view_of}
 use Rattle.lethe_stored.specs.Stored.{Stored}
 use Rattle.lethe_core.proofs.Hindered.{as_itself, keeps_itself, like_of}
-use Rattle.lethe_core.proofs.Pages.{as_written, flying_is, held_now, may_write, on_err, refused_keeps, stays, written_holds, written_keeps}
+use Rattle.lethe_core.proofs.Pages.{as_written, flying_is, held_now, may_write, on_err, refused_keeps, stays, unwritten_kept, written_holds, written_keeps}
 use Rattle.lethe_core.proofs.holding.Core.write_now.Goals as goal
 
 pub returns-in_default-clause-keeps : goal.returns-in_default-clause-keeps
@@ -78,7 +78,7 @@ returns-in-Err-Failed-clause-keeps g c =
     let told : Rose c.args.before (g.D.Disk.faults c.write_page-placed.new.disk) = omega (arith, rose, from) in
     refused_keeps g.D.Disk.tells (view_of self) may.sound _ c.args.before may
     (λ told s holds. (rw c.in-Some.ensures.some at (c.write_page-placed.ensures.any_moment told s (stays g.D.Disk.tells (view_of self) flying is may.sound))) (may_write g.D.Disk.tells (view_of self) flying is may.sound told s holds))
-    (λ told. laws.itself told c.write_page-placed.new.disk) c.write_page-placed.ensures.cause.later (refused.Fault c.stop-place.result c.args.before c.faults.result)
+    (λ told. laws.itself told c.write_page-placed.new.disk) c.write_page-placed.ensures.cause.later (unwritten_kept g.D.Disk.tells (view_of self) flying is may.sound (g.D.Disk.seen c.write_page-placed.new.disk) (λ told. rw c.in-Some.ensures.some at (c.write_page-placed.ensures.beside told)) may.runs) (refused.Fault c.stop-place.result c.args.before c.faults.result)
     (c.stop-place.ensures.place, refl, c.faults.ensures, told, c.stop-place.ensures.is, record { levels = refl; retired = refl; flight = as_written g.D.Disk.tells (view_of self) flying is may.sound written kept; begun = refl; rounds = refl; pins = refl })
 
 pub returns-in-Err-Failed-clause-drawn : goal.returns-in-Err-Failed-clause-drawn
@@ -97,7 +97,7 @@ returns-in-Err-NoMemory-clause-keeps g c =
     let kept = on_err c.write_page-placed.result NoMemory (written ≡ c.in-Some-take.flight.written) failed c.write_page-placed.ensures.kept in
     refused_keeps g.D.Disk.tells (view_of self) may.sound _ c.args.before may
     (λ told s holds. (rw c.in-Some.ensures.some at (c.write_page-placed.ensures.any_moment told s (stays g.D.Disk.tells (view_of self) flying is may.sound))) (may_write g.D.Disk.tells (view_of self) flying is may.sound told s holds))
-    (λ told. laws.itself told c.write_page-placed.new.disk) c.write_page-placed.ensures.cause.later refused.NoMemory (
+    (λ told. laws.itself told c.write_page-placed.new.disk) c.write_page-placed.ensures.cause.later (unwritten_kept g.D.Disk.tells (view_of self) flying is may.sound (g.D.Disk.seen c.write_page-placed.new.disk) (λ told. rw c.in-Some.ensures.some at (c.write_page-placed.ensures.beside told)) may.runs) refused.NoMemory (
       refl,
       record { levels = refl; retired = refl; flight = as_written g.D.Disk.tells (view_of self) flying is may.sound written kept; begun = refl; rounds = refl; pins = refl },
       λ told. refused_at_once (g.D.Disk.seen self.disk) (g.D.Disk.seen c.write_page-placed.new.disk) (c.write_page-placed.ensures.no_memory told failed),

@@ -9,7 +9,6 @@ use Rattle.lethe_stored.specs.Stored.{appended}
 use Rattle.lethe_core.specs.Asked.{Makes}
 use Rattle.lethe_core.specs.Changes.{with_record}
 use Rattle.lethe_core.specs.Merges.{AreRetiredBehind}
-use Rattle.lethe_core.specs.Pinned.{AreKept}
 use Rattle.lethe_core.specs.Reasons.{HasReason, IsShortOfRoom, IsUnreadable}
 use Rattle.lethe_core.specs.Running.{Holds}
 use Rattle.lethe_core.specs.Steps.{IsUndone}
@@ -18,7 +17,7 @@ use Rattle.lethe_core.proofs.Likes.{jobs_same}
 use Rattle.lethe_core.proofs.Roomed.{sees_room}
 use Rattle.lethe_engine.specs.Answers.{Answers}
 use Rattle.lethe_engine.specs.Refusals.{HasReasonOfChange}
-use Rattle.lethe_engine.proofs.Calls.{if_done, if_refused, itself_answers, recorded_answers, refused_is_none, unroomed_answers}
+use Rattle.lethe_engine.proofs.Calls.{if_refused, itself_answers, recorded_answers, refused_is_none, unroomed_answers}
 use Rattle.lethe_engine.proofs.Faces.{jobs_with}
 use Rattle.lethe_engine.proofs.Onward.{erase_works}
 use Rattle.lethe_engine.proofs.Overs.{erase_for, erase_same}
@@ -82,7 +81,7 @@ returns-clause-answers g c =
     (λ told s holds. let done = c.in_ok-make_room.ensures.done told s holds in (done.0, done.1, done.2, done.3)) (λ s t is. is) (λ room. ap view_of (c.in_ok-make_room.ensures.room room).1)
     (jobs_same c.make_room.new.self c.record.new.self c.record.ensures.begun c.record.ensures.flight (ap (λ names. names.items) c.record.ensures.retired) c.record.ensures.pins) c.record.ensures.sound (c.record.ensures.count Asks) c.record.ensures.stopped reason
     (if_refused c.record.result (IsUndone g.D.Disk.tells mid new) c.record.ensures.undone) c.record.ensures.numbers c.record.ensures.faults
-    (λ none told. if_done c.record.result (AreKept mid.pins.pins mid.disk.directory new.disk.directory) (c.record.ensures.pinned told) none)
+    c.record.ensures.pinned
     (λ told config h caller still. c.record.ensures.stands told config h caller Asks refl still
     (erase_for config h mid still (ready.stopped ∙ fits.0) (subst (λ n. n < max_place) (sym ready.count) fits.1) caller c.args.range (search rules) (search rules) c.erase_record-next.result c.erase_record-next.ensures.is))
     (λ told config h caller still. c.record.ensures.any_moment told config h caller Asks still
