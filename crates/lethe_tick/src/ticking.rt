@@ -79,7 +79,7 @@ pub fn tick<D: Disk>(
     ensures begun { core.new.begun ≡ core.old.begun }
     ensures pins { core.new.pins ≡ core.old.pins }
 
-    // What pins name stays as it is, unless the disk fails; behind a tick nothing else lies beside what is stored.
+    // What pins name stays as it is, also where the disk fails; behind a tick nothing else lies beside what is stored.
     ensures pinned { D.tells → AreKept (view_of core.old).pins.pins (D.seen core.old.disk).directory (D.seen core.new.disk).directory }
     ensures named { D.tells → OnOk result (AreNamed (view_of core.new).pins.pins (view_of core.new).retired) }
     ensures port_faults { D.port_faults port.old ≤ D.port_faults port.new }
