@@ -18,6 +18,9 @@ const BEHIND: [(usize, u64); 5] = [(0, 0), (1, 0), (0, 0), (0, 99), (0, 100)];
 /// From so many changes on no object has the value.
 const CLEAN: u64 = 3;
 
+/// The first answer with the pin of the rows held, and how many there are up to its release.
+const HELD: (usize, usize) = (3, 5);
+
 /// A pin that is made now, and what it reads.
 const NOW: [Ask; 2] = [Ask::Pin(Which::One), Ask::Read(Which::One, &["a"])];
 
@@ -140,14 +143,30 @@ fn must_keep(alloc: Global, disk: MemDisk, done: u64) -> Result<(), Fail> {
     Ok(())
 }
 
-/// The same of each disk that a crash may leave of this, behind so many of its calls, and of the disk itself.
-fn must_keep_crashed(alloc: Global, disk: MemDisk, calls: u64, done: u64) -> Result<(), Fail> {
+/// Fails where the disk failed while the pin was held, and no object has the value that the pin reads any more.
+fn must_hold(alloc: Global, disk: &mut MemDisk, told: &[Told]) -> Result<(), Fail> {
+    let (first, count) = HELD;
+    let held = told
+        .iter()
+        .skip(first)
+        .take(count)
+        .any(|told| is_fault(told));
+    if held && !holds_value(alloc, disk)? {
+        return Err(Fail::new("a page that a pin names"));
+    }
+    Ok(())
+}
+
+/// Fails where a disk that a crash may leave of this, behind so many of its calls, or the disk itself keeps less than was told.
+fn must_keep_crashed(alloc: Global, disk: MemDisk, calls: u64, told: &[Told]) -> Result<(), Fail> {
     let mut disk = disk;
+    let done = count_done(told);
     disk.fuse(20_000);
     take_calls(alloc, &mut disk, calls)?;
     for image in IMAGES {
         must_keep(alloc, image_of(&disk, calls, image)?, done)?;
     }
+    must_hold(alloc, &mut disk, told)?;
     must_keep(alloc, disk, done)
 }
 
@@ -158,7 +177,7 @@ fn is_stopped(alloc: Global, calls: u64) -> Result<bool, Fail> {
     if !told.is_empty() && !read_their_points(&told, failed) {
         return Err(Fail::new(format_args!("behind {calls}: {told:?}")));
     }
-    must_keep_crashed(alloc, disk, calls, count_done(&told))?;
+    must_keep_crashed(alloc, disk, calls, &told)?;
     Ok(failed || told.is_empty())
 }
 
