@@ -124,10 +124,10 @@ unread_tells Ports act view slots is (refused.Cancelled begun other) reason fail
 
 -- and one of what a slot holds
 pub slot_unread_tells : (Ports : Type 0) (from upto : ℕ) (act : Act) (s : Standing) → IsRead act → (why : ReadRefused) → ((before after : ℕ) → why ≡ read.ReadFault before after → Ports)
-    → MatchResult (slot_unread_of why) (λ reply. IsTold Ports from upto act s reply s) (λ why. s ≡ s)
+    → IfOk (slot_unread_of why) (λ reply. IsTold Ports from upto act s reply s)
 slot_unread_tells Ports from upto act s is (read.ReadFault before after) fails = ((inl is, fails before after refl, refl), refl)
 slot_unread_tells Ports from upto act s is (read.Damaged name) fails = ((inl is, refl), refl)
-slot_unread_tells Ports from upto act s is read.NoMemory fails = refl
+slot_unread_tells Ports from upto act s is read.NoMemory fails = tt
 
 -- Lines, and what stays of them when the counts of faults lie further apart
 

@@ -1,5 +1,5 @@
 -- What comes of an act, in the words of the proofs.
-use Rattle.std.proofs.Common.{◌≡◌, ℕ, Result, Ok, Err, subst}
+use Rattle.std.proofs.Common.{◌≡◌, ℕ, Result, Ok, Err, refl, subst}
 use Rattle.std.specs.Prelude.{IfOk, IfErr, MatchResult}
 use Rattle.lethe_base.specs.History.{History}
 use Rattle.lethe_base.specs.declared.memory.NoMemory.{NoMemory}
@@ -15,6 +15,11 @@ ok_of P r p x is = subst (λ q. IfOk q P) is p
 
 pub err_of : {T E : Type 0} (P : E → Type 0) (r : Result T E) → IfErr r P → (x : E) → r ≡ Err x → P x
 err_of P r p x is = subst (λ q. IfErr q P) is p
+
+-- where there was no memory, all is as it was
+pub or_same : {T E X : Type 0} (P : T → Type 0) (r : Result T E) (x : X) → IfOk r P → MatchResult r P (λ why. x ≡ x)
+or_same P (Ok told) x p = p
+or_same P (Err why) x p = refl
 
 abbrev pub told_of : History → Course → Told
 told_of h c = record { history = h; course = c }

@@ -78,7 +78,7 @@ pub(crate) fn pin_get<D: Disk>(
     key: &Key,
 ) -> Result<Reply, NoMemory>
     ensures told { (from upto : ℕ) (s : Standing) (slot : ℕ) → pin_in s.slots slot ≡ Some (pin_of snapshot.now)
-        → MatchResult result (λ reply. IsTold D.ports_fail from upto (acts.PinGet slot key.now) s reply s) (λ why. s ≡ s) }
+        → IfOk result (λ reply. IsTold D.ports_fail from upto (acts.PinGet slot key.now) s reply s) }
     ensures served { D.tells → (begin : Start) (h : History) (caller slot faults moment : ℕ) → IsShown h snapshot.now
         → IfOk result (IsLookedUp D.ports_fail begin faults moment h caller (acts.PinGet slot key.now)) }
     ensures fetched { (no : ℕ) → result ≡ Ok (reply.Damaged no) → D.fetches port.old < D.fetches port.new }
@@ -102,7 +102,7 @@ pub(crate) fn pin_scan<D: Disk>(
     hi: &Key,
 ) -> Result<Reply, NoMemory>
     ensures told { (from upto : ℕ) (s : Standing) (slot : ℕ) → pin_in s.slots slot ≡ Some (pin_of snapshot.now)
-        → MatchResult result (λ reply. IsTold D.ports_fail from upto (acts.PinScan slot lo.now hi.now) s reply s) (λ why. s ≡ s) }
+        → IfOk result (λ reply. IsTold D.ports_fail from upto (acts.PinScan slot lo.now hi.now) s reply s) }
     ensures served { D.tells → (begin : Start) (h : History) (caller slot faults moment : ℕ) → IsShown h snapshot.now
         → IfOk result (IsLookedUp D.ports_fail begin faults moment h caller (acts.PinScan slot lo.now hi.now)) }
     ensures fetched { (no : ℕ) → result ≡ Ok (reply.Damaged no) → D.fetches port.old < D.fetches port.new }

@@ -19,7 +19,7 @@ use Rattle.lethe_run.specs.Serving.{IsAnswered, opened_in}
 use Rattle.lethe_run.proofs.Anywhere.{Tells, change_tells, unread_tells}
 use Rattle.lethe_run.proofs.Holding.{behind_held, counted, finds_free, finds_held, on_ok, pin_at, same_holds, same_slots, shown_at, ten_of}
 use Rattle.lethe_run.proofs.Looks.{looked_up, reads, read_answer, stat_answer, unread}
-use Rattle.lethe_run.proofs.Outcomes.{Outcome, ok_of, err_of}
+use Rattle.lethe_run.proofs.Outcomes.{Outcome, ok_of, err_of, or_same}
 use Rattle.lethe_run.proofs.Shorts.{few_frozen}
 use Rattle.lethe_run.proofs.Steps.{changes}
 use Rattle.lethe_run.proofs.Ticking.{of_tick, pins_kept, tick_tells, ticks}
@@ -340,7 +340,9 @@ returns-in-PinGet-clause-told g c =
     let view = view_of c.args.engine.now.core in
     let held = c.args.slots.now.held.items in
     let slots = slots_of view held in
-    rw c.in-PinGet.is (c.pin_get.ensures.told view.faults view.faults (standing_of view slots) c.in-PinGet.slot (pin_at held view c.in-PinGet.slot (Some c.snapshot.result.now) c.snapshot.ensures.held))
+    let s = standing_of view slots in
+    let told = c.pin_get.ensures.told view.faults view.faults s c.in-PinGet.slot (pin_at held view c.in-PinGet.slot (Some c.snapshot.result.now) c.snapshot.ensures.held) in
+    rw c.in-PinGet.is (or_same (λ reply. IsTold g.D.Disk.ports_fail view.faults view.faults (acts.PinGet c.in-PinGet.slot c.in-PinGet.key) s reply s) c.pin_get.result s told)
 
 pub returns-in-PinGet-clause-served : goal.returns-in-PinGet-clause-served
 returns-in-PinGet-clause-served g c = λ told begin from h caller on shown.
@@ -368,7 +370,9 @@ returns-in-PinScan-clause-told g c =
     let view = view_of c.args.engine.now.core in
     let held = c.args.slots.now.held.items in
     let slots = slots_of view held in
-    rw c.in-PinScan.is (c.pin_scan.ensures.told view.faults view.faults (standing_of view slots) c.in-PinScan.slot (pin_at held view c.in-PinScan.slot (Some c.snapshot-in-PinScan.result.now) c.snapshot-in-PinScan.ensures.held))
+    let s = standing_of view slots in
+    let told = c.pin_scan.ensures.told view.faults view.faults s c.in-PinScan.slot (pin_at held view c.in-PinScan.slot (Some c.snapshot-in-PinScan.result.now) c.snapshot-in-PinScan.ensures.held) in
+    rw c.in-PinScan.is (or_same (λ reply. IsTold g.D.Disk.ports_fail view.faults view.faults (acts.PinScan c.in-PinScan.slot c.in-PinScan.lo c.in-PinScan.hi) s reply s) c.pin_scan.result s told)
 
 pub returns-in-PinScan-clause-served : goal.returns-in-PinScan-clause-served
 returns-in-PinScan-clause-served g c = λ told begin from h caller on shown.

@@ -1,5 +1,5 @@
 use Rattle.std.proofs.Common.{◌≡◌, inr, Err, take, refl, sym, ap, ◌∙◌, subst, arith}
-use Rattle.std.specs.Prelude.{IfOk, MatchResult}
+use Rattle.std.specs.Prelude.{IfOk}
 use Rattle.lethe_base.specs.History.{after}
 use Rattle.lethe_base.specs.Read.{answer}
 use Rattle.lethe_base.specs.Read as answers
@@ -33,7 +33,7 @@ pub returns-in-Err-clause-told : goal.returns-in-Err-clause-told
 returns-in-Err-clause-told g c = λ from upto s slot there.
     let Ports = g.D.Disk.ports_fail in
     let act = acts.PinScan slot c.args.lo.now c.args.hi.now in
-    subst (λ r. MatchResult r (λ reply. IsTold Ports from upto act s reply s) (λ why. s ≡ s)) (sym c.unread.ensures)
+    subst (λ r. IfOk r (λ reply. IsTold Ports from upto act s reply s)) (sym c.unread.ensures)
     (slot_unread_tells Ports from upto act s (inr refl) c.in-Err.why (λ before after is. c.scan.ensures.can_fail (before, after, c.in-Err.is ∙ ap Err is)))
 
 pub returns-in-Err-clause-served : goal.returns-in-Err-clause-served
