@@ -24,7 +24,6 @@ use Rattle.lethe_clean.proofs.Stays.{step_untorn}
 use Rattle.lethe_clean.specs.Copied.{IsCopied}
 use Rattle.lethe_commit.specs.Append.{EndsAt}
 use Rattle.lethe_cover.specs.Steps.{with_done}
-use Rattle.lethe_disk.specs.Directory.{object}
 use Rattle.lethe_disk.specs.Disk.{Image}
 use Rattle.lethe_follows.proofs.Behind.{later_others}
 use Rattle.lethe_follows.proofs.Ticking.{kept_clocked, ticked_for}
