@@ -92,8 +92,8 @@ module _ (Tells : Type 0) (old : View) (sound : IsSound Tells old) (runs : old.s
   abbrev alone : View
   alone = record old { disk = disk; faults = faults; flight = None; retired = retired }
 
-  abbrev left : List (Name × List ℕ)
-  left = named_in old.disk.directory retired
+  abbrev staying : List (Name × List ℕ)
+  staying = named_in old.disk.directory retired
 
   cited_as_was : Tells → (s : Stored) → Holds old s → (name : Name) → IsCited s name → object disk.directory name ≡ object old.disk.directory name
   cited_as_was = cited_stays Tells old sound runs retired gone disk may others
@@ -114,7 +114,7 @@ module _ (Tells : Type 0) (old : View) (sound : IsSound Tells old) (runs : old.s
       record {
         settled = after.0;
         only = subst (λ l. HasOnly s l disk.directory) (sym same) after.1;
-        uncited = subst (AreUncited s) (sym same) (all_left (λ (named : Name × List ℕ). IsCited s named.0 → ⊥) left gone (may told s holds).uncited);
+        uncited = subst (AreUncited s) (sym same) (all_left (λ (named : Name × List ℕ). IsCited s named.0 → ⊥) staying gone (may told s holds).uncited);
         untorn = beside_untorn s old.disk.directory disk.directory holds.running.untorn (cited_as_was told s holds);
         copied = All-nil (IsCopied s);
         kept = kept_on s holds;
@@ -140,7 +140,7 @@ module _ (Tells : Type 0) (old : View) (sound : IsSound Tells old) (runs : old.s
     held = λ told. let held = sound.held told in (held.0, held.1, λ runs. removed_running told held.0 (record { remembers = held.1; running = held.2 runs }));
   }
 
-  pub removed_keeps : (Tells → (s : Stored) → MayRemove old.disk s left gone → Goes (λ c. Encodes c s) old.disk disk) → old.faults ≤ faults → Keeps Tells old alone None
+  pub removed_keeps : (Tells → (s : Stored) → MayRemove old.disk s staying gone → Goes (λ c. Encodes c s) old.disk disk) → old.faults ≤ faults → Keeps Tells old alone None
   removed_keeps goes rose =
       let moments : Tells → (s : Stored) → Holds old s → Goes (λ c. Encodes c s) old.disk disk = λ told s holds. goes told s (may told s holds) in
       record {

@@ -34,16 +34,16 @@ told g c s holds =
     let fewer = pairs_few s.files (pending_of s) (files_few s coherent) (few_pending g.D.Disk.tells (view_of c.args.self.now) s c.requires holds) in
     (omega (arith, c.steps_down-steps.ensures, steps, few), omega (arith, c.unswept_pairs-pairs.ensures, pairs, fewer))
 
-pub returns-in-Ok-then-are_counted-clause-most : goal.returns-in-Ok-then-are_counted-clause-most
-returns-in-Ok-then-are_counted-clause-most g c = λ s holds.
-    let are = told g (goal.at.returns-in-Ok-then-are_counted-clause-most g c).After-unswept_pairs-pairs s holds in
+pub returns-then-are_counted-clause-most : goal.returns-then-are_counted-clause-most
+returns-then-are_counted-clause-most g c = λ s holds.
+    let are = told g (goal.at.returns-then-are_counted-clause-most g c).After-unswept_pairs-pairs s holds in
     let count : c.count.result ≡ count_of s = c.count.ensures ∙ holds.running.current.count in
     let erases : c.pending-erases.result.now ≡ pending_of s = c.pending-erases.ensures ∙ holds.remembers.pending in
     let low : All (λ (erase : Pending). erase.seq ≤ c.count.result) c.pending-erases.result.now = c.are_counted.ensures c.if-are_counted.true in
     let counted : HasCountedErases s = subst (λ n. All (λ (erase : Pending). erase.seq ≤ n) (pending_of s)) count (subst (λ (erases : List Pending). All (λ (erase : Pending). erase.seq ≤ c.count.result) erases) erases low) in
     inl (counted, omega (arith, are.0, are.1))
 
-pub returns-in-Ok-else-are_counted-clause-most : goal.returns-in-Ok-else-are_counted-clause-most
-returns-in-Ok-else-are_counted-clause-most g c = λ s holds.
-    let are = told g (goal.at.returns-in-Ok-else-are_counted-clause-most g c).After-unswept_pairs-pairs s holds in
+pub returns-in-Ok-clause-most : goal.returns-in-Ok-clause-most
+returns-in-Ok-clause-most g c = λ s holds.
+    let are = told g (goal.at.returns-in-Ok-clause-most g c).After-unswept_pairs-pairs s holds in
     inr (omega (arith, are.0, are.1))
