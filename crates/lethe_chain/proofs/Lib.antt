@@ -1,4 +1,4 @@
 mod Bytes
-mod Records
+pub mod Records
 mod Waiting
 mod Opening

@@ -26,7 +26,7 @@ fn entered(alloc: Global, records: List<Record>) -> Result<VecBuffer, NoMemory>
     let mut buffer = VecBuffer::new(alloc);
     for record in records.into_vec() {
         if let Record::Entry(entry) = record {
-            buffer.reserve()?;
+            buffer.reserve(1)?;
             buffer.insert(entry);
         }
     }

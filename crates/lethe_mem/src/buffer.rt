@@ -14,10 +14,11 @@ pub trait Buffer: Drop + Send + Sync {
 
     ghost spare: { Self → ℕ };
 
-    /// Takes memory for an insert. The entries stay, whatever it answers.
-    fn reserve(&mut self) -> Result<(), NoMemory>
+    /// Takes memory for so many inserts. The entries and the memory that was taken before stay, whatever it answers.
+    fn reserve(&mut self, more: usize) -> Result<(), NoMemory>
         ensures entries { entries self.new ≡ entries self.old }
-        ensures spare { OnOk result (1 ≤ spare self.new) };
+        ensures spare { OnOk result (more ≤ spare self.new) }
+        ensures kept { spare self.old ≤ spare self.new };
 
     /// Puts an entry in the place of the one of its key, or adds it. It takes no memory.
     fn insert(&mut self, entry: Entry)

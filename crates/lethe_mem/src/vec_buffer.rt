@@ -46,8 +46,8 @@ impl Buffer for VecBuffer {
 
     ghost ascending = { λ b. b.ascending };
 
-    fn reserve(&mut self) -> Result<(), NoMemory> {
-        self.sorted.reserve(1)?;
+    fn reserve(&mut self, more: usize) -> Result<(), NoMemory> {
+        self.sorted.reserve(more)?;
         Ok(())
     }
 

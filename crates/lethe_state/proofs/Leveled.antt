@@ -1,5 +1,5 @@
 -- The files by level, as the readers have them, and those that are stored.
-use Rattle.std.proofs.Common.{◌≡◌, ◌<◌, List, [], ◌∷◌, ◌++◌, length, map, All, Any, Contains, refl, sym, ap, ◌∙◌, subst, arith}
+use Rattle.std.proofs.Common.{◌≡◌, ◌<◌, Bool, true, false, List, [], ◌∷◌, ◌++◌, length, map, All, Any, Contains, refl, sym, ap, ◌∙◌, subst, arith}
 use Rattle.std.specs.Prelude.{flat_map, slice_index_or}
 use Rattle.std.proofs.lemmas.List.{get_or_default, map-append}
 use Rattle.std.proofs.lemmas.List.Elements.{All-contains, Contains-get_or}
@@ -86,3 +86,7 @@ module _ (s : Stored) (coherent : IsCoherent s) (levels : List (List Parts)) (ha
       let any : Any (λ page. Contains page entry) (map entries_in (parts.0).pages) = subst (λ pages. Any (λ page. Contains page entry) pages) (sym parts.2) pages.2 in
       any_mapped (λ header. 0 < bound key header) (λ (p : Parts). p.header) (all_parts levels)
       (key_may (λ (p : Parts). p.header) (λ (p : Parts). p.pages) key (all_parts levels) parts_agree (((parts.1).0, parts.0, (parts.1).1, (parts.1).2, (entry, (any, same)))))
+
+-- a test has one answer
+pub clash : (b : Bool) → b ≡ true → b ≡ false → ⊥
+clash b is not = cc

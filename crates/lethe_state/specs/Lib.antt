@@ -6,3 +6,4 @@ pub mod Room
 pub mod Made
 pub mod Left
 pub mod Ticking
+pub mod Waiting

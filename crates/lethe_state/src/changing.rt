@@ -37,7 +37,7 @@ pub struct Prepared {
 
 impl State {
     /// The time of the active buffer's entry of a key.
-    fn since_of(&self, key: &Key) -> Option<u64>
+    pub(crate) fn since_of(&self, key: &Key) -> Option<u64>
         requires { IsWritable self.now }
         ensures fits { IsTimeOrNone result }
         ensures is { result ≡ since_of key.now self.now.active.entries }
@@ -46,7 +46,7 @@ impl State {
     }
 
     /// Whether a buffer has an entry of a key.
-    fn is_buffered(&self, key: &Key) -> bool
+    pub(crate) fn is_buffered(&self, key: &Key) -> bool
         ensures { IsTrue result ↔ IsSome (option_or (entry_of key.now self.now.active.entries) (frozen_entry key.now self.now.frozen)) }
     {
         self.active.find(key).is_some()
@@ -136,32 +136,10 @@ impl State {
         ensures writable { IsWritable self.new }
     {
         let body = write_record(alloc, next)?;
-        let pending = self.pending_with(alloc, next)?;
-        self.active.reserve()?;
+        let pending = with_erase(alloc, self.pending.items(), next)?;
+        self.active.reserve(1)?;
         let end = behind(self.end, &body).ok_or(NoMemory)?;
         Ok(Prepared { body, end, pending })
-    }
-
-    /// The pending erases with that of the record. None where the record is no erase.
-    fn pending_with(&self, alloc: Global, next: &Record) -> Result<Option<List<Pending>>, NoMemory>
-        requires writable { IsWritable self.now }
-        requires spelled { RecordHasSpelling next.now }
-        ensures is { IfOk result (λ made. made ≡ option_map (λ erase. self.now.pending ++ erase ∷ []) (erase_of next.now)) }
-        ensures erases { OnOk result (AreErases (pending_with self.now.pending next.now)) }
-    {
-        let Record::Erase(erase) = next else {
-            return Ok(None);
-        };
-        let pending = self.pending.items();
-        // The places ascend: no manifest of a store has an erase behind all that are counted.
-        let is_behind = pending.last().is_none_or(|last| last.seq < erase.seq);
-        if !is_behind || pending.len() >= MAX_ERASES {
-            return Err(NoMemory);
-        }
-        let mut all = Vec::with_capacity(alloc, pending.len() + 1)?;
-        all.extend_from_slice(pending)?;
-        all.push(*erase)?;
-        Ok(Some(List::of(all)))
     }
 
     /// Enters the record of the next change, behind which the active segment ends there, and these erases are pending where it is one. Its memory was taken.
@@ -214,8 +192,33 @@ fn time_of(next: &Record) -> Option<u64>
     }
 }
 
+/// Pending erases with that of the record behind them. None where the record is no erase.
+pub(crate) fn with_erase(
+    alloc: Global,
+    pending: &[Pending],
+    next: &Record,
+) -> Result<Option<List<Pending>>, NoMemory>
+    requires pending { AreErases pending.now }
+    requires spelled { RecordHasSpelling next.now }
+    ensures is { IfOk result (λ made. made ≡ option_map (λ erase. pending.now ++ erase ∷ []) (erase_of next.now)) }
+    ensures erases { OnOk result (AreErases (pending_with pending.now next.now)) }
+{
+    let Record::Erase(erase) = next else {
+        return Ok(None);
+    };
+    // The places ascend: no manifest of a store has an erase behind all that are counted.
+    let is_behind = pending.last().is_none_or(|last| last.seq < erase.seq);
+    if !is_behind || pending.len() >= MAX_ERASES {
+        return Err(NoMemory);
+    }
+    let mut all = Vec::with_capacity(alloc, pending.len() + 1)?;
+    all.extend_from_slice(pending)?;
+    all.push(*erase)?;
+    Ok(Some(List::of(all)))
+}
+
 /// The place of the gate byte that ends a segment once this body stands behind the one there.
-fn behind(end: u64, body: &[u8]) -> Option<u64>
+pub(crate) fn behind(end: u64, body: &[u8]) -> Option<u64>
     ensures { IfSome result (λ at. at ≡ end + length body.now + 1) }
 {
     end.checked_add(body.len() as u64)?.checked_add(1)

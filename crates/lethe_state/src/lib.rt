@@ -11,6 +11,7 @@ mod numbering;
 mod state;
 mod ticking;
 mod told;
+mod waiting;
 
 pub use changing::Prepared;
 pub use firsts::Firsts;
@@ -20,3 +21,4 @@ pub use laws::{
     like_is_remembered, put_is_recorded, room_stands, tick_is_remembered,
 };
 pub use state::State;
+pub use waiting::Waiting;

@@ -51,7 +51,7 @@ pub fn erase_of(seq: u64, time: u64, lo: u64, hi: u64) -> Result<Pending, Fail> 
 
 /// Puts an entry into a buffer.
 pub fn insert(buffer: &mut VecBuffer, entry: Entry) -> Result<(), Fail> {
-    buffer.reserve()?;
+    buffer.reserve(1)?;
     buffer.insert(entry);
     Ok(())
 }

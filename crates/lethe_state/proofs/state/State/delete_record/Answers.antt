@@ -1,14 +1,11 @@
-use Rattle.std.proofs.Common.{◌≡◌, ◌<◌, Bool, true, false, inl, inr, Any, sym, refl, ◌∙◌, subst}
+use Rattle.std.proofs.Common.{◌<◌, inl, inr, Any, sym, refl, ◌∙◌, subst}
 use Rattle.lethe_header.specs.declared.header.Header.{Header}
 use Rattle.lethe_advance.specs.Shown.{parts_in}
 use Rattle.lethe_version.specs.Probing.{bound}
 use Rattle.lethe_version.specs.Versions.{files_of, levels_of}
-use Rattle.lethe_state.proofs.Leveled.{any_mapped, any_unmapped, headers_same}
+use Rattle.lethe_state.proofs.Leveled.{any_mapped, any_unmapped, clash, headers_same}
 use Rattle.lethe_state.proofs.state.State.delete_record.Goals as goal
 use Rattle.lethe_state.proofs.state.State.delete_record.Goals.{then-is_buffered, else-is_buffered}
-
-clash : (b : Bool) → b ≡ true → b ≡ false → ⊥
-clash b is not = cc
 
 pub returns-then-may_hold-clause-is : goal.returns-then-may_hold-clause-is
 returns-then-may_hold-clause-is g c =
