@@ -1,11 +1,11 @@
 -- Merges and sweeps one after another.
-use Rattle.std.proofs.Common.{◌≡◌, ◌≤◌, ◌<◌, ◌⊎◌, inl, inr, ℕ, ◌+◌, ◌-◌, ◌^◌, min, List, [], ◌∷◌, ◌++◌, length, None, refl, ◌∙◌, subst, arith}
+use Rattle.std.proofs.Common.{◌≡◌, ◌≤◌, ◌<◌, ◌⊎◌, inl, inr, ℕ, ◌+◌, ◌-◌, ◌^◌, min, List, [], ◌∷◌, ◌++◌, length, None, refl, ap, ◌∙◌, subst, arith}
 use Rattle.std.specs.Prelude.{Option}
 use Rattle.std.proofs.lemmas.List.Sums.{sum_by-append}
 use Rattle.lethe_base.specs.declared.name.Name.{Name}
 use Rattle.lethe_base.specs.declared.pending.Pending.{Pending}
 use Rattle.lethe_fade.specs.declared.plan.Plan.{Plan}
-use Rattle.lethe_stored.specs.Stored.{Stored, pending_of}
+use Rattle.lethe_stored.specs.Stored.{Stored, IsCoherent, pending_of}
 use Rattle.lethe_job.specs.Works.{reads_of}
 use Rattle.lethe_pins.specs.Held.{Held}
 use Rattle.lethe_pins.specs.declared.pin.Pin.{Pin}
@@ -31,6 +31,19 @@ module _ (chosen : Stored → Option Plan) where
   some_ended : (s : Stored) (outcomes : List Outcome) (t : Stored) → AreSomeOutcomesBy chosen s outcomes t → HasNoMergeBy chosen t → AreOutcomesBy chosen s outcomes t
   some_ended s [] t are none = (subst (HasNoMergeBy chosen) are none, are)
   some_ended s (outcome ∷ more) t are none = (are.0, some_ended outcome.to more t are.1 none)
+
+  pub ended_some : (s : Stored) (outcomes : List Outcome) (t : Stored) → AreOutcomesBy chosen s outcomes t → AreSomeOutcomesBy chosen s outcomes t
+  ended_some s [] t are = are.1
+  ended_some s (outcome ∷ more) t are = (are.0, ended_some outcome.to more t are.1)
+
+  -- each leaves less to do
+  pub outcomes_few : (s : Stored) (outcomes : List Outcome) (t : Stored) → IsCoherent s → HasCountedErases s → AreSomeOutcomesBy chosen s outcomes t → length outcomes + jobs_left t ≤ jobs_left s
+  outcomes_few s [] t coherent counted are = let same : jobs_left t ≡ jobs_left s = ap jobs_left are in omega (arith, same)
+  outcomes_few s (outcome ∷ more) t coherent counted are =
+      let is = are.0 in
+      let less = goes_on s outcome.to outcome.task coherent counted is.begun.planned is.installed in
+      let rest = outcomes_few outcome.to more t is.coherent (still_counted s outcome.task outcome.to is.installed counted) are.1 in
+      omega (arith, less, rest)
 
 -- behind a job the retired pages are those that a pin names
 named_behind : (outcomes : List Outcome) (next : Outcome) (pins : List Pin) (before retired : List Name) → AreNamed pins retired → AreRetiredBehind (outcomes ++ next ∷ []) pins before retired
@@ -140,14 +153,15 @@ module _ (chosen : Stored → Option Plan) (Tells : Type 0) (old mid : View) (be
   some_merged told s holds = let are = (merged.behind told s holds).1 in (are.to, (are.outcomes, are.are), are.holds)
 
   -- there are no more jobs than there is to do, by either measure
-  pub too_many : MayStep Tells old before → Tells → (s : Stored) → Holds old s → (most : ℕ) → (HasCountedErases s × (most ≡ jobs_left s)) ⊎ (most ≡ jobs_at_most s)
+  pub too_many : MayStep Tells old before → Tells → (s : Stored) → Holds old s → (most : ℕ) → (HasCountedErases s × (most ≡ jobs_left s)) ⊎ ((HasCountedErases s → ⊥) × (most ≡ jobs_at_most s))
       → min (most + 1) (2 ^ 128 - 1) ≤ count → ⊥
   too_many may told s holds most (inl counted) many =
       let down = ((merged.behind told s holds).1.down counted.0).1 in
       let most_is = counted.1 in
       let few = few_jobs s holds.remembers.coherent (few_pending Tells old s may.sound holds) in
       omega (arith, down, few, most_is, many)
-  too_many may told s holds most (inr most_is) many =
+  too_many may told s holds most (inr uncounted) many =
       let down = (merged.behind told s holds).1.always in
+      let most_is = uncounted.1 in
       let few = few_at_most s holds.remembers.coherent (few_pending Tells old s may.sound holds) in
       omega (arith, down, few, most_is, many)

@@ -61,7 +61,7 @@ last_number : (o : Option Segment) (number : ℕ) → slice_index (map number_of
 last_number None number = refl
 last_number (Some older) number = refl
 
-active_number : (s : Stored) (view : View) → Remembers s view.state view.levels → slice_index view.state.manifest.segments (length view.state.manifest.segments - 1) ≡ s.active.no
+pub active_number : (s : Stored) (view : View) → Remembers s view.state view.levels → slice_index view.state.manifest.segments (length view.state.manifest.segments - 1) ≡ s.active.no
 active_number s view is = ap (λ l. slice_index l (length l - 1)) (ap (λ (m : Manifest). m.segments) is.manifest ∙ is.coherent.cites) ∙ last_number s.frozen s.active.no
 
 -- a job in flight merges or sweeps the same files and applies the same erases
@@ -87,16 +87,16 @@ module _ (view : View) (s : Stored) (holds : Holds view s) (next : Record) (spel
   coherent : IsCoherent s
   coherent = holds.remembers.coherent
 
-  name_is : segment_name number ≡ segment_name s.active.no
+  pub name_is : segment_name number ≡ segment_name s.active.no
   name_is = ap segment_name (number_is ∙ active_number s view holds.remembers)
 
   behind : count_of s < record_seq next
   behind = let count = running.current.count in omega (arith, count, place)
 
-  above : last_seq 0 s.active.records < record_seq next
+  pub above : last_seq 0 s.active.records < record_seq next
   above = let count = running.current.count in omega (arith, count, place)
 
-  coherent_next : IsCoherent (appended s next)
+  pub coherent_next : IsCoherent (appended s next)
   coherent_next = stored_appended s next coherent spelled above
 
   pub ready : (body : List ℕ) → body ≡ record_bytes next → IsReady view.disk (segment_name number) view.state.end body (addition s next)
@@ -205,12 +205,15 @@ module _ (view : View) (s : Stored) (holds : Holds view s) (next : Record) (spel
 
 -- What pins name are pages, and no segment
 
-pub beside_segment : (Tells : Type 0) (view : View) → IsSound Tells view → (d : Directory) (number : ℕ) → SameBut (segment_name number) view.disk.directory d → AreKept view.pins.pins view.disk.directory d
-beside_segment Tells view sound d number same name named =
-    let found = there_named view.pins.pins name named in
-    let pages = All-contains (λ (pin : Pin). All (λ (name : Name). name.kind ≡ kinds.Page) pin.names) view.pins.pins found.0 sound.pages found.1 in
+pub pages_beside : (pins : List Pin) → All (λ pin. All (λ name. name.kind ≡ kinds.Page) pin.names) pins → (d c : Directory) (number : ℕ) → SameBut (segment_name number) d c → AreKept pins d c
+pages_beside pins each d c number same name named =
+    let found = there_named pins name named in
+    let pages = All-contains (λ (pin : Pin). All (λ (name : Name). name.kind ≡ kinds.Page) pin.names) pins found.0 each found.1 in
     let page : name.kind ≡ kinds.Page = All-contains (λ (name : Name). name.kind ≡ kinds.Page) (found.0).names name pages found.2 in
     same name (λ e. let clash : kinds.Page ≡ kinds.Segment = sym page ∙ ap (λ (n : Name). n.kind) e in cc)
+
+pub beside_segment : (Tells : Type 0) (view : View) → IsSound Tells view → (d : Directory) (number : ℕ) → SameBut (segment_name number) view.disk.directory d → AreKept view.pins.pins view.disk.directory d
+beside_segment Tells view sound d number same = pages_beside view.pins.pins sound.pages view.disk.directory d number same
 
 -- What pins keep where the record stands there
 
@@ -236,14 +239,19 @@ module _ (view : View) (s : Stored) (next : Record) (d : Directory) (is : d ≡ 
       (Contains-append_left view.retired (names_in (loose_in view.flight)) name there) in
       inl (there, page_stays name drawn.0)))
 
--- the disk failed in the change
-pub failed_stands : (config : Fields) (h : History) (view : View) (stands : StandsNow config h view) → view.state.stopped ≡ None → view.state.count < max_place → (disk' : Seen) (faults' : ℕ)
-    → (caller : ℕ) (call : Call) → is_work call ≡ false → (b a : ℕ) → Image disk' disk'.directory → Goes (IsKeptOr config h (Some (done_by caller call))) view.disk disk'
+-- the disk failed in the change, and is left for the history before it, or for that with it
+pub failed_left : (config : Fields) (h : History) (view : View) (stands : StandsNow config h view) → view.state.stopped ≡ None → view.state.count < max_place → (disk' : Seen) (faults' : ℕ)
+    → (caller : ℕ) (call : Call) → is_work call ≡ false → (b a : ℕ) → IsLeft config disk' h (Some (done_by caller call))
     → StandsNow config (with_failed h caller call b a) (moved view disk' faults' (halted view.state))
-failed_stands config h view stands runs fits disk' faults' caller call change_is b a here goes =
+failed_left config h view stands runs fits disk' faults' caller call change_is b a left =
     let change : Change = record { caller = caller; call = call; did = Failed b a } in
-    let left = left_at_end config h (Some (done_by caller call)) view.disk disk' here goes in
     let retry : IsLeft config disk' h (Some change) = record { now = left.now; images = left.images } in
     stopped_stands config h change b a (moved view disk' faults' (halted view.state)) stands.stored stands.legal (stands_done config h view stands runs) (subst (λ n. n < max_place) stands.count fits)
     refl (ap (λ n. n + 1) stands.count) (ap (λ n. Some (n + 1)) stands.count) (halted_remembered stands.stored view.state view.levels stands.remembers) stands.config_is
     (stands_for config h view stands runs) (subst (IsLeft config disk' h) (ap (λ t. cond t None (Some change)) (sym change_is)) retry) stands.counted stands.recorded
+
+pub failed_stands : (config : Fields) (h : History) (view : View) (stands : StandsNow config h view) → view.state.stopped ≡ None → view.state.count < max_place → (disk' : Seen) (faults' : ℕ)
+    → (caller : ℕ) (call : Call) → is_work call ≡ false → (b a : ℕ) → Image disk' disk'.directory → Goes (IsKeptOr config h (Some (done_by caller call))) view.disk disk'
+    → StandsNow config (with_failed h caller call b a) (moved view disk' faults' (halted view.state))
+failed_stands config h view stands runs fits disk' faults' caller call change_is b a here goes =
+    failed_left config h view stands runs fits disk' faults' caller call change_is b a (left_at_end config h (Some (done_by caller call)) view.disk disk' here goes)

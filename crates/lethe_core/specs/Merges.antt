@@ -11,7 +11,7 @@ use Rattle.lethe_fade.specs.Due.{due}
 use Rattle.lethe_fade.specs.declared.plan.Plan.{Plan}
 use Rattle.lethe_follows.specs.Merged.{at}
 use Rattle.lethe_stored.specs.Files.{StoredFile}
-use Rattle.lethe_stored.specs.Stored.{Stored, layout_of}
+use Rattle.lethe_stored.specs.Stored.{Stored, IsCoherent, layout_of}
 use Rattle.lethe_advance.specs.Settled.{AreDrawn, names_in}
 use Rattle.lethe_advance.specs.Steps.{IsStep}
 use Rattle.lethe_pins.specs.Held.{is_named}
@@ -75,10 +75,11 @@ pub record IsBegunBy (chosen : Stored → Option Plan) (s : Stored) (task : Plai
   pub is_chosen : chosen s ≡ Some (plan_of task)
   pub planned : IsPlanned s task
 
--- the job that is chosen, with its outcome
+-- the job that is chosen, with its outcome, whose parts agree
 pub record IsOutcomeBy (chosen : Stored → Option Plan) (s : Stored) (outcome : Outcome) : Type 0 where
   pub begun : IsBegunBy chosen s outcome.task
   pub installed : IsInstalled s outcome.task outcome.to
+  pub coherent : IsCoherent outcome.to
 
 -- the jobs that are chosen, one after another, until none is
 abbrev pub AreOutcomesBy : (Stored → Option Plan) → Stored → List Outcome → Stored → Type 0

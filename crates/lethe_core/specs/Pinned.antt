@@ -42,3 +42,7 @@ pub record AreTimely (threshold : ℕ) (h : History) (pins : List Pin) (retired 
 -- each object that a pin names is in the second directory as it is in the first, byte for byte
 abbrev pub AreKept : List Pin → Directory → Directory → Type 0
 AreKept pins d c = (name : Name) → IsTrue (is_named pins name) → object c name ≡ object d name
+
+-- each object that is named by pins before and by pins behind is as it was, byte for byte
+abbrev pub AreKeptBy : List Pin → List Pin → Directory → Directory → Type 0
+AreKeptBy before behind d c = (name : Name) → IsTrue (is_named before name) → IsTrue (is_named behind name) → object c name ≡ object d name

@@ -1,5 +1,5 @@
 //! How much merges and sweeps have still to do, by the headers of files.
-ghost use Rattle.std.specs.Prelude.{◌≡◌, ◌*◌, ◌-◌, ◌<◌, ◌≤◌, ◌^◌, All, AllPairs, IsTrue, min, map};
+ghost use Rattle.std.specs.Prelude.{◌≡◌, ◌*◌, ◌-◌, ◌<◌, ◌≤◌, ◌^◌, ◌↔◌, All, AllPairs, IsTrue, min, map};
 ghost use Rattle.lethe_header.specs.Headers.{entries_in};
 ghost use Rattle.lethe_stored.specs.Files.{lines_in};
 ghost use Rattle.lethe_core.specs.Descent.{steps_down, unswept_pairs};
@@ -56,7 +56,7 @@ pub(crate) fn unswept_pairs<D: Disk>(files: &[Filed<D>], erases: &[Pending]) -> 
 
 /// Whether the places of all erases are counted.
 pub(crate) fn are_counted(erases: &[Pending], count: u64) -> bool
-    ensures { IsTrue result → All (λ erase. erase.seq ≤ count) erases.now }
+    ensures { IsTrue result ↔ All (λ erase. erase.seq ≤ count) erases.now }
 {
     erases.iter().all(|erase| erase.seq <= count)
 }

@@ -72,7 +72,7 @@ impl<D: Disk> Core<D> {
     }
 
     /// The number of the active segment.
-    pub(crate) fn active_number(&self) -> u64
+    pub fn active_number(&self) -> u64
         requires { IsWritable self.now.state }
         ensures { result ≡ slice_index self.now.state.manifest.segments (length self.now.state.manifest.segments - 1) }
     {

@@ -1,16 +1,25 @@
 //! What is true of the merges and sweeps of a store. The functions do nothing: their contracts are the laws.
-ghost use Rattle.std.specs.Prelude.{◌<◌, ◌^◌, length};
+ghost use Rattle.std.specs.Prelude.{◌⊎◌, ◌<◌, ◌≤◌, ◌+◌, ◌^◌, List, Option, length};
 ghost use Rattle.lethe_base.specs.History.{History};
+ghost use Rattle.lethe_fade.specs.declared.plan.Plan.{Plan};
 ghost use Rattle.lethe_install.specs.Outcomes.{IsInstalled};
 ghost use Rattle.lethe_job.specs.Works.{IsPlanned, PlainTask};
 ghost use Rattle.lethe_stored.specs.Kept.{IsFor};
 ghost use Rattle.lethe_stored.specs.Stored.{Stored, IsCoherent, pending_of};
 ghost use Rattle.lethe_core.specs.Descent.{HasCountedErases, jobs_at_most, jobs_left};
+ghost use Rattle.lethe_core.specs.Merges.{AreOutcomesBy, AreSomeOutcomesBy, Outcome};
 
-/// Once a job that was just begun is installed there is less to do: a merge brings entries a level down and makes no more of them, and the files that it makes wait for no erase; a sweep
-/// sweeps a file of one erase more, and makes no more entries.
+/// Once a job that was just begun is installed there is less to do, in a store that stands for a history: a merge brings entries a level down and makes no more of them, and the files that
+/// it makes wait for no erase; a sweep sweeps a file of one erase more, and makes no more entries.
 pub fn job_goes_on()
-    ensures { (s t : Stored) (task : PlainTask) → IsCoherent s → HasCountedErases s → IsPlanned s task → IsInstalled s task t → jobs_left t < jobs_left s }
+    ensures { (h : History) (s t : Stored) (task : PlainTask) → IsFor h s → IsCoherent s → IsPlanned s task → IsInstalled s task t → jobs_left t < jobs_left s }
+{}
+
+/// So the merges and sweeps that are chosen one after another, by whatever choice, are no more than what there was to do: the levels that all entries have still to go, and the pairs of a
+/// file and an erase that it waits for. What they leave to do is less by as many.
+pub fn jobs_are_bounded()
+    ensures { (chosen : Stored → Option Plan) (h : History) (s t : Stored) (outcomes : List Outcome) → IsFor h s → IsCoherent s
+        → AreSomeOutcomesBy chosen s outcomes t ⊎ AreOutcomesBy chosen s outcomes t → length outcomes + jobs_left t ≤ jobs_left s }
 {}
 
 /// Of any store, also one that counts fewer places than its erases have: once a job is installed there is less to do, by the measure in which a merge counts for more than

@@ -143,7 +143,7 @@ impl<D: Disk> Core<D> {
     /// No fewer than there may still be of merges and sweeps, one after another, by the headers of the files.
     fn most_jobs(&self, alloc: Global) -> Result<u128, Refused>
         requires { IsSound D.tells (view_of self.now) }
-        ensures most { (s : Stored) → Holds (view_of self.now) s → IfOk result (λ most. (HasCountedErases s × (most ≡ jobs_left s)) ⊎ (most ≡ jobs_at_most s)) }
+        ensures most { (s : Stored) → Holds (view_of self.now) s → IfOk result (λ most. (HasCountedErases s × (most ≡ jobs_left s)) ⊎ ((HasCountedErases s → ⊥) × (most ≡ jobs_at_most s))) }
         ensures refused { IfErr result (λ why. why ≡ refused.NoMemory) }
     {
         let manifest = self.state.manifest();

@@ -151,9 +151,10 @@ returns-clause-done g c = λ told s holds is.
     let begins : (s : Stored) → Holds view s → IsBegunBy (chosen_by c.args.choice) s task = λ s holds.
     subst (λ found. IfSome found (λ task. IsBegunBy (chosen_by c.args.choice) s (plain_task task))) found (c.in-Ok-Some.ensures.some s holds) in
     let next = next_outcome view task (λ s holds. (begins s holds).planned) (ap (option_map flying_of) c.requires.free) g.D.Disk.tells c.requires.may.sound.drawn
-    c.in-Ok.outcome c.deref.result.now c.in_ok-made.made c.in_ok-made.ensures.installs (record { named = c.in_ok-made.ensures.named; gone = c.in_ok-made.ensures.gone }) (sym c.deref.ensures.value) told s holds in (
+    c.in-Ok.outcome c.deref.result.now c.in_ok-made.made c.in_ok-made.ensures.installs (record { named = c.in_ok-made.ensures.named; gone = c.in_ok-made.ensures.gone }) (sym c.deref.ensures.value) told s holds in
+    let then = c.in_ok-merge_now.ensures.done told s task next.0 holds next.1 in (
       record { task = task; to = next.0 },
-      record { begun = begins s holds; installed = next.1.installed },
-      c.in_ok-merge_now.ensures.done told s task next.0 holds next.1,
+      record { begun = begins s holds; installed = next.1.installed; coherent = then.remembers.coherent },
+      then,
       c.in-Ok.ensures.fetches,
     )

@@ -9,6 +9,7 @@ use Rattle.lethe_core.specs.Running.{Holds}
 use Rattle.lethe_core.specs.View.{view_of}
 use Rattle.lethe_core.proofs.Descending.{few_steps}
 use Rattle.lethe_core.proofs.Outcomes.{few_pending}
+use Rattle.lethe_core.proofs.Roomed.{clash}
 use Rattle.lethe_core.proofs.Unswept.{files_few, pairs_few}
 use Rattle.lethe_core.proofs.holding.Core.most_jobs.Goals as goal
 use Rattle.lethe_core.proofs.holding.Core.most_jobs.Goals.{After-unswept_pairs-pairs}
@@ -39,11 +40,16 @@ returns-then-are_counted-clause-most g c = λ s holds.
     let are = told g (goal.at.returns-then-are_counted-clause-most g c).After-unswept_pairs-pairs s holds in
     let count : c.count.result ≡ count_of s = c.count.ensures ∙ holds.running.current.count in
     let erases : c.pending-erases.result.now ≡ pending_of s = c.pending-erases.ensures ∙ holds.remembers.pending in
-    let low : All (λ (erase : Pending). erase.seq ≤ c.count.result) c.pending-erases.result.now = c.are_counted.ensures c.if-are_counted.true in
+    let low : All (λ (erase : Pending). erase.seq ≤ c.count.result) c.pending-erases.result.now = c.are_counted.ensures.0 c.if-are_counted.true in
     let counted : HasCountedErases s = subst (λ n. All (λ (erase : Pending). erase.seq ≤ n) (pending_of s)) count (subst (λ (erases : List Pending). All (λ (erase : Pending). erase.seq ≤ c.count.result) erases) erases low) in
     inl (counted, omega (arith, are.0, are.1))
 
 pub returns-in-Ok-clause-most : goal.returns-in-Ok-clause-most
 returns-in-Ok-clause-most g c = λ s holds.
     let are = told g (goal.at.returns-in-Ok-clause-most g c).After-unswept_pairs-pairs s holds in
-    inr (omega (arith, are.0, are.1))
+    let count : c.count.result ≡ count_of s = c.count.ensures ∙ holds.running.current.count in
+    let erases : c.pending-erases.result.now ≡ pending_of s = c.pending-erases.ensures ∙ holds.remembers.pending in
+    let uncounted : HasCountedErases s → ⊥ = λ counted.
+    let low : All (λ (erase : Pending). erase.seq ≤ c.count.result) (pending_of s) = subst (λ n. All (λ (erase : Pending). erase.seq ≤ n) (pending_of s)) (sym count) counted in
+    clash c.are_counted.result (c.are_counted.ensures.1 (subst (λ (erases : List Pending). All (λ (erase : Pending). erase.seq ≤ c.count.result) erases) (sym erases) low)) c.if-are_counted.false in
+    inr (uncounted, omega (arith, are.0, are.1))
