@@ -17,3 +17,4 @@ pub mod Stepping
 pub mod Installing
 pub mod Changing
 pub mod Runs
+pub mod Kept

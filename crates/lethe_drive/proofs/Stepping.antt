@@ -52,7 +52,7 @@ given_steps PortsFail config h now is (job ∷ past) earlier =
       h,
       run_at now past,
       record { now = is; earlier = rest },
-      record { faults = omega arith; port_faults = omega arith },
+      record { faults = omega arith; port_faults = omega arith; pinned = λ name was now. refl },
       inl (record { front = []; job = job; back = past; among = refl; number_is = refl; answer_is = refl; history = refl; now = refl; past = refl }),
       given_steps PortsFail config h now is past rest,
     )

@@ -7,7 +7,7 @@ ghost use Rattle.lethe_stored.specs.Stored.{Stored};
 ghost use Rattle.lethe_core.specs.Running.{IsSound};
 ghost use Rattle.lethe_core.specs.View.{view_of};
 ghost use Rattle.lethe_engine.specs.StandsFor.{Opened, StandsSince};
-ghost use Rattle.lethe_drive.specs.Driving.{IsTheirs};
+ghost use Rattle.lethe_drive.specs.Driving.{IsPinnedKept, IsTheirs};
 ghost use Rattle.lethe_drive.specs.Moments.{IsKnown, moment_of, numbers_of, there_of};
 ghost use Rattle.lethe_drive.specs.Past.{IsTickAsked};
 ghost use Rattle.lethe_drive.specs.Steps.{IsStep};
@@ -42,6 +42,7 @@ pub(crate) fn answer<D: Disk>(
     ensures step { D.tells → (config : Fields) (opened : Opened) (h : History) → StandsSince config opened h (view_of engine.old.core) → (s : Stored) → IsKnown config h (view_of engine.old.core) s
         → (g : History) × (t : Stored) × IsKnown config g (view_of engine.new.core) t × StandsSince config opened g (view_of engine.new.core)
         × IsStep D.ports_fail h (moment_of (view_of engine.old.core) s (D.fetches port.old) (D.port_faults port.old) jobs.old.begun (there_of jobs.old) (numbers_of snapshots.old.items)) event result g (moment_of (view_of engine.new.core) t (D.fetches port.new) (D.port_faults port.new) jobs.new.begun (there_of jobs.new) (numbers_of snapshots.new.items)) }
+    ensures pinned { D.tells → IsPinnedKept (view_of engine.old.core) (view_of engine.new.core) }
     ensures faults { D.faults engine.old.core.disk ≤ D.faults engine.new.core.disk }
     ensures port_faults { D.port_faults port.old ≤ D.port_faults port.new }
     ensures begun { jobs.new.begun ≤ jobs.old.begun + 1 }
@@ -100,6 +101,7 @@ fn tick<D: Disk>(
     ensures step { D.tells → (config : Fields) (opened : Opened) (h : History) → StandsSince config opened h (view_of engine.old.core) → (s : Stored) → IsKnown config h (view_of engine.old.core) s → (snapshots : List ℕ)
         → (g : History) × (t : Stored) × IsKnown config g (view_of engine.new.core) t × StandsSince config opened g (view_of engine.new.core)
         × IsTick D.ports_fail to h (moment_of (view_of engine.old.core) s (D.fetches port.old) (D.port_faults port.old) jobs.old.begun (there_of jobs.old) snapshots) result g (moment_of (view_of engine.new.core) t (D.fetches port.new) (D.port_faults port.new) jobs.new.begun (there_of jobs.new) snapshots) }
+    ensures pinned { D.tells → IsPinnedKept (view_of engine.old.core) (view_of engine.new.core) }
     ensures faults { D.faults engine.old.core.disk ≤ D.faults engine.new.core.disk }
     ensures port_faults { D.port_faults port.old ≤ D.port_faults port.new }
     ensures begun { jobs.new.begun ≡ jobs.old.begun }

@@ -6,7 +6,7 @@ ghost use Rattle.lethe_stored.specs.Stored.{Stored};
 ghost use Rattle.lethe_core.specs.Running.{IsSound};
 ghost use Rattle.lethe_core.specs.View.{view_of};
 ghost use Rattle.lethe_engine.specs.StandsFor.{Opened, StandsSince};
-ghost use Rattle.lethe_drive.specs.Driving.{IsTheirs};
+ghost use Rattle.lethe_drive.specs.Driving.{IsPinnedKept, IsTheirs};
 ghost use Rattle.lethe_drive.specs.Moments.{IsKnown};
 ghost use Rattle.lethe_drive.specs.Past.{AreEarlier};
 ghost use Rattle.lethe_drive.specs.Runs.{run_of};
@@ -43,6 +43,7 @@ pub(crate) fn answer_any<D: Disk>(
     ensures event { D.tells → (config : Fields) (opened : Opened) (h : History) → StandsSince config opened h (view_of engine.old.core) → (s : Stored) → IsKnown config h (view_of engine.old.core) s
         → (g : History) × (t : Stored) × IsKnown config g (view_of engine.new.core) t × StandsSince config opened g (view_of engine.new.core)
         × IsEvent D.ports_fail h (run_of (view_of engine.old.core) s (D.fetches port.old) (D.port_faults port.old) jobs.old snapshots.old.items past.old.items) event result g (run_of (view_of engine.new.core) t (D.fetches port.new) (D.port_faults port.new) jobs.new snapshots.new.items past.new.items) }
+    ensures pinned { D.tells → IsPinnedKept (view_of engine.old.core) (view_of engine.new.core) }
     ensures faults { D.faults engine.old.core.disk ≤ D.faults engine.new.core.disk }
     ensures port_faults { D.port_faults port.old ≤ D.port_faults port.new }
     ensures begun { jobs.new.begun ≤ jobs.old.begun + 1 }

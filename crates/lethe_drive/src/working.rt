@@ -14,7 +14,7 @@ ghost use Rattle.lethe_core.specs.Running.{IsSound};
 ghost use Rattle.lethe_core.specs.View.{view_of};
 ghost use Rattle.lethe_engine.specs.StandsFor.{Opened, StandsSince};
 ghost use Rattle.lethe_drive.specs.Answers.{IsInstall, IsWriteOut};
-ghost use Rattle.lethe_drive.specs.Driving.{IsTheirs, IsWritingOn, pages_left};
+ghost use Rattle.lethe_drive.specs.Driving.{IsPinnedKept, IsTheirs, IsWritingOn, pages_left};
 ghost use Rattle.lethe_drive.specs.Moments.{IsKnown, going_of, moment_of, there_of};
 ghost use Rattle.lethe_drive.specs.Steps.{IsStep};
 ghost use Rattle.lethe_drive.specs.declared.event.Event.TheVariants as event;
@@ -39,6 +39,7 @@ pub(crate) fn begin<D: Disk>(engine: &mut Engine<D>, alloc: Global, jobs: &mut J
         → (g : History) × (t : Stored) × IsKnown config g (view_of engine.new.core) t × StandsSince config opened g (view_of engine.new.core)
         × IsStep D.ports_fail h (moment_of (view_of engine.old.core) s fetches faults jobs.old.begun (there_of jobs.old) snapshots) event.Begin result g (moment_of (view_of engine.new.core) t fetches faults jobs.new.begun (there_of jobs.new) snapshots) }
     ensures rounds { engine.new.core.begun.rounds ≡ engine.old.core.begun.rounds }
+    ensures pinned { D.tells → IsPinnedKept (view_of engine.old.core) (view_of engine.new.core) }
     ensures faults { D.faults engine.old.core.disk ≤ D.faults engine.new.core.disk }
     ensures begun { jobs.new.begun ≤ jobs.old.begun + 1 }
 {
@@ -68,6 +69,7 @@ pub(crate) fn write_out<D: Disk>(
         → (g : History) × (t : Stored) × IsKnown config g (view_of engine.new.core) t × StandsSince config opened g (view_of engine.new.core)
         × IsStep D.ports_fail h (moment_of (view_of engine.old.core) s fetches faults jobs.old.begun (there_of jobs.old) snapshots) (event.WriteOut number) result g (moment_of (view_of engine.new.core) t fetches faults jobs.new.begun (there_of jobs.new) snapshots) }
     ensures rounds { engine.new.core.begun.rounds ≡ engine.old.core.begun.rounds }
+    ensures pinned { D.tells → IsPinnedKept (view_of engine.old.core) (view_of engine.new.core) }
     ensures faults { D.faults engine.old.core.disk ≤ D.faults engine.new.core.disk }
     ensures begun { jobs.new.begun ≡ jobs.old.begun }
 {
@@ -105,6 +107,8 @@ fn write_next<D: Disk>(
         × IsWriteOut D.ports_fail (going_of number job.old) h (moment_of (view_of engine.old.core) s fetches faults begun (Some (going_of number job.old)) snapshots) result
         (behind h 0 (Serves Work) (result_err result)) (moment_of (view_of engine.new.core) t fetches faults begun (Some (going_of number job.new)) snapshots) }
     ensures rounds { engine.new.core.begun.rounds ≡ engine.old.core.begun.rounds }
+    ensures pins { engine.new.core.pins ≡ engine.old.core.pins }
+    ensures pinned { D.tells → IsPinnedKept (view_of engine.old.core) (view_of engine.new.core) }
     ensures faults { D.faults engine.old.core.disk ≤ D.faults engine.new.core.disk }
 {
     match job.next_piece(alloc)? {
@@ -131,6 +135,7 @@ pub(crate) fn install<D: Disk>(
         → (g : History) × (t : Stored) × IsKnown config g (view_of engine.new.core) t × StandsSince config opened g (view_of engine.new.core)
         × IsStep D.ports_fail h (moment_of (view_of engine.old.core) s fetches faults jobs.old.begun (there_of jobs.old) snapshots) (event.Install number) result g (moment_of (view_of engine.new.core) t fetches faults jobs.new.begun (there_of jobs.new) snapshots) }
     ensures rounds { engine.new.core.begun.rounds ≡ engine.old.core.begun.rounds }
+    ensures pinned { D.tells → IsPinnedKept (view_of engine.old.core) (view_of engine.new.core) }
     ensures faults { D.faults engine.old.core.disk ≤ D.faults engine.new.core.disk }
     ensures begun { jobs.new.begun ≡ jobs.old.begun }
 {
@@ -164,6 +169,7 @@ fn install_whole<D: Disk>(
         (behind h 0 (Serves Work) (result_err result)) (moment_of (view_of engine.new.core) t fetches faults jobs.new.begun (there_of jobs.new) snapshots) }
     ensures begun { jobs.new.begun ≡ jobs.old.begun }
     ensures rounds { engine.new.core.begun.rounds ≡ engine.old.core.begun.rounds }
+    ensures pinned { D.tells → IsPinnedKept (view_of engine.old.core) (view_of engine.new.core) }
     ensures faults { D.faults engine.old.core.disk ≤ D.faults engine.new.core.disk }
 {
     let Numbered { number, mut job } = numbered;
@@ -200,6 +206,8 @@ fn write_rest<D: Disk>(
         → (t : Stored) × IsKnown config (behind h 0 (Serves Work) (result_err result)) (view_of engine.new.core) t × StandsSince config opened (behind h 0 (Serves Work) (result_err result)) (view_of engine.new.core)
         × IsWritingOn D.ports_fail (view_of engine.old.core) (view_of engine.new.core) (D.port_faults job.old.port) (D.port_faults job.new.port) s t result }
     ensures rounds { engine.new.core.begun.rounds ≡ engine.old.core.begun.rounds }
+    ensures pins { engine.new.core.pins ≡ engine.old.core.pins }
+    ensures pinned { D.tells → IsPinnedKept (view_of engine.old.core) (view_of engine.new.core) }
     ensures faults { D.faults engine.old.core.disk ≤ D.faults engine.new.core.disk }
 {
     while write_next(engine, alloc, job)? {}
@@ -216,6 +224,7 @@ pub(crate) fn cancel<D: Disk>(engine: &mut Engine<D>, jobs: &mut Jobs<D>, number
         → (g : History) × (t : Stored) × IsKnown config g (view_of engine.new.core) t × StandsSince config opened g (view_of engine.new.core)
         × IsStep D.ports_fail h (moment_of (view_of engine.old.core) s fetches faults jobs.old.begun (there_of jobs.old) snapshots) (event.Cancel number) result g (moment_of (view_of engine.new.core) t fetches faults jobs.new.begun (there_of jobs.new) snapshots) }
     ensures rounds { engine.new.core.begun.rounds ≡ engine.old.core.begun.rounds }
+    ensures pinned { D.tells → IsPinnedKept (view_of engine.old.core) (view_of engine.new.core) }
     ensures faults { D.faults engine.old.core.disk ≤ D.faults engine.new.core.disk }
     ensures begun { jobs.new.begun ≡ jobs.old.begun }
 {

@@ -1,13 +1,10 @@
 -- What each call of a store says of itself: what it was asked, why it was refused if it was, the store before and the store behind.
-use Rattle.std.specs.Prelude.{◌≡◌, ◌≤◌, ◌+◌, ℕ, Option, None, IfSome, IsSome, IsTrue}
+use Rattle.std.specs.Prelude.{◌≡◌, ◌≤◌, ◌+◌, ℕ, Option, None, IfSome, IsSome}
 use Rattle.lethe_base.specs.History.{History}
 use Rattle.lethe_base.specs.declared.call.Call.{Call}
 use Rattle.lethe_base.specs.declared.call.Call.TheVariants.{Put, Delete, Erase, Tick, Work}
 use Rattle.lethe_base.specs.declared.config.Fields.{Fields}
-use Rattle.lethe_base.specs.declared.name.Name.{Name}
 use Rattle.lethe_base.specs.declared.refused.Refused.{Refused}
-use Rattle.lethe_disk.specs.Directory.{object}
-use Rattle.lethe_pins.specs.Held.{is_named}
 use Rattle.lethe_disk.specs.Disk.{IsIdle}
 use Rattle.lethe_disk.specs.Goes.{Goes}
 use Rattle.lethe_stored.specs.Left.{IsKeptOr}
@@ -16,6 +13,7 @@ use Rattle.lethe_stored.specs.Stored.{Stored}
 use Rattle.lethe_state.specs.declared.state.State.{State}
 use Rattle.lethe_core.specs.Asked.{Asked, Makes, Serves, behind, counted, stopped_by, written_by}
 use Rattle.lethe_core.specs.Merges.{IsRoomBegun}
+use Rattle.lethe_core.specs.Pinned.{AreKeptBy}
 use Rattle.lethe_core.specs.Running.{IsSound}
 use Rattle.lethe_core.specs.StandsNow.{StandsNow}
 use Rattle.lethe_core.specs.Steps.{IsDoneInPart, IsUndone}
@@ -74,4 +72,4 @@ pub record Answers (Tells : Type 0) (asked : Asked) (why : Option Refused) (face
   -- what the jobs and the pins have come to
   pub face_is : face_of new ≡ face
   -- each object that a pin names which is held before and behind is as it was, byte for byte, also where the disk failed
-  pub pinned : Tells → (name : Name) → IsTrue (is_named old.pins.pins name) → IsTrue (is_named new.pins.pins name) → object new.disk.directory name ≡ object old.disk.directory name
+  pub pinned : Tells → AreKeptBy old.pins.pins new.pins.pins old.disk.directory new.disk.directory

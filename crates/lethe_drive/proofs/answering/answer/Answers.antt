@@ -30,6 +30,7 @@ use Rattle.lethe_drive.proofs.Changing.{changed}
 use Rattle.lethe_drive.proofs.Freezing.{worked}
 use Rattle.lethe_drive.proofs.Giving.{theirs_on}
 use Rattle.lethe_drive.proofs.Reading.{is_read}
+use Rattle.lethe_drive.proofs.Kept.{kept_but_pins, kept_itself}
 use Rattle.lethe_drive.proofs.answering.answer.Goals as goal
 
 -- what the call for an event comes to
@@ -366,3 +367,53 @@ returns-in-Pin-clause-rounds g c = inl (let same = c.pin.ensures.same in λ i. (
 
 pub returns-clause-rounds : goal.returns-clause-rounds
 returns-clause-rounds g c = inl (let same = c.release.ensures.same in λ i. (same i).core.begun.rounds)
+
+-- What pins name stays
+
+pub returns-in-Put-clause-pinned : goal.returns-in-Put-clause-pinned
+returns-in-Put-clause-pinned g c = c.put.ensures.answers.pinned
+
+pub returns-in-Delete-clause-pinned : goal.returns-in-Delete-clause-pinned
+returns-in-Delete-clause-pinned g c = c.delete.ensures.answers.pinned
+
+pub returns-in-Erase-clause-pinned : goal.returns-in-Erase-clause-pinned
+returns-in-Erase-clause-pinned g c = c.erase.ensures.answers.pinned
+
+pub returns-in-Tick-clause-pinned : goal.returns-in-Tick-clause-pinned
+returns-in-Tick-clause-pinned g c = c.tick.ensures.pinned
+
+pub returns-in-Ok-clause-pinned : goal.returns-in-Ok-clause-pinned
+returns-in-Ok-clause-pinned g c = λ told. kept_itself (view_of c.args.engine.now.core)
+
+pub returns-in-Get-clause-pinned : goal.returns-in-Get-clause-pinned
+returns-in-Get-clause-pinned g c = λ told. kept_itself (view_of c.args.engine.now.core)
+
+pub returns-in-Ok-scan-clause-pinned : goal.returns-in-Ok-scan-clause-pinned
+returns-in-Ok-scan-clause-pinned g c = λ told. kept_itself (view_of c.args.engine.now.core)
+
+pub returns-in-Scan-clause-pinned : goal.returns-in-Scan-clause-pinned
+returns-in-Scan-clause-pinned g c = λ told. kept_itself (view_of c.args.engine.now.core)
+
+pub returns-in-Freeze-clause-pinned : goal.returns-in-Freeze-clause-pinned
+returns-in-Freeze-clause-pinned g c = c.freeze.ensures.answers.pinned
+
+pub returns-in-Flush-clause-pinned : goal.returns-in-Flush-clause-pinned
+returns-in-Flush-clause-pinned g c = c.flush.ensures.answers.pinned
+
+pub returns-in-Begin-clause-pinned : goal.returns-in-Begin-clause-pinned
+returns-in-Begin-clause-pinned g c = c.begin.ensures.pinned
+
+pub returns-in-WriteOut-clause-pinned : goal.returns-in-WriteOut-clause-pinned
+returns-in-WriteOut-clause-pinned g c = c.write_out.ensures.pinned
+
+pub returns-in-Install-clause-pinned : goal.returns-in-Install-clause-pinned
+returns-in-Install-clause-pinned g c = c.install.ensures.pinned
+
+pub returns-in-Cancel-clause-pinned : goal.returns-in-Cancel-clause-pinned
+returns-in-Cancel-clause-pinned g c = c.cancel.ensures.pinned
+
+pub returns-in-Pin-clause-pinned : goal.returns-in-Pin-clause-pinned
+returns-in-Pin-clause-pinned g c = λ told. kept_but_pins (view_of c.args.engine.now.core) (view_of c.pin.new.engine.core) (view_of c.pin.new.engine.core).pins (let same = c.pin.ensures.same in λ i. view_of (same i).core)
+
+pub returns-clause-pinned : goal.returns-clause-pinned
+returns-clause-pinned g c = λ told. kept_but_pins (view_of c.args.engine.now.core) (view_of c.release.new.engine.core) (view_of c.release.new.engine.core).pins (let same = c.release.ensures.same in λ i. view_of (same i).core)

@@ -68,3 +68,9 @@ returns-else-rounds-clause-step g c = λ told config opened h stands s known sna
     (g.D.Disk.port_faults c.tick-answer.new.port) jobs.begun (there_of jobs) (there_of jobs) snapshots stands face result (tested g (goal.at.returns-else-rounds-clause-step g c).After-tick-answer)
     c.requires.sound.writable.count not refl in
     (behind h 0 (Makes (call.Tick to)) (result_err result), made.0, made.1, stood, made.2)
+
+pub returns-then-rounds-clause-pinned : goal.returns-then-rounds-clause-pinned
+returns-then-rounds-clause-pinned g c = c.tick-answer.ensures.answers.pinned
+
+pub returns-else-rounds-clause-pinned : goal.returns-else-rounds-clause-pinned
+returns-else-rounds-clause-pinned g c = c.tick-answer.ensures.answers.pinned

@@ -85,7 +85,7 @@ loop-event-preserved g c =
             subst (λ (replies : List Reply). Steps Ports config h start (c.loop-event.yielded ++ event ∷ []) replies step.0 finish) (sym pushed)
                 (one_more Ports config h start c.loop-event.yielded c.loop-event.replies.items so_far.0 middle so_far.4 event reply step.0 finish step.4
                 (record { now = moment_known config opened step.0 new step.3 step.1 step.2 fetches faults jobs.begun (there_of jobs) (numbers_of snapshots) (going_there g.D.Disk.tells new jobs is.jobs); earlier = is.earlier })
-                (record { faults = is.faults; port_faults = is.port_faults })),
+                (record { faults = is.faults; port_faults = is.port_faults; pinned = is.pinned told })),
           );
       faults = let before = c.loop-event.invariant.faults in let more = is.faults in omega (arith, before, more);
       room = let room = c.loop-event.invariant.room in let more = c.push.ensures.capacity in omega (arith, room, more);
@@ -182,7 +182,7 @@ returns-clause-driven g c = λ told config opened h stands s known.
           let known_now = known_end step.0 step.1 (subst (λ (view : View). IsKnown config step.0 view step.1) (sym same) step.2) in
           let stands_now = c.release_all.ensures.stands told config opened step.0 (subst (StandsSince config opened step.0) (sym same) step.3) in
           let driven = driven_on Ports config h start begins events replies so_far.0 mid so_far.1 fetches faults jobs.begun (there_of jobs) snapshots past so_far.4 is_now c.loop-event.invariant.earlier number
-          (sym c.number.ensures ∙ w.in-Some-number.is) reply step.0 new step.1 last.begun (there_of last) moment (record { faults = w.cancel.ensures.faults; port_faults = omega arith }) step.4 w.cancel.ensures.rounds end go
+          (sym c.number.ensures ∙ w.in-Some-number.is) reply step.0 new step.1 last.begun (there_of last) moment (record { faults = w.cancel.ensures.faults; port_faults = omega arith; pinned = w.cancel.ensures.pinned told }) step.4 w.cancel.ensures.rounds end go
           (moment_known config opened step.0 end stands_now step.1 known_now fetches faults last.begun None [] tt) in
           ended_as Ports config opened h start fetches faults end events (replies ++ (left ++ reply ∷ [])) (step.0, step.1, known_now, stands_now, last.begun, driven) end c.args.events.items c.match-number.replies.items
           refl (answered g at) (whole ∙ pushed ∙ ap (λ (l : List Reply). l ++ reply ∷ []) (all_given g at) ∙ append_assoc replies left (reply ∷ []))

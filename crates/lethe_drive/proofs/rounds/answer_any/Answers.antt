@@ -10,6 +10,7 @@ use Rattle.lethe_drive.proofs.Among.{none_named, number_at}
 use Rattle.lethe_drive.proofs.Events.{cancel_event, ended_event, kept_event, left_none, left_some, one_earlier, present_event, refused_event, still_earlier}
 use Rattle.lethe_drive.proofs.Left.{all_but, all_with}
 use Rattle.lethe_drive.proofs.Naming.{there_none}
+use Rattle.lethe_drive.proofs.Kept.{kept_itself}
 use Rattle.lethe_drive.proofs.rounds.answer_any.Goals as goal
 use Rattle.lethe_drive.proofs.rounds.answer_any.Goals.{After-answer-reply, in-Cancel, in_default, in_default-event, in-Some+in_default-place_of}
 
@@ -167,3 +168,15 @@ returns-in-Some-left-clause-earlier g c =
     let rounds = c.answer-reply.new.engine.core.begun.rounds in
     subst (AreEarlier rounds) (sym pushed) (one_earlier g.D.Disk.tells old c.args.jobs.now c.requires.jobs c.left-left.result c.left-left.ensures c.in-Some-left.job c.in-Some-left.is past c.requires.earlier rounds
     (omega (arith, many, c.rounds.ensures, c.rounds-rounds.ensures)))
+
+pub returns-in-Some-place_of-clause-pinned : goal.returns-in-Some-place_of-clause-pinned
+returns-in-Some-place_of-clause-pinned g c = λ told. kept_itself (view_of c.args.engine.now.core)
+
+pub returns-else-rounds-clause-pinned : goal.returns-else-rounds-clause-pinned
+returns-else-rounds-clause-pinned g c = c.answer-reply.ensures.pinned
+
+pub returns-in_default-left-clause-pinned : goal.returns-in_default-left-clause-pinned
+returns-in_default-left-clause-pinned g c = c.answer-reply.ensures.pinned
+
+pub returns-in-Some-left-clause-pinned : goal.returns-in-Some-left-clause-pinned
+returns-in-Some-left-clause-pinned g c = c.answer-reply.ensures.pinned

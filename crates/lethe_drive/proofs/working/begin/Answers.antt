@@ -81,3 +81,9 @@ returns-in-Ok-clause-rounds g c = ap (λ (face : Face). face.rounds) c.in-Ok.ens
 
 pub returns-in-Err-clause-rounds : goal.returns-in-Err-clause-rounds
 returns-in-Err-clause-rounds g c = ap (λ (face : Face). face.rounds) c.in-Err.ensures.answers.face_is
+
+pub returns-in-Ok-clause-pinned : goal.returns-in-Ok-clause-pinned
+returns-in-Ok-clause-pinned g c = c.in-Ok.ensures.answers.pinned
+
+pub returns-in-Err-clause-pinned : goal.returns-in-Err-clause-pinned
+returns-in-Err-clause-pinned g c = c.in-Err.ensures.answers.pinned

@@ -9,6 +9,7 @@ use Rattle.lethe_drive.specs.Moments.{going_of, moment_of, there_of}
 use Rattle.lethe_drive.specs.Steps.{IsThere}
 use Rattle.lethe_drive.proofs.Giving.{given, given_up, given_up_pins, given_up_retired, given_up_rounds, theirs_back, theirs_flies, theirs_none}
 use Rattle.lethe_drive.proofs.Naming.{no_such, none_there, other_there, put_back, there_is, there_none}
+use Rattle.lethe_drive.proofs.Kept.{kept_itself}
 use Rattle.lethe_drive.proofs.working.cancel.Goals as goal
 
 pub returns-in_default-clause-jobs : goal.returns-in_default-clause-jobs
@@ -83,3 +84,12 @@ returns-clause-step g c = λ told config opened h stands s known fetches faults 
       is_given.2,
       inr (going_of numbered.number numbered.job, (there_is jobs numbered there, c.if-numbered-number.false), c.cancel.result, c.united.ensures, is_given.3),
     )
+
+pub returns-in_default-clause-pinned : goal.returns-in_default-clause-pinned
+returns-in_default-clause-pinned g c = λ told. kept_itself (view_of c.args.engine.now.core)
+
+pub returns-then-numbered-number-clause-pinned : goal.returns-then-numbered-number-clause-pinned
+returns-then-numbered-number-clause-pinned g c = λ told. kept_itself (view_of c.args.engine.now.core)
+
+pub returns-clause-pinned : goal.returns-clause-pinned
+returns-clause-pinned g c = c.cancel.ensures.answers.pinned

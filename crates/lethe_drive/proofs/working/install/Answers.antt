@@ -8,6 +8,7 @@ use Rattle.lethe_drive.specs.Steps.{IsAsked}
 use Rattle.lethe_drive.proofs.Giving.{theirs_asked}
 use Rattle.lethe_drive.proofs.Installing.{asked_to_install, not_asked}
 use Rattle.lethe_drive.proofs.Naming.{none_there, other_there, refused_there}
+use Rattle.lethe_drive.proofs.Kept.{kept_itself}
 use Rattle.lethe_drive.proofs.working.install.Goals as goal
 use Rattle.lethe_drive.proofs.working.install.Goals.{then-numbered-number-via-then-numbered-number, then-numbered-number-via-else-numbered-number+then-is_refused}
 
@@ -55,3 +56,12 @@ returns-clause-step g c = λ told config opened h stands s known fetches faults 
       asked_to_install jobs g.D.Disk.ports_fail h (behind h 0 (Serves Work) (result_err result)) (view_of c.args.engine.now.core) s fetches faults c.args.number snapshots numbered result c.united.result
           (moment_of new step.0 fetches faults after.begun (there_of after) snapshots) (sym c.take.ensures.value ∙ c.in-Some.is) c.if-numbered-number.false (sym c.is_refused.ensures ∙ c.if-is_refused.false) c.united.ensures step.3,
     )
+
+pub returns-in_default-clause-pinned : goal.returns-in_default-clause-pinned
+returns-in_default-clause-pinned g c = λ told. kept_itself (view_of c.args.engine.now.core)
+
+pub returns-then-numbered-number-clause-pinned : goal.returns-then-numbered-number-clause-pinned
+returns-then-numbered-number-clause-pinned g c = λ told. kept_itself (view_of c.args.engine.now.core)
+
+pub returns-clause-pinned : goal.returns-clause-pinned
+returns-clause-pinned g c = c.install_whole.ensures.pinned

@@ -5,6 +5,7 @@ use Rattle.lethe_engine.proofs.Rounds.{flies_now, reason_of_work}
 use Rattle.lethe_drive.specs.Moments.{there_of}
 use Rattle.lethe_drive.proofs.Installing.{install_refused, installed_whole, rest_refused, task_back, theirs_spoilt}
 use Rattle.lethe_drive.proofs.Naming.{there_none}
+use Rattle.lethe_drive.proofs.Kept.{kept_then}
 use Rattle.lethe_drive.proofs.working.install_whole.Goals as goal
 
 pub returns-in-Err-clause-step : goal.returns-in-Err-clause-step
@@ -60,3 +61,12 @@ returns-in-Ok-clause-rounds g c = ap (λ (face : Face). face.rounds) c.in-Ok.ens
 
 pub returns-in-Err-install-clause-rounds : goal.returns-in-Err-install-clause-rounds
 returns-in-Err-install-clause-rounds g c = ap (λ (face : Face). face.rounds) c.in-Err-install.ensures.answers.face_is ∙ c.write_rest.ensures.rounds
+
+pub returns-in-Err-clause-pinned : goal.returns-in-Err-clause-pinned
+returns-in-Err-clause-pinned g c = c.write_rest.ensures.pinned
+
+pub returns-in-Ok-clause-pinned : goal.returns-in-Ok-clause-pinned
+returns-in-Ok-clause-pinned g c = λ told. kept_then (view_of c.args.engine.now.core) (view_of c.write_rest.new.engine.core) (view_of c.install.new.self.core) c.write_rest.ensures.pins (c.write_rest.ensures.pinned told) (c.in-Ok.ensures.answers.pinned told)
+
+pub returns-in-Err-install-clause-pinned : goal.returns-in-Err-install-clause-pinned
+returns-in-Err-install-clause-pinned g c = λ told. kept_then (view_of c.args.engine.now.core) (view_of c.write_rest.new.engine.core) (view_of c.install.new.self.core) c.write_rest.ensures.pins (c.write_rest.ensures.pinned told) (c.in-Err-install.ensures.answers.pinned told)

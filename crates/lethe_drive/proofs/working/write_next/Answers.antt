@@ -7,6 +7,7 @@ use Rattle.lethe_engine.proofs.Rounds.{flies_now, reason_of_work}
 use Rattle.lethe_drive.proofs.Knowing.{known_held, not_stopped, ok_or_err}
 use Rattle.lethe_drive.proofs.Paging.{no_page, page_written, refused_paged, unread_paged}
 use Rattle.lethe_drive.proofs.Writing.{fewer_left, left_of, none_left, still_works}
+use Rattle.lethe_drive.proofs.Kept.{kept_itself}
 use Rattle.lethe_drive.proofs.working.write_next.Goals as goal
 
 -- the outputs can't be made
@@ -99,3 +100,23 @@ returns-in-None-clause-step g c = λ told config opened h stands s known number 
       no_page g.D.Disk.tells g.D.Disk.ports_fail h old s number fetches faults begun snapshots c.args.job.now mid c.next_piece.ensures.task c.next_piece.ensures.round told (c.requires.reads told) c.requires.works c.next_piece.ensures.written asked.made
           c.next_piece.ensures.job asked.ok (none_left mid.made next c.args.job.now.written is asked.left),
     )
+
+-- What pins name stays
+
+pub returns-in_err-piece-clause-pinned : goal.returns-in_err-piece-clause-pinned
+returns-in_err-piece-clause-pinned g c = λ told. kept_itself (view_of c.args.engine.now.core)
+
+pub returns-in_err-write_out-in-Some-clause-pinned : goal.returns-in_err-write_out-in-Some-clause-pinned
+returns-in_err-write_out-in-Some-clause-pinned g c = c.in_err-write_out-in-Some.ensures.answers.pinned
+
+pub returns-in_err-write_out-in-Some-clause-pins : goal.returns-in_err-write_out-in-Some-clause-pins
+returns-in_err-write_out-in-Some-clause-pins g c = ap (λ (face : Face). face.pins) c.in_err-write_out-in-Some.ensures.answers.face_is
+
+pub returns-in_ok-write_out-in-Some-clause-pinned : goal.returns-in_ok-write_out-in-Some-clause-pinned
+returns-in_ok-write_out-in-Some-clause-pinned g c = c.in_ok-write_out-in-Some.ensures.answers.pinned
+
+pub returns-in_ok-write_out-in-Some-clause-pins : goal.returns-in_ok-write_out-in-Some-clause-pins
+returns-in_ok-write_out-in-Some-clause-pins g c = ap (λ (face : Face). face.pins) c.in_ok-write_out-in-Some.ensures.answers.face_is
+
+pub returns-in-None-clause-pinned : goal.returns-in-None-clause-pinned
+returns-in-None-clause-pinned g c = λ told. kept_itself (view_of c.args.engine.now.core)

@@ -8,6 +8,7 @@ use Rattle.lethe_drive.specs.Moments.{Going, going_of, moment_of, there_of}
 use Rattle.lethe_drive.specs.Steps.{IsAsked}
 use Rattle.lethe_drive.proofs.Giving.{theirs_asked, theirs_called, theirs_sound}
 use Rattle.lethe_drive.proofs.Naming.{no_such, none_there, other_there, put_back, refused_there, there_is}
+use Rattle.lethe_drive.proofs.Kept.{kept_itself}
 use Rattle.lethe_drive.proofs.working.write_out.Goals as goal
 use Rattle.lethe_drive.proofs.working.write_out.Goals.{in_default-via-in-Some+then-numbered-number+else-not-is_refused, in_default-via-in-Some+else-numbered-number, in_default-via-in_default}
 
@@ -65,3 +66,9 @@ returns-in_default-clause-step g c = λ told config opened h stands s known fetc
       | in_default-via-in_default w ↦ w.jobs-is
     ] in
     (h, s, known, stands, inl (no_such jobs h view s fetches faults number snapshots (IsAsked number (moment_of view s fetches faults jobs.begun (there_of jobs) snapshots)) none c.in_default.jobs same))
+
+pub returns-in-Some-clause-pinned : goal.returns-in-Some-clause-pinned
+returns-in-Some-clause-pinned g c = c.write_next.ensures.pinned
+
+pub returns-in_default-clause-pinned : goal.returns-in_default-clause-pinned
+returns-in_default-clause-pinned g c = λ told. kept_itself (view_of c.args.engine.now.core)

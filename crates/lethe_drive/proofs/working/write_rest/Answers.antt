@@ -3,6 +3,7 @@ use Rattle.lethe_job.specs.Tasks.{AreSound}
 use Rattle.lethe_job.specs.Works.{PlainTask, inputs_in, plain_task}
 use Rattle.lethe_core.specs.View.{view_of}
 use Rattle.lethe_drive.proofs.Resting.{Comes, Turns, all_written, rests_first, rests_on, turn_refused}
+use Rattle.lethe_drive.proofs.Kept.{kept_itself, kept_then}
 use Rattle.lethe_drive.proofs.working.write_rest.Goals as goal
 
 pub write_next-requires-clause-reads : goal.write_next-requires-clause-reads
@@ -19,6 +20,8 @@ loop-init g c = record {
   rounds = refl;
   faults = omega arith;
   port = inl refl;
+  pins = refl;
+  pinned = λ told. kept_itself (view_of c.args.engine.now.core);
   rests = rests_first g.D.Disk.tells (view_of c.args.engine.now.core) c.args.job.now c.requires.works;
 }
 
@@ -33,6 +36,8 @@ loop-preserved g c =
       rounds = c.write_next.ensures.rounds ∙ c.loop.invariant.rounds;
       faults = let so_far = c.loop.invariant.faults in let more = c.write_next.ensures.faults in omega arith;
       port = inr c.in_ok-write_next.ensures.made;
+      pins = c.write_next.ensures.pins ∙ c.loop.invariant.pins;
+      pinned = λ told. kept_then (view_of c.args.engine.now.core) (view_of c.loop.engine.core) (view_of c.write_next.new.engine.core) c.loop.invariant.pins (c.loop.invariant.pinned told) (c.write_next.ensures.pinned told);
       rests = rests_on g.D.Disk.tells g.D.Disk.ports_fail (view_of c.args.engine.now.core) (view_of c.loop.engine.core) (view_of c.write_next.new.engine.core) c.loop.job c.write_next.new.job true c.loop.invariant.rests
           (subst (Turns g.D.Disk.tells g.D.Disk.ports_fail (view_of c.args.engine.now.core) (view_of c.loop.engine.core) (view_of c.write_next.new.engine.core) c.loop.job c.write_next.new.job) ok c.write_next.ensures.step);
     }
@@ -51,3 +56,15 @@ returns-clause-step g c =
     all_written g.D.Disk.tells g.D.Disk.ports_fail (view_of c.args.engine.now.core) (view_of c.loop.engine.core) (view_of c.write_next.new.engine.core) c.loop.job c.write_next.new.job (g.D.Disk.port_faults c.args.job.now.port)
     (rests_on g.D.Disk.tells g.D.Disk.ports_fail (view_of c.args.engine.now.core) (view_of c.loop.engine.core) (view_of c.write_next.new.engine.core) c.loop.job c.write_next.new.job false c.loop.invariant.rests
     (subst (Turns g.D.Disk.tells g.D.Disk.ports_fail (view_of c.args.engine.now.core) (view_of c.loop.engine.core) (view_of c.write_next.new.engine.core) c.loop.job c.write_next.new.job) none c.write_next.ensures.step))
+
+pub returns-in_err-write_next-clause-pinned : goal.returns-in_err-write_next-clause-pinned
+returns-in_err-write_next-clause-pinned g c = λ told. kept_then (view_of c.args.engine.now.core) (view_of c.loop.engine.core) (view_of c.write_next.new.engine.core) c.loop.invariant.pins (c.loop.invariant.pinned told) (c.write_next.ensures.pinned told)
+
+pub returns-in_err-write_next-clause-pins : goal.returns-in_err-write_next-clause-pins
+returns-in_err-write_next-clause-pins g c = c.write_next.ensures.pins ∙ c.loop.invariant.pins
+
+pub returns-clause-pinned : goal.returns-clause-pinned
+returns-clause-pinned g c = λ told. kept_then (view_of c.args.engine.now.core) (view_of c.loop.engine.core) (view_of c.write_next.new.engine.core) c.loop.invariant.pins (c.loop.invariant.pinned told) (c.write_next.ensures.pinned told)
+
+pub returns-clause-pins : goal.returns-clause-pins
+returns-clause-pins g c = c.write_next.ensures.pins ∙ c.loop.invariant.pins

@@ -3,7 +3,7 @@ use Rattle.std.specs.Prelude.{IsSome}
 use Rattle.lethe_core.specs.Jobs.{IsAtWork}
 use Rattle.lethe_core.specs.Running.{IsSound}
 use Rattle.lethe_core.specs.View.{view_of}
-use Rattle.lethe_drive.specs.Driving.{pages_left}
+use Rattle.lethe_drive.specs.Driving.{IsPinnedKept, pages_left}
 use Rattle.lethe_drive.proofs.Resting.{Rests}
 use Rattle.lethe_drive.proofs.working.write_rest.Given as goal
 
@@ -17,6 +17,8 @@ invariant-loop g l = record {
   rounds : l.engine.core.begun.rounds ≡ l.fn.engine.core.begun.rounds;
   faults : g.D.Disk.faults l.fn.engine.core.disk ≤ g.D.Disk.faults l.engine.core.disk;
   port : (l.job.port ≡ l.fn.job.port) ⊎ IsSome l.job.made;
+  pins : l.engine.core.pins ≡ l.fn.engine.core.pins;
+  pinned : g.D.Disk.tells → IsPinnedKept (view_of l.fn.engine.core) (view_of l.engine.core);
   rests : Rests g.D.Disk.tells (view_of l.fn.engine.core) (view_of l.engine.core);
 }
 
