@@ -1,7 +1,7 @@
 #!/bin/sh
 # The pages: each relative link of README.md, CHANGELOG.md and docs/*.md leads to a file, and to a heading where it names one; each path
 # in backquotes that begins with crates/ is there; docs/CRATES.md is what tools/crates makes; README.md has at most 120
-# lines; and no cell of a table in docs/THEOREMS.md has over 40 words. Prints what is wrong, and ends with 1 then.
+# lines; and no cell of a table in docs/THEOREMS.md, GUIDE.md, COMMANDS.md and DELETING.md has over 40 words. Prints what is wrong, and ends with 1 then.
 cd "$(dirname -- "$0")/.." || exit 1
 command -v python3 >/dev/null || { echo "FAIL docs: it needs python3"; exit 1; }
 python3 - <<'END'
@@ -83,7 +83,8 @@ for page in PAGES:
     text = prose(read(page))
     check_links(page, text)
     check_paths(page, text)
-check_cells("docs/THEOREMS.md", read("docs/THEOREMS.md"))
+for name in ("THEOREMS", "GUIDE", "COMMANDS", "DELETING"):
+    check_cells(f"docs/{name}.md", read(f"docs/{name}.md"))
 lines = read("README.md").count("\n")
 if lines > 120:
     wrong.append(f"README.md: {lines} lines, past 120")
