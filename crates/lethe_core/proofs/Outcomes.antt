@@ -1,5 +1,5 @@
 -- Merges and sweeps one after another.
-use Rattle.std.proofs.Common.{◌≡◌, ◌≤◌, ◌<◌, ◌⊎◌, inl, inr, ℕ, ◌+◌, ◌-◌, ◌^◌, min, List, [], ◌∷◌, ◌++◌, length, None, refl, ap, ◌∙◌, subst, arith}
+use Rattle.std.proofs.Common.{◌≡◌, ◌≤◌, ◌<◌, ◌⊎◌, inl, inr, ℕ, ◌+◌, ◌-◌, ◌^◌, min, List, [], ◌∷◌, ◌++◌, length, None, Some, refl, ap, ◌∙◌, subst, arith}
 use Rattle.std.specs.Prelude.{Option}
 use Rattle.std.proofs.lemmas.List.Sums.{sum_by-append}
 use Rattle.lethe_base.specs.declared.name.Name.{Name}
@@ -11,17 +11,23 @@ use Rattle.lethe_pins.specs.Held.{Held}
 use Rattle.lethe_pins.specs.declared.pin.Pin.{Pin}
 use Rattle.lethe_core.specs.Descent.{HasCountedErases, jobs_at_most, jobs_left}
 use Rattle.lethe_core.specs.Keeps.{Keeps, MayStep}
-use Rattle.lethe_core.specs.Merges.{AreOutcomesBy, AreRetiredBehind, AreSomeOutcomesBy, HasNoMergeBy, IsOutcomeBy, Outcome, pages_of}
+use Rattle.lethe_core.specs.Merges.{AreOutcomesBy, AreRetiredBehind, AreSomeOutcomesBy, HasNoMergeBy, IsOutcomeBy, IsUncrowded, Outcome, pages_of, room_choice}
 use Rattle.lethe_core.specs.Pinned.{AreNamed}
 use Rattle.lethe_core.specs.Running.{Holds, IsSound}
 use Rattle.lethe_core.specs.Steps.{IsSteady}
-use Rattle.lethe_core.specs.View.{View}
+use Rattle.lethe_core.specs.View.{Flying, View}
 use Rattle.lethe_core.proofs.Behind.{next_may}
 use Rattle.lethe_core.proofs.Descending.{any_goes_on, few_at_most, few_jobs, goes_on}
 use Rattle.lethe_core.proofs.Hindered.{keeps_itself, keeps_then}
 use Rattle.lethe_core.proofs.Waiting.{still_counted}
 
 -- Some of the jobs that are chosen
+
+none_few : (s : Stored) (outcomes : List Outcome) (t : Stored) → outcomes ≡ [] → t ≡ s → length outcomes + jobs_left t ≤ jobs_left s
+none_few s outcomes t none same =
+    let zero : length outcomes ≡ 0 = ap length none in
+    let left : jobs_left t ≡ jobs_left s = ap jobs_left same in
+    omega (arith, zero, left)
 
 module _ (chosen : Stored → Option Plan) where
   some_more : (s : Stored) (outcomes : List Outcome) (t : Stored) (next : Outcome) → AreSomeOutcomesBy chosen s outcomes t → IsOutcomeBy chosen t next → AreSomeOutcomesBy chosen s (outcomes ++ next ∷ []) next.to
@@ -44,6 +50,12 @@ module _ (chosen : Stored → Option Plan) where
       let less = goes_on s outcome.to outcome.task coherent counted is.begun.planned is.installed in
       let rest = outcomes_few outcome.to more t is.coherent (still_counted s outcome.task outcome.to is.installed counted) are.1 in
       omega (arith, less, rest)
+
+-- so does each of those that make room
+pub uncrowded_few : (flight : Option Flying) (s : Stored) (outcomes : List Outcome) (t : Stored) → IsCoherent s → HasCountedErases s → IsUncrowded flight s outcomes t → length outcomes + jobs_left t ≤ jobs_left s
+uncrowded_few None s outcomes t coherent counted (inl all) = outcomes_few room_choice s outcomes t coherent counted (ended_some room_choice s outcomes t all.1)
+uncrowded_few None s outcomes t coherent counted (inr none) = none_few s outcomes t none.1 none.2
+uncrowded_few (Some flying) s outcomes t coherent counted is = none_few s outcomes t is.0 is.1
 
 -- behind a job the retired pages are those that a pin names
 named_behind : (outcomes : List Outcome) (next : Outcome) (pins : List Pin) (before retired : List Name) → AreNamed pins retired → AreRetiredBehind (outcomes ++ next ∷ []) pins before retired

@@ -115,13 +115,14 @@ abbrev pub IsMergedInPart : Option Flying → Stored → Stored → Type 0
 IsMergedInPart None s t = (t ≡ s) ⊎ (IsCrowded s × (outcomes : List Outcome) × AreSomeOutcomes s outcomes t)
 IsMergedInPart (Some flying) s t = t ≡ s
 
--- Room was made for a record where there was none: the frozen segment was flushed, if there was one, the active one was frozen, and then the jobs were carried
--- out.
+-- Room was made for a record where there was none: the frozen segment was flushed, if there was one, the active one was frozen, which left a store whose parts agree, and then
+-- the jobs were carried out.
 pub record IsCleared (flight : Option Flying) (s : Stored) (outcomes : List Outcome) (t : Stored) : Type 0 where
   pub middle : Stored
   pub unfrozen : IsUnfrozen s middle
   pub cleared : Stored
   pub frozen : IsFrozen middle cleared
+  pub coherent : IsCoherent cleared
   pub merges : IsUncrowded flight cleared outcomes t
 
 -- Where there is room nothing was done.

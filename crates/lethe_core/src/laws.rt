@@ -4,10 +4,12 @@ ghost use Rattle.lethe_base.specs.History.{History};
 ghost use Rattle.lethe_fade.specs.declared.plan.Plan.{Plan};
 ghost use Rattle.lethe_install.specs.Outcomes.{IsInstalled};
 ghost use Rattle.lethe_job.specs.Works.{IsPlanned, PlainTask};
+ghost use Rattle.lethe_state.specs.Room.{HasRoom};
 ghost use Rattle.lethe_stored.specs.Kept.{IsFor};
 ghost use Rattle.lethe_stored.specs.Stored.{Stored, IsCoherent, pending_of};
 ghost use Rattle.lethe_core.specs.Descent.{HasCountedErases, jobs_at_most, jobs_left};
-ghost use Rattle.lethe_core.specs.Merges.{AreOutcomesBy, AreSomeOutcomesBy, Outcome};
+ghost use Rattle.lethe_core.specs.Merges.{AreOutcomesBy, AreSomeOutcomesBy, IsCleared, Outcome};
+ghost use Rattle.lethe_core.specs.View.{Flying};
 
 /// Once a job that was just begun is installed there is less to do, in a store that stands for a history: a merge brings entries a level down and makes no more of them, and the files that
 /// it makes wait for no erase; a sweep sweeps a file of one erase more, and makes no more entries.
@@ -20,6 +22,12 @@ pub fn job_goes_on()
 pub fn jobs_are_bounded()
     ensures { (chosen : Stored → Option Plan) (h : History) (s t : Stored) (outcomes : List Outcome) → IsFor h s → IsCoherent s
         → AreSomeOutcomesBy chosen s outcomes t ⊎ AreOutcomesBy chosen s outcomes t → length outcomes + jobs_left t ≤ jobs_left s }
+{}
+
+/// So what a change carries out where it makes room is no more than what there was to do once both buffers were moved on, in a store that stands for a history.
+pub fn room_is_bounded()
+    ensures { (h : History) (flight : Option Flying) (s t : Stored) (outcomes : List Outcome) → IsFor h s → IsCoherent s → (HasRoom s → ⊥)
+        → (room : IsCleared flight s outcomes t) → IsFor h room.cleared × (length outcomes + jobs_left t ≤ jobs_left room.cleared) }
 {}
 
 /// Of any store, also one that counts fewer places than its erases have: once a job is installed there is less to do, by the measure in which a merge counts for more than

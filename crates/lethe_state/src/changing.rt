@@ -152,6 +152,7 @@ impl State {
         requires erases { AreErases (pending_with self.old.pending next) }
         ensures is { IsNext next end self.old self.new }
         ensures writable { IsWritable self.new }
+        ensures spare { self.old.active.spare ≤ self.new.active.spare + 1 }
     {
         self.oldest = earlier(self.oldest, time_of(&next));
         self.firsts = self.firsts.with(&next);

@@ -1,5 +1,5 @@
 -- What is stored once a tick has done all but move the clock: nothing is due once the erases that are done have left.
-use Rattle.std.proofs.Common.{◌≡◌, ◌≤◌, inl, inr, ℕ, List, [], ◌∷◌, true, Option, None, sym, ap, ◌∙◌, subst, arith}
+use Rattle.std.proofs.Common.{◌≡◌, ◌≤◌, inl, inr, ℕ, ◌+◌, List, [], ◌∷◌, true, Option, None, sym, ap, ◌∙◌, subst, arith}
 use Rattle.std.specs.Prelude.{IsTrue, filter}
 use Rattle.std.proofs.lemmas.List.Elements.{All-weaker, filter_passes}
 use Rattle.lethe_base.specs.History.{History, after}
@@ -18,9 +18,11 @@ use Rattle.lethe_job.specs.Works.{Merges, PlainTask, Sweeps}
 use Rattle.lethe_manifest.specs.declared.manifest.Manifest.{Manifest}
 use Rattle.lethe_moves.specs.Due.{HasNothingDue}
 use Rattle.lethe_state.specs.Room.{IsUnfrozen}
+use Rattle.lethe_state.proofs.Stepping.{flush_for}
+use Rattle.lethe_stored.proofs.Freezing.{froze_for}
 use Rattle.lethe_stored.proofs.Unique.{one_stored}
 use Rattle.lethe_stored.specs.Kept.{IsFor}
-use Rattle.lethe_stored.specs.Stored.{Segment, Stored, layout_of, records_in}
+use Rattle.lethe_stored.specs.Stored.{Segment, Stored, IsCoherent, layout_of, records_in}
 use Rattle.lethe_pins.specs.Held.{is_named}
 use Rattle.lethe_pins.specs.declared.pin.Pin.{Pin}
 use Rattle.lethe_core.specs.Keeps.{Keeps, MayStep}
@@ -67,6 +69,25 @@ module _ (to : ℕ) where
   pub ripened_young : (s t : Stored) → IsRipened to s t → AreYoung t to
   ripened_young s t (inl young) = subst (λ x. AreYoung x to) (sym young.1) young.0
   ripened_young s t (inr old) = flushed_young s t old.1
+
+-- What stands for a history still does so behind the flushes
+
+module _ (h : History) where
+  unfrozen_for : (s t : Stored) → IsCoherent s → IsFor h s → IsUnfrozen s t → IsFor h t
+  unfrozen_for s t coherent is (inl same) = subst (IsFor h) (sym same.1) is
+  unfrozen_for s t coherent is (inr some) = flush_for h s t coherent is some.1
+
+  frozen_for : (s t : Stored) → IsCoherent s → IsFor h s → s.frozen ≡ None → IsFrozenIfAny s t → IsFor h t
+  frozen_for s t coherent is none (inl same) = subst (IsFor h) (sym same.1) is
+  frozen_for s t coherent is none (inr some) = subst (IsFor h) (sym some.1.is) (froze_for s coherent some.1.segment (some.1.segment + 1) none h is)
+
+  pub ripened_for : (to : ℕ) (s t : Stored) → IsCoherent s → IsFor h s → IsRipened to s t → IsFor h t × IsCoherent t
+  ripened_for to s t coherent is (inl young) = (subst (IsFor h) (sym young.1) is, subst IsCoherent (sym young.1) coherent)
+  ripened_for to s t coherent is (inr old) =
+      let flushed = old.1 in
+      let first = unfrozen_for s flushed.unfrozen coherent is flushed.first in
+      let second = frozen_for flushed.unfrozen flushed.frozen flushed.unfrozen_coherent first (unfrozen_is to s flushed.unfrozen flushed.first).1 flushed.second in
+      (unfrozen_for flushed.frozen t flushed.frozen_coherent second flushed.last, flushed.coherent)
 
   -- merges and sweeps change no segment
   installed_young : (s : Stored) (task : PlainTask) (t : Stored) → IsInstalled s task t → AreYoung s to → AreYoung t to

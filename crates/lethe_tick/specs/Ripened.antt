@@ -1,7 +1,7 @@
 -- What a tick does before the clock moves.
 use Rattle.std.specs.Prelude.{◌≡◌, ◌≢◌, ◌⊎◌, ℕ, List, []}
 use Rattle.lethe_follows.specs.Young.{AreYoung}
-use Rattle.lethe_stored.specs.Stored.{Stored}
+use Rattle.lethe_stored.specs.Stored.{Stored, IsCoherent}
 use Rattle.lethe_state.specs.Room.{IsFrozen, IsShortToFlush, IsShortToFreeze, IsUnfrozen}
 use Rattle.lethe_core.specs.Merges.{AreSomeOutcomesBy, IsShortToMergeBy, Outcome, due_choice}
 use Rattle.lethe_core.specs.View.{View}
@@ -10,13 +10,16 @@ use Rattle.lethe_core.specs.View.{View}
 abbrev pub IsFrozenIfAny : Stored → Stored → Type 0
 IsFrozenIfAny s t = ((s.active.records ≡ []) × (t ≡ s)) ⊎ ((s.active.records ≢ []) × IsFrozen s t)
 
--- Both segments were flushed: the frozen one, if there was one, and the active one, where it has a record.
+-- Both segments were flushed: the frozen one, if there was one, and the active one, where it has a record. Each step left a store whose parts agree.
 pub record AreBuffersFlushed (s t : Stored) : Type 0 where
   pub unfrozen : Stored
   pub first : IsUnfrozen s unfrozen
+  pub unfrozen_coherent : IsCoherent unfrozen
   pub frozen : Stored
   pub second : IsFrozenIfAny unfrozen frozen
+  pub frozen_coherent : IsCoherent frozen
   pub last : IsUnfrozen frozen t
+  pub coherent : IsCoherent t
 
 -- Of these steps the first was done, and maybe the second.
 abbrev pub AreFlushedInPart : Stored → Stored → Type 0

@@ -2,7 +2,9 @@
 #![tactic(auto)]
 
 mod clock;
+mod laws;
 mod ripening;
 mod ticking;
 
+pub use laws::tick_is_bounded;
 pub use ticking::tick;

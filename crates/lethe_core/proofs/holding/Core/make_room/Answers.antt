@@ -154,7 +154,7 @@ returns-clause-done g c = λ told s holds.
     (c.merge_due.ensures.done told cleared.0 cleared.2)
     (λ done.
     let merges = subst (λ flight. IsUncrowded flight cleared.0 done.1 done.0) flight done.2 in
-    (done.0, done.1, inr (full, record { middle = middle.0; unfrozen = middle.1; cleared = cleared.0; frozen = cleared.1; merges = merges }), done.3, done.4, retired_since done.1 (view_of c.freeze_now.new.self).pins old.pins (view_of c.freeze_now.new.self).retired old.retired new.retired (c.in_ok-freeze_now.ensures.keeps.pins ∙ c.in_ok-unfreeze.ensures.keeps.pins) retired done.5))
+    (done.0, done.1, inr (full, record { middle = middle.0; unfrozen = middle.1; cleared = cleared.0; frozen = cleared.1; coherent = cleared.2.remembers.coherent; merges = merges }), done.3, done.4, retired_since done.1 (view_of c.freeze_now.new.self).pins old.pins (view_of c.freeze_now.new.self).retired old.retired new.retired (c.in_ok-freeze_now.ensures.keeps.pins ∙ c.in_ok-unfreeze.ensures.keeps.pins) retired done.5))
 
 pub returns-clause-why : goal.returns-clause-why
 returns-clause-why g c =

@@ -1,0 +1,10 @@
+//! Records of changes that are written one behind another, with one sync each.
+#![tactic(auto)]
+
+mod asking;
+mod laws;
+mod waiting;
+
+pub use asking::Asked;
+pub use laws::change_is_recorded;
+pub use waiting::{count_last, hold, pass_on};
