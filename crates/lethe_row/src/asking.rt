@@ -1,7 +1,7 @@
 //! The changes of a row, and their records.
 ghost use Rattle.std.specs.Prelude.{◌≡◌, ◌+◌, ◌<◌, ◌^◌, ℕ};
 ghost use Rattle.lethe_base.specs.Limits.{max_place};
-ghost use Rattle.lethe_segment.specs.Records.{RecordHasSpelling};
+ghost use Rattle.lethe_segment.specs.Records.{RecordHasSpelling, record_seq};
 ghost use Rattle.lethe_advance.specs.Shown.{parts_by_level};
 ghost use Rattle.lethe_state.specs.Records.{IsNext, headers_in};
 ghost use Rattle.lethe_state.specs.Writable.{IsWritable};
@@ -31,6 +31,7 @@ impl Asked {
         requires fits { core.now.state.count < max_place }
         ensures within { IsWithin self }
         ensures spelled { RecordHasSpelling result }
+        ensures place { record_seq result ≡ core.now.state.count + 1 }
         ensures is { IsRecordOf core.now.state (headers_in (parts_by_level core.now.version)) self result }
     {
         match self {
@@ -47,6 +48,7 @@ impl Asked {
         requires fits { core.now.state.count + 1 < max_place }
         ensures within { IsWithin self }
         ensures spelled { RecordHasSpelling result }
+        ensures place { record_seq result ≡ core.now.state.count + 2 }
         ensures is { (then : state.State) (end : ℕ) → IsNext front.now end core.now.state then → IsRecordOf then (headers_in (parts_by_level core.now.version)) self result }
     {
         match self {

@@ -4,7 +4,7 @@ ghost use Rattle.std.specs.Option.{option_or};
 ghost use Rattle.lethe_base.specs.Entries.{entry_of};
 ghost use Rattle.lethe_base.specs.Limits.{IsKey, IsValue, max_place};
 ghost use Rattle.lethe_base.specs.Spelling.{IsTimeOrNone};
-ghost use Rattle.lethe_segment.specs.Records.{RecordHasSpelling, record_bytes};
+ghost use Rattle.lethe_segment.specs.Records.{RecordHasSpelling, record_bytes, record_seq};
 ghost use Rattle.lethe_manifest.specs.Manifests.{AreErases};
 ghost use Rattle.lethe_stored.specs.Stored.{erase_of};
 ghost use Rattle.lethe_advance.specs.Shown.{parts_by_level};
@@ -65,6 +65,7 @@ impl State {
         requires fits { self.now.count + 1 < max_place }
         requires pair { IsKey key × (dkey < 2 ^ 64) × IsValue value }
         ensures spelled { RecordHasSpelling result }
+        ensures place { record_seq result ≡ self.now.count + 2 }
         ensures is { (then : state.State) (end : ℕ) → IsNext front.now end self.now then → result ≡ put_record then key dkey value }
     {
         let since = self.since_behind(front, &key);
@@ -83,6 +84,7 @@ impl State {
         requires fits { self.now.count + 1 < max_place }
         requires key { IsKey key }
         ensures spelled { RecordHasSpelling result }
+        ensures place { record_seq result ≡ self.now.count + 2 }
         ensures is { (then : state.State) (end : ℕ) → IsNext front.now end self.now then → result ≡ tomb_record then key }
     {
         let clock = self.manifest.clock;
@@ -107,6 +109,7 @@ impl State {
         requires fits { self.now.count + 1 < max_place }
         requires key { IsKey key }
         ensures spelled { RecordHasSpelling result }
+        ensures place { record_seq result ≡ self.now.count + 2 }
         ensures is { (then : state.State) (end : ℕ) → IsNext front.now end self.now then → IsDeleteRecord then (headers_in (parts_by_level version.now)) key result }
     {
         if self.is_buffered_behind(front, &key) || version.may_hold(&key) {
@@ -123,6 +126,7 @@ impl State {
         requires writable { IsWritable self.now }
         requires fits { self.now.count + 1 < max_place }
         ensures spelled { RecordHasSpelling result }
+        ensures place { record_seq result ≡ self.now.count + 2 }
         ensures is { (then : state.State) (end : ℕ) → IsNext front.now end self.now then → result ≡ erase_record then range }
     {
         Record::Erase(Pending {
