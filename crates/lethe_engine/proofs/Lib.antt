@@ -1,4 +1,3 @@
-pub mod Overs
 pub mod Answering
 pub mod Counting
 pub mod Opened
@@ -8,6 +7,7 @@ pub mod Prefixes
 pub mod Onward
 pub mod AtWork
 pub mod Calls
+pub mod Rows
 pub mod Faces
 pub mod Copying
 pub mod Clean

@@ -1,15 +1,18 @@
 -- A store goes on, and stands for what it has kept since it was opened.
-use Rattle.std.proofs.Common.{◌≡◌, ◌≤◌, inl, inr, ℕ, ◌+◌, ◌<◌, List, [], ◌∷◌, ◌++◌, Option, Some, None, refl, sym, ap, ◌∙◌, subst, append_assoc, append-nil, arith}
+use Rattle.std.proofs.Common.{◌≡◌, ◌≤◌, inl, inr, ℕ, ◌+◌, ◌<◌, List, [], ◌∷◌, ◌++◌, length, map, Option, Some, None, refl, sym, ap, ◌∙◌, subst, append_assoc, append-nil, arith}
 use Rattle.std.specs.Prelude.{All, IfSome, option_map}
 use Rattle.std.specs.Option.{option_map_or}
 use Rattle.std.proofs.lemmas.Bool.{cases_lt}
 use Rattle.std.proofs.lemmas.List.Elements.{All-append, All-cons, All-nil, All-weaker}
 use Rattle.lethe_base.specs.Counts.{Rose}
-use Rattle.lethe_base.specs.History.{History, Change, AreDone}
+use Rattle.std.proofs.lemmas.List.{length-append, length-map, map-append}
+use Rattle.lethe_base.specs.History.{History, Change, AreDone, IsLegal}
+use Rattle.lethe_base.specs.Limits.{max_place}
+use Rattle.lethe_base.proofs.Histories.{done_push, legal_push}
 use Rattle.lethe_base.specs.Keys.{Bytes}
 use Rattle.lethe_base.specs.Ranges.{Ends}
 use Rattle.lethe_base.specs.declared.call.Call.{Call}
-use Rattle.lethe_base.specs.declared.call.Call.TheVariants.{Put, Delete, Erase, Work}
+use Rattle.lethe_base.specs.declared.call.Call.TheVariants.{Put, Delete, Erase, Tick, Work}
 use Rattle.lethe_base.specs.declared.call.Did.{Did}
 use Rattle.lethe_base.specs.declared.call.Did.TheVariants.{Done, Failed}
 use Rattle.lethe_base.specs.declared.config.Fields.{Fields}
@@ -29,12 +32,27 @@ use Rattle.lethe_core.specs.Asked.{Failure, Makes, Serves, behind, done_by, fail
 use Rattle.lethe_core.specs.Running.{IsSound}
 use Rattle.lethe_core.specs.StandsNow.{StandsNow}
 use Rattle.lethe_core.specs.View.{View, loose_in}
+use Rattle.lethe_row.specs.Along.{IsKeptAlong, row_behind, tried, with_all}
+use Rattle.lethe_row.specs.Rows.{call_of}
+use Rattle.lethe_row.specs.declared.asking.Asked.{Asked}
+use Rattle.lethe_row.specs.declared.asking.Asked.TheVariants as asks
+use Rattle.lethe_row.proofs.Along.{with_one_more}
 use Rattle.lethe_engine.specs.Opening.{opened_as}
 use Rattle.lethe_engine.specs.StandsFor.{HasCounts, IsKeptFor, IsPrefixFrom, Opened, StandsSince}
-use Rattle.lethe_engine.proofs.Prefixes.{prefix_done, prefix_failed, prefix_itself, prefix_longer}
+use Rattle.lethe_engine.proofs.Prefixes.{prefix_done, prefix_failed, prefix_itself, prefix_longer, prefix_shorter}
 use Rattle.lethe_engine.proofs.Reasons.{IsTold}
 use Rattle.lethe_core.proofs.Beside.{drawn_front}
 use Rattle.lethe_core.proofs.Standing.{stands_done, stands_moments}
+
+asked_works : (asked : Asked) → call_of asked ≡ Work → ⊥
+asked_works (asks.Put key dkey value) e = cc
+asked_works (asks.Delete key) e = cc
+asked_works (asks.Erase range) e = cc
+
+asked_ticks : (asked : Asked) (to : ℕ) → call_of asked ≡ Tick to → ⊥
+asked_ticks (asks.Put key dkey value) to e = cc
+asked_ticks (asks.Delete key) to e = cc
+asked_ticks (asks.Erase range) to e = cc
 
 abbrev ArePages : List Name → Type 0
 ArePages names = All (λ name. name.kind ≡ Page) names
@@ -144,6 +162,70 @@ module _ (config : Fields) (opened : Opened) (h : History) (old new : View) (bef
         → StandsSince config opened (behind h caller (Serves Work) why) new
     worked_for None told = still_for
     worked_for (Some why) told = failed_or (failure_of why) told
+
+    -- A row of changes
+
+    -- those that were made are done, and may have been asked
+    all_legal : (asked : List Asked) (g : History) → IsLegal g → AreDone g → length g + length asked ≤ max_place → IsLegal (with_all g caller asked) × AreDone (with_all g caller asked)
+    all_legal [] g legal fine few = (subst IsLegal (sym (append-nil g)) legal, subst AreDone (sym (append-nil g)) fine)
+    all_legal (asked ∷ more) g legal fine few =
+        let change : Change = done_by caller (call_of asked) in
+        let rest = all_legal more (g ++ change ∷ []) (legal_push g change legal fine (omega (arith, few)) (asked_works asked) (λ to is. absurd (asked_ticks asked to is))) (done_push g change fine refl)
+            (let long = length-append g (change ∷ []) in omega (arith, few, long)) in
+        let same = append_assoc g (change ∷ []) (map (λ asked. done_by caller (call_of asked)) more) in
+        (subst IsLegal same rest.0, subst AreDone same rest.1)
+
+    all_counted : (asked : List Asked) → All (λ (c : Change). HasCounts opened.faults new.faults c.did) (map (λ asked. done_by caller (call_of asked)) asked)
+    all_counted [] = none_counted
+    all_counted (asked ∷ more) = All-cons (λ (c : Change). HasCounts opened.faults new.faults c.did) (done_by caller (call_of asked)) (map (λ asked. done_by caller (call_of asked)) more) tt (all_counted more)
+
+    from_opened : (asked : List Asked) → (added : History) × (with_all h caller asked ≡ Was ++ added)
+    from_opened asked = (before.begins.0 ++ map (λ asked. done_by caller (call_of asked)) asked, ap (λ l. l ++ map (λ asked. done_by caller (call_of asked)) asked) before.begins.1 ∙ append_assoc Was before.begins.0 (map (λ asked. done_by caller (call_of asked)) asked))
+
+    split_at : (asked front rest : List Asked) → asked ≡ front ++ rest → with_all h caller asked ≡ with_all h caller front ++ map (λ asked. done_by caller (call_of asked)) rest
+    split_at asked front rest are =
+        ap (with_all h caller) are ∙ ap (λ l. h ++ l) (map-append (λ asked. done_by caller (call_of asked)) front rest) ∙ sym (append_assoc h (map (λ asked. done_by caller (call_of asked)) front) (map (λ asked. done_by caller (call_of asked)) rest))
+
+    -- where the whole of what was tried is a prefix, so is each front of it
+    along_kept : (asked : List Asked) (g : History) → IsPrefixFrom Was g (with_all h caller asked) → (d : Directory) → IsKeptAlong config h caller asked d → IsKeptFor config Was g d
+    along_kept asked g of d (front, rest, are, kept) =
+        (with_all h caller front, prefix_shorter Was g (with_all h caller asked) (with_all h caller front) (map (λ asked. done_by caller (call_of asked)) rest) of (split_at asked front rest are) (from_opened front), kept)
+
+    module _ (made : List Asked) where
+      made_for : GoesFrom old.state.next (IsKeptAlong config h caller (tried made None)) old.disk new.disk → StandsNow config (with_all h caller made) new → StandsSince config opened (with_all h caller made) new
+      made_for run now =
+          let all = append-nil made in
+          let few : length h + length made ≤ max_place =
+              let few = now.legal.few in let long = length-append h (map (λ asked. done_by caller (call_of asked)) made) in let same = length-map made (λ asked. done_by caller (call_of asked)) in omega (arith, few, long, same) in
+          let fine = all_legal made h before.now.legal done few in
+          added_to (IsKeptAlong config h caller (tried made None)) (with_all h caller made) (map (λ asked. done_by caller (call_of asked)) made) refl
+          (prefix_longer Was h (map (λ asked. done_by caller (call_of asked)) made) before.now.legal done)
+          (λ d kept. along_kept made (with_all h caller made) (prefix_itself Was (with_all h caller made) fine.1 (from_opened made)) d (subst (λ l. IsKeptAlong config h caller l d) all kept)) (all_counted made) run now
+
+      module _ (asked : Asked) (failure : Failure) where
+        abbrev change : Change
+        change = record { caller = caller; call = call_of asked; did = Failed failure.before failure.after }
+
+        one_failed : (failure.before ≡ old.faults) × (failure.after ≡ new.faults) × Rose old.faults new.faults → GoesFrom old.state.next (IsKeptAlong config h caller (made ++ asked ∷ [])) old.disk new.disk
+            → StandsNow config (with_all h caller made ++ change ∷ []) new → StandsSince config opened (with_all h caller made ++ change ∷ []) new
+        one_failed told run now =
+            let mapped = map (λ asked. done_by caller (call_of asked)) made in
+            let whole : with_all h caller made ++ change ∷ [] ≡ h ++ (mapped ++ change ∷ []) = append_assoc h mapped (change ∷ []) in
+            let few : length h + length made ≤ max_place =
+                let few = now.legal.few in let long = length-append (with_all h caller made) (change ∷ []) in let two = length-append h mapped in let same = length-map made (λ asked. done_by caller (call_of asked)) in
+                omega (arith, few, long, two, same) in
+            let fine = all_legal made h before.now.legal done few in
+            let of = prefix_failed Was (with_all h caller made) change fine.0 fine.1 (asked_works asked) (from_opened made) in
+            added_to (IsKeptAlong config h caller (made ++ asked ∷ [])) (with_all h caller made ++ change ∷ []) (mapped ++ change ∷ []) whole
+            (λ k is. subst (λ g. IsPrefixFrom Was g k) (sym whole) (prefix_longer Was h (mapped ++ change ∷ []) before.now.legal done k is))
+            (λ d kept. along_kept (made ++ asked ∷ []) (with_all h caller made ++ change ∷ []) (subst (IsPrefixFrom Was (with_all h caller made ++ change ∷ [])) (with_one_more h caller made asked) of) d kept)
+            (All-append (λ (c : Change). HasCounts opened.faults new.faults c.did) mapped (change ∷ []) (all_counted made) (one_counted change (failed_counts failure.before failure.after told.0 told.1 told.2))) run now
+
+      -- they were made, and the disk failed in the next one, or didn't
+      pub row_for : (failed : Option (Asked × Failure)) → IfSome failed (λ f. (f.1.before ≡ old.faults) × (f.1.after ≡ new.faults) × Rose old.faults new.faults)
+          → GoesFrom old.state.next (IsKeptAlong config h caller (tried made failed)) old.disk new.disk → StandsNow config (row_behind h caller made failed) new → StandsSince config opened (row_behind h caller made failed) new
+      row_for None told = made_for
+      row_for (Some (asked, failure)) told = one_failed asked failure told
 
     module _ (call : Call) (works : call ≡ Work → ⊥) where
       written_for : (change : Change) → IsPrefixFrom Was (h ++ change ∷ []) (with_done h caller call) → HasCounts opened.faults new.faults change.did → GoesFrom old.state.next (IsKeptOr config h (Some (done_by caller call))) old.disk new.disk

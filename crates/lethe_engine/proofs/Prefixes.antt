@@ -76,3 +76,12 @@ module _ (opened : History) where
           ∙ ap (λ t. h ++ map as_done (cond (not t) (change ∷ []) [])) (no_work change.call works) ∙ sym (append-nil (h ++ as_done change ∷ [])),
     );
   }
+
+  -- what is shorter than a prefix, and not than the opened history, is one too
+  pub prefix_shorter : (h k front rest : History) → IsPrefixFrom opened h k → k ≡ front ++ rest → (added : History) × (front ≡ opened ++ added) → IsPrefixFrom opened h front
+  prefix_shorter h k front rest of is begins = record {
+    begins = begins;
+    outcome = of.outcome;
+    is = of.is;
+    front = (rest ++ of.front.0, of.front.1 ∙ ap (λ l. l ++ of.front.0) is ∙ append_assoc front rest of.front.0);
+  }

@@ -1,7 +1,7 @@
 pub mod StandsFor
 pub mod Refusals
 pub mod Answers
-pub mod Deletes
+pub mod Rows
 pub mod Work
 pub mod Jobs
 pub mod Reads

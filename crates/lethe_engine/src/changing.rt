@@ -15,7 +15,7 @@ ghost use Rattle.lethe_core.specs.Merges.{IsRoomMadeBy, Outcome, pages_of, AreRe
 ghost use Rattle.lethe_core.specs.Running.{Holds, IsSound};
 ghost use Rattle.lethe_core.specs.View.{face_of, view_of};
 ghost use Rattle.lethe_engine.specs.Answers.{Answers};
-ghost use Rattle.lethe_engine.specs.Deletes.{IsDeleteOver};
+ghost use Rattle.lethe_row.specs.Deletes.{IsDeleteOver};
 ghost use Rattle.lethe_engine.specs.Refusals.{HasReasonOfChange};
 
 use crate::Engine;

@@ -7,6 +7,7 @@ mod jobs;
 mod laws;
 mod pinning;
 mod reading;
+mod rows;
 mod telling;
 mod ticking;
 mod working;

@@ -1,2 +1,4 @@
 pub mod Rests
 pub mod Recorded
+pub mod Overs
+pub mod Along

@@ -1,2 +1,4 @@
 pub mod Rests
 pub mod Rows
+pub mod Deletes
+pub mod Along

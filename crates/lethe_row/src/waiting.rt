@@ -121,6 +121,7 @@ pub fn pass_on<D: Disk>(
     ensures count { (call : Call) → IfErr result (λ why. core.new.state.count ≡ counted (Makes call) (Some why) core.old.state.count) }
     ensures stopped { IfErr result (λ why. core.new.state.stopped ≡ stopped_by (Some why) core.old.state.stopped) }
     ensures why { IfErr result (HasReason ⊥ core.old.state before (D.faults core.new.disk)) }
+    ensures memory { IsErrOf result refused.NoMemory → ⊥ }
     ensures stands { D.tells → (d : Directory) → IsAtRest D.tells (view_of core.old) d waiting.old → (config : Fields) (h : History) (caller : ℕ) (call : Call) → is_work call ≡ false
         → (stands : StandsNow config h (at_rest (view_of core.old) d)) → IsFor (with_done h caller call) (appended stands.stored waiting.old.record)
         → IfErr result (λ why. StandsNow config (behind h caller (Makes call) (Some why)) (view_of core.new)) }

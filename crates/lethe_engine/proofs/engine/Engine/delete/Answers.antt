@@ -17,12 +17,12 @@ use Rattle.lethe_core.specs.View.{View, face_of, view_of}
 use Rattle.lethe_core.proofs.Likes.{jobs_same}
 use Rattle.lethe_core.proofs.Roomed.{sees_room}
 use Rattle.lethe_engine.specs.Answers.{Answers}
-use Rattle.lethe_engine.specs.Deletes.{IsDeleteOver}
+use Rattle.lethe_row.specs.Deletes.{IsDeleteOver}
 use Rattle.lethe_engine.specs.Refusals.{HasReasonOfChange}
 use Rattle.lethe_engine.proofs.Calls.{if_refused, itself_answers, recorded_answers, refused_is_none, unroomed_answers}
 use Rattle.lethe_engine.proofs.Faces.{jobs_with}
 use Rattle.lethe_engine.proofs.Onward.{delete_works}
-use Rattle.lethe_engine.proofs.Overs.{delete_for, delete_over}
+use Rattle.lethe_row.proofs.Overs.{delete_for, delete_over}
 use Rattle.lethe_engine.proofs.Reasons.{not_begun, reason_of_room}
 use Rattle.lethe_engine.proofs.engine.Engine.delete.Goals as goal
 

@@ -20,7 +20,7 @@ use Rattle.lethe_engine.specs.Refusals.{HasReasonOfChange}
 use Rattle.lethe_engine.proofs.Calls.{if_refused, itself_answers, recorded_answers, refused_is_none, unroomed_answers}
 use Rattle.lethe_engine.proofs.Faces.{jobs_with}
 use Rattle.lethe_engine.proofs.Onward.{put_works}
-use Rattle.lethe_engine.proofs.Overs.{put_for, put_same}
+use Rattle.lethe_row.proofs.Overs.{put_for, put_same}
 use Rattle.lethe_engine.proofs.Reasons.{not_begun, reason_of_room}
 use Rattle.lethe_engine.proofs.engine.Engine.put.Goals as goal
 

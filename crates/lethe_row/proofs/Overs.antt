@@ -31,7 +31,7 @@ use Rattle.lethe_core.specs.Running.{Holds}
 use Rattle.lethe_core.specs.StandsNow.{StandsNow}
 use Rattle.lethe_core.specs.View.{View}
 use Rattle.lethe_core.proofs.Standing.{stands_for, stands_holds}
-use Rattle.lethe_engine.specs.Deletes.{IsDeleteOver, MayHave, tomb_over}
+use Rattle.lethe_row.specs.Deletes.{IsDeleteOver, MayHave, tomb_over}
 
 frozen_is : (o : Option Segment) (b : Option Buffered) → IsFrozenIn o b → (key : Bytes) → frozen_entry key b ≡ finmap.get (buffer_of (map plain (records_in o))) key
 frozen_is None None is key = sym (finmap.get-empty key_cmp key)
