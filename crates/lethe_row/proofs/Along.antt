@@ -21,7 +21,8 @@ use Rattle.lethe_stored.specs.Left.{IsKeptOr, is_work}
 use Rattle.lethe_stored.specs.Numbers.{GoesFrom}
 use Rattle.lethe_stored.specs.Stored.{Stored, appended}
 use Rattle.lethe_stored.proofs.Numbers.{goes_from_then, goes_from_weaker}
-use Rattle.lethe_state.specs.Records.{headers_in}
+use Rattle.lethe_manifest.specs.declared.manifest.Manifest.{Manifest}
+use Rattle.lethe_state.specs.Records.{IsNext, headers_in}
 use Rattle.lethe_state.specs.declared.waiting.Waiting.{Waiting}
 use Rattle.lethe_core.specs.Asked.{Makes, behind, counted, done_by, stopped_by}
 use Rattle.lethe_core.specs.Keeps.{MayStep}
@@ -96,8 +97,8 @@ recorded_over view s holds next record' within of = record {
   stands = λ h is few caller. (recorded h s view.state view.levels holds.remembers holds.running.current is few caller next record' within of).1;
 }
 
--- The first of the changes that were asked were made, and the record of the next one waits; these are left.
-pub record IsHeld (Tells : Type 0) (old : View) (asked made : List Asked) (waiting : Waiting) (left : List Asked) (now : View) : Type 0 where
+-- The first of the changes that were asked were made, and the record of the next one waits; these are left. Device calls are counted where all went well.
+pub record IsHeld (Tells Fine : Type 0) (old : View) (asked made : List Asked) (waiting : Waiting) (left : List Asked) (now : View) : Type 0 where
   pub next : Asked
   pub are : asked ≡ made ++ next ∷ left
   pub at : Directory
@@ -106,13 +107,29 @@ pub record IsHeld (Tells : Type 0) (old : View) (asked made : List Asked) (waiti
   pub levels : now.levels ≡ old.levels
   pub count : now.state.count ≡ old.state.count + length made
   pub stands : Tells → (config : Fields) (h : History) → StandsNow config h old → (caller : ℕ) → StandsNow config (with_all h caller made) (at_rest now at)
-  pub moments : Tells → (config : Fields) (h : History) → StandsNow config h old → (caller : ℕ) → GoesFrom old.state.next (IsKeptAlong config h caller made) old.disk now.disk
+  pub moments : Tells → (config : Fields) (h : History) → StandsNow config h old → (caller : ℕ) → GoesFrom old.state.next (IsKeptAlong config h caller (made ++ next ∷ [])) old.disk now.disk
   pub written : Tells → (s : Stored) → Holds old s → (t : Stored) × AreAppended (headers_in old.levels) s made t × Holds (at_rest now at) t
-  pub calls : Tells → now.disk.moment ≡ old.disk.moment + (3 * length made + 2)
+  pub calls : Fine → Tells → now.disk.moment ≡ old.disk.moment + (3 * length made + 2)
   pub numbers : Tells → now.state.next + old.disk.moment ≤ old.state.next + now.disk.moment
   pub faults : old.faults ≤ now.faults
   pub pinned : Tells → AreKept old.pins.pins old.disk.directory now.disk.directory
   pub pins : now.pins ≡ old.pins
+
+-- Where a row goes no further
+
+pub at_end : (view : View) (asked : List Asked) → (asked ≡ []) ⊎ (view.state.manifest.config.buffer ≤ view.state.records + 0) ⊎ (max_place ≤ view.state.count + 0) → (asked ≡ []) ⊎ IsAtEnd view
+at_end view asked (inl none) = inl none
+at_end view asked (inr (inl full)) = inr (inr (inl (omega (arith, full))))
+at_end view asked (inr (inr used)) = inr (inr (inr (omega (arith, used))))
+
+pub at_end_behind : (mid new : View) (next : Record) (end : ℕ) → IsNext next end mid.state new.state → (left : List Asked)
+    → (left ≡ []) ⊎ (mid.state.manifest.config.buffer ≤ mid.state.records + 1) ⊎ (max_place ≤ mid.state.count + 1) → (left ≡ []) ⊎ IsAtEnd new
+at_end_behind mid new next end is left (inl none) = inl none
+at_end_behind mid new next end is left (inr (inl full)) =
+    let buffer : new.state.manifest.config.buffer ≡ mid.state.manifest.config.buffer = ap (λ (m : Manifest). m.config.buffer) is.manifest in
+    let records = is.records in
+    inr (inr (inl (omega (arith, full, buffer, records))))
+at_end_behind mid new next end is left (inr (inr used)) = let count = is.count in inr (inr (inr (omega (arith, used, count))))
 
 -- no change was made
 pub idle_row : (Tells : Type 0) (view : View) (asked left : List Asked) → IsSound Tells view → left ≡ asked → (asked ≡ []) ⊎ IsAtEnd view → IsRow Tells asked left 0 None view view
@@ -135,47 +152,47 @@ idle_row Tells view asked left sound same end = record {
   pinned = λ told name named. refl;
 }
 
-one_longer : (made : List Asked) (next : Asked) → length (made ++ next ∷ []) ≡ length made + 1
+pub one_longer : (made : List Asked) (next : Asked) → length (made ++ next ∷ []) ≡ length made + 1
 one_longer made next = length-append made (next ∷ [])
 
-module _ (Tells : Type 0) (old : View) (runs : old.state.stopped ≡ None) (asked : List Asked) where
+module _ (Tells : Type 0) (old : View) (running : old.state.stopped ≡ None) (asked : List Asked) where
   -- the first record was written
   pub first_held : (next : Asked) (left : List Asked) → asked ≡ next ∷ left → (waiting : Waiting) (new : View) → IsAtRest Tells new old.disk.directory waiting → IsSound Tells old → IsWithin next
       → IsRecordOf old.state (headers_in old.levels) next waiting.record → new.state.count ≡ old.state.count → new.levels ≡ old.levels
       → (Tells → (config : Fields) (h : History) → StandsNow config h old → StandsNow config h (at_rest new old.disk.directory))
       → (Tells → (config : Fields) (h : History) → StandsNow config h old → GoesFrom old.state.next (λ c. IsKept config c h) old.disk new.disk)
       → (Tells → new.disk.moment ≡ old.disk.moment + 2) → (Tells → new.state.next + old.disk.moment ≤ old.state.next + new.disk.moment) → old.faults ≤ new.faults
-      → (Tells → AreKept old.pins.pins old.disk.directory new.disk.directory) → new.pins ≡ old.pins → IsHeld Tells old asked [] waiting left new
+      → (Tells → AreKept old.pins.pins old.disk.directory new.disk.directory) → new.pins ≡ old.pins → IsHeld Tells (Unit {0}) old asked [] waiting left new
   first_held next left are waiting new rest sound within of count levels stands moments calls numbers faults pinned pins = record {
     next = next;
     are = are;
     at = old.disk.directory;
     rest = rest;
     recorded = λ told s holds.
-        let was = sound_holds Tells old sound runs told in
+        let was = sound_holds Tells old sound running told in
         let same = one_held old (at_rest new old.disk.directory) was.0 s refl was.1 holds in
         subst (λ x. IsRecorded (headers_in old.levels) x next waiting.record) same (recorded_over old was.0 was.1 next waiting.record within of);
     levels = levels;
     count = omega (arith, count);
     stands = λ told config h before caller. subst (λ g. StandsNow config g (at_rest new old.disk.directory)) (sym (none_made h caller)) (stands told config h before);
-    moments = λ told config h before caller. along_none config h caller [] old.state.next old.disk new.disk (moments told config h before);
+    moments = λ told config h before caller. along_none config h caller (next ∷ []) old.state.next old.disk new.disk (moments told config h before);
     written = λ told s holds.
         let is = sound_holds Tells (at_rest new old.disk.directory) rest.sound rest.runs told in
         let same = one_held old (at_rest new old.disk.directory) s is.0 refl holds is.1 in
         (s, refl, subst (Holds (at_rest new old.disk.directory)) (sym same) is.1);
-    calls = λ told. let so = calls told in omega (arith, so);
+    calls = λ fine told. let so = calls told in omega (arith, so);
     numbers = numbers;
     faults = faults;
     pinned = pinned;
     pins = pins;
   }
 
-  module _ (made : List Asked) (waiting : Waiting) (left : List Asked) (mid : View) (held : IsHeld Tells old asked made waiting left mid) where
+  module _ (Fine : Type 0) (made : List Asked) (waiting : Waiting) (left : List Asked) (mid : View) (held : IsHeld Tells Fine old asked made waiting left mid) where
     module _ (told : Tells) (config : Fields) (h : History) (before : StandsNow config h old) (caller : ℕ) where
       abbrev Made : History
       Made = with_all h caller made
 
-      resting : StandsNow config Made (at_rest mid held.at)
+      abbrev pub resting : StandsNow config Made (at_rest mid held.at)
       resting = held.stands told config h before caller
 
       few : length Made < max_place
@@ -190,8 +207,7 @@ module _ (Tells : Type 0) (old : View) (runs : old.state.stopped ≡ None) (aske
           → GoesFrom old.state.next (IsKeptAlong config h caller (made ++ held.next ∷ [])) old.disk new
       moments_on new run =
           let Along = IsKeptAlong config h caller (made ++ held.next ∷ []) in
-          goes_from_then Along old.state.next mid.state.next old.disk mid.disk new
-          (goes_from_weaker (IsKeptAlong config h caller made) Along old.state.next old.disk mid.disk (λ c kept. along_more config h caller made (held.next ∷ []) c kept) (held.moments told config h before caller)) (held.numbers told)
+          goes_from_then Along old.state.next mid.state.next old.disk mid.disk new (held.moments told config h before caller) (held.numbers told)
           (goes_from_weaker (IsKeptOr config Made (Some (done_by caller (call_of held.next)))) Along mid.state.next mid.disk new (λ c kept. along_or config h caller made held.next c kept) run)
 
     -- what the record's passing on or counting gives
@@ -215,25 +231,60 @@ module _ (Tells : Type 0) (old : View) (runs : old.state.stopped ≡ None) (aske
     pub next_held : (change : Asked) (more : List Asked) → left ≡ change ∷ more → (waiting' : Waiting) (new : View) (c : Directory) → IsAtRest Tells new c waiting' → IsCountedIn Tells waiting (at_rest mid held.at) (at_rest new c)
         → IsWithin change → IsRecordOf new.state (headers_in new.levels) change waiting'.record → new.levels ≡ mid.levels → Runs new.disk → (Tells → new.disk.moment ≡ mid.disk.moment + 3)
         → (Tells → new.state.next + mid.disk.moment ≤ mid.state.next + new.disk.moment) → mid.faults ≤ new.faults → (Tells → AreKept mid.pins.pins mid.disk.directory new.disk.directory) → new.pins ≡ mid.pins
-        → IsHeld Tells old asked (made ++ held.next ∷ []) waiting' more new
-    next_held change more is waiting' new c rest in within of levels runs calls numbers faults kept pins = record {
+        → IsHeld Tells Fine old asked (made ++ held.next ∷ []) waiting' more new
+    next_held change more is waiting' new c rest counts within of levels runs calls numbers faults kept pins = record {
       next = change;
       are = held.are ∙ ap (λ l. made ++ held.next ∷ l) is ∙ sym (append_assoc made (held.next ∷ []) (change ∷ more));
       at = c;
       rest = rest;
       recorded = λ told s holds. subst (λ levels. IsRecorded (headers_in levels) s change waiting'.record) (levels ∙ held.levels) (recorded_over (at_rest new c) s holds change waiting'.record within of);
       levels = levels ∙ held.levels;
-      count = let was = held.count in let more = in.state.count in omega (arith, was, more, one_longer made held.next);
+      count = let was = held.count in let more = counts.state.count in omega (arith, was, more, one_longer made held.next);
       stands = λ told config h before caller. subst (λ g. StandsNow config g (at_rest new c)) (with_one_more h caller made held.next)
-          (in.stands told config (with_all h caller made) caller (call_of held.next) (asks_change held.next) (held.stands told config h before caller) (will_stand told config h before caller));
-      moments = λ told config h before caller. moments_on told config h before caller new.disk (runs told config (with_all h caller made) caller (held.stands told config h before caller) (will_stand told config h before caller));
-      written = written_on (at_rest new c) in.holds;
-      calls = λ told. let was = held.calls told in let so = calls told in omega (arith, was, so, one_longer made held.next);
+          (counts.stands told config (with_all h caller made) caller (call_of held.next) (asks_change held.next) (held.stands told config h before caller) (will_stand told config h before caller));
+      moments = λ told config h before caller. goes_from_weaker (IsKeptAlong config h caller (made ++ held.next ∷ [])) (IsKeptAlong config h caller ((made ++ held.next ∷ []) ++ change ∷ [])) old.state.next old.disk new.disk
+          (λ d kept. along_more config h caller (made ++ held.next ∷ []) (change ∷ []) d kept)
+          (moments_on told config h before caller new.disk (runs told config (with_all h caller made) caller (held.stands told config h before caller) (will_stand told config h before caller)));
+      written = written_on (at_rest new c) counts.holds;
+      calls = λ fine told. let was = held.calls fine told in let so = calls told in omega (arith, was, so, one_longer made held.next);
       numbers = λ told. let was = held.numbers told in let so = numbers told in omega (arith, was, so);
       faults = let was = held.faults in omega (arith, was, faults);
       pinned = pinned_on new.disk kept;
       pins = pins ∙ held.pins;
     }
+
+    -- there was no memory for the next record: it waits still
+    module _ (new : View) (waits : IsAtRest Tells new held.at waiting) (count : new.state.count ≡ mid.state.count) (levels : new.levels ≡ mid.levels)
+        (stands : (config : Fields) (h : History) → StandsNow config h (at_rest mid held.at) → StandsNow config h (at_rest new held.at)) (on : Runs new.disk)
+        (numbers : Tells → new.state.next + mid.disk.moment ≤ mid.state.next + new.disk.moment) (faults : mid.faults ≤ new.faults) (kept : Tells → AreKept mid.pins.pins mid.disk.directory new.disk.directory)
+        (pins : new.pins ≡ mid.pins) where
+      same_held : Tells → (s t : Stored) → Holds (at_rest mid held.at) s → Holds (at_rest new held.at) t → s ≡ t
+      same_held told s t was is = one_held (at_rest mid held.at) (at_rest new held.at) s t refl was is
+
+      pub still_held : IsHeld Tells ⊥ old asked made waiting left new
+      still_held = record {
+        next = held.next;
+        are = held.are;
+        at = held.at;
+        rest = waits;
+        recorded = λ told s holds.
+            let was = sound_holds Tells (at_rest mid held.at) held.rest.sound held.rest.runs told in
+            subst (λ x. IsRecorded (headers_in old.levels) x held.next waiting.record) (same_held told was.0 s was.1 holds) (held.recorded told was.0 was.1);
+        levels = levels ∙ held.levels;
+        count = count ∙ held.count;
+        stands = λ told config h before caller. stands config (with_all h caller made) (held.stands told config h before caller);
+        moments = λ told config h before caller.
+            moments_on told config h before caller new.disk (on told config (with_all h caller made) caller (held.stands told config h before caller) (will_stand told config h before caller));
+        written = λ told s was.
+            let by = held.written told s was in
+            let is = sound_holds Tells (at_rest new held.at) waits.sound waits.runs told in
+            (by.0, by.1, subst (Holds (at_rest new held.at)) (sym (same_held told by.0 is.0 by.2 is.1)) is.1);
+        calls = λ fine. absurd fine;
+        numbers = λ told. let was = held.numbers told in let so = numbers told in omega (arith, was, so);
+        faults = let was = held.faults in omega (arith, was, faults);
+        pinned = pinned_on new.disk kept;
+        pins = pins ∙ held.pins;
+      }
 
     no_more : tried (made ++ held.next ∷ []) None ≡ made ++ held.next ∷ []
     no_more = append-nil (made ++ held.next ∷ [])
@@ -246,11 +297,11 @@ module _ (Tells : Type 0) (old : View) (runs : old.state.stopped ≡ None) (aske
         by (first ∷ others) = let long = one_longer others held.next in omega (arith, long)
 
     -- its record counts, and no other waits
-    counted_row : (done : ℕ) (refused : Option Refused) (left' : List Asked) (new : View) → length made ≡ done → stopped_by refused old.state.stopped ≡ None → IsEnded refused left left' None old new
+    counted_row : (done : ℕ) (refused : Option Refused) → (refused ≡ None → Fine) → (left' : List Asked) (new : View) → length made ≡ done → stopped_by refused old.state.stopped ≡ None → IsEnded refused left left' None old new
         → IsSound Tells new → IsCountedIn Tells waiting (at_rest mid held.at) new → Runs new.disk → (Tells → new.disk.moment ≡ mid.disk.moment + 2)
         → (Tells → new.state.next + mid.disk.moment ≤ mid.state.next + new.disk.moment) → mid.faults ≤ new.faults → (Tells → AreKept mid.pins.pins mid.disk.directory new.disk.directory)
         → IsRow Tells asked left' (done + 1) refused old new
-    counted_row done refused left' new many going is_ended sound in runs calls numbers faults kept = record {
+    counted_row done refused well left' new many going is_ended sound counts runs calls numbers faults kept = record {
       made = made ++ held.next ∷ [];
       rest = left;
       are = held.are ∙ sym (append_assoc made (held.next ∷ []) left);
@@ -258,14 +309,14 @@ module _ (Tells : Type 0) (old : View) (runs : old.state.stopped ≡ None) (aske
       failed = None;
       ended = is_ended;
       sound = sound;
-      count = let was = held.count in let more = in.state.count in let long = ap length no_more ∙ one_longer made held.next in omega (arith, was, more, long);
-      stopped = in.state.stopped ∙ held.rest.runs ∙ sym going;
+      count = let was = held.count in let more = counts.state.count in let long = ap length no_more ∙ one_longer made held.next in omega (arith, was, more, long);
+      stopped = counts.state.stopped ∙ held.rest.runs ∙ sym going;
       stands = λ told config h before caller. subst (λ g. StandsNow config g new) (with_one_more h caller made held.next)
-          (in.stands told config (with_all h caller made) caller (call_of held.next) (asks_change held.next) (held.stands told config h before caller) (will_stand told config h before caller));
+          (counts.stands told config (with_all h caller made) caller (call_of held.next) (asks_change held.next) (held.stands told config h before caller) (will_stand told config h before caller));
       any_moment = λ told config h before going caller. subst (λ made. GoesFrom old.state.next (IsKeptAlong config h caller made) old.disk new.disk) (sym no_more)
           (moments_on told config h before caller new.disk (runs told config (with_all h caller made) caller (held.stands told config h before caller) (will_stand told config h before caller)));
-      written = λ told fine. written_on new in.holds told;
-      calls = λ told fine. let was = held.calls told in let so = calls told in omega (arith, was, so, calls_are);
+      written = λ told fine. written_on new counts.holds told;
+      calls = λ told fine. let was = held.calls (well fine) told in let so = calls told in omega (arith, was, so, calls_are);
       numbers = λ told. let was = held.numbers told in let so = numbers told in omega (arith, was, so);
       faults = let was = held.faults in omega (arith, was, faults);
       pinned = pinned_on new.disk kept;
@@ -320,15 +371,16 @@ module _ (Tells : Type 0) (old : View) (runs : old.state.stopped ≡ None) (aske
     -- its record was to count, and no other waits
     module _ (before : ℕ) (before_is : before ≡ old.faults) (new : View) (left' : List Asked) (done : ℕ) (many : length made ≡ done) (sound : IsSound Tells new)
         (numbers : Tells → new.state.next + mid.disk.moment ≤ mid.state.next + new.disk.moment) (faults : mid.faults ≤ new.faults) (kept : Tells → AreKept mid.pins.pins mid.disk.directory new.disk.directory) (runs : Runs new.disk)
-        (refused : Option Refused) (going : stopped_by refused old.state.stopped ≡ None) (is_ended : IsEnded refused left left' None old new) where
+        (refused : Option Refused) (well : refused ≡ None → Fine) (going : stopped_by refused old.state.stopped ≡ None)
+        (is_ended : IsCountedIn Tells waiting (at_rest mid held.at) new → IsEnded refused left left' None old new) where
       pub last_row : (last : Result ℕ Refused) → OnOk last (IsCountedIn Tells waiting (at_rest mid held.at) new) → ((call : Call) → new.state.count ≡ counted (Makes call) (result_err last) mid.state.count)
           → new.state.stopped ≡ stopped_by (result_err last) mid.state.stopped → IfErr last (HasReason ⊥ mid.state before new.faults) → (IsErrOf last NoMemory → ⊥)
           → (Tells → (config : Fields) (h : History) (caller : ℕ) (call : Call) → is_work call ≡ false → (stands : StandsNow config h (at_rest mid held.at)) → IsFor (with_done h caller call) (appended stands.stored waiting.record)
           → StandsNow config (behind h caller (Makes call) (result_err last)) new) → (Tells → OnOk last (new.disk.moment ≡ mid.disk.moment + 2)) → (row : Row) → row ≡ ended_as last done refused
           → IsRow Tells asked left' row.done row.refused old new
-      last_row (Ok place) in count stopped reason memory stands calls row is =
-          subst (λ (row : Row). IsRow Tells asked left' row.done row.refused old new) (sym is) (counted_row done refused left' new many going is_ended sound in runs calls numbers faults kept)
-      last_row (Err why) in count stopped reason memory stands calls row is =
+      last_row (Ok place) counts count stopped reason memory stands calls row is =
+          subst (λ (row : Row). IsRow Tells asked left' row.done row.refused old new) (sym is) (counted_row done refused well left' new many going (is_ended counts) sound counts runs calls numbers faults kept)
+      last_row (Err why) counts count stopped reason memory stands calls row is =
           subst (λ (row : Row). IsRow Tells asked left' row.done row.refused old new) (sym is)
           (failed_row before before_is new why left' done many sound count stopped stands runs numbers faults kept reason (λ is. memory (ap (λ why. Err why) is)))
 
@@ -380,7 +432,7 @@ module _ (Tells : Type 0) (old : View) (runs : old.state.stopped ≡ None) (aske
       faults = faults;
       pinned = kept;
     }
-    unheld_row (Stopped at) reason count stopped stands = absurd (let clash : Some at ≡ None = sym reason ∙ runs in cc)
+    unheld_row (Stopped at) reason count stopped stands = absurd (let clash : Some at ≡ None = sym reason ∙ running in cc)
     unheld_row (Exhausted last) reason count stopped stands = absurd (elim reason.2 [ inl all ↦ omega (arith, fits, all) | inr short ↦ short ])
     unheld_row (Backwards clock) reason count stopped stands = absurd reason
     unheld_row (Pinned pin limit) reason count stopped stands = absurd reason

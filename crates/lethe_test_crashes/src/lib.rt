@@ -10,6 +10,8 @@ mod journal;
 #[cfg(test)]
 mod levels;
 #[cfg(test)]
+mod rows;
+#[cfg(test)]
 mod slots;
 #[cfg(test)]
 mod spellings;
