@@ -7,7 +7,7 @@ pub mod Prefixes
 pub mod Onward
 pub mod AtWork
 pub mod Calls
-pub mod Rows
+pub mod RowsSince
 pub mod Faces
 pub mod Copying
 pub mod Clean

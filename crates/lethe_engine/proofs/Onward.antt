@@ -171,7 +171,7 @@ module _ (config : Fields) (opened : Opened) (h : History) (old new : View) (bef
     all_legal (asked ∷ more) g legal fine few =
         let change : Change = done_by caller (call_of asked) in
         let rest = all_legal more (g ++ change ∷ []) (legal_push g change legal fine (omega (arith, few)) (asked_works asked) (λ to is. absurd (asked_ticks asked to is))) (done_push g change fine refl)
-            (let long = length-append g (change ∷ []) in omega (arith, few, long)) in
+        (let long = length-append g (change ∷ []) in omega (arith, few, long)) in
         let same = append_assoc g (change ∷ []) (map (λ asked. done_by caller (call_of asked)) more) in
         (subst IsLegal same rest.0, subst AreDone same rest.1)
 
@@ -196,7 +196,7 @@ module _ (config : Fields) (opened : Opened) (h : History) (old new : View) (bef
       made_for run now =
           let all = append-nil made in
           let few : length h + length made ≤ max_place =
-              let few = now.legal.few in let long = length-append h (map (λ asked. done_by caller (call_of asked)) made) in let same = length-map made (λ asked. done_by caller (call_of asked)) in omega (arith, few, long, same) in
+          let few = now.legal.few in let long = length-append h (map (λ asked. done_by caller (call_of asked)) made) in let same = length-map made (λ asked. done_by caller (call_of asked)) in omega (arith, few, long, same) in
           let fine = all_legal made h before.now.legal done few in
           added_to (IsKeptAlong config h caller (tried made None)) (with_all h caller made) (map (λ asked. done_by caller (call_of asked)) made) refl
           (prefix_longer Was h (map (λ asked. done_by caller (call_of asked)) made) before.now.legal done)
@@ -212,8 +212,8 @@ module _ (config : Fields) (opened : Opened) (h : History) (old new : View) (bef
             let mapped = map (λ asked. done_by caller (call_of asked)) made in
             let whole : with_all h caller made ++ change ∷ [] ≡ h ++ (mapped ++ change ∷ []) = append_assoc h mapped (change ∷ []) in
             let few : length h + length made ≤ max_place =
-                let few = now.legal.few in let long = length-append (with_all h caller made) (change ∷ []) in let two = length-append h mapped in let same = length-map made (λ asked. done_by caller (call_of asked)) in
-                omega (arith, few, long, two, same) in
+            let few = now.legal.few in let long = length-append (with_all h caller made) (change ∷ []) in let two = length-append h mapped in let same = length-map made (λ asked. done_by caller (call_of asked)) in
+            omega (arith, few, long, two, same) in
             let fine = all_legal made h before.now.legal done few in
             let of = prefix_failed Was (with_all h caller made) change fine.0 fine.1 (asked_works asked) (from_opened made) in
             added_to (IsKeptAlong config h caller (made ++ asked ∷ [])) (with_all h caller made ++ change ∷ []) (mapped ++ change ∷ []) whole

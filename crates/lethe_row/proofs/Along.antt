@@ -132,7 +132,7 @@ at_end_behind mid new next end is left (inr (inl full)) =
 at_end_behind mid new next end is left (inr (inr used)) = let count = is.count in inr (inr (inr (omega (arith, used, count))))
 
 -- no change was made
-pub idle_row : (Tells : Type 0) (view : View) (asked left : List Asked) → IsSound Tells view → left ≡ asked → (asked ≡ []) ⊎ IsAtEnd view → IsRow Tells asked left 0 None view view
+unfoldable pub idle_row : (Tells : Type 0) (view : View) (asked left : List Asked) → IsSound Tells view → left ≡ asked → (asked ≡ []) ⊎ IsAtEnd view → IsRow Tells asked left 0 None view view
 idle_row Tells view asked left sound same end = record {
   made = [];
   rest = asked;
@@ -339,7 +339,13 @@ module _ (Tells : Type 0) (old : View) (running : old.state.stopped ≡ None) (a
         many = many;
         failed = Some (held.next, record { place = place; before = b; after = a });
         ended = (
-          held.next, left, refl, refl, reason.1 ∙ sym (count (call_of held.next)), reason.2 ∙ before_is, reason.3,
+          held.next,
+          left,
+          refl,
+          refl,
+          reason.1 ∙ sym (count (call_of held.next)),
+          reason.2 ∙ before_is,
+          reason.3,
           subst (λ n. Rose n a) (sym reason.2) (subst (Rose before) (sym reason.3) reason.4),
         );
         sound = sound;
@@ -399,7 +405,13 @@ module _ (Tells : Type 0) (old : View) (running : old.state.stopped ≡ None) (a
       many = refl;
       failed = Some (next, record { place = place; before = b; after = a });
       ended = (
-        next, left, refl, refl, reason.1 ∙ sym (count (call_of next)), reason.2, reason.3,
+        next,
+        left,
+        refl,
+        refl,
+        reason.1 ∙ sym (count (call_of next)),
+        reason.2,
+        reason.3,
         subst (λ n. Rose n a) (sym reason.2) (subst (Rose old.faults) (sym reason.3) reason.4),
       );
       sound = sound;

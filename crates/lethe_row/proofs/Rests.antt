@@ -317,7 +317,6 @@ module _ (rest : View) (s : Stored) (holds : Holds rest s) (next : Record) (spel
     directory_with : disk'.directory ≡ with_record rest.disk.directory s next
     directory_with = inserted rest s holds next spelled place s.active.no (sym (active_number s rest holds.remembers)) disk' faults' state' done
 
-
 -- The record that waits, where the segment and its gate are at hand
 
 module _ (Tells : Type 0) (view : View) (d : Directory) (waiting : Waiting) (is : IsAtRest Tells view d waiting) (told : Tells) where
@@ -366,8 +365,8 @@ module _ (Tells : Type 0) (view : View) (d : Directory) (waiting : Waiting) (is 
           × EndsAt disk' (segment_name s.active.no) s.active.no (longer (addition s waiting.record)) waiting.end
       opened_there disk' done synced ends = (
         done ∙ ap (λ name. insert view.disk.directory name (segment_bytes s.active.no (longer (addition s waiting.record)))) name_there
-        ∙ ap (λ x. insert x (segment_name s.active.no) (segment_bytes s.active.no (longer (addition s waiting.record)))) (is.held_back told s holds).directory
-        ∙ insert_again d (segment_name s.active.no) (waiting_bytes (addition s waiting.record)) (segment_bytes s.active.no (longer (addition s waiting.record))),
+            ∙ ap (λ x. insert x (segment_name s.active.no) (segment_bytes s.active.no (longer (addition s waiting.record)))) (is.held_back told s holds).directory
+            ∙ insert_again d (segment_name s.active.no) (waiting_bytes (addition s waiting.record)) (segment_bytes s.active.no (longer (addition s waiting.record))),
         synced,
         subst (λ n. EndsAt disk' (segment_name s.active.no) s.active.no (longer (addition s waiting.record)) n) (sym ends_there)
             (subst (λ name. EndsAt disk' name s.active.no (longer (addition s waiting.record)) (end_of at (addition s waiting.record))) name_there ends),
@@ -544,10 +543,10 @@ module _ (Tells : Type 0) (view : View) (d : Directory) (waiting : Waiting) (is 
             let name = active_named (at_rest view d) s there.1 segment (named_like view.state prepared' like segment segment_is) in
             subst (IsHeldBack passed disk' state'.end next) (one_held then then (appended s waiting.record) t refl with holds) (record {
               waits = subst (λ n. IsWaiting disk' (segment_name s.active.no) n (addition (appended s waiting.record) next.record)) (sym entered.end_is)
-              (subst (λ name. IsWaiting disk' name waiting.end (addition (appended s waiting.record) next.record)) name gone.2);
+                  (subst (λ name. IsWaiting disk' name waiting.end (addition (appended s waiting.record) next.record)) name gone.2);
               end_is = subst (λ n. next.end ≡ end_of n (addition (appended s waiting.record) next.record)) (sym entered.end_is) end;
               directory = whole told s there.1 ∙ sym (ap (λ x. insert x (segment_name s.active.no) (waiting_bytes (addition (appended s waiting.record) next.record))) (front told s there.1)
-              ∙ insert_again d (segment_name s.active.no) (segment_bytes s.active.no (longer (addition s waiting.record))) (waiting_bytes (addition (appended s waiting.record) next.record)));
+                  ∙ insert_again d (segment_name s.active.no) (segment_bytes s.active.no (longer (addition s waiting.record))) (waiting_bytes (addition (appended s waiting.record) next.record)));
               synced = gone.1;
             });
       }

@@ -55,10 +55,7 @@ impl Asked {
             Asked::Put { key, dkey, value } => {
                 core.state.put_record_behind(front, key, dkey, value)
             }
-            Asked::Delete { key } => {
-                core.state
-                    .delete_record_behind(&core.version, front, key)
-            }
+            Asked::Delete { key } => { core.state.delete_record_behind(&core.version, front, key) }
             Asked::Erase { range } => core.state.erase_record_behind(front, range),
         }
     }

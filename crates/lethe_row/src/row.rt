@@ -30,11 +30,7 @@ pub struct Row {
 /// # Errors
 ///
 /// `Fault`, which stops the store, and `NoMemory`.
-pub fn record_row<D: Disk>(
-    core: &mut Core<D>,
-    alloc: Global,
-    asked: &mut VecDeque<Asked>,
-) -> Row
+pub fn record_row<D: Disk>(core: &mut Core<D>, alloc: Global, asked: &mut VecDeque<Asked>) -> Row
     requires sound { IsSound D.tells (view_of core.old) }
     requires runs { core.old.state.stopped ≡ None }
     ensures row { IsRow D.tells asked.old.items asked.new.items result.done result.refused (view_of core.old) (view_of core.new) }

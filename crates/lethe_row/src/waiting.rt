@@ -202,7 +202,8 @@ pub fn count_last<D: Disk>(
     let segment = active_segment(core);
     match append_last(&mut core.disk, segment, core.state.end()) {
         Ok(()) => {
-            core.state.enter(waiting.record, waiting.end, waiting.pending);
+            core.state
+                .enter(waiting.record, waiting.end, waiting.pending);
             Ok(core.state.count())
         }
         Err(_) => Err(stop(core, before)),

@@ -56,12 +56,7 @@ fn has_front(alloc: Global, disk: MemDisk, done: usize) -> Result<bool, Fail> {
 }
 
 // Fails where one of the disks that a crash may leave of this, behind so many of its calls, or the disk itself has another map.
-fn have_fronts(
-    alloc: Global,
-    mut disk: MemDisk,
-    calls: u64,
-    done: usize,
-) -> Result<(), Fail> {
+fn have_fronts(alloc: Global, mut disk: MemDisk, calls: u64, done: usize) -> Result<(), Fail> {
     disk.fuse(20_000);
     take_calls(alloc, &mut disk, calls)?;
     for image in IMAGES {
@@ -160,7 +155,10 @@ fn are_alike(alloc: Global, made: &Generated) -> Result<bool, Fail> {
 fn rows_leave_what_single_changes_leave(rt: HostRuntime) -> Result<(), Fail> {
     let alloc = rt.alloc();
     for seed in 40..50 {
-        assert!(rt; are_alike(alloc, &Generated::erasing(alloc, seed, 6)?)?, "{seed}");
+        assert!(rt;
+            are_alike(alloc, &Generated::erasing(alloc, seed, 6)?)?,
+            "{seed}"
+        );
     }
     Ok(())
 }

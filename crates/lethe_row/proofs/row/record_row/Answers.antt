@@ -117,9 +117,9 @@ returns-in-Ok-false-clause-row g c =
     let stays = c.pass_on.ensures.stays was.at was.rest ok in
     let same : c.pass_on.new.waiting ≡ c.loop-change.waiting = stays.0 in
     let held =
-        still_held tells old c.requires.runs c.args.asked.now.items (Unit {0}) c.loop-change.invariant.held.0 c.loop-change.waiting c.loop-change.asked.items (view_of c.loop-change.core) was mid stays.2 stays.1.count
-        (ap parts_by_level c.pass_on.ensures.version) stays.3 (λ told config h caller stands will. c.pass_on.ensures.any_moment told was.at was.rest config h caller (call_of was.next) stands will)
-        c.pass_on.ensures.numbers c.pass_on.ensures.faults c.pass_on.ensures.pinned c.pass_on.ensures.pins in
+    still_held tells old c.requires.runs c.args.asked.now.items (Unit {0}) c.loop-change.invariant.held.0 c.loop-change.waiting c.loop-change.asked.items (view_of c.loop-change.core) was mid stays.2 stays.1.count
+    (ap parts_by_level c.pass_on.ensures.version) stays.3 (λ told config h caller stands will. c.pass_on.ensures.any_moment told was.at was.rest config h caller (call_of was.next) stands will)
+    c.pass_on.ensures.numbers c.pass_on.ensures.faults c.pass_on.ensures.pinned c.pass_on.ensures.pins in
     let there = subst (λ waiting. IsHeld tells ⊥ old c.args.asked.now.items c.loop-change.invariant.held.0 waiting c.loop-change.asked.items mid) (sym same) held in
     last_row tells old c.requires.runs c.args.asked.now.items ⊥ c.loop-change.invariant.held.0 c.pass_on.new.waiting c.loop-change.asked.items mid there c.faults-before.result c.faults-before.ensures new
     c.next_with_room-in-loop-change.new.asked.items c.loop-change.done c.loop-change.invariant.held.1 c.count_last-last.ensures.sound c.count_last-last.ensures.numbers c.count_last-last.ensures.faults c.count_last-last.ensures.pinned

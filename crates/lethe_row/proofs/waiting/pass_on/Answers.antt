@@ -57,7 +57,7 @@ append_next-requires-after_bounds g c κs within = λ told.
       waits_there g.D.Disk.tells (view_of c.args.core.now) d c.args.waiting.now is told c.prepare_behind.new.self c.prepare_behind.ensures.same c.active_segment-segment.result c.active_segment-segment.ensures c.end-gate.result c.end-gate.ensures there.0 there.1,
       ends_there g.D.Disk.tells (view_of c.args.core.now) d c.args.waiting.now is told c.prepare_behind.new.self c.prepare_behind.ensures.same c.active_segment-segment.result c.active_segment-segment.ensures c.end-gate.result c.end-gate.ensures there.0 there.1,
       behind_there g.D.Disk.tells (view_of c.args.core.now) d c.args.waiting.now is told c.prepare_behind.new.self c.prepare_behind.ensures.same c.active_segment-segment.result c.active_segment-segment.ensures c.end-gate.result c.end-gate.ensures there.0 there.1
-      c.args.next c.deref.result.now c.requires.spelled c.requires.place (c.deref.ensures.value ∙ c.in-Ok.ensures.body),
+          c.args.next c.deref.result.now c.requires.spelled c.requires.place (c.deref.ensures.value ∙ c.in-Ok.ensures.body),
     )
 
 -- It waits, and the one that waited counts
@@ -74,15 +74,15 @@ returns-in-Ok-append_next-clause-passed g c = λ d is done.
     let entered : IsNext waiting.record waiting.end view.state c.enter.new.self = like_next waiting.record waiting.end view.state c.prepare_behind.new.self c.enter.new.self same
     (subst (λ (front : Waiting). IsNext front.record front.end c.prepare_behind.new.self c.enter.new.self) c.replace-front.ensures.value c.enter.ensures.is) in
     let went : Tells → (s : Stored) → Holds (at_rest view d) s
-        → (disk.directory ≡ insert view.disk.directory c.active_segment-segment.result (waiting_bytes (addition (appended s waiting.record) c.args.next))) × IsSynced disk
-        × IsWaiting disk c.active_segment-segment.result waiting.end (addition (appended s waiting.record) c.args.next) = λ told s holds.
-        let a = addition s waiting.record in
-        let b = addition (appended s waiting.record) c.args.next in
-        let waits = waits_there g.D.Disk.tells (view_of c.args.core.now) d c.args.waiting.now is told c.prepare_behind.new.self c.prepare_behind.ensures.same c.active_segment-segment.result c.active_segment-segment.ensures c.end-gate.result c.end-gate.ensures s holds in
-        let ends = ends_there g.D.Disk.tells (view_of c.args.core.now) d c.args.waiting.now is told c.prepare_behind.new.self c.prepare_behind.ensures.same c.active_segment-segment.result c.active_segment-segment.ensures c.end-gate.result c.end-gate.ensures s holds in
-        let follows = behind_there g.D.Disk.tells (view_of c.args.core.now) d c.args.waiting.now is told c.prepare_behind.new.self c.prepare_behind.ensures.same c.active_segment-segment.result c.active_segment-segment.ensures c.end-gate.result c.end-gate.ensures s holds
-        c.args.next c.deref.result.now c.requires.spelled c.requires.place (c.deref.ensures.value ∙ c.in-Ok.ensures.body) in
-        (c.in-Ok-append_next.ensures.done told a b waits ends follows, c.in-Ok-append_next.ensures.synced told, c.in-Ok-append_next.ensures.waits told a b waits ends follows) in
+    → (disk.directory ≡ insert view.disk.directory c.active_segment-segment.result (waiting_bytes (addition (appended s waiting.record) c.args.next))) × IsSynced disk
+    × IsWaiting disk c.active_segment-segment.result waiting.end (addition (appended s waiting.record) c.args.next) = λ told s holds.
+    let a = addition s waiting.record in
+    let b = addition (appended s waiting.record) c.args.next in
+    let waits = waits_there g.D.Disk.tells (view_of c.args.core.now) d c.args.waiting.now is told c.prepare_behind.new.self c.prepare_behind.ensures.same c.active_segment-segment.result c.active_segment-segment.ensures c.end-gate.result c.end-gate.ensures s holds in
+    let ends = ends_there g.D.Disk.tells (view_of c.args.core.now) d c.args.waiting.now is told c.prepare_behind.new.self c.prepare_behind.ensures.same c.active_segment-segment.result c.active_segment-segment.ensures c.end-gate.result c.end-gate.ensures s holds in
+    let follows = behind_there g.D.Disk.tells (view_of c.args.core.now) d c.args.waiting.now is told c.prepare_behind.new.self c.prepare_behind.ensures.same c.active_segment-segment.result c.active_segment-segment.ensures c.end-gate.result c.end-gate.ensures s holds
+    c.args.next c.deref.result.now c.requires.spelled c.requires.place (c.deref.ensures.value ∙ c.in-Ok.ensures.body) in
+    (c.in-Ok-append_next.ensures.done told a b waits ends follows, c.in-Ok-append_next.ensures.synced told, c.in-Ok-append_next.ensures.waits told a b waits ends follows) in
     let long : length c.in-Ok.field-0.body.items ≡ length (record_bytes c.args.next) = ap length c.in-Ok.ensures.body in
     let last = c.in-Ok.ensures.end in
     let taken = c.in-Ok.ensures.room in
@@ -100,9 +100,11 @@ returns-in-Ok-append_next-clause-passed g c = λ d is done.
     subst (λ (behind : Waiting). (behind.record ≡ c.args.next) × ((x : Directory) × IsAtRest Tells (moved view disk faults c.enter.new.self) x behind
     × IsCountedIn Tells waiting (at_rest view d) (at_rest (moved view disk faults c.enter.new.self) x))) (sym c.replace-front.ensures.after) (
       refl,
-      (after,
-       passed_rest Tells view d waiting is c.prepare_behind.new.self same segment named disk faults c.enter.new.self entered next went c.enter.ensures.writable c.requires.fits c.requires.room c.requires.place prepared long_enough,
-       passed_counted Tells view d waiting is c.prepare_behind.new.self same segment named disk faults c.enter.new.self entered next went),
+      (
+        after,
+        passed_rest Tells view d waiting is c.prepare_behind.new.self same segment named disk faults c.enter.new.self entered next went c.enter.ensures.writable c.requires.fits c.requires.room c.requires.place prepared long_enough,
+        passed_counted Tells view d waiting is c.prepare_behind.new.self same segment named disk faults c.enter.new.self entered next went,
+      ),
     )
 
 pub returns-in-Ok-append_next-clause-any_moment : goal.returns-in-Ok-append_next-clause-any_moment
@@ -192,7 +194,7 @@ returns-clause-stays g c = λ d is done.
       refl,
       same,
       rest_still g.D.Disk.tells mid d c.args.waiting.now (rest_like g.D.Disk.tells view d c.args.waiting.now is c.prepare_behind.new.self same c.prepare_behind.ensures.writable c.prepare_behind.ensures.front) disk faults
-      (λ told. c.in-Err-NoMemory.ensures.no_memory told (ap Err c.in-Err-NoMemory.field-0-is)),
+          (λ told. c.in-Err-NoMemory.ensures.no_memory told (ap Err c.in-Err-NoMemory.field-0-is)),
       λ config h stands. rested_stands (at_rest mid d) disk.moment faults refl config h (like_stands (at_rest view d) c.prepare_behind.new.self same config h stands is.runs) (same.stopped ∙ is.runs),
     )
 

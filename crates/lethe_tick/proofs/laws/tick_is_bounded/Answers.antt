@@ -9,8 +9,7 @@ pub returns : goal.returns
 returns c = λ h to s ripe t outcomes is coherent ripened are.
     let behind = ripened_for h to s ripe coherent is ripened in
     let counted = erases_counted h ripe behind.0 in
-    let by = due_choice to in
-    (
+    let by = due_choice to in (
       behind.0,
       elim are [
         | inl some ↦ outcomes_few by ripe outcomes t behind.1 counted some

@@ -124,16 +124,20 @@ returns-clause-done g c = λ told s holds.
     let middle = c.in_ok-flush_frozen.ensures.done told s holds in
     let froze = c.in_ok-freeze_if_any.ensures.done told middle.0 middle.2 in
     on_ok c.flush_frozen-2.result ((t : Stored) × IsUnfrozen froze.0 t × Holds new t) ((t : Stored) × AreBuffersFlushed s t × Holds new t) (c.flush_frozen-2.ensures.done told froze.0 froze.2)
-    (λ done. (done.0, record {
-      unfrozen = middle.0;
-      first = middle.1;
-      unfrozen_coherent = middle.2.remembers.coherent;
-      frozen = froze.0;
-      second = froze.1;
-      frozen_coherent = froze.2.remembers.coherent;
-      last = done.1;
-      coherent = done.2.remembers.coherent;
-    }, done.2))
+    (λ done. (
+      done.0,
+      record {
+        unfrozen = middle.0;
+        first = middle.1;
+        unfrozen_coherent = middle.2.remembers.coherent;
+        frozen = froze.0;
+        second = froze.1;
+        frozen_coherent = froze.2.remembers.coherent;
+        last = done.1;
+        coherent = done.2.remembers.coherent;
+      },
+      done.2,
+    ))
 
 pub returns-clause-why : goal.returns-clause-why
 returns-clause-why g c =

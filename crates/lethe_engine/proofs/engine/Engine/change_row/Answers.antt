@@ -1,8 +1,13 @@
-use Rattle.std.proofs.Common.{◌≡◌, ap}
-use Rattle.std.specs.Prelude.{option_map}
+use Rattle.std.proofs.Common.{◌≡◌, sym, ap, ◌∙◌}
+use Rattle.std.specs.Prelude.{is_some, option_map}
 use Rattle.lethe_core.specs.View.{View, face_of, flying_of, view_of}
-use Rattle.lethe_engine.proofs.Rows.{row_answers, stopped_answers}
+use Rattle.lethe_engine.proofs.RowsSince.{is_there, none_there, row_answers, stopped_answers}
 use Rattle.lethe_engine.proofs.engine.Engine.change_row.Goals as goal
+
+pub returns-then-is_some-clause-answers : goal.returns-then-is_some-clause-answers
+returns-then-is_some-clause-answers g c =
+    let old = view_of c.args.self.now.core in
+    stopped_answers g.D.Disk.tells c.args.asked.now.items old c.requires (is_there old.state.stopped (ap is_some (sym c.stopped.ensures) ∙ sym c.is_some.ensures ∙ c.if-is_some.true))
 
 pub returns-clause-answers : goal.returns-clause-answers
 returns-clause-answers g c =
@@ -16,4 +21,4 @@ returns-clause-answers g c =
       retired = (c.record_row.ensures.retired i).items;
       pins = c.record_row.ensures.pins i;
     }) in
-    ?
+    row_answers g.D.Disk.tells c.args.asked.now.items c.record_row.new.asked.items c.record_row.result.done c.record_row.result.refused old new (none_there old.state.stopped (ap is_some (sym c.stopped.ensures) ∙ sym c.is_some.ensures ∙ c.if-is_some.false)) face c.record_row.ensures.row

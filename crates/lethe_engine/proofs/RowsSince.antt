@@ -1,6 +1,7 @@
 -- What a row of changes says of the store since it was opened.
 use Rattle.std.proofs.Common.{◌≡◌, ℕ, inl, inr, List, [], Option, Some, None, refl, sym, subst}
-use Rattle.std.specs.Prelude.{IfSome, IsSome}
+use Rattle.std.specs.Prelude.{IfSome, IsSome, false, is_some, true}
+use mathlib.Core.Bool.{false≢true}
 use Rattle.lethe_base.specs.Counts.{Rose}
 use Rattle.lethe_base.specs.History.{History}
 use Rattle.lethe_base.specs.declared.config.Fields.{Fields}
@@ -16,6 +17,16 @@ use Rattle.lethe_engine.specs.Rows.{AnswersRow}
 use Rattle.lethe_engine.specs.StandsFor.{Opened, StandsSince}
 use Rattle.lethe_engine.proofs.Calls.{goes_by, idle_goes, idle_itself}
 use Rattle.lethe_engine.proofs.Onward.{row_for, sound_pages}
+
+-- whether a store is stopped
+
+pub is_there : {A : Type 0} (o : Option A) → is_some o ≡ true → IsSome o
+is_there None is = absurd (false≢true is)
+is_there (Some x) is = tt
+
+pub none_there : {A : Type 0} (o : Option A) → is_some o ≡ false → o ≡ None
+none_there None is = refl
+none_there (Some x) is = absurd (false≢true (sym is))
 
 -- the counts of faults with which it ended
 abbrev pub IsCounted : View → View → Asked × Failure → Type 0
@@ -57,6 +68,7 @@ row_answers Tells asked left done refused old new runs face row = record {
 
 -- of a store that is stopped no change is made
 pub stopped_answers : (Tells : Type 0) (asked : List Asked) (view : View) → IsSound Tells view → IsSome view.state.stopped → AnswersRow Tells asked asked 0 None view view
+unfolding idle_row
 stopped_answers Tells asked view sound stopped = record {
   row = idle_row Tells view asked asked sound refl (inr (inl stopped));
   stands = same;
