@@ -143,7 +143,8 @@ fn a_change_that_fails_stops_the_later_ones(rt: HostRuntime) -> Result<(), Fail>
     let alloc = rt.alloc();
     let script = "1 put a 5 x\n1 put b 6 y\n1 get a\n";
     let text = "1 fault 1 before 0 after 1\n1 stopped 1\n1 at 1 none\n";
-    for (call, kept) in [(1, NONE), (2, NONE), (3, NONE), (4, HELD)] {
+    // The record of the second put is written before the gate of the first one.
+    for (call, kept) in [(1, NONE), (2, NONE), (3, NONE), (4, NONE), (5, HELD)] {
         let disk = disk_of(alloc, &[OPENING + call])?;
         let disk = answered(alloc, script, disk, 6, text)?;
         reads(alloc, disk, OPENING + call, kept, NONE)?;

@@ -74,7 +74,7 @@ fn have_fronts(alloc: Global, mut disk: MemDisk, calls: u64, done: usize) -> Res
 // What is printed where the disk is stopped behind so many calls, of which so many changes were done.
 fn is_printed(calls: u64, done: usize, text: &[u8]) -> bool {
     if calls < OPENING {
-        return text == b"open fault before 0 after 1\n";
+        return text == b"open fault before 0 after 1\n".as_slice();
     }
     match PRINTED.get(done) {
         Some(wanted) => text == wanted.as_bytes(),
