@@ -70,25 +70,6 @@ module _ (to : ℕ) where
   ripened_young s t (inl young) = subst (λ x. AreYoung x to) (sym young.1) young.0
   ripened_young s t (inr old) = flushed_young s t old.1
 
--- What stands for a history still does so behind the flushes
-
-module _ (h : History) where
-  unfrozen_for : (s t : Stored) → IsCoherent s → IsFor h s → IsUnfrozen s t → IsFor h t
-  unfrozen_for s t coherent is (inl same) = subst (IsFor h) (sym same.1) is
-  unfrozen_for s t coherent is (inr some) = flush_for h s t coherent is some.1
-
-  frozen_for : (s t : Stored) → IsCoherent s → IsFor h s → s.frozen ≡ None → IsFrozenIfAny s t → IsFor h t
-  frozen_for s t coherent is none (inl same) = subst (IsFor h) (sym same.1) is
-  frozen_for s t coherent is none (inr some) = subst (IsFor h) (sym some.1.is) (froze_for s coherent some.1.segment (some.1.segment + 1) none h is)
-
-  pub ripened_for : (to : ℕ) (s t : Stored) → IsCoherent s → IsFor h s → IsRipened to s t → IsFor h t × IsCoherent t
-  ripened_for to s t coherent is (inl young) = (subst (IsFor h) (sym young.1) is, subst IsCoherent (sym young.1) coherent)
-  ripened_for to s t coherent is (inr old) =
-      let flushed = old.1 in
-      let first = unfrozen_for s flushed.unfrozen coherent is flushed.first in
-      let second = frozen_for flushed.unfrozen flushed.frozen flushed.unfrozen_coherent first (unfrozen_is to s flushed.unfrozen flushed.first).1 flushed.second in
-      (unfrozen_for flushed.frozen t flushed.frozen_coherent second flushed.last, flushed.coherent)
-
   -- merges and sweeps change no segment
   installed_young : (s : Stored) (task : PlainTask) (t : Stored) → IsInstalled s task t → AreYoung s to → AreYoung t to
   installed_young s (Merges task) t is young =
@@ -152,3 +133,22 @@ named_left pins names = All-weaker (λ (name : Name). is_named pins name ≡ tru
 pub named_behind : (outcomes : List Outcome) (pins : List Pin) (before now : List Name) → AreNamed pins before → AreRetiredBehind outcomes pins before now → AreNamed pins now
 named_behind [] pins before now named is = subst (AreNamed pins) (sym is) named
 named_behind (outcome ∷ more) pins before now named is = is
+
+-- What stands for a history still does so behind the flushes
+
+module _ (h : History) where
+  unfrozen_for : (s t : Stored) → IsCoherent s → IsFor h s → IsUnfrozen s t → IsFor h t
+  unfrozen_for s t coherent is (inl same) = subst (IsFor h) (sym same.1) is
+  unfrozen_for s t coherent is (inr some) = flush_for h s t coherent is some.1
+
+  frozen_for : (s t : Stored) → IsCoherent s → IsFor h s → s.frozen ≡ None → IsFrozenIfAny s t → IsFor h t
+  frozen_for s t coherent is none (inl same) = subst (IsFor h) (sym same.1) is
+  frozen_for s t coherent is none (inr some) = subst (IsFor h) (sym some.1.is) (froze_for s coherent some.1.segment (some.1.segment + 1) none h is)
+
+  pub ripened_for : (to : ℕ) (s t : Stored) → IsCoherent s → IsFor h s → IsRipened to s t → IsFor h t × IsCoherent t
+  ripened_for to s t coherent is (inl young) = (subst (IsFor h) (sym young.1) is, subst IsCoherent (sym young.1) coherent)
+  ripened_for to s t coherent is (inr old) =
+      let flushed = old.1 in
+      let first = unfrozen_for s flushed.unfrozen coherent is flushed.first in
+      let second = frozen_for flushed.unfrozen flushed.frozen flushed.unfrozen_coherent first (unfrozen_is to s flushed.unfrozen flushed.first).1 flushed.second in
+      (unfrozen_for flushed.frozen t flushed.frozen_coherent second flushed.last, flushed.coherent)
