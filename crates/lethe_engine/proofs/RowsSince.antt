@@ -22,7 +22,7 @@ use Rattle.lethe_engine.proofs.Onward.{row_for, sound_pages}
 
 pub is_there : {A : Type 0} (o : Option A) → is_some o ≡ true → IsSome o
 is_there None is = absurd (false≢true is)
-is_there (Some x) is = tt
+is_there (Some x) is = refl
 
 pub none_there : {A : Type 0} (o : Option A) → is_some o ≡ false → o ≡ None
 none_there None is = refl
