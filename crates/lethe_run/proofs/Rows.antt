@@ -1,5 +1,5 @@
 -- Stretches of orders one behind another, and a row of changes.
-use Rattle.std.proofs.Common.{◌≡◌, inl, inr, ◌≤◌, ℕ, zero, suc, ◌+◌, Bool, true, false, cond, List, [], ◌∷◌, ◌++◌, map, length, Option, Some, None, IsSomeAnd, refl, sym, ap, ◌∙◌, subst, arith, append_assoc, append-nil, add-one}
+use Rattle.std.proofs.Common.{◌≡◌, inl, inr, ◌≤◌, ℕ, zero, suc, ◌+◌, ◌-◌, Bool, true, false, cond, List, [], ◌∷◌, ◌++◌, map, length, Option, Some, None, IsSomeAnd, refl, sym, ap, ◌∙◌, subst, arith, append_assoc, append-nil, add-one}
 use Rattle.std.specs.Prelude.{All, IsSome, option_map, option_to_list}
 use Rattle.std.proofs.lemmas.List.{length-append, length-map, map-append}
 use Rattle.std.proofs.lemmas.List.Elements.{All-append, All-nil, filter_map-append}
@@ -447,6 +447,33 @@ module _ (Tells : Type 0) (changes left : List Asked) (done : ℕ) (refused : Op
       let many = is.row.many in
       let more = length-append is.row.made (option_to_list (option_map (λ (f : Asked × Failure). f.0) is.row.failed)) in
       omega (arith, few, count, many, more)
+
+-- by why it went no further
+module _ (Tells Ports : Type 0) (caller : ℕ) (changes left : List Asked) (done : ℕ) (refused : Option Refused) (old new : View) (is : AnswersRow Tells changes left done refused old new) (runs : old.state.stopped ≡ None) (before behind : List Line) where
+  pub row_unfailed : ((place faults now : ℕ) → refused ≡ Some (refusal.Fault place faults now) → ⊥) → behind ≡ before ++ done_lines caller old.state.count done → HasMade Tells Ports caller changes is.row.rest before behind old new
+  row_unfailed never pushed =
+      let ended = unfailed refused is.row.rest left is.row.failed old new is.row.ended never in
+      row_made Tells Ports caller changes left done refused old new is runs ended.0 (is.row.stopped ∙ ended.2 old.state.stopped ∙ runs) before behind pushed
+
+  pub row_whole : refused ≡ None → is.row.rest ≡ left
+  row_whole whole = let ended = subst (λ r. IsEnded r is.row.rest left is.row.failed old new) whole is.row.ended in sym ended.1
+
+  pub row_fault : (place faults now many : ℕ) → refused ≡ Some (refusal.Fault place faults now) → many ≡ length changes - done - 1
+      → behind ≡ ((before ++ done_lines caller old.state.count done) ++ line.Answer caller (reply.Fault place faults now) ∷ []) ++ stopped_lines caller place many → HasMade Tells Ports caller changes [] before behind old new
+  row_fault place faults now many why many_is pushed =
+      let ended = subst (λ r. IsEnded r is.row.rest left is.row.failed old new) why is.row.ended in
+      let next = ended.0 in
+      let others = ended.1 in
+      let size = row_size Tells changes left done refused old new is in
+      let rest_size = ap length ended.2 in
+      let fewer : many ≡ length others = omega (arith, many_is, size, rest_size) in
+      let fault_line = line.Answer caller (reply.Fault place faults now) in
+      let dones = done_lines caller old.state.count done in
+      let stopped : new.state.stopped ≡ Some place = is.row.stopped ∙ ap (λ r. stopped_by r old.state.stopped) why in
+      row_failed Tells Ports caller changes left done refused old new is runs next others (record { place = place; before = faults; after = now }) ended.2 ended.3 ended.4 ended.5 ended.6 ended.7 stopped before behind
+      (pushed ∙ append_assoc (before ++ dones) (fault_line ∷ []) (stopped_lines caller place many) ∙ append_assoc before dones (fault_line ∷ stopped_lines caller place many)
+      ∙ ap (λ n. before ++ (done_lines caller old.state.count n ++ fault_line ∷ stopped_lines caller place many)) (sym is.row.many)
+      ∙ ap (λ n. before ++ (done_lines caller old.state.count (length is.row.made) ++ fault_line ∷ stopped_lines caller place n)) fewer)
 
 -- where nothing was done
 pub row_still : (Tells Ports : Type 0) (caller : ℕ) (changes : List Asked) (lines : List Line) (view : View) → HasMade Tells Ports caller changes changes lines lines view view
