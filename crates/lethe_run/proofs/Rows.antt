@@ -1,5 +1,5 @@
 -- Stretches of orders one behind another, and a row of changes.
-use Rattle.std.proofs.Common.{◌≡◌, inl, inr, ◌≤◌, ℕ, zero, suc, ◌+◌, ◌-◌, Bool, true, false, cond, List, [], ◌∷◌, ◌++◌, map, length, Option, Some, None, IsSomeAnd, refl, sym, ap, ◌∙◌, subst, arith, append_assoc, append-nil, add-one}
+use Rattle.std.proofs.Common.{◌≡◌, ◌≤◌, ℕ, zero, suc, ◌+◌, ◌-◌, Bool, true, false, cond, List, [], ◌∷◌, ◌++◌, map, length, Option, Some, None, IsSomeAnd, refl, sym, ap, ◌∙◌, subst, arith, append_assoc, append-nil, add-one}
 use Rattle.std.specs.Prelude.{All, IsSome, option_map, option_to_list}
 use Rattle.std.proofs.lemmas.List.{length-append, length-map, map-append}
 use Rattle.std.proofs.lemmas.List.Elements.{All-append, All-nil, filter_map-append}
@@ -12,10 +12,9 @@ use Rattle.lethe_base.specs.declared.refused.Refused.TheVariants as refusal
 use Rattle.lethe_base.proofs.Histories.{change_at-append, change_at-push}
 use Rattle.lethe_disk.specs.declared.disk.Disk.{Ghosts}
 use Rattle.lethe_snapshot.specs.declared.snapshot.Snapshot.{Snapshot}
-use Rattle.lethe_cover.specs.Steps.{with_failed}
 use Rattle.lethe_core.specs.Asked.{Failure, done_by, stopped_by}
-use Rattle.lethe_core.specs.View.{Face, View, face_of}
-use Rattle.lethe_row.specs.Along.{IsEnded, row_behind, tried, with_all}
+use Rattle.lethe_core.specs.View.{Face, View}
+use Rattle.lethe_row.specs.Along.{IsEnded, row_behind, tried}
 use Rattle.lethe_row.specs.Rows as rows
 use Rattle.lethe_row.specs.declared.asking.Asked.{Asked}
 use Rattle.lethe_row.specs.declared.asking.Asked.TheVariants as asked
@@ -33,11 +32,11 @@ use Rattle.lethe_run.specs.Holding.{AreShown, slots_of}
 use Rattle.lethe_run.specs.Rows.{HasMade, HasServed, IsStretch, act_of, done_lines, orders_of, stopped_lines, unlined}
 use Rattle.lethe_run.specs.Serving.{Advances, IsAnswered, IsBorneOn, IsOn, IsPhase, Point, opened_in}
 use Rattle.lethe_run.specs.Slots.{Slots}
-use Rattle.lethe_run.specs.Transcript.{Answers, Answered, Course, Follows, InTurn, IsFailedAt, IsFaultOf, Start, Told, WasStopped, call_of, change_of, course, places_behind}
+use Rattle.lethe_run.specs.Transcript.{Answered, Course, InTurn, IsFailedAt, IsFaultOf, Start, Told, WasStopped, call_of, change_of, course, places_behind}
 use Rattle.lethe_run.proofs.Anywhere.{stands_so, told_wider}
 use Rattle.lethe_run.proofs.Holding.{same_slots, shown_later}
 use Rattle.lethe_run.proofs.Outcomes.{told_of}
-use Rattle.lethe_run.proofs.Serving.{IsBuilt, advances_then, all_borne_later, answered_before, built_more, built_start, built_still, in_turn_later, phase_of}
+use Rattle.lethe_run.proofs.Serving.{advances_then, all_borne_later, answered_before, built_more, built_start, built_still, in_turn_later, phase_of}
 use Rattle.lethe_run.proofs.Steps.{longer}
 
 -- Orders, on whichever lines they stand
@@ -611,7 +610,7 @@ row_then Tells Ports caller changes order act is lines between behind old mid ne
       rest,
       row.more ++ more,
       ap (λ l. l ++ unlined order ∷ []) (ap (orders_of caller) (row.are ∙ ap (λ l. row.front ++ l) none ∙ append-nil row.front)) ∙ ap (λ l. orders_of caller row.front ++ l) whole
-      ∙ sym (append_assoc (orders_of caller row.front) one rest),
+          ∙ sym (append_assoc (orders_of caller row.front) one rest),
       (λ all. ap (λ b. cond b [] (order' ∷ [])) all ∙ sym ends),
       pushed ∙ ap (λ l. l ++ more) row.lines ∙ append_assoc lines row.more more,
       stretch_then Tells Ports (orders_of caller row.front) one row.more more old mid new was amid held row.stretch stretch,

@@ -1,5 +1,5 @@
 -- Rows of changes, which are consecutive ones of one caller, and stretches of orders that are answered.
-use Rattle.std.specs.Prelude.{◌≡◌, ◌≤◌, ℕ, List, ◌++◌, map, length, replicate, Option}
+use Rattle.std.specs.Prelude.{◌≡◌, ◌≤◌, ℕ, List, ◌++◌, map, replicate, Option}
 use Rattle.lethe_base.specs.History.{History}
 use Rattle.lethe_disk.specs.declared.disk.Disk.{Ghosts}
 use Rattle.lethe_snapshot.specs.declared.snapshot.Snapshot.{Snapshot}

@@ -1,8 +1,8 @@
 //! A row of changes: consecutive ones of one caller, which are made one behind another.
-ghost use Rattle.std.specs.Prelude.{◌≡◌, ◌≤◌, ◌<◌, ◌+◌, ◌++◌, ◌∷◌, [], List, length, map, Some, None, IsSome, IsTrue, MatchResult, vec_len, vec_capacity, if◌then◌else◌};
+ghost use Rattle.std.specs.Prelude.{◌≡◌, ◌≤◌, ◌<◌, ◌+◌, ◌++◌, ◌∷◌, [], List, length, Some, None, IsSome, IsTrue, MatchResult, vec_len, vec_capacity, if◌then◌else◌};
 ghost use Rattle.lethe_base.specs.Limits.{max_place};
 ghost use Rattle.lethe_core.specs.Running.{IsSound};
-ghost use Rattle.lethe_core.specs.View.{face_of, view_of};
+ghost use Rattle.lethe_core.specs.View.{view_of};
 ghost use Rattle.lethe_script.specs.Slots.{held_behind};
 ghost use Rattle.lethe_script.specs.declared.order.Order.{Order};
 ghost use Rattle.lethe_row.specs.declared.asking.Asked.{Asked};

@@ -1,4 +1,4 @@
-use Rattle.std.proofs.Common.{rules, ◌≡◌, ◌+◌, ◌++◌, ◌∷◌, [], true, cond, sym, ap, ◌∙◌, arith, append_assoc}
+use Rattle.std.proofs.Common.{rules, ◌≡◌, ◌+◌, ◌++◌, ◌∷◌, [], true, cond, ap, ◌∙◌, arith, append_assoc}
 use Rattle.std.specs.Prelude.{is_ok, vec_len}
 use Rattle.std.proofs.lemmas.List.{replicate_more}
 use Rattle.lethe_run.specs.declared.reply.Line.TheVariants.{Answer}

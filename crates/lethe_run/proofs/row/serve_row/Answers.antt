@@ -1,10 +1,10 @@
-use Rattle.std.proofs.Common.{rules, ◌≡◌, ◌+◌, ◌++◌, ◌∷◌, [], Some, true, cond, length, refl, sym, ap, subst, ◌∙◌, arith}
+use Rattle.std.proofs.Common.{rules, ◌≡◌, ◌∷◌, [], Some, true, cond, length, refl, ap, subst, ◌∙◌, arith}
 use mathlib.Core.Bool.{false≢true}
 use Rattle.lethe_core.specs.View.{Face, view_of}
 use Rattle.lethe_script.specs.Slots.{held_behind}
 use Rattle.lethe_script.specs.declared.order.Order.{Order}
 use Rattle.lethe_run.specs.Holding.{held_in}
-use Rattle.lethe_run.specs.Rows.{HasServed, IsStretch, act_of}
+use Rattle.lethe_run.specs.Rows.{HasServed, IsStretch}
 use Rattle.lethe_run.proofs.Rows.{held_same, no_more, served_act, served_made, served_none, served_still, served_then}
 use Rattle.lethe_run.proofs.row.serve_row.Goals as goal
 
@@ -72,7 +72,7 @@ returns-then-not-serve_act-clause-served g c =
     let row = c.make_row.new.row.items in
     let made = c.make_row.ensures.made in
     let first = served_then Tells Ports caller changes c.rows.row.items made.0 c.args.lines.now.items c.rows.lines.items c.make_row.new.lines.items old mid amid was held held
-        c.rows.invariant.served (served_made Tells Ports caller c.rows.row.items made.0 c.rows.lines.items c.make_row.new.lines.items mid amid held made.2) in
+    c.rows.invariant.served (served_made Tells Ports caller c.rows.row.items made.0 c.rows.lines.items c.make_row.new.lines.items mid amid held made.2) in
     let so_far : HasServed Tells Ports caller changes row c.args.lines.now.items c.make_row.new.lines.items old was amid held =
     subst (λ l. HasServed Tells Ports caller changes l c.args.lines.now.items c.make_row.new.lines.items old was amid held) (made.1 (search rules)) first in
     let act = c.serve_act.ensures.served in
@@ -104,7 +104,7 @@ rows-preserved g c =
     let made = c.make_row.ensures.made in
     let taken : row ≡ change ∷ rest = c.in-Some.ensures.items in
     let first = served_then Tells Ports caller changes c.rows.row.items made.0 c.args.lines.now.items c.rows.lines.items c.make_row.new.lines.items old mid amid was held held
-        c.rows.invariant.served (served_made Tells Ports caller c.rows.row.items made.0 c.rows.lines.items c.make_row.new.lines.items mid amid held made.2) in
+    c.rows.invariant.served (served_made Tells Ports caller c.rows.row.items made.0 c.rows.lines.items c.make_row.new.lines.items mid amid held made.2) in
     let so_far : HasServed Tells Ports caller changes (change ∷ rest) c.args.lines.now.items c.make_row.new.lines.items old was amid held =
     subst (λ l. HasServed Tells Ports caller changes l c.args.lines.now.items c.make_row.new.lines.items old was amid held) (made.1 (search rules) ∙ taken) first in
     let act = c.serve_act.ensures.served in

@@ -1,11 +1,11 @@
-use Rattle.std.proofs.Common.{rules, ◌≡◌, ◌+◌, ◌∷◌, ◌++◌, [], length, refl, sym, ap, subst, ◌∙◌, arith, append-nil}
+use Rattle.std.proofs.Common.{rules, ◌≡◌, ◌+◌, ◌∷◌, ◌++◌, [], length, refl, sym, ap, subst, ◌∙◌, arith}
 use mathlib.Core.Bool.{false≢true}
 use Rattle.lethe_core.specs.View.{view_of}
 use Rattle.lethe_script.specs.Slots.{held_through}
 use Rattle.lethe_run.specs.Holding.{held_in}
 use Rattle.lethe_run.specs.Rows.{IsStretch, orders_of, unlined}
 use Rattle.std.specs.Prelude.{IsSome, map}
-use Rattle.std.proofs.lemmas.List.{length-append, length_push, map-append, map-id}
+use Rattle.std.proofs.lemmas.List.{length-append, length_push, map-id}
 use Rattle.std.proofs.lemmas.Iterator.Consumers.{YieldsList-end}
 use Rattle.std.proofs.lemmas.Iterator.Adapters.{YieldsList-from_vec}
 use Rattle.lethe_run.proofs.Rows.{orders_append, phase_parts, stretch_none, stretch_then, waits_all, waits_more, waits_row}
