@@ -1,6 +1,6 @@
 -- Stretches of orders one behind another, and a row of changes.
 use Rattle.std.proofs.Common.{◌≡◌, ◌≤◌, ℕ, zero, suc, ◌+◌, ◌-◌, Bool, true, false, cond, List, [], ◌∷◌, ◌++◌, map, length, Option, Some, None, IsSomeAnd, refl, sym, ap, ◌∙◌, subst, arith, append_assoc, append-nil, add-one}
-use Rattle.std.specs.Prelude.{All, IsSome, option_map, option_to_list}
+use Rattle.std.specs.Prelude.{All, IsSome, is_some, option_map, option_to_list}
 use Rattle.std.proofs.lemmas.List.{length-append, length-map, map-append}
 use Rattle.std.proofs.lemmas.List.Elements.{All-append, All-nil, filter_map-append}
 use Rattle.lethe_base.specs.Counts.{Rose}
@@ -34,7 +34,7 @@ use Rattle.lethe_run.specs.Serving.{Advances, IsAnswered, IsBorneOn, IsOn, IsPha
 use Rattle.lethe_run.specs.Slots.{Slots}
 use Rattle.lethe_run.specs.Transcript.{Answered, Course, InTurn, IsFailedAt, IsFaultOf, Start, Told, WasStopped, call_of, change_of, course, places_behind}
 use Rattle.lethe_run.proofs.Anywhere.{stands_so, told_wider}
-use Rattle.lethe_run.proofs.Holding.{same_slots, shown_later}
+use Rattle.lethe_run.proofs.Holding.{none_if, same_slots, shown_later}
 use Rattle.lethe_run.proofs.Outcomes.{told_of}
 use Rattle.lethe_run.proofs.Serving.{advances_then, all_borne_later, answered_before, built_more, built_start, built_still, in_turn_later, phase_of}
 use Rattle.lethe_run.proofs.Steps.{longer}
@@ -447,6 +447,10 @@ module _ (Tells : Type 0) (changes left : List Asked) (done : ℕ) (refused : Op
       let more = length-append is.row.made (option_to_list (option_map (λ (f : Asked × Failure). f.0) is.row.failed)) in
       omega (arith, few, count, many, more)
 
+-- a store that isn't told to be stopped runs
+pub runs_so : (told stopped : Option ℕ) (b : Bool) → told ≡ stopped → b ≡ is_some told → b ≡ false → stopped ≡ None
+runs_so told stopped b is tells no = sym is ∙ none_if told (sym tells ∙ no)
+
 -- by why it went no further
 module _ (Tells Ports : Type 0) (caller : ℕ) (changes left : List Asked) (done : ℕ) (refused : Option Refused) (old new : View) (is : AnswersRow Tells changes left done refused old new) (runs : old.state.stopped ≡ None) (before behind : List Line) where
   pub row_unfailed : ((place faults now : ℕ) → refused ≡ Some (refusal.Fault place faults now) → ⊥) → behind ≡ before ++ done_lines caller old.state.count done → HasMade Tells Ports caller changes is.row.rest before behind old new
@@ -619,6 +623,10 @@ row_then Tells Ports caller changes order act is lines between behind old mid ne
     by : (b : Bool) (o : Order) → o ∷ [] ≡ cond b (o ∷ []) [] ++ cond b [] (o ∷ [])
     by true o = refl
     by false o = refl
+
+-- the queue is longer, unless there was no memory
+pub pushed_behind : {X : Type 0} (xs ys : List X) (x : X) (ok b : Bool) → ys ≡ cond ok (xs ++ x ∷ []) xs → b ≡ ok → b ≡ true → ys ≡ xs ++ x ∷ []
+pushed_behind xs ys x ok b is tells so = is ∙ ap (λ b. cond b (xs ++ x ∷ []) xs) (sym tells ∙ so)
 
 -- The orders of a phase, but for those that wait
 

@@ -5,8 +5,7 @@ use Rattle.lethe_core.specs.View.{view_of}
 use Rattle.lethe_run.specs.declared.reply.Line.TheVariants.{Answer}
 use Rattle.lethe_run.specs.declared.reply.Reply.TheVariants as reply
 use Rattle.lethe_run.specs.Rows.{done_lines, stopped_lines}
-use Rattle.lethe_run.proofs.Holding.{none_if}
-use Rattle.lethe_run.proofs.Rows.{row_fault, row_size, row_still, row_unfailed, row_whole, unfailed}
+use Rattle.lethe_run.proofs.Rows.{row_fault, row_size, row_still, row_unfailed, row_whole, runs_so, unfailed}
 use Rattle.lethe_run.proofs.row.make_row.Goals as goal
 
 pub returns-then-is_some-clause-made : goal.returns-then-is_some-clause-made
@@ -24,7 +23,7 @@ returns-in_default-clause-made g c =
     let is = c.change_row-done.ensures.answers in
     let before = c.args.lines.now.items in
     let behind = c.push_done.new.lines.items in
-    let runs : old.state.stopped ≡ None = sym c.stopped.ensures ∙ none_if c.stopped.result (sym c.is_some.ensures ∙ c.if-is_some.false) in
+    let runs = runs_so c.stopped.result old.state.stopped c.is_some.result c.stopped.ensures c.is_some.ensures c.if-is_some.false in
     let pushed = c.push_done.ensures.lines ∙ ap (λ n. before ++ done_lines c.args.caller n done) c.count-count.ensures in (
       is.row.rest,
       (λ all. row_whole g.D.Disk.tells g.D.Disk.ports_fail c.args.caller changes left done why old new is runs before behind c.in_default.is),
@@ -43,7 +42,7 @@ returns-in_default-why g c =
     let is = c.change_row-done.ensures.answers in
     let before = c.args.lines.now.items in
     let behind = c.push_done.new.lines.items in
-    let runs : old.state.stopped ≡ None = sym c.stopped.ensures ∙ none_if c.stopped.result (sym c.is_some.ensures ∙ c.if-is_some.false) in
+    let runs = runs_so c.stopped.result old.state.stopped c.is_some.result c.stopped.ensures c.is_some.ensures c.if-is_some.false in
     let pushed = c.push_done.ensures.lines ∙ ap (λ n. before ++ done_lines c.args.caller n done) c.count-count.ensures in
     let never : (place faults now : ℕ) → why ≡ Some (refused.Fault place faults now) → ⊥ =
     λ place faults now failed. let same : c.in-Some.why ≡ refused.Fault place faults now = cc in c.in_default-why.not-Fault place faults now same in
@@ -73,7 +72,7 @@ returns-clause-made g c =
     let is = c.change_row-done.ensures.answers in
     let before = c.args.lines.now.items in
     let place = c.in-Fault.place in
-    let runs : old.state.stopped ≡ None = sym c.stopped.ensures ∙ none_if c.stopped.result (sym c.is_some.ensures ∙ c.if-is_some.false) in
+    let runs = runs_so c.stopped.result old.state.stopped c.is_some.result c.stopped.ensures c.is_some.ensures c.if-is_some.false in
     let dones = c.push_done.ensures.lines ∙ ap (λ n. before ++ done_lines c.args.caller n done) c.count-count.ensures in
     let line = Answer c.args.caller (reply.Fault place c.in-Fault.before c.in-Fault.after) in
     let many = c.len-asked.result - done - 1 in
