@@ -449,7 +449,7 @@ module _ (Tells : Type 0) (changes left : List Asked) (done : ℕ) (refused : Op
 
 -- a store that isn't told to be stopped runs
 pub runs_so : (told stopped : Option ℕ) (b : Bool) → told ≡ stopped → b ≡ is_some told → b ≡ false → stopped ≡ None
-runs_so told stopped b is tells no = sym is ∙ none_if told (sym tells ∙ no)
+runs_so told stopped b is tells false_is = sym is ∙ none_if told (sym tells ∙ false_is)
 
 -- by why it went no further
 module _ (Tells Ports : Type 0) (caller : ℕ) (changes left : List Asked) (done : ℕ) (refused : Option Refused) (old new : View) (is : AnswersRow Tells changes left done refused old new) (runs : old.state.stopped ≡ None) (before behind : List Line) where

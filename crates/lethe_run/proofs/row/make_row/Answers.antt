@@ -24,7 +24,7 @@ returns-in_default-clause-made g c =
     let before = c.args.lines.now.items in
     let behind = c.push_done.new.lines.items in
     let runs = runs_so c.stopped.result old.state.stopped c.is_some.result c.stopped.ensures c.is_some.ensures c.if-is_some.false in
-    let pushed = c.push_done.ensures.lines ∙ ap (λ n. before ++ done_lines c.args.caller n done) c.count-count.ensures in (
+    let pushed : behind ≡ before ++ done_lines c.args.caller old.state.count done = c.push_done.ensures.lines ∙ ap (λ n. before ++ done_lines c.args.caller n done) c.count-count.ensures in (
       is.row.rest,
       (λ all. row_whole g.D.Disk.tells g.D.Disk.ports_fail c.args.caller changes left done why old new is runs before behind c.in_default.is),
       row_unfailed g.D.Disk.tells g.D.Disk.ports_fail c.args.caller changes left done why old new is runs before behind
@@ -43,7 +43,7 @@ returns-in_default-why g c =
     let before = c.args.lines.now.items in
     let behind = c.push_done.new.lines.items in
     let runs = runs_so c.stopped.result old.state.stopped c.is_some.result c.stopped.ensures c.is_some.ensures c.if-is_some.false in
-    let pushed = c.push_done.ensures.lines ∙ ap (λ n. before ++ done_lines c.args.caller n done) c.count-count.ensures in
+    let pushed : behind ≡ before ++ done_lines c.args.caller old.state.count done = c.push_done.ensures.lines ∙ ap (λ n. before ++ done_lines c.args.caller n done) c.count-count.ensures in
     let never : (place faults now : ℕ) → why ≡ Some (refused.Fault place faults now) → ⊥ =
     λ place faults now failed. let same : c.in-Some.why ≡ refused.Fault place faults now = cc in c.in_default-why.not-Fault place faults now same in
     let fewer = (unfailed why is.row.rest left is.row.failed old new is.row.ended never).1 in
@@ -73,7 +73,7 @@ returns-clause-made g c =
     let before = c.args.lines.now.items in
     let place = c.in-Fault.place in
     let runs = runs_so c.stopped.result old.state.stopped c.is_some.result c.stopped.ensures c.is_some.ensures c.if-is_some.false in
-    let dones = c.push_done.ensures.lines ∙ ap (λ n. before ++ done_lines c.args.caller n done) c.count-count.ensures in
+    let dones : c.push_done.new.lines.items ≡ before ++ done_lines c.args.caller old.state.count done = c.push_done.ensures.lines ∙ ap (λ n. before ++ done_lines c.args.caller n done) c.count-count.ensures in
     let line = Answer c.args.caller (reply.Fault place c.in-Fault.before c.in-Fault.after) in
     let many = c.len-asked.result - done - 1 in
     let fault : c.push.new.self.items ≡ c.push_done.new.lines.items ++ line ∷ [] = search rules in (
