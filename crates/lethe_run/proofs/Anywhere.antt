@@ -163,13 +163,6 @@ module _ (Ports : Type 0) (from upto low high : ℕ) (below : low ≤ from) (abo
   through_wider (orders ∷ phases) s (l ∷ lines) t told = (told.0, told_wider orders s l told.0 told.1, through_wider phases told.0 lines t told.2)
 
 module _ (Ports : Type 0) (from upto : ℕ) where
-  one_more : (order : Order) (reply : Reply) (orders : List Order) (s : Standing) (lines : List Line) (middle t : Standing) → AreTold Ports from upto orders s lines middle → IsTold Ports from upto order.act middle reply t
-      → AreTold Ports from upto (orders ++ order ∷ []) s (lines ++ line.Answer order.caller reply ∷ []) t
-  one_more order reply [] s [] middle t told last = (refl, t, subst (λ s. IsTold Ports from upto order.act s reply t) told last, refl)
-  one_more order reply [] s (l ∷ lines) middle t told last = absurd told
-  one_more order reply (o ∷ orders) s [] middle t told last = absurd told
-  one_more order reply (o ∷ orders) s (line.Answer caller r ∷ lines) middle t told last = (told.0, told.1, told.2, one_more order reply orders told.1 lines middle t told.3 last)
-
   phase_more : (part : List Order) (more : List Line) (phases : List (List Order)) (s : Standing) (lines : List (List Line)) (middle t : Standing) → AreToldThrough Ports from upto phases s lines middle → AreTold Ports from upto part middle more t
       → AreToldThrough Ports from upto (phases ++ part ∷ []) s (lines ++ more ∷ []) t
   phase_more part more [] s [] middle t told last = (t, subst (λ s. AreTold Ports from upto part s more t) told last, refl)
@@ -180,20 +173,6 @@ module _ (Ports : Type 0) (from upto : ℕ) where
 -- One call after another, whose counts of faults rise
 
 module _ (Ports : Type 0) (old mid new : View) (before between behind : Slots) (first : old.faults ≤ mid.faults) (then : mid.faults ≤ new.faults) where
-  pub told_more : (orders : List Order) (lines : List Line) (order : Order) (reply : Reply) → AreTold Ports old.faults mid.faults orders (standing_of old before) lines (standing_of mid between)
-      → IsTold Ports mid.faults new.faults order.act (standing_of mid between) reply (standing_of new behind) → AreTold Ports old.faults new.faults (orders ++ order ∷ []) (standing_of old before) (lines ++ line.Answer order.caller reply ∷ []) (standing_of new behind)
-  told_more orders lines order reply told last =
-      one_more Ports old.faults new.faults order reply orders (standing_of old before) lines (standing_of mid between) (standing_of new behind)
-      (told_wider Ports old.faults mid.faults old.faults new.faults (omega arith) then orders (standing_of old before) lines (standing_of mid between) told)
-      (wider Ports mid.faults new.faults old.faults new.faults first (omega arith) order.act (standing_of mid between) reply (standing_of new behind) last)
-
-  -- a call for which there was no memory has no line
-  pub told_still : (orders : List Order) (lines : List Line) → AreTold Ports old.faults mid.faults orders (standing_of old before) lines (standing_of mid between) → standing_of new behind ≡ standing_of mid between
-      → AreTold Ports old.faults new.faults orders (standing_of old before) lines (standing_of new behind)
-  told_still orders lines told same =
-      subst (AreTold Ports old.faults new.faults orders (standing_of old before) lines) (sym same)
-      (told_wider Ports old.faults mid.faults old.faults new.faults (omega arith) then orders (standing_of old before) lines (standing_of mid between) told)
-
   pub through_more : (phases : List (List Order)) (lines : List (List Line)) (part : List Order) (more : List Line) → AreToldThrough Ports old.faults mid.faults phases (standing_of old before) lines (standing_of mid between)
       → AreTold Ports mid.faults new.faults part (standing_of mid between) more (standing_of new behind) → AreToldThrough Ports old.faults new.faults (phases ++ part ∷ []) (standing_of old before) (lines ++ more ∷ []) (standing_of new behind)
   through_more phases lines part more told last =

@@ -126,7 +126,7 @@ free_if : {X : Type 0} (b : Bool) (x : X) → IsSome (cond b None (Some x)) → 
 free_if true x is = absurd (let clash : false ≡ true = is in cc)
 free_if false x is = refl
 
-none_if : {X : Type 0} (o : Option X) → is_some o ≡ false → o ≡ None
+pub none_if : {X : Type 0} (o : Option X) → is_some o ≡ false → o ≡ None
 none_if None is = refl
 none_if (Some x) is = absurd (let clash : true ≡ false = is in cc)
 

@@ -16,6 +16,7 @@ pub mod Runs
 pub mod Options
 pub mod Turns
 pub mod Serving
+pub mod Rows
 pub mod Phases
 pub mod Endings
 pub mod Ending

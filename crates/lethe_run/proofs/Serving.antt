@@ -140,7 +140,7 @@ module _ (h more : History) (legal : IsLegal (h ++ more)) (Ports : Type 0) (begi
   answers_before caller act ReadFault a = a
   answers_before caller act (Damaged page) a = absurd a
 
-  answered_before : (orders : List Order) (lines : List Line) → Answered (told_of h First) orders lines → Answered (told_of (h ++ more) Last) orders lines
+  pub answered_before : (orders : List Order) (lines : List Line) → Answered (told_of h First) orders lines → Answered (told_of (h ++ more) Last) orders lines
   answered_before [] [] a = tt
   answered_before [] (line ∷ lines) a = absurd a
   answered_before (order ∷ orders) [] a = absurd a
@@ -178,7 +178,7 @@ module _ (Ports : Type 0) (begin : Start) (f0 f1 m0 m1 : ℕ) (on : m0 ≤ m1) w
   follows_later n m ReadFault f = f
   follows_later n m (Damaged page) f = f
 
-  in_turn_later : (n m : ℕ) (lines : List Line) → InTurn (course Ports begin f0 m0) n lines m → InTurn (course Ports begin f1 m1) n lines m
+  pub in_turn_later : (n m : ℕ) (lines : List Line) → InTurn (course Ports begin f0 m0) n lines m → InTurn (course Ports begin f1 m1) n lines m
   in_turn_later n m [] t = t
   in_turn_later n m (line.Answer caller reply ∷ lines) t = (t.0, follows_later n t.0 reply t.1, in_turn_later t.0 m lines t.2)
 

@@ -10,4 +10,5 @@ pub mod Asked
 pub mod Replies
 pub mod Holding
 pub mod Serving
+pub mod Rows
 pub mod Scripts

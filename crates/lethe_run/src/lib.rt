@@ -6,6 +6,7 @@ mod laws;
 mod pinning;
 mod print;
 mod reply;
+mod row;
 mod script;
 mod serve;
 mod slots;

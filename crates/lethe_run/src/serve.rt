@@ -11,14 +11,14 @@ ghost use Rattle.lethe_run.specs.Holding.{AreShown, HoldsPins, held_in, slots_of
 ghost use Rattle.lethe_run.specs.Serving.{IsOn, IsPhase, Point};
 ghost use Rattle.lethe_run.specs.Transcript.{Start};
 
-use crate::answer::answer;
 use crate::reply::Line;
+use crate::row::{Queue, serve_order, serve_row};
 use crate::slots::Slots;
-use lethe_base::NoMemory;
 use lethe_disk::Disk;
 use lethe_engine::Engine;
 use lethe_script::Order;
 use std::alloc::Global;
+use std::collections::VecDeque;
 
 /// What became of a phase.
 #[derive(Debug, Drop)]
@@ -29,8 +29,8 @@ pub(crate) struct Served {
     pub whole: bool,
 }
 
-/// Carries out the orders of a phase one after another, up to one for which there is no memory. The room for all lines is taken first, so
-/// that each change that is made has its line.
+/// Carries out the orders of a phase one after another, up to one for which there is no memory. Consecutive changes of a caller are made in rows, and the lines are the same. The
+/// room for all lines is taken first, so that each change that is made has its line.
 pub(crate) fn serve_phase<D: Disk>(
     engine: &mut Engine<D>,
     alloc: Global,
@@ -62,17 +62,18 @@ pub(crate) fn serve_phase<D: Disk>(
             whole: false,
         };
     };
+    let mut queue = Queue {
+        caller: 0,
+        changes: VecDeque::new(alloc),
+    };
     for order in orders {
-        let Order { caller, act, .. } = order;
-        match answer(engine, alloc, port, slots, act) {
-            Ok(reply) => lines.push(Line::Answer { caller, reply }).unwrap(),
-            Err(NoMemory) => {
-                return Served {
-                    lines,
-                    whole: false,
-                };
-            }
+        if !serve_order(engine, alloc, port, slots, &mut queue, &mut lines, order) {
+            return Served {
+                lines,
+                whole: false,
+            };
         }
     }
-    Served { lines, whole: true }
+    let whole = serve_row(engine, alloc, port, slots, &mut queue, &mut lines);
+    Served { lines, whole }
 }
