@@ -1,0 +1,99 @@
+use Rattle.std.proofs.Common.{rules, ◌≡◌, ◌+◌, [], ◌∷◌, ◌++◌, length, None, Some, refl, sym, ap, ◌∙◌, subst, arith}
+use Rattle.lethe_core.specs.View.{View, face_of, view_of}
+use Rattle.lethe_changes.specs.Changes.{AnswersAll}
+use Rattle.lethe_changes.proofs.Making.{IsMade, all_made, none_yet, one_longer_by, one_made, one_refused, row_ended, row_left, row_made, row_many, row_went}
+use Rattle.lethe_changes.proofs.changes.change_all.Goals as goal
+
+pub loop-alloc-init : goal.loop-alloc-init
+loop-alloc-init g c =
+    let old = view_of c.args.engine.now.core in
+    let all : c.from-left.result.items ≡ c.args.asked.items = search rules in
+    record {
+      so_far = ([], refl, subst (λ left. IsMade g.D.Disk.tells old c.args.asked.items [] left old) (sym all) (none_yet g.D.Disk.tells old c.args.asked.items c.requires));
+      certificates = refl;
+    }
+
+-- A row was refused
+
+pub returns-then-is_some-clause-answers : goal.returns-then-is_some-clause-answers
+returns-then-is_some-clause-answers g c =
+    let so_far = c.loop-alloc.invariant.so_far in
+    let row = c.change_row-row in
+    row_ended g.D.Disk.tells g.D.Disk.ports_fail (view_of c.args.engine.now.core) c.args.asked.items so_far.0 c.loop-alloc.left.items (view_of c.loop-alloc.engine.core) so_far.2
+    row.new.asked.items row.result.done c.loop-alloc.done (view_of row.new.self.core) row.result.refused so_far.1 (sym c.is_some.ensures ∙ c.if-is_some.true) row.ensures.answers
+
+-- All were made
+
+pub returns-in_default-clause-answers : goal.returns-in_default-clause-answers
+returns-in_default-clause-answers g c =
+    let tells = g.D.Disk.tells in
+    let Ports = g.D.Disk.ports_fail in
+    let old = view_of c.args.engine.now.core in
+    let mid : View = view_of c.loop-alloc.engine.core in
+    let so_far = c.loop-alloc.invariant.so_far in
+    let row = c.change_row-row in
+    let new : View = view_of row.new.self.core in
+    let left = row.new.asked.items in
+    let went = row_went tells Ports old c.args.asked.items so_far.0 c.loop-alloc.left.items mid so_far.2 left row.result.done new row.result.refused (sym c.is_some.ensures ∙ c.if-is_some.false) row.ensures.answers in
+    let made = row_made tells Ports old c.args.asked.items so_far.0 c.loop-alloc.left.items mid so_far.2 left row.result.done new went in
+    let many = row_many tells Ports old c.args.asked.items so_far.0 c.loop-alloc.left.items mid so_far.2 left row.result.done c.loop-alloc.done new so_far.1 went in
+    let none : row.new.asked.items ≡ [] = search rules in
+    subst (λ n. AnswersAll tells Ports c.args.asked.items n None old new) many (all_made tells Ports old c.args.asked.items (so_far.0 ++ went.row.made) left new made none)
+
+-- One more, which made room
+
+pub loop-alloc-smaller : goal.loop-alloc-smaller
+loop-alloc-smaller g c =
+    let so_far = c.loop-alloc.invariant.so_far in
+    let row = c.change_row-row in
+    let went =
+    row_went g.D.Disk.tells g.D.Disk.ports_fail (view_of c.args.engine.now.core) c.args.asked.items so_far.0 c.loop-alloc.left.items (view_of c.loop-alloc.engine.core) so_far.2 row.new.asked.items row.result.done
+    (view_of row.new.self.core) row.result.refused (sym c.is_some.ensures ∙ c.if-is_some.false) row.ensures.answers in
+    let fewer =
+    row_left g.D.Disk.tells g.D.Disk.ports_fail (view_of c.args.engine.now.core) c.args.asked.items so_far.0 c.loop-alloc.left.items (view_of c.loop-alloc.engine.core) so_far.2 row.new.asked.items row.result.done
+    (view_of row.new.self.core) went in
+    let popped : row.new.asked.items ≡ c.in-Some.change ∷ c.pop_front.new.self.items = c.in-Some.ensures.items in
+    let one = ap length popped in
+    omega (arith, fewer, one)
+
+pub loop-alloc-preserved : goal.loop-alloc-preserved
+loop-alloc-preserved g c =
+    let tells = g.D.Disk.tells in
+    let Ports = g.D.Disk.ports_fail in
+    let old = view_of c.args.engine.now.core in
+    let mid : View = view_of c.loop-alloc.engine.core in
+    let so_far = c.loop-alloc.invariant.so_far in
+    let row = c.change_row-row in
+    let new : View = view_of row.new.self.core in
+    let then : View = view_of c.change_one.new.engine.core in
+    let went = row_went tells Ports old c.args.asked.items so_far.0 c.loop-alloc.left.items mid so_far.2 row.new.asked.items row.result.done new row.result.refused (sym c.is_some.ensures ∙ c.if-is_some.false) row.ensures.answers in
+    let made = row_made tells Ports old c.args.asked.items so_far.0 c.loop-alloc.left.items mid so_far.2 row.new.asked.items row.result.done new went in
+    let many = row_many tells Ports old c.args.asked.items so_far.0 c.loop-alloc.left.items mid so_far.2 row.new.asked.items row.result.done c.loop-alloc.done new so_far.1 went in
+    record {
+      so_far = (
+        (so_far.0 ++ went.row.made) ++ c.in-Some.change ∷ [],
+        one_longer_by (so_far.0 ++ went.row.made) c.in-Some.change (c.loop-alloc.done + row.result.done) many,
+        one_made tells Ports old c.args.asked.items (so_far.0 ++ went.row.made) row.new.asked.items new made c.in-Some.change c.pop_front.new.self.items c.in-Some.ensures.items
+            (record (face_of new) { retired = then.retired }) then c.in-Ok.ensures.answers,
+      );
+      certificates = c.change_one.ensures.certificates ∙ row.ensures.certificates ∙ c.loop-alloc.invariant.certificates;
+    }
+
+-- It wasn't made
+
+pub returns-in-Err-clause-answers : goal.returns-in-Err-clause-answers
+returns-in-Err-clause-answers g c =
+    let tells = g.D.Disk.tells in
+    let Ports = g.D.Disk.ports_fail in
+    let old = view_of c.args.engine.now.core in
+    let mid : View = view_of c.loop-alloc.engine.core in
+    let so_far = c.loop-alloc.invariant.so_far in
+    let row = c.change_row-row in
+    let new : View = view_of row.new.self.core in
+    let then : View = view_of c.change_one.new.engine.core in
+    let went = row_went tells Ports old c.args.asked.items so_far.0 c.loop-alloc.left.items mid so_far.2 row.new.asked.items row.result.done new row.result.refused (sym c.is_some.ensures ∙ c.if-is_some.false) row.ensures.answers in
+    let made = row_made tells Ports old c.args.asked.items so_far.0 c.loop-alloc.left.items mid so_far.2 row.new.asked.items row.result.done new went in
+    let many = row_many tells Ports old c.args.asked.items so_far.0 c.loop-alloc.left.items mid so_far.2 row.new.asked.items row.result.done c.loop-alloc.done new so_far.1 went in
+    subst (λ n. AnswersAll tells Ports c.args.asked.items n (Some c.in-Err.why) old then) many
+    (one_refused tells Ports old c.args.asked.items (so_far.0 ++ went.row.made) row.new.asked.items new made c.in-Some.change c.pop_front.new.self.items c.in-Some.ensures.items (record (face_of new) { retired = then.retired }) then
+    (g.D.Disk.port_faults c.loop-alloc.port) (g.D.Disk.port_faults c.change_one.new.port) c.in-Err.why c.in-Err.ensures.answers c.in-Err.ensures.why)

@@ -1,0 +1,6 @@
+//! Lists of changes of a store: rows of them, with room made between.
+#![tactic(auto)]
+
+mod changes;
+
+pub use changes::change_all;
