@@ -14,7 +14,7 @@ use Rattle.lethe_disk.specs.Directory.{Directory}
 use Rattle.lethe_disk.specs.Disk.{Seen}
 use Rattle.lethe_disk.specs.Goes.{Goes}
 use Rattle.lethe_disk.proofs.Going.{goes_then, goes_weaker}
-use Rattle.lethe_core.specs.Asked.{Failure, Makes, behind, counted, done_by, failure_of, refused_to, stopped_by}
+use Rattle.lethe_core.specs.Asked.{Failure, Makes, behind, counted, done_by, failure_of, stopped_by}
 use Rattle.lethe_core.specs.Running.{IsSound}
 use Rattle.lethe_core.specs.View.{Face, View}
 use Rattle.lethe_row.specs.Along.{row_behind, tried, with_all}
