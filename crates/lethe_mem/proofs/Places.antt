@@ -1,6 +1,8 @@
 -- Where a key stands among entries in the order of their keys, and what a write there makes of them.
-use Rattle.std.proofs.Common.{◌≡◌, ℕ, zero, suc, ◌<◌, ◌≤◌, Bool, true, false, List, [], ◌∷◌, length, get_or, set, T, Some, None, Result, Ok, Err, IfOk, IfErr, IsTrue, refl, sym, ap, ◌∙◌, subst, arith}
+use Rattle.std.proofs.Common.{◌≡◌, ℕ, zero, suc, ◌<◌, ◌≤◌, ◌-◌, Bool, true, false, List, [], ◌∷◌, length, get_or, set, T, Some, None, Result, Ok, Err, IfOk, IfErr, IsTrue, refl, sym, ap, ◌∙◌, subst, arith}
 use Rattle.std.proofs.lemmas.Bool.{and_parts}
+use Rattle.std.proofs.lemmas.Option.{get_or_from_slice_get, slice_get_within}
+use Rattle.std.specs.List.{slice_get}
 use Rattle.std.specs.declared.cmp.Ordering.{Ordering}
 use Rattle.std.specs.declared.cmp.Ordering.TheVariants.{Less, Equal, Greater}
 use Rattle.std.specs.Ordering.{ordering_index, ordering_reverse, is_lt, is_eq}
@@ -147,3 +149,18 @@ searched k [] (Err (suc place)) s within parted = absurd (omega arith)
 searched k (e ∷ es) (Err place) s within parted =
     let point = parted (rise k (e ∷ es) s) in
     (tt, gap_from k (e ∷ es) place e within (λ j lt. point.0 j e (omega arith) lt) (λ j le lt. point.1 j e le lt))
+
+-- a key above the last one goes behind all
+pub behind_last : (k : Bytes) (es : List Entry) (last : Entry) → IsAscending es → slice_get es (length es - 1) ≡ Some last → key_cmp last.key k ≡ Less → IsGap k es (length es)
+behind_last k es last s found lt =
+    let within = slice_get_within es (length es - 1) last found in
+    let is_last = get_or_from_slice_get es (length es - 1) last last found in
+    let least : key_cmp (get_or es (length es - 1) last).key k ≡ Less = ap (λ (e : Entry). key_cmp e.key k) is_last ∙ lt in
+    gap_from k es (length es) last (omega arith)
+    (λ j below. lowest _ (subst (λ r. ordering_index (key_cmp (get_or es j last).key k) ≤ ordering_index r) least (rise k es s j (length es - 1) last (omega arith) (omega arith))))
+    (λ j from below. absurd (omega arith))
+  where
+    lowest : (r : Ordering) → ordering_index r ≤ 0 → r ≡ Less
+    lowest Less h = refl
+    lowest Equal h = absurd (omega arith)
+    lowest Greater h = absurd (omega arith)

@@ -86,14 +86,17 @@ impl Buffer for VecBuffer {
     }
 }
 
-/// Where a key stands, or else where it would go.
+/// Where a key stands, or else where it would go. Keys often come in order, each behind the last one, and then one comparison tells.
 fn place_of(entries: &[Entry], key: &Key) -> Result<usize, usize>
     requires { IsAscending entries.now }
     ensures bound { IsSearchInRange result (length entries.now) }
     ensures found { IfOk result (IsAt key.now entries.now) }
     ensures absent { IfErr result (IsGap key.now entries.now) }
 {
-    entries.binary_search_by(|entry| compare(entry, key))
+    match entries.last() {
+        Some(last) if compare(last, key) == Ordering::Less => Err(entries.len()),
+        _ => entries.binary_search_by(|entry| compare(entry, key)),
+    }
 }
 
 /// How an entry's key stands to a key.
