@@ -76,6 +76,6 @@ room_begun flight s outcomes t (inr cleared) = inr (
   record {
     middle = cleared.1.middle;
     unfrozen = cleared.1.unfrozen;
-    rest = inr (cleared.1.cleared, cleared.1.frozen, uncrowded_in_part flight cleared.1.cleared outcomes t cleared.1.merges);
+    rest = inr (cleared.1.cleared, cleared.1.frozen, cleared.1.coherent, uncrowded_in_part flight cleared.1.cleared outcomes t cleared.1.merges);
   },
 )

@@ -129,12 +129,12 @@ pub record IsCleared (flight : Option Flying) (s : Stored) (outcomes : List Outc
 abbrev pub IsRoomMadeBy : Option Flying → Stored → List Outcome → Stored → Type 0
 IsRoomMadeBy flight s outcomes t = (HasRoom s × (outcomes ≡ []) × (t ≡ s)) ⊎ ((HasRoom s → ⊥) × IsCleared flight s outcomes t)
 
--- Of the steps that make room the first was done, which flushes the frozen segment, if there is one, and maybe the second, which freezes the active one, and behind that some
--- of the jobs.
+-- Of the steps that make room the first was done, which flushes the frozen segment, if there is one, and maybe the second, which freezes the active one and left a store whose
+-- parts agree, and behind that some of the jobs.
 pub record IsClearedInPart (flight : Option Flying) (s t : Stored) : Type 0 where
   pub middle : Stored
   pub unfrozen : IsUnfrozen s middle
-  pub rest : (t ≡ middle) ⊎ ((cleared : Stored) × IsFrozen middle cleared × IsMergedInPart flight cleared t)
+  pub rest : (t ≡ middle) ⊎ ((cleared : Stored) × IsFrozen middle cleared × IsCoherent cleared × IsMergedInPart flight cleared t)
 
 -- Where there is room nothing was done, and where there is none some of the steps that make it.
 abbrev pub IsRoomBegun : Option Flying → Stored → Stored → Type 0

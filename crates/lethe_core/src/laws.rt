@@ -4,11 +4,11 @@ ghost use Rattle.lethe_base.specs.History.{History};
 ghost use Rattle.lethe_fade.specs.declared.plan.Plan.{Plan};
 ghost use Rattle.lethe_install.specs.Outcomes.{IsInstalled};
 ghost use Rattle.lethe_job.specs.Works.{IsPlanned, PlainTask};
-ghost use Rattle.lethe_state.specs.Room.{HasRoom};
+ghost use Rattle.lethe_state.specs.Room.{HasRoom, IsFrozen, IsUnfrozen};
 ghost use Rattle.lethe_stored.specs.Kept.{IsFor};
 ghost use Rattle.lethe_stored.specs.Stored.{Stored, IsCoherent, pending_of};
 ghost use Rattle.lethe_core.specs.Descent.{HasCountedErases, jobs_at_most, jobs_left};
-ghost use Rattle.lethe_core.specs.Merges.{AreOutcomesBy, AreSomeOutcomesBy, IsCleared, Outcome};
+ghost use Rattle.lethe_core.specs.Merges.{AreOutcomesBy, AreSomeOutcomes, AreSomeOutcomesBy, IsCleared, Outcome};
 ghost use Rattle.lethe_core.specs.View.{Flying};
 
 /// Once a job that was just begun is installed there is less to do, in a store that stands for a history: a merge brings entries a level down and makes no more of them, and the files that
@@ -24,10 +24,13 @@ pub fn jobs_are_bounded()
         → AreSomeOutcomesBy chosen s outcomes t ⊎ AreOutcomesBy chosen s outcomes t → length outcomes + jobs_left t ≤ jobs_left s }
 {}
 
-/// So what a change carries out where it makes room is no more than what there was to do once both buffers were moved on, in a store that stands for a history.
+/// So what a change carries out where it makes room is no more than what there was to do once both buffers were moved on, in a store that stands for a history; also where it
+/// is refused in between.
 pub fn room_is_bounded()
-    ensures { (h : History) (flight : Option Flying) (s t : Stored) (outcomes : List Outcome) → IsFor h s → IsCoherent s → (HasRoom s → ⊥)
+    ensures made { (h : History) (flight : Option Flying) (s t : Stored) (outcomes : List Outcome) → IsFor h s → IsCoherent s → (HasRoom s → ⊥)
         → (room : IsCleared flight s outcomes t) → IsFor h room.cleared × (length outcomes + jobs_left t ≤ jobs_left room.cleared) }
+    ensures in_part { (h : History) (s middle cleared t : Stored) (outcomes : List Outcome) → IsFor h s → IsCoherent s → (HasRoom s → ⊥) → IsUnfrozen s middle → IsFrozen middle cleared
+        → IsCoherent cleared → AreSomeOutcomes cleared outcomes t → IsFor h cleared × (length outcomes + jobs_left t ≤ jobs_left cleared) }
 {}
 
 /// Of any store, also one that counts fewer places than its erases have: once a job is installed there is less to do, by the measure in which a merge counts for more than

@@ -134,7 +134,7 @@ returns-clause-partly g c =
     let froze = c.in_ok-freeze_now.ensures.done told middle.0 middle.2 in
     let some = done none told froze.0 froze.2 in
     let merged = subst (λ flight. IsMergedInPart flight froze.0 some.0) flight some.1 in
-    (some.0, inr (full, record { middle = middle.0; unfrozen = middle.1; rest = inr (froze.0, froze.1, merged) }), some.2)) c.merge_due.ensures.partly
+    (some.0, inr (full, record { middle = middle.0; unfrozen = middle.1; rest = inr (froze.0, froze.1, froze.2.remembers.coherent, merged) }), some.2)) c.merge_due.ensures.partly
 
 pub returns-clause-done : goal.returns-clause-done
 returns-clause-done g c = λ told s holds.
