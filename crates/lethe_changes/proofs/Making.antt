@@ -1,12 +1,15 @@
 -- A list of changes is made, part by part.
-use Rattle.std.proofs.Common.{◌≡◌, ◌≤◌, inl, inr, ℕ, ◌+◌, List, [], ◌∷◌, ◌++◌, length, map, Option, Some, None, refl, sym, ap, ◌∙◌, subst, arith, append_assoc, append-nil}
-use Rattle.std.specs.Prelude.{false, is_some, option_map, true}
+use Rattle.std.proofs.Common.{◌≡◌, ◌≤◌, ◌⊎◌, inl, inr, ℕ, zero, suc, ◌+◌, List, [], ◌∷◌, ◌++◌, length, map, Option, Some, None, refl, sym, ap, ◌∙◌, subst, arith, append_assoc, append-nil}
+use Rattle.std.specs.Prelude.{IsSome, IsTrue, false, is_some, option_map, true}
 use mathlib.Core.Bool.{false≢true}
 use Rattle.std.specs.Option.{option_map_or}
+use Rattle.std.specs.List.{range_with_len}
 use Rattle.std.proofs.lemmas.List.{length-append, map-append}
 use Rattle.lethe_base.specs.Counts.{Rose}
 use Rattle.lethe_base.specs.History.{History}
+use Rattle.lethe_base.specs.declared.call.Call.{Call}
 use Rattle.lethe_base.specs.declared.config.Fields.{Fields}
+use Rattle.lethe_base.specs.declared.name.Name.{Name}
 use Rattle.lethe_base.specs.declared.refused.Refused.{Refused}
 use Rattle.lethe_base.specs.declared.refused.Refused.TheVariants.{Fault, Stopped, Backwards, Pinned, NothingDue, Cancelled, Exhausted, ReadFault, NoMemory, Damaged}
 use Rattle.lethe_cover.specs.Steps.{with_failed}
@@ -15,18 +18,24 @@ use Rattle.lethe_disk.specs.Disk.{Seen}
 use Rattle.lethe_disk.specs.Goes.{Goes}
 use Rattle.lethe_disk.proofs.Going.{goes_then, goes_weaker}
 use Rattle.lethe_core.specs.Asked.{Failure, Makes, behind, counted, done_by, failure_of, stopped_by}
-use Rattle.lethe_core.specs.Running.{IsSound}
-use Rattle.lethe_core.specs.View.{Face, View}
-use Rattle.lethe_row.specs.Along.{row_behind, tried, with_all}
+use Rattle.lethe_core.specs.Pinned.{AreKept}
+use Rattle.lethe_core.specs.Running.{Holds, IsSound}
+use Rattle.lethe_core.specs.View.{Face, View, face_of}
+use Rattle.lethe_manifest.specs.declared.manifest.Manifest.{Manifest}
+use Rattle.lethe_pins.specs.Held.{Held, is_named}
+use Rattle.lethe_state.specs.Records.{headers_in}
+use Rattle.lethe_state.specs.declared.state.State.{State}
+use Rattle.lethe_stored.specs.Stored.{Stored}
+use Rattle.lethe_row.specs.Along.{AreAppended, IsAtEnd, calls_of, row_behind, tried, with_all}
 use Rattle.lethe_row.specs.Rows.{call_of}
 use Rattle.lethe_row.specs.declared.asking.Asked.{Asked}
 use Rattle.lethe_row.proofs.Along.{none_made, one_longer, with_one_more}
 use Rattle.lethe_engine.specs.Answers.{Answers}
-use Rattle.lethe_engine.specs.Refusals.{HasReasonOfChange}
+use Rattle.lethe_engine.specs.Refusals.{HasReasonAt, HasReasonOfChange}
 use Rattle.lethe_engine.specs.Rows.{AnswersRow}
 use Rattle.lethe_engine.specs.StandsFor.{IsKeptFor, Opened, StandsSince}
 use Rattle.lethe_engine.proofs.Calls.{goes_by}
-use Rattle.lethe_changes.specs.Changes.{AnswersAll, IsReason, failed_of}
+use Rattle.lethe_changes.specs.Changes.{AnswersAll, HaveRoom, IsBehind, IsReason, failed_of}
 
 -- any directory
 abbrev Any : Directory → Type 0
@@ -54,6 +63,8 @@ pub record IsMade (Tells : Type 0) (old : View) (asked made left : List Asked) (
   pub runs : Tells → (config : Fields) (opened : Opened) (h : History) → StandsSince config opened h old → Goes Any old.disk now.disk
   pub numbers : Tells → now.state.next + old.disk.moment ≤ old.state.next + now.disk.moment
   pub faults : old.faults ≤ now.faults
+  pub face : face_of now ≡ record (face_of old) { retired = now.retired }
+  pub pinned : Tells → AreKept old.pins.pins old.disk.directory now.disk.directory
 
 pub none_yet : (Tells : Type 0) (old : View) (asked : List Asked) → IsSound Tells old → IsMade Tells old asked [] asked old
 none_yet Tells old asked sound = record {
@@ -65,6 +76,8 @@ none_yet Tells old asked sound = record {
   runs = λ told config opened h before. any_still old.disk;
   numbers = λ told. omega arith;
   faults = omega arith;
+  face = refl;
+  pinned = λ told name named. refl;
 }
 
 pub one_longer_by : (made : List Asked) (next : Asked) (n : ℕ) → length made ≡ n → length (made ++ next ∷ []) ≡ n + 1
@@ -73,10 +86,99 @@ one_longer_by made next n many = let long = one_longer made next in omega (arith
 tried_all : (made : List Asked) → length (tried made None) ≡ length made
 tried_all made = ap length (append-nil made)
 
+not_some : (o : Option ℕ) → (IsSome o → ⊥) → o ≡ None
+not_some None none = refl
+not_some (Some x) none = absurd (none refl)
+
+-- jobs and pins of one who has them as another has, but for what is retired
+faces_then : (old mid new : View) → face_of mid ≡ record (face_of old) { retired = mid.retired } → face_of new ≡ record (face_of mid) { retired = new.retired } → face_of new ≡ record (face_of old) { retired = new.retired }
+faces_then old mid new was is = is ∙ ap (λ (face : Face). record face { retired = new.retired }) was
+
+faces_same : (mid new : View) → face_of new ≡ face_of mid → face_of new ≡ record (face_of mid) { retired = new.retired }
+faces_same mid new same = same ∙ ap (λ (names : List Name). record (face_of mid) { retired = names }) (sym (ap (λ (face : Face). face.retired) same))
+
+pins_same : (old new : View) → face_of new ≡ record (face_of old) { retired = new.retired } → new.pins ≡ old.pins
+pins_same old new face = ap (λ (face : Face). face.pins) face
+
+-- what pins name goes on as it is
+kept_then : (old mid new : View) → mid.pins ≡ old.pins → AreKept old.pins.pins old.disk.directory mid.disk.directory → AreKept mid.pins.pins mid.disk.directory new.disk.directory → AreKept old.pins.pins old.disk.directory new.disk.directory
+kept_then old mid new pins was is name named = is name (subst (λ (pins : Held). IsTrue (is_named pins.pins name)) (sym pins) named) ∙ was name named
+
+config_since : (config : Fields) (opened : Opened) (h : History) (view : View) → StandsSince config opened h view → view.state.manifest.config ≡ config
+config_since config opened h view since = ap (λ (manifest : Manifest). manifest.config) since.now.remembers.manifest ∙ since.now.config_is
+
+-- A row that had room for all that was asked, and didn't make all, is of a store that is stopped.
+pub ended_by_stop : (Tells : Type 0) (asked left : List Asked) (done : ℕ) (old new : View) → HaveRoom asked old → (row : AnswersRow Tells asked left done None old new) → (next : Asked) (more : List Asked) → left ≡ next ∷ more
+    → IsSome new.state.stopped
+ended_by_stop Tells asked left done old new room row next more is = by row.row.ended.2
+  where
+    size : length asked ≡ length row.row.made + (length more + 1)
+    size = ap length row.row.are ∙ length-append row.row.made row.row.rest ∙ ap (λ l. length row.row.made + length l) (sym row.row.ended.1 ∙ is) ∙ omega arith
+    grown = row.row.grown row.row.ended.0
+
+    count : new.state.count ≡ old.state.count + length row.row.made
+    count = let long = ap (λ failed. length (tried row.row.made failed)) row.row.ended.0 ∙ tried_all row.row.made in let is = row.row.count in omega (arith, long, is)
+
+    buffer : new.state.manifest.config.buffer ≡ old.state.manifest.config.buffer
+    buffer = ap (λ (manifest : Manifest). manifest.config.buffer) grown.manifest
+
+    by : (row.row.rest ≡ []) ⊎ IsAtEnd new → IsSome new.state.stopped
+    by (inl none) = absurd (let clash : next ∷ more ≡ [] = sym is ∙ row.row.ended.1 ∙ none in cc)
+    by (inr (inl stopped)) = stopped
+    by (inr (inr (inl full))) = let records = grown.records in let fits = room.0 in absurd (omega (arith, full, records, fits, size, buffer))
+    by (inr (inr (inr used))) = let fits = room.1 in absurd (omega (arith, used, fits, size, count))
+
+-- a store that was stopped makes no change
+pub none_made_stopped : (Tells : Type 0) (call : Call) (face : Face) (old new : View) → Answers Tells (Makes call) None face old new → IsSome old.state.stopped → ⊥
+none_made_stopped Tells call face old new says stopped =
+    let same = ap (λ (state : State). state.count) (says.still stopped).state in
+    let more = says.count in
+    omega (arith, same, more)
+
+-- Nothing was done yet where there is room for all: these are all that was asked, and the store is as it was.
+pub record IsFresh (Tells : Type 0) (old : View) (asked left : List Asked) (now : View) : Type 0 where
+  pub all : left ≡ asked
+  pub room : HaveRoom left now
+  pub moment : Tells → now.disk.moment ≡ old.disk.moment
+  pub holds : Tells → (s : Stored) → Holds old s → Holds now s
+  pub levels : now.levels ≡ old.levels
+
+pub fresh_at_first : (Tells : Type 0) (old : View) (asked : List Asked) → HaveRoom asked old → IsFresh Tells old asked asked old
+fresh_at_first Tells old asked room = record {
+  all = refl;
+  room = room;
+  moment = λ told. refl;
+  holds = λ told s holds. holds;
+  levels = refl;
+}
+
+-- so a change by itself is made behind a row of which nothing more is so
+pub never_fresh : (Tells : Type 0) (old mid new then : View) (asked left left' more more' : List Asked) (done : ℕ) (next : Asked) (face : Face) → (HaveRoom asked old → IsFresh Tells old asked left mid) → (row : AnswersRow Tells left left' done None mid new)
+    → left' ≡ next ∷ more → Answers Tells (Makes (call_of next)) None face new then → HaveRoom asked old → IsFresh Tells old asked more' then
+never_fresh Tells old mid new then asked left left' more more' done next face fresh row is says room =
+    absurd (none_made_stopped Tells (call_of next) face new then says (ended_by_stop Tells left left' done mid new (fresh room).room row next more is))
+
+-- and a row behind which nothing is left is all of it
+module _ (Tells : Type 0) (old mid new : View) (asked left left' : List Asked) (done : ℕ) (fresh : HaveRoom asked old → IsFresh Tells old asked left mid) (row : AnswersRow Tells left left' done None mid new) (none : left' ≡ []) where
+  made_all : left ≡ row.row.made
+  made_all = row.row.are ∙ ap (λ l. row.row.made ++ l) (sym row.row.ended.1 ∙ none) ∙ append-nil row.row.made
+
+  pub calls_of_all : Tells → HaveRoom asked old → new.disk.moment ≡ old.disk.moment + calls_of asked
+  calls_of_all told room =
+      let is = fresh room in
+      subst (λ l. new.disk.moment ≡ old.disk.moment + calls_of l) (sym made_all ∙ is.all) (subst (λ n. new.disk.moment ≡ n + calls_of row.row.made) (is.moment told) (row.row.calls told refl))
+
+  pub written_all : Tells → HaveRoom asked old → (s : Stored) → Holds old s → (t : Stored) × AreAppended (headers_in old.levels) s asked t × Holds new t
+  written_all told room s holds =
+      let is = fresh room in
+      let to = row.row.written told row.row.ended.0 s (is.holds told s holds) in
+      (to.0, subst (λ levels. AreAppended (headers_in levels) s asked to.0) is.levels (subst (λ l. AreAppended (headers_in mid.levels) s l to.0) (sym made_all ∙ is.all) to.1), to.2)
+
 module _ (Tells PortsFail : Type 0) (old : View) (asked made left : List Asked) (mid : View) (so_far : IsMade Tells old asked made left mid) where
   -- all were made
-  pub all_made : left ≡ [] → AnswersAll Tells PortsFail asked (length made) None old mid
-  all_made none = record {
+  pub all_made : (before now : ℕ) → left ≡ [] → (Tells → HaveRoom asked old → mid.disk.moment ≡ old.disk.moment + calls_of asked)
+      → (Tells → HaveRoom asked old → (s : Stored) → Holds old s → (t : Stored) × AreAppended (headers_in old.levels) s asked t × Holds mid t) → AnswersAll Tells PortsFail asked (length made) None before now old mid
+  all_made before now none calls written = record {
     made = made;
     rest = left;
     are = so_far.are;
@@ -87,8 +189,12 @@ module _ (Tells PortsFail : Type 0) (old : View) (asked made left : List Asked) 
     stopped = so_far.stopped;
     stands = so_far.stands;
     goes = λ told config opened h before caller. goes_by Any config opened h (with_all h caller made) old mid before (so_far.stands told config opened h before caller) (so_far.runs told config opened h before);
+    calls = λ told none room. calls told room;
+    written = λ told none room. written told room;
     numbers = so_far.numbers;
     faults = so_far.faults;
+    face_is = so_far.face;
+    pinned = so_far.pinned;
   }
 
   -- A row of them
@@ -112,26 +218,59 @@ module _ (Tells PortsFail : Type 0) (old : View) (asked made left : List Asked) 
               (row.goes told config opened (with_all h 0 made) (so_far.stands told config opened h before 0) 0));
           numbers = λ told. let was = so_far.numbers told in let more = row.row.numbers told in omega (arith, was, more);
           faults = let was = so_far.faults in let more = row.row.faults in omega (arith, was, more);
+          face = faces_then old mid new so_far.face (faces_same mid new row.face_is);
+          pinned = λ told. kept_then old mid new (pins_same old mid so_far.face) (so_far.pinned told) (row.row.pinned told);
         }
 
+    -- what the store remembered before the one that wasn't made
+    before_it : (why : Refused) → (row : AnswersRow Tells left left' done (Some why) mid new) → IsBehind Tells (made ++ row.row.made) old new (record mid.state { count = mid.state.count + length row.row.made })
+    before_it why row = record {
+      count = let was = so_far.count in let both = length-append made row.row.made in omega (arith, was, both);
+      stopped = so_far.stopped;
+      told = λ told config opened h before.
+          let later = (row.goes told config opened (with_all h 0 made) (so_far.stands told config opened h before 0) 0).later in
+          let numbers = so_far.numbers told in
+          (config_since config opened (with_all h 0 made) mid (so_far.stands told config opened h before 0), omega (arith, later, numbers));
+    }
+
+    never_stopped : (why : Refused) → AnswersRow Tells left left' done (Some why) mid new → mid.state.stopped ≡ None
+    never_stopped why row = not_some mid.state.stopped (λ stopped. let idle = row.idle stopped in let clash : Some why ≡ None = idle.1 in cc)
+
     -- in which one failed, or for one of which there was no memory
-    pub row_refused : (why : Refused) → AnswersRow Tells left left' done (Some why) mid new → AnswersAll Tells PortsFail asked (length made + done) (Some why) old new
-    row_refused (Fault place before after) row =
+    pub row_refused : (before now : ℕ) → before ≤ now → (why : Refused) → AnswersRow Tells left left' done (Some why) mid new → AnswersAll Tells PortsFail asked (length made + done) (Some why) before now old new
+    row_refused before' now since (Fault place before after) row =
         let ended = row.row.ended in
         let next = ended.0 in
         let more = ended.1 in
         let failure : Failure = record { place = place; before = before; after = after } in
         let both = length-append made row.row.made in
-        let stands = λ (told : Tells) (config : Fields) (opened : Opened) (h : History) (before' : StandsSince config opened h old) (caller : ℕ).
+        let stands = λ (told : Tells) (config : Fields) (opened : Opened) (h : History) (since' : StandsSince config opened h old) (caller : ℕ).
         subst (λ g. StandsSince config opened (with_failed g caller (call_of next) before after) new) (all_append h caller made row.row.made)
         (subst (λ failed. StandsSince config opened (row_behind (with_all h caller made) caller row.row.made failed) new) ended.3
-        (row.stands told config opened (with_all h caller made) (so_far.stands told config opened h before' caller) caller)) in
+        (row.stands told config opened (with_all h caller made) (so_far.stands told config opened h since' caller) caller)) in
         record {
           made = made ++ row.row.made;
           rest = next ∷ more;
           are = so_far.are ∙ ap (λ l. made ++ l) (row.row.are ∙ ap (λ l. row.row.made ++ l) ended.2) ∙ sym (append_assoc made row.row.made (next ∷ more));
           many = both ∙ ap (λ n. length made + n) row.row.many;
-          why = ((next, more, refl), (ended.4, let from = ended.5 in let was = so_far.faults in omega (arith, from, was), ended.7, ended.6));
+          why = (
+            (next, more, refl),
+            record {
+              state = record mid.state { count = mid.state.count + length row.row.made };
+              behind = before_it (Fault place before after) row;
+              faults = mid.faults;
+              later = so_far.faults;
+              fetched = now;
+              since = since;
+              reason = inl (
+                never_stopped (Fault place before after) row,
+                let is = row.row.count in let long = ap (λ failed. length (tried row.row.made failed)) ended.3 ∙ one_longer row.row.made next in let at = ended.4 in omega (arith, is, long, at),
+                ended.5,
+                ended.6,
+                subst (λ n. Rose n new.faults) ended.5 (subst (Rose before) ended.6 ended.7),
+              );
+            },
+          );
           sound = row.row.sound;
           count =
               let was = so_far.count in
@@ -141,28 +280,43 @@ module _ (Tells PortsFail : Type 0) (old : View) (asked made left : List Asked) 
               omega (arith, was, is, long, all, both);
           stopped = row.row.stopped;
           stands = stands;
-          goes = λ told config opened h before' caller.
-              goes_by Any config opened h (with_failed (with_all h caller (made ++ row.row.made)) caller (call_of next) before after) old new before' (stands told config opened h before' caller)
-              (goes_then Any old.disk mid.disk new.disk (so_far.runs told config opened h before')
+          goes = λ told config opened h since' caller.
+              goes_by Any config opened h (with_failed (with_all h caller (made ++ row.row.made)) caller (call_of next) before after) old new since' (stands told config opened h since' caller)
+              (goes_then Any old.disk mid.disk new.disk (so_far.runs told config opened h since')
               (any_goes (IsKeptFor config opened.history (row_behind (with_all h caller made) caller row.row.made row.row.failed)) mid.disk new.disk
-              (row.goes told config opened (with_all h caller made) (so_far.stands told config opened h before' caller) caller)));
+              (row.goes told config opened (with_all h caller made) (so_far.stands told config opened h since' caller) caller)));
+          calls = λ told none room. absurd cc;
+          written = λ told none room. absurd cc;
           numbers = λ told. let was = so_far.numbers told in let more = row.row.numbers told in omega (arith, was, more);
           faults = let was = so_far.faults in let more = row.row.faults in omega (arith, was, more);
+          face_is = faces_then old mid new so_far.face (faces_same mid new row.face_is);
+          pinned = λ told. kept_then old mid new (pins_same old mid so_far.face) (so_far.pinned told) (row.row.pinned told);
         }
-    row_refused NoMemory row =
+    row_refused before' now since NoMemory row =
         let ended = row.row.ended in
         let next = ended.1 in
         let both = length-append made row.row.made in
-        let stands = λ (told : Tells) (config : Fields) (opened : Opened) (h : History) (before' : StandsSince config opened h old) (caller : ℕ).
+        let stands = λ (told : Tells) (config : Fields) (opened : Opened) (h : History) (since' : StandsSince config opened h old) (caller : ℕ).
         subst (λ g. StandsSince config opened g new) (all_append h caller made row.row.made)
         (subst (λ failed. StandsSince config opened (row_behind (with_all h caller made) caller row.row.made failed) new) ended.0
-        (row.stands told config opened (with_all h caller made) (so_far.stands told config opened h before' caller) caller)) in
+        (row.stands told config opened (with_all h caller made) (so_far.stands told config opened h since' caller) caller)) in
         record {
           made = made ++ row.row.made;
           rest = next ∷ left';
           are = so_far.are ∙ ap (λ l. made ++ l) (row.row.are ∙ ap (λ l. row.row.made ++ l) ended.2) ∙ sym (append_assoc made row.row.made (next ∷ left'));
           many = both ∙ ap (λ n. length made + n) row.row.many;
-          why = ((next, left', refl), tt);
+          why = (
+            (next, left', refl),
+            record {
+              state = record mid.state { count = mid.state.count + length row.row.made };
+              behind = before_it NoMemory row;
+              faults = mid.faults;
+              later = so_far.faults;
+              fetched = now;
+              since = since;
+              reason = inl tt;
+            },
+          );
           sound = row.row.sound;
           count =
               let was = so_far.count in
@@ -172,28 +326,32 @@ module _ (Tells PortsFail : Type 0) (old : View) (asked made left : List Asked) 
               omega (arith, was, is, long, all, both);
           stopped = row.row.stopped ∙ so_far.stopped;
           stands = stands;
-          goes = λ told config opened h before' caller.
-              goes_by Any config opened h (with_all h caller (made ++ row.row.made)) old new before' (stands told config opened h before' caller)
-              (goes_then Any old.disk mid.disk new.disk (so_far.runs told config opened h before')
+          goes = λ told config opened h since' caller.
+              goes_by Any config opened h (with_all h caller (made ++ row.row.made)) old new since' (stands told config opened h since' caller)
+              (goes_then Any old.disk mid.disk new.disk (so_far.runs told config opened h since')
               (any_goes (IsKeptFor config opened.history (row_behind (with_all h caller made) caller row.row.made row.row.failed)) mid.disk new.disk
-              (row.goes told config opened (with_all h caller made) (so_far.stands told config opened h before' caller) caller)));
+              (row.goes told config opened (with_all h caller made) (so_far.stands told config opened h since' caller) caller)));
+          calls = λ told none room. absurd cc;
+          written = λ told none room. absurd cc;
           numbers = λ told. let was = so_far.numbers told in let more = row.row.numbers told in omega (arith, was, more);
           faults = let was = so_far.faults in let more = row.row.faults in omega (arith, was, more);
+          face_is = faces_then old mid new so_far.face (faces_same mid new row.face_is);
+          pinned = λ told. kept_then old mid new (pins_same old mid so_far.face) (so_far.pinned told) (row.row.pinned told);
         }
-    row_refused (Stopped at) row = absurd row.row.ended
-    row_refused (Exhausted last) row = absurd row.row.ended
-    row_refused (Backwards clock) row = absurd row.row.ended
-    row_refused (Pinned pin limit) row = absurd row.row.ended
-    row_refused NothingDue row = absurd row.row.ended
-    row_refused (Cancelled begun now) row = absurd row.row.ended
-    row_refused (ReadFault before after) row = absurd row.row.ended
-    row_refused (Damaged name) row = absurd row.row.ended
+    row_refused before now since (Stopped at) row = absurd row.row.ended
+    row_refused before now since (Exhausted last) row = absurd row.row.ended
+    row_refused before now since (Backwards clock) row = absurd row.row.ended
+    row_refused before now since (Pinned pin limit) row = absurd row.row.ended
+    row_refused before now since NothingDue row = absurd row.row.ended
+    row_refused before now since (Cancelled begun now') row = absurd row.row.ended
+    row_refused before now since (ReadFault b a) row = absurd row.row.ended
+    row_refused before now since (Damaged name) row = absurd row.row.ended
 
   -- it went as far as it could, or not
-  pub row_ended : (left' : List Asked) (done n : ℕ) (new : View) (refused : Option Refused) → length made ≡ n → is_some refused ≡ true → AnswersRow Tells left left' done refused mid new
-      → AnswersAll Tells PortsFail asked (n + done) refused old new
-  row_ended left' done n new None many is row = absurd (false≢true is)
-  row_ended left' done n new (Some why) many is row = subst (λ n. AnswersAll Tells PortsFail asked (n + done) (Some why) old new) many (row_refused left' done new why row)
+  pub row_ended : (before now : ℕ) → before ≤ now → (left' : List Asked) (done n : ℕ) (new : View) (refused : Option Refused) → length made ≡ n → is_some refused ≡ true → AnswersRow Tells left left' done refused mid new
+      → AnswersAll Tells PortsFail asked (n + done) refused before now old new
+  row_ended before now since left' done n new None many is row = absurd (false≢true is)
+  row_ended before now since left' done n new (Some why) many is row = subst (λ n. AnswersAll Tells PortsFail asked (n + done) (Some why) before now old new) many (row_refused left' done new before now since why row)
 
   pub row_went : (left' : List Asked) (done : ℕ) (new : View) (refused : Option Refused) → is_some refused ≡ false → AnswersRow Tells left left' done refused mid new → AnswersRow Tells left left' done None mid new
   row_went left' done new None is row = row
@@ -213,9 +371,14 @@ module _ (Tells PortsFail : Type 0) (old : View) (asked made left : List Asked) 
 
   -- A change by itself
 
-  module _ (next : Asked) (more : List Asked) (is : left ≡ next ∷ more) (face : Face) (new : View) where
+  module _ (next : Asked) (more : List Asked) (is : left ≡ next ∷ more) (face : Face) (new : View) (face_is : face ≡ record (face_of mid) { retired = new.retired }) where
     parted : asked ≡ made ++ next ∷ more
     parted = so_far.are ∙ ap (λ l. made ++ l) is
+
+    -- what pins name is as it was
+    one_kept : (why : Option Refused) → Answers Tells (Makes (call_of next)) why face mid new → Tells → AreKept old.pins.pins old.disk.directory new.disk.directory
+    one_kept why says told = kept_then old mid new (pins_same old mid so_far.face) (so_far.pinned told) (λ name named. says.pinned told name named
+        (subst (λ (pins : Held). IsTrue (is_named pins.pins name)) (sym (pins_same mid new (says.face_is ∙ face_is))) named))
 
     pub one_made : Answers Tells (Makes (call_of next)) None face mid new → IsMade Tells old asked (made ++ next ∷ []) more new
     one_made says = record {
@@ -230,6 +393,8 @@ module _ (Tells PortsFail : Type 0) (old : View) (asked made left : List Asked) 
           (any_goes (IsKeptFor config opened.history (behind (with_all h 0 made) 0 (Makes (call_of next)) None)) mid.disk new.disk (says.goes told config opened (with_all h 0 made) (so_far.stands told config opened h before 0) 0));
       numbers = λ told. let was = so_far.numbers told in let one = says.numbers told in omega (arith, was, one);
       faults = let was = so_far.faults in let one = says.faults in omega (arith, was, one);
+      face = faces_then old mid new so_far.face (says.face_is ∙ face_is);
+      pinned = λ told. one_kept None says told;
     }
 
     -- it wasn't made, or failed
@@ -243,31 +408,19 @@ module _ (Tells PortsFail : Type 0) (old : View) (asked made left : List Asked) 
     failed_count n None is = let same = tried_all made in omega (arith, is, same)
     failed_count n (Some failure) is = let long = one_longer made next in omega (arith, is, long)
 
-    reason_of : (first last : ℕ) (why : Refused) → new.state.count ≡ counted (Makes (call_of next)) (Some why) mid.state.count → HasReasonOfChange Tells PortsFail mid new first last why → IsReason Tells PortsFail old new why
-    reason_of first last (Fault place b a) count (inl reason) =
-        (reason.1 ∙ sym count, let from = reason.2 in let was = so_far.faults in omega (arith, from, was), subst (λ n. Rose n a) (sym reason.2) (subst (Rose mid.faults) (sym reason.3) reason.4), reason.3)
-    reason_of first last (Fault place b a) count (inr reason) = absurd reason.2
-    reason_of first last (Stopped at) count (inl reason) = sym so_far.stopped ∙ reason
-    reason_of first last (Stopped at) count (inr reason) = absurd reason.2
-    reason_of first last (Exhausted at) count (inl reason) = reason.1
-    reason_of first last (Exhausted at) count (inr reason) = absurd reason.2
-    reason_of first last NoMemory count reason = tt
-    reason_of first last (ReadFault b a) count (inl reason) = absurd reason
-    reason_of first last (ReadFault b a) count (inr reason) =
-        let read = reason.2 in (read.0, subst (λ n. Rose n a) (sym read.1) (subst (Rose first) (sym read.2) read.3))
-    reason_of first last (Damaged name) count (inl reason) = absurd reason
-    reason_of first last (Damaged name) count (inr reason) = reason.2
-    reason_of first last (Backwards clock) count (inl reason) = absurd reason
-    reason_of first last (Backwards clock) count (inr reason) = absurd reason.2
-    reason_of first last (Pinned pin limit) count (inl reason) = absurd reason
-    reason_of first last (Pinned pin limit) count (inr reason) = absurd reason.2
-    reason_of first last NothingDue count (inl reason) = absurd reason
-    reason_of first last NothingDue count (inr reason) = absurd reason.2
-    reason_of first last (Cancelled begun now) count (inl reason) = absurd reason
-    reason_of first last (Cancelled begun now) count (inr reason) = absurd reason.2
+    -- what the store remembered before it
+    before_one : (why : Refused) → Answers Tells (Makes (call_of next)) (Some why) face mid new → IsBehind Tells made old new mid.state
+    before_one why says = record {
+      count = so_far.count;
+      stopped = so_far.stopped;
+      told = λ told config opened h before.
+          let later = (says.goes told config opened (with_all h 0 made) (so_far.stands told config opened h before 0) 0).later in
+          let numbers = so_far.numbers told in
+          (config_since config opened (with_all h 0 made) mid (so_far.stands told config opened h before 0), omega (arith, later, numbers));
+    }
 
-    pub one_refused : (first last : ℕ) (why : Refused) → Answers Tells (Makes (call_of next)) (Some why) face mid new → HasReasonOfChange Tells PortsFail mid new first last why → AnswersAll Tells PortsFail asked (length made) (Some why) old new
-    one_refused first last why says reason =
+    pub one_refused : (before first last : ℕ) → before ≤ first → (why : Refused) → Answers Tells (Makes (call_of next)) (Some why) face mid new → HasReasonOfChange Tells PortsFail mid new first last why → AnswersAll Tells PortsFail asked (length made) (Some why) before last old new
+    one_refused before' first last since why says reason =
         let stands = λ (told : Tells) (config : Fields) (opened : Opened) (h : History) (before : StandsSince config opened h old) (caller : ℕ).
         subst (λ g. StandsSince config opened g new) (failed_history h caller (failure_of why))
         (says.stands told config opened (with_all h caller made) (so_far.stands told config opened h before caller) caller) in
@@ -276,7 +429,18 @@ module _ (Tells PortsFail : Type 0) (old : View) (asked made left : List Asked) 
           rest = next ∷ more;
           are = parted;
           many = refl;
-          why = ((next, more, refl), reason_of first last why says.count reason);
+          why = (
+            (next, more, refl),
+            record {
+              state = mid.state;
+              behind = before_one why says;
+              faults = mid.faults;
+              later = so_far.faults;
+              fetched = first;
+              since = since;
+              reason = reason;
+            },
+          );
           sound = says.sound;
           count = says.count ∙ failed_count mid.state.count (failure_of why) so_far.count;
           stopped = says.stopped ∙ ap (stopped_by (Some why)) so_far.stopped;
@@ -286,6 +450,55 @@ module _ (Tells PortsFail : Type 0) (old : View) (asked made left : List Asked) 
               (goes_then Any old.disk mid.disk new.disk (so_far.runs told config opened h before)
               (any_goes (IsKeptFor config opened.history (behind (with_all h caller made) caller (Makes (call_of next)) (Some why))) mid.disk new.disk
               (says.goes told config opened (with_all h caller made) (so_far.stands told config opened h before caller) caller)));
+          calls = λ told none room. absurd cc;
+          written = λ told none room. absurd cc;
           numbers = λ told. let was = so_far.numbers told in let one = says.numbers told in omega (arith, was, one);
           faults = let was = so_far.faults in let one = says.faults in omega (arith, was, one);
+          face_is = faces_then old mid new so_far.face (says.face_is ∙ face_is);
+          pinned = one_kept (Some why) says;
         }
+
+-- there was no memory for the places
+pub none_placed : (Tells PortsFail : Type 0) (old : View) (asked : List Asked) (before : ℕ) → IsSound Tells old → (length asked ≡ 0 → ⊥) → AnswersAll Tells PortsFail asked 0 (Some NoMemory) before before old old
+none_placed Tells PortsFail old [] before sound some = absurd (some refl)
+none_placed Tells PortsFail old (next ∷ more) before sound some =
+    let so_far = none_yet Tells old (next ∷ more) sound in
+    record {
+      made = [];
+      rest = next ∷ more;
+      are = refl;
+      many = refl;
+      why = (
+        (next, more, refl),
+        record {
+          state = old.state;
+          behind = record {
+            count = omega arith;
+            stopped = refl;
+            told = λ told config opened h before. (config_since config opened h old before, omega arith);
+          };
+          faults = old.faults;
+          later = omega arith;
+          fetched = before;
+          since = omega arith;
+          reason = inl tt;
+        },
+      );
+      sound = sound;
+      count = omega arith;
+      stopped = refl;
+      stands = so_far.stands;
+      goes = λ told config opened h before caller. goes_by Any config opened h (with_all h caller []) old old before (so_far.stands told config opened h before caller) (any_still old.disk);
+      calls = λ told none room. absurd cc;
+      written = λ told none room. absurd cc;
+      numbers = so_far.numbers;
+      faults = so_far.faults;
+      face_is = refl;
+      pinned = so_far.pinned;
+    }
+
+-- The places
+
+pub range_more : (a n : ℕ) → range_with_len a (n + 1) ≡ range_with_len a n ++ (a + n) ∷ []
+range_more a zero = refl
+range_more a (suc n) = ap (λ l. a ∷ l) (range_more (a + 1) n ∙ ap (λ k. range_with_len (a + 1) n ++ k ∷ []) (let same : a + 1 + n ≡ a + suc n = omega arith in same))

@@ -1,17 +1,20 @@
 -- What making a list of changes comes to.
-use Rattle.std.specs.Prelude.{◌≡◌, ◌≤◌, ◌+◌, ℕ, List, [], ◌∷◌, ◌++◌, length, Option, Some, None, option_map}
-use Rattle.lethe_base.specs.Counts.{Rose}
+use Rattle.std.specs.Prelude.{◌≡◌, ◌≤◌, ◌+◌, ◌×◌, ℕ, List, [], ◌∷◌, ◌++◌, length, Option, Some, None, option_map}
 use Rattle.lethe_base.specs.History.{History}
 use Rattle.lethe_base.specs.Limits.{max_place}
 use Rattle.lethe_base.specs.declared.config.Fields.{Fields}
 use Rattle.lethe_base.specs.declared.refused.Refused.{Refused}
-use Rattle.lethe_base.specs.declared.refused.Refused.TheVariants.{Fault, Stopped, Backwards, Pinned, NothingDue, Cancelled, Exhausted, ReadFault, NoMemory, Damaged}
 use Rattle.lethe_disk.specs.Goes.{Goes}
+use Rattle.lethe_stored.specs.Stored.{Stored}
+use Rattle.lethe_state.specs.Records.{headers_in}
+use Rattle.lethe_state.specs.declared.state.State.{State}
 use Rattle.lethe_core.specs.Asked.{Failure, failure_of, stopped_by}
-use Rattle.lethe_core.specs.Running.{IsSound}
-use Rattle.lethe_core.specs.View.{View}
-use Rattle.lethe_row.specs.Along.{row_behind, tried}
+use Rattle.lethe_core.specs.Pinned.{AreKept}
+use Rattle.lethe_core.specs.Running.{Holds, IsSound}
+use Rattle.lethe_core.specs.View.{View, face_of}
+use Rattle.lethe_row.specs.Along.{AreAppended, calls_of, row_behind, tried}
 use Rattle.lethe_row.specs.declared.asking.Asked.{Asked}
+use Rattle.lethe_engine.specs.Refusals.{HasReasonAt}
 use Rattle.lethe_engine.specs.StandsFor.{IsKeptFor, Opened, StandsSince}
 
 -- that the disk failed in the first of the changes that weren't made, where it did
@@ -20,32 +23,38 @@ failed_of None rest = None
 failed_of (Some why) [] = None
 failed_of (Some why) (next ∷ more) = option_map (λ failure. (next, failure)) (failure_of why)
 
--- Why a change wasn't made: the disk failed in it, with these counts of faults; an earlier call had failed; places or numbers are used up; there was no memory; or a page couldn't be fetched, or isn't the one
--- that was written, which is so on no disk that tells what it holds.
-abbrev pub IsReason : Type 0 → Type 0 → View → View → Refused → Type 0
-IsReason Tells PortsFail old new (Fault place before after) = (place ≡ new.state.count) × (old.faults ≤ before) × Rose before after × (after ≡ new.faults)
-IsReason Tells PortsFail old new (Stopped at) = old.state.stopped ≡ Some at
-IsReason Tells PortsFail old new (Exhausted last) = last ≡ max_place
-IsReason Tells PortsFail old new NoMemory = Unit {0}
-IsReason Tells PortsFail old new (ReadFault before after) = PortsFail × Rose before after
-IsReason Tells PortsFail old new (Damaged name) = Tells → ⊥
-IsReason Tells PortsFail old new (Backwards clock) = ⊥
-IsReason Tells PortsFail old new (Pinned pin limit) = ⊥
-IsReason Tells PortsFail old new NothingDue = ⊥
-IsReason Tells PortsFail old new (Cancelled begun now) = ⊥
+-- the active segment has room for the records of all these changes, and there is a place for each
+abbrev pub HaveRoom : List Asked → View → Type 0
+HaveRoom asked view = (view.state.records + length asked ≤ view.state.manifest.config.buffer) × (view.state.count + length asked ≤ max_place)
+
+-- What the store remembered where these changes were made and the next one wasn't yet: it counts them, and numbers were drawn no faster than device calls were made.
+pub record IsBehind (Tells : Type 0) (made : List Asked) (old new : View) (state : State) : Type 0 where
+  pub count : state.count ≡ old.state.count + length made
+  pub stopped : state.stopped ≡ old.state.stopped
+  pub told : Tells → (config : Fields) (opened : Opened) (h : History) → StandsSince config opened h old → (state.manifest.config ≡ config) × (state.next + old.disk.moment ≤ old.state.next + new.disk.moment)
+
+-- The change behind those that were made has the reason of a change by itself, by the disk's counts of faults and by the port's, those from before any of them and those of now.
+pub record IsReason (Tells PortsFail : Type 0) (made : List Asked) (old new : View) (before now : ℕ) (why : Refused) : Type 0 where
+  pub state : State
+  pub behind : IsBehind Tells made old new state
+  pub faults : ℕ
+  pub later : old.faults ≤ faults
+  pub fetched : ℕ
+  pub since : before ≤ fetched
+  pub reason : HasReasonAt Tells PortsFail state faults new fetched now why
 
 -- all changes were made, or the first of those that weren't has a reason
-abbrev pub IsWhy : Type 0 → Type 0 → Option Refused → List Asked → View → View → Type 0
-IsWhy Tells PortsFail None rest old new = rest ≡ []
-IsWhy Tells PortsFail (Some why) rest old new = ((next : Asked) × (more : List Asked) × (rest ≡ next ∷ more)) × IsReason Tells PortsFail old new why
+abbrev pub IsWhy : Type 0 → Type 0 → Option Refused → List Asked → List Asked → View → View → ℕ → ℕ → Type 0
+IsWhy Tells PortsFail None made rest old new before now = rest ≡ []
+IsWhy Tells PortsFail (Some why) made rest old new before now = ((next : Asked) × (more : List Asked) × (rest ≡ next ∷ more)) × IsReason Tells PortsFail made old new before now why
 
--- So many changes were made, the first ones of those that were asked, and the next one wasn't for this reason, if any is left.
-pub record AnswersAll (Tells PortsFail : Type 0) (asked : List Asked) (done : ℕ) (refused : Option Refused) (old new : View) : Type 0 where
+-- So many changes were made, the first ones of those that were asked, and the next one wasn't for this reason, if any is left; by the port's counts of faults before and now.
+pub record AnswersAll (Tells PortsFail : Type 0) (asked : List Asked) (done : ℕ) (refused : Option Refused) (before now : ℕ) (old new : View) : Type 0 where
   pub made : List Asked
   pub rest : List Asked
   pub are : asked ≡ made ++ rest
   pub many : length made ≡ done
-  pub why : IsWhy Tells PortsFail refused rest old new
+  pub why : IsWhy Tells PortsFail refused made rest old new before now
   pub sound : IsSound Tells new
   -- it counts those that were made, and that in which the disk failed
   pub count : new.state.count ≡ old.state.count + length (tried made (failed_of refused rest))
@@ -56,5 +65,11 @@ pub record AnswersAll (Tells PortsFail : Type 0) (asked : List Asked) (done : �
   -- may leave is as it was.
   pub goes : Tells → (config : Fields) (opened : Opened) (h : History) → StandsSince config opened h old → (caller : ℕ)
       → Goes (IsKeptFor config opened.history (row_behind h caller made (failed_of refused rest))) old.disk new.disk
+  -- where there was room for all they are one row: three device calls for each and one more, and each record is over what the ones before it left
+  pub calls : Tells → refused ≡ None → HaveRoom asked old → new.disk.moment ≡ old.disk.moment + calls_of asked
+  pub written : Tells → refused ≡ None → HaveRoom asked old → (s : Stored) → Holds old s → (t : Stored) × AreAppended (headers_in old.levels) s asked t × Holds new t
   pub numbers : Tells → new.state.next + old.disk.moment ≤ old.state.next + new.disk.moment
   pub faults : old.faults ≤ new.faults
+  -- jobs and pins stay as they are, and each object that a pin names is as it was, byte for byte
+  pub face_is : face_of new ≡ record (face_of old) { retired = new.retired }
+  pub pinned : Tells → AreKept old.pins.pins old.disk.directory new.disk.directory

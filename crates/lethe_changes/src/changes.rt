@@ -1,5 +1,6 @@
 //! Making a list of changes.
-ghost use Rattle.std.specs.Prelude.{◌≡◌, IfErr};
+ghost use Rattle.std.specs.Prelude.{◌≡◌, ◌≤◌, ◌<◌, ◌+◌, ◌^◌, [], IfErr, length, vec_capacity};
+ghost use Rattle.std.specs.List.{range_with_len};
 ghost use Rattle.std.specs.Result.{result_err};
 ghost use Rattle.lethe_core.specs.Asked.{Makes};
 ghost use Rattle.lethe_core.specs.Running.{IsSound};
@@ -16,22 +17,61 @@ use lethe_row::{Asked, Row};
 use std::alloc::Global;
 use std::collections::VecDeque;
 
+/// What became of a list of changes.
+#[derive(Debug, Drop)]
+pub struct Changed {
+    /// The places of the changes that were made, in their order: the first ones of those that were asked.
+    pub places: Vec<u64>,
+    /// Why the next one wasn't, where one wasn't.
+    pub refused: Option<Refused>,
+}
+
 /// Makes the changes one behind another, in rows: where the active segment is full the row ends, the next change makes room as one by itself does, with files read through the port, and
-/// the ones behind it are a row again. It answers how many were made, which have the next places of the history in their order, and why the one behind them wasn't, where it wasn't; those
-/// behind that one aren't made either. None is answered before all that were made are durable.
+/// the ones behind it are a row again. It answers the places of those that were made, and why the one behind them wasn't, where it wasn't; those behind that one aren't made either. None
+/// is answered before all that were made are durable. `k` changes for which there is room take `3 k + 1` device calls, of which `k + 1` are syncs.
 ///
 /// # Errors
 ///
-/// Those of a change by itself.
+/// Those of a change by itself. Room for the places is taken before any change is made.
 pub fn change_all<D: Disk>(
     engine: &mut Engine<D>,
     alloc: Global,
     port: &mut D::Port,
     asked: Vec<Asked>,
-) -> Row
+) -> Changed
     // Opening gives this, and each call leaves it so.
     requires { IsSound D.tells (view_of engine.old.core) }
-    ensures answers { AnswersAll D.tells D.ports_fail asked.items result.done result.refused (view_of engine.old.core) (view_of engine.new.core) }
+    ensures answers { AnswersAll D.tells D.ports_fail asked.items (length result.places.items) result.refused (D.port_faults port.old) (D.port_faults port.new) (view_of engine.old.core) (view_of engine.new.core) }
+    ensures places { result.places.items ≡ range_with_len (engine.old.core.state.count + 1) (length result.places.items) }
+    ensures port_faults { D.port_faults port.old ≤ D.port_faults port.new }
+    ensures fetches { D.fetches port.old ≤ D.fetches port.new }
+    ensures certificates { engine.new.certificates ≡ engine.old.certificates }
+{
+    let Ok(places) = Vec::with_capacity(alloc, asked.len()) else {
+        return Changed {
+            places: Vec::new(alloc),
+            refused: Some(Refused::NoMemory),
+        };
+    };
+    let count = engine.count();
+    let Row { done, refused } = make_all(engine, alloc, port, asked);
+    Changed {
+        places: places_behind(places, count, done),
+        refused,
+    }
+}
+
+/// Makes the changes, as many as can be made.
+fn make_all<D: Disk>(
+    engine: &mut Engine<D>,
+    alloc: Global,
+    port: &mut D::Port,
+    asked: Vec<Asked>,
+) -> Row
+    requires { IsSound D.tells (view_of engine.old.core) }
+    ensures answers { AnswersAll D.tells D.ports_fail asked.items result.done result.refused (D.port_faults port.old) (D.port_faults port.new) (view_of engine.old.core) (view_of engine.new.core) }
+    ensures port_faults { D.port_faults port.old ≤ D.port_faults port.new }
+    ensures fetches { D.fetches port.old ≤ D.fetches port.new }
     ensures certificates { engine.new.certificates ≡ engine.old.certificates }
 {
     let mut left = VecDeque::from(asked);
@@ -73,6 +113,8 @@ fn change_one<D: Disk>(
     requires { IsSound D.tells (view_of engine.old.core) }
     ensures answers { Answers D.tells (Makes (call_of change)) (result_err result) (record (face_of (view_of engine.old.core)) { retired = (view_of engine.new.core).retired }) (view_of engine.old.core) (view_of engine.new.core) }
     ensures why { IfErr result (HasReasonOfChange D.tells D.ports_fail (view_of engine.old.core) (view_of engine.new.core) (D.port_faults port.old) (D.port_faults port.new)) }
+    ensures port_faults { D.port_faults port.old ≤ D.port_faults port.new }
+    ensures fetches { D.fetches port.old ≤ D.fetches port.new }
     ensures certificates { engine.new.certificates ≡ engine.old.certificates }
 {
     match change {
@@ -80,4 +122,17 @@ fn change_one<D: Disk>(
         Asked::Delete { key } => engine.delete(alloc, port, key),
         Asked::Erase { range } => engine.erase(alloc, port, range),
     }
+}
+
+/// So many places behind `count` of them, in memory that was taken.
+fn places_behind(mut places: Vec<u64>, count: u64, done: u64) -> Vec<u64>
+    requires empty { places.items ≡ [] }
+    requires room { done ≤ vec_capacity places }
+    requires fits { count + done < 2 ^ 64 }
+    ensures { result.items ≡ range_with_len (count + 1) done }
+{
+    for n in 0..done {
+        places.push(count + n + 1).unwrap();
+    }
+    places
 }

@@ -3,4 +3,4 @@
 
 mod changes;
 
-pub use changes::change_all;
+pub use changes::{Changed, change_all};

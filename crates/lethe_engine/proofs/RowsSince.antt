@@ -58,6 +58,7 @@ row_answers Tells asked left done refused old new runs face row = record {
   stands = stands;
   goes = λ told config opened h before caller.
       goes_by (IsKeptAlong config h caller (tried row.made row.failed)) config opened h (row_behind h caller row.made row.failed) old new before (stands told config opened h before caller) (row.any_moment told config h before.now runs caller).goes;
+  idle = λ stopped. absurd (false≢true (subst IsSome runs stopped));
   face_is = face;
 }
   where
@@ -73,6 +74,7 @@ stopped_answers Tells asked view sound stopped = record {
   row = idle_row Tells view asked asked sound refl (inr (inl stopped));
   stands = same;
   goes = λ told config opened h before caller. idle_goes config opened h (with_all h caller []) view view before (same told config opened h before caller) (idle_itself view);
+  idle = λ still. (refl, refl, refl, refl, refl);
   face_is = refl;
 }
   where

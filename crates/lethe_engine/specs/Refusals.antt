@@ -26,10 +26,13 @@ SeesRoom state = state.records < state.manifest.config.buffer
 
 -- A change: the same, where only one without room may be short of numbers; or there was no room, and reading a file to make it was refused, by the port's counts of faults
 -- before and now.
+abbrev pub HasReasonAt : Type 0 → Type 0 → State → ℕ → View → ℕ → ℕ → Refused → Type 0
+HasReasonAt Tells PortsFail state faults new before now why =
+    HasReason ((SeesRoom state → ⊥) × IsShortOfRoom Tells state new) state faults new.faults why
+    ⊎ ((SeesRoom state → ⊥) × (state.stopped ≡ None) × IsUnreadable Tells PortsFail before now why)
+
 abbrev pub HasReasonOfChange : Type 0 → Type 0 → View → View → ℕ → ℕ → Refused → Type 0
-HasReasonOfChange Tells PortsFail old new before now why =
-    HasReason ((SeesRoom old.state → ⊥) × IsShortOfRoom Tells old.state new) old.state old.faults new.faults why
-    ⊎ ((SeesRoom old.state → ⊥) × (old.state.stopped ≡ None) × IsUnreadable Tells PortsFail before now why)
+HasReasonOfChange Tells PortsFail old new before now why = HasReasonAt Tells PortsFail old.state old.faults new before now why
 
 -- The begin of a job: an earlier call failed, a job is in flight or nothing is due, or there was no memory.
 abbrev pub HasReasonOfBegin : Type 0 → View → Refused → Type 0

@@ -22,17 +22,17 @@ use Rattle.lethe_stored.specs.Numbers.{GoesFrom}
 use Rattle.lethe_stored.specs.Stored.{Stored, appended}
 use Rattle.lethe_stored.proofs.Numbers.{goes_from_then, goes_from_weaker}
 use Rattle.lethe_manifest.specs.declared.manifest.Manifest.{Manifest}
-use Rattle.lethe_state.specs.Records.{IsNext, headers_in}
+use Rattle.lethe_state.specs.Records.{IsLike, IsNext, headers_in}
+use Rattle.lethe_state.specs.declared.state.State.{State}
 use Rattle.lethe_state.specs.declared.waiting.Waiting.{Waiting}
 use Rattle.lethe_core.specs.Asked.{Makes, behind, counted, done_by, stopped_by}
-use Rattle.lethe_core.specs.Keeps.{MayStep}
 use Rattle.lethe_core.specs.Pinned.{AreKept}
 use Rattle.lethe_core.specs.Reasons.{HasReason}
 use Rattle.lethe_core.specs.Running.{Holds, IsSound}
 use Rattle.lethe_core.specs.StandsNow.{StandsNow}
 use Rattle.lethe_core.specs.View.{View}
 use Rattle.lethe_core.proofs.Standing.{stands_for, stands_holds, stands_moments}
-use Rattle.lethe_row.specs.Along.{AreAppended, IsEnded, IsAtEnd, IsKeptAlong, IsRecordOver, IsRow, calls_of, ended_as, tried, with_all}
+use Rattle.lethe_row.specs.Along.{AreAppended, HasGrown, IsEnded, IsAtEnd, IsKeptAlong, IsLeftBehind, IsRecordOver, IsRow, calls_of, ended_as, tried, with_all}
 use Rattle.lethe_row.specs.Rests.{IsAtRest, IsCountedIn, at_rest}
 use Rattle.lethe_row.specs.Rows.{IsRecordOf, IsWithin, call_of}
 use Rattle.lethe_row.specs.declared.asking.Asked.{Asked}
@@ -106,6 +106,7 @@ pub record IsHeld (Tells Fine : Type 0) (old : View) (asked made : List Asked) (
   pub recorded : Tells → (s : Stored) → Holds (at_rest now at) s → IsRecorded (headers_in old.levels) s next waiting.record
   pub levels : now.levels ≡ old.levels
   pub count : now.state.count ≡ old.state.count + length made
+  pub grown : HasGrown (length made) old.state now.state
   pub stands : Tells → (config : Fields) (h : History) → StandsNow config h old → (caller : ℕ) → StandsNow config (with_all h caller made) (at_rest now at)
   pub moments : Tells → (config : Fields) (h : History) → StandsNow config h old → (caller : ℕ) → GoesFrom old.state.next (IsKeptAlong config h caller (made ++ next ∷ [])) old.disk now.disk
   pub written : Tells → (s : Stored) → Holds old s → (t : Stored) × AreAppended (headers_in old.levels) s made t × Holds (at_rest now at) t
@@ -114,6 +115,32 @@ pub record IsHeld (Tells Fine : Type 0) (old : View) (asked made : List Asked) (
   pub faults : old.faults ≤ now.faults
   pub pinned : Tells → AreKept old.pins.pins old.disk.directory now.disk.directory
   pub pins : now.pins ≡ old.pins
+
+-- How the state grows
+
+not_grown : (old new : State) → IsLike old new → HasGrown 0 old new
+not_grown old new like = let records = like.records in record {
+  records = omega (arith, records);
+  manifest = like.manifest;
+  drawn = like.next;
+  frozen = like.frozen;
+}
+
+grown_one : (many more : ℕ) (old mid new : State) (next : Record) (end : ℕ) → HasGrown many old mid → IsNext next end mid new → more ≡ many + 1 → HasGrown more old new
+grown_one many more old mid new next end was is long = let records = was.records in let one = is.records in record {
+  records = omega (arith, records, one, long);
+  manifest = is.manifest ∙ was.manifest;
+  drawn = is.drawn ∙ was.drawn;
+  frozen = is.frozen ∙ was.frozen;
+}
+
+grown_like : (many : ℕ) (old mid new : State) → HasGrown many old mid → IsLike mid new → HasGrown many old new
+grown_like many old mid new was like = record {
+  records = like.records ∙ was.records;
+  manifest = like.manifest ∙ was.manifest;
+  drawn = like.next ∙ was.drawn;
+  frozen = like.frozen ∙ was.frozen;
+}
 
 -- Where a row goes no further
 
@@ -145,7 +172,8 @@ idle_row Tells view asked left sound same end = record {
   stopped = refl;
   stands = λ told config h before caller. subst (λ g. StandsNow config g view) (sym (none_made h caller)) before;
   any_moment = λ told config h before going caller. along_none config h caller [] view.state.next view.disk view.disk (stands_moments config h view before going sound.writable);
-  written = λ told fine s holds. (s, refl, holds);
+  grown = λ none. record { records = omega arith; manifest = refl; drawn = refl; frozen = refl };
+  written = λ told none s holds. (s, refl, holds);
   calls = λ told fine. omega arith;
   numbers = λ told. omega arith;
   faults = omega arith;
@@ -158,12 +186,12 @@ one_longer made next = length-append made (next ∷ [])
 module _ (Tells : Type 0) (old : View) (running : old.state.stopped ≡ None) (asked : List Asked) where
   -- the first record was written
   pub first_held : (next : Asked) (left : List Asked) → asked ≡ next ∷ left → (waiting : Waiting) (new : View) → IsAtRest Tells new old.disk.directory waiting → IsSound Tells old → IsWithin next
-      → IsRecordOf old.state (headers_in old.levels) next waiting.record → new.state.count ≡ old.state.count → new.levels ≡ old.levels
+      → IsRecordOf old.state (headers_in old.levels) next waiting.record → IsLike old.state new.state → new.levels ≡ old.levels
       → (Tells → (config : Fields) (h : History) → StandsNow config h old → StandsNow config h (at_rest new old.disk.directory))
       → (Tells → (config : Fields) (h : History) → StandsNow config h old → GoesFrom old.state.next (λ c. IsKept config c h) old.disk new.disk)
       → (Tells → new.disk.moment ≡ old.disk.moment + 2) → (Tells → new.state.next + old.disk.moment ≤ old.state.next + new.disk.moment) → old.faults ≤ new.faults
       → (Tells → AreKept old.pins.pins old.disk.directory new.disk.directory) → new.pins ≡ old.pins → IsHeld Tells (Unit {0}) old asked [] waiting left new
-  first_held next left are waiting new rest sound within of count levels stands moments calls numbers faults pinned pins = record {
+  first_held next left are waiting new rest sound within of like levels stands moments calls numbers faults pinned pins = record {
     next = next;
     are = are;
     at = old.disk.directory;
@@ -173,7 +201,8 @@ module _ (Tells : Type 0) (old : View) (running : old.state.stopped ≡ None) (a
         let same = one_held old (at_rest new old.disk.directory) was.0 s refl was.1 holds in
         subst (λ x. IsRecorded (headers_in old.levels) x next waiting.record) same (recorded_over old was.0 was.1 next waiting.record within of);
     levels = levels;
-    count = omega (arith, count);
+    count = let count = like.count in omega (arith, count);
+    grown = not_grown old.state new.state like;
     stands = λ told config h before caller. subst (λ g. StandsNow config g (at_rest new old.disk.directory)) (sym (none_made h caller)) (stands told config h before);
     moments = λ told config h before caller. along_none config h caller (next ∷ []) old.state.next old.disk new.disk (moments told config h before);
     written = λ told s holds.
@@ -240,6 +269,7 @@ module _ (Tells : Type 0) (old : View) (running : old.state.stopped ≡ None) (a
       recorded = λ told s holds. subst (λ levels. IsRecorded (headers_in levels) s change waiting'.record) (levels ∙ held.levels) (recorded_over (at_rest new c) s holds change waiting'.record within of);
       levels = levels ∙ held.levels;
       count = let was = held.count in let more = counts.state.count in omega (arith, was, more, one_longer made held.next);
+      grown = grown_one (length made) (length (made ++ held.next ∷ [])) old.state mid.state new.state waiting.record waiting.end held.grown counts.state (one_longer made held.next);
       stands = λ told config h before caller. subst (λ g. StandsNow config g (at_rest new c)) (with_one_more h caller made held.next)
           (counts.stands told config (with_all h caller made) caller (call_of held.next) (asks_change held.next) (held.stands told config h before caller) (will_stand told config h before caller));
       moments = λ told config h before caller. goes_from_weaker (IsKeptAlong config h caller (made ++ held.next ∷ [])) (IsKeptAlong config h caller ((made ++ held.next ∷ []) ++ change ∷ [])) old.state.next old.disk new.disk
@@ -254,7 +284,7 @@ module _ (Tells : Type 0) (old : View) (running : old.state.stopped ≡ None) (a
     }
 
     -- there was no memory for the next record: it waits still
-    module _ (new : View) (waits : IsAtRest Tells new held.at waiting) (count : new.state.count ≡ mid.state.count) (levels : new.levels ≡ mid.levels)
+    module _ (new : View) (waits : IsAtRest Tells new held.at waiting) (like : IsLike mid.state new.state) (levels : new.levels ≡ mid.levels)
         (stands : (config : Fields) (h : History) → StandsNow config h (at_rest mid held.at) → StandsNow config h (at_rest new held.at)) (on : Runs new.disk)
         (numbers : Tells → new.state.next + mid.disk.moment ≤ mid.state.next + new.disk.moment) (faults : mid.faults ≤ new.faults) (kept : Tells → AreKept mid.pins.pins mid.disk.directory new.disk.directory)
         (pins : new.pins ≡ mid.pins) where
@@ -271,7 +301,8 @@ module _ (Tells : Type 0) (old : View) (running : old.state.stopped ≡ None) (a
             let was = sound_holds Tells (at_rest mid held.at) held.rest.sound held.rest.runs told in
             subst (λ x. IsRecorded (headers_in old.levels) x held.next waiting.record) (same_held told was.0 s was.1 holds) (held.recorded told was.0 was.1);
         levels = levels ∙ held.levels;
-        count = count ∙ held.count;
+        count = like.count ∙ held.count;
+        grown = grown_like (length made) old.state mid.state new.state held.grown like;
         stands = λ told config h before caller. stands config (with_all h caller made) (held.stands told config h before caller);
         moments = λ told config h before caller.
             moments_on told config h before caller new.disk (on told config (with_all h caller made) caller (held.stands told config h before caller) (will_stand told config h before caller));
@@ -315,7 +346,8 @@ module _ (Tells : Type 0) (old : View) (running : old.state.stopped ≡ None) (a
           (counts.stands told config (with_all h caller made) caller (call_of held.next) (asks_change held.next) (held.stands told config h before caller) (will_stand told config h before caller));
       any_moment = λ told config h before going caller. subst (λ made. GoesFrom old.state.next (IsKeptAlong config h caller made) old.disk new.disk) (sym no_more)
           (moments_on told config h before caller new.disk (runs told config (with_all h caller made) caller (held.stands told config h before caller) (will_stand told config h before caller)));
-      written = λ told fine. written_on new counts.holds told;
+      grown = λ none. grown_one (length made) (length (made ++ held.next ∷ [])) old.state mid.state new.state waiting.record waiting.end held.grown counts.state (one_longer made held.next);
+      written = λ told none. written_on new counts.holds told;
       calls = λ told fine. let was = held.calls (well fine) told in let so = calls told in omega (arith, was, so, calls_are);
       numbers = λ told. let was = held.numbers told in let so = numbers told in omega (arith, was, so);
       faults = let was = held.faults in omega (arith, was, faults);
@@ -323,7 +355,7 @@ module _ (Tells : Type 0) (old : View) (running : old.state.stopped ≡ None) (a
     }
 
     -- the disk failed in making it count, or in that and the next record
-    module _ (before : ℕ) (before_is : before ≡ old.faults) (new : View) (why : Refused) (left' : List Asked) (done : ℕ) (many : length made ≡ done) (sound : IsSound Tells new)
+    module _ (before : ℕ) (before_is : before ≡ old.faults) (new : View) (why : Refused) (left' : List Asked) (behind_it : IsLeftBehind left left') (done : ℕ) (many : length made ≡ done) (sound : IsSound Tells new)
         (count : (call : Call) → new.state.count ≡ counted (Makes call) (Some why) mid.state.count) (stopped : new.state.stopped ≡ stopped_by (Some why) mid.state.stopped)
         (stands : Tells → (config : Fields) (h : History) (caller : ℕ) (call : Call) → is_work call ≡ false → (stands : StandsNow config h (at_rest mid held.at)) → IsFor (with_done h caller call) (appended stands.stored waiting.record)
         → StandsNow config (behind h caller (Makes call) (Some why)) new) (runs : Runs new.disk) (numbers : Tells → new.state.next + mid.disk.moment ≤ mid.state.next + new.disk.moment) (faults : mid.faults ≤ new.faults)
@@ -347,6 +379,7 @@ module _ (Tells : Type 0) (old : View) (running : old.state.stopped ≡ None) (a
           reason.2 ∙ before_is,
           reason.3,
           subst (λ n. Rose n a) (sym reason.2) (subst (Rose before) (sym reason.3) reason.4),
+          behind_it,
         );
         sound = sound;
         count = let was = held.count in let more = count (call_of held.next) in let long = one_longer made held.next in omega (arith, was, more, long);
@@ -355,7 +388,8 @@ module _ (Tells : Type 0) (old : View) (running : old.state.stopped ≡ None) (a
             stands told config (with_all h caller made) caller (call_of held.next) (asks_change held.next) (held.stands told config h before caller) (will_stand told config h before caller);
         any_moment = λ told config h before going caller.
             moments_on told config h before caller new.disk (runs told config (with_all h caller made) caller (held.stands told config h before caller) (will_stand told config h before caller));
-        written = λ told fine. absurd cc;
+        grown = λ none. absurd cc;
+        written = λ told none. absurd cc;
         calls = λ told fine. absurd cc;
         numbers = λ told. let was = held.numbers told in let so = numbers told in omega (arith, was, so);
         faults = let was = held.faults in omega (arith, was, faults);
@@ -375,7 +409,7 @@ module _ (Tells : Type 0) (old : View) (running : old.state.stopped ≡ None) (a
       failed_row reason memory = by_failure why reason memory count stopped stands
 
     -- its record was to count, and no other waits
-    module _ (before : ℕ) (before_is : before ≡ old.faults) (new : View) (left' : List Asked) (done : ℕ) (many : length made ≡ done) (sound : IsSound Tells new)
+    module _ (before : ℕ) (before_is : before ≡ old.faults) (new : View) (left' : List Asked) (behind_it : IsLeftBehind left left') (done : ℕ) (many : length made ≡ done) (sound : IsSound Tells new)
         (numbers : Tells → new.state.next + mid.disk.moment ≤ mid.state.next + new.disk.moment) (faults : mid.faults ≤ new.faults) (kept : Tells → AreKept mid.pins.pins mid.disk.directory new.disk.directory) (runs : Runs new.disk)
         (refused : Option Refused) (well : refused ≡ None → Fine) (going : stopped_by refused old.state.stopped ≡ None)
         (is_ended : IsCountedIn Tells waiting (at_rest mid held.at) new → IsEnded refused left left' None old new) where
@@ -388,7 +422,7 @@ module _ (Tells : Type 0) (old : View) (running : old.state.stopped ≡ None) (a
           subst (λ (row : Row). IsRow Tells asked left' row.done row.refused old new) (sym is) (counted_row done refused well left' new many going (is_ended counts) sound counts runs calls numbers faults kept)
       last_row (Err why) counts count stopped reason memory stands calls row is =
           subst (λ (row : Row). IsRow Tells asked left' row.done row.refused old new) (sym is)
-          (failed_row before before_is new why left' done many sound count stopped stands runs numbers faults kept reason (λ is. memory (ap (λ why. Err why) is)))
+          (failed_row before before_is new why left' behind_it done many sound count stopped stands runs numbers faults kept reason (λ is. memory (ap (λ why. Err why) is)))
 
   -- The first record wasn't written
   module _ (next : Asked) (left : List Asked) (are : asked ≡ next ∷ left) (new : View) (sound : IsSound Tells new)
@@ -397,8 +431,8 @@ module _ (Tells : Type 0) (old : View) (running : old.state.stopped ≡ None) (a
     -- the disk failed in the first record, or there was no memory for it
     pub unheld_row : (why : Refused) → HasReason ⊥ old.state old.faults new.faults why → ((call : Call) → new.state.count ≡ counted (Makes call) (Some why) old.state.count)
         → new.state.stopped ≡ stopped_by (Some why) old.state.stopped
-        → (Tells → (config : Fields) (h : History) (caller : ℕ) (call : Call) → is_work call ≡ false → StandsNow config h old → StandsNow config (behind h caller (Makes call) (Some why)) new) → IsRow Tells asked left 0 (Some why) old new
-    unheld_row (Fault place b a) reason count stopped stands = record {
+        → (Tells → (config : Fields) (h : History) (caller : ℕ) (call : Call) → is_work call ≡ false → StandsNow config h old → StandsNow config (behind h caller (Makes call) (Some why)) new) → (why ≡ NoMemory → IsLike old.state new.state × (Tells → new.disk.directory ≡ old.disk.directory)) → IsRow Tells asked left 0 (Some why) old new
+    unheld_row (Fault place b a) reason count stopped stands untouched = record {
       made = [];
       rest = next ∷ left;
       are = are;
@@ -413,6 +447,7 @@ module _ (Tells : Type 0) (old : View) (running : old.state.stopped ≡ None) (a
         reason.2,
         reason.3,
         subst (λ n. Rose n a) (sym reason.2) (subst (Rose old.faults) (sym reason.3) reason.4),
+        inl refl,
       );
       sound = sound;
       count = count (call_of next);
@@ -420,13 +455,14 @@ module _ (Tells : Type 0) (old : View) (running : old.state.stopped ≡ None) (a
       stands = λ told config h before caller.
           subst (λ g. StandsNow config (behind g caller (Makes (call_of next)) (Some (Fault place b a))) new) (sym (none_made h caller)) (stands told config h caller (call_of next) (asks_change next) before);
       any_moment = λ told config h before going caller. along_none config h caller (next ∷ []) old.state.next old.disk new.disk (moments told config h before);
-      written = λ told fine. absurd cc;
+      grown = λ none. absurd cc;
+      written = λ told none. absurd cc;
       calls = λ told fine. absurd cc;
       numbers = numbers;
       faults = faults;
       pinned = kept;
     }
-    unheld_row NoMemory reason count stopped stands = record {
+    unheld_row NoMemory reason count stopped stands untouched = record {
       made = [];
       rest = next ∷ left;
       are = are;
@@ -438,17 +474,20 @@ module _ (Tells : Type 0) (old : View) (running : old.state.stopped ≡ None) (a
       stopped = stopped;
       stands = λ told config h before caller. subst (λ g. StandsNow config g new) (sym (none_made h caller)) (stands told config h caller (call_of next) (asks_change next) before);
       any_moment = λ told config h before going caller. along_none config h caller [] old.state.next old.disk new.disk (moments told config h before);
-      written = λ told fine. absurd cc;
+      grown = λ none. not_grown old.state new.state (untouched refl).0;
+      written = λ told none s holds.
+          let is = sound_holds Tells new sound (stopped ∙ running) told in
+          (s, refl, subst (Holds new) (sym (one_held old new s is.0 ((untouched refl).1 told) holds is.1)) is.1);
       calls = λ told fine. absurd cc;
       numbers = numbers;
       faults = faults;
       pinned = kept;
     }
-    unheld_row (Stopped at) reason count stopped stands = absurd (let clash : Some at ≡ None = sym reason ∙ running in cc)
-    unheld_row (Exhausted last) reason count stopped stands = absurd (elim reason.2 [ inl all ↦ omega (arith, fits, all) | inr short ↦ short ])
-    unheld_row (Backwards clock) reason count stopped stands = absurd reason
-    unheld_row (Pinned pin limit) reason count stopped stands = absurd reason
-    unheld_row NothingDue reason count stopped stands = absurd reason
-    unheld_row (Cancelled begun now) reason count stopped stands = absurd reason
-    unheld_row (ReadFault b a) reason count stopped stands = absurd reason
-    unheld_row (Damaged name) reason count stopped stands = absurd reason
+    unheld_row (Stopped at) reason count stopped stands untouched = absurd (let clash : Some at ≡ None = sym reason ∙ running in cc)
+    unheld_row (Exhausted last) reason count stopped stands untouched = absurd (elim reason.2 [ inl all ↦ omega (arith, fits, all) | inr short ↦ short ])
+    unheld_row (Backwards clock) reason count stopped stands untouched = absurd reason
+    unheld_row (Pinned pin limit) reason count stopped stands untouched = absurd reason
+    unheld_row NothingDue reason count stopped stands untouched = absurd reason
+    unheld_row (Cancelled begun now) reason count stopped stands untouched = absurd reason
+    unheld_row (ReadFault b a) reason count stopped stands untouched = absurd reason
+    unheld_row (Damaged name) reason count stopped stands untouched = absurd reason

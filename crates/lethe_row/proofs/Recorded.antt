@@ -8,10 +8,10 @@ use Rattle.lethe_segment.specs.declared.record.Record.{Record}
 use Rattle.lethe_stored.specs.Files.{Parts}
 use Rattle.lethe_stored.specs.Kept.{IsFor}
 use Rattle.lethe_stored.specs.Stored.{IsCoherent, Stored, appended}
-use Rattle.lethe_state.specs.Records.{erase_record, headers_in, put_record}
+use Rattle.lethe_state.specs.Records.{headers_in}
 use Rattle.lethe_state.specs.Remembered.{IsCurrent, Remembers}
 use Rattle.lethe_state.specs.declared.state.State.{State}
-use Rattle.lethe_state.proofs.Recording.{delete_recorded, erase_recorded, put_recorded}
+use Rattle.lethe_state.proofs.Recording.{delete_recordededed}
 use Rattle.lethe_row.specs.Rows.{IsRecordOf, IsWithin, call_of}
 use Rattle.lethe_row.specs.declared.asking.Asked.{Asked}
 use Rattle.lethe_row.specs.declared.asking.Asked.TheVariants.{Put, Delete, Erase}

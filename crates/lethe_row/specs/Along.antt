@@ -14,6 +14,7 @@ use Rattle.lethe_stored.specs.Kept.{IsKept}
 use Rattle.lethe_stored.specs.Numbers.{GoesFrom}
 use Rattle.lethe_stored.specs.Stored.{Stored, appended}
 use Rattle.lethe_state.specs.Records.{headers_in}
+use Rattle.lethe_state.specs.declared.state.State.{State}
 use Rattle.lethe_core.specs.Asked.{Failure, done_by, stopped_by}
 use Rattle.lethe_core.specs.Changes.{erase_over, put_over}
 use Rattle.lethe_core.specs.Pinned.{AreKept}
@@ -58,13 +59,17 @@ AreAppended headers s (asked ∷ more) t = (next : Record) × IsRecordOver heade
 abbrev pub IsAtEnd : View → Type 0
 IsAtEnd view = IsSome view.state.stopped ⊎ (view.state.manifest.config.buffer ≤ view.state.records) ⊎ (max_place ≤ view.state.count)
 
+-- what is left of the changes behind the one in which the disk failed: all of them, or all but the next one, whose record was made already
+abbrev pub IsLeftBehind : List Asked → List Asked → Type 0
+IsLeftBehind more left = (left ≡ more) ⊎ ((next : Asked) × (more ≡ next ∷ left))
+
 -- Where a row ended. It went on to the last change, or as far as a row goes; there was no memory for the next; or the disk failed in it, by which the store is stopped.
 abbrev pub IsEnded : Option Refused → List Asked → List Asked → Option (Asked × Failure) → View → View → Type 0
 IsEnded None rest left failed old new = (failed ≡ None) × (left ≡ rest) × ((rest ≡ []) ⊎ IsAtEnd new)
 IsEnded (Some NoMemory) rest left failed old new = (failed ≡ None) × (next : Asked) × (rest ≡ next ∷ left)
 IsEnded (Some (Fault place before after)) rest left failed old new =
     (next : Asked) × (more : List Asked) × (rest ≡ next ∷ more) × (failed ≡ Some (next, record { place = place; before = before; after = after }))
-    × (place ≡ new.state.count) × (before ≡ old.faults) × (after ≡ new.faults) × Rose before after
+    × (place ≡ new.state.count) × (before ≡ old.faults) × (after ≡ new.faults) × Rose before after × IsLeftBehind more left
 IsEnded (Some (Stopped at)) rest left failed old new = ⊥
 IsEnded (Some (Exhausted last)) rest left failed old new = ⊥
 IsEnded (Some (Backwards clock)) rest left failed old new = ⊥
@@ -84,6 +89,13 @@ abbrev pub calls_of : List Asked → ℕ
 calls_of [] = 0
 calls_of (asked ∷ more) = 3 * length (asked ∷ more) + 1
 
+-- The active segment has so many records more. What is frozen is as it was, and so are the manifest and the numbers that were drawn.
+pub record HasGrown (many : ℕ) (old new : State) : Type 0 where
+  pub records : new.records ≡ old.records + many
+  pub manifest : new.manifest ≡ old.manifest
+  pub drawn : new.next ≡ old.next
+  pub frozen : new.frozen ≡ old.frozen
+
 -- The first of the changes that were asked were made in a row, so many, and these are left.
 pub record IsRow (Tells : Type 0) (asked left : List Asked) (done : ℕ) (refused : Option Refused) (old new : View) : Type 0 where
   pub made : List Asked
@@ -99,8 +111,10 @@ pub record IsRow (Tells : Type 0) (asked left : List Asked) (done : ℕ) (refuse
   pub stands : Tells → (config : Fields) (h : History) → StandsNow config h old → (caller : ℕ) → StandsNow config (row_behind h caller made failed) new
   -- a crash at any moment of the row leaves what is kept for the history with the first ones of the changes
   pub any_moment : Tells → (config : Fields) (h : History) → StandsNow config h old → old.state.stopped ≡ None → (caller : ℕ) → GoesFrom old.state.next (IsKeptAlong config h caller (tried made failed)) old.disk new.disk
-  -- each record is over what the ones before it left
-  pub written : Tells → refused ≡ None → (s : Stored) → Holds old s → (t : Stored) × AreAppended (headers_in old.levels) s made t × Holds new t
+  -- unless the disk failed the active segment has a record for each, and nothing else changed
+  pub grown : failed ≡ None → HasGrown (length made) old.state new.state
+  -- each record is over what the ones before it left, and the store holds those
+  pub written : Tells → failed ≡ None → (s : Stored) → Holds old s → (t : Stored) × AreAppended (headers_in old.levels) s made t × Holds new t
   pub calls : Tells → refused ≡ None → new.disk.moment ≡ old.disk.moment + calls_of made
   pub numbers : Tells → new.state.next + old.disk.moment ≤ old.state.next + new.disk.moment
   pub faults : old.faults ≤ new.faults

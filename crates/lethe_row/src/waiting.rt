@@ -57,6 +57,7 @@ pub fn hold<D: Disk>(
     ensures count { (call : Call) → IfErr result (λ why. core.new.state.count ≡ counted (Makes call) (Some why) core.old.state.count) }
     ensures stopped { IfErr result (λ why. core.new.state.stopped ≡ stopped_by (Some why) core.old.state.stopped) }
     ensures why { IfErr result (HasReason ⊥ core.old.state before (D.faults core.new.disk)) }
+    ensures untouched { IsErrOf result refused.NoMemory → IsLike core.old.state core.new.state × (D.tells → (D.seen core.new.disk).directory ≡ (D.seen core.old.disk).directory) }
     ensures stands { D.tells → (config : Fields) (h : History) (caller : ℕ) (call : Call) → is_work call ≡ false → StandsNow config h (view_of core.old)
         → IfErr result (λ why. StandsNow config (behind h caller (Makes call) (Some why)) (view_of core.new)) }
 

@@ -170,3 +170,10 @@ returns-clause-any_moment g c = λ told config h stands.
     hold_moments g.D.Disk.tells (view_of c.args.core.now) c.requires.may.sound c.requires.may.runs told c.prepare.new.self c.prepare.ensures.same c.args.next c.requires.spelled c.requires.place
     c.active_segment-segment.result c.active_segment-segment.ensures c.end.result c.end.ensures c.deref.result.now (c.deref.ensures.value ∙ c.in-Ok.ensures.body)
     (length c.deref.result.now + 2) (g.D.Disk.seen c.append_first.new.disk) (c.append_first.ensures.any_moment told) (c.append_first.ensures.unopened told) config h stands
+
+pub returns-clause-untouched : goal.returns-clause-untouched
+returns-clause-untouched g c = λ none. (
+  c.prepare.ensures.same,
+  λ told.
+      (refused_at_once (view_of c.args.core.now).disk (g.D.Disk.seen c.append_first.new.disk) (c.in-Err-NoMemory.ensures.no_memory told (ap Err c.in-Err-NoMemory.field-0-is))).directory,
+)
