@@ -11,7 +11,7 @@ use Rattle.lethe_stored.specs.Stored.{IsCoherent, Stored, appended}
 use Rattle.lethe_state.specs.Records.{headers_in}
 use Rattle.lethe_state.specs.Remembered.{IsCurrent, Remembers}
 use Rattle.lethe_state.specs.declared.state.State.{State}
-use Rattle.lethe_state.proofs.Recording.{delete_recordededed}
+use Rattle.lethe_state.proofs.Recording.{delete_recorded, erase_recorded, put_recorded}
 use Rattle.lethe_row.specs.Rows.{IsRecordOf, IsWithin, call_of}
 use Rattle.lethe_row.specs.declared.asking.Asked.{Asked}
 use Rattle.lethe_row.specs.declared.asking.Asked.TheVariants.{Put, Delete, Erase}
