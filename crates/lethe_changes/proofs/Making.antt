@@ -17,7 +17,7 @@ use Rattle.lethe_disk.specs.Directory.{Directory}
 use Rattle.lethe_disk.specs.Disk.{Seen}
 use Rattle.lethe_disk.specs.Goes.{Goes}
 use Rattle.lethe_disk.proofs.Going.{goes_then, goes_weaker}
-use Rattle.lethe_core.specs.Asked.{Failure, Makes, behind, counted, done_by, failure_of, stopped_by}
+use Rattle.lethe_core.specs.Asked.{Failure, Makes, behind, done_by, failure_of, stopped_by}
 use Rattle.lethe_core.specs.Pinned.{AreKept}
 use Rattle.lethe_core.specs.Running.{Holds, IsSound}
 use Rattle.lethe_core.specs.View.{Face, View, face_of}
@@ -26,16 +26,16 @@ use Rattle.lethe_pins.specs.Held.{Held, is_named}
 use Rattle.lethe_state.specs.Records.{headers_in}
 use Rattle.lethe_state.specs.declared.state.State.{State}
 use Rattle.lethe_stored.specs.Stored.{Stored}
-use Rattle.lethe_row.specs.Along.{AreAppended, IsAtEnd, calls_of, row_behind, tried, with_all}
+use Rattle.lethe_row.specs.Along.{AreAppended, HasGrown, IsAtEnd, calls_of, row_behind, tried, with_all}
 use Rattle.lethe_row.specs.Rows.{call_of}
 use Rattle.lethe_row.specs.declared.asking.Asked.{Asked}
 use Rattle.lethe_row.proofs.Along.{none_made, one_longer, with_one_more}
 use Rattle.lethe_engine.specs.Answers.{Answers}
-use Rattle.lethe_engine.specs.Refusals.{HasReasonAt, HasReasonOfChange}
+use Rattle.lethe_engine.specs.Refusals.{HasReasonOfChange}
 use Rattle.lethe_engine.specs.Rows.{AnswersRow}
 use Rattle.lethe_engine.specs.StandsFor.{IsKeptFor, Opened, StandsSince}
 use Rattle.lethe_engine.proofs.Calls.{goes_by}
-use Rattle.lethe_changes.specs.Changes.{AnswersAll, HaveRoom, IsBehind, IsReason, failed_of}
+use Rattle.lethe_changes.specs.Changes.{AnswersAll, HaveRoom, IsBehind, failed_of}
 
 -- any directory
 abbrev Any : Directory → Type 0
@@ -114,6 +114,8 @@ ended_by_stop Tells asked left done old new room row next more is = by row.row.e
   where
     size : length asked ≡ length row.row.made + (length more + 1)
     size = ap length row.row.are ∙ length-append row.row.made row.row.rest ∙ ap (λ l. length row.row.made + length l) (sym row.row.ended.1 ∙ is) ∙ omega arith
+
+    grown : HasGrown (length row.row.made) old.state new.state
     grown = row.row.grown row.row.ended.0
 
     count : new.state.count ≡ old.state.count + length row.row.made
@@ -500,5 +502,7 @@ none_placed Tells PortsFail old (next ∷ more) before sound some =
 -- The places
 
 pub range_more : (a n : ℕ) → range_with_len a (n + 1) ≡ range_with_len a n ++ (a + n) ∷ []
-range_more a zero = refl
-range_more a (suc n) = ap (λ l. a ∷ l) (range_more (a + 1) n ∙ ap (λ k. range_with_len (a + 1) n ++ k ∷ []) (let same : a + 1 + n ≡ a + suc n = omega arith in same))
+range_more a zero = ap (λ k. k ∷ []) (let same : a ≡ a + 0 = omega arith in same)
+range_more a (suc n) =
+    ap (range_with_len a) (let same : suc n + 1 ≡ suc (n + 1) = omega arith in same)
+    ∙ ap (λ l. a ∷ l) (range_more (a + 1) n ∙ ap (λ k. range_with_len (a + 1) n ++ k ∷ []) (let same : a + 1 + n ≡ a + suc n = omega arith in same))

@@ -1,6 +1,6 @@
 use Rattle.std.proofs.Common.{rules, ◌≡◌, ◌+◌, [], ◌∷◌, ◌++◌, length, None, Some, refl, sym, ap, ◌∙◌, subst, arith}
 use Rattle.lethe_core.specs.View.{View, face_of, view_of}
-use Rattle.lethe_changes.specs.Changes.{AnswersAll, HaveRoom}
+use Rattle.lethe_changes.specs.Changes.{AnswersAll}
 use Rattle.lethe_changes.proofs.Making.{IsFresh, IsMade, all_made, calls_of_all, fresh_at_first, never_fresh, none_yet, one_longer_by, one_made, one_refused, row_ended, row_left, row_made, row_many, row_went, written_all}
 use Rattle.lethe_changes.proofs.changes.make_all.Goals as goal
 
