@@ -1,6 +1,6 @@
 -- A list of changes is made, part by part.
 use Rattle.std.proofs.Common.{◌≡◌, ◌≤◌, ◌⊎◌, inl, inr, ℕ, zero, suc, ◌+◌, List, [], ◌∷◌, ◌++◌, length, map, Option, Some, None, refl, sym, ap, ◌∙◌, subst, arith, append_assoc, append-nil}
-use Rattle.std.specs.Prelude.{IsSome, IsTrue, false, is_some, option_map, true}
+use Rattle.std.specs.Prelude.{IsSome, IsTrue, false, is_some, option_map, option_to_list, true}
 use mathlib.Core.Bool.{false≢true}
 use Rattle.std.specs.Option.{option_map_or}
 use Rattle.std.specs.List.{range_with_len}
@@ -229,6 +229,24 @@ module _ (Tells PortsFail : Type 0) (old : View) (asked made left : List Asked) 
     before_it why row = record {
       count = let was = so_far.count in let both = length-append made row.row.made in omega (arith, was, both);
       stopped = so_far.stopped;
+      writable =
+          let was = so_far.sound.writable in
+          let few = row.row.sound.writable.count in
+          let is = row.row.count in
+          let more = length-append row.row.made (option_to_list (option_map (λ (f : Asked × Failure). f.0) row.row.failed)) in
+          let records = was.records in
+          record {
+            manifest = was.manifest;
+            segments = was.segments;
+            pending = was.pending;
+            active = was.active;
+            frozen = was.frozen;
+            count = omega (arith, few, is, more);
+            records = omega (arith, records);
+            drawn = was.drawn;
+            last = was.last;
+          };
+      small = let was = so_far.sound.small in record { active = was.active; records = was.records; frozen = was.frozen };
       told = λ told config opened h before.
           let later = (row.goes told config opened (with_all h 0 made) (so_far.stands told config opened h before 0) 0).later in
           let numbers = so_far.numbers told in
@@ -415,6 +433,8 @@ module _ (Tells PortsFail : Type 0) (old : View) (asked made left : List Asked) 
     before_one why says = record {
       count = so_far.count;
       stopped = so_far.stopped;
+      writable = so_far.sound.writable;
+      small = so_far.sound.small;
       told = λ told config opened h before.
           let later = (says.goes told config opened (with_all h 0 made) (so_far.stands told config opened h before 0) 0).later in
           let numbers = so_far.numbers told in
@@ -477,6 +497,8 @@ none_placed Tells PortsFail old (next ∷ more) before sound some =
           behind = record {
             count = omega arith;
             stopped = refl;
+            writable = sound.writable;
+            small = sound.small;
             told = λ told config opened h before. (config_since config opened h old before, omega arith);
           };
           faults = old.faults;

@@ -7,10 +7,11 @@ use Rattle.lethe_base.specs.declared.refused.Refused.{Refused}
 use Rattle.lethe_disk.specs.Goes.{Goes}
 use Rattle.lethe_stored.specs.Stored.{Stored}
 use Rattle.lethe_state.specs.Records.{headers_in}
+use Rattle.lethe_state.specs.Writable.{IsWritable}
 use Rattle.lethe_state.specs.declared.state.State.{State}
 use Rattle.lethe_core.specs.Asked.{Failure, failure_of, stopped_by}
 use Rattle.lethe_core.specs.Pinned.{AreKept}
-use Rattle.lethe_core.specs.Running.{Holds, IsSound}
+use Rattle.lethe_core.specs.Running.{Holds, IsSmall, IsSound}
 use Rattle.lethe_core.specs.View.{View, face_of}
 use Rattle.lethe_row.specs.Along.{AreAppended, calls_of, row_behind, tried}
 use Rattle.lethe_row.specs.declared.asking.Asked.{Asked}
@@ -27,10 +28,13 @@ failed_of (Some why) (next ∷ more) = option_map (λ failure. (next, failure)) 
 abbrev pub HaveRoom : List Asked → View → Type 0
 HaveRoom asked view = (view.state.records + length asked ≤ view.state.manifest.config.buffer) × (view.state.count + length asked ≤ max_place)
 
--- What the store remembered where these changes were made and the next one wasn't yet: it counts them, and numbers were drawn no faster than device calls were made.
+-- What the store remembered where these changes were made and the next one wasn't yet: it counts them, its parts are within their limits, and numbers were drawn no faster than
+-- device calls were made.
 pub record IsBehind (Tells : Type 0) (made : List Asked) (old new : View) (state : State) : Type 0 where
   pub count : state.count ≡ old.state.count + length made
   pub stopped : state.stopped ≡ old.state.stopped
+  pub writable : IsWritable state
+  pub small : IsSmall state
   pub told : Tells → (config : Fields) (opened : Opened) (h : History) → StandsSince config opened h old → (state.manifest.config ≡ config) × (state.next + old.disk.moment ≤ old.state.next + new.disk.moment)
 
 -- The change behind those that were made has the reason of a change by itself, by the disk's counts of faults and by the port's, those from before any of them and those of now.
