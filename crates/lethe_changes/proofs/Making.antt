@@ -25,11 +25,16 @@ use Rattle.lethe_manifest.specs.declared.manifest.Manifest.{Manifest}
 use Rattle.lethe_pins.specs.Held.{Held, is_named}
 use Rattle.lethe_state.specs.Records.{headers_in}
 use Rattle.lethe_state.specs.declared.state.State.{State}
+use Rattle.lethe_stored.specs.Kept.{IsKept}
+use Rattle.lethe_stored.specs.Left.{IsKeptOr}
+use Rattle.lethe_stored.specs.Numbers.{GoesFrom}
 use Rattle.lethe_stored.specs.Stored.{Stored}
-use Rattle.lethe_row.specs.Along.{AreAppended, HasGrown, IsAtEnd, calls_of, row_behind, tried, with_all}
+use Rattle.lethe_stored.proofs.Numbers.{goes_from_then, goes_from_weaker}
+use Rattle.lethe_row.specs.Along.{AreAppended, HasGrown, IsAtEnd, IsKeptAlong, calls_of, row_behind, tried, with_all}
+use Rattle.lethe_core.proofs.Standing.{stands_moments}
 use Rattle.lethe_row.specs.Rows.{call_of}
 use Rattle.lethe_row.specs.declared.asking.Asked.{Asked}
-use Rattle.lethe_row.proofs.Along.{none_made, one_longer, with_one_more}
+use Rattle.lethe_row.proofs.Along.{along_none, none_made, one_longer, with_one_more}
 use Rattle.lethe_engine.specs.Answers.{Answers}
 use Rattle.lethe_engine.specs.Refusals.{HasReasonOfChange}
 use Rattle.lethe_engine.specs.Rows.{AnswersRow}
@@ -53,6 +58,30 @@ all_append h caller made more =
     append_assoc h (map (λ change. done_by caller (call_of change)) made) (map (λ change. done_by caller (call_of change)) more)
     ∙ ap (λ l. h ++ l) (sym (map-append (λ change. done_by caller (call_of change)) made more))
 
+-- Fronts of the changes
+
+along_front : (config : Fields) (h : History) (caller : ℕ) (made more : List Asked) (d : Directory) → IsKeptAlong config h caller made d → IsKeptAlong config h caller (made ++ more) d
+along_front config h caller made more d (front, rest, are, kept) = (front, rest ++ more, ap (λ l. l ++ more) are ∙ append_assoc front rest more, kept)
+
+along_behind : (config : Fields) (h : History) (caller : ℕ) (made more : List Asked) (d : Directory) → IsKeptAlong config (with_all h caller made) caller more d → IsKeptAlong config h caller (made ++ more) d
+along_behind config h caller made more d (front, rest, are, kept) =
+    (made ++ front, rest, ap (λ l. made ++ l) are ∙ sym (append_assoc made front rest), subst (IsKept config d) (all_append h caller made front) kept)
+
+along_or : (config : Fields) (h : History) (caller : ℕ) (made : List Asked) (next : Asked) (d : Directory) → IsKeptOr config (with_all h caller made) (Some (done_by caller (call_of next))) d
+    → IsKeptAlong config h caller (made ++ next ∷ []) d
+along_or config h caller made next d (g, inl same, kept) = (made, next ∷ [], refl, subst (IsKept config d) same kept)
+along_or config h caller made next d (g, inr more, kept) = (made ++ next ∷ [], [], sym (append-nil (made ++ next ∷ [])), subst (IsKept config d) (more ∙ with_one_more h caller made next) kept)
+
+-- with the change in which the disk failed, where it did
+along_failed : (config : Fields) (h : History) (caller : ℕ) (made : List Asked) (next : Asked) (f : Option Failure) (d : Directory)
+    → IsKeptOr config (with_all h caller made) (option_map (λ failure. done_by caller (call_of next)) f) d → IsKeptAlong config h caller (tried made (option_map (λ failure. (next, failure)) f)) d
+along_failed config h caller made next None d (g, same, kept) = (made, [], refl, subst (IsKept config d) same kept)
+along_failed config h caller made next (Some failure) d kept = along_or config h caller made next d kept
+
+none_of : (xs : List Asked) → length xs ≡ 0 → xs ≡ []
+none_of [] none = refl
+none_of (x ∷ xs) none = absurd (omega (arith, none))
+
 -- the first of the changes were made, and these are left
 pub record IsMade (Tells : Type 0) (old : View) (asked made left : List Asked) (now : View) : Type 0 where
   pub are : asked ≡ made ++ left
@@ -63,6 +92,8 @@ pub record IsMade (Tells : Type 0) (old : View) (asked made left : List Asked) (
   pub runs : Tells → (config : Fields) (opened : Opened) (h : History) → StandsSince config opened h old → Goes Any old.disk now.disk
   pub numbers : Tells → now.state.next + old.disk.moment ≤ old.state.next + now.disk.moment
   pub faults : old.faults ≤ now.faults
+  pub moments : Tells → (config : Fields) (opened : Opened) (h : History) → StandsSince config opened h old → old.state.stopped ≡ None → (caller : ℕ) → GoesFrom old.state.next (IsKeptAlong config h caller made) old.disk now.disk
+  pub idle : IsSome old.state.stopped → (made ≡ []) × (now.state ≡ old.state) × (now.faults ≡ old.faults)
   pub face : face_of now ≡ record (face_of old) { retired = now.retired }
   pub pinned : Tells → AreKept old.pins.pins old.disk.directory now.disk.directory
 
@@ -76,6 +107,8 @@ none_yet Tells old asked sound = record {
   runs = λ told config opened h before. any_still old.disk;
   numbers = λ told. omega arith;
   faults = omega arith;
+  moments = λ told config opened h before runs caller. along_none config h caller [] old.state.next old.disk old.disk (stands_moments config h old before.now runs sound.writable);
+  idle = λ stopped. (refl, refl, refl);
   face = refl;
   pinned = λ told name named. refl;
 }
@@ -191,6 +224,8 @@ module _ (Tells PortsFail : Type 0) (old : View) (asked made left : List Asked) 
     stopped = so_far.stopped;
     stands = so_far.stands;
     goes = λ told config opened h before caller. goes_by Any config opened h (with_all h caller made) old mid before (so_far.stands told config opened h before caller) (so_far.runs told config opened h before);
+    any_moment = λ told config opened h before runs caller. subst (λ l. GoesFrom old.state.next (IsKeptAlong config h caller l) old.disk mid.disk) (sym (append-nil made)) (so_far.moments told config opened h before runs caller);
+    idle = λ stopped. let was = so_far.idle stopped in (ap length was.0, was.1, was.2);
     calls = λ told none room. calls told room;
     written = λ told none room. written told room;
     numbers = so_far.numbers;
@@ -199,9 +234,28 @@ module _ (Tells PortsFail : Type 0) (old : View) (asked made left : List Asked) 
     pinned = so_far.pinned;
   }
 
+  still_stopped : IsSome old.state.stopped → IsSome mid.state.stopped
+  still_stopped stopped = subst IsSome (sym so_far.stopped) stopped
+
+  -- more of them behind
+  moments_on : Tells → (config : Fields) (opened : Opened) (h : History) → StandsSince config opened h old → old.state.stopped ≡ None → (caller : ℕ) (more : List Asked) (new : View)
+      → GoesFrom mid.state.next (IsKeptAlong config h caller (made ++ more)) mid.disk new.disk → GoesFrom old.state.next (IsKeptAlong config h caller (made ++ more)) old.disk new.disk
+  moments_on told config opened h before runs caller more new run =
+      goes_from_then (IsKeptAlong config h caller (made ++ more)) old.state.next mid.state.next old.disk mid.disk new.disk
+      (goes_from_weaker (IsKeptAlong config h caller made) (IsKeptAlong config h caller (made ++ more)) old.state.next old.disk mid.disk (λ d kept. along_front config h caller made more d kept)
+      (so_far.moments told config opened h before runs caller)) (so_far.numbers told) run
+
   -- A row of them
 
   module _ (left' : List Asked) (done : ℕ) (new : View) where
+    row_moments : (refused : Option Refused) (row : AnswersRow Tells left left' done refused mid new) → Tells → (config : Fields) (opened : Opened) (h : History) → StandsSince config opened h old → old.state.stopped ≡ None → (caller : ℕ)
+        → GoesFrom old.state.next (IsKeptAlong config h caller (made ++ tried row.row.made row.row.failed)) old.disk new.disk
+    row_moments refused row told config opened h before runs caller =
+        let behind = tried row.row.made row.row.failed in
+        moments_on told config opened h before runs caller behind new
+        (goes_from_weaker (IsKeptAlong config (with_all h caller made) caller behind) (IsKeptAlong config h caller (made ++ behind)) mid.state.next mid.disk new.disk (λ d kept. along_behind config h caller made behind d kept)
+        (row.row.any_moment told config (with_all h caller made) (so_far.stands told config opened h before caller).now (so_far.stopped ∙ runs) caller))
+
     pub row_made : (row : AnswersRow Tells left left' done None mid new) → IsMade Tells old asked (made ++ row.row.made) left' new
     row_made row =
         let ended = row.row.ended in
@@ -220,6 +274,12 @@ module _ (Tells PortsFail : Type 0) (old : View) (asked made left : List Asked) 
               (row.goes told config opened (with_all h 0 made) (so_far.stands told config opened h before 0) 0));
           numbers = λ told. let was = so_far.numbers told in let more = row.row.numbers told in omega (arith, was, more);
           faults = let was = so_far.faults in let more = row.row.faults in omega (arith, was, more);
+          moments = λ told config opened h before runs caller. subst (λ l. GoesFrom old.state.next (IsKeptAlong config h caller l) old.disk new.disk)
+              (ap (λ failed. made ++ tried row.row.made failed) ended.0 ∙ ap (λ l. made ++ l) (append-nil row.row.made)) (row_moments None row told config opened h before runs caller);
+          idle = λ stopped.
+              let was = so_far.idle stopped in
+              let is = row.idle (still_stopped stopped) in
+              (ap (λ l. l ++ row.row.made) was.0 ∙ none_of row.row.made (row.row.many ∙ is.0), is.3 ∙ was.1, is.4 ∙ was.2);
           face = faces_then old mid new so_far.face (faces_same mid new row.face_is);
           pinned = λ told. kept_then old mid new (pins_same old mid so_far.face) (so_far.pinned told) (row.row.pinned told);
         }
@@ -280,7 +340,7 @@ module _ (Tells PortsFail : Type 0) (old : View) (asked made left : List Asked) 
               behind = before_it (Fault place before after) row;
               faults = mid.faults;
               later = so_far.faults;
-              fetched = now;
+              port_faults = now;
               since = since;
               reason = inl (
                 never_stopped (Fault place before after) row,
@@ -305,6 +365,9 @@ module _ (Tells PortsFail : Type 0) (old : View) (asked made left : List Asked) 
               (goes_then Any old.disk mid.disk new.disk (so_far.runs told config opened h since')
               (any_goes (IsKeptFor config opened.history (row_behind (with_all h caller made) caller row.row.made row.row.failed)) mid.disk new.disk
               (row.goes told config opened (with_all h caller made) (so_far.stands told config opened h since' caller) caller)));
+          any_moment = λ told config opened h since' runs caller. subst (λ l. GoesFrom old.state.next (IsKeptAlong config h caller l) old.disk new.disk)
+              (ap (λ failed. made ++ tried row.row.made failed) ended.3 ∙ sym (append_assoc made row.row.made (next ∷ []))) (row_moments (Some (Fault place before after)) row told config opened h since' runs caller);
+          idle = λ stopped. absurd (let is = row.idle (still_stopped stopped) in let clash : Some (Fault place before after) ≡ None = is.1 in cc);
           calls = λ told none room. absurd cc;
           written = λ told none room. absurd cc;
           numbers = λ told. let was = so_far.numbers told in let more = row.row.numbers told in omega (arith, was, more);
@@ -332,7 +395,7 @@ module _ (Tells PortsFail : Type 0) (old : View) (asked made left : List Asked) 
               behind = before_it NoMemory row;
               faults = mid.faults;
               later = so_far.faults;
-              fetched = now;
+              port_faults = now;
               since = since;
               reason = inl tt;
             },
@@ -351,6 +414,9 @@ module _ (Tells PortsFail : Type 0) (old : View) (asked made left : List Asked) 
               (goes_then Any old.disk mid.disk new.disk (so_far.runs told config opened h since')
               (any_goes (IsKeptFor config opened.history (row_behind (with_all h caller made) caller row.row.made row.row.failed)) mid.disk new.disk
               (row.goes told config opened (with_all h caller made) (so_far.stands told config opened h since' caller) caller)));
+          any_moment = λ told config opened h since' runs caller. subst (λ l. GoesFrom old.state.next (IsKeptAlong config h caller l) old.disk new.disk)
+              (ap (λ failed. made ++ tried row.row.made failed) ended.0 ∙ sym (append_assoc made row.row.made [])) (row_moments (Some NoMemory) row told config opened h since' runs caller);
+          idle = λ stopped. absurd (let is = row.idle (still_stopped stopped) in let clash : Some NoMemory ≡ None = is.1 in cc);
           calls = λ told none room. absurd cc;
           written = λ told none room. absurd cc;
           numbers = λ told. let was = so_far.numbers told in let more = row.row.numbers told in omega (arith, was, more);
@@ -413,6 +479,12 @@ module _ (Tells PortsFail : Type 0) (old : View) (asked made left : List Asked) 
           (any_goes (IsKeptFor config opened.history (behind (with_all h 0 made) 0 (Makes (call_of next)) None)) mid.disk new.disk (says.goes told config opened (with_all h 0 made) (so_far.stands told config opened h before 0) 0));
       numbers = λ told. let was = so_far.numbers told in let one = says.numbers told in omega (arith, was, one);
       faults = let was = so_far.faults in let one = says.faults in omega (arith, was, one);
+      moments = λ told config opened h before runs caller.
+          let was = with_all h caller made in
+          moments_on told config opened h before runs caller (next ∷ []) new
+          (goes_from_weaker (IsKeptOr config was (Some (done_by caller (call_of next)))) (IsKeptAlong config h caller (made ++ next ∷ [])) mid.state.next mid.disk new.disk (λ d kept. along_or config h caller made next d kept)
+          (says.any_moment told config was (so_far.stands told config opened h before caller).now (so_far.stopped ∙ runs) caller));
+      idle = λ stopped. absurd (none_made_stopped Tells (call_of next) face mid new says (still_stopped stopped));
       face = faces_then old mid new so_far.face (says.face_is ∙ face_is);
       pinned = λ told. one_kept None says told;
     }
@@ -458,7 +530,7 @@ module _ (Tells PortsFail : Type 0) (old : View) (asked made left : List Asked) 
               behind = before_one why says;
               faults = mid.faults;
               later = so_far.faults;
-              fetched = first;
+              port_faults = first;
               since = since;
               reason = reason;
             },
@@ -472,6 +544,13 @@ module _ (Tells PortsFail : Type 0) (old : View) (asked made left : List Asked) 
               (goes_then Any old.disk mid.disk new.disk (so_far.runs told config opened h before)
               (any_goes (IsKeptFor config opened.history (behind (with_all h caller made) caller (Makes (call_of next)) (Some why))) mid.disk new.disk
               (says.goes told config opened (with_all h caller made) (so_far.stands told config opened h before caller) caller)));
+          any_moment = λ told config opened h before runs caller.
+              let was = with_all h caller made in
+              let behind = option_to_list (option_map (λ (f : Asked × Failure). f.0) (option_map (λ failure. (next, failure)) (failure_of why))) in
+              moments_on told config opened h before runs caller behind new
+              (goes_from_weaker (IsKeptOr config was (option_map (λ failure. done_by caller (call_of next)) (failure_of why))) (IsKeptAlong config h caller (made ++ behind)) mid.state.next mid.disk new.disk
+              (λ d kept. along_failed config h caller made next (failure_of why) d kept) (says.any_moment told config was (so_far.stands told config opened h before caller).now (so_far.stopped ∙ runs) caller));
+          idle = λ stopped. let was = so_far.idle stopped in let still = says.still (still_stopped stopped) in (ap length was.0, still.state ∙ was.1, still.faults ∙ was.2);
           calls = λ told none room. absurd cc;
           written = λ told none room. absurd cc;
           numbers = λ told. let was = so_far.numbers told in let one = says.numbers told in omega (arith, was, one);
@@ -503,7 +582,7 @@ none_placed Tells PortsFail old (next ∷ more) before sound some =
           };
           faults = old.faults;
           later = omega arith;
-          fetched = before;
+          port_faults = before;
           since = omega arith;
           reason = inl tt;
         },
@@ -513,6 +592,8 @@ none_placed Tells PortsFail old (next ∷ more) before sound some =
       stopped = refl;
       stands = so_far.stands;
       goes = λ told config opened h before caller. goes_by Any config opened h (with_all h caller []) old old before (so_far.stands told config opened h before caller) (any_still old.disk);
+      any_moment = so_far.moments;
+      idle = λ stopped. (refl, refl, refl);
       calls = λ told none room. absurd cc;
       written = λ told none room. absurd cc;
       numbers = so_far.numbers;

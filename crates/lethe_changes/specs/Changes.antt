@@ -1,10 +1,11 @@
 -- What making a list of changes comes to.
-use Rattle.std.specs.Prelude.{◌≡◌, ◌≤◌, ◌+◌, ℕ, List, [], ◌∷◌, ◌++◌, length, Option, Some, None, option_map}
+use Rattle.std.specs.Prelude.{◌≡◌, ◌≤◌, ◌+◌, ℕ, IsSome, List, [], ◌∷◌, ◌++◌, length, Option, Some, None, option_map}
 use Rattle.lethe_base.specs.History.{History}
 use Rattle.lethe_base.specs.Limits.{max_place}
 use Rattle.lethe_base.specs.declared.config.Fields.{Fields}
 use Rattle.lethe_base.specs.declared.refused.Refused.{Refused}
 use Rattle.lethe_disk.specs.Goes.{Goes}
+use Rattle.lethe_stored.specs.Numbers.{GoesFrom}
 use Rattle.lethe_stored.specs.Stored.{Stored}
 use Rattle.lethe_state.specs.Records.{headers_in}
 use Rattle.lethe_state.specs.Writable.{IsWritable}
@@ -13,7 +14,7 @@ use Rattle.lethe_core.specs.Asked.{Failure, failure_of, stopped_by}
 use Rattle.lethe_core.specs.Pinned.{AreKept}
 use Rattle.lethe_core.specs.Running.{Holds, IsSmall, IsSound}
 use Rattle.lethe_core.specs.View.{View, face_of}
-use Rattle.lethe_row.specs.Along.{AreAppended, calls_of, row_behind, tried}
+use Rattle.lethe_row.specs.Along.{AreAppended, IsKeptAlong, calls_of, row_behind, tried}
 use Rattle.lethe_row.specs.declared.asking.Asked.{Asked}
 use Rattle.lethe_engine.specs.Refusals.{HasReasonAt}
 use Rattle.lethe_engine.specs.StandsFor.{IsKeptFor, Opened, StandsSince}
@@ -43,9 +44,9 @@ pub record IsReason (Tells PortsFail : Type 0) (made : List Asked) (old new : Vi
   pub behind : IsBehind Tells made old new state
   pub faults : ℕ
   pub later : old.faults ≤ faults
-  pub fetched : ℕ
-  pub since : before ≤ fetched
-  pub reason : HasReasonAt Tells PortsFail state faults new fetched now why
+  pub port_faults : ℕ
+  pub since : before ≤ port_faults
+  pub reason : HasReasonAt Tells PortsFail state faults new port_faults now why
 
 -- all changes were made, or the first of those that weren't has a reason
 abbrev pub IsWhy : Type 0 → Type 0 → Option Refused → List Asked → List Asked → View → View → ℕ → ℕ → Type 0
@@ -69,6 +70,11 @@ pub record AnswersAll (Tells PortsFail : Type 0) (asked : List Asked) (done : �
   -- may leave is as it was.
   pub goes : Tells → (config : Fields) (opened : Opened) (h : History) → StandsSince config opened h old → (caller : ℕ)
       → Goes (IsKeptFor config opened.history (row_behind h caller made (failed_of refused rest))) old.disk new.disk
+  -- Where no earlier call failed, what a crash at any moment leaves is kept for the history with the first ones of the changes, none or all of them among these.
+  pub any_moment : Tells → (config : Fields) (opened : Opened) (h : History) → StandsSince config opened h old → old.state.stopped ≡ None → (caller : ℕ)
+      → GoesFrom old.state.next (IsKeptAlong config h caller (tried made (failed_of refused rest))) old.disk new.disk
+  -- a store that was stopped before makes no change
+  pub idle : IsSome old.state.stopped → (done ≡ 0) × (new.state ≡ old.state) × (new.faults ≡ old.faults)
   -- where there was room for all they are one row: three device calls for each and one more, and each record is over what the ones before it left
   pub calls : Tells → refused ≡ None → HaveRoom asked old → new.disk.moment ≡ old.disk.moment + calls_of asked
   pub written : Tells → refused ≡ None → HaveRoom asked old → (s : Stored) → Holds old s → (t : Stored) × AreAppended (headers_in old.levels) s asked t × Holds new t

@@ -1,7 +1,9 @@
 //! Making a list of changes.
-ghost use Rattle.std.specs.Prelude.{◌≡◌, ◌≤◌, ◌<◌, ◌+◌, ◌^◌, [], IfErr, length, vec_capacity};
+ghost use Rattle.std.specs.Prelude.{◌≡◌, ◌≤◌, ◌<◌, ◌+◌, ◌^◌, [], Some, IfErr, IsErrOf, length, vec_capacity};
 ghost use Rattle.std.specs.List.{range_with_len};
 ghost use Rattle.std.specs.Result.{result_err};
+ghost use Rattle.lethe_base.specs.declared.name.Name.{Name};
+ghost use Rattle.lethe_base.specs.declared.refused.Refused.TheVariants.{Damaged};
 ghost use Rattle.lethe_core.specs.Asked.{Makes};
 ghost use Rattle.lethe_core.specs.Running.{IsSound};
 ghost use Rattle.lethe_core.specs.View.{face_of, view_of};
@@ -44,6 +46,8 @@ pub fn change_all<D: Disk>(
     ensures answers { AnswersAll D.tells D.ports_fail asked.items (length result.places.items) result.refused (D.port_faults port.old) (D.port_faults port.new) (view_of engine.old.core) (view_of engine.new.core) }
     ensures places { result.places.items ≡ range_with_len (engine.old.core.state.count + 1) (length result.places.items) }
     ensures port_faults { D.port_faults port.old ≤ D.port_faults port.new }
+    // Where a page is told as damaged, a fetch was made in this call, on any disk.
+    ensures fetched { (name : Name) → result.refused ≡ Some (Damaged name) → D.fetches port.old < D.fetches port.new }
     ensures fetches { D.fetches port.old ≤ D.fetches port.new }
     ensures certificates { engine.new.certificates ≡ engine.old.certificates }
 {
@@ -71,6 +75,7 @@ fn make_all<D: Disk>(
     requires { IsSound D.tells (view_of engine.old.core) }
     ensures answers { AnswersAll D.tells D.ports_fail asked.items result.done result.refused (D.port_faults port.old) (D.port_faults port.new) (view_of engine.old.core) (view_of engine.new.core) }
     ensures port_faults { D.port_faults port.old ≤ D.port_faults port.new }
+    ensures fetched { (name : Name) → result.refused ≡ Some (Damaged name) → D.fetches port.old < D.fetches port.new }
     ensures fetches { D.fetches port.old ≤ D.fetches port.new }
     ensures certificates { engine.new.certificates ≡ engine.old.certificates }
 {
@@ -114,6 +119,7 @@ fn change_one<D: Disk>(
     ensures answers { Answers D.tells (Makes (call_of change)) (result_err result) (record (face_of (view_of engine.old.core)) { retired = (view_of engine.new.core).retired }) (view_of engine.old.core) (view_of engine.new.core) }
     ensures why { IfErr result (HasReasonOfChange D.tells D.ports_fail (view_of engine.old.core) (view_of engine.new.core) (D.port_faults port.old) (D.port_faults port.new)) }
     ensures port_faults { D.port_faults port.old ≤ D.port_faults port.new }
+    ensures fetched { (name : Name) → IsErrOf result (Damaged name) → D.fetches port.old < D.fetches port.new }
     ensures fetches { D.fetches port.old ≤ D.fetches port.new }
     ensures certificates { engine.new.certificates ≡ engine.old.certificates }
 {

@@ -1,5 +1,6 @@
 use Rattle.std.proofs.Common.{rules, ◌≡◌, ◌+◌, [], ◌∷◌, ◌++◌, length, None, Some, refl, sym, ap, ◌∙◌, subst, arith}
 use Rattle.lethe_core.specs.View.{View, face_of, view_of}
+use Rattle.lethe_row.specs.Along.{IsEnded}
 use Rattle.lethe_changes.specs.Changes.{AnswersAll}
 use Rattle.lethe_changes.proofs.Making.{IsFresh, IsMade, all_made, calls_of_all, fresh_at_first, never_fresh, none_yet, one_longer_by, one_made, one_refused, row_ended, row_left, row_made, row_many, row_went, written_all}
 use Rattle.lethe_changes.proofs.changes.make_all.Goals as goal
@@ -108,3 +109,10 @@ returns-in-Err-clause-answers g c =
     subst (λ n. AnswersAll tells Ports c.args.asked.items n (Some c.in-Err.why) (g.D.Disk.port_faults c.args.port.now) (g.D.Disk.port_faults c.change_one.new.port) old then) many
     (one_refused tells Ports old c.args.asked.items (so_far.0 ++ went.row.made) row.new.asked.items new made c.in-Some.change c.pop_front.new.self.items c.in-Some.ensures.items (record (face_of new) { retired = then.retired }) then refl
     (g.D.Disk.port_faults c.args.port.now) (g.D.Disk.port_faults c.loop-alloc.port) (g.D.Disk.port_faults c.change_one.new.port) c.loop-alloc.invariant.port_faults c.in-Err.why c.in-Err.ensures.answers c.in-Err.ensures.why)
+
+-- Where a page is told as damaged
+
+pub returns-then-is_some-clause-fetched : goal.returns-then-is_some-clause-fetched
+returns-then-is_some-clause-fetched g c = λ name is.
+    let says = c.change_row-row.ensures.answers in
+    absurd (subst (λ r. IsEnded r says.row.rest c.change_row-row.new.asked.items says.row.failed (view_of c.loop-alloc.engine.core) (view_of c.change_row-row.new.self.core)) is says.row.ended)
