@@ -20,7 +20,7 @@ use Rattle.lethe_disk.proofs.Going.{goes_then, goes_weaker}
 use Rattle.lethe_core.specs.Asked.{Failure, Makes, behind, done_by, failure_of, stopped_by}
 use Rattle.lethe_core.specs.Pinned.{AreKept}
 use Rattle.lethe_core.specs.Running.{Holds, IsSound}
-use Rattle.lethe_core.specs.View.{Face, View, face_of}
+use Rattle.lethe_core.specs.View.{Face, Flying, View, face_of}
 use Rattle.lethe_manifest.specs.declared.manifest.Manifest.{Manifest}
 use Rattle.lethe_pins.specs.Held.{Held, is_named}
 use Rattle.lethe_state.specs.Records.{headers_in}
@@ -28,9 +28,15 @@ use Rattle.lethe_state.specs.declared.state.State.{State}
 use Rattle.lethe_stored.specs.Kept.{IsKept}
 use Rattle.lethe_stored.specs.Left.{IsKeptOr}
 use Rattle.lethe_stored.specs.Numbers.{GoesFrom}
-use Rattle.lethe_stored.specs.Stored.{Stored}
+use Rattle.lethe_stored.specs.Files.{Parts}
+use Rattle.lethe_stored.specs.Levels.{HasFiles}
+use Rattle.lethe_stored.specs.Stored.{Stored, appended}
+use Rattle.lethe_segment.specs.declared.record.Record.{Record}
+use Rattle.lethe_state.specs.Room.{HasRoom}
+use Rattle.lethe_core.specs.Merges.{IsRoomMadeBy, Outcome}
+use Rattle.lethe_core.proofs.Roomed.{sees_room}
 use Rattle.lethe_stored.proofs.Numbers.{goes_from_then, goes_from_weaker}
-use Rattle.lethe_row.specs.Along.{AreAppended, HasGrown, IsAtEnd, IsKeptAlong, calls_of, row_behind, tried, with_all}
+use Rattle.lethe_row.specs.Along.{AreAppended, HasGrown, IsAtEnd, IsKeptAlong, IsRecordOver, calls_of, row_behind, tried, with_all}
 use Rattle.lethe_core.proofs.Standing.{stands_moments}
 use Rattle.lethe_row.specs.Rows.{call_of}
 use Rattle.lethe_row.specs.declared.asking.Asked.{Asked}
@@ -40,7 +46,7 @@ use Rattle.lethe_engine.specs.Refusals.{HasReasonOfChange}
 use Rattle.lethe_engine.specs.Rows.{AnswersRow}
 use Rattle.lethe_engine.specs.StandsFor.{IsKeptFor, Opened, StandsSince}
 use Rattle.lethe_engine.proofs.Calls.{goes_by}
-use Rattle.lethe_changes.specs.Changes.{AnswersAll, HaveRoom, IsBehind, failed_of}
+use Rattle.lethe_changes.specs.Changes.{AnswersAll, AreMade, HaveRoom, IsBehind, IsMadeAlone, IsRowOver, IsWritten, Round, changes_in, failed_of}
 
 -- any directory
 abbrev Any : Directory → Type 0
@@ -170,6 +176,85 @@ none_made_stopped Tells call face old new says stopped =
     let more = says.count in
     omega (arith, same, more)
 
+-- How they were made
+
+pub alone_of : (flight : Option Flying) (s : Stored) (asked : Asked) (t : Stored) (outcomes : List Outcome) (levels : List (List Parts)) (next : Record) → (HasRoom s → ⊥) → IsRoomMadeBy flight s outcomes t
+    → HasFiles (appended t next) levels → IsRecordOver (headers_in levels) t asked next → IsMadeAlone flight s asked (appended t next)
+alone_of flight s asked t outcomes levels next full (inl room) files over = absurd (full room.0)
+alone_of flight s asked t outcomes levels next full (inr room) files over = record {
+  full = full;
+  outcomes = outcomes;
+  cleared = t;
+  room = room.1;
+  levels = levels;
+  files = files;
+  next = next;
+  over = over;
+  is = refl;
+}
+
+changes_more : (rounds : List Round) (round : Round) → changes_in (rounds ++ round ∷ []) ≡ changes_in rounds ++ (round.row ++ round.alone ∷ [])
+changes_more [] round = append-nil (round.row ++ round.alone ∷ [])
+changes_more (first ∷ more) round =
+    ap (λ l. (first.row ++ first.alone ∷ []) ++ l) (changes_more more round) ∙ sym (append_assoc (first.row ++ first.alone ∷ []) (changes_in more) (round.row ++ round.alone ∷ []))
+
+made_more : (flight : Option Flying) (rounds : List Round) (round : Round) (s m full then : Stored) → AreMade flight rounds s m → IsRowOver m round.row full → IsMadeAlone flight full round.alone then → AreMade flight (rounds ++ round ∷ []) s then
+made_more flight [] round s m full then same row alone = (full, then, subst (λ x. IsRowOver x round.row full) same row, alone, refl)
+made_more flight (first ∷ others) round s m full then made row alone = (made.0, made.1, made.2, made.3, made_more flight others round made.1 m full then made.4 row alone)
+
+-- so many rounds were made
+abbrev pub AreRounds : Type 0 → View → List Asked → View → Type 0
+AreRounds Tells old made now = Tells → (s : Stored) → Holds old s → (rounds : List Round) × (made ≡ changes_in rounds) × (m : Stored) × AreMade old.flight rounds s m × Holds now m
+
+pub no_rounds : (Tells : Type 0) (old : View) → AreRounds Tells old [] old
+no_rounds Tells old told s holds = ([], refl, s, refl, holds)
+
+row_over : (Tells : Type 0) (left left' : List Asked) (done : ℕ) (mid new : View) (row : AnswersRow Tells left left' done None mid new) → Tells → (s : Stored) → Holds mid s → (t : Stored) × IsRowOver s row.row.made t × Holds new t
+row_over Tells left left' done mid new row told s holds = let to = row.row.written told row.row.ended.0 s holds in (to.0, (mid.levels, holds.remembers.files, to.1), to.2)
+
+-- a row that a change follows had no room for it
+no_room : (Tells : Type 0) (left left' : List Asked) (done : ℕ) (mid new then : View) (row : AnswersRow Tells left left' done None mid new) (next : Asked) (more : List Asked) (face : Face) → left' ≡ next ∷ more
+    → Answers Tells (Makes (call_of next)) None face new then → (s : Stored) → Holds new s → HasRoom s → ⊥
+no_room Tells left left' done mid new then row next more face is says s holds room = by row.row.ended.2
+  where
+    by : (row.row.rest ≡ []) ⊎ IsAtEnd new → ⊥
+    by (inl none) = let clash : next ∷ more ≡ [] = sym is ∙ row.row.ended.1 ∙ none in cc
+    by (inr (inl stopped)) = none_made_stopped Tells (call_of next) face new then says stopped
+    by (inr (inr (inl full))) = let sees = sees_room new s holds room in omega (arith, full, sees)
+    by (inr (inr (inr used))) = let count = says.count in let few = says.sound.writable.count in omega (arith, used, count, few)
+
+pub round_made : (Tells : Type 0) (old mid new then : View) (made left left' more : List Asked) (done : ℕ) (next : Asked) (face : Face) (row : AnswersRow Tells left left' done None mid new) → left' ≡ next ∷ more → new.flight ≡ old.flight
+    → Answers Tells (Makes (call_of next)) None face new then → (Tells → (s : Stored) → Holds new s → (HasRoom s → ⊥) → (t : Stored) × IsMadeAlone new.flight s next t × Holds then t) → AreRounds Tells old made mid
+    → AreRounds Tells old ((made ++ row.row.made) ++ next ∷ []) then
+round_made Tells old mid new then made left left' more done next face row is flight says alone head told s holds =
+    let so = head told s holds in
+    let full = row_over Tells left left' done mid new row told so.2 so.4 in
+    let to = alone told full.0 full.2 (no_room Tells left left' done mid new then row next more face is says full.0 full.2) in
+    let round : Round = record { row = row.row.made; alone = next } in (
+      so.0 ++ round ∷ [],
+      ap (λ l. (l ++ row.row.made) ++ next ∷ []) so.1 ∙ append_assoc (changes_in so.0) row.row.made (next ∷ []) ∙ sym (changes_more so.0 round),
+      to.0,
+      made_more old.flight so.0 round s so.2 full.0 to.0 so.3 full.1 (subst (λ flight. IsMadeAlone flight full.0 next to.0) flight to.1),
+      to.2,
+    )
+
+pub all_written : (Tells : Type 0) (old mid new : View) (asked made left left' : List Asked) (done : ℕ) (row : AnswersRow Tells left left' done None mid new) → asked ≡ (made ++ row.row.made) ++ left' → left' ≡ [] → AreRounds Tells old made mid
+    → Tells → (s : Stored) → Holds old s → (t : Stored) × IsWritten old.flight asked s t × Holds new t
+all_written Tells old mid new asked made left left' done row are none head told s holds =
+    let so = head told s holds in
+    let to = row_over Tells left left' done mid new row told so.2 so.4 in (
+      to.0,
+      record {
+        rounds = so.0;
+        last = row.row.made;
+        are = are ∙ ap (λ l. (made ++ row.row.made) ++ l) none ∙ append-nil (made ++ row.row.made) ∙ ap (λ l. l ++ row.row.made) so.1;
+        middle = so.2;
+        made = so.3;
+        row = to.1;
+      },
+      to.2,
+    )
+
 -- Nothing was done yet where there is room for all: these are all that was asked, and the store is as it was.
 pub record IsFresh (Tells : Type 0) (old : View) (asked left : List Asked) (now : View) : Type 0 where
   pub all : left ≡ asked
@@ -211,9 +296,9 @@ module _ (Tells : Type 0) (old mid new : View) (asked left left' : List Asked) (
 
 module _ (Tells PortsFail : Type 0) (old : View) (asked made left : List Asked) (mid : View) (so_far : IsMade Tells old asked made left mid) where
   -- all were made
-  pub all_made : (before now : ℕ) → left ≡ [] → (Tells → HaveRoom asked old → mid.disk.moment ≡ old.disk.moment + calls_of asked)
+  pub all_made : (before now : ℕ) → left ≡ [] → (Tells → (s : Stored) → Holds old s → (t : Stored) × IsWritten old.flight asked s t × Holds mid t) → (Tells → HaveRoom asked old → mid.disk.moment ≡ old.disk.moment + calls_of asked)
       → (Tells → HaveRoom asked old → (s : Stored) → Holds old s → (t : Stored) × AreAppended (headers_in old.levels) s asked t × Holds mid t) → AnswersAll Tells PortsFail asked (length made) None before now old mid
-  all_made before now none calls written = record {
+  all_made before now none rows calls written = record {
     made = made;
     rest = left;
     are = so_far.are;
@@ -226,6 +311,7 @@ module _ (Tells PortsFail : Type 0) (old : View) (asked made left : List Asked) 
     goes = λ told config opened h before caller. goes_by Any config opened h (with_all h caller made) old mid before (so_far.stands told config opened h before caller) (so_far.runs told config opened h before);
     any_moment = λ told config opened h before runs caller. subst (λ l. GoesFrom old.state.next (IsKeptAlong config h caller l) old.disk mid.disk) (sym (append-nil made)) (so_far.moments told config opened h before runs caller);
     idle = λ stopped. let was = so_far.idle stopped in (ap length was.0, was.1, was.2);
+    rows = λ told none. rows told;
     calls = λ told none room. calls told room;
     written = λ told none room. written told room;
     numbers = so_far.numbers;
@@ -368,6 +454,7 @@ module _ (Tells PortsFail : Type 0) (old : View) (asked made left : List Asked) 
           any_moment = λ told config opened h since' runs caller. subst (λ l. GoesFrom old.state.next (IsKeptAlong config h caller l) old.disk new.disk)
               (ap (λ failed. made ++ tried row.row.made failed) ended.3 ∙ sym (append_assoc made row.row.made (next ∷ []))) (row_moments (Some (Fault place before after)) row told config opened h since' runs caller);
           idle = λ stopped. absurd (let is = row.idle (still_stopped stopped) in let clash : Some (Fault place before after) ≡ None = is.1 in cc);
+          rows = λ told none. absurd cc;
           calls = λ told none room. absurd cc;
           written = λ told none room. absurd cc;
           numbers = λ told. let was = so_far.numbers told in let more = row.row.numbers told in omega (arith, was, more);
@@ -417,6 +504,7 @@ module _ (Tells PortsFail : Type 0) (old : View) (asked made left : List Asked) 
           any_moment = λ told config opened h since' runs caller. subst (λ l. GoesFrom old.state.next (IsKeptAlong config h caller l) old.disk new.disk)
               (ap (λ failed. made ++ tried row.row.made failed) ended.0 ∙ sym (append_assoc made row.row.made [])) (row_moments (Some NoMemory) row told config opened h since' runs caller);
           idle = λ stopped. absurd (let is = row.idle (still_stopped stopped) in let clash : Some NoMemory ≡ None = is.1 in cc);
+          rows = λ told none. absurd cc;
           calls = λ told none room. absurd cc;
           written = λ told none room. absurd cc;
           numbers = λ told. let was = so_far.numbers told in let more = row.row.numbers told in omega (arith, was, more);
@@ -551,6 +639,7 @@ module _ (Tells PortsFail : Type 0) (old : View) (asked made left : List Asked) 
               (goes_from_weaker (IsKeptOr config was (option_map (λ failure. done_by caller (call_of next)) (failure_of why))) (IsKeptAlong config h caller (made ++ behind)) mid.state.next mid.disk new.disk
               (λ d kept. along_failed config h caller made next (failure_of why) d kept) (says.any_moment told config was (so_far.stands told config opened h before caller).now (so_far.stopped ∙ runs) caller));
           idle = λ stopped. let was = so_far.idle stopped in let still = says.still (still_stopped stopped) in (ap length was.0, still.state ∙ was.1, still.faults ∙ was.2);
+          rows = λ told none. absurd cc;
           calls = λ told none room. absurd cc;
           written = λ told none room. absurd cc;
           numbers = λ told. let was = so_far.numbers told in let one = says.numbers told in omega (arith, was, one);
@@ -594,6 +683,7 @@ none_placed Tells PortsFail old (next ∷ more) before sound some =
       goes = λ told config opened h before caller. goes_by Any config opened h (with_all h caller []) old old before (so_far.stands told config opened h before caller) (any_still old.disk);
       any_moment = so_far.moments;
       idle = λ stopped. (refl, refl, refl);
+      rows = λ told none. absurd cc;
       calls = λ told none room. absurd cc;
       written = λ told none room. absurd cc;
       numbers = so_far.numbers;

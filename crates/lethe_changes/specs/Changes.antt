@@ -1,20 +1,25 @@
 -- What making a list of changes comes to.
-use Rattle.std.specs.Prelude.{◌≡◌, ◌≤◌, ◌+◌, ℕ, IsSome, List, [], ◌∷◌, ◌++◌, length, Option, Some, None, option_map}
+use Rattle.std.specs.Prelude.{◌≡◌, ◌≤◌, ◌+◌, ℕ, IsSome, List, [], ◌∷◌, ◌++◌, flat_map, length, Option, Some, None, option_map}
 use Rattle.lethe_base.specs.History.{History}
 use Rattle.lethe_base.specs.Limits.{max_place}
 use Rattle.lethe_base.specs.declared.config.Fields.{Fields}
 use Rattle.lethe_base.specs.declared.refused.Refused.{Refused}
 use Rattle.lethe_disk.specs.Goes.{Goes}
+use Rattle.lethe_stored.specs.Files.{Parts}
+use Rattle.lethe_stored.specs.Levels.{HasFiles}
 use Rattle.lethe_stored.specs.Numbers.{GoesFrom}
-use Rattle.lethe_stored.specs.Stored.{Stored}
+use Rattle.lethe_stored.specs.Stored.{Stored, appended}
+use Rattle.lethe_segment.specs.declared.record.Record.{Record}
+use Rattle.lethe_state.specs.Room.{HasRoom}
 use Rattle.lethe_state.specs.Records.{headers_in}
 use Rattle.lethe_state.specs.Writable.{IsWritable}
 use Rattle.lethe_state.specs.declared.state.State.{State}
 use Rattle.lethe_core.specs.Asked.{Failure, failure_of, stopped_by}
+use Rattle.lethe_core.specs.Merges.{IsCleared, Outcome}
 use Rattle.lethe_core.specs.Pinned.{AreKept}
 use Rattle.lethe_core.specs.Running.{Holds, IsSmall, IsSound}
-use Rattle.lethe_core.specs.View.{View, face_of}
-use Rattle.lethe_row.specs.Along.{AreAppended, IsKeptAlong, calls_of, row_behind, tried}
+use Rattle.lethe_core.specs.View.{Flying, View, face_of}
+use Rattle.lethe_row.specs.Along.{AreAppended, IsKeptAlong, IsRecordOver, calls_of, row_behind, tried}
 use Rattle.lethe_row.specs.declared.asking.Asked.{Asked}
 use Rattle.lethe_engine.specs.Refusals.{HasReasonAt}
 use Rattle.lethe_engine.specs.StandsFor.{IsKeptFor, Opened, StandsSince}
@@ -53,6 +58,44 @@ abbrev pub IsWhy : Type 0 → Type 0 → Option Refused → List Asked → List 
 IsWhy Tells PortsFail None made rest old new before now = rest ≡ []
 IsWhy Tells PortsFail (Some why) made rest old new before now = ((next : Asked) × (more : List Asked) × (rest ≡ next ∷ more)) × IsReason Tells PortsFail made old new before now why
 
+-- the changes of a row: each record is over what the ones before it left, with the same files below
+abbrev pub IsRowOver : Stored → List Asked → Stored → Type 0
+IsRowOver s row t = (levels : List (List Parts)) × HasFiles s levels × AreAppended (headers_in levels) s row t
+
+-- A change that made room first, where there was none: its record is over what that left.
+pub record IsMadeAlone (flight : Option Flying) (s : Stored) (asked : Asked) (t : Stored) : Type 0 where
+  pub full : HasRoom s → ⊥
+  pub outcomes : List Outcome
+  pub cleared : Stored
+  pub room : IsCleared flight s outcomes cleared
+  pub levels : List (List Parts)
+  pub files : HasFiles t levels
+  pub next : Record
+  pub over : IsRecordOver (headers_in levels) cleared asked next
+  pub is : t ≡ appended cleared next
+
+-- a row, and the change behind it, which made room
+pub record Round : Type 0 where
+  pub row : List Asked
+  pub alone : Asked
+
+abbrev pub changes_in : List Round → List Asked
+changes_in rounds = flat_map (λ round. round.row ++ round.alone ∷ []) rounds
+
+-- they were made one after another
+abbrev pub AreMade : Option Flying → List Round → Stored → Stored → Type 0
+AreMade flight [] s t = t ≡ s
+AreMade flight (round ∷ more) s t = (full : Stored) × (then : Stored) × IsRowOver s round.row full × IsMadeAlone flight full round.alone then × AreMade flight more then t
+
+-- All changes were made in rows, and between two rows one that made room.
+pub record IsWritten (flight : Option Flying) (asked : List Asked) (s t : Stored) : Type 0 where
+  pub rounds : List Round
+  pub last : List Asked
+  pub are : asked ≡ changes_in rounds ++ last
+  pub middle : Stored
+  pub made : AreMade flight rounds s middle
+  pub row : IsRowOver middle last t
+
 -- So many changes were made, the first ones of those that were asked, and the next one wasn't for this reason, if any is left; by the port's counts of faults before and now.
 pub record AnswersAll (Tells PortsFail : Type 0) (asked : List Asked) (done : ℕ) (refused : Option Refused) (before now : ℕ) (old new : View) : Type 0 where
   pub made : List Asked
@@ -75,7 +118,9 @@ pub record AnswersAll (Tells PortsFail : Type 0) (asked : List Asked) (done : �
       → GoesFrom old.state.next (IsKeptAlong config h caller (tried made (failed_of refused rest))) old.disk new.disk
   -- a store that was stopped before makes no change
   pub idle : IsSome old.state.stopped → (done ≡ 0) × (new.state ≡ old.state) × (new.faults ≡ old.faults)
-  -- where there was room for all they are one row: three device calls for each and one more, and each record is over what the ones before it left
+  -- all of them were made, each over what the ones before it left
+  pub rows : Tells → refused ≡ None → (s : Stored) → Holds old s → (t : Stored) × IsWritten old.flight asked s t × Holds new t
+  -- where there was room for all they are one row, of three device calls for each and one more
   pub calls : Tells → refused ≡ None → HaveRoom asked old → new.disk.moment ≡ old.disk.moment + calls_of asked
   pub written : Tells → refused ≡ None → HaveRoom asked old → (s : Stored) → Holds old s → (t : Stored) × AreAppended (headers_in old.levels) s asked t × Holds new t
   pub numbers : Tells → new.state.next + old.disk.moment ≤ old.state.next + new.disk.moment

@@ -1,16 +1,18 @@
 //! Making a list of changes.
-ghost use Rattle.std.specs.Prelude.{◌≡◌, ◌≤◌, ◌<◌, ◌+◌, ◌^◌, [], Some, IfErr, IsErrOf, length, vec_capacity};
+ghost use Rattle.std.specs.Prelude.{◌≡◌, ◌≤◌, ◌<◌, ◌+◌, ◌^◌, [], Some, IfErr, IsErrOf, OnOk, length, vec_capacity};
 ghost use Rattle.std.specs.List.{range_with_len};
 ghost use Rattle.std.specs.Result.{result_err};
 ghost use Rattle.lethe_base.specs.declared.name.Name.{Name};
 ghost use Rattle.lethe_base.specs.declared.refused.Refused.TheVariants.{Damaged};
 ghost use Rattle.lethe_core.specs.Asked.{Makes};
-ghost use Rattle.lethe_core.specs.Running.{IsSound};
+ghost use Rattle.lethe_stored.specs.Stored.{Stored};
+ghost use Rattle.lethe_state.specs.Room.{HasRoom};
+ghost use Rattle.lethe_core.specs.Running.{Holds, IsSound};
 ghost use Rattle.lethe_core.specs.View.{face_of, view_of};
 ghost use Rattle.lethe_row.specs.Rows.{call_of};
 ghost use Rattle.lethe_engine.specs.Answers.{Answers};
 ghost use Rattle.lethe_engine.specs.Refusals.{HasReasonOfChange};
-ghost use Rattle.lethe_changes.specs.Changes.{AnswersAll};
+ghost use Rattle.lethe_changes.specs.Changes.{AnswersAll, IsMadeAlone};
 
 use lethe_base::Refused;
 use lethe_disk::Disk;
@@ -119,6 +121,8 @@ fn change_one<D: Disk>(
     ensures answers { Answers D.tells (Makes (call_of change)) (result_err result) (record (face_of (view_of engine.old.core)) { retired = (view_of engine.new.core).retired }) (view_of engine.old.core) (view_of engine.new.core) }
     ensures why { IfErr result (HasReasonOfChange D.tells D.ports_fail (view_of engine.old.core) (view_of engine.new.core) (D.port_faults port.old) (D.port_faults port.new)) }
     ensures port_faults { D.port_faults port.old ≤ D.port_faults port.new }
+    ensures written { D.tells → (s : Stored) → Holds (view_of engine.old.core) s → (HasRoom s → ⊥)
+        → OnOk result ((t : Stored) × IsMadeAlone (view_of engine.old.core).flight s change t × Holds (view_of engine.new.core) t) }
     ensures fetched { (name : Name) → IsErrOf result (Damaged name) → D.fetches port.old < D.fetches port.new }
     ensures fetches { D.fetches port.old ≤ D.fetches port.new }
     ensures certificates { engine.new.certificates ≡ engine.old.certificates }

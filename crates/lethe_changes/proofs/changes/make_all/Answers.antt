@@ -1,8 +1,8 @@
 use Rattle.std.proofs.Common.{rules, ◌≡◌, ◌+◌, [], ◌∷◌, ◌++◌, length, None, Some, refl, sym, ap, ◌∙◌, subst, arith}
-use Rattle.lethe_core.specs.View.{View, face_of, view_of}
+use Rattle.lethe_core.specs.View.{Face, View, face_of, view_of}
 use Rattle.lethe_row.specs.Along.{IsEnded}
 use Rattle.lethe_changes.specs.Changes.{AnswersAll}
-use Rattle.lethe_changes.proofs.Making.{IsFresh, IsMade, all_made, calls_of_all, fresh_at_first, never_fresh, none_yet, one_longer_by, one_made, one_refused, row_ended, row_left, row_made, row_many, row_went, written_all}
+use Rattle.lethe_changes.proofs.Making.{IsFresh, IsMade, all_made, all_written, calls_of_all, fresh_at_first, never_fresh, no_rounds, none_yet, one_longer_by, one_made, one_refused, round_made, row_ended, row_left, row_made, row_many, row_went, written_all}
 use Rattle.lethe_changes.proofs.changes.make_all.Goals as goal
 
 pub loop-alloc-init : goal.loop-alloc-init
@@ -10,7 +10,7 @@ loop-alloc-init g c =
     let old = view_of c.args.engine.now.core in
     let all : c.from-left.result.items ≡ c.args.asked.items = search rules in
     record {
-      so_far = ([], refl, subst (λ left. IsMade g.D.Disk.tells old c.args.asked.items [] left old) (sym all) (none_yet g.D.Disk.tells old c.args.asked.items c.requires));
+      so_far = ([], refl, subst (λ left. IsMade g.D.Disk.tells old c.args.asked.items [] left old) (sym all) (none_yet g.D.Disk.tells old c.args.asked.items c.requires), no_rounds g.D.Disk.tells old);
       fresh = λ room. subst (λ left. IsFresh g.D.Disk.tells old c.args.asked.items left old) (sym all) (fresh_at_first g.D.Disk.tells old c.args.asked.items room);
       port_faults = omega arith;
       fetches = omega arith;
@@ -45,8 +45,9 @@ returns-in_default-clause-answers g c =
     let before = g.D.Disk.port_faults c.args.port.now in
     let now = g.D.Disk.port_faults c.loop-alloc.port in
     let calls = calls_of_all tells old mid new c.args.asked.items c.loop-alloc.left.items left row.result.done c.loop-alloc.invariant.fresh went none in
+    let rows = all_written tells old mid new c.args.asked.items so_far.0 c.loop-alloc.left.items left row.result.done went made.are none so_far.3 in
     let written = written_all tells old mid new c.args.asked.items c.loop-alloc.left.items left row.result.done c.loop-alloc.invariant.fresh went none in
-    subst (λ n. AnswersAll tells Ports c.args.asked.items n None before now old new) many (all_made tells Ports old c.args.asked.items (so_far.0 ++ went.row.made) left new made before now none calls written)
+    subst (λ n. AnswersAll tells Ports c.args.asked.items n None before now old new) many (all_made tells Ports old c.args.asked.items (so_far.0 ++ went.row.made) left new made before now none rows calls written)
 
 -- One more, which made room
 
@@ -83,6 +84,8 @@ loop-alloc-preserved g c =
         one_longer_by (so_far.0 ++ went.row.made) c.in-Some.change (c.loop-alloc.done + row.result.done) many,
         one_made tells Ports old c.args.asked.items (so_far.0 ++ went.row.made) row.new.asked.items new made c.in-Some.change c.pop_front.new.self.items c.in-Some.ensures.items
             (record (face_of new) { retired = then.retired }) then refl c.in-Ok.ensures.answers,
+        round_made tells old mid new then so_far.0 c.loop-alloc.left.items row.new.asked.items c.pop_front.new.self.items row.result.done c.in-Some.change (record (face_of new) { retired = then.retired }) went c.in-Some.ensures.items
+            (ap (λ (face : Face). face.flight) made.face) c.in-Ok.ensures.answers c.in-Ok.ensures.written so_far.3,
       );
       fresh = never_fresh tells old mid new then c.args.asked.items c.loop-alloc.left.items row.new.asked.items c.pop_front.new.self.items c.pop_front.new.self.items row.result.done c.in-Some.change
           (record (face_of new) { retired = then.retired }) c.loop-alloc.invariant.fresh went c.in-Some.ensures.items c.in-Ok.ensures.answers;

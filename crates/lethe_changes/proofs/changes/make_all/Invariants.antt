@@ -2,13 +2,14 @@ use Rattle.std.proofs.Common.{◌≡◌, ◌≤◌, List, length}
 use Rattle.lethe_core.specs.View.{view_of}
 use Rattle.lethe_row.specs.declared.asking.Asked.{Asked}
 use Rattle.lethe_changes.specs.Changes.{HaveRoom}
-use Rattle.lethe_changes.proofs.Making.{IsFresh, IsMade}
+use Rattle.lethe_changes.proofs.Making.{AreRounds, IsFresh, IsMade}
 use Rattle.lethe_changes.proofs.changes.make_all.Given as goal
 
 -- the first changes were made, of which there is none yet where there is room for all
 abbrev pub invariant-loop-alloc : goal.invariant-loop-alloc
 invariant-loop-alloc g l = record {
-  so_far : (made : List Asked) × (length made ≡ l.done) × IsMade g.D.Disk.tells (view_of l.fn.engine.core) l.fn.asked.items made l.left.items (view_of l.engine.core);
+  so_far : (made : List Asked) × (length made ≡ l.done) × IsMade g.D.Disk.tells (view_of l.fn.engine.core) l.fn.asked.items made l.left.items (view_of l.engine.core)
+      × AreRounds g.D.Disk.tells (view_of l.fn.engine.core) made (view_of l.engine.core);
   fresh : HaveRoom l.fn.asked.items (view_of l.fn.engine.core) → IsFresh g.D.Disk.tells (view_of l.fn.engine.core) l.fn.asked.items l.left.items (view_of l.engine.core);
   port_faults : g.D.Disk.port_faults l.fn.port ≤ g.D.Disk.port_faults l.port;
   fetches : g.D.Disk.fetches l.fn.port ≤ g.D.Disk.fetches l.port;
