@@ -33,15 +33,16 @@ use Rattle.lethe_stored.specs.Levels.{HasFiles}
 use Rattle.lethe_stored.specs.Stored.{Stored, appended}
 use Rattle.lethe_segment.specs.declared.record.Record.{Record}
 use Rattle.lethe_state.specs.Room.{HasRoom}
-use Rattle.lethe_core.specs.Merges.{IsRoomMadeBy, Outcome}
+use Rattle.lethe_core.specs.Merges.{IsRoomBegun, IsRoomMadeBy, Outcome}
 use Rattle.lethe_core.proofs.Roomed.{sees_room}
 use Rattle.lethe_stored.proofs.Numbers.{goes_from_then, goes_from_weaker}
 use Rattle.lethe_row.specs.Along.{AreAppended, HasGrown, IsAtEnd, IsKeptAlong, IsRecordOver, calls_of, row_behind, tried, with_all}
 use Rattle.lethe_core.proofs.Standing.{stands_moments}
 use Rattle.lethe_row.specs.Rows.{call_of}
 use Rattle.lethe_row.specs.declared.asking.Asked.{Asked}
+use Rattle.lethe_row.specs.declared.asking.Asked.TheVariants.{Put, Delete, Erase}
 use Rattle.lethe_row.proofs.Along.{along_none, none_made, one_longer, with_one_more}
-use Rattle.lethe_engine.specs.Answers.{Answers}
+use Rattle.lethe_engine.specs.Answers.{Answers, IsBegun}
 use Rattle.lethe_engine.specs.Refusals.{HasReasonOfChange}
 use Rattle.lethe_engine.specs.Rows.{AnswersRow}
 use Rattle.lethe_engine.specs.StandsFor.{IsKeptFor, Opened, StandsSince}
@@ -209,8 +210,9 @@ AreRounds Tells old made now = Tells → (s : Stored) → Holds old s → (round
 pub no_rounds : (Tells : Type 0) (old : View) → AreRounds Tells old [] old
 no_rounds Tells old told s holds = ([], refl, s, refl, holds)
 
-row_over : (Tells : Type 0) (left left' : List Asked) (done : ℕ) (mid new : View) (row : AnswersRow Tells left left' done None mid new) → Tells → (s : Stored) → Holds mid s → (t : Stored) × IsRowOver s row.row.made t × Holds new t
-row_over Tells left left' done mid new row told s holds = let to = row.row.written told row.row.ended.0 s holds in (to.0, (mid.levels, holds.remembers.files, to.1), to.2)
+row_over : (Tells : Type 0) (left left' : List Asked) (done : ℕ) (refused : Option Refused) (mid new : View) (row : AnswersRow Tells left left' done refused mid new) → row.row.failed ≡ None → Tells → (s : Stored) → Holds mid s
+    → (t : Stored) × IsRowOver s row.row.made t × Holds new t
+row_over Tells left left' done refused mid new row none told s holds = let to = row.row.written told none s holds in (to.0, (mid.levels, holds.remembers.files, to.1), to.2)
 
 -- a row that a change follows had no room for it
 no_room : (Tells : Type 0) (left left' : List Asked) (done : ℕ) (mid new then : View) (row : AnswersRow Tells left left' done None mid new) (next : Asked) (more : List Asked) (face : Face) → left' ≡ next ∷ more
@@ -228,7 +230,7 @@ pub round_made : (Tells : Type 0) (old mid new then : View) (made left left' mor
     → AreRounds Tells old ((made ++ row.row.made) ++ next ∷ []) then
 round_made Tells old mid new then made left left' more done next face row is flight says alone head told s holds =
     let so = head told s holds in
-    let full = row_over Tells left left' done mid new row told so.2 so.4 in
+    let full = row_over Tells left left' done None mid new row row.row.ended.0 told so.2 so.4 in
     let to = alone told full.0 full.2 (no_room Tells left left' done mid new then row next more face is says full.0 full.2) in
     let round : Round = record { row = row.row.made; alone = next } in (
       so.0 ++ round ∷ [],
@@ -238,18 +240,22 @@ round_made Tells old mid new then made left left' more done next face row is fli
       to.2,
     )
 
-pub all_written : (Tells : Type 0) (old mid new : View) (asked made left left' : List Asked) (done : ℕ) (row : AnswersRow Tells left left' done None mid new) → asked ≡ (made ++ row.row.made) ++ left' → left' ≡ [] → AreRounds Tells old made mid
-    → Tells → (s : Stored) → Holds old s → (t : Stored) × IsWritten old.flight asked s t × Holds new t
-all_written Tells old mid new asked made left left' done row are none head told s holds =
+-- what is written of those that were made
+abbrev pub AreWritten : Type 0 → View → List Asked → View → Type 0
+AreWritten Tells old made now = Tells → (s : Stored) → Holds old s → (t : Stored) × IsWritten old.flight made s t × Holds now t
+
+pub row_written : (Tells : Type 0) (old mid new : View) (made left left' : List Asked) (done : ℕ) (refused : Option Refused) (row : AnswersRow Tells left left' done refused mid new) → row.row.failed ≡ None → AreRounds Tells old made mid
+    → AreWritten Tells old (made ++ row.row.made) new
+row_written Tells old mid new made left left' done refused row none head told s holds =
     let so = head told s holds in
-    let to = row_over Tells left left' done mid new row told so.2 so.4 in (
+    let to = row_over Tells left left' done refused mid new row none told so.2 so.4 in (
       to.0,
       record {
         rounds = so.0;
         last = row.row.made;
-        are = are ∙ ap (λ l. (made ++ row.row.made) ++ l) none ∙ append-nil (made ++ row.row.made) ∙ ap (λ l. l ++ row.row.made) so.1;
+        are = ap (λ l. l ++ row.row.made) so.1;
         middle = so.2;
-        made = so.3;
+        before = so.3;
         row = to.1;
       },
       to.2,
@@ -296,7 +302,7 @@ module _ (Tells : Type 0) (old mid new : View) (asked left left' : List Asked) (
 
 module _ (Tells PortsFail : Type 0) (old : View) (asked made left : List Asked) (mid : View) (so_far : IsMade Tells old asked made left mid) where
   -- all were made
-  pub all_made : (before now : ℕ) → left ≡ [] → (Tells → (s : Stored) → Holds old s → (t : Stored) × IsWritten old.flight asked s t × Holds mid t) → (Tells → HaveRoom asked old → mid.disk.moment ≡ old.disk.moment + calls_of asked)
+  pub all_made : (before now : ℕ) → left ≡ [] → AreWritten Tells old made mid → (Tells → HaveRoom asked old → mid.disk.moment ≡ old.disk.moment + calls_of asked)
       → (Tells → HaveRoom asked old → (s : Stored) → Holds old s → (t : Stored) × AreAppended (headers_in old.levels) s asked t × Holds mid t) → AnswersAll Tells PortsFail asked (length made) None before now old mid
   all_made before now none rows calls written = record {
     made = made;
@@ -311,7 +317,7 @@ module _ (Tells PortsFail : Type 0) (old : View) (asked made left : List Asked) 
     goes = λ told config opened h before caller. goes_by Any config opened h (with_all h caller made) old mid before (so_far.stands told config opened h before caller) (so_far.runs told config opened h before);
     any_moment = λ told config opened h before runs caller. subst (λ l. GoesFrom old.state.next (IsKeptAlong config h caller l) old.disk mid.disk) (sym (append-nil made)) (so_far.moments told config opened h before runs caller);
     idle = λ stopped. let was = so_far.idle stopped in (ap length was.0, was.1, was.2);
-    rows = λ told none. rows told;
+    rows = λ told none s holds. let to = rows told s holds in (to.0, to.0, to.1, refl, to.2);
     calls = λ told none room. calls told room;
     written = λ told none room. written told room;
     numbers = so_far.numbers;
@@ -403,8 +409,8 @@ module _ (Tells PortsFail : Type 0) (old : View) (asked made left : List Asked) 
     never_stopped why row = not_some mid.state.stopped (λ stopped. let idle = row.idle stopped in let clash : Some why ≡ None = idle.1 in cc)
 
     -- in which one failed, or for one of which there was no memory
-    pub row_refused : (before now : ℕ) → before ≤ now → (why : Refused) → AnswersRow Tells left left' done (Some why) mid new → AnswersAll Tells PortsFail asked (length made + done) (Some why) before now old new
-    row_refused before' now since (Fault place before after) row =
+    pub row_refused : (before now : ℕ) → before ≤ now → AreRounds Tells old made mid → (why : Refused) → AnswersRow Tells left left' done (Some why) mid new → AnswersAll Tells PortsFail asked (length made + done) (Some why) before now old new
+    row_refused before' now since head (Fault place before after) row =
         let ended = row.row.ended in
         let next = ended.0 in
         let more = ended.1 in
@@ -462,7 +468,7 @@ module _ (Tells PortsFail : Type 0) (old : View) (asked made left : List Asked) 
           face_is = faces_then old mid new so_far.face (faces_same mid new row.face_is);
           pinned = λ told. kept_then old mid new (pins_same old mid so_far.face) (so_far.pinned told) (row.row.pinned told);
         }
-    row_refused before' now since NoMemory row =
+    row_refused before' now since head NoMemory row =
         let ended = row.row.ended in
         let next = ended.1 in
         let both = length-append made row.row.made in
@@ -504,7 +510,7 @@ module _ (Tells PortsFail : Type 0) (old : View) (asked made left : List Asked) 
           any_moment = λ told config opened h since' runs caller. subst (λ l. GoesFrom old.state.next (IsKeptAlong config h caller l) old.disk new.disk)
               (ap (λ failed. made ++ tried row.row.made failed) ended.0 ∙ sym (append_assoc made row.row.made [])) (row_moments (Some NoMemory) row told config opened h since' runs caller);
           idle = λ stopped. absurd (let is = row.idle (still_stopped stopped) in let clash : Some NoMemory ≡ None = is.1 in cc);
-          rows = λ told none. absurd cc;
+          rows = λ told none s holds. let to = row_written Tells old mid new made left left' done (Some NoMemory) row ended.0 head told s holds in (to.0, to.0, to.1, inl refl, to.2);
           calls = λ told none room. absurd cc;
           written = λ told none room. absurd cc;
           numbers = λ told. let was = so_far.numbers told in let more = row.row.numbers told in omega (arith, was, more);
@@ -512,20 +518,20 @@ module _ (Tells PortsFail : Type 0) (old : View) (asked made left : List Asked) 
           face_is = faces_then old mid new so_far.face (faces_same mid new row.face_is);
           pinned = λ told. kept_then old mid new (pins_same old mid so_far.face) (so_far.pinned told) (row.row.pinned told);
         }
-    row_refused before now since (Stopped at) row = absurd row.row.ended
-    row_refused before now since (Exhausted last) row = absurd row.row.ended
-    row_refused before now since (Backwards clock) row = absurd row.row.ended
-    row_refused before now since (Pinned pin limit) row = absurd row.row.ended
-    row_refused before now since NothingDue row = absurd row.row.ended
-    row_refused before now since (Cancelled begun now') row = absurd row.row.ended
-    row_refused before now since (ReadFault b a) row = absurd row.row.ended
-    row_refused before now since (Damaged name) row = absurd row.row.ended
+    row_refused before now since head (Stopped at) row = absurd row.row.ended
+    row_refused before now since head (Exhausted last) row = absurd row.row.ended
+    row_refused before now since head (Backwards clock) row = absurd row.row.ended
+    row_refused before now since head (Pinned pin limit) row = absurd row.row.ended
+    row_refused before now since head NothingDue row = absurd row.row.ended
+    row_refused before now since head (Cancelled begun now') row = absurd row.row.ended
+    row_refused before now since head (ReadFault b a) row = absurd row.row.ended
+    row_refused before now since head (Damaged name) row = absurd row.row.ended
 
   -- it went as far as it could, or not
-  pub row_ended : (before now : ℕ) → before ≤ now → (left' : List Asked) (done n : ℕ) (new : View) (refused : Option Refused) → length made ≡ n → is_some refused ≡ true → AnswersRow Tells left left' done refused mid new
+  pub row_ended : (before now : ℕ) → before ≤ now → AreRounds Tells old made mid → (left' : List Asked) (done n : ℕ) (new : View) (refused : Option Refused) → length made ≡ n → is_some refused ≡ true → AnswersRow Tells left left' done refused mid new
       → AnswersAll Tells PortsFail asked (n + done) refused before now old new
-  row_ended before now since left' done n new None many is row = absurd (false≢true is)
-  row_ended before now since left' done n new (Some why) many is row = subst (λ n. AnswersAll Tells PortsFail asked (n + done) (Some why) before now old new) many (row_refused left' done new before now since why row)
+  row_ended before now since head left' done n new None many is row = absurd (false≢true is)
+  row_ended before now since head left' done n new (Some why) many is row = subst (λ n. AnswersAll Tells PortsFail asked (n + done) (Some why) before now old new) many (row_refused left' done new before now since head why row)
 
   pub row_went : (left' : List Asked) (done : ℕ) (new : View) (refused : Option Refused) → is_some refused ≡ false → AnswersRow Tells left left' done refused mid new → AnswersRow Tells left left' done None mid new
   row_went left' done new None is row = row
@@ -601,8 +607,25 @@ module _ (Tells PortsFail : Type 0) (old : View) (asked made left : List Asked) 
           (config_since config opened (with_all h 0 made) mid (so_far.stands told config opened h before 0), omega (arith, later, numbers));
     }
 
-    pub one_refused : (before first last : ℕ) → before ≤ first → (why : Refused) → Answers Tells (Makes (call_of next)) (Some why) face mid new → HasReasonOfChange Tells PortsFail mid new first last why → AnswersAll Tells PortsFail asked (length made) (Some why) before last old new
-    one_refused before' first last since why says reason =
+    -- some of the steps that make room may have been done
+    room_left : (why : Refused) → Answers Tells (Makes (call_of next)) (Some why) face mid new → failure_of why ≡ None → mid.flight ≡ old.flight → AreWritten Tells old made mid
+        → Tells → (s : Stored) → Holds old s → (t : Stored) × (u : Stored) × IsWritten old.flight made s t × IsRoomBegun old.flight t u × Holds new u
+    room_left why says none flight so told s holds =
+        let to = so told s holds in
+        let left = says.refused.1 none told to.0 to.2 in
+        (to.0, left.0, to.1, subst (λ flight. IsRoomBegun flight to.0 left.0) flight (begun_of next left.1), left.2)
+      where
+        begun_of : {flight : Option Flying} {t u : Stored} (next : Asked) → IsBegun (call_of next) flight t u → IsRoomBegun flight t u
+        begun_of (Put key dkey value) begun = begun
+        begun_of (Delete key) begun = begun
+        begun_of (Erase range) begun = begun
+
+    no_failure : (f : Option Failure) → option_map {U = Asked × Failure} (λ failure. (next, failure)) f ≡ None → f ≡ None
+    no_failure None none = refl
+    no_failure (Some failure) none = absurd cc
+
+    pub one_refused : (before first last : ℕ) → before ≤ first → AreWritten Tells old made mid → (why : Refused) → Answers Tells (Makes (call_of next)) (Some why) face mid new → HasReasonOfChange Tells PortsFail mid new first last why → AnswersAll Tells PortsFail asked (length made) (Some why) before last old new
+    one_refused before' first last since so why says reason =
         let stands = λ (told : Tells) (config : Fields) (opened : Opened) (h : History) (before : StandsSince config opened h old) (caller : ℕ).
         subst (λ g. StandsSince config opened g new) (failed_history h caller (failure_of why))
         (says.stands told config opened (with_all h caller made) (so_far.stands told config opened h before caller) caller) in
@@ -639,7 +662,7 @@ module _ (Tells PortsFail : Type 0) (old : View) (asked made left : List Asked) 
               (goes_from_weaker (IsKeptOr config was (option_map (λ failure. done_by caller (call_of next)) (failure_of why))) (IsKeptAlong config h caller (made ++ behind)) mid.state.next mid.disk new.disk
               (λ d kept. along_failed config h caller made next (failure_of why) d kept) (says.any_moment told config was (so_far.stands told config opened h before caller).now (so_far.stopped ∙ runs) caller));
           idle = λ stopped. let was = so_far.idle stopped in let still = says.still (still_stopped stopped) in (ap length was.0, still.state ∙ was.1, still.faults ∙ was.2);
-          rows = λ told none. absurd cc;
+          rows = λ told none. room_left why says (no_failure (failure_of why) none) (ap (λ (face : Face). face.flight) so_far.face) so told;
           calls = λ told none room. absurd cc;
           written = λ told none room. absurd cc;
           numbers = λ told. let was = so_far.numbers told in let one = says.numbers told in omega (arith, was, one);
@@ -683,7 +706,20 @@ none_placed Tells PortsFail old (next ∷ more) before sound some =
       goes = λ told config opened h before caller. goes_by Any config opened h (with_all h caller []) old old before (so_far.stands told config opened h before caller) (any_still old.disk);
       any_moment = so_far.moments;
       idle = λ stopped. (refl, refl, refl);
-      rows = λ told none. absurd cc;
+      rows = λ told none s holds. (
+        s,
+        s,
+        record {
+          rounds = [];
+          last = [];
+          are = refl;
+          middle = s;
+          before = refl;
+          row = (old.levels, holds.remembers.files, refl);
+        },
+        inl refl,
+        holds,
+      );
       calls = λ told none room. absurd cc;
       written = λ told none room. absurd cc;
       numbers = so_far.numbers;

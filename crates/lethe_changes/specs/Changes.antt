@@ -15,7 +15,7 @@ use Rattle.lethe_state.specs.Records.{headers_in}
 use Rattle.lethe_state.specs.Writable.{IsWritable}
 use Rattle.lethe_state.specs.declared.state.State.{State}
 use Rattle.lethe_core.specs.Asked.{Failure, failure_of, stopped_by}
-use Rattle.lethe_core.specs.Merges.{IsCleared, Outcome}
+use Rattle.lethe_core.specs.Merges.{IsCleared, IsRoomBegun, Outcome}
 use Rattle.lethe_core.specs.Pinned.{AreKept}
 use Rattle.lethe_core.specs.Running.{Holds, IsSmall, IsSound}
 use Rattle.lethe_core.specs.View.{Flying, View, face_of}
@@ -87,14 +87,19 @@ abbrev pub AreMade : Option Flying → List Round → Stored → Stored → Type
 AreMade flight [] s t = t ≡ s
 AreMade flight (round ∷ more) s t = (full : Stored) × (then : Stored) × IsRowOver s round.row full × IsMadeAlone flight full round.alone then × AreMade flight more then t
 
--- All changes were made in rows, and between two rows one that made room.
-pub record IsWritten (flight : Option Flying) (asked : List Asked) (s t : Stored) : Type 0 where
+-- These changes were made in rows, and between two rows one that made room.
+pub record IsWritten (flight : Option Flying) (made : List Asked) (s t : Stored) : Type 0 where
   pub rounds : List Round
   pub last : List Asked
-  pub are : asked ≡ changes_in rounds ++ last
+  pub are : made ≡ changes_in rounds ++ last
   pub middle : Stored
-  pub made : AreMade flight rounds s middle
+  pub before : AreMade flight rounds s middle
   pub row : IsRowOver middle last t
+
+-- behind those that were made some of the steps that make room for the next one may have been done, where that was refused
+abbrev pub IsRoomLeft : Option Flying → Option Refused → Stored → Stored → Type 0
+IsRoomLeft flight None t u = u ≡ t
+IsRoomLeft flight (Some why) t u = IsRoomBegun flight t u
 
 -- So many changes were made, the first ones of those that were asked, and the next one wasn't for this reason, if any is left; by the port's counts of faults before and now.
 pub record AnswersAll (Tells PortsFail : Type 0) (asked : List Asked) (done : ℕ) (refused : Option Refused) (before now : ℕ) (old new : View) : Type 0 where
@@ -118,8 +123,8 @@ pub record AnswersAll (Tells PortsFail : Type 0) (asked : List Asked) (done : �
       → GoesFrom old.state.next (IsKeptAlong config h caller (tried made (failed_of refused rest))) old.disk new.disk
   -- a store that was stopped before makes no change
   pub idle : IsSome old.state.stopped → (done ≡ 0) × (new.state ≡ old.state) × (new.faults ≡ old.faults)
-  -- all of them were made, each over what the ones before it left
-  pub rows : Tells → refused ≡ None → (s : Stored) → Holds old s → (t : Stored) × IsWritten old.flight asked s t × Holds new t
+  -- unless the disk failed each was made over what the ones before it left
+  pub rows : Tells → failed_of refused rest ≡ None → (s : Stored) → Holds old s → (t : Stored) × (u : Stored) × IsWritten old.flight made s t × IsRoomLeft old.flight refused t u × Holds new u
   -- where there was room for all they are one row, of three device calls for each and one more
   pub calls : Tells → refused ≡ None → HaveRoom asked old → new.disk.moment ≡ old.disk.moment + calls_of asked
   pub written : Tells → refused ≡ None → HaveRoom asked old → (s : Stored) → Holds old s → (t : Stored) × AreAppended (headers_in old.levels) s asked t × Holds new t

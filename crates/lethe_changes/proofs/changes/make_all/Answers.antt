@@ -2,7 +2,7 @@ use Rattle.std.proofs.Common.{rules, ◌≡◌, ◌+◌, [], ◌∷◌, ◌++◌
 use Rattle.lethe_core.specs.View.{Face, View, face_of, view_of}
 use Rattle.lethe_row.specs.Along.{IsEnded}
 use Rattle.lethe_changes.specs.Changes.{AnswersAll}
-use Rattle.lethe_changes.proofs.Making.{IsFresh, IsMade, all_made, all_written, calls_of_all, fresh_at_first, never_fresh, no_rounds, none_yet, one_longer_by, one_made, one_refused, round_made, row_ended, row_left, row_made, row_many, row_went, written_all}
+use Rattle.lethe_changes.proofs.Making.{IsFresh, IsMade, all_made, calls_of_all, fresh_at_first, never_fresh, no_rounds, none_yet, one_longer_by, one_made, one_refused, round_made, row_ended, row_left, row_made, row_many, row_went, row_written, written_all}
 use Rattle.lethe_changes.proofs.changes.make_all.Goals as goal
 
 pub loop-alloc-init : goal.loop-alloc-init
@@ -24,7 +24,7 @@ returns-then-is_some-clause-answers g c =
     let so_far = c.loop-alloc.invariant.so_far in
     let row = c.change_row-row in
     row_ended g.D.Disk.tells g.D.Disk.ports_fail (view_of c.args.engine.now.core) c.args.asked.items so_far.0 c.loop-alloc.left.items (view_of c.loop-alloc.engine.core) so_far.2
-    (g.D.Disk.port_faults c.args.port.now) (g.D.Disk.port_faults c.loop-alloc.port) c.loop-alloc.invariant.port_faults row.new.asked.items row.result.done c.loop-alloc.done (view_of row.new.self.core) row.result.refused so_far.1 (sym c.is_some.ensures ∙ c.if-is_some.true) row.ensures.answers
+    (g.D.Disk.port_faults c.args.port.now) (g.D.Disk.port_faults c.loop-alloc.port) c.loop-alloc.invariant.port_faults so_far.3 row.new.asked.items row.result.done c.loop-alloc.done (view_of row.new.self.core) row.result.refused so_far.1 (sym c.is_some.ensures ∙ c.if-is_some.true) row.ensures.answers
 
 -- All were made
 
@@ -45,7 +45,7 @@ returns-in_default-clause-answers g c =
     let before = g.D.Disk.port_faults c.args.port.now in
     let now = g.D.Disk.port_faults c.loop-alloc.port in
     let calls = calls_of_all tells old mid new c.args.asked.items c.loop-alloc.left.items left row.result.done c.loop-alloc.invariant.fresh went none in
-    let rows = all_written tells old mid new c.args.asked.items so_far.0 c.loop-alloc.left.items left row.result.done went made.are none so_far.3 in
+    let rows = row_written tells old mid new so_far.0 c.loop-alloc.left.items left row.result.done None went went.row.ended.0 so_far.3 in
     let written = written_all tells old mid new c.args.asked.items c.loop-alloc.left.items left row.result.done c.loop-alloc.invariant.fresh went none in
     subst (λ n. AnswersAll tells Ports c.args.asked.items n None before now old new) many (all_made tells Ports old c.args.asked.items (so_far.0 ++ went.row.made) left new made before now none rows calls written)
 
@@ -111,7 +111,8 @@ returns-in-Err-clause-answers g c =
     let many = row_many tells Ports old c.args.asked.items so_far.0 c.loop-alloc.left.items mid so_far.2 row.new.asked.items row.result.done c.loop-alloc.done new so_far.1 went in
     subst (λ n. AnswersAll tells Ports c.args.asked.items n (Some c.in-Err.why) (g.D.Disk.port_faults c.args.port.now) (g.D.Disk.port_faults c.change_one.new.port) old then) many
     (one_refused tells Ports old c.args.asked.items (so_far.0 ++ went.row.made) row.new.asked.items new made c.in-Some.change c.pop_front.new.self.items c.in-Some.ensures.items (record (face_of new) { retired = then.retired }) then refl
-    (g.D.Disk.port_faults c.args.port.now) (g.D.Disk.port_faults c.loop-alloc.port) (g.D.Disk.port_faults c.change_one.new.port) c.loop-alloc.invariant.port_faults c.in-Err.why c.in-Err.ensures.answers c.in-Err.ensures.why)
+    (g.D.Disk.port_faults c.args.port.now) (g.D.Disk.port_faults c.loop-alloc.port) (g.D.Disk.port_faults c.change_one.new.port) c.loop-alloc.invariant.port_faults
+    (row_written tells old mid new so_far.0 c.loop-alloc.left.items row.new.asked.items row.result.done None went went.row.ended.0 so_far.3) c.in-Err.why c.in-Err.ensures.answers c.in-Err.ensures.why)
 
 -- Where a page is told as damaged
 
