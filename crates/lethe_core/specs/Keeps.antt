@@ -9,7 +9,7 @@ use Rattle.lethe_base.specs.declared.refused.Refused.{Refused}
 use Rattle.lethe_stored.specs.Kept.{IsKept}
 use Rattle.lethe_stored.specs.Numbers.{GoesFrom}
 use Rattle.lethe_core.specs.Asked.{Serves, behind, counted, stopped_by}
-use Rattle.lethe_core.specs.Pinned.{AreKept}
+use Rattle.lethe_core.specs.Pinned.{AreKept, AreRetiredFrom}
 use Rattle.lethe_core.specs.Running.{IsSound}
 use Rattle.lethe_core.specs.StandsNow.{StandsNow}
 use Rattle.lethe_core.specs.View.{View}
@@ -22,8 +22,8 @@ pub record MayStep (Tells : Type 0) (view : View) (before : ℕ) : Type 0 where
   pub told_from : before ≤ view.faults
 
 -- The store is sound, and stands for the same history, or where the disk failed for that with the call that failed in it, by which it is stopped then. A crash at any
--- moment of the step leaves what is kept for the history, and numbers are drawn no faster than device calls are made. The same pins are held, and each object that one of them
--- names is as it was, byte for byte, also where the disk failed.
+-- moment of the step leaves what is kept for the history, and numbers are drawn no faster than device calls are made, and none comes back. The same pins are held, each object that
+-- one of them names is as it was, byte for byte, also where the disk failed, and no page is retired but those that were and those that a held pin names.
 pub record Keeps (Tells : Type 0) (old new : View) (why : Option Refused) : Type 0 where
   pub sound : IsSound Tells new
   pub count : new.state.count ≡ counted (Serves Work) why old.state.count
@@ -31,6 +31,8 @@ pub record Keeps (Tells : Type 0) (old new : View) (why : Option Refused) : Type
   pub stands : Tells → (config : Fields) (h : History) → StandsNow config h old → (caller : ℕ) (call : Call) → StandsNow config (behind h caller (Serves call) why) new
   pub any_moment : Tells → (config : Fields) (h : History) → StandsNow config h old → GoesFrom old.state.next (λ c. IsKept config c h) old.disk new.disk
   pub numbers : Tells → new.state.next + old.disk.moment ≤ old.state.next + new.disk.moment
+  pub drawn : old.state.next ≤ new.state.next
   pub faults : old.faults ≤ new.faults
+  pub retired : AreRetiredFrom old.pins.pins old.retired new.retired
   pub pins : new.pins ≡ old.pins
   pub pinned : Tells → AreKept old.pins.pins old.disk.directory new.disk.directory

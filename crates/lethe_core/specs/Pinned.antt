@@ -1,5 +1,5 @@
 -- What pins keep, and until when.
-use Rattle.std.specs.Prelude.{◌≡◌, ◌<◌, ℕ, ◌+◌, List, [], ◌∷◌, map, flat_map, All, Any, IsTrue}
+use Rattle.std.specs.Prelude.{◌≡◌, ◌⊎◌, ◌<◌, ℕ, ◌+◌, List, [], ◌∷◌, map, flat_map, All, Any, Contains, IsTrue}
 use Rattle.lethe_base.specs.Matching.{IsPut}
 use Rattle.lethe_base.specs.Placed.{IsPlaced}
 use Rattle.lethe_base.specs.History.{History, after}
@@ -25,6 +25,10 @@ IsPageIn levels name = Any (λ files. Any (λ parts. Any (λ line. page_name lin
 -- each of these names is one that a held pin names
 abbrev pub AreNamed : List Pin → List Name → Type 0
 AreNamed pins names = All (λ name. IsTrue (is_named pins name)) names
+
+-- Each page that is retired now was so before, or is named by a held pin.
+abbrev pub AreRetiredFrom : List Pin → List Name → List Name → Type 0
+AreRetiredFrom pins before now = (name : Name) → Contains now name → Contains before name ⊎ IsTrue (is_named pins name)
 
 -- The bytes spell a page. Each put of it was done at its place, and none was erased more than a threshold before the limit, or will have been.
 pub record IsPageUntil (threshold limit : ℕ) (h : History) (bytes : List ℕ) : Type 0 where

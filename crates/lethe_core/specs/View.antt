@@ -8,6 +8,7 @@ use Rattle.lethe_stored.specs.Files.{Parts}
 use Rattle.lethe_advance.specs.Settled.{names_in}
 use Rattle.lethe_advance.specs.Shown.{parts_by_level}
 use Rattle.lethe_pins.specs.Held.{Held}
+use Rattle.lethe_pins.specs.declared.pin.Pin.{Pin}
 use Rattle.lethe_state.specs.declared.state.State.{State}
 use Rattle.lethe_job.specs.Works.{PlainTask, plain_task}
 use Rattle.lethe_core.specs.declared.flight.Flight.{Flight}
@@ -48,21 +49,29 @@ view_of {kind = kind} core = record {
   pins = core.pins;
 }
 
--- What the jobs and the pins of a store have come to: how many jobs were begun, how many rounds have ended, the job in flight, the pages that are retired, and the pins that are
--- held.
+-- a pin that is held, as a user knows it: its number, and the time from which on a tick is refused for it
+pub record Limited : Type 0 where
+  pub number : ℕ
+  pub limit : ℕ
+
+abbrev pub limited_of : Pin → Limited
+limited_of pin = record { number = pin.number; limit = pin.limit }
+
+-- What the jobs and the pins of a store have come to: how many jobs were begun, how many rounds have ended, the job in flight, how many pins were made, and those that are held, by
+-- limit, then by number. The face behind a call is a function of the one before, the call and its answer.
 pub record Face : Type 0 where
   pub begun : ℕ
   pub rounds : ℕ
   pub flight : Option Flying
-  pub retired : List Name
-  pub pins : Held
+  pub made : ℕ
+  pub held : List Limited
 
 abbrev pub face_of : View → Face
-face_of view = record { begun = view.begun; rounds = view.rounds; flight = view.flight; retired = view.retired; pins = view.pins }
+face_of view = record { begun = view.begun; rounds = view.rounds; flight = view.flight; made = view.pins.made; held = map limited_of view.pins.pins }
 
--- no job was begun and no round has ended yet, no page is retired, and no pin was made
+-- no job was begun, no round has ended yet, and no pin was made
 abbrev pub no_jobs : Face
-no_jobs = record { begun = 0; rounds = 0; flight = None; retired = []; pins = record { pins = []; made = 0 } }
+no_jobs = record { begun = 0; rounds = 0; flight = None; made = 0; held = [] }
 
 -- the pages that were written for the job in flight, which no manifest cites yet
 abbrev pub loose_in : Option Flying → List (Name × List ℕ)

@@ -58,6 +58,7 @@ impl<D: Disk> Core<D> {
         ensures pinned { D.tells → AreKept (view_of self.old).pins.pins (D.seen self.old.disk).directory (D.seen self.new.disk).directory }
         ensures calls { D.tells → OnOk result ((D.seen self.new.disk).moment ≡ (D.seen self.old.disk).moment + 4) }
         ensures numbers { D.tells → self.new.state.next + (D.seen self.old.disk).moment ≤ self.old.state.next + (D.seen self.new.disk).moment }
+        ensures drawn { self.old.state.next ≤ self.new.state.next }
         ensures faults { D.faults self.old.disk ≤ D.faults self.new.disk }
     {
         let Ok(Prepared { body, end, pending }) = self.state.prepare(alloc, &next) else {

@@ -6,4 +6,5 @@ pub mod Pins
 pub mod Past
 pub mod Runs
 pub mod Steps
+pub mod Certificates
 pub mod Driving

@@ -19,7 +19,7 @@ use Rattle.lethe_state.specs.Remembered.{Remembers, IsCurrent}
 use Rattle.lethe_state.specs.declared.state.State.{State}
 use Rattle.lethe_job.specs.Works.{PlainTask, plain_task}
 use Rattle.lethe_job.specs.declared.job.Job.{Job}
-use Rattle.lethe_core.specs.Pinned.{AreKeptBy, pages_in}
+use Rattle.lethe_core.specs.Pinned.{AreKeptBy, AreRetiredFrom, pages_in}
 use Rattle.lethe_core.specs.Running.{Holds, IsTasked}
 use Rattle.lethe_core.specs.View.{Flying, View, beside_at}
 use Rattle.lethe_drive.specs.declared.jobs.Jobs.{Jobs}
@@ -152,11 +152,13 @@ pub record IsUntouched (old new : Moment) : Type 0 where
   pub pins : new.pins ≡ old.pins
   pub directory : new.directory ≡ old.directory
 
--- counts of faults never fall, and each object that is named by a pin that is held before and by one behind is as it was, byte for byte
+-- Counts of faults never fall. Each object that is named by a pin that is held before and by one behind is as it was, byte for byte; and each page that is retired behind was so before, or is
+-- named by a held pin.
 pub record IsLater (old new : Moment) : Type 0 where
   pub faults : old.faults ≤ new.faults
   pub port_faults : old.port_faults ≤ new.port_faults
   pub pinned : AreKeptBy old.pins.pins new.pins.pins old.directory new.directory
+  pub retired : AreRetiredFrom old.pins.pins old.retired new.retired
 
 -- the jobs are as they were
 pub record AreJobsSame (old new : Moment) : Type 0 where

@@ -1,11 +1,13 @@
 //! Driving a store through a run of events.
-ghost use Rattle.std.specs.Prelude.{◌≡◌, ◌≤◌, ◌+◌, ◌*◌, ℕ, [], None, IfOk, IfErr, IfSome};
+ghost use Rattle.std.specs.Prelude.{◌≡◌, ◌≤◌, ◌+◌, ◌*◌, ◌++◌, ℕ, List, [], None, IfOk, IfErr, IfSome};
 ghost use Rattle.lethe_base.specs.History.{History};
 ghost use Rattle.lethe_base.specs.declared.config.Fields.{Fields};
 ghost use Rattle.lethe_stored.specs.Stored.{Stored};
 ghost use Rattle.lethe_core.specs.Running.{IsSound};
 ghost use Rattle.lethe_core.specs.View.{view_of};
-ghost use Rattle.lethe_engine.specs.StandsFor.{Opened, StandsSince};
+ghost use Rattle.lethe_cert.specs.declared.certificate.Certificate.{Certificate};
+ghost use Rattle.lethe_engine.specs.StandsFor.{Opened, StandsFor};
+ghost use Rattle.lethe_drive.specs.Certificates.{certificates_in};
 ghost use Rattle.lethe_drive.specs.Driving.{IsDriven};
 ghost use Rattle.lethe_drive.specs.Moments.{IsKnown, moment_of};
 
@@ -36,11 +38,14 @@ pub fn drive<D: Disk>(
     requires sound { IsSound D.tells (view_of engine.old.core) }
     ensures sound { IsSound D.tells (view_of engine.new.core) }
 
-    // Over a store that stands for a history, the replies are those of the steps from it to another, for which the store stands behind them.
-    ensures driven { D.tells → (config : Fields) (opened : Opened) (h : History) → StandsSince config opened h (view_of engine.old.core) → (s : Stored) → IsKnown config h (view_of engine.old.core) s
-        → IfOk result (λ replies. (g : History) × (t : Stored) × IsKnown config g (view_of engine.new.core) t × StandsSince config opened g (view_of engine.new.core)
+    // Over a store that stands for a history and some certificates, the replies are those of the steps from it to another history, for which the store stands behind them, and for these
+    // certificates followed by those of the replies.
+    ensures driven { D.tells → (config : Fields) (opened : Opened) (h : History) (answered : List Certificate) → StandsFor config opened h (view_of engine.old.core) answered
+        → (s : Stored) → IsKnown config h (view_of engine.old.core) s
+        → IfOk result (λ replies. (g : History) × (t : Stored) × IsKnown config g (view_of engine.new.core) t × StandsFor config opened g (view_of engine.new.core) (answered ++ certificates_in replies.items)
         × (begun : ℕ) × IsDriven D.ports_fail config h (moment_of (view_of engine.old.core) s (D.fetches port.old) (D.port_faults port.old) 0 None []) events.items replies.items g
         (moment_of (view_of engine.new.core) t (D.fetches port.new) (D.port_faults port.new) begun None [])) }
+    ensures certificates { IfOk result (λ replies. engine.new.certificates.items ≡ engine.old.certificates.items ++ certificates_in replies.items) }
     ensures untouched { IfErr result (λ why. (engine.new ≡ engine.old) × (port.new ≡ port.old)) }
     ensures faults { D.faults engine.old.core.disk ≤ D.faults engine.new.core.disk }
 {

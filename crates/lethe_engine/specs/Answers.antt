@@ -13,7 +13,7 @@ use Rattle.lethe_stored.specs.Stored.{Stored}
 use Rattle.lethe_state.specs.declared.state.State.{State}
 use Rattle.lethe_core.specs.Asked.{Asked, Makes, Serves, behind, counted, stopped_by, written_by}
 use Rattle.lethe_core.specs.Merges.{IsRoomBegun}
-use Rattle.lethe_core.specs.Pinned.{AreKeptBy}
+use Rattle.lethe_core.specs.Pinned.{AreKeptBy, AreRetiredFrom}
 use Rattle.lethe_core.specs.Running.{IsSound}
 use Rattle.lethe_core.specs.StandsNow.{StandsNow}
 use Rattle.lethe_core.specs.Steps.{IsDoneInPart, IsUndone}
@@ -65,11 +65,16 @@ pub record Answers (Tells : Type 0) (asked : Asked) (why : Option Refused) (face
   pub any_moment : Tells → (config : Fields) (h : History) → StandsNow config h old → old.state.stopped ≡ None → (caller : ℕ) → GoesFrom old.state.next (IsKeptOr config h (written_by caller asked why)) old.disk new.disk
   -- numbers are drawn no faster than device calls are made
   pub numbers : Tells → new.state.next + old.disk.moment ≤ old.state.next + new.disk.moment
+  -- and none comes back, so that no moment does
+  pub drawn : old.state.next ≤ new.state.next
+  pub later : Tells → old.disk.moment ≤ new.disk.moment
   pub faults : old.faults ≤ new.faults
   -- where an earlier call failed nothing is done, whatever is asked
   pub still : IsSome old.state.stopped → IsStill Tells old new
   pub refused : IfSome why (IsRefused Tells asked old new)
   -- what the jobs and the pins have come to
   pub face_is : face_of new ≡ face
+  -- each page that is retired behind it was so before, or is named by a held pin
+  pub retired : AreRetiredFrom old.pins.pins old.retired new.retired
   -- each object that a pin names which is held before and behind is as it was, byte for byte, also where the disk failed
   pub pinned : Tells → AreKeptBy old.pins.pins new.pins.pins old.disk.directory new.disk.directory

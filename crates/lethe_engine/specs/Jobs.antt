@@ -38,10 +38,10 @@ abbrev pub written_face : Face → Name × List ℕ → Result (Unit {0}) Refuse
 written_face face page (Ok done) = record face { flight = option_map (λ flying. with_page flying page) face.flight }
 written_face face page (Err why) = face
 
--- it is in flight no more, and these pages are retired
-abbrev pub ended_face : {E : Type 0} → Face → List Name → Result (Unit {0}) E → Face
-ended_face face retired (Ok done) = record face { flight = None; retired = retired }
-ended_face face retired (Err why) = face
+-- it is in flight no more
+abbrev pub ended_face : {E : Type 0} → Face → Result (Unit {0}) E → Face
+ended_face face (Ok done) = record face { flight = None }
+ended_face face (Err why) = face
 
 -- given up it is in flight no more, whether or not the disk failed, but where no place is left for that and no call has failed
 abbrev pub given_up : Face → State → Face

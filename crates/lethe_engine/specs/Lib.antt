@@ -4,6 +4,7 @@ pub mod Answers
 pub mod Rows
 pub mod Work
 pub mod Jobs
+pub mod Pins
 pub mod Reads
 pub mod Capped
 pub mod Stats

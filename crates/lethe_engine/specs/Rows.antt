@@ -1,5 +1,5 @@
 -- What a row of changes says of itself: what was asked and what is left, how far it went and why no further, the store before and the store behind.
-use Rattle.std.specs.Prelude.{◌≡◌, ℕ, IsSome, List, Option, None}
+use Rattle.std.specs.Prelude.{◌≡◌, ◌≤◌, ℕ, IsSome, List, Option, None}
 use Rattle.lethe_base.specs.History.{History}
 use Rattle.lethe_base.specs.declared.config.Fields.{Fields}
 use Rattle.lethe_base.specs.declared.refused.Refused.{Refused}
@@ -7,6 +7,7 @@ use Rattle.lethe_disk.specs.Goes.{Goes}
 use Rattle.lethe_core.specs.View.{View, face_of}
 use Rattle.lethe_row.specs.Along.{IsRow, row_behind}
 use Rattle.lethe_row.specs.declared.asking.Asked.{Asked}
+use Rattle.lethe_engine.specs.Answers.{IsStill}
 use Rattle.lethe_engine.specs.StandsFor.{IsKeptFor, Opened, StandsSince}
 
 pub record AnswersRow (Tells : Type 0) (asked left : List Asked) (done : ℕ) (refused : Option Refused) (old new : View) : Type 0 where
@@ -16,7 +17,11 @@ pub record AnswersRow (Tells : Type 0) (asked left : List Asked) (done : ℕ) (r
   -- A crash at any moment of the row leaves what is kept for a prefix of what a crash may make of that history, which is not shorter than the opened one; what a crash
   -- at an earlier moment may leave is as it was.
   pub goes : Tells → (config : Fields) (opened : Opened) (h : History) → StandsSince config opened h old → (caller : ℕ) → Goes (IsKeptFor config opened.history (row_behind h caller row.made row.failed)) old.disk new.disk
-  -- of a store that was stopped before no change is made
-  pub idle : IsSome old.state.stopped → (done ≡ 0) × (refused ≡ None) × (left ≡ asked) × (new.state ≡ old.state) × (new.faults ≡ old.faults)
-  -- jobs and pins stay as they are
+  -- of a store that was stopped before no change is made, and nothing is done
+  pub idle : IsSome old.state.stopped → (done ≡ 0) × (refused ≡ None) × (left ≡ asked) × IsStill Tells old new
+  -- jobs and pins stay as they are, and the pages that are retired
   pub face_is : face_of new ≡ face_of old
+  pub retired : new.retired ≡ old.retired
+  -- no number comes back, nor a moment
+  pub drawn : old.state.next ≤ new.state.next
+  pub later : Tells → old.disk.moment ≤ new.disk.moment

@@ -1,14 +1,16 @@
 -- Ticks, as the store sees them.
-use Rattle.std.specs.Prelude.{◌≡◌, ◌≤◌, ◌<◌, ◌⊎◌, ℕ, ◌+◌, true, List, [], ◌∷◌, Some, None, Bool, ◌&&◌, is_none, nat_le, nat_lt, if◌then◌else◌}
+use Rattle.std.specs.Prelude.{◌≡◌, ◌≤◌, ◌<◌, ◌⊎◌, ℕ, ◌+◌, true, List, [], ◌∷◌, Some, None, Bool, ◌&&◌, is_none, nat_le, nat_lt, option_to_list, Result, Ok, Err, if◌then◌else◌}
 use Rattle.lethe_base.specs.Limits.{max_place}
 use Rattle.lethe_base.specs.declared.name.Name.{Name}
 use Rattle.lethe_base.specs.declared.refused.Refused.{Refused}
 use Rattle.lethe_base.specs.declared.refused.Refused.TheVariants.{Fault, Stopped, Backwards, Pinned, NothingDue, Cancelled, Exhausted, ReadFault, NoMemory, Damaged}
+use Rattle.lethe_cert.specs.declared.certificate.Certificate.{Certificate}
 use Rattle.lethe_pins.specs.Held.{first_limit_of}
 use Rattle.lethe_pins.specs.declared.pin.Pin.{Pin}
 use Rattle.lethe_core.specs.Reasons.{HasReason, IsUnreadable}
 use Rattle.lethe_core.specs.View.{Face, View, face_of}
 use Rattle.lethe_tick.specs.Ripened.{IsShortToTick}
+use Rattle.lethe_engine.specs.declared.ticking.Ticked.{Ticked}
 
 -- the first limit of the pins that are held is above the time, so that all are
 abbrev pub lets_pass : List Pin → ℕ → Bool
@@ -20,9 +22,14 @@ abbrev pub passes : View → ℕ → Bool
 passes view to =
     is_none view.state.stopped && nat_le view.state.manifest.clock to && nat_lt view.state.count max_place && nat_lt view.rounds max_place && lets_pass view.pins.pins to
 
--- Behind a tick that passes its tests a round more has ended, and no job is in flight; these pages are retired.
-abbrev pub ticked_face : View → ℕ → List Name → Face
-ticked_face view to retired = if passes view to then record { begun = view.begun; rounds = view.rounds + 1; flight = None; retired = retired; pins = view.pins } else face_of view
+-- Behind a tick that passes its tests a round more has ended, and no job is in flight.
+abbrev pub ticked_face : View → ℕ → Face
+ticked_face view to = if passes view to then record (face_of view) { rounds = view.rounds + 1; flight = None } else face_of view
+
+-- the certificate that a tick answered, if it did
+abbrev pub answered_by : Result Ticked Refused → List Certificate
+answered_by (Ok ticked) = option_to_list ticked.certificate
+answered_by (Err why) = []
 
 -- its time is behind the clock
 abbrev pub IsBehind : View → ℕ → Refused → Type 0

@@ -42,7 +42,7 @@ impl<D: Disk> Engine<D> {
     ) -> Result<u64, Refused>
         // Opening gives this, and each call leaves it so.
         requires { IsSound D.tells (view_of self.old.core) }
-        ensures answers { Answers D.tells (Makes (call.Put key dkey value)) (result_err result) (record (face_of (view_of self.old.core)) { retired = (view_of self.new.core).retired }) (view_of self.old.core) (view_of self.new.core) }
+        ensures answers { Answers D.tells (Makes (call.Put key dkey value)) (result_err result) (face_of (view_of self.old.core)) (view_of self.old.core) (view_of self.new.core) }
         ensures place { IfOk result (λ place. place ≡ self.old.core.state.count + 1) }
 
         // A refusal has its reason, and a store that is stopped or whose places are used up is as it was.
@@ -88,7 +88,7 @@ impl<D: Disk> Engine<D> {
     pub fn erase(&mut self, alloc: Global, port: &mut D::Port, range: Range) -> Result<u64, Refused>
         // Opening gives this, and each call leaves it so.
         requires { IsSound D.tells (view_of self.old.core) }
-        ensures answers { Answers D.tells (Makes (call.Erase range)) (result_err result) (record (face_of (view_of self.old.core)) { retired = (view_of self.new.core).retired }) (view_of self.old.core) (view_of self.new.core) }
+        ensures answers { Answers D.tells (Makes (call.Erase range)) (result_err result) (face_of (view_of self.old.core)) (view_of self.old.core) (view_of self.new.core) }
         ensures place { IfOk result (λ place. place ≡ self.old.core.state.count + 1) }
 
         // A refusal has its reason, and a store that is stopped or whose places are used up is as it was.
@@ -131,7 +131,7 @@ impl<D: Disk> Engine<D> {
     pub fn delete(&mut self, alloc: Global, port: &mut D::Port, key: Key) -> Result<u64, Refused>
         // Opening gives this, and each call leaves it so.
         requires { IsSound D.tells (view_of self.old.core) }
-        ensures answers { Answers D.tells (Makes (call.Delete key)) (result_err result) (record (face_of (view_of self.old.core)) { retired = (view_of self.new.core).retired }) (view_of self.old.core) (view_of self.new.core) }
+        ensures answers { Answers D.tells (Makes (call.Delete key)) (result_err result) (face_of (view_of self.old.core)) (view_of self.old.core) (view_of self.new.core) }
         ensures place { IfOk result (λ place. place ≡ self.old.core.state.count + 1) }
 
         // A refusal has its reason, and a store that is stopped or whose places are used up is as it was.

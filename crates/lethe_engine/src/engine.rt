@@ -120,6 +120,7 @@ impl<D: Disk> Engine<D> {
         ensures fresh { IfOk result (λ port. (D.fetches port ≡ 0) × (D.port_faults port ≡ 0)) }
         ensures idle { D.tells → IsIdle (D.seen self.old.core.disk) (D.seen self.new.core.disk) }
         ensures same { (self.new.core.state ≡ self.old.core.state) × (self.new.core.version ≡ self.old.core.version) × (self.new.core.flight ≡ self.old.core.flight) }
+        ensures retired { self.new.core.retired ≡ self.old.core.retired }
         ensures faults { D.faults self.new.core.disk ≡ D.faults self.old.core.disk }
         ensures certificates { self.new.certificates ≡ self.old.certificates }
     {

@@ -51,7 +51,7 @@ impl<D: Disk> Engine<D> {
         ensures busy { self.old.core.state.stopped ≡ None → IsSome self.old.core.flight → IsErrOf result refused.NothingDue × (self.new ≡ self.old) }
 
         // All else is as it was.
-        ensures same { (self.new.core.state ≡ self.old.core.state) × (self.new.core.version ≡ self.old.core.version) }
+        ensures same { (self.new.core.state ≡ self.old.core.state) × (self.new.core.version ≡ self.old.core.version) × (self.new.core.retired ≡ self.old.core.retired) }
         ensures idle { D.tells → IsIdle (D.seen self.old.core.disk) (D.seen self.new.core.disk) }
         ensures faults { D.faults self.new.core.disk ≡ D.faults self.old.core.disk }
         ensures certificates { self.new.certificates ≡ self.old.certificates }
@@ -96,6 +96,7 @@ impl<D: Disk> Engine<D> {
 
         // A refusal has its reason.
         ensures why { IfErr result (HasReasonOfJob (max_place ≤ self.old.core.state.next) job.old (view_of self.old.core) (view_of self.new.core)) }
+        ensures retired { self.new.core.retired ≡ self.old.core.retired }
         ensures drawn { OnErr result (self.new.core.state.next ≡ self.old.core.state.next) }
         ensures stopped { (at : ℕ) → self.old.core.state.stopped ≡ Some at → IsErrOf result (refused.Stopped at) × (self.new ≡ self.old) }
         ensures past { self.old.core.state.stopped ≡ None → IsPast (view_of self.old.core) job.old
@@ -141,6 +142,7 @@ impl<D: Disk> Engine<D> {
         ensures page { D.tells → OnOk result ((D.seen self.new.core.disk).directory ≡ insert (D.seen self.old.core.disk).directory (page_name self.old.core.state.next) (next_bytes job.now)) }
         ensures present { OnOk result (IsAtWork D.tells (view_of self.old.core) job.now) }
         ensures why { IfErr result (HasReasonOfJob (max_place ≤ self.old.core.state.next) job.now (view_of self.old.core) (view_of self.new.core)) }
+        ensures retired { self.new.core.retired ≡ self.old.core.retired }
         ensures drawn { OnErr result (self.new.core.state.next ≡ self.old.core.state.next) }
         ensures stopped { (at : ℕ) → self.old.core.state.stopped ≡ Some at → IsErrOf result (refused.Stopped at) × (self.new ≡ self.old) }
         ensures past { self.old.core.state.stopped ≡ None → IsPast (view_of self.old.core) job.now
@@ -166,7 +168,7 @@ impl<D: Disk> Engine<D> {
         requires sound { IsSound D.tells (view_of self.old.core) }
         requires works { IsAtWork D.tells (view_of self.old.core) job ⊎ IsPast (view_of self.old.core) job }
         requires whole { IsWhole job }
-        ensures answers { Answers D.tells (Serves Work) (option_map (λ back. back.1) (result_err result)) (ended_face (face_of (view_of self.old.core)) (view_of self.new.core).retired result) (view_of self.old.core) (view_of self.new.core) }
+        ensures answers { Answers D.tells (Serves Work) (option_map (λ back. back.1) (result_err result)) (ended_face (face_of (view_of self.old.core)) result) (view_of self.old.core) (view_of self.new.core) }
 
         // Acknowledged: what is stored is the outcome of the task.
         ensures done { D.tells → (s : Stored) → Holds (view_of self.old.core) s → OnOk result ((t : Stored) × IsInstalled s (plain_task job.task.value) t × Holds (view_of self.new.core) t) }
@@ -178,6 +180,7 @@ impl<D: Disk> Engine<D> {
         ensures back { IfErr result (λ back. (IsInFlight (view_of self.old.core) job → IsInFlight (view_of self.new.core) back.0) × (back.0.refused ≡ true)) }
         ensures handed { IfErr result (λ back. (back.0.task ≡ job.task) × (back.0.number ≡ job.number) × (back.0.round ≡ job.round)) }
         ensures why { IfErr result (λ back. HasReasonOfJob (IsShortToInstall (view_of self.old.core) job) job (view_of self.old.core) (view_of self.new.core) back.1) }
+        ensures left { OnErr result (self.new.core.retired ≡ self.old.core.retired) }
         ensures drawn { OnErr result (self.new.core.state.next ≡ self.old.core.state.next) }
         ensures stopped { (at : ℕ) → self.old.core.state.stopped ≡ Some at → IfErr result (λ back. back.1 ≡ refused.Stopped at) × OnOk result ⊥ × (self.new ≡ self.old) }
         ensures past { self.old.core.state.stopped ≡ None → IsPast (view_of self.old.core) job
@@ -201,11 +204,12 @@ impl<D: Disk> Engine<D> {
         requires sound { IsSound D.tells (view_of self.old.core) }
         requires works { IsAtWork D.tells (view_of self.old.core) job.old ⊎ IsPast (view_of self.old.core) job.old }
         requires whole { IsWhole job.old }
-        ensures answers { Answers D.tells (Serves Work) (result_err result) (ended_face (face_of (view_of self.old.core)) (view_of self.new.core).retired result) (view_of self.old.core) (view_of self.new.core) }
+        ensures answers { Answers D.tells (Serves Work) (result_err result) (ended_face (face_of (view_of self.old.core)) result) (view_of self.old.core) (view_of self.new.core) }
         ensures done { D.tells → (s : Stored) → Holds (view_of self.old.core) s → OnOk result ((t : Stored) × IsInstalled s (plain_task job.old.task.value) t × Holds (view_of self.new.core) t) }
         ensures named { OnOk result (AreNamed (view_of self.new.core).pins.pins (view_of self.new.core).retired) }
         ensures job { job.new ≡ record job.old { made = job.new.made } }
         ensures why { IfErr result (HasReasonOfJob (IsShortToInstall (view_of self.old.core) job.old) job.old (view_of self.old.core) (view_of self.new.core)) }
+        ensures left { OnErr result (self.new.core.retired ≡ self.old.core.retired) }
         ensures drawn { OnErr result (self.new.core.state.next ≡ self.old.core.state.next) }
         ensures stopped { (at : ℕ) → self.old.core.state.stopped ≡ Some at → IsErrOf result (refused.Stopped at) × (self.new ≡ self.old) }
         ensures past { self.old.core.state.stopped ≡ None → IsPast (view_of self.old.core) job.old
@@ -234,6 +238,7 @@ impl<D: Disk> Engine<D> {
         ensures answers { Answers D.tells (Serves Work) (result_err result) (cancelled_face (view_of self.old.core) job) (view_of self.old.core) (view_of self.new.core) }
 
         // What is stored stays, and where nothing can be removed, all does.
+        ensures retired { self.new.core.retired ≡ self.old.core.retired }
         ensures held { D.tells → (s : Stored) → Holds (view_of self.old.core) s → OnOk result (Holds (view_of self.new.core) s) }
         ensures last { self.old.core.state.stopped ≡ None → self.old.core.state.count ≡ max_place → IsOk result × (self.new ≡ self.old) }
         ensures past { IsPast (view_of self.old.core) job → (self.old.core.state.stopped ≡ None → IsOk result) × (self.new ≡ self.old) }

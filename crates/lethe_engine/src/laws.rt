@@ -8,11 +8,15 @@ ghost use Rattle.lethe_disk.specs.Directory.{Directory};
 ghost use Rattle.lethe_disk.specs.Disk.{IsSynced};
 ghost use Rattle.lethe_stored.specs.Clean.{IsClean};
 ghost use Rattle.lethe_stored.specs.Left.{IsLeft};
-ghost use Rattle.lethe_core.specs.Asked.{Asked, behind};
+ghost use Rattle.lethe_core.specs.Asked.{behind};
+ghost use Rattle.lethe_core.specs.Asked as core;
 ghost use Rattle.lethe_core.specs.View.{Face, view_of};
+ghost use Rattle.lethe_row.specs.Along.{row_behind};
+ghost use Rattle.lethe_row.specs.declared.asking.Asked.{Asked};
 ghost use Rattle.lethe_engine.specs.Answers.{Answers};
 ghost use Rattle.lethe_engine.specs.Certificates.{HoldsNoneErasedBy};
 ghost use Rattle.lethe_engine.specs.Opening.{IsResumed};
+ghost use Rattle.lethe_engine.specs.Rows.{AnswersRow};
 ghost use Rattle.lethe_engine.specs.StandsFor.{IsCertifiedBy, Opened, StandsFor, StandsSince};
 
 use crate::Engine;
@@ -27,9 +31,16 @@ pub fn standing_is_clean<D: Disk>(_engine: &Engine<D>)
 
 /// Whatever a call answers, the certificates for which the store stood before it stand behind it.
 pub fn certificates_stay<D: Disk>(_before: &Engine<D>, _behind: &Engine<D>)
-    ensures { (asked : Asked) (why : Option Refused) (face : Face) → Answers D.tells asked why face (view_of _before.now.core) (view_of _behind.now.core) → D.tells
+    ensures { (asked : core.Asked) (why : Option Refused) (face : Face) → Answers D.tells asked why face (view_of _before.now.core) (view_of _behind.now.core) → D.tells
         → (config : Fields) (opened : Opened) (h : History) (answered : List Certificate) → StandsFor config opened h (view_of _before.now.core) answered → (caller : ℕ)
         → StandsFor config opened (behind h caller asked why) (view_of _behind.now.core) answered }
+{}
+
+/// So do they behind a row of changes.
+pub fn certificates_stay_in_row<D: Disk>(_before: &Engine<D>, _behind: &Engine<D>)
+    ensures { (asked left : List Asked) (done : ℕ) (refused : Option Refused) → (answers : AnswersRow D.tells asked left done refused (view_of _before.now.core) (view_of _behind.now.core)) → D.tells
+        → (config : Fields) (opened : Opened) (h : History) (answered : List Certificate) → StandsFor config opened h (view_of _before.now.core) answered → (caller : ℕ)
+        → StandsFor config opened (row_behind h caller answers.row.made answers.row.failed) (view_of _behind.now.core) answered }
 {}
 
 /// So at every later time no object holds a value that was erased at the `before` of a certificate that was answered, or earlier, while the store takes changes.

@@ -13,10 +13,11 @@ ghost use Rattle.lethe_state.specs.Remembered.{Remembers};
 ghost use Rattle.lethe_stored.specs.Left.{without_failed};
 ghost use Rattle.lethe_stored.specs.Stored.{Stored, layout_of};
 ghost use Rattle.lethe_core.specs.Asked.{Serves};
-ghost use Rattle.lethe_core.specs.Pins.{IsPinOf};
+ghost use Rattle.lethe_core.specs.Pins.{IsPinOf, without_pin};
 ghost use Rattle.lethe_core.specs.Running.{Holds, IsSound};
 ghost use Rattle.lethe_core.specs.View.{face_of, view_of};
 ghost use Rattle.lethe_engine.specs.Answers.{Answers};
+ghost use Rattle.lethe_engine.specs.Pins.{pinned_face};
 ghost use Rattle.lethe_engine.specs.StandsFor.{Opened, StandsSince};
 
 use crate::Engine;
@@ -34,7 +35,7 @@ impl<D: Disk> Engine<D> {
     /// `Exhausted` where as many pins were made as there are numbers, else `NoMemory`. Then all is as it was.
     pub fn pin(&mut self, alloc: Global) -> Result<Snapshot<D>, Refused>
         requires { IsSound D.tells (view_of self.old.core) }
-        ensures answers { Answers D.tells (Serves Work) (result_err result) (record (face_of (view_of self.old.core)) { pins = (view_of self.new.core).pins }) (view_of self.old.core) (view_of self.new.core) }
+        ensures answers { Answers D.tells (Serves Work) (result_err result) (pinned_face (face_of (view_of self.old.core)) result) (view_of self.old.core) (view_of self.new.core) }
         ensures held { D.tells → (s : Stored) → Holds (view_of self.old.core) s → Holds (view_of self.new.core) s }
 
         // It has the next number and shows the history without what failed; its pin names the pages of the store's files.
@@ -60,7 +61,7 @@ impl<D: Disk> Engine<D> {
     /// device call. A snapshot goes back to the store that gave it: that of another store, or of an earlier opening, would let this store's pin of the same number go.
     pub fn release(&mut self, snapshot: Snapshot<D>)
         requires { IsSound D.tells (view_of self.old.core) }
-        ensures answers { Answers D.tells (Serves Work) None (record (face_of (view_of self.old.core)) { pins = (view_of self.new.core).pins }) (view_of self.old.core) (view_of self.new.core) }
+        ensures answers { Answers D.tells (Serves Work) None (without_pin (face_of (view_of self.old.core)) snapshot.number) (view_of self.old.core) (view_of self.new.core) }
         ensures held { D.tells → (s : Stored) → Holds (view_of self.old.core) s → Holds (view_of self.new.core) s }
         ensures same { self.new ≡ record self.old { core = record self.old.core { pins = record self.old.core.pins { pins = without snapshot.number self.old.core.pins.pins } } } }
     {

@@ -7,6 +7,7 @@ ghost use Rattle.lethe_base.specs.declared.call.Call.TheVariants as call;
 ghost use Rattle.lethe_base.specs.declared.config.Fields.{Fields};
 ghost use Rattle.lethe_base.specs.declared.name.Name.{Name};
 ghost use Rattle.lethe_base.specs.declared.refused.Refused.TheVariants as refused;
+ghost use Rattle.lethe_cert.specs.declared.certificate.Certificate as cert;
 ghost use Rattle.lethe_cover.specs.Steps.{with_done};
 ghost use Rattle.lethe_disk.specs.Disk.{IsSynced};
 ghost use Rattle.lethe_follows.specs.Ticked.{ticked};
@@ -26,7 +27,7 @@ ghost use Rattle.lethe_engine.specs.Answers.{Answers};
 ghost use Rattle.lethe_engine.specs.Certificates.{IsTrueCertificate};
 ghost use Rattle.lethe_engine.specs.Gone.{HoldsNothingErased};
 ghost use Rattle.lethe_engine.specs.StandsFor.{Opened, StandsFor, StandsSince};
-ghost use Rattle.lethe_engine.specs.Ticks.{HasReasonOfTick, IsTickable, MayRefuseTick, ticked_face};
+ghost use Rattle.lethe_engine.specs.Ticks.{HasReasonOfTick, IsTickable, MayRefuseTick, answered_by, ticked_face};
 
 use crate::Engine;
 use lethe_base::{MAX_PLACE, Refused};
@@ -61,7 +62,7 @@ impl<D: Disk> Engine<D> {
         // Opening gives this, and each call leaves it so.
         requires sound { IsSound D.tells (view_of self.old.core) }
         requires within { to ≤ max_time }
-        ensures answers { Answers D.tells (Makes (call.Tick to)) (result_err result) (ticked_face (view_of self.old.core) to (view_of self.new.core).retired) (view_of self.old.core) (view_of self.new.core) }
+        ensures answers { Answers D.tells (Makes (call.Tick to)) (result_err result) (ticked_face (view_of self.old.core) to) (view_of self.old.core) (view_of self.new.core) }
         ensures place { IfOk result (λ told. (told.place ≡ self.old.core.state.count + 1) × (told.clock ≡ to)) }
 
         // Acknowledged: no object of the directory spells a value that was erased a threshold before the tick's time, or longer ago. The directory is the one image.
@@ -74,11 +75,11 @@ impl<D: Disk> Engine<D> {
         ensures certificate { IfOk result (λ told. told.certificate ≡ certificate_of self.new.core.state.manifest to) }
         ensures kept { MatchResult result (λ told. self.new.certificates.items ≡ self.old.certificates.items ++ option_to_list told.certificate) (λ why. self.new.certificates.items ≡ self.old.certificates.items) }
 
-        // It is true of the directory and the history, and from then on the store stands for what it says, as it does for all that it answered before.
+        // It is true of the directory and the history, and from then on the store stands for what it says, as it does for the certificates for which it stood before.
         ensures is_true { D.tells → (config : Fields) (opened : Opened) (h : History) → StandsSince config opened h (view_of self.old.core) → (caller : ℕ)
             → IfOk result (λ told. IfSome told.certificate (λ certificate. IsTrueCertificate config.threshold certificate (D.seen self.new.core.disk).directory (with_done h caller (call.Tick to)))) }
-        ensures certified { D.tells → (config : Fields) (opened : Opened) (h : History) → StandsFor config opened h (view_of self.old.core) self.old.certificates.items → (caller : ℕ)
-            → StandsFor config opened (behind h caller (Makes (call.Tick to)) (result_err result)) (view_of self.new.core) self.new.certificates.items }
+        ensures certified { D.tells → (config : Fields) (opened : Opened) (h : History) (answered : List cert.Certificate) → StandsFor config opened h (view_of self.old.core) answered → (caller : ℕ)
+            → StandsFor config opened (behind h caller (Makes (call.Tick to)) (result_err result)) (view_of self.new.core) (answered ++ answered_by result) }
 
         // It is in its last step alone that a crash may leave what is kept for the history with the tick: up to there all that is due was carried out.
         ensures last_step { D.tells → (config : Fields) (h : History) → (stands : StandsNow config h (view_of self.old.core))
@@ -91,8 +92,8 @@ impl<D: Disk> Engine<D> {
             → OnOk result ((ripe t : Stored) × (outcomes : List Outcome) × (number : ℕ) × IsRipened to s ripe × AreOutcomesBy (due_choice to) ripe outcomes t
             × Holds (view_of self.new.core) (ticked t to number) × (D.fetches port.new ≡ D.fetches port.old + pages_of outcomes)) }
 
-        // Behind it what is stored and pages that held pins name lie in the directory, and nothing else.
-        ensures named { D.tells → OnOk result (AreNamed (view_of self.new.core).pins.pins (view_of self.new.core).retired) }
+        // Behind it what is stored and pages that held pins name lie in the directory, and nothing else; on any disk no other page is retired.
+        ensures named { OnOk result (AreNamed (view_of self.new.core).pins.pins (view_of self.new.core).retired) }
 
         // A refusal has its reason. A store that is stopped, or whose clock is ahead, or whose places or rounds are used up, or that a pin bars, is as it was.
         ensures why { IfErr result (HasReasonOfTick D.tells D.ports_fail to (view_of self.old.core) (view_of self.new.core) (D.port_faults port.old) (D.port_faults port.new)) }

@@ -29,6 +29,7 @@ impl<D: Disk> Engine<D> {
         // Opening gives this, and each call leaves it so.
         requires { IsSound D.tells (view_of self.old.core) }
         ensures answers { Answers D.tells (Serves Work) (result_err result) (face_of (view_of self.old.core)) (view_of self.old.core) (view_of self.new.core) }
+        ensures retired { self.new.core.retired ≡ self.old.core.retired }
 
         // It is false exactly where there is nothing to do, and then nothing is done.
         ensures idle { (result ≡ Ok false) ↔ HasNoFreeze self.old.core.state }
@@ -66,6 +67,7 @@ impl<D: Disk> Engine<D> {
         // Opening gives this, and each call leaves it so.
         requires { IsSound D.tells (view_of self.old.core) }
         ensures answers { Answers D.tells (Serves Work) (result_err result) (face_of (view_of self.old.core)) (view_of self.old.core) (view_of self.new.core) }
+        ensures retired { self.new.core.retired ≡ self.old.core.retired }
 
         // It is false exactly where there is nothing to do, and then nothing is done.
         ensures idle { (result ≡ Ok false) ↔ HasNoFlush self.old.core.state }

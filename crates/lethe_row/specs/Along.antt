@@ -111,11 +111,12 @@ pub record IsRow (Tells : Type 0) (asked left : List Asked) (done : ℕ) (refuse
   pub stands : Tells → (config : Fields) (h : History) → StandsNow config h old → (caller : ℕ) → StandsNow config (row_behind h caller made failed) new
   -- a crash at any moment of the row leaves what is kept for the history with the first ones of the changes
   pub any_moment : Tells → (config : Fields) (h : History) → StandsNow config h old → old.state.stopped ≡ None → (caller : ℕ) → GoesFrom old.state.next (IsKeptAlong config h caller (tried made failed)) old.disk new.disk
-  -- unless the disk failed the active segment has a record for each, and nothing else changed
+  -- unless the disk failed the active segment has a record for each; what is frozen, the manifest and the numbers are as they were
   pub grown : failed ≡ None → HasGrown (length made) old.state new.state
   -- each record is over what the ones before it left, and the store holds those
   pub written : Tells → failed ≡ None → (s : Stored) → Holds old s → (t : Stored) × AreAppended (headers_in old.levels) s made t × Holds new t
   pub calls : Tells → refused ≡ None → new.disk.moment ≡ old.disk.moment + calls_of made
   pub numbers : Tells → new.state.next + old.disk.moment ≤ old.state.next + new.disk.moment
+  pub drawn : old.state.next ≤ new.state.next
   pub faults : old.faults ≤ new.faults
   pub pinned : Tells → AreKept old.pins.pins old.disk.directory new.disk.directory

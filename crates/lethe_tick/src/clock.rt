@@ -64,6 +64,7 @@ pub(crate) fn move_clock<D: Disk>(
         → HasNothingDue stands.stored.manifest.config to (layout_of (let_go stands.stored)) → (caller : ℕ)
         → GoesFrom core.old.state.next (IsKeptOr config h (written_by caller (Makes (Tick to)) (result_err result))) (D.seen core.old.disk) (D.seen core.new.disk) }
     ensures numbers { D.tells → core.new.state.next + (D.seen core.old.disk).moment ≤ core.old.state.next + (D.seen core.new.disk).moment }
+    ensures drawn { core.old.state.next ≤ core.new.state.next }
     ensures faults { D.faults core.old.disk ≤ D.faults core.new.disk }
     ensures retired { core.new.retired ≡ core.old.retired }
     ensures flight { core.new.flight ≡ core.old.flight }

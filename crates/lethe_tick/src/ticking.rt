@@ -14,7 +14,7 @@ ghost use Rattle.lethe_stored.specs.Stored.{Stored};
 ghost use Rattle.lethe_core.specs.Asked.{Makes, behind, counted, stopped_by, written_by};
 ghost use Rattle.lethe_core.specs.Keeps.{Keeps, MayStep};
 ghost use Rattle.lethe_core.specs.Merges.{AreOutcomesBy, Outcome, due_choice, pages_of};
-ghost use Rattle.lethe_core.specs.Pinned.{AreKept, AreNamed};
+ghost use Rattle.lethe_core.specs.Pinned.{AreKept, AreNamed, AreRetiredFrom};
 ghost use Rattle.lethe_core.specs.Reasons.{HasReason, IsUnreadable};
 ghost use Rattle.lethe_core.specs.Running.{Holds, IsSound};
 ghost use Rattle.lethe_core.specs.StandsNow.{StandsNow};
@@ -74,14 +74,16 @@ pub fn tick<D: Disk>(
     ensures why { IfErr result (λ why. HasReason (IsShortToTick D.tells to (view_of core.new)) core.old.state before (D.faults core.new.disk) why
         ⊎ IsUnreadable D.tells D.ports_fail (D.port_faults port.old) (D.port_faults port.new) why) }
     ensures numbers { D.tells → core.new.state.next + (D.seen core.old.disk).moment ≤ core.old.state.next + (D.seen core.new.disk).moment }
+    ensures drawn { core.old.state.next ≤ core.new.state.next }
     ensures faults { D.faults core.old.disk ≤ D.faults core.new.disk }
+    ensures retired { AreRetiredFrom (view_of core.old).pins.pins (view_of core.old).retired (view_of core.new).retired }
     ensures free { core.new.flight ≡ None }
     ensures begun { core.new.begun ≡ core.old.begun }
     ensures pins { core.new.pins ≡ core.old.pins }
 
     // What pins name stays as it is, also where the disk fails; behind a tick nothing else lies beside what is stored.
     ensures pinned { D.tells → AreKept (view_of core.old).pins.pins (D.seen core.old.disk).directory (D.seen core.new.disk).directory }
-    ensures named { D.tells → OnOk result (AreNamed (view_of core.new).pins.pins (view_of core.new).retired) }
+    ensures named { OnOk result (AreNamed (view_of core.new).pins.pins (view_of core.new).retired) }
     ensures port_faults { D.port_faults port.old ≤ D.port_faults port.new }
     // Where a page is told as damaged, a fetch was made in this call, on any disk.
     ensures fetched { (name : Name) → IsErrOf result (refused.Damaged name) → D.fetches port.old < D.fetches port.new }
@@ -113,7 +115,7 @@ fn ripen_store<D: Disk>(
         ⊎ IsUnreadable D.tells D.ports_fail (D.port_faults port.old) (D.port_faults port.new) why) }
     ensures free { core.new.flight ≡ None }
     ensures begun { core.new.begun ≡ core.old.begun }
-    ensures named { D.tells → OnOk result (AreNamed (view_of core.new).pins.pins (view_of core.new).retired) }
+    ensures named { OnOk result (AreNamed (view_of core.new).pins.pins (view_of core.new).retired) }
     ensures port_faults { D.port_faults port.old ≤ D.port_faults port.new }
     ensures fetched { (name : Name) → IsErrOf result (refused.Damaged name) → D.fetches port.old < D.fetches port.new }
     ensures fetches { D.fetches port.old ≤ D.fetches port.new }
