@@ -36,3 +36,4 @@ pub mod Roomed
 pub mod Chosen
 pub mod SweptPuts
 pub mod Copying
+pub mod Faces

@@ -22,7 +22,7 @@ use Rattle.lethe_advance.specs.Settled.{names_in}
 use Rattle.lethe_core.specs.Running.{Holds, IsRunning, IsSmall, IsSound}
 use Rattle.lethe_core.specs.StandsNow.{StandsNow}
 use Rattle.lethe_core.specs.Steps.{IsAsBefore, IsBeside}
-use Rattle.lethe_core.specs.View.{Face, View, face_of, flying_of, loose_in, names_beside, view_of}
+use Rattle.lethe_core.specs.View.{Face, View, face_of, flying_of, limited_of, loose_in, names_beside, view_of}
 use Rattle.lethe_core.specs.declared.holding.Core.{Core}
 use Rattle.lethe_core.proofs.Hindered.{drawn_on, flies_on}
 use Rattle.lethe_core.proofs.Standing.{next_stands_now, running_back, stands_for, stands_holds}
@@ -116,16 +116,16 @@ next_small next end old new is room small =
 
 -- A step that left all as it was
 
--- the jobs and the pins of a store, and the pages that are retired, are as they were
-pub jobs_same : {D Page Port : Type 0} {kind : Ghosts D Page Port} (old new : Core D Page Port kind) → new.begun ≡ old.begun → new.flight ≡ old.flight → new.retired.items ≡ old.retired.items → new.pins ≡ old.pins
-    → face_of (view_of new) ≡ face_of (view_of old)
-jobs_same old new begun flight retired pins = λ i. record { begun = (begun i).jobs.count; rounds = (begun i).rounds; flight = option_map flying_of (flight i); retired = retired i; pins = pins i }
+-- the jobs and the pins of a store are as they were
+pub jobs_same : {D Page Port : Type 0} {kind : Ghosts D Page Port} (old new : Core D Page Port kind) → new.begun ≡ old.begun → new.flight ≡ old.flight → new.pins ≡ old.pins → face_of (view_of new) ≡ face_of (view_of old)
+jobs_same old new begun flight pins =
+    λ i. record { begun = (begun i).jobs.count; rounds = (begun i).rounds; flight = option_map flying_of (flight i); made = (pins i).made; held = map limited_of (pins i).pins }
 
 -- what it held it holds
-pub before_holds : (Tells : Type 0) → Tells → (old new : View) (s : Stored) → face_of new ≡ face_of old → IsAsBefore Tells old new → Holds old s → Holds new s
-before_holds Tells told old new s face is holds =
+pub before_holds : (Tells : Type 0) → Tells → (old new : View) (s : Stored) → face_of new ≡ face_of old → new.pins ≡ old.pins → IsAsBefore Tells old new → Holds old s → Holds new s
+before_holds Tells told old new s face pins is holds =
     let mid = with_state old new.state in
-    let rest : IsBeside mid new = record { levels = is.levels; retired = is.retired; flight = ap (λ (face : Face). face.flight) face; begun = ap (λ (face : Face). face.begun) face; rounds = ap (λ (face : Face). face.rounds) face; pins = ap (λ (face : Face). face.pins) face } in
+    let rest : IsBeside mid new = record { levels = is.levels; retired = is.retired; flight = ap (λ (face : Face). face.flight) face; begun = ap (λ (face : Face). face.begun) face; rounds = ap (λ (face : Face). face.rounds) face; pins = pins } in
     let like = like_holds old new.state is.state s holds in
     record {
       remembers = subst (Remembers s new.state) (sym is.levels) like.remembers;
