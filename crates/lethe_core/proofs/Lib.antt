@@ -3,6 +3,7 @@ pub mod Histories
 pub mod Timely
 pub mod Beside
 pub mod Standing
+pub mod Retired
 pub mod Hindered
 pub mod Kept
 pub mod Carried
