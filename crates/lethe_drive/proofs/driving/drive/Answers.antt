@@ -69,8 +69,8 @@ loop-event-preserved g c =
     let pushed : c.push.new.self.items ≡ c.loop-event.replies.items ++ reply ∷ [] = search rules in
     let is = c.answer_any-reply.ensures in
     let more : (before : List Certificate) → (before ++ certificates_in c.loop-event.replies.items) ++ certificates_of reply ≡ before ++ certificates_in c.push.new.self.items = λ before.
-        append_assoc before (certificates_in c.loop-event.replies.items) (certificates_of reply)
-        ∙ ap (λ (l : List Certificate). before ++ l) (sym (in_more c.loop-event.replies.items reply)) ∙ ap (λ (replies : List Reply). before ++ certificates_in replies) (sym pushed) in
+    append_assoc before (certificates_in c.loop-event.replies.items) (certificates_of reply)
+    ∙ ap (λ (l : List Certificate). before ++ l) (sym (in_more c.loop-event.replies.items reply)) ∙ ap (λ (replies : List Reply). before ++ certificates_in replies) (sym pushed) in
     record {
       sound = is.sound;
       jobs = is.jobs;
