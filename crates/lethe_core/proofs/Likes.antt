@@ -1,7 +1,8 @@
 -- What a store is where memory was reserved.
 use Rattle.std.specs.Prelude.{option_map}
-use Rattle.std.proofs.Common.{◌≡◌, ◌≤◌, ◌<◌, ◌+◌, ℕ, List, None, length, refl, sym, ap, ◌∙◌, subst, arith}
+use Rattle.std.proofs.Common.{◌≡◌, ◌≤◌, ◌<◌, ◌+◌, ℕ, List, None, length, map, refl, sym, ap, ◌∙◌, subst, arith}
 use Rattle.lethe_base.specs.History.{History}
+use Rattle.lethe_base.specs.Shapes.{earlier}
 use Rattle.lethe_base.specs.declared.config.Fields.{Fields}
 use Rattle.lethe_disk.specs.declared.disk.Disk.{Ghosts}
 use Rattle.lethe_mem.specs.Buffered.{Buffered}
@@ -10,10 +11,12 @@ use Rattle.lethe_segment.specs.declared.record.Record.{Record}
 use Rattle.lethe_segment.specs.declared.record.Record.TheVariants as of
 use Rattle.lethe_commit.specs.Append.{EndsAt}
 use Rattle.lethe_flush.proofs.Newest.{inserts_few}
+use Rattle.lethe_follows.specs.Young.{time_of}
 use Rattle.lethe_stored.specs.Files.{Parts}
 use Rattle.lethe_stored.specs.Replayed.{AreNewestOf}
 use Rattle.lethe_stored.specs.Stored.{Stored, segment_name}
-use Rattle.lethe_state.specs.Records.{Enters, IsLike, IsNext}
+use Rattle.lethe_state.specs.Firsts.{firsts_with}
+use Rattle.lethe_state.specs.Records.{Enters, IsLike, IsNext, pending_with}
 use Rattle.lethe_state.specs.Remembered.{IsFrozenIn, Remembers}
 use Rattle.lethe_state.specs.Room.{frozen_len}
 use Rattle.lethe_state.specs.Writable.{IsWritable}
@@ -98,6 +101,23 @@ module _ (view : View) (new : State) (like : IsLike view.state new) where
       (like_holds stands.stored (stands_holds config h view stands runs)) stands.counted stands.recorded (stands.timely runs)
 
 -- With one record more
+
+pub like_next : (next : Record) (end : ℕ) (a b c : State) → IsLike a b → IsNext next end b c → IsNext next end a c
+like_next next end a b c like is = record {
+  manifest = is.manifest ∙ like.manifest;
+  count = is.count ∙ ap (λ n. n + 1) like.count;
+  pending = is.pending ∙ ap (λ l. pending_with l next) like.pending;
+  active = subst (λ entries. Enters next entries c.active.entries) like.active is.active;
+  records = is.records ∙ ap (λ n. n + 1) like.records;
+  end_is = is.end_is;
+  oldest = is.oldest ∙ ap (λ time. earlier time (time_of next)) like.oldest;
+  firsts = is.firsts ∙ ap (λ firsts. firsts_with firsts next) like.firsts;
+  frozen = is.frozen ∙ like.frozen;
+  frozen_oldest = is.frozen_oldest ∙ like.frozen_oldest;
+  frozen_firsts = is.frozen_firsts ∙ like.frozen_firsts;
+  stopped = is.stopped ∙ like.stopped;
+  drawn = is.drawn ∙ like.next;
+}
 
 enters_few : (next : Record) (old new : Buffered) → Enters next old.entries new.entries → length new.entries ≤ length old.entries + 1
 enters_few (of.Entry entry) old new enters = inserts_few entry old.entries new.entries old.ascending enters
