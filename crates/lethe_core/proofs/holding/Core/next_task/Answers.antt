@@ -15,7 +15,7 @@ pub returns-in_default-clause-none : goal.returns-in_default-clause-none
 returns-in_default-clause-none g c = λ s holds ended.
     let cited = ap (λ (m : Manifest). m.files) (sym (c.manifest-manifest.ensures ∙ holds.remembers.manifest)) ∙ sym c.items.ensures in
     let files = c.in_ok-files.ensures.stored s holds.remembers.coherent cited holds.remembers.files in
-    let left = c.left_erases.ensures s (view_of c.args.self.now).levels holds.remembers in
+    let left = c.left_erases.ensures.left s (view_of c.args.self.now).levels holds.remembers in
     sym (c.in_default.ensures ∙ picked_chosen c.args.choice c.manifest-manifest.result.now c.left_erases.result.now c.fields.result.now c.fields.ensures.fields c.in_ok-files.files.items c.deref.result.now
     c.deref.ensures.value c.in_ok-shape.shape c.in_ok-shape.ensures.shape (view_of c.args.self.now) c.manifest-manifest.ensures s holds files left)
 
@@ -37,7 +37,7 @@ pub returns-clause-some : goal.returns-clause-some
 returns-clause-some g c = λ s holds.
     let cited = ap (λ (m : Manifest). m.files) (sym (c.manifest-manifest.ensures ∙ holds.remembers.manifest)) ∙ sym c.items.ensures in
     let files = c.in_ok-files.ensures.stored s holds.remembers.coherent cited holds.remembers.files in
-    let left = c.left_erases.ensures s (view_of c.args.self.now).levels holds.remembers in
+    let left = c.left_erases.ensures.left s (view_of c.args.self.now).levels holds.remembers in
     let chosen = picked_chosen c.args.choice c.manifest-manifest.result.now c.left_erases.result.now c.fields.result.now c.fields.ensures.fields c.in_ok-files.files.items c.deref.result.now
     c.deref.ensures.value c.in_ok-shape.shape c.in_ok-shape.ensures.shape (view_of c.args.self.now) c.manifest-manifest.ensures s holds files left in
     let plan : chosen_by c.args.choice s ≡ Some c.in-Some.plan = sym (c.in-Some.ensures ∙ chosen) in
