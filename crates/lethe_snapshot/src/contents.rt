@@ -1,5 +1,5 @@
 //! What a snapshot shows, before its pin is made.
-ghost use Rattle.std.specs.Prelude.{◌≡◌, IfOk, option_map};
+ghost use Rattle.std.specs.Prelude.{◌≡◌, Option, IfOk, option_map};
 ghost use Rattle.std.specs.Option.{option_copied};
 ghost use Rattle.lethe_base.specs.History.{History};
 ghost use Rattle.lethe_advance.specs.Shown.{parts_by_level};
