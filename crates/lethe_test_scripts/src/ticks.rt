@@ -96,7 +96,7 @@ const ROWS: [Row; 17] = [
     // An erase that is done bars no tick.
     (
         "1 put a 22 v\n1 put b 50 v\n1 put c 50 v\n1 erase 21 26\n1 tick 20\n1 put d 50 v\n1 put e 50 v\n1 put f 50 v\n1 put g 50 v\n1 put h 50 v\n1 stat\n1 pin 0\n1 tick 100\n1 unpin 0\n",
-        "1 ok 1\n1 ok 2\n1 ok 3\n1 ok 4\n1 ok 5 clock 20\n1 ok 6\n1 ok 7\n1 ok 8\n1 ok 9\n1 ok 10\n1 at 10 stat clock 20 pins 0 pending 0 files 3 tombs 0\n1 at 10 pin 1 limit 120\n1 ok 11 clock 100 cert 1 before 0 sha256 H\n1 at 11 unpin 1\n",
+        "1 ok 1\n1 ok 2\n1 ok 3\n1 ok 4\n1 ok 5 clock 20\n1 ok 6\n1 ok 7\n1 ok 8\n1 ok 9\n1 ok 10\n1 at 10 stat clock 20 pins 0 pending 0 files 1 tombs 0\n1 at 10 pin 1 limit 120\n1 ok 11 clock 100 cert 1 before 0 sha256 H\n1 at 11 unpin 1\n",
         false,
     ),
     // The least and the greatest time.

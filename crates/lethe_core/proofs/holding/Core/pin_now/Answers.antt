@@ -1,8 +1,10 @@
-use Rattle.std.proofs.Common.{sym, subst}
+use Rattle.std.proofs.Common.{◌≡◌, ◌∙◌, ap, sym, subst}
 use Rattle.lethe_bound.specs.Limits.{IsLimit}
 use Rattle.lethe_pins.specs.Held.{AreHeld, Held}
 use Rattle.lethe_pins.specs.declared.pin.Pin.{Pin}
+use Rattle.lethe_snapshot.specs.Points.{IsTaken}
 use Rattle.lethe_snapshot.specs.Times.{IsLimitBy}
+use Rattle.lethe_snapshot.specs.declared.snapshot.Snapshot.{Snapshot}
 use Rattle.lethe_stored.specs.Stored.{layout_of}
 use Rattle.lethe_core.specs.Running.{Holds, IsSound}
 use Rattle.lethe_core.specs.StandsNow.{StandsNow}
@@ -38,4 +40,10 @@ returns-in-Ok-pin-clause-held g c = λ told s holds.
 pub returns-in-Ok-pin-clause-by : goal.returns-in-Ok-pin-clause-by
 returns-in-Ok-pin-clause-by g c =
     let old = view_of c.args.self.now in
-    subst (λ limit. IsLimitBy old.state old.levels limit) (sym c.in-Ok-pin.ensures.limit) c.limit_of-limit.ensures.by
+    let same : c.of-in-Ok-pin.result.pin.limit ≡ c.limit_of-limit.result = ap (λ (snapshot : Snapshot _ _ _ _). snapshot.pin.limit) c.of-in-Ok-pin.ensures ∙ c.in-Ok-pin.ensures.limit in
+    subst (λ limit. IsLimitBy old.state old.levels limit) (sym same) c.limit_of-limit.ensures.by
+
+pub returns-in-Ok-pin-clause-taken : goal.returns-in-Ok-pin-clause-taken
+returns-in-Ok-pin-clause-taken g c =
+    let old = view_of c.args.self.now in
+    subst (λ (snapshot : Snapshot _ _ _ _). IsTaken old.state old.levels snapshot) (sym c.of-in-Ok-pin.ensures) (c.in-Ok-of.ensures.taken c.in-Ok-pin.pin)
