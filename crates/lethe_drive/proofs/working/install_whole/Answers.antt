@@ -26,7 +26,7 @@ returns-in-Ok-clause-step g c = λ told config opened h stands s known fetches f
     let stood = c.in-Ok.ensures.answers.stands told config opened h step.2 0 in
     let made = installed_whole g.D.Disk.tells g.D.Disk.ports_fail h (view_of c.args.engine.now.core) s numbered.number fetches faults c.args.jobs.now.begun snapshots numbered.job config opened tt
     (view_of c.write_rest.new.engine.core) (view_of c.install.new.self.core) stood c.write_rest.new.job step.0 (there_of c.args.jobs.now) c.write_rest.ensures.task step.1 step.3.done
-    (λ at is. (c.in-Ok.ensures.stopped at is).1) (c.in-Ok.ensures.done told step.0) (ap (λ (face : Face). face.flight) c.in-Ok.ensures.answers.face_is)
+    (λ at is. (c.in-Ok.ensures.stopped at is).1) step.3.flight (c.in-Ok.ensures.done told step.0) (ap (λ (face : Face). face.flight) c.in-Ok.ensures.answers.face_is)
     (ap (λ (face : Face). face.pins) c.in-Ok.ensures.answers.face_is) step.3.pins c.in-Ok.ensures.named (there_none c.args.jobs.now c.requires.none) in
     (made.0, made.1, stood, made.2)
 
