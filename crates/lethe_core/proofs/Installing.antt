@@ -13,7 +13,7 @@ use Rattle.lethe_cover.proofs.Lists.{all_from, flat_from, flat_in, only_in}
 use Rattle.lethe_file.specs.Agreement.{FileAgrees}
 use Rattle.lethe_follows.specs.Merged.{entries_in}
 use Rattle.lethe_follows.proofs.Merging.{all_counted}
-use Rattle.lethe_install.specs.Outcomes.{IsInstalled}
+use Rattle.lethe_install.specs.Outcomes.{AreFirst, IsInstalled}
 use Rattle.lethe_install.specs.declared.steps.Installation.{Installation}
 use Rattle.lethe_install.proofs.Beside.{input_in}
 use Rattle.lethe_job.specs.MadeOf.{numbers_in, written_of}
@@ -93,6 +93,7 @@ Installs Tells state levels task made written retired installation = Tells → (
     → (t : Stored) × IsInstalled s task t
     × ((left : List (Name × List ℕ)) × IsStep s (beside ++ written_of written made) t left installation.headers.items installation.step × (installation.left.items ≡ names_in left)
     × AreDrawn installation.step.manifest.next installation.left.items)
+    × AreFirst written s t
 
 -- of what isn't cited any more just what a held pin names is left
 pub record IsParted (view : View) (installation : Installation) : Type 0 where
@@ -102,7 +103,7 @@ pub record IsParted (view : View) (installation : Installation) : Type 0 where
 -- where these pages are those of the job in flight, and the retired ones those of the store, it is a step that may be carried out
 pub next_installed : (Tells : Type 0) (view : View) → (Tells → AreDrawn view.state.next (names_beside view)) → (task : PlainTask) (made : Made) (written retired : List Name) (installation : Installation)
     → Installs Tells view.state view.levels task made written retired installation → IsParted view installation → view.retired ≡ retired
-    → loose_in view.flight ≡ written_of written made → names_in (loose_in view.flight) ≡ written → Tells → (s : Stored) → Holds view s → IsTaskFor s task → (t : Stored) × MayMerge view s task t installation
+    → loose_in view.flight ≡ written_of written made → names_in (loose_in view.flight) ≡ written → Tells → (s : Stored) → Holds view s → IsTaskFor s task → (t : Stored) × MayMerge view s task t installation × AreFirst written s t
 next_installed Tells view drawn task made written retired installation installs parted there loose names told s holds is =
     let beside = named_in view.disk.directory view.retired in
     let next = installs told s beside holds.remembers holds.running.current holds.running.rising is (names_named view.disk.directory view.retired ∙ there)
@@ -118,6 +119,7 @@ next_installed Tells view drawn task made written retired installation installs 
         named = parted.named;
         gone = parted.gone;
       },
+      next.3,
     )
 
 -- for the job in flight
@@ -125,7 +127,7 @@ module _ (Tells : Type 0) (view : View) (drawn : Tells → AreDrawn view.state.n
     (outputs : AreOutputsOf Tells flying made) (installation : Installation) where
   pub next_install : (task : PlainTask) (written retired : List Name) → Installs Tells view.state view.levels task made written retired installation → task ≡ flying.task
       → written ≡ names_in flying.written → IsParted view installation → view.retired ≡ retired
-      → Tells → (s : Stored) → Holds view s → (t : Stored) × MayMerge view s flying.task t installation
+      → Tells → (s : Stored) → Holds view s → (t : Stored) × MayMerge view s flying.task t installation × AreFirst (names_in flying.written) s t
   next_install task written retired installs same names parted there told s holds =
       let tasked = subst (λ flight. IfSome flight (IsTasked s)) flies holds.running.tasked in
       let its = subst (λ names. Installs Tells view.state view.levels flying.task made names retired installation) names
@@ -146,7 +148,9 @@ module _ (view : View) (task : PlainTask) (plans : (s : Stored) → Holds view s
       → Installs Tells view.state view.levels task made [] retired installation → IsParted view installation → view.retired ≡ retired
       → Tells → (s : Stored) → Holds view s → (t : Stored) × MayMerge view s task t installation
   next_outcome free Tells drawn made retired installation installs parted there told s holds =
-      next_installed Tells view drawn task made [] retired installation installs parted there (ap loose_in free) (ap (λ flight. names_in (loose_in flight)) free) told s holds (planned_for s task (plans s holds))
+      let next = next_installed Tells view drawn task made [] retired installation installs parted there (ap loose_in free) (ap (λ flight. names_in (loose_in flight)) free) told s holds
+      (planned_for s task (plans s holds)) in
+      (next.0, next.1)
 
 -- for the job that is begun
 pub begun_sound : (view : View) (task : PlainTask) → ((s : Stored) → Holds view s → IsBegunIn s task) → (s : Stored) → Holds view s → AreSound (inputs_in task)

@@ -10,7 +10,7 @@ ghost use Rattle.lethe_clean.specs.Copied.{IsCopied};
 ghost use Rattle.lethe_disk.specs.Disk.{IsIdle};
 ghost use Rattle.lethe_file.specs.Agreement.{page_name};
 ghost use Rattle.lethe_stored.specs.Stored.{Stored};
-ghost use Rattle.lethe_install.specs.Outcomes.{IsInstalled};
+ghost use Rattle.lethe_install.specs.Outcomes.{AreFirst, IsInstalled};
 ghost use Rattle.lethe_job.specs.MadeOf.{numbers_in};
 ghost use Rattle.lethe_job.specs.Works.{IsBegunIn, plain_task};
 ghost use Rattle.lethe_core.specs.Jobs.{AreOutputsOf, IsAtWork, with_begun, with_page};
@@ -129,7 +129,7 @@ impl<D: Disk> Core<D> {
         ensures keeps { Keeps D.tells (view_of self.old) (view_of self.new) (result_err result) }
         ensures undone { IfErr result (IsUndone D.tells (view_of self.old) (view_of self.new)) }
         ensures done { D.tells → (s : Stored) → Holds (view_of self.old) s
-            → IfSome (view_of self.old).flight (λ flying. OnOk result ((t : Stored) × IsInstalled s flying.task t × Holds (view_of self.new) t)) }
+            → IfSome (view_of self.old).flight (λ flying. OnOk result ((t : Stored) × IsInstalled s flying.task t × Holds (view_of self.new) t × AreFirst (names_in flying.written) s t)) }
         ensures steady { OnOk result (IsSteady self.old.state self.new.state) }
         ensures free { OnOk result ((self.new.flight ≡ None) × AreNamed (view_of self.new).pins.pins (view_of self.new).retired) }
         ensures kept { IfErr result (λ why. (self.new.flight ≡ self.old.flight) × (self.new.retired ≡ self.old.retired)) }

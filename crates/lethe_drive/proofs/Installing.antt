@@ -1,15 +1,19 @@
 -- Writing on and installing a job.
-use Rattle.std.proofs.Common.{◌≡◌, ◌≤◌, ◌⊎◌, inl, inr, ℕ, ◌+◌, ◌-◌, true, false, List, length, Option, Some, None, Result, Ok, Err, refl, sym, ap, ◌∙◌, subst, arith}
+use Rattle.std.proofs.Common.{◌≡◌, ◌≤◌, ◌⊎◌, inl, inr, ℕ, ◌+◌, ◌-◌, true, false, List, ◌++◌, length, length-append, map, take, Option, Some, None, Result, Ok, Err, refl, sym, ap, ◌∙◌, subst, arith}
 use Rattle.std.specs.Prelude.{IfSome, IsSome}
+use Rattle.std.proofs.Math.Seq.{take-append_seam}
+use Rattle.std.proofs.lemmas.List.{map-append, take-take}
+use Rattle.lethe_advance.specs.Settled.{names_in}
 use Rattle.lethe_base.specs.History.{History}
 use Rattle.lethe_base.specs.Limits.{max_place}
 use Rattle.lethe_base.specs.declared.call.Call.TheVariants.{Work}
 use Rattle.lethe_base.specs.declared.config.Fields.{Fields}
+use Rattle.lethe_base.specs.declared.name.Name.{Name}
 use Rattle.lethe_base.specs.declared.refused.Refused.{Refused}
 use Rattle.lethe_disk.specs.declared.disk.Disk.{Ghosts}
 use Rattle.lethe_stored.specs.Stored.{Stored}
 use Rattle.lethe_pins.specs.Held.{Held}
-use Rattle.lethe_install.specs.Outcomes.{IsInstalled}
+use Rattle.lethe_install.specs.Outcomes.{AreFirst, IsInstalled, new_names}
 use Rattle.lethe_job.specs.MadeOf.{numbers_in, pages_of}
 use Rattle.lethe_job.specs.Tasks.{AreSound}
 use Rattle.lethe_job.specs.Works.{PlainTask, inputs_in, plain_task}
@@ -21,7 +25,7 @@ use Rattle.lethe_core.specs.Pinned.{AreNamed}
 use Rattle.lethe_core.specs.Reasons.{HasReason, IsUnreadable}
 use Rattle.lethe_core.specs.Running.{Holds}
 use Rattle.lethe_core.specs.Steps.{IsUndone}
-use Rattle.lethe_core.specs.View.{Face, View, face_of}
+use Rattle.lethe_core.specs.View.{Face, Flying, View, face_of}
 use Rattle.lethe_engine.specs.Answers.{IsStill}
 use Rattle.lethe_engine.specs.Jobs as engine
 use Rattle.lethe_engine.specs.StandsFor.{Opened, StandsSince}
@@ -40,6 +44,22 @@ use Rattle.lethe_drive.proofs.Knowing.{count_same, known_held, not_stopped, stop
 use Rattle.lethe_drive.proofs.Naming.{no_such, there_is}
 use Rattle.lethe_drive.proofs.Reasons.{reason_on}
 use Rattle.lethe_drive.proofs.Writing.{nothing_in, outputs_for, some_of, spoilt}
+
+-- the first of the first pages are first
+first_still : (names more : List Name) (s t : Stored) → AreFirst (names ++ more) s t → AreFirst names s t
+first_still names more s t are = record {
+  first = sym (take-take (length names) (length (names ++ more)) (new_names s t.files) (omega (arith, length-append names more))) ∙ ap (take (length names)) are.first
+      ∙ take-append_seam names more;
+}
+
+first_before : (old mid : Option Flying) (s t : Stored) → IsWrittenOn old mid → IfSome mid (λ flying. AreFirst (names_in flying.written) s t) → IfSome old (λ flying. AreFirst (names_in flying.written) s t)
+first_before old mid s t written are =
+    let flying : Flying = written.flying in
+    let all : AreFirst (names_in (flying.written ++ written.pages)) s t = subst (λ (flight : Option Flying). IfSome flight (λ flying. AreFirst (names_in flying.written) s t)) written.is are in
+    let split : names_in (flying.written ++ written.pages) ≡ names_in flying.written ++ names_in written.pages =
+    map-append (λ (named : Name × List ℕ). named.0) flying.written written.pages in
+    subst (λ (flight : Option Flying). IfSome flight (λ flying. AreFirst (names_in flying.written) s t)) (sym written.flies)
+    (first_still (names_in flying.written) (names_in written.pages) s t (subst (λ (names : List Name). AreFirst names s t) split all))
 
 module _ {D Page Port : Type 0} {kind : Ghosts D Page Port} where
   -- the task of a job that is handed back
@@ -140,10 +160,11 @@ module _ {D Page Port : Type 0} {kind : Ghosts D Page Port} where
     -- it was installed
     pub installed_whole : (config : Fields) (opened : Opened) (done : Unit {0}) (mid new : View) → StandsSince config opened h new → (whole : Job D Page Port kind) (m : Stored) (there : Option Going)
         → whole.task.value ≡ job.task.value → IsKnown config h mid m → m ≡ s
-        → ((at : ℕ) → mid.state.stopped ≡ Some at → ⊥) → (Holds mid m → (t : Stored) × IsInstalled m (plain_task whole.task.value) t × Holds new t) → new.flight ≡ None → new.pins ≡ mid.pins → mid.pins ≡ old.pins
+        → ((at : ℕ) → mid.state.stopped ≡ Some at → ⊥) → IsWrittenOn old.flight mid.flight
+        → (Holds mid m → (t : Stored) × IsInstalled m (plain_task whole.task.value) t × Holds new t × IfSome mid.flight (λ flying. AreFirst (names_in flying.written) m t)) → new.flight ≡ None → new.pins ≡ mid.pins → mid.pins ≡ old.pins
         → AreNamed new.pins.pins new.retired → there ≡ None
         → (t : Stored) × IsKnown config h new t × IsInstall PortsFail (going_of number job) h before (Ok done) h (moment_of new t fetches faults begun there snapshots)
-    installed_whole config opened done mid new stood whole m there task known same never install free pins stay left none =
+    installed_whole config opened done mid new stood whole m there task known same never written install free pins stay left none =
         let made = install (known.held (not_stopped mid.state.stopped never)) in
         let held : new.pins ≡ old.pins = pins ∙ stay in (
           made.0,
@@ -152,6 +173,7 @@ module _ {D Page Port : Type 0} {kind : Ghosts D Page Port} where
             history = refl;
             answers = record {
               installed = subst (λ (m : Stored). IsInstalled m (plain_task job.task.value) made.0) same (subst (λ (task : PlainTask). IsInstalled m task made.0) (ap plain_task task) made.1);
+              first = subst (λ (m : Stored). IfSome old.flight (λ flying. AreFirst (names_in flying.written) m made.0)) same (first_before old.flight mid.flight m made.0 written made.3);
               retired = subst (λ (pins : Held). AreNamed pins.pins new.retired) held left;
               flight = free;
               there = none;

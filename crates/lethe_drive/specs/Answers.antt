@@ -1,7 +1,8 @@
 -- What a call of a run answers, by the moments before and behind it and the histories for which the store stands there.
-use Rattle.std.specs.Prelude.{◌≡◌, ◌⊎◌, ◌↔◌, ◌≤◌, ◌<◌, ℕ, ◌+◌, ◌-◌, Bool, true, false, List, [], ◌++◌, length, map, slice_index_or, Some, None, IsSome, Result, Ok, Err, IfErr}
+use Rattle.std.specs.Prelude.{◌≡◌, ◌⊎◌, ◌↔◌, ◌≤◌, ◌<◌, ℕ, ◌+◌, ◌-◌, Bool, true, false, List, [], ◌++◌, length, map, slice_index_or, Some, None, IsSome, Result, Ok, Err, IfErr, IfSome}
 use Rattle.std.specs.FinMap.{insert}
 use Rattle.std.specs.Result.{result_err}
+use Rattle.lethe_advance.specs.Settled.{names_in}
 use Rattle.lethe_base.specs.History.{History, after}
 use Rattle.lethe_base.specs.Limits.{max_place}
 use Rattle.lethe_base.specs.Read.{Read, Answer, answer}
@@ -20,7 +21,7 @@ use Rattle.lethe_merge.specs.Merge.{merged}
 use Rattle.lethe_segment.specs.declared.record.Record.{Record}
 use Rattle.lethe_stored.specs.Stored.{Stored, appended}
 use Rattle.lethe_state.specs.Records.{headers_in}
-use Rattle.lethe_install.specs.Outcomes.{IsInstalled}
+use Rattle.lethe_install.specs.Outcomes.{AreFirst, IsInstalled}
 use Rattle.lethe_sweep_task.specs.Outcome.{IsDraftLeft}
 use Rattle.lethe_job.specs.MadeOf.{numbers_in, pages_of}
 use Rattle.lethe_job.specs.Tasks.{merge_inputs}
@@ -237,9 +238,11 @@ pub record IsWriteOut (PortsFail : Type 0) (going : Going) (h : History) (old : 
 abbrev pub IsShortToInstall : Going → Moment → Type 0
 IsShortToInstall going new = (max_place ≤ new.state.next) ⊎ ((made : Made) × AreOutputsFor going.task made × (max_place ≤ new.state.next + (numbers_in made - length (pages_of made))))
 
--- what is stored is the outcome of its task, of the pages that it left none is retired but those that a held pin names, and it has ended
+-- what is stored is the outcome of its task, whose new pages begin with those that the job had written, of the pages that it left none is retired but those that a held pin names,
+-- and it has ended
 pub record HasInstalled (old : Moment) (going : Going) (new : Moment) : Type 0 where
   pub installed : IsInstalled old.stored going.task new.stored
+  pub first : IfSome old.flight (λ flying. AreFirst (names_in flying.written) old.stored new.stored)
   pub retired : AreNamed old.pins.pins new.retired
   pub flight : new.flight ≡ None
   pub there : new.there ≡ None

@@ -14,7 +14,7 @@ use Rattle.lethe_disk.specs.declared.disk.Disk.{Ghosts}
 use Rattle.lethe_stored.specs.Stored.{Stored}
 use Rattle.lethe_advance.specs.Settled.{AreDrawn, names_in}
 use Rattle.lethe_flush.proofs.Zips.{zip_cut, zip_joined}
-use Rattle.lethe_install.specs.Outcomes.{IsInstalled}
+use Rattle.lethe_install.specs.Outcomes.{AreFirst, IsInstalled}
 use Rattle.lethe_job.specs.Jobs.{next_bytes}
 use Rattle.lethe_job.specs.MadeOf.{numbers_in, pages_of, written_of}
 use Rattle.lethe_job.specs.Works.{AreOutputs, PlainTask, plain_task}
@@ -94,10 +94,15 @@ module _ {D Page Port : Type 0} {kind : Ghosts D Page Port} (Tells : Type 0) (ol
         }
 
   -- what was installed is the outcome of its task
-  pub outcome_of : (s : Stored) (new : View) → IfSome old.flight (λ flying. (t : Stored) × IsInstalled s flying.task t × Holds new t) → (t : Stored) × IsInstalled s (plain_task job.task.value) t × Holds new t
+  pub outcome_of : (s : Stored) (new : View) → IfSome old.flight (λ flying. (t : Stored) × IsInstalled s flying.task t × Holds new t × AreFirst (names_in flying.written) s t)
+      → (t : Stored) × IsInstalled s (plain_task job.task.value) t × Holds new t × IfSome old.flight (λ flying. AreFirst (names_in flying.written) s t)
   outcome_of s new is =
-      subst (λ (task : PlainTask). (t : Stored) × IsInstalled s task t × Holds new t) (sym works.flies.task)
-      (some_at (λ (flying : Flying). (t : Stored) × IsInstalled s flying.task t × Holds new t) old.flight works.flies.flying works.flies.is is)
+      let found = some_at (λ (flying : Flying). (t : Stored) × IsInstalled s flying.task t × Holds new t × AreFirst (names_in flying.written) s t) old.flight works.flies.flying works.flies.is is in (
+        found.0,
+        subst (λ (task : PlainTask). IsInstalled s task found.0) (sym works.flies.task) found.1,
+        found.2,
+        subst (λ (flight : Option Flying). IfSome flight (λ flying. AreFirst (names_in flying.written) s found.0)) (sym works.flies.is) found.3,
+      )
 
   module _ (made : Made) (is : job.made ≡ Some made) where
     -- the job in flight has what it made

@@ -2,6 +2,7 @@
 ghost use Rattle.std.specs.Prelude.{◌≡◌, ◌≤◌, ◌<◌, ◌+◌, ◌⊎◌, ℕ, true, Some, None, length, IfOk, IfErr, IfSome, IsErrOf, IsOk, IsSome, OnErr, OnOk, option_map};
 ghost use Rattle.std.specs.Result.{result_err};
 ghost use Rattle.std.specs.FinMap.{insert};
+ghost use Rattle.lethe_advance.specs.Settled.{names_in};
 ghost use Rattle.lethe_base.specs.Limits.{max_place};
 ghost use Rattle.lethe_base.specs.declared.call.Call.TheVariants.{Work};
 ghost use Rattle.lethe_base.specs.declared.refused.Refused.TheVariants as refused;
@@ -13,7 +14,7 @@ ghost use Rattle.lethe_job.specs.MadeOf.{pages_of};
 ghost use Rattle.lethe_job.specs.Works.{IsBegunIn, plain_task};
 ghost use Rattle.lethe_core.specs.Pinned.{AreNamed};
 ghost use Rattle.lethe_core.specs.Asked.{Serves};
-ghost use Rattle.lethe_install.specs.Outcomes.{IsInstalled};
+ghost use Rattle.lethe_install.specs.Outcomes.{AreFirst, IsInstalled};
 ghost use Rattle.lethe_core.specs.Jobs.{IsAtWork, IsInFlight, IsWhole, with_page};
 ghost use Rattle.lethe_core.specs.Running.{Holds, IsSound};
 ghost use Rattle.lethe_core.specs.View.{face_of, view_of};
@@ -173,8 +174,9 @@ impl<D: Disk> Engine<D> {
         requires whole { IsWhole job }
         ensures answers { Answers D.tells (Serves Work) (option_map (λ back. back.1) (result_err result)) (ended_face (face_of (view_of self.old.core)) result) (view_of self.old.core) (view_of self.new.core) }
 
-        // Acknowledged: what is stored is the outcome of the task.
-        ensures done { D.tells → (s : Stored) → Holds (view_of self.old.core) s → OnOk result ((t : Stored) × IsInstalled s (plain_task job.task.value) t × Holds (view_of self.new.core) t) }
+        // Acknowledged: what is stored is the outcome of the task, whose new pages begin with those of the job in flight.
+        ensures done { D.tells → (s : Stored) → Holds (view_of self.old.core) s → OnOk result ((t : Stored) × IsInstalled s (plain_task job.task.value) t × Holds (view_of self.new.core) t
+            × IfSome (view_of self.old.core).flight (λ flying. AreFirst (names_in flying.written) s t)) }
 
         // Of the pages that no manifest cites any more exactly those stay that a held pin names.
         ensures named { OnOk result (AreNamed (view_of self.new.core).pins.pins (view_of self.new.core).retired) }
@@ -209,7 +211,8 @@ impl<D: Disk> Engine<D> {
         requires works { IsAtWork D.tells (view_of self.old.core) job.old ⊎ IsPast (view_of self.old.core) job.old }
         requires whole { IsWhole job.old }
         ensures answers { Answers D.tells (Serves Work) (result_err result) (ended_face (face_of (view_of self.old.core)) result) (view_of self.old.core) (view_of self.new.core) }
-        ensures done { D.tells → (s : Stored) → Holds (view_of self.old.core) s → OnOk result ((t : Stored) × IsInstalled s (plain_task job.old.task.value) t × Holds (view_of self.new.core) t) }
+        ensures done { D.tells → (s : Stored) → Holds (view_of self.old.core) s → OnOk result ((t : Stored) × IsInstalled s (plain_task job.old.task.value) t × Holds (view_of self.new.core) t
+            × IfSome (view_of self.old.core).flight (λ flying. AreFirst (names_in flying.written) s t)) }
         ensures named { OnOk result (AreNamed (view_of self.new.core).pins.pins (view_of self.new.core).retired) }
         ensures job { job.new ≡ record job.old { made = job.new.made } }
         ensures why { IfErr result (HasReasonOfJob (IsShortToInstall (view_of self.old.core) job.old) job.old (view_of self.old.core) (view_of self.new.core)) }

@@ -41,15 +41,18 @@ use Rattle.lethe_stored.specs.Files.{Parts, StoredFile, IsFile, cited_of, file_n
 use Rattle.lethe_stored.specs.Stored.{Stored, IsCited, IsCoherent, pending_of, part_names, segment_name, segment_numbers, segments_of}
 use Rattle.lethe_stored.proofs.Leveled.{from_filter, in_filter}
 use Rattle.lethe_stored.proofs.Parts.{IsNameOf, OfHeader, OfPage, OfSegment, name_cases, object_part, part_below, part_kind}
+use Rattle.lethe_version.specs.Order.{is_kept}
 use Rattle.lethe_install.specs.Inputs.{AreInputs, names_of, number_of, numbered}
 use Rattle.lethe_install.specs.Installed.{IsInstallStep}
 use Rattle.lethe_install.specs.Left.{left_of, needed_of, unneeded_of}
+use Rattle.lethe_install.specs.Outcomes.{AreFirst}
 use Rattle.lethe_install.specs.Placed.{is_among, is_before, is_behind, with_made}
 use Rattle.lethe_install.specs.declared.inputs.Inputs.{Inputs}
 use Rattle.lethe_install.specs.declared.steps.Installation.{Installation}
 use Rattle.lethe_install.proofs.Beside.{placed, placed_from, placed_into, placed_rest}
 use Rattle.lethe_install.proofs.Named.{Differ, all_names_are, file_no_page, line_name, name_in, name_kinds, names_are, names_once, number_in, pages_differ}
 use Rattle.lethe_install.proofs.Between.{with_made_laid}
+use Rattle.lethe_install.proofs.NewPages.{all_new, new_between}
 use Rattle.lethe_install.proofs.Keeping.{kept_beside, kept_spelled}
 
 -- the names of what was written before
@@ -205,6 +208,17 @@ module _ (s : Stored) (state : State) (levels : List (List Parts)) (is : Remembe
     order = are.headers_ascend;
     woven = are_woven s.manifest.config left (merged_ascends (entries_in (inputs_of m)) applied alone) drafts of made are.each upto are.spelled are.swept;
   }
+
+  firsts : AreFirst written s t
+  firsts =
+      let old : (file : StoredFile) → Contains others file → Contains s.files file =
+      λ file there. (from_filter (λ (file : StoredFile). is_kept (map (λ (input : StoredFile). input.header.no) (inputs_of m)) file.header) s.files file there).0 in
+      record {
+        first = ap (take (length written)) (
+            new_between s (filter before others) made (filter behind others) (λ file there. old file (from_filter before others file there).0) (λ file there. old file (from_filter behind others file there).0)
+            ∙ all_new s is.coherent made (λ line there. line_uncited line (made_line line there)))
+            ∙ are.firsts;
+      }
 
   -- The step
 
@@ -505,6 +519,7 @@ pub install_steps : (s : Stored) (m : StoredMerge) (state : State) (levels : Lis
     → (t : Stored) × IsMerged s m (erases_upto task.upto (pending_of s)) task.alone task.upto t
     × IsStep s (beside ++ written_pages written drafts) t (left_of needs (numbered installing.step.merged.items s.files) beside) installing.headers.items installing.step
     × (installing.left.items ≡ names_in (left_of needs (numbered installing.step.merged.items s.files) beside)) × AreDrawn installing.step.manifest.next installing.left.items
+    × AreFirst written s t
 install_steps s m state levels task is current writable begun retired written drafts drawn few beside named uncited of parts risen made are inputs numbers found needs installing stepped spelled paged =
     let numbers_are = numbers ∙ (λ i. map number_of (begun.sources i ++ begun.met i)) in
     let of_level = subst (λ l. AreFilesOf drafts (l + 1) task.upto written state.next parts made) begun.level are in
@@ -518,4 +533,5 @@ install_steps s m state levels task is current writable begun retired written dr
       settled.0,
       settled.1,
       settled.2,
+      firsts s state levels is current writable m begun.merge applied task.alone task.upto retired written drafts drawn few beside named uncited of parts risen made of_level inputs numbers_are inputs_are,
     )

@@ -1,6 +1,7 @@
 pub mod Between
 pub mod Beside
 pub mod Named
+pub mod NewPages
 pub mod Parted
 pub mod Keeping
 pub mod InstallStep

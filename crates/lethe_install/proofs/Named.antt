@@ -1,9 +1,11 @@
 -- The names of the files that go.
-use Rattle.std.proofs.Common.{◌≡◌, ◌≢◌, ◌<◌, ◌⊎◌, inl, inr, ℕ, Bool, List, [], ◌∷◌, ◌++◌, length, map, All, Contains, refl, sym, ap, ◌∙◌, subst, arith}
+use Rattle.std.proofs.Common.{◌≡◌, ◌≢◌, ◌<◌, ◌⊎◌, inl, inr, ℕ, Bool, true, eqb, List, [], ◌∷◌, ◌++◌, length, map, All, Contains, refl, sym, ap, ◌∙◌, subst, arith}
 use Rattle.std.specs.Prelude.{flat_map, zip}
+use Rattle.std.proofs.lemmas.Bool.{and_from, eq-eqb}
 use Rattle.std.proofs.lemmas.List.{map-append}
 use Rattle.std.proofs.lemmas.List.Elements.{All-contains, All-head, All-tail, Contains-append_right}
 use Rattle.lethe_advance.specs.Settled.{AreDrawn}
+use Rattle.lethe_base.specs.Names.{name_eq, name_rank}
 use Rattle.lethe_base.specs.declared.name.Kind.TheVariants as kinds
 use Rattle.lethe_base.specs.declared.name.Name.{Name}
 use Rattle.lethe_cover.proofs.Common.{⊎_elim, none_in, first_or_rest}
@@ -45,6 +47,9 @@ file_no_page a b same = let clash : kinds.File ≡ kinds.Page = ap (λ (n : Name
 
 pub number_in : (a b : Name) → a ≡ b → a.no ≡ b.no
 number_in a b same = ap (λ (n : Name). n.no) same
+
+pub name_self : (name : Name) → name_eq name name ≡ true
+name_self name = and_from (eqb (name_rank name) (name_rank name)) (eqb name.no name.no) (eq-eqb (name_rank name) (name_rank name) refl) (eq-eqb name.no name.no refl)
 
 -- Files of which no two have a number or a page in common
 

@@ -2,6 +2,7 @@
 use Rattle.std.proofs.Common.{◌≡◌, ◌≢◌, ◌⊎◌, ◌≤◌, ◌<◌, ◌+◌, ◌-◌, inl, inr, ℕ, Bool, List, [], ◌∷◌, ◌++◌, append-nil, length, length-drop, map, drop, take, All, AllPairs, Contains, Option, Some, None, refl, sym, ap, ◌∙◌, subst, arith}
 use Rattle.std.specs.Prelude.{filter_map, zip}
 use Rattle.std.specs.List.{cons_option, range_with_len}
+use Rattle.std.proofs.Math.Seq.{take-append_seam}
 use Rattle.std.proofs.lemmas.List.{map-append, nil_from_length}
 use Rattle.std.proofs.lemmas.List.Elements.{All-contains, All-head, All-nil, All-weaker, Contains-append_cases, Contains-append_left, Contains-append_right}
 use Rattle.std.proofs.lemmas.List.FromFn.{length-range_with_len}
@@ -23,7 +24,7 @@ use Rattle.lethe_header.specs.Headers.{HasSpelling, header_bytes}
 use Rattle.lethe_header.specs.declared.header.PageLine.{PageLine}
 use Rattle.lethe_remade.specs.Making.{AreMadeOf, IsMadeOf, IsNoFile, header_by, numbers_by}
 use Rattle.lethe_remade.specs.Remade.{new_objects, remade}
-use Rattle.lethe_remade.proofs.Lines.{drafted, lines_flat, new_flat}
+use Rattle.lethe_remade.proofs.Lines.{drafted, lines_flat, new_flat, parts_flat}
 use Rattle.lethe_remade.proofs.Made.{paged}
 use Rattle.lethe_remade.proofs.Taken.{numbers_count}
 use Rattle.lethe_remade.proofs.Objects.{objects_from}
@@ -36,14 +37,18 @@ use Rattle.lethe_sweep.specs.Sweeping.{IsBehind, IsSweptBy}
 use Rattle.lethe_sweep_task.specs.Drafted.{new_pages, written_pages}
 use Rattle.lethe_sweep_task.specs.Outcome.{IsDraftLeft}
 use Rattle.lethe_swept.specs.Drafts.{IsDraftOf, new_line, numbered, tiles_with}
+use Rattle.lethe_swept.specs.Left.{parts_in}
 use Rattle.lethe_swept.specs.declared.draft.DraftLine.{DraftLine}
 use Rattle.lethe_swept.specs.declared.draft.DraftLine.TheVariants.{Own, New}
 use Rattle.lethe_swept.specs.declared.draft.SweptDraft.{SweptDraft}
 use Rattle.lethe_swept.specs.declared.part.SweptFile.{SweptFile}
 use Rattle.lethe_sweeps.specs.Swept.{AreLeft, StoredSweep}
+use Rattle.lethe_install.proofs.InstallStep.{zip_firsts}
 use Rattle.lethe_install.proofs.Named.{line_name, name_in, names_are}
+use Rattle.lethe_install.proofs.NewPages.{numbered_new, page_new, page_old}
 use Rattle.lethe_install.specs.Inputs.{names_of}
-use Rattle.lethe_install.specs.Outcomes.{IsFileLeft, IsFreeBelow}
+use Rattle.lethe_install.specs.Left.{is_among, unneeded_of}
+use Rattle.lethe_install.specs.Outcomes.{IsFileLeft, IsFreeBelow, new_names, page_names}
 
 -- What is left of the file is made, and how it is written and cited: each of its objects is the file's own, was written before, or is written; and all that was or is written is of it.
 pub record IsMadeFor (s : Stored) (w : StoredSweep) (erase : Pending) (alone : Bool) (first : ℕ) (pages : List (Name × List ℕ)) (parts : MadeFiles) : Type 0 where
@@ -58,6 +63,7 @@ pub record IsMadeFor (s : Stored) (w : StoredSweep) (erase : Pending) (alone : B
   pub drawn : All (λ (object : Object). Contains (names_in (objects_of (cons_option made []))) object.name × (first ≤ object.name.no)) parts.objects.items
   pub written : All (λ (named : Name × List ℕ). Contains (names_in (objects_of (cons_option made []))) named.0) pages
   pub once : AllPairs (λ (a b : Object). a.name ≢ b.name) parts.objects.items
+  pub firsts : take (length (names_in pages)) (new_names s (cons_option made [])) ≡ names_in pages
 
 -- what laws say of what is left
 abbrev pub DraftIsLeft : Type 0
@@ -114,6 +120,8 @@ module _ (draft_is_left : DraftIsLeft) (nothing_is_left : NothingIsLeft) (s : St
       written = none_all (λ (named : Name × List ℕ). Contains [] named.0) (zip written (take (length written) []))
           (zip_nothing written (take (length written) []) (nil_from_length written (omega (arith, few))));
       once = none_once (λ (a b : Object). a.name ≢ b.name) parts.objects.items empty.objects;
+      firsts = subst (λ (pages : List (Name × List ℕ)). take (length (names_in pages)) [] ≡ names_in pages)
+          (sym (zip_nothing written (take (length written) []) (nil_from_length written (omega (arith, few))))) refl;
     }
 
     -- Where something is left
@@ -266,6 +274,16 @@ module _ (draft_is_left : DraftIsLeft) (nothing_is_left : NothingIsLeft) (s : St
         apart = others (header ∷ more) (subst (Pairs Differ) (sym numbers_are)
             ((λ n inside same. let low = (range_from first count n inside).1 in omega (arith, low, same)), range_differs first count))
 
+        -- those that aren't stored are the new ones, in order
+        new_are : new_names s (file ∷ []) ≡ written ++ map page_name fresh
+        new_are =
+            let fits = of.is.paged in
+            ap (λ (lines : List PageLine). unneeded_of (is_among (page_names s.files)) (map line_name lines)) (append-nil (lines_in file) ∙ lines_flat numbers draft.tiles)
+            ∙ numbered_new s (lines_in w.file) (page_old s w.file there) numbers (parts_in swept) (drafted draft.tiles) (parts_flat (lines_in w.file) swept.tiles draft.tiles of.each)
+            (omega (arith, count_is, fits, ap length (new_flat draft.tiles))) (λ n inside. page_new s coherent n (is_new n inside).1)
+            ∙ map-append page_name (map number_in written) fresh
+            ∙ ap (λ (names : List Name). names ++ map page_name fresh) (pages_again first written drawn.each)
+
         some_made : IsMadeFor s w erase alone first pages parts
         some_made = record {
           made = Some file;
@@ -280,6 +298,8 @@ module _ (draft_is_left : DraftIsLeft) (nothing_is_left : NothingIsLeft) (s : St
           written = all_from (λ (named : Name × List ℕ). Contains names named.0) pages written_in;
           once = pairs_to (λ (a b : Object). a.name ≢ b.name) parts.objects.items
               (pairs_unmap IsOther named_of parts.objects.items (subst (Pairs IsOther) (sym are.objects) apart));
+          firsts = subst (λ (names : List Name). take (length names) (new_names s (file ∷ [])) ≡ names) (sym (zip_firsts written draft.pages few))
+              (ap (take (length written)) new_are ∙ take-append_seam written (map page_name fresh));
         }
 
 pub made_for : DraftIsLeft → NothingIsLeft → (s : Stored) → IsCoherent s → (w : StoredSweep) → Contains s.files w.file → (erase : Pending) (alone : Bool)

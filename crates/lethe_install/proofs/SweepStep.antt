@@ -1,8 +1,7 @@
 -- The step that installs what a sweep left of a stored file.
-use Rattle.std.proofs.Common.{◌≡◌, ◌≢◌, ◌⊎◌, ◌≤◌, ◌<◌, ◌+◌, inl, inr, ℕ, Bool, true, false, eqb, List, [], ◌∷◌, ◌++◌, map, All, AllPairs, Contains, refl, sym, ap, ◌∙◌, subst, arith}
+use Rattle.std.proofs.Common.{◌≡◌, ◌≢◌, ◌⊎◌, ◌≤◌, ◌<◌, ◌+◌, inl, inr, ℕ, Bool, true, false, List, [], ◌∷◌, ◌++◌, length, map, take, All, AllPairs, Contains, refl, sym, ap, ◌∙◌, subst, arith}
 use Rattle.std.specs.Prelude.{filter, flat_map, not}
 use Rattle.std.specs.List.{cons_option}
-use Rattle.std.proofs.lemmas.Bool.{and_from, eq-eqb}
 use Rattle.std.proofs.lemmas.List.{map-append}
 use Rattle.std.proofs.lemmas.List.Concat.{flat_map-append}
 use Rattle.std.proofs.lemmas.List.Elements.{All-contains, All-weaker, Contains-append_cases, Contains-append_left, Contains-append_right}
@@ -13,7 +12,7 @@ use Rattle.lethe_advance.specs.Steps.{IsSettledBy, IsStep, WasThere, new_header,
 use Rattle.lethe_advance.specs.declared.new_header.NewHeader.{NewHeader}
 use Rattle.lethe_advance.specs.declared.step.Step.{Step}
 use Rattle.lethe_advance.proofs.Lists.{map-filter}
-use Rattle.lethe_base.specs.Names.{name_eq, name_rank}
+use Rattle.lethe_base.specs.Names.{name_eq}
 use Rattle.lethe_base.specs.declared.name.Kind.TheVariants as kinds
 use Rattle.lethe_base.specs.declared.name.Name.{Name}
 use Rattle.lethe_base.specs.declared.pending.Pending.{Pending}
@@ -43,7 +42,7 @@ use Rattle.lethe_sweeps.proofs.SweptStepping.{sweep_steps}
 use Rattle.lethe_install.specs.Inputs.{names_of}
 use Rattle.lethe_install.specs.Installed.{IsInstallStep}
 use Rattle.lethe_install.specs.Left.{is_among, needed_of, unneeded_of}
-use Rattle.lethe_install.specs.Outcomes.{IsFileLeft}
+use Rattle.lethe_install.specs.Outcomes.{AreFirst, IsFileLeft, new_names}
 use Rattle.lethe_install.specs.Placed.{with_made}
 use Rattle.lethe_install.specs.Replaced.{IsReplaced, behind, names_gone, pages_in}
 use Rattle.lethe_install.specs.declared.inputs.Inputs.{Inputs}
@@ -51,7 +50,8 @@ use Rattle.lethe_install.specs.declared.steps.Installation.{Installation}
 use Rattle.lethe_install.proofs.InPlace.{in_place}
 use Rattle.lethe_install.proofs.InstallStep.{goes_not, page_kind, page_no_segment, segment_no_file, segment_no_page}
 use Rattle.lethe_install.proofs.Keeping.{kept_beside, kept_spelled}
-use Rattle.lethe_install.proofs.Named.{Differ, file_no_page, line_name, name_in, name_kinds, names_are, number_in, own_names}
+use Rattle.lethe_install.proofs.Named.{Differ, file_no_page, line_name, name_in, name_kinds, name_self, names_are, number_in, own_names}
+use Rattle.lethe_install.proofs.NewPages.{new_between}
 use Rattle.lethe_install.proofs.Parted.{same_name}
 use Rattle.lethe_install.proofs.SweepMade.{IsMadeFor}
 
@@ -60,9 +60,6 @@ Apart a b = a.header.no ≢ b.header.no
 
 abbrev AreApart : PageLine → PageLine → Type 0
 AreApart a b = a.no ≢ b.no
-
-name_self : (name : Name) → name_eq name name ≡ true
-name_self name = and_from (eqb (name_rank name) (name_rank name)) (eqb name.no name.no) (eq-eqb (name_rank name) (name_rank name) refl) (eq-eqb name.no name.no refl)
 
 -- two files with other numbers and other pages have no name in common
 names_apart : (a b : StoredFile) → Apart a b → ((x y : PageLine) → Contains (lines_in a) x → Contains (lines_in b) y → AreApart x y)
@@ -511,8 +508,16 @@ module _ (s : Stored) (state : State) (levels : List (List Parts)) (is : Remembe
       gone_once = subst (AllPairs Differ) (sym gone_is) (AllPairs-filter Differ unneeded names names_differ);
     }
 
+    firsts : AreFirst written s t
+    firsts = record {
+      first = subst (λ (names : List Name). take (length names) (new_names s files) ≡ names) pages_named (
+          ap (take (length (names_in pages))) (new_between s w.front made w.back (λ file front. other_old file (inl front)) (λ file back. other_old file (inr back)))
+          ∙ have.firsts);
+    }
+
     pub sweep_installed : (t : Stored) × ((is : IsSwept s w erase alone t) × IsFileLeft s w.file erase alone is.number is.made)
         × ((left : List (Name × List ℕ)) × IsStep s loose t left headers step × (installing.left.items ≡ names_in left) × AreDrawn step.manifest.next installing.left.items)
+        × AreFirst written s t
     unfolding is_swept
     sweep_installed = (
       t,
@@ -527,4 +532,5 @@ module _ (s : Stored) (state : State) (levels : List (List Parts)) (is : Remembe
         left_is,
         left_drawn,
       ),
+      firsts,
     )

@@ -1,10 +1,11 @@
 -- What is stored once a job's outcome is installed.
-use Rattle.std.specs.Prelude.{◌≡◌, ◌≢◌, ℕ, ◌+◌, ◌<◌, ◌≤◌, Bool, List, [], length, map, All, AllPairs, Contains, Option, MatchOption}
+use Rattle.std.specs.Prelude.{◌≡◌, ◌≢◌, ℕ, ◌+◌, ◌<◌, ◌≤◌, Bool, List, [], length, map, flat_map, take, All, AllPairs, Contains, Option, MatchOption}
+use Rattle.lethe_base.specs.declared.name.Name.{Name}
 use Rattle.lethe_base.specs.declared.pending.Pending.{Pending}
 use Rattle.lethe_file.specs.Agreement.{entries_in, page_name}
 use Rattle.lethe_follows.specs.Merged.{IsMerged, StoredMerge, erases_upto}
 use Rattle.lethe_remade.specs.Remade.{remade}
-use Rattle.lethe_stored.specs.Files.{StoredFile}
+use Rattle.lethe_stored.specs.Files.{StoredFile, lines_in}
 use Rattle.lethe_stored.specs.Stored.{Stored, part_names, pending_of}
 use Rattle.lethe_sweep.specs.Sweeping.{IsSweptBy}
 use Rattle.lethe_sweep_task.specs.Outcome.{PlainSweep}
@@ -15,12 +16,25 @@ use Rattle.lethe_sweeps.specs.Swept.{IsSwept, StoredSweep}
 use Rattle.lethe_job.specs.SweepTasks.{IsSweepTask}
 use Rattle.lethe_job.specs.Tasks.{IsMergeTask, PlainMerge}
 use Rattle.lethe_job.specs.Works.{Merges, PlainTask, Sweeps}
+use Rattle.lethe_install.specs.Left.{is_among, unneeded_of}
 
 -- the outputs of a merge of what is stored came in the place of its inputs, and the erases that are done then have left
 pub record IsMergeInstalled (s : Stored) (task : PlainMerge) (t : Stored) : Type 0 where
   pub m : StoredMerge
   pub tasked : IsMergeTask s m task
   pub merged_is : IsMerged s m (erases_upto task.upto (pending_of s)) task.alone task.upto t
+
+-- The names of the pages of files, in order.
+abbrev pub page_names : List StoredFile → List Name
+page_names files = map (λ line. page_name line.no) (flat_map lines_in files)
+
+-- of the pages of files those that weren't stored
+abbrev pub new_names : Stored → List StoredFile → List Name
+new_names s files = unneeded_of (is_among (page_names s.files)) (page_names files)
+
+-- of the pages that are stored next and weren't before, those of these names are the first
+pub record AreFirst (names : List Name) (s t : Stored) : Type 0 where
+  pub first : take (length names) (new_names s t.files) ≡ names
 
 -- no page that is cited has the number, which was drawn before that one
 abbrev pub IsFreeBelow : Stored → ℕ → ℕ → Type 0

@@ -9,7 +9,7 @@ ghost use Rattle.lethe_advance.specs.Settled.{AreDrawn, AreUncited, names_in};
 ghost use Rattle.lethe_advance.specs.Shown.{parts_by_level};
 ghost use Rattle.lethe_advance.specs.Steps.{IsStep};
 ghost use Rattle.lethe_header.specs.Headers as headers;
-ghost use Rattle.lethe_install.specs.Outcomes.{IsInstalled, level_made};
+ghost use Rattle.lethe_install.specs.Outcomes.{AreFirst, IsInstalled, level_made};
 ghost use Rattle.lethe_job.specs.MadeOf.{numbers_in, pages_of, written_of};
 ghost use Rattle.lethe_job.specs.Works.{AreOutputs, IsInLevels, IsTaskFor, applied_upto, plain_task};
 ghost use Rattle.lethe_pins.specs.Held.{is_named};
@@ -65,13 +65,13 @@ pub fn installing<D: Disk>(
     ensures gone { IfOk result (λ made. All (λ name. is_named pins.now.pins name ≡ false) made.step.gone.items) }
     ensures pages { IfOk result (λ made. All (λ name. name.kind ≡ Page) made.left.items) }
 
-    // What is stored next is the task's outcome. Of the pages that were written before none is left loose.
+    // What is stored next is the task's outcome. The pages that were written before are the first of its new ones, under their names, and none is left loose.
     ensures installs { D.tells → (s : Stored) (beside : prelude.List (name.Name × prelude.List ℕ)) → Remembers s state.now (parts_by_level version.now) → IsCurrent s state.now
         → AreRising s.files → IsTaskFor s (plain_task task.now) → names_in beside ≡ retired.now → AreUncited s (beside ++ written_of written.now made)
         → AreDrawn state.now.next (retired.now ++ written.now)
         → IfOk result (λ installation. (t : Stored) × IsInstalled s (plain_task task.now) t
         × ((left : prelude.List (name.Name × prelude.List ℕ)) × IsStep s (beside ++ written_of written.now made) t left installation.headers.items installation.step × (installation.left.items ≡ names_in left)
-        × AreDrawn installation.step.manifest.next installation.left.items)) }
+        × AreDrawn installation.step.manifest.next installation.left.items) × AreFirst written.now s t) }
 {
     let pages = Pages {
         written,

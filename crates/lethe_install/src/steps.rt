@@ -15,6 +15,7 @@ ghost use Rattle.lethe_header.specs.Headers as headers;
 ghost use Rattle.lethe_install.specs.Inputs.{numbered};
 ghost use Rattle.lethe_install.specs.Installed.{IsInstallStep};
 ghost use Rattle.lethe_install.specs.Left.{left_of};
+ghost use Rattle.lethe_install.specs.Outcomes.{AreFirst};
 ghost use Rattle.lethe_job.specs.Tasks.{IsMergeTask, plain_merge};
 ghost use Rattle.lethe_merge.specs.Merge.{merged};
 ghost use Rattle.lethe_pins.specs.Held.{is_named};
@@ -95,7 +96,7 @@ pub fn installing_merge<D: Disk>(
     ensures gone { IfOk result (λ made. All (λ name. is_named pages.entry.pins.now.pins name ≡ false) made.step.gone.items) }
     ensures pages { IfOk result (λ made. All (λ name. name.kind ≡ Page) made.left.items) }
 
-    // What is stored next is the merge's outcome. Of the pages that were written before none is left loose, and of the inputs' and the retired ones just those that a held pin names.
+    // What is stored next is the merge's outcome. The pages that were written before are the first of its new ones: none is left loose; and of the inputs' and the retired ones just those that a held pin names.
     ensures installs { (s : Stored) (m : StoredMerge) (beside : prelude.List (name.Name × prelude.List ℕ)) → Remembers s state.now (parts_by_level version.now) → IsCurrent s state.now
         → AreRising s.files → IsMergeTask s m (plain_merge task.now) → names_in beside ≡ pages.entry.retired.now → AreUncited s (beside ++ written_pages pages.entry.written.now drafts.items)
         → AreDrawn state.now.next (pages.entry.retired.now ++ pages.entry.written.now)
@@ -103,7 +104,7 @@ pub fn installing_merge<D: Disk>(
         → IfOk result (λ made. (t : Stored) × IsMerged s m (erases_upto task.now.upto (pending_of s)) task.now.alone task.now.upto t
         × IsStep s (beside ++ written_pages pages.entry.written.now drafts.items) t (left_of (is_named pages.entry.pins.now.pins) (numbered made.step.merged.items s.files) beside) made.headers.items made.step
         × (made.left.items ≡ names_in (left_of (is_named pages.entry.pins.now.pins) (numbered made.step.merged.items s.files) beside))
-        × AreDrawn made.step.manifest.next made.left.items) }
+        × AreDrawn made.step.manifest.next made.left.items × AreFirst pages.entry.written.now s t) }
 {
     let objects = numbers_for(&drafts) - pages.written.len() as u64;
     let Some(number) = number_behind(state.next(), objects) else {
@@ -148,7 +149,7 @@ fn install<D: Disk>(
         → IfOk result (λ made. (t : Stored) × IsMerged s m (erases_upto task.now.upto (pending_of s)) task.now.alone task.now.upto t
         × IsStep s (beside ++ written_pages pages.entry.written.now drafts.items) t (left_of (is_named pages.entry.pins.now.pins) (numbered made.step.merged.items s.files) beside) made.headers.items made.step
         × (made.left.items ≡ names_in (left_of (is_named pages.entry.pins.now.pins) (numbered made.step.merged.items s.files) beside))
-        × AreDrawn made.step.manifest.next made.left.items) }
+        × AreDrawn made.step.manifest.next made.left.items × AreFirst pages.entry.written.now s t) }
 {
     let level = task.level + 1;
     let made = make_files(alloc, drafts, level, task.upto, pages.written, state.next())?;

@@ -9,7 +9,7 @@ ghost use Rattle.lethe_advance.specs.Settled.{AreDrawn, AreUncited, names_in};
 ghost use Rattle.lethe_advance.specs.Steps.{IsStep};
 ghost use Rattle.lethe_file.specs.Agreement.{entries_in};
 ghost use Rattle.lethe_header.specs.Headers as headers;
-ghost use Rattle.lethe_install.specs.Outcomes.{IsSweepInstalled};
+ghost use Rattle.lethe_install.specs.Outcomes.{AreFirst, IsSweepInstalled};
 ghost use Rattle.lethe_install.specs.Replaced.{IsReplaced, behind, names_gone};
 ghost use Rattle.lethe_job.specs.SweepTasks.{IsSweepTask};
 ghost use Rattle.lethe_pins.specs.Held.{is_named};
@@ -70,14 +70,14 @@ pub fn installing_sweep<D: Disk>(
     ensures gone { IfOk result (λ made. All (λ name. is_named pages.entry.pins.now.pins name ≡ false) made.step.gone.items) }
     ensures pages { IfOk result (λ made. All (λ name. name.kind ≡ Page) made.left.items) }
 
-    // What is stored next is the sweep's outcome: the pages that stay are those that were stored, under their names.
+    // What is stored next is the sweep's outcome: the pages that stay are those that were stored, under their names, and of the new ones those that were written before come first.
     ensures installs { (s : Stored) (w : StoredSweep) (levels : prelude.List (prelude.List Parts)) (beside : prelude.List (name.Name × prelude.List ℕ)) → Remembers s state.now levels → IsCurrent s state.now
         → AreRising s.files → IsSweepTask s w (plain_sweep task.now) → names_in beside ≡ pages.entry.retired.now → AreUncited s (beside ++ written_pages pages.entry.written.now draft)
         → AreDrawn state.now.next (pages.entry.retired.now ++ pages.entry.written.now)
         → IsDraftLeft task.now.alone task.now.erase w.file.header.tiles (map entries_in w.file.pages) draft
         → IfOk result (λ made. (t : Stored) × IsSweepInstalled s (plain_sweep task.now) t
         × ((left : prelude.List (name.Name × prelude.List ℕ)) × IsStep s (beside ++ written_pages pages.entry.written.now draft) t left made.headers.items made.step × (made.left.items ≡ names_in left)
-        × AreDrawn made.step.manifest.next made.left.items)) }
+        × AreDrawn made.step.manifest.next made.left.items) × AreFirst pages.entry.written.now s t) }
 {
     let objects = count_numbers(&draft) - pages.written.len() as u64;
     let Some(number) = number_behind(state.next(), objects) else {
@@ -130,7 +130,7 @@ fn install<D: Disk>(
         → IsDraftLeft task.now.alone task.now.erase w.file.header.tiles (map entries_in w.file.pages) draft
         → IfOk result (λ made. (t : Stored) × IsSweepInstalled s (plain_sweep task.now) t
         × ((left : prelude.List (name.Name × prelude.List ℕ)) × IsStep s (beside ++ written_pages pages.entry.written.now draft) t left made.headers.items made.step × (made.left.items ≡ names_in left)
-        × AreDrawn made.step.manifest.next made.left.items)) }
+        × AreDrawn made.step.manifest.next made.left.items) × AreFirst pages.entry.written.now s t) }
 {
     // Laws: what the draft makes is what the erase leaves of the file.
     a_draft_is_left();

@@ -27,7 +27,7 @@ returns-in-Ok-clause-step g c = λ told config opened h answered stands s known 
     let stood = stands_call c.in-Ok.ensures.answers told config opened h answered step.2 in
     let made = installed_whole g.D.Disk.tells g.D.Disk.ports_fail h (view_of c.args.engine.now.core) s numbered.number fetches faults c.args.jobs.now.begun snapshots numbered.job config opened tt
     (view_of c.write_rest.new.engine.core) (view_of c.install.new.self.core) stood.since c.write_rest.new.job step.0 (there_of c.args.jobs.now) c.write_rest.ensures.task step.1 step.3.done
-    (λ at is. (c.in-Ok.ensures.stopped at is).1) (c.in-Ok.ensures.done told step.0) (ap (λ (face : Face). face.flight) c.in-Ok.ensures.answers.face_is)
+    (λ at is. (c.in-Ok.ensures.stopped at is).1) step.3.flight (c.in-Ok.ensures.done told step.0) (ap (λ (face : Face). face.flight) c.in-Ok.ensures.answers.face_is)
     c.in-Ok.ensures.pins step.3.pins c.in-Ok.ensures.named (there_none c.args.jobs.now c.requires.none) in
     (made.0, made.1, stood, made.2)
 

@@ -38,7 +38,7 @@ returns-in-Files-clause-installs g c = λ tells s beside is current rising begun
     let loose = rw c.in-Files.is at uncited in
     let of = merge_drafts g.D.Disk.tells tells s is.coherent m.0 _ m.1 _ are in
     rw (c.in-Merge.is, c.in-Files.is) (ok_weaker c.installing_merge.result _ _ (c.installing_merge.ensures.installs s m.0 beside is current rising m.1 named loose drawn of)
-    (λ made found. (found.0, record { m = m.0; tasked = m.1; merged_is = found.1 }, (left_of (is_named c.args.pins.now.pins) (numbered made.step.merged.items s.files) beside, found.2, found.3, found.4))))
+    (λ made found. (found.0, record { m = m.0; tasked = m.1; merged_is = found.1 }, (left_of (is_named c.args.pins.now.pins) (numbered made.step.merged.items s.files) beside, found.2, found.3, found.4), found.5)))
 
 -- A sweep
 

@@ -1,6 +1,7 @@
 use Rattle.std.proofs.Common.{rules, ◌≡◌, ◌≤◌, ◌+◌, ◌-◌, inl, Option, Result, Ok, Err, Some, None, length, refl, sym, ap, ◌∙◌, subst}
 use Rattle.std.specs.Prelude.{IfErr, IfSome, IsSome, OnOk, option_map}
 use Rattle.std.specs.Result.{result_err}
+use Rattle.lethe_advance.specs.Settled.{names_in}
 use Rattle.lethe_base.specs.Limits.{max_place}
 use Rattle.lethe_base.specs.declared.call.Call.TheVariants.{Work}
 use Rattle.lethe_base.specs.declared.refused.Refused.{Refused}
@@ -15,7 +16,7 @@ use Rattle.lethe_core.proofs.Behind.{reason_behind}
 use Rattle.lethe_disk.proofs.Quieting.{on_ok}
 use Rattle.lethe_disk.specs.declared.disk.Disk.{Ghosts}
 use Rattle.lethe_stored.specs.Stored.{Stored}
-use Rattle.lethe_install.specs.Outcomes.{IsInstalled}
+use Rattle.lethe_install.specs.Outcomes.{AreFirst, IsInstalled}
 use Rattle.lethe_job.specs.MadeOf.{numbers_in}
 use Rattle.lethe_job.specs.Works.{plain_task}
 use Rattle.lethe_job.specs.declared.job.Job.{Job}
@@ -81,7 +82,8 @@ returns-clause-why g c =
     (subst (λ before. IfErr c.install_now.result (HasReason Short old.state before new.faults)) c.faults-before.ensures c.install_now.ensures.why)
 
 outcome_in : {D Page Port : Type 0} {kind : Ghosts D Page Port} (Tells : Type 0) (old new : View) (job : Job D Page Port kind) (s : Stored) (result : Result (Unit {0}) Refused) → IsAtWork Tells old job
-    → IfSome old.flight (λ flying. OnOk result ((t : Stored) × IsInstalled s flying.task t × Holds new t)) → OnOk result ((t : Stored) × IsInstalled s (plain_task job.task.value) t × Holds new t)
+    → IfSome old.flight (λ flying. OnOk result ((t : Stored) × IsInstalled s flying.task t × Holds new t × AreFirst (names_in flying.written) s t))
+    → OnOk result ((t : Stored) × IsInstalled s (plain_task job.task.value) t × Holds new t × IfSome old.flight (λ flying. AreFirst (names_in flying.written) s t))
 outcome_in Tells old new job s (Ok done) works is = outcome_of Tells old job works s new is
 outcome_in Tells old new job s (Err why) works is = tt
 
