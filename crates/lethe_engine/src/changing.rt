@@ -68,6 +68,7 @@ impl<D: Disk> Engine<D> {
         ensures fetched { (name : Name) → IsErrOf result (Damaged name) → D.fetches port.old < D.fetches port.new }
         ensures fetches { D.fetches port.old ≤ D.fetches port.new }
         ensures certificates { self.new.certificates ≡ self.old.certificates }
+        ensures pins { self.new.core.pins ≡ self.old.core.pins }
     {
         self.core.state.may_change()?;
         let before = self.core.disk.faults();
@@ -114,6 +115,7 @@ impl<D: Disk> Engine<D> {
         ensures fetched { (name : Name) → IsErrOf result (Damaged name) → D.fetches port.old < D.fetches port.new }
         ensures fetches { D.fetches port.old ≤ D.fetches port.new }
         ensures certificates { self.new.certificates ≡ self.old.certificates }
+        ensures pins { self.new.core.pins ≡ self.old.core.pins }
     {
         self.core.state.may_change()?;
         let before = self.core.disk.faults();
@@ -158,6 +160,7 @@ impl<D: Disk> Engine<D> {
         ensures fetched { (name : Name) → IsErrOf result (Damaged name) → D.fetches port.old < D.fetches port.new }
         ensures fetches { D.fetches port.old ≤ D.fetches port.new }
         ensures certificates { self.new.certificates ≡ self.old.certificates }
+        ensures pins { self.new.core.pins ≡ self.old.core.pins }
     {
         self.core.state.may_change()?;
         let before = self.core.disk.faults();
