@@ -108,3 +108,9 @@ returns-clause-room g c = λ told s holds has.
       calls ∙ ap (λ core. (g.D.Disk.seen core.disk).moment + 4) same,
       room.2,
     ))
+
+pub returns-in_err-make_room-clause-pins : goal.returns-in_err-make_room-clause-pins
+returns-in_err-make_room-clause-pins g c = c.in_err-make_room.ensures.keeps.pins
+
+pub returns-clause-pins : goal.returns-clause-pins
+returns-clause-pins g c = c.record.ensures.pins ∙ c.in_ok-make_room.ensures.keeps.pins
