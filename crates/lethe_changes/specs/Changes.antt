@@ -174,7 +174,8 @@ pub record AnswersAll (Tells PortsFail : Type 0) (asked : List Asked) (done : �
   pub idle : IsSome old.state.stopped → (done ≡ 0) × IsStill Tells old new
   -- Unless the disk failed each was made over what the ones before it left, and that was remembered where the next one wasn't made.
   pub rows : Tells → failed_of refused rest ≡ None → (s : Stored) → Holds old s
-      → (last : Point) × IsWritten old refused made (point_of s old before.fetches) last × ((levels : List (List Parts)) × Remembers last.stored state levels) × IsEndedAt old refused last new now.fetches
+      → (last : Point) × IsWritten old refused made (point_of s old before.fetches) last × ((levels : List (List Parts)) × Remembers last.stored state levels)
+      × IsEndedAt old refused last new now.fetches
   -- where there was room for all they are one row, of three device calls for each and one more
   pub calls : Tells → refused ≡ None → HaveRoom asked old → new.disk.moment ≡ old.disk.moment + calls_of asked
   pub written : Tells → refused ≡ None → HaveRoom asked old → (s : Stored) → Holds old s → (t : Stored) × AreAppended (headers_in old.levels) s asked t × Holds new t

@@ -32,7 +32,7 @@ pub struct Changed {
 
 /// Makes the changes one behind another, in rows: where the active segment is full the row ends, the next change makes room as one by itself does, with files read through the port, and
 /// the ones behind it are a row again. It answers the places of those that were made, and why the one behind them wasn't, where it wasn't; those behind that one aren't made either. None
-/// is answered before all that were made are durable. `k` changes for which there is room take `3 k + 1` device calls, of which `k + 1` are syncs.
+/// is answered before all that were made are durable. A row of `k` changes takes `3 k + 1` device calls, of which `k + 1` are syncs.
 ///
 /// # Errors
 ///
@@ -126,7 +126,8 @@ fn change_one<D: Disk>(
     ensures why { IfErr result (HasReasonOfChange D.tells D.ports_fail (view_of engine.old.core) (view_of engine.new.core) (D.port_faults port.old) (D.port_faults port.new)) }
     ensures port_faults { D.port_faults port.old ≤ D.port_faults port.new }
     ensures written { D.tells → (s : Stored) → Holds (view_of engine.old.core) s → (HasRoom s → ⊥)
-        → OnOk result ((t : Stored) × IsMadeAlone (view_of engine.old.core) (point_of s (view_of engine.old.core) (D.fetches port.old)) change (point_of t (view_of engine.new.core) (D.fetches port.new))
+        → OnOk result ((t : Stored)
+        × IsMadeAlone (view_of engine.old.core) (point_of s (view_of engine.old.core) (D.fetches port.old)) change (point_of t (view_of engine.new.core) (D.fetches port.new))
         × Holds (view_of engine.new.core) t) }
     ensures fetched { (name : Name) → IsErrOf result (Damaged name) → D.fetches port.old < D.fetches port.new }
     ensures fetches { D.fetches port.old ≤ D.fetches port.new }
