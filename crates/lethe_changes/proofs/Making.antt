@@ -1,6 +1,6 @@
 -- A list of changes is made, part by part.
 use Rattle.std.proofs.Common.{◌≡◌, ◌≤◌, ◌⊎◌, inl, inr, ℕ, zero, suc, ◌+◌, List, [], ◌∷◌, ◌++◌, length, map, Option, Some, None, refl, sym, ap, ◌∙◌, subst, arith, append_assoc, append-nil}
-use Rattle.std.specs.Prelude.{IsSome, IsTrue, false, is_some, option_map, option_to_list, true}
+use Rattle.std.specs.Prelude.{Contains, IsSome, IsTrue, false, is_some, option_map, option_to_list, true}
 use mathlib.Core.Bool.{false≢true}
 use Rattle.std.specs.Option.{option_map_or}
 use Rattle.std.specs.List.{range_with_len}
@@ -12,18 +12,21 @@ use Rattle.lethe_base.specs.declared.config.Fields.{Fields}
 use Rattle.lethe_base.specs.declared.name.Name.{Name}
 use Rattle.lethe_base.specs.declared.refused.Refused.{Refused}
 use Rattle.lethe_base.specs.declared.refused.Refused.TheVariants.{Fault, Stopped, Backwards, Pinned, NothingDue, Cancelled, Exhausted, ReadFault, NoMemory, Damaged}
+use Rattle.lethe_cert.specs.declared.certificate.Certificate.{Certificate}
 use Rattle.lethe_cover.specs.Steps.{with_failed}
 use Rattle.lethe_disk.specs.Directory.{Directory}
-use Rattle.lethe_disk.specs.Disk.{Seen}
+use Rattle.lethe_disk.specs.Disk.{IsIdle, Seen}
 use Rattle.lethe_disk.specs.Goes.{Goes}
 use Rattle.lethe_disk.proofs.Going.{goes_then, goes_weaker}
 use Rattle.lethe_core.specs.Asked.{Failure, Makes, behind, done_by, failure_of, stopped_by}
-use Rattle.lethe_core.specs.Pinned.{AreKept}
+use Rattle.lethe_core.specs.Pinned.{AreKept, AreRetiredFrom}
 use Rattle.lethe_core.specs.Running.{Holds, IsSound}
 use Rattle.lethe_core.specs.View.{Face, Flying, View, face_of}
 use Rattle.lethe_manifest.specs.declared.manifest.Manifest.{Manifest}
 use Rattle.lethe_pins.specs.Held.{Held, is_named}
+use Rattle.lethe_pins.specs.declared.pin.Pin.{Pin}
 use Rattle.lethe_state.specs.Records.{headers_in}
+use Rattle.lethe_state.specs.Remembered.{Remembers}
 use Rattle.lethe_state.specs.declared.state.State.{State}
 use Rattle.lethe_stored.specs.Kept.{IsKept}
 use Rattle.lethe_stored.specs.Left.{IsKeptOr}
@@ -33,7 +36,7 @@ use Rattle.lethe_stored.specs.Levels.{HasFiles}
 use Rattle.lethe_stored.specs.Stored.{Stored, appended}
 use Rattle.lethe_segment.specs.declared.record.Record.{Record}
 use Rattle.lethe_state.specs.Room.{HasRoom}
-use Rattle.lethe_core.specs.Merges.{IsRoomBegun, IsRoomMadeBy, Outcome}
+use Rattle.lethe_core.specs.Merges.{AreRetiredBehind, IsCleared, IsRoomBegun, IsRoomMadeBy, Outcome, pages_of}
 use Rattle.lethe_core.proofs.Roomed.{sees_room}
 use Rattle.lethe_stored.proofs.Numbers.{goes_from_then, goes_from_weaker}
 use Rattle.lethe_row.specs.Along.{AreAppended, HasGrown, IsAtEnd, IsKeptAlong, IsRecordOver, calls_of, row_behind, tried, with_all}
@@ -42,12 +45,13 @@ use Rattle.lethe_row.specs.Rows.{call_of}
 use Rattle.lethe_row.specs.declared.asking.Asked.{Asked}
 use Rattle.lethe_row.specs.declared.asking.Asked.TheVariants.{Put, Delete, Erase}
 use Rattle.lethe_row.proofs.Along.{along_none, none_made, one_longer, with_one_more}
-use Rattle.lethe_engine.specs.Answers.{Answers, IsBegun}
+use Rattle.lethe_engine.specs.Answers.{Answers, IsBegun, IsStill}
 use Rattle.lethe_engine.specs.Refusals.{HasReasonOfChange}
 use Rattle.lethe_engine.specs.Rows.{AnswersRow}
-use Rattle.lethe_engine.specs.StandsFor.{IsKeptFor, Opened, StandsSince}
-use Rattle.lethe_engine.proofs.Calls.{goes_by}
-use Rattle.lethe_changes.specs.Changes.{AnswersAll, AreMade, HaveRoom, IsBehind, IsMadeAlone, IsRowOver, IsWritten, Round, changes_in, failed_of}
+use Rattle.lethe_engine.specs.StandsFor.{IsKeptFor, Opened, StandsFor, StandsSince}
+use Rattle.lethe_engine.proofs.Calls.{goes_by, idle_itself}
+use Rattle.lethe_engine.proofs.Certified.{still_all_certified}
+use Rattle.lethe_changes.specs.Changes.{AnswersAll, AreMade, HaveRoom, IsBehind, IsEndedAt, IsMadeAlone, IsRound, IsRowOver, IsWritten, Point, PortCounts, Round, changes_in, failed_of, point_of}
 
 -- any directory
 abbrev Any : Directory → Type 0
@@ -89,6 +93,26 @@ none_of : (xs : List Asked) → length xs ≡ 0 → xs ≡ []
 none_of [] none = refl
 none_of (x ∷ xs) none = absurd (omega (arith, none))
 
+-- Where nothing was done
+
+still_itself : (Tells : Type 0) (view : View) → IsStill Tells view view
+still_itself Tells view = record { state = refl; levels = refl; faults = refl; disk = λ told. idle_itself view }
+
+idle_then : (old mid new : Seen) → IsIdle old mid → IsIdle mid new → IsIdle old new
+idle_then old mid new was is = record {
+  directory = is.directory ∙ was.directory;
+  moment = is.moment ∙ was.moment;
+  left = λ m c. (λ left. (was.left m c).0 ((is.left m c).0 left), λ left. (is.left m c).1 ((was.left m c).1 left));
+}
+
+still_then : (Tells : Type 0) (old mid new : View) → IsStill Tells old mid → IsStill Tells mid new → IsStill Tells old new
+still_then Tells old mid new was is = record {
+  state = is.state ∙ was.state;
+  levels = is.levels ∙ was.levels;
+  faults = is.faults ∙ was.faults;
+  disk = λ told. idle_then old.disk mid.disk new.disk (was.disk told) (is.disk told);
+}
+
 -- the first of the changes were made, and these are left
 pub record IsMade (Tells : Type 0) (old : View) (asked made left : List Asked) (now : View) : Type 0 where
   pub are : asked ≡ made ++ left
@@ -100,8 +124,12 @@ pub record IsMade (Tells : Type 0) (old : View) (asked made left : List Asked) (
   pub numbers : Tells → now.state.next + old.disk.moment ≤ old.state.next + now.disk.moment
   pub faults : old.faults ≤ now.faults
   pub moments : Tells → (config : Fields) (opened : Opened) (h : History) → StandsSince config opened h old → old.state.stopped ≡ None → (caller : ℕ) → GoesFrom old.state.next (IsKeptAlong config h caller made) old.disk now.disk
-  pub idle : IsSome old.state.stopped → (made ≡ []) × (now.state ≡ old.state) × (now.faults ≡ old.faults)
-  pub face : face_of now ≡ record (face_of old) { retired = now.retired }
+  pub idle : IsSome old.state.stopped → (made ≡ []) × IsStill Tells old now
+  pub drawn : old.state.next ≤ now.state.next
+  pub later : Tells → old.disk.moment ≤ now.disk.moment
+  pub face : face_of now ≡ face_of old
+  pub pins : now.pins ≡ old.pins
+  pub retired : AreRetiredFrom old.pins.pins old.retired now.retired
   pub pinned : Tells → AreKept old.pins.pins old.disk.directory now.disk.directory
 
 pub none_yet : (Tells : Type 0) (old : View) (asked : List Asked) → IsSound Tells old → IsMade Tells old asked [] asked old
@@ -115,8 +143,12 @@ none_yet Tells old asked sound = record {
   numbers = λ told. omega arith;
   faults = omega arith;
   moments = λ told config opened h before runs caller. along_none config h caller [] old.state.next old.disk old.disk (stands_moments config h old before.now runs sound.writable);
-  idle = λ stopped. (refl, refl, refl);
+  idle = λ stopped. (refl, still_itself Tells old);
+  drawn = omega arith;
+  later = λ told. omega arith;
   face = refl;
+  pins = refl;
+  retired = λ name there. inl there;
   pinned = λ told name named. refl;
 }
 
@@ -130,15 +162,17 @@ not_some : (o : Option ℕ) → (IsSome o → ⊥) → o ≡ None
 not_some None none = refl
 not_some (Some x) none = absurd (none refl)
 
--- jobs and pins of one who has them as another has, but for what is retired
-faces_then : (old mid new : View) → face_of mid ≡ record (face_of old) { retired = mid.retired } → face_of new ≡ record (face_of mid) { retired = new.retired } → face_of new ≡ record (face_of old) { retired = new.retired }
-faces_then old mid new was is = is ∙ ap (λ (face : Face). record face { retired = new.retired }) was
+-- what is retired stays so, or is named by a pin, and so on
+retired_then : (old mid new : View) → mid.pins ≡ old.pins → AreRetiredFrom old.pins.pins old.retired mid.retired → AreRetiredFrom mid.pins.pins mid.retired new.retired → AreRetiredFrom old.pins.pins old.retired new.retired
+retired_then old mid new pins was is name there = by (subst (λ (held : Held). Contains mid.retired name ⊎ IsTrue (is_named held.pins name)) pins (is name there))
+  where
+    by : Contains mid.retired name ⊎ IsTrue (is_named old.pins.pins name) → Contains old.retired name ⊎ IsTrue (is_named old.pins.pins name)
+    by (inl before) = was name before
+    by (inr named) = inr named
 
-faces_same : (mid new : View) → face_of new ≡ face_of mid → face_of new ≡ record (face_of mid) { retired = new.retired }
-faces_same mid new same = same ∙ ap (λ (names : List Name). record (face_of mid) { retired = names }) (sym (ap (λ (face : Face). face.retired) same))
-
-pins_same : (old new : View) → face_of new ≡ record (face_of old) { retired = new.retired } → new.pins ≡ old.pins
-pins_same old new face = ap (λ (face : Face). face.pins) face
+-- a row retires none
+retired_same : (pins : List Pin) (before now : List Name) → now ≡ before → AreRetiredFrom pins before now
+retired_same pins before now same name there = inl (subst (λ names. Contains names name) same there)
 
 -- what pins name goes on as it is
 kept_then : (old mid new : View) → mid.pins ≡ old.pins → AreKept old.pins.pins old.disk.directory mid.disk.directory → AreKept mid.pins.pins mid.disk.directory new.disk.directory → AreKept old.pins.pins old.disk.directory new.disk.directory
@@ -179,10 +213,11 @@ none_made_stopped Tells call face old new says stopped =
 
 -- How they were made
 
-pub alone_of : (flight : Option Flying) (s : Stored) (asked : Asked) (t : Stored) (outcomes : List Outcome) (levels : List (List Parts)) (next : Record) → (HasRoom s → ⊥) → IsRoomMadeBy flight s outcomes t
-    → HasFiles (appended t next) levels → IsRecordOver (headers_in levels) t asked next → IsMadeAlone flight s asked (appended t next)
-alone_of flight s asked t outcomes levels next full (inl room) files over = absurd (full room.0)
-alone_of flight s asked t outcomes levels next full (inr room) files over = record {
+pub alone_of : (old new : View) (before now : ℕ) (s : Stored) (asked : Asked) (t : Stored) (outcomes : List Outcome) (levels : List (List Parts)) (next : Record) → (HasRoom s → ⊥) → IsRoomMadeBy old.flight s outcomes t
+    → HasFiles (appended t next) levels → IsRecordOver (headers_in levels) t asked next → now ≡ before + pages_of outcomes → AreRetiredBehind outcomes old.pins.pins old.retired new.retired → old.disk.moment ≤ new.disk.moment
+    → IsMadeAlone old (point_of s old before) asked (point_of (appended t next) new now)
+alone_of old new before now s asked t outcomes levels next full (inl room) files over fetches retired later = absurd (full room.0)
+alone_of old new before now s asked t outcomes levels next full (inr room) files over fetches retired later = record {
   full = full;
   outcomes = outcomes;
   cleared = t;
@@ -192,6 +227,26 @@ alone_of flight s asked t outcomes levels next full (inr room) files over = reco
   next = next;
   over = over;
   is = refl;
+  fetches = fetches;
+  retired = retired;
+  later = later;
+}
+
+-- the same of a store with that job in flight and those pins
+alone_in : (old mid : View) (p : Point) (asked : Asked) (q : Point) → mid.flight ≡ old.flight → mid.pins ≡ old.pins → IsMadeAlone mid p asked q → IsMadeAlone old p asked q
+alone_in old mid p asked q flight pins alone = record {
+  full = alone.full;
+  outcomes = alone.outcomes;
+  cleared = alone.cleared;
+  room = subst (λ flight. IsCleared flight p.stored alone.outcomes alone.cleared) flight alone.room;
+  levels = alone.levels;
+  files = alone.files;
+  next = alone.next;
+  over = alone.over;
+  is = alone.is;
+  fetches = alone.fetches;
+  retired = subst (λ (held : Held). AreRetiredBehind alone.outcomes held.pins p.retired q.retired) pins alone.retired;
+  later = alone.later;
 }
 
 changes_more : (rounds : List Round) (round : Round) → changes_in (rounds ++ round ∷ []) ≡ changes_in rounds ++ (round.row ++ round.alone ∷ [])
@@ -199,20 +254,22 @@ changes_more [] round = append-nil (round.row ++ round.alone ∷ [])
 changes_more (first ∷ more) round =
     ap (λ l. (first.row ++ first.alone ∷ []) ++ l) (changes_more more round) ∙ sym (append_assoc (first.row ++ first.alone ∷ []) (changes_in more) (round.row ++ round.alone ∷ []))
 
-made_more : (flight : Option Flying) (rounds : List Round) (round : Round) (s m full then : Stored) → AreMade flight rounds s m → IsRowOver m round.row full → IsMadeAlone flight full round.alone then → AreMade flight (rounds ++ round ∷ []) s then
-made_more flight [] round s m full then same row alone = (full, then, subst (λ x. IsRowOver x round.row full) same row, alone, refl)
-made_more flight (first ∷ others) round s m full then made row alone = (made.0, made.1, made.2, made.3, made_more flight others round made.1 m full then made.4 row alone)
+made_more : (view : View) (rounds : List Round) (round : Round) (p q r : Point) → AreMade view rounds p q → IsRound view q round r → AreMade view (rounds ++ round ∷ []) p r
+made_more view [] round p q r same one = (r, subst (λ x. IsRound view x round r) same one, refl)
+made_more view (first ∷ others) round p q r made one = (made.0, made.1, made_more view others round made.0 q r made.2 one)
 
--- so many rounds were made
-abbrev pub AreRounds : Type 0 → View → List Asked → View → Type 0
-AreRounds Tells old made now = Tells → (s : Stored) → Holds old s → (rounds : List Round) × (made ≡ changes_in rounds) × (m : Stored) × AreMade old.flight rounds s m × Holds now m
+-- so many rounds were made, by the port's counts of fetches before and now
+abbrev pub AreRounds : Type 0 → View → ℕ → List Asked → View → ℕ → Type 0
+AreRounds Tells old before made now fetches = Tells → (s : Stored) → Holds old s → (rounds : List Round) × (made ≡ changes_in rounds) × (m : Stored) × AreMade old rounds (point_of s old before) (point_of m now fetches) × Holds now m
 
-pub no_rounds : (Tells : Type 0) (old : View) → AreRounds Tells old [] old
-no_rounds Tells old told s holds = ([], refl, s, refl, holds)
+pub no_rounds : (Tells : Type 0) (old : View) (fetches : ℕ) → AreRounds Tells old fetches [] old fetches
+no_rounds Tells old fetches told s holds = ([], refl, s, refl, holds)
 
-row_over : (Tells : Type 0) (left left' : List Asked) (done : ℕ) (refused : Option Refused) (mid new : View) (row : AnswersRow Tells left left' done refused mid new) → row.row.failed ≡ None → Tells → (s : Stored) → Holds mid s
-    → (t : Stored) × IsRowOver s row.row.made t × Holds new t
-row_over Tells left left' done refused mid new row none told s holds = let to = row.row.written told none s holds in (to.0, (mid.levels, holds.remembers.files, to.1), to.2)
+row_over : (Tells : Type 0) (left left' : List Asked) (done : ℕ) (refused : Option Refused) (mid new : View) (row : AnswersRow Tells left left' done refused mid new) (fetches : ℕ) → row.row.failed ≡ None → Tells → (s : Stored) → Holds mid s
+    → (t : Stored) × IsRowOver (point_of s mid fetches) row.row.made (point_of t new fetches) × Holds new t
+row_over Tells left left' done refused mid new row fetches none told s holds =
+    let to = row.row.written told none s holds in
+    (to.0, record { levels = mid.levels; files = holds.remembers.files; records = to.1; fetches = refl; retired = row.retired }, to.2)
 
 -- a row that a change follows had no room for it
 no_room : (Tells : Type 0) (left left' : List Asked) (done : ℕ) (mid new then : View) (row : AnswersRow Tells left left' done None mid new) (next : Asked) (more : List Asked) (face : Face) → left' ≡ next ∷ more
@@ -225,41 +282,56 @@ no_room Tells left left' done mid new then row next more face is says s holds ro
     by (inr (inr (inl full))) = let sees = sees_room new s holds room in omega (arith, full, sees)
     by (inr (inr (inr used))) = let count = says.count in let few = says.sound.writable.count in omega (arith, used, count, few)
 
-pub round_made : (Tells : Type 0) (old mid new then : View) (made left left' more : List Asked) (done : ℕ) (next : Asked) (face : Face) (row : AnswersRow Tells left left' done None mid new) → left' ≡ next ∷ more → new.flight ≡ old.flight
-    → Answers Tells (Makes (call_of next)) None face new then → (Tells → (s : Stored) → Holds new s → (HasRoom s → ⊥) → (t : Stored) × IsMadeAlone new.flight s next t × Holds then t) → AreRounds Tells old made mid
-    → AreRounds Tells old ((made ++ row.row.made) ++ next ∷ []) then
-round_made Tells old mid new then made left left' more done next face row is flight says alone head told s holds =
+pub round_made : (Tells : Type 0) (old mid new then : View) (made left left' more : List Asked) (done : ℕ) (next : Asked) (face : Face) (start before now : ℕ) (row : AnswersRow Tells left left' done None mid new) → left' ≡ next ∷ more
+    → new.flight ≡ old.flight → new.pins ≡ old.pins → Answers Tells (Makes (call_of next)) None face new then
+    → (Tells → (s : Stored) → Holds new s → (HasRoom s → ⊥) → (t : Stored) × IsMadeAlone new (point_of s new before) next (point_of t then now) × Holds then t) → AreRounds Tells old start made mid before
+    → AreRounds Tells old start ((made ++ row.row.made) ++ next ∷ []) then now
+round_made Tells old mid new then made left left' more done next face start before now row is flight pins says alone head told s holds =
     let so = head told s holds in
-    let full = row_over Tells left left' done None mid new row row.row.ended.0 told so.2 so.4 in
+    let full = row_over Tells left left' done None mid new row before row.row.ended.0 told so.2 so.4 in
     let to = alone told full.0 full.2 (no_room Tells left left' done mid new then row next more face is says full.0 full.2) in
-    let round : Round = record { row = row.row.made; alone = next } in (
+    let round : Round = record { row = row.row.made; alone = next } in
+    let one : IsRound old (point_of so.2 mid before) round (point_of to.0 then now) = record {
+      full = point_of full.0 new before;
+      row = full.1;
+      calls = row.row.calls told refl;
+      alone = alone_in old new (point_of full.0 new before) next (point_of to.0 then now) flight pins to.1;
+    } in (
       so.0 ++ round ∷ [],
       ap (λ l. (l ++ row.row.made) ++ next ∷ []) so.1 ∙ append_assoc (changes_in so.0) row.row.made (next ∷ []) ∙ sym (changes_more so.0 round),
       to.0,
-      made_more old.flight so.0 round s so.2 full.0 to.0 so.3 full.1 (subst (λ flight. IsMadeAlone flight full.0 next to.0) flight to.1),
+      made_more old so.0 round (point_of s old start) (point_of so.2 mid before) (point_of to.0 then now) so.3 one,
       to.2,
     )
 
 -- what is written of those that were made
-abbrev pub AreWritten : Type 0 → View → List Asked → View → Type 0
-AreWritten Tells old made now = Tells → (s : Stored) → Holds old s → (t : Stored) × IsWritten old.flight made s t × Holds now t
+abbrev pub AreWritten : Type 0 → View → ℕ → Option Refused → List Asked → View → ℕ → Type 0
+AreWritten Tells old before refused made now fetches = Tells → (s : Stored) → Holds old s → (t : Stored) × IsWritten old refused made (point_of s old before) (point_of t now fetches) × Holds now t
 
-pub row_written : (Tells : Type 0) (old mid new : View) (made left left' : List Asked) (done : ℕ) (refused : Option Refused) (row : AnswersRow Tells left left' done refused mid new) → row.row.failed ≡ None → AreRounds Tells old made mid
-    → AreWritten Tells old (made ++ row.row.made) new
-row_written Tells old mid new made left left' done refused row none head told s holds =
+-- the device calls of a row are counted unless there was no memory for one of its changes, which is told then
+row_written : (Tells : Type 0) (old mid new : View) (made left left' : List Asked) (done : ℕ) (refused why : Option Refused) (start fetches : ℕ) (row : AnswersRow Tells left left' done refused mid new) → row.row.failed ≡ None
+    → (Tells → (why ≡ Some NoMemory → ⊥) → new.disk.moment ≡ mid.disk.moment + calls_of row.row.made) → AreRounds Tells old start made mid fetches → AreWritten Tells old start why (made ++ row.row.made) new fetches
+row_written Tells old mid new made left left' done refused why start fetches row none calls head told s holds =
     let so = head told s holds in
-    let to = row_over Tells left left' done refused mid new row none told so.2 so.4 in (
+    let to = row_over Tells left left' done refused mid new row fetches none told so.2 so.4 in (
       to.0,
       record {
         rounds = so.0;
         last = row.row.made;
         are = ap (λ l. l ++ row.row.made) so.1;
-        middle = so.2;
+        middle = point_of so.2 mid fetches;
         before = so.3;
         row = to.1;
+        calls = calls told;
       },
       to.2,
     )
+
+-- a row that went as far as a row goes, whatever came behind it
+pub row_went_written : (Tells : Type 0) (old mid new : View) (made left left' : List Asked) (done : ℕ) (why : Option Refused) (start fetches : ℕ) (row : AnswersRow Tells left left' done None mid new) → AreRounds Tells old start made mid fetches
+    → AreWritten Tells old start why (made ++ row.row.made) new fetches
+row_went_written Tells old mid new made left left' done why start fetches row head =
+    row_written Tells old mid new made left left' done None why start fetches row row.row.ended.0 (λ told some. row.row.calls told refl) head
 
 -- Nothing was done yet where there is room for all: these are all that was asked, and the store is as it was.
 pub record IsFresh (Tells : Type 0) (old : View) (asked left : List Asked) (now : View) : Type 0 where
@@ -301,14 +373,26 @@ module _ (Tells : Type 0) (old mid new : View) (asked left left' : List Asked) (
       (to.0, subst (λ levels. AreAppended (headers_in levels) s asked to.0) is.levels (subst (λ l. AreAppended (headers_in mid.levels) s l to.0) (sym made_all ∙ is.all) to.1), to.2)
 
 module _ (Tells PortsFail : Type 0) (old : View) (asked made left : List Asked) (mid : View) (so_far : IsMade Tells old asked made left mid) where
+  -- what the store remembers behind them
+  behind_all : IsBehind Tells made old mid mid.state
+  behind_all = record {
+    count = so_far.count;
+    stopped = so_far.stopped;
+    writable = so_far.sound.writable;
+    small = so_far.sound.small;
+    told = λ told config opened h before. (config_since config opened (with_all h 0 made) mid (so_far.stands told config opened h before 0), so_far.numbers told);
+  }
+
   -- all were made
-  pub all_made : (before now : ℕ) → left ≡ [] → AreWritten Tells old made mid → (Tells → HaveRoom asked old → mid.disk.moment ≡ old.disk.moment + calls_of asked)
+  pub all_made : (before now : PortCounts) → left ≡ [] → AreWritten Tells old before.fetches None made mid now.fetches → (Tells → HaveRoom asked old → mid.disk.moment ≡ old.disk.moment + calls_of asked)
       → (Tells → HaveRoom asked old → (s : Stored) → Holds old s → (t : Stored) × AreAppended (headers_in old.levels) s asked t × Holds mid t) → AnswersAll Tells PortsFail asked (length made) None before now old mid
   all_made before now none rows calls written = record {
     made = made;
     rest = left;
     are = so_far.are;
     many = refl;
+    state = mid.state;
+    behind = behind_all;
     why = none;
     sound = so_far.sound;
     count = let is = so_far.count in let same = tried_all made in omega (arith, is, same);
@@ -316,13 +400,16 @@ module _ (Tells PortsFail : Type 0) (old : View) (asked made left : List Asked) 
     stands = so_far.stands;
     goes = λ told config opened h before caller. goes_by Any config opened h (with_all h caller made) old mid before (so_far.stands told config opened h before caller) (so_far.runs told config opened h before);
     any_moment = λ told config opened h before runs caller. subst (λ l. GoesFrom old.state.next (IsKeptAlong config h caller l) old.disk mid.disk) (sym (append-nil made)) (so_far.moments told config opened h before runs caller);
-    idle = λ stopped. let was = so_far.idle stopped in (ap length was.0, was.1, was.2);
-    rows = λ told none s holds. let to = rows told s holds in (to.0, to.0, to.1, refl, to.2);
+    idle = λ stopped. let was = so_far.idle stopped in (ap length was.0, was.1);
+    rows = λ told none s holds. let to = rows told s holds in (point_of to.0 mid now.fetches, to.1, (mid.levels, to.2.remembers), (refl, to.2));
     calls = λ told none room. calls told room;
     written = λ told none room. written told room;
     numbers = so_far.numbers;
+    drawn = so_far.drawn;
+    later = so_far.later;
     faults = so_far.faults;
     face_is = so_far.face;
+    retired = so_far.retired;
     pinned = so_far.pinned;
   }
 
@@ -348,8 +435,8 @@ module _ (Tells PortsFail : Type 0) (old : View) (asked made left : List Asked) 
         (goes_from_weaker (IsKeptAlong config (with_all h caller made) caller behind) (IsKeptAlong config h caller (made ++ behind)) mid.state.next mid.disk new.disk (λ d kept. along_behind config h caller made behind d kept)
         (row.row.any_moment told config (with_all h caller made) (so_far.stands told config opened h before caller).now (so_far.stopped ∙ runs) caller))
 
-    pub row_made : (row : AnswersRow Tells left left' done None mid new) → IsMade Tells old asked (made ++ row.row.made) left' new
-    row_made row =
+    pub row_made : (row : AnswersRow Tells left left' done None mid new) → new.pins ≡ mid.pins → IsMade Tells old asked (made ++ row.row.made) left' new
+    row_made row pins =
         let ended = row.row.ended in
         let long = ap (λ failed. length (tried row.row.made failed)) ended.0 ∙ tried_all row.row.made in
         record {
@@ -371,12 +458,16 @@ module _ (Tells PortsFail : Type 0) (old : View) (asked made left : List Asked) 
           idle = λ stopped.
               let was = so_far.idle stopped in
               let is = row.idle (still_stopped stopped) in
-              (ap (λ l. l ++ row.row.made) was.0 ∙ none_of row.row.made (row.row.many ∙ is.0), is.3 ∙ was.1, is.4 ∙ was.2);
-          face = faces_then old mid new so_far.face (faces_same mid new row.face_is);
-          pinned = λ told. kept_then old mid new (pins_same old mid so_far.face) (so_far.pinned told) (row.row.pinned told);
+              (ap (λ l. l ++ row.row.made) was.0 ∙ none_of row.row.made (row.row.many ∙ is.0), still_then Tells old mid new was.1 is.3);
+          drawn = let was = so_far.drawn in let more = row.drawn in omega (arith, was, more);
+          later = λ told. let was = so_far.later told in let more = row.later told in omega (arith, was, more);
+          face = row.face_is ∙ so_far.face;
+          pins = pins ∙ so_far.pins;
+          retired = retired_then old mid new so_far.pins so_far.retired (retired_same mid.pins.pins mid.retired new.retired row.retired);
+          pinned = λ told. kept_then old mid new so_far.pins (so_far.pinned told) (row.row.pinned told);
         }
 
-    -- what the store remembered before the one that wasn't made
+    -- what the store remembered where the disk failed in the next one
     before_it : (why : Refused) → (row : AnswersRow Tells left left' done (Some why) mid new) → IsBehind Tells (made ++ row.row.made) old new (record mid.state { count = mid.state.count + length row.row.made })
     before_it why row = record {
       count = let was = so_far.count in let both = length-append made row.row.made in omega (arith, was, both);
@@ -405,12 +496,32 @@ module _ (Tells PortsFail : Type 0) (old : View) (asked made left : List Asked) 
           (config_since config opened (with_all h 0 made) mid (so_far.stands told config opened h before 0), omega (arith, later, numbers));
     }
 
+    -- and where there was no memory for it
+    behind_it : (row : AnswersRow Tells left left' done (Some NoMemory) mid new) → IsBehind Tells (made ++ row.row.made) old new new.state
+    behind_it row = record {
+      count =
+          let was = so_far.count in
+          let is = row.row.count in
+          let long = ap (λ failed. length (tried row.row.made failed)) row.row.ended.0 ∙ tried_all row.row.made in
+          let both = length-append made row.row.made in
+          omega (arith, was, is, long, both);
+      stopped = row.row.stopped ∙ so_far.stopped;
+      writable = row.row.sound.writable;
+      small = row.row.sound.small;
+      told = λ told config opened h before.
+          let was = so_far.numbers told in
+          let more = row.row.numbers told in
+          let since = row.stands told config opened (with_all h 0 made) (so_far.stands told config opened h before 0) 0 in
+          (config_since config opened (row_behind (with_all h 0 made) 0 row.row.made row.row.failed) new since, omega (arith, was, more));
+    }
+
     never_stopped : (why : Refused) → AnswersRow Tells left left' done (Some why) mid new → mid.state.stopped ≡ None
     never_stopped why row = not_some mid.state.stopped (λ stopped. let idle = row.idle stopped in let clash : Some why ≡ None = idle.1 in cc)
 
     -- in which one failed, or for one of which there was no memory
-    pub row_refused : (before now : ℕ) → before ≤ now → AreRounds Tells old made mid → (why : Refused) → AnswersRow Tells left left' done (Some why) mid new → AnswersAll Tells PortsFail asked (length made + done) (Some why) before now old new
-    row_refused before' now since head (Fault place before after) row =
+    pub row_refused : (first now : PortCounts) → first.faults ≤ now.faults → new.pins ≡ mid.pins → AreRounds Tells old first.fetches made mid now.fetches → (why : Refused) → AnswersRow Tells left left' done (Some why) mid new
+        → AnswersAll Tells PortsFail asked (length made + done) (Some why) first now old new
+    row_refused first now since pins head (Fault place before after) row =
         let ended = row.row.ended in
         let next = ended.0 in
         let more = ended.1 in
@@ -425,14 +536,14 @@ module _ (Tells PortsFail : Type 0) (old : View) (asked made left : List Asked) 
           rest = next ∷ more;
           are = so_far.are ∙ ap (λ l. made ++ l) (row.row.are ∙ ap (λ l. row.row.made ++ l) ended.2) ∙ sym (append_assoc made row.row.made (next ∷ more));
           many = both ∙ ap (λ n. length made + n) row.row.many;
+          state = record mid.state { count = mid.state.count + length row.row.made };
+          behind = before_it (Fault place before after) row;
           why = (
             (next, more, refl),
             record {
-              state = record mid.state { count = mid.state.count + length row.row.made };
-              behind = before_it (Fault place before after) row;
               faults = mid.faults;
               later = so_far.faults;
-              port_faults = now;
+              port_faults = now.faults;
               since = since;
               reason = inl (
                 never_stopped (Fault place before after) row,
@@ -465,10 +576,13 @@ module _ (Tells PortsFail : Type 0) (old : View) (asked made left : List Asked) 
           written = λ told none room. absurd cc;
           numbers = λ told. let was = so_far.numbers told in let more = row.row.numbers told in omega (arith, was, more);
           faults = let was = so_far.faults in let more = row.row.faults in omega (arith, was, more);
-          face_is = faces_then old mid new so_far.face (faces_same mid new row.face_is);
-          pinned = λ told. kept_then old mid new (pins_same old mid so_far.face) (so_far.pinned told) (row.row.pinned told);
+          drawn = let was = so_far.drawn in let more = row.drawn in omega (arith, was, more);
+          later = λ told. let was = so_far.later told in let more = row.later told in omega (arith, was, more);
+          face_is = row.face_is ∙ so_far.face;
+          retired = retired_then old mid new so_far.pins so_far.retired (retired_same mid.pins.pins mid.retired new.retired row.retired);
+          pinned = λ told. kept_then old mid new so_far.pins (so_far.pinned told) (row.row.pinned told);
         }
-    row_refused before' now since head NoMemory row =
+    row_refused first now since pins head NoMemory row =
         let ended = row.row.ended in
         let next = ended.1 in
         let both = length-append made row.row.made in
@@ -481,14 +595,14 @@ module _ (Tells PortsFail : Type 0) (old : View) (asked made left : List Asked) 
           rest = next ∷ left';
           are = so_far.are ∙ ap (λ l. made ++ l) (row.row.are ∙ ap (λ l. row.row.made ++ l) ended.2) ∙ sym (append_assoc made row.row.made (next ∷ left'));
           many = both ∙ ap (λ n. length made + n) row.row.many;
+          state = new.state;
+          behind = behind_it row;
           why = (
             (next, left', refl),
             record {
-              state = record mid.state { count = mid.state.count + length row.row.made };
-              behind = before_it NoMemory row;
               faults = mid.faults;
               later = so_far.faults;
-              port_faults = now;
+              port_faults = now.faults;
               since = since;
               reason = inl tt;
             },
@@ -510,28 +624,38 @@ module _ (Tells PortsFail : Type 0) (old : View) (asked made left : List Asked) 
           any_moment = λ told config opened h since' runs caller. subst (λ l. GoesFrom old.state.next (IsKeptAlong config h caller l) old.disk new.disk)
               (ap (λ failed. made ++ tried row.row.made failed) ended.0 ∙ sym (append_assoc made row.row.made [])) (row_moments (Some NoMemory) row told config opened h since' runs caller);
           idle = λ stopped. absurd (let is = row.idle (still_stopped stopped) in let clash : Some NoMemory ≡ None = is.1 in cc);
-          rows = λ told none s holds. let to = row_written Tells old mid new made left left' done (Some NoMemory) row ended.0 head told s holds in (to.0, to.0, to.1, inl refl, to.2);
+          rows = λ told none s holds.
+              let to = row_written Tells old mid new made left left' done (Some NoMemory) (Some NoMemory) first.fetches now.fetches row ended.0 (λ told other. absurd (other refl)) head told s holds in (
+                point_of to.0 new now.fetches,
+                to.1,
+                (new.levels, to.2.remembers),
+                record { left = to.0; room = inl refl; holds = to.2; later = omega arith; fetched = omega arith; retired = λ name there. inl there },
+              );
           calls = λ told none room. absurd cc;
           written = λ told none room. absurd cc;
           numbers = λ told. let was = so_far.numbers told in let more = row.row.numbers told in omega (arith, was, more);
           faults = let was = so_far.faults in let more = row.row.faults in omega (arith, was, more);
-          face_is = faces_then old mid new so_far.face (faces_same mid new row.face_is);
-          pinned = λ told. kept_then old mid new (pins_same old mid so_far.face) (so_far.pinned told) (row.row.pinned told);
+          drawn = let was = so_far.drawn in let more = row.drawn in omega (arith, was, more);
+          later = λ told. let was = so_far.later told in let more = row.later told in omega (arith, was, more);
+          face_is = row.face_is ∙ so_far.face;
+          retired = retired_then old mid new so_far.pins so_far.retired (retired_same mid.pins.pins mid.retired new.retired row.retired);
+          pinned = λ told. kept_then old mid new so_far.pins (so_far.pinned told) (row.row.pinned told);
         }
-    row_refused before now since head (Stopped at) row = absurd row.row.ended
-    row_refused before now since head (Exhausted last) row = absurd row.row.ended
-    row_refused before now since head (Backwards clock) row = absurd row.row.ended
-    row_refused before now since head (Pinned pin limit) row = absurd row.row.ended
-    row_refused before now since head NothingDue row = absurd row.row.ended
-    row_refused before now since head (Cancelled begun now') row = absurd row.row.ended
-    row_refused before now since head (ReadFault b a) row = absurd row.row.ended
-    row_refused before now since head (Damaged name) row = absurd row.row.ended
+    row_refused first now since pins head (Stopped at) row = absurd row.row.ended
+    row_refused first now since pins head (Exhausted last) row = absurd row.row.ended
+    row_refused first now since pins head (Backwards clock) row = absurd row.row.ended
+    row_refused first now since pins head (Pinned pin limit) row = absurd row.row.ended
+    row_refused first now since pins head NothingDue row = absurd row.row.ended
+    row_refused first now since pins head (Cancelled begun now') row = absurd row.row.ended
+    row_refused first now since pins head (ReadFault b a) row = absurd row.row.ended
+    row_refused first now since pins head (Damaged name) row = absurd row.row.ended
 
   -- it went as far as it could, or not
-  pub row_ended : (before now : ℕ) → before ≤ now → AreRounds Tells old made mid → (left' : List Asked) (done n : ℕ) (new : View) (refused : Option Refused) → length made ≡ n → is_some refused ≡ true → AnswersRow Tells left left' done refused mid new
-      → AnswersAll Tells PortsFail asked (n + done) refused before now old new
-  row_ended before now since head left' done n new None many is row = absurd (false≢true is)
-  row_ended before now since head left' done n new (Some why) many is row = subst (λ n. AnswersAll Tells PortsFail asked (n + done) (Some why) before now old new) many (row_refused left' done new before now since head why row)
+  pub row_ended : (first now : PortCounts) → first.faults ≤ now.faults → AreRounds Tells old first.fetches made mid now.fetches → (left' : List Asked) (done n : ℕ) (new : View) (refused : Option Refused) → new.pins ≡ mid.pins → length made ≡ n
+      → is_some refused ≡ true → AnswersRow Tells left left' done refused mid new → AnswersAll Tells PortsFail asked (n + done) refused first now old new
+  row_ended first now since head left' done n new None pins many is row = absurd (false≢true is)
+  row_ended first now since head left' done n new (Some why) pins many is row =
+      subst (λ n. AnswersAll Tells PortsFail asked (n + done) (Some why) first now old new) many (row_refused left' done new first now since pins head why row)
 
   pub row_went : (left' : List Asked) (done : ℕ) (new : View) (refused : Option Refused) → is_some refused ≡ false → AnswersRow Tells left left' done refused mid new → AnswersRow Tells left left' done None mid new
   row_went left' done new None is row = row
@@ -551,16 +675,18 @@ module _ (Tells PortsFail : Type 0) (old : View) (asked made left : List Asked) 
 
   -- A change by itself
 
-  module _ (next : Asked) (more : List Asked) (is : left ≡ next ∷ more) (face : Face) (new : View) (face_is : face ≡ record (face_of mid) { retired = new.retired }) where
+  module _ (next : Asked) (more : List Asked) (is : left ≡ next ∷ more) (new : View) (pins : new.pins ≡ mid.pins) where
     parted : asked ≡ made ++ next ∷ more
     parted = so_far.are ∙ ap (λ l. made ++ l) is
 
-    -- what pins name is as it was
-    one_kept : (why : Option Refused) → Answers Tells (Makes (call_of next)) why face mid new → Tells → AreKept old.pins.pins old.disk.directory new.disk.directory
-    one_kept why says told = kept_then old mid new (pins_same old mid so_far.face) (so_far.pinned told) (λ name named. says.pinned told name named
-        (subst (λ (pins : Held). IsTrue (is_named pins.pins name)) (sym (pins_same mid new (says.face_is ∙ face_is))) named))
+    -- what pins name is as it was, and they name all that is retired and wasn't
+    one_kept : (why : Option Refused) → Answers Tells (Makes (call_of next)) why (face_of mid) mid new → Tells → AreKept old.pins.pins old.disk.directory new.disk.directory
+    one_kept why says told = kept_then old mid new so_far.pins (so_far.pinned told) (λ name named. says.pinned told name named (subst (λ (held : Held). IsTrue (is_named held.pins name)) (sym pins) named))
 
-    pub one_made : Answers Tells (Makes (call_of next)) None face mid new → IsMade Tells old asked (made ++ next ∷ []) more new
+    one_retired : (why : Option Refused) → Answers Tells (Makes (call_of next)) why (face_of mid) mid new → AreRetiredFrom old.pins.pins old.retired new.retired
+    one_retired why says = retired_then old mid new so_far.pins so_far.retired says.retired
+
+    pub one_made : Answers Tells (Makes (call_of next)) None (face_of mid) mid new → IsMade Tells old asked (made ++ next ∷ []) more new
     one_made says = record {
       are = parted ∙ sym (append_assoc made (next ∷ []) more);
       sound = says.sound;
@@ -578,8 +704,12 @@ module _ (Tells PortsFail : Type 0) (old : View) (asked made left : List Asked) 
           moments_on told config opened h before runs caller (next ∷ []) new
           (goes_from_weaker (IsKeptOr config was (Some (done_by caller (call_of next)))) (IsKeptAlong config h caller (made ++ next ∷ [])) mid.state.next mid.disk new.disk (λ d kept. along_or config h caller made next d kept)
           (says.any_moment told config was (so_far.stands told config opened h before caller).now (so_far.stopped ∙ runs) caller));
-      idle = λ stopped. absurd (none_made_stopped Tells (call_of next) face mid new says (still_stopped stopped));
-      face = faces_then old mid new so_far.face (says.face_is ∙ face_is);
+      idle = λ stopped. absurd (none_made_stopped Tells (call_of next) (face_of mid) mid new says (still_stopped stopped));
+      drawn = let was = so_far.drawn in let one = says.drawn in omega (arith, was, one);
+      later = λ told. let was = so_far.later told in let one = says.later told in omega (arith, was, one);
+      face = says.face_is ∙ so_far.face;
+      pins = pins ∙ so_far.pins;
+      retired = one_retired None says;
       pinned = λ told. one_kept None says told;
     }
 
@@ -595,7 +725,7 @@ module _ (Tells PortsFail : Type 0) (old : View) (asked made left : List Asked) 
     failed_count n (Some failure) is = let long = one_longer made next in omega (arith, is, long)
 
     -- what the store remembered before it
-    before_one : (why : Refused) → Answers Tells (Makes (call_of next)) (Some why) face mid new → IsBehind Tells made old new mid.state
+    before_one : (why : Refused) → Answers Tells (Makes (call_of next)) (Some why) (face_of mid) mid new → IsBehind Tells made old new mid.state
     before_one why says = record {
       count = so_far.count;
       stopped = so_far.stopped;
@@ -608,12 +738,24 @@ module _ (Tells PortsFail : Type 0) (old : View) (asked made left : List Asked) 
     }
 
     -- some of the steps that make room may have been done
-    room_left : (why : Refused) → Answers Tells (Makes (call_of next)) (Some why) face mid new → failure_of why ≡ None → mid.flight ≡ old.flight → AreWritten Tells old made mid
-        → Tells → (s : Stored) → Holds old s → (t : Stored) × (u : Stored) × IsWritten old.flight made s t × IsRoomBegun old.flight t u × Holds new u
-    room_left why says none flight so told s holds =
+    room_left : (first : ℕ) (before now : PortCounts) (why : Refused) → Answers Tells (Makes (call_of next)) (Some why) (face_of mid) mid new → failure_of why ≡ None → before.fetches ≤ now.fetches
+        → AreWritten Tells old first (Some why) made mid before.fetches → Tells → (s : Stored) → Holds old s
+        → (last : Point) × IsWritten old (Some why) made (point_of s old first) last × ((levels : List (List Parts)) × Remembers last.stored mid.state levels) × IsEndedAt old (Some why) last new now.fetches
+    room_left first before now why says none more so told s holds =
         let to = so told s holds in
-        let left = says.refused.1 none told to.0 to.2 in
-        (to.0, left.0, to.1, subst (λ flight. IsRoomBegun flight to.0 left.0) flight (begun_of next left.1), left.2)
+        let left = says.refused.1 none told to.0 to.2 in (
+          point_of to.0 mid before.fetches,
+          to.1,
+          (mid.levels, to.2.remembers),
+          record {
+            left = left.0;
+            room = subst (λ flight. IsRoomBegun flight to.0 left.0) (ap (λ (face : Face). face.flight) so_far.face) (begun_of next left.1);
+            holds = left.2;
+            later = says.later told;
+            fetched = more;
+            retired = subst (λ (held : Held). AreRetiredFrom held.pins mid.retired new.retired) so_far.pins says.retired;
+          },
+        )
       where
         begun_of : {flight : Option Flying} {t u : Stored} (next : Asked) → IsBegun (call_of next) flight t u → IsRoomBegun flight t u
         begun_of (Put key dkey value) begun = begun
@@ -624,8 +766,9 @@ module _ (Tells PortsFail : Type 0) (old : View) (asked made left : List Asked) 
     no_failure None none = refl
     no_failure (Some failure) none = absurd cc
 
-    pub one_refused : (before first last : ℕ) → before ≤ first → AreWritten Tells old made mid → (why : Refused) → Answers Tells (Makes (call_of next)) (Some why) face mid new → HasReasonOfChange Tells PortsFail mid new first last why → AnswersAll Tells PortsFail asked (length made) (Some why) before last old new
-    one_refused before' first last since so why says reason =
+    pub one_refused : (first before now : PortCounts) → first.faults ≤ before.faults → before.fetches ≤ now.fetches → (why : Refused) → AreWritten Tells old first.fetches (Some why) made mid before.fetches
+        → Answers Tells (Makes (call_of next)) (Some why) (face_of mid) mid new → HasReasonOfChange Tells PortsFail mid new before.faults now.faults why → AnswersAll Tells PortsFail asked (length made) (Some why) first now old new
+    one_refused first before now since more' why so says reason =
         let stands = λ (told : Tells) (config : Fields) (opened : Opened) (h : History) (before : StandsSince config opened h old) (caller : ℕ).
         subst (λ g. StandsSince config opened g new) (failed_history h caller (failure_of why))
         (says.stands told config opened (with_all h caller made) (so_far.stands told config opened h before caller) caller) in
@@ -634,14 +777,14 @@ module _ (Tells PortsFail : Type 0) (old : View) (asked made left : List Asked) 
           rest = next ∷ more;
           are = parted;
           many = refl;
+          state = mid.state;
+          behind = before_one why says;
           why = (
             (next, more, refl),
             record {
-              state = mid.state;
-              behind = before_one why says;
               faults = mid.faults;
               later = so_far.faults;
-              port_faults = first;
+              port_faults = before.faults;
               since = since;
               reason = reason;
             },
@@ -661,18 +804,21 @@ module _ (Tells PortsFail : Type 0) (old : View) (asked made left : List Asked) 
               moments_on told config opened h before runs caller behind new
               (goes_from_weaker (IsKeptOr config was (option_map (λ failure. done_by caller (call_of next)) (failure_of why))) (IsKeptAlong config h caller (made ++ behind)) mid.state.next mid.disk new.disk
               (λ d kept. along_failed config h caller made next (failure_of why) d kept) (says.any_moment told config was (so_far.stands told config opened h before caller).now (so_far.stopped ∙ runs) caller));
-          idle = λ stopped. let was = so_far.idle stopped in let still = says.still (still_stopped stopped) in (ap length was.0, still.state ∙ was.1, still.faults ∙ was.2);
-          rows = λ told none. room_left why says (no_failure (failure_of why) none) (ap (λ (face : Face). face.flight) so_far.face) so told;
+          idle = λ stopped. let was = so_far.idle stopped in let still = says.still (still_stopped stopped) in (ap length was.0, still_then Tells old mid new was.1 still);
+          rows = λ told none. room_left first.fetches before now why says (no_failure (failure_of why) none) more' so told;
           calls = λ told none room. absurd cc;
           written = λ told none room. absurd cc;
           numbers = λ told. let was = so_far.numbers told in let one = says.numbers told in omega (arith, was, one);
           faults = let was = so_far.faults in let one = says.faults in omega (arith, was, one);
-          face_is = faces_then old mid new so_far.face (says.face_is ∙ face_is);
+          drawn = let was = so_far.drawn in let one = says.drawn in omega (arith, was, one);
+          later = λ told. let was = so_far.later told in let one = says.later told in omega (arith, was, one);
+          face_is = says.face_is ∙ so_far.face;
+          retired = one_retired (Some why) says;
           pinned = one_kept (Some why) says;
         }
 
 -- there was no memory for the places
-pub none_placed : (Tells PortsFail : Type 0) (old : View) (asked : List Asked) (before : ℕ) → IsSound Tells old → (length asked ≡ 0 → ⊥) → AnswersAll Tells PortsFail asked 0 (Some NoMemory) before before old old
+pub none_placed : (Tells PortsFail : Type 0) (old : View) (asked : List Asked) (before : PortCounts) → IsSound Tells old → (length asked ≡ 0 → ⊥) → AnswersAll Tells PortsFail asked 0 (Some NoMemory) before before old old
 none_placed Tells PortsFail old [] before sound some = absurd (some refl)
 none_placed Tells PortsFail old (next ∷ more) before sound some =
     let so_far = none_yet Tells old (next ∷ more) sound in
@@ -681,20 +827,20 @@ none_placed Tells PortsFail old (next ∷ more) before sound some =
       rest = next ∷ more;
       are = refl;
       many = refl;
+      state = old.state;
+      behind = record {
+        count = omega arith;
+        stopped = refl;
+        writable = sound.writable;
+        small = sound.small;
+        told = λ told config opened h before. (config_since config opened h old before, omega arith);
+      };
       why = (
         (next, more, refl),
         record {
-          state = old.state;
-          behind = record {
-            count = omega arith;
-            stopped = refl;
-            writable = sound.writable;
-            small = sound.small;
-            told = λ told config opened h before. (config_since config opened h old before, omega arith);
-          };
           faults = old.faults;
           later = omega arith;
-          port_faults = before;
+          port_faults = before.faults;
           since = omega arith;
           reason = inl tt;
         },
@@ -705,28 +851,39 @@ none_placed Tells PortsFail old (next ∷ more) before sound some =
       stands = so_far.stands;
       goes = λ told config opened h before caller. goes_by Any config opened h (with_all h caller []) old old before (so_far.stands told config opened h before caller) (any_still old.disk);
       any_moment = so_far.moments;
-      idle = λ stopped. (refl, refl, refl);
+      idle = λ stopped. (refl, still_itself Tells old);
       rows = λ told none s holds. (
-        s,
-        s,
+        point_of s old before.fetches,
         record {
           rounds = [];
           last = [];
           are = refl;
-          middle = s;
+          middle = point_of s old before.fetches;
           before = refl;
-          row = (old.levels, holds.remembers.files, refl);
+          row = record { levels = old.levels; files = holds.remembers.files; records = refl; fetches = refl; retired = refl };
+          calls = λ other. omega arith;
         },
-        inl refl,
-        holds,
+        (old.levels, holds.remembers),
+        record { left = s; room = inl refl; holds = holds; later = omega arith; fetched = omega arith; retired = λ name there. inl there },
       );
       calls = λ told none room. absurd cc;
       written = λ told none room. absurd cc;
       numbers = so_far.numbers;
+      drawn = so_far.drawn;
+      later = so_far.later;
       faults = so_far.faults;
       face_is = refl;
+      retired = so_far.retired;
       pinned = so_far.pinned;
     }
+
+-- certificates stand behind the list as they stood before it
+pub list_certified : (Tells PortsFail : Type 0) (asked : List Asked) (done : ℕ) (refused : Option Refused) (before now : PortCounts) (old new : View) (answers : AnswersAll Tells PortsFail asked done refused before now old new) → Tells
+    → (config : Fields) (opened : Opened) (h : History) (caller : ℕ) (answered : List Certificate) → StandsFor config opened h old answered
+    → StandsFor config opened (row_behind h caller answers.made (failed_of refused answers.rest)) new answered
+list_certified Tells PortsFail asked done refused before now old new answers told config opened h caller answered stands =
+    still_all_certified config opened h (row_behind h caller answers.made (failed_of refused answers.rest)) old new (λ start since. answers.stands told config start h since caller)
+    (λ moment d early left. ((answers.goes told config opened h stands.since caller).past moment d early).0 left) answered stands
 
 -- The places
 

@@ -3,26 +3,38 @@ use Rattle.std.specs.Prelude.{◌≡◌, ◌≤◌, ◌+◌, ℕ, IsSome, List, 
 use Rattle.lethe_base.specs.History.{History}
 use Rattle.lethe_base.specs.Limits.{max_place}
 use Rattle.lethe_base.specs.declared.config.Fields.{Fields}
+use Rattle.lethe_base.specs.declared.name.Name.{Name}
 use Rattle.lethe_base.specs.declared.refused.Refused.{Refused}
+use Rattle.lethe_base.specs.declared.refused.Refused.TheVariants.{NoMemory}
 use Rattle.lethe_disk.specs.Goes.{Goes}
 use Rattle.lethe_stored.specs.Files.{Parts}
 use Rattle.lethe_stored.specs.Levels.{HasFiles}
 use Rattle.lethe_stored.specs.Numbers.{GoesFrom}
 use Rattle.lethe_stored.specs.Stored.{Stored, appended}
 use Rattle.lethe_segment.specs.declared.record.Record.{Record}
+use Rattle.lethe_state.specs.Remembered.{Remembers}
 use Rattle.lethe_state.specs.Room.{HasRoom}
 use Rattle.lethe_state.specs.Records.{headers_in}
 use Rattle.lethe_state.specs.Writable.{IsWritable}
 use Rattle.lethe_state.specs.declared.state.State.{State}
 use Rattle.lethe_core.specs.Asked.{Failure, failure_of, stopped_by}
-use Rattle.lethe_core.specs.Merges.{IsCleared, IsRoomBegun, Outcome}
-use Rattle.lethe_core.specs.Pinned.{AreKept}
+use Rattle.lethe_core.specs.Merges.{AreRetiredBehind, IsCleared, IsRoomBegun, Outcome, pages_of}
+use Rattle.lethe_core.specs.Pinned.{AreKept, AreRetiredFrom}
 use Rattle.lethe_core.specs.Running.{Holds, IsSmall, IsSound}
-use Rattle.lethe_core.specs.View.{Flying, View, face_of}
+use Rattle.lethe_core.specs.View.{View, face_of}
 use Rattle.lethe_row.specs.Along.{AreAppended, IsKeptAlong, IsRecordOver, calls_of, row_behind, tried}
 use Rattle.lethe_row.specs.declared.asking.Asked.{Asked}
+use Rattle.lethe_engine.specs.Answers.{IsStill}
 use Rattle.lethe_engine.specs.Refusals.{HasReasonAt}
 use Rattle.lethe_engine.specs.StandsFor.{IsKeptFor, Opened, StandsSince}
+
+-- how often a port has fetched, and how many of its fetches failed
+pub record PortCounts : Type 0 where
+  pub fetches : ℕ
+  pub faults : ℕ
+
+abbrev pub counts_of : ℕ → ℕ → PortCounts
+counts_of fetches faults = record { fetches = fetches; faults = faults }
 
 -- that the disk failed in the first of the changes that weren't made, where it did
 abbrev pub failed_of : Option Refused → List Asked → Option (Asked × Failure)
@@ -43,36 +55,53 @@ pub record IsBehind (Tells : Type 0) (made : List Asked) (old new : View) (state
   pub small : IsSmall state
   pub told : Tells → (config : Fields) (opened : Opened) (h : History) → StandsSince config opened h old → (state.manifest.config ≡ config) × (state.next + old.disk.moment ≤ old.state.next + new.disk.moment)
 
--- The change behind those that were made has the reason of a change by itself, by the disk's counts of faults and by the port's, those from before any of them and those of now.
-pub record IsReason (Tells PortsFail : Type 0) (made : List Asked) (old new : View) (before now : ℕ) (why : Refused) : Type 0 where
-  pub state : State
-  pub behind : IsBehind Tells made old new state
+-- The change behind those that were made has the reason of a change by itself, by what the store remembered then, the disk's counts of faults and the port's, those from before any of
+-- them and those of now.
+pub record IsReason (Tells PortsFail : Type 0) (state : State) (old new : View) (before now : PortCounts) (why : Refused) : Type 0 where
   pub faults : ℕ
   pub later : old.faults ≤ faults
   pub port_faults : ℕ
-  pub since : before ≤ port_faults
-  pub reason : HasReasonAt Tells PortsFail state faults new port_faults now why
+  pub since : before.faults ≤ port_faults
+  pub reason : HasReasonAt Tells PortsFail state faults new port_faults now.faults why
 
 -- all changes were made, or the first of those that weren't has a reason
-abbrev pub IsWhy : Type 0 → Type 0 → Option Refused → List Asked → List Asked → View → View → ℕ → ℕ → Type 0
-IsWhy Tells PortsFail None made rest old new before now = rest ≡ []
-IsWhy Tells PortsFail (Some why) made rest old new before now = ((next : Asked) × (more : List Asked) × (rest ≡ next ∷ more)) × IsReason Tells PortsFail made old new before now why
+abbrev pub IsWhy : Type 0 → Type 0 → Option Refused → List Asked → State → View → View → PortCounts → PortCounts → Type 0
+IsWhy Tells PortsFail None rest state old new before now = rest ≡ []
+IsWhy Tells PortsFail (Some why) rest state old new before now = ((next : Asked) × (more : List Asked) × (rest ≡ next ∷ more)) × IsReason Tells PortsFail state old new before now why
 
--- the changes of a row: each record is over what the ones before it left, with the same files below
-abbrev pub IsRowOver : Stored → List Asked → Stored → Type 0
-IsRowOver s row t = (levels : List (List Parts)) × HasFiles s levels × AreAppended (headers_in levels) s row t
+-- A point on the way through a list: what is stored, how many device calls the disk has taken, how often the port has fetched, and the pages that are retired.
+pub record Point : Type 0 where
+  pub stored : Stored
+  pub moment : ℕ
+  pub fetches : ℕ
+  pub retired : List Name
 
--- A change that made room first, where there was none: its record is over what that left.
-pub record IsMadeAlone (flight : Option Flying) (s : Stored) (asked : Asked) (t : Stored) : Type 0 where
-  pub full : HasRoom s → ⊥
+-- where a store is that holds this
+abbrev pub point_of : Stored → View → ℕ → Point
+point_of s view fetches = record { stored = s; moment = view.disk.moment; fetches = fetches; retired = view.retired }
+
+-- The changes of a row: each record is over what the ones before it left, with the same files below. Nothing is fetched, and the retired pages stay.
+pub record IsRowOver (p : Point) (row : List Asked) (q : Point) : Type 0 where
+  pub levels : List (List Parts)
+  pub files : HasFiles p.stored levels
+  pub records : AreAppended (headers_in levels) p.stored row q.stored
+  pub fetches : q.fetches ≡ p.fetches
+  pub retired : q.retired ≡ p.retired
+
+-- A change that made room first, where there was none: its record is over what that left. The merges of that fetched each page once, and left none retired but what held pins name.
+pub record IsMadeAlone (view : View) (p : Point) (asked : Asked) (q : Point) : Type 0 where
+  pub full : HasRoom p.stored → ⊥
   pub outcomes : List Outcome
   pub cleared : Stored
-  pub room : IsCleared flight s outcomes cleared
+  pub room : IsCleared view.flight p.stored outcomes cleared
   pub levels : List (List Parts)
-  pub files : HasFiles t levels
+  pub files : HasFiles q.stored levels
   pub next : Record
   pub over : IsRecordOver (headers_in levels) cleared asked next
-  pub is : t ≡ appended cleared next
+  pub is : q.stored ≡ appended cleared next
+  pub fetches : q.fetches ≡ p.fetches + pages_of outcomes
+  pub retired : AreRetiredBehind outcomes view.pins.pins p.retired q.retired
+  pub later : p.moment ≤ q.moment
 
 -- a row, and the change behind it, which made room
 pub record Round : Type 0 where
@@ -82,32 +111,52 @@ pub record Round : Type 0 where
 abbrev pub changes_in : List Round → List Asked
 changes_in rounds = flat_map (λ round. round.row ++ round.alone ∷ []) rounds
 
--- they were made one after another
-abbrev pub AreMade : Option Flying → List Round → Stored → Stored → Type 0
-AreMade flight [] s t = t ≡ s
-AreMade flight (round ∷ more) s t = (full : Stored) × (then : Stored) × IsRowOver s round.row full × IsMadeAlone flight full round.alone then × AreMade flight more then t
+-- the row took three device calls for each change and one more, and then the other was made
+pub record IsRound (view : View) (p : Point) (round : Round) (q : Point) : Type 0 where
+  pub full : Point
+  pub row : IsRowOver p round.row full
+  pub calls : full.moment ≡ p.moment + calls_of round.row
+  pub alone : IsMadeAlone view full round.alone q
 
--- These changes were made in rows, and between two rows one that made room.
-pub record IsWritten (flight : Option Flying) (made : List Asked) (s t : Stored) : Type 0 where
+-- they were made one after another
+abbrev pub AreMade : View → List Round → Point → Point → Type 0
+AreMade view [] p q = q ≡ p
+AreMade view (round ∷ more) p q = (next : Point) × IsRound view p round next × AreMade view more next q
+
+-- These changes were made in rows, and between two rows one that made room. The device calls of the last row are counted unless there was no memory for the next change.
+pub record IsWritten (view : View) (refused : Option Refused) (made : List Asked) (p q : Point) : Type 0 where
   pub rounds : List Round
   pub last : List Asked
   pub are : made ≡ changes_in rounds ++ last
-  pub middle : Stored
-  pub before : AreMade flight rounds s middle
-  pub row : IsRowOver middle last t
+  pub middle : Point
+  pub before : AreMade view rounds p middle
+  pub row : IsRowOver middle last q
+  pub calls : (refused ≡ Some NoMemory → ⊥) → q.moment ≡ middle.moment + calls_of last
 
--- behind those that were made some of the steps that make room for the next one may have been done, where that was refused
-abbrev pub IsRoomLeft : Option Flying → Option Refused → Stored → Stored → Type 0
-IsRoomLeft flight None t u = u ≡ t
-IsRoomLeft flight (Some why) t u = IsRoomBegun flight t u
+-- Behind this point some of the steps that make room for the next change may have been done, and nothing else.
+pub record IsRefusedAt (view : View) (p : Point) (new : View) (fetches : ℕ) : Type 0 where
+  pub left : Stored
+  pub room : IsRoomBegun view.flight p.stored left
+  pub holds : Holds new left
+  pub later : p.moment ≤ new.disk.moment
+  pub fetched : p.fetches ≤ fetches
+  pub retired : AreRetiredFrom view.pins.pins p.retired new.retired
 
--- So many changes were made, the first ones of those that were asked, and the next one wasn't for this reason, if any is left; by the port's counts of faults before and now.
-pub record AnswersAll (Tells PortsFail : Type 0) (asked : List Asked) (done : ℕ) (refused : Option Refused) (before now : ℕ) (old new : View) : Type 0 where
+-- the store is at this point, or it was where the next change was refused
+abbrev pub IsEndedAt : View → Option Refused → Point → View → ℕ → Type 0
+IsEndedAt view None p new fetches = (p ≡ point_of p.stored new fetches) × Holds new p.stored
+IsEndedAt view (Some why) p new fetches = IsRefusedAt view p new fetches
+
+-- So many changes were made, the first ones of those that were asked, and the next one wasn't for this reason, if any is left; by the port's counts before and now.
+pub record AnswersAll (Tells PortsFail : Type 0) (asked : List Asked) (done : ℕ) (refused : Option Refused) (before now : PortCounts) (old new : View) : Type 0 where
   pub made : List Asked
   pub rest : List Asked
   pub are : asked ≡ made ++ rest
   pub many : length made ≡ done
-  pub why : IsWhy Tells PortsFail refused made rest old new before now
+  -- what the store remembered behind those that were made
+  pub state : State
+  pub behind : IsBehind Tells made old new state
+  pub why : IsWhy Tells PortsFail refused rest state old new before now
   pub sound : IsSound Tells new
   -- it counts those that were made, and that in which the disk failed
   pub count : new.state.count ≡ old.state.count + length (tried made (failed_of refused rest))
@@ -121,15 +170,21 @@ pub record AnswersAll (Tells PortsFail : Type 0) (asked : List Asked) (done : �
   -- Where no earlier call failed, what a crash at any moment leaves is kept for the history with the first ones of the changes, none or all of them among these.
   pub any_moment : Tells → (config : Fields) (opened : Opened) (h : History) → StandsSince config opened h old → old.state.stopped ≡ None → (caller : ℕ)
       → GoesFrom old.state.next (IsKeptAlong config h caller (tried made (failed_of refused rest))) old.disk new.disk
-  -- a store that was stopped before makes no change
-  pub idle : IsSome old.state.stopped → (done ≡ 0) × (new.state ≡ old.state) × (new.faults ≡ old.faults)
-  -- unless the disk failed each was made over what the ones before it left
-  pub rows : Tells → failed_of refused rest ≡ None → (s : Stored) → Holds old s → (t : Stored) × (u : Stored) × IsWritten old.flight made s t × IsRoomLeft old.flight refused t u × Holds new u
+  -- of a store that was stopped before no change is made, and nothing is done
+  pub idle : IsSome old.state.stopped → (done ≡ 0) × IsStill Tells old new
+  -- Unless the disk failed each was made over what the ones before it left, and that was remembered where the next one wasn't made.
+  pub rows : Tells → failed_of refused rest ≡ None → (s : Stored) → Holds old s
+      → (last : Point) × IsWritten old refused made (point_of s old before.fetches) last × ((levels : List (List Parts)) × Remembers last.stored state levels)
+      × IsEndedAt old refused last new now.fetches
   -- where there was room for all they are one row, of three device calls for each and one more
   pub calls : Tells → refused ≡ None → HaveRoom asked old → new.disk.moment ≡ old.disk.moment + calls_of asked
   pub written : Tells → refused ≡ None → HaveRoom asked old → (s : Stored) → Holds old s → (t : Stored) × AreAppended (headers_in old.levels) s asked t × Holds new t
   pub numbers : Tells → new.state.next + old.disk.moment ≤ old.state.next + new.disk.moment
+  -- no number comes back, nor a moment
+  pub drawn : old.state.next ≤ new.state.next
+  pub later : Tells → old.disk.moment ≤ new.disk.moment
   pub faults : old.faults ≤ new.faults
-  -- jobs and pins stay as they are, and each object that a pin names is as it was, byte for byte
-  pub face_is : face_of new ≡ record (face_of old) { retired = new.retired }
+  -- Jobs and pins stay as they are, each page that is retired was so before or is named by a held pin, and each object that a pin names is as it was, byte for byte.
+  pub face_is : face_of new ≡ face_of old
+  pub retired : AreRetiredFrom old.pins.pins old.retired new.retired
   pub pinned : Tells → AreKept old.pins.pins old.disk.directory new.disk.directory

@@ -12,7 +12,7 @@ ghost use Rattle.lethe_core.specs.View.{face_of, view_of};
 ghost use Rattle.lethe_row.specs.Rows.{call_of};
 ghost use Rattle.lethe_engine.specs.Answers.{Answers};
 ghost use Rattle.lethe_engine.specs.Refusals.{HasReasonOfChange};
-ghost use Rattle.lethe_changes.specs.Changes.{AnswersAll, IsMadeAlone};
+ghost use Rattle.lethe_changes.specs.Changes.{AnswersAll, IsMadeAlone, counts_of, point_of};
 
 use lethe_base::Refused;
 use lethe_disk::Disk;
@@ -32,7 +32,7 @@ pub struct Changed {
 
 /// Makes the changes one behind another, in rows: where the active segment is full the row ends, the next change makes room as one by itself does, with files read through the port, and
 /// the ones behind it are a row again. It answers the places of those that were made, and why the one behind them wasn't, where it wasn't; those behind that one aren't made either. None
-/// is answered before all that were made are durable. `k` changes for which there is room take `3 k + 1` device calls, of which `k + 1` are syncs.
+/// is answered before all that were made are durable. A row of `k` changes takes `3 k + 1` device calls, of which `k + 1` are syncs.
 ///
 /// # Errors
 ///
@@ -45,13 +45,15 @@ pub fn change_all<D: Disk>(
 ) -> Changed
     // Opening gives this, and each call leaves it so.
     requires { IsSound D.tells (view_of engine.old.core) }
-    ensures answers { AnswersAll D.tells D.ports_fail asked.items (length result.places.items) result.refused (D.port_faults port.old) (D.port_faults port.new) (view_of engine.old.core) (view_of engine.new.core) }
+    ensures answers { AnswersAll D.tells D.ports_fail asked.items (length result.places.items) result.refused (counts_of (D.fetches port.old) (D.port_faults port.old))
+        (counts_of (D.fetches port.new) (D.port_faults port.new)) (view_of engine.old.core) (view_of engine.new.core) }
     ensures places { result.places.items ≡ range_with_len (engine.old.core.state.count + 1) (length result.places.items) }
     ensures port_faults { D.port_faults port.old ≤ D.port_faults port.new }
     // Where a page is told as damaged, a fetch was made in this call, on any disk.
     ensures fetched { (name : Name) → result.refused ≡ Some (Damaged name) → D.fetches port.old < D.fetches port.new }
     ensures fetches { D.fetches port.old ≤ D.fetches port.new }
     ensures certificates { engine.new.certificates ≡ engine.old.certificates }
+    ensures pins { engine.new.core.pins ≡ engine.old.core.pins }
 {
     let Ok(places) = Vec::with_capacity(alloc, asked.len()) else {
         return Changed {
@@ -75,11 +77,13 @@ fn make_all<D: Disk>(
     asked: Vec<Asked>,
 ) -> Row
     requires { IsSound D.tells (view_of engine.old.core) }
-    ensures answers { AnswersAll D.tells D.ports_fail asked.items result.done result.refused (D.port_faults port.old) (D.port_faults port.new) (view_of engine.old.core) (view_of engine.new.core) }
+    ensures answers { AnswersAll D.tells D.ports_fail asked.items result.done result.refused (counts_of (D.fetches port.old) (D.port_faults port.old))
+        (counts_of (D.fetches port.new) (D.port_faults port.new)) (view_of engine.old.core) (view_of engine.new.core) }
     ensures port_faults { D.port_faults port.old ≤ D.port_faults port.new }
     ensures fetched { (name : Name) → result.refused ≡ Some (Damaged name) → D.fetches port.old < D.fetches port.new }
     ensures fetches { D.fetches port.old ≤ D.fetches port.new }
     ensures certificates { engine.new.certificates ≡ engine.old.certificates }
+    ensures pins { engine.new.core.pins ≡ engine.old.core.pins }
 {
     let mut left = VecDeque::from(asked);
     let mut done = 0;
@@ -118,14 +122,17 @@ fn change_one<D: Disk>(
     change: Asked,
 ) -> Result<u64, Refused>
     requires { IsSound D.tells (view_of engine.old.core) }
-    ensures answers { Answers D.tells (Makes (call_of change)) (result_err result) (record (face_of (view_of engine.old.core)) { retired = (view_of engine.new.core).retired }) (view_of engine.old.core) (view_of engine.new.core) }
+    ensures answers { Answers D.tells (Makes (call_of change)) (result_err result) (face_of (view_of engine.old.core)) (view_of engine.old.core) (view_of engine.new.core) }
     ensures why { IfErr result (HasReasonOfChange D.tells D.ports_fail (view_of engine.old.core) (view_of engine.new.core) (D.port_faults port.old) (D.port_faults port.new)) }
     ensures port_faults { D.port_faults port.old ≤ D.port_faults port.new }
     ensures written { D.tells → (s : Stored) → Holds (view_of engine.old.core) s → (HasRoom s → ⊥)
-        → OnOk result ((t : Stored) × IsMadeAlone (view_of engine.old.core).flight s change t × Holds (view_of engine.new.core) t) }
+        → OnOk result ((t : Stored)
+        × IsMadeAlone (view_of engine.old.core) (point_of s (view_of engine.old.core) (D.fetches port.old)) change (point_of t (view_of engine.new.core) (D.fetches port.new))
+        × Holds (view_of engine.new.core) t) }
     ensures fetched { (name : Name) → IsErrOf result (Damaged name) → D.fetches port.old < D.fetches port.new }
     ensures fetches { D.fetches port.old ≤ D.fetches port.new }
     ensures certificates { engine.new.certificates ≡ engine.old.certificates }
+    ensures pins { engine.new.core.pins ≡ engine.old.core.pins }
 {
     match change {
         Asked::Put { key, dkey, value } => engine.put(alloc, port, key, dkey, value),

@@ -2,5 +2,7 @@
 #![tactic(auto)]
 
 mod changes;
+mod laws;
 
 pub use changes::{Changed, change_all};
+pub use laws::certificates_stay_in_list;

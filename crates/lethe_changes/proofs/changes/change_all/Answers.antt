@@ -3,7 +3,7 @@ use Rattle.std.specs.List.{range_with_len}
 use Rattle.std.proofs.lemmas.List.FromFn.{length-range_with_len}
 use Rattle.lethe_base.specs.declared.refused.Refused.TheVariants.{NoMemory}
 use Rattle.lethe_core.specs.View.{view_of}
-use Rattle.lethe_changes.specs.Changes.{AnswersAll}
+use Rattle.lethe_changes.specs.Changes.{AnswersAll, counts_of}
 use Rattle.lethe_changes.proofs.Making.{none_placed}
 use Rattle.lethe_changes.proofs.changes.change_all.Goals as goal
 
@@ -12,7 +12,7 @@ use Rattle.lethe_changes.proofs.changes.change_all.Goals as goal
 pub returns-in_default-clause-answers : goal.returns-in_default-clause-answers
 returns-in_default-clause-answers g c =
     let old = view_of c.args.engine.now.core in
-    let before = g.D.Disk.port_faults c.args.port.now in
+    let before = counts_of (g.D.Disk.fetches c.args.port.now) (g.D.Disk.port_faults c.args.port.now) in
     subst (λ n. AnswersAll g.D.Disk.tells g.D.Disk.ports_fail c.args.asked.items n (Some NoMemory) before before old old) (sym (ap length c.new.ensures.items))
     (none_placed g.D.Disk.tells g.D.Disk.ports_fail old c.args.asked.items before c.requires (λ none. absurd (let empty : c.len.result ≡ 0 = search rules in let ok = c.with_capacity.ensures.succeeds empty in search rules)))
 
@@ -20,7 +20,8 @@ returns-in_default-clause-answers g c =
 
 pub returns-clause-answers : goal.returns-clause-answers
 returns-clause-answers g c =
-    subst (λ n. AnswersAll g.D.Disk.tells g.D.Disk.ports_fail c.args.asked.items n c.make_all-done.result.refused (g.D.Disk.port_faults c.args.port.now) (g.D.Disk.port_faults c.make_all-done.new.port)
+    subst (λ n. AnswersAll g.D.Disk.tells g.D.Disk.ports_fail c.args.asked.items n c.make_all-done.result.refused
+    (counts_of (g.D.Disk.fetches c.args.port.now) (g.D.Disk.port_faults c.args.port.now)) (counts_of (g.D.Disk.fetches c.make_all-done.new.port) (g.D.Disk.port_faults c.make_all-done.new.port))
     (view_of c.args.engine.now.core) (view_of c.make_all-done.new.engine.core)) (sym (ap length c.places_behind.ensures ∙ length-range_with_len (c.count-count.result + 1) c.make_all-done.result.done)) c.make_all-done.ensures.answers
 
 pub returns-clause-places : goal.returns-clause-places

@@ -1,8 +1,8 @@
 use Rattle.std.proofs.Common.{rules, ◌≡◌, ◌+◌, [], ◌∷◌, ◌++◌, length, None, Some, refl, sym, ap, ◌∙◌, subst, arith}
 use Rattle.lethe_core.specs.View.{Face, View, face_of, view_of}
 use Rattle.lethe_row.specs.Along.{IsEnded}
-use Rattle.lethe_changes.specs.Changes.{AnswersAll}
-use Rattle.lethe_changes.proofs.Making.{IsFresh, IsMade, all_made, calls_of_all, fresh_at_first, never_fresh, no_rounds, none_yet, one_longer_by, one_made, one_refused, round_made, row_ended, row_left, row_made, row_many, row_went, row_written, written_all}
+use Rattle.lethe_changes.specs.Changes.{AnswersAll, counts_of}
+use Rattle.lethe_changes.proofs.Making.{IsFresh, IsMade, all_made, calls_of_all, fresh_at_first, never_fresh, no_rounds, none_yet, one_longer_by, one_made, one_refused, round_made, row_ended, row_left, row_made, row_many, row_went, row_went_written, written_all}
 use Rattle.lethe_changes.proofs.changes.make_all.Goals as goal
 
 pub loop-alloc-init : goal.loop-alloc-init
@@ -10,11 +10,12 @@ loop-alloc-init g c =
     let old = view_of c.args.engine.now.core in
     let all : c.from-left.result.items ≡ c.args.asked.items = search rules in
     record {
-      so_far = ([], refl, subst (λ left. IsMade g.D.Disk.tells old c.args.asked.items [] left old) (sym all) (none_yet g.D.Disk.tells old c.args.asked.items c.requires), no_rounds g.D.Disk.tells old);
+      so_far = ([], refl, subst (λ left. IsMade g.D.Disk.tells old c.args.asked.items [] left old) (sym all) (none_yet g.D.Disk.tells old c.args.asked.items c.requires), no_rounds g.D.Disk.tells old (g.D.Disk.fetches c.args.port.now));
       fresh = λ room. subst (λ left. IsFresh g.D.Disk.tells old c.args.asked.items left old) (sym all) (fresh_at_first g.D.Disk.tells old c.args.asked.items room);
       port_faults = omega arith;
       fetches = omega arith;
       certificates = refl;
+      pins = refl;
     }
 
 -- A row was refused
@@ -24,7 +25,8 @@ returns-then-is_some-clause-answers g c =
     let so_far = c.loop-alloc.invariant.so_far in
     let row = c.change_row-row in
     row_ended g.D.Disk.tells g.D.Disk.ports_fail (view_of c.args.engine.now.core) c.args.asked.items so_far.0 c.loop-alloc.left.items (view_of c.loop-alloc.engine.core) so_far.2
-    (g.D.Disk.port_faults c.args.port.now) (g.D.Disk.port_faults c.loop-alloc.port) c.loop-alloc.invariant.port_faults so_far.3 row.new.asked.items row.result.done c.loop-alloc.done (view_of row.new.self.core) row.result.refused so_far.1 (sym c.is_some.ensures ∙ c.if-is_some.true) row.ensures.answers
+    (counts_of (g.D.Disk.fetches c.args.port.now) (g.D.Disk.port_faults c.args.port.now)) (counts_of (g.D.Disk.fetches c.loop-alloc.port) (g.D.Disk.port_faults c.loop-alloc.port)) c.loop-alloc.invariant.port_faults so_far.3
+    row.new.asked.items row.result.done c.loop-alloc.done (view_of row.new.self.core) row.result.refused row.ensures.pins so_far.1 (sym c.is_some.ensures ∙ c.if-is_some.true) row.ensures.answers
 
 -- All were made
 
@@ -39,13 +41,13 @@ returns-in_default-clause-answers g c =
     let new : View = view_of row.new.self.core in
     let left = row.new.asked.items in
     let went = row_went tells Ports old c.args.asked.items so_far.0 c.loop-alloc.left.items mid so_far.2 left row.result.done new row.result.refused (sym c.is_some.ensures ∙ c.if-is_some.false) row.ensures.answers in
-    let made = row_made tells Ports old c.args.asked.items so_far.0 c.loop-alloc.left.items mid so_far.2 left row.result.done new went in
+    let made = row_made tells Ports old c.args.asked.items so_far.0 c.loop-alloc.left.items mid so_far.2 left row.result.done new went row.ensures.pins in
     let many = row_many tells Ports old c.args.asked.items so_far.0 c.loop-alloc.left.items mid so_far.2 left row.result.done c.loop-alloc.done new so_far.1 went in
     let none : row.new.asked.items ≡ [] = search rules in
-    let before = g.D.Disk.port_faults c.args.port.now in
-    let now = g.D.Disk.port_faults c.loop-alloc.port in
+    let before = counts_of (g.D.Disk.fetches c.args.port.now) (g.D.Disk.port_faults c.args.port.now) in
+    let now = counts_of (g.D.Disk.fetches c.loop-alloc.port) (g.D.Disk.port_faults c.loop-alloc.port) in
     let calls = calls_of_all tells old mid new c.args.asked.items c.loop-alloc.left.items left row.result.done c.loop-alloc.invariant.fresh went none in
-    let rows = row_written tells old mid new so_far.0 c.loop-alloc.left.items left row.result.done None went went.row.ended.0 so_far.3 in
+    let rows = row_went_written tells old mid new so_far.0 c.loop-alloc.left.items left row.result.done None before.fetches now.fetches went so_far.3 in
     let written = written_all tells old mid new c.args.asked.items c.loop-alloc.left.items left row.result.done c.loop-alloc.invariant.fresh went none in
     subst (λ n. AnswersAll tells Ports c.args.asked.items n None before now old new) many (all_made tells Ports old c.args.asked.items (so_far.0 ++ went.row.made) left new made before now none rows calls written)
 
@@ -76,22 +78,23 @@ loop-alloc-preserved g c =
     let new : View = view_of row.new.self.core in
     let then : View = view_of c.change_one.new.engine.core in
     let went = row_went tells Ports old c.args.asked.items so_far.0 c.loop-alloc.left.items mid so_far.2 row.new.asked.items row.result.done new row.result.refused (sym c.is_some.ensures ∙ c.if-is_some.false) row.ensures.answers in
-    let made = row_made tells Ports old c.args.asked.items so_far.0 c.loop-alloc.left.items mid so_far.2 row.new.asked.items row.result.done new went in
+    let made = row_made tells Ports old c.args.asked.items so_far.0 c.loop-alloc.left.items mid so_far.2 row.new.asked.items row.result.done new went row.ensures.pins in
     let many = row_many tells Ports old c.args.asked.items so_far.0 c.loop-alloc.left.items mid so_far.2 row.new.asked.items row.result.done c.loop-alloc.done new so_far.1 went in
     record {
       so_far = (
         (so_far.0 ++ went.row.made) ++ c.in-Some.change ∷ [],
         one_longer_by (so_far.0 ++ went.row.made) c.in-Some.change (c.loop-alloc.done + row.result.done) many,
         one_made tells Ports old c.args.asked.items (so_far.0 ++ went.row.made) row.new.asked.items new made c.in-Some.change c.pop_front.new.self.items c.in-Some.ensures.items
-            (record (face_of new) { retired = then.retired }) then refl c.in-Ok.ensures.answers,
-        round_made tells old mid new then so_far.0 c.loop-alloc.left.items row.new.asked.items c.pop_front.new.self.items row.result.done c.in-Some.change (record (face_of new) { retired = then.retired }) went c.in-Some.ensures.items
-            (ap (λ (face : Face). face.flight) made.face) c.in-Ok.ensures.answers c.in-Ok.ensures.written so_far.3,
+            then c.change_one.ensures.pins c.in-Ok.ensures.answers,
+        round_made tells old mid new then so_far.0 c.loop-alloc.left.items row.new.asked.items c.pop_front.new.self.items row.result.done c.in-Some.change (face_of new) (g.D.Disk.fetches c.args.port.now) (g.D.Disk.fetches c.loop-alloc.port)
+            (g.D.Disk.fetches c.change_one.new.port) went c.in-Some.ensures.items (ap (λ (face : Face). face.flight) made.face) made.pins c.in-Ok.ensures.answers c.in-Ok.ensures.written so_far.3,
       );
       fresh = never_fresh tells old mid new then c.args.asked.items c.loop-alloc.left.items row.new.asked.items c.pop_front.new.self.items c.pop_front.new.self.items row.result.done c.in-Some.change
-          (record (face_of new) { retired = then.retired }) c.loop-alloc.invariant.fresh went c.in-Some.ensures.items c.in-Ok.ensures.answers;
+          (face_of new) c.loop-alloc.invariant.fresh went c.in-Some.ensures.items c.in-Ok.ensures.answers;
       port_faults = let was = c.loop-alloc.invariant.port_faults in let more = c.change_one.ensures.port_faults in omega (arith, was, more);
       fetches = let was = c.loop-alloc.invariant.fetches in let more = c.change_one.ensures.fetches in omega (arith, was, more);
       certificates = c.change_one.ensures.certificates ∙ row.ensures.certificates ∙ c.loop-alloc.invariant.certificates;
+      pins = c.change_one.ensures.pins ∙ row.ensures.pins ∙ c.loop-alloc.invariant.pins;
     }
 
 -- It wasn't made
@@ -107,12 +110,15 @@ returns-in-Err-clause-answers g c =
     let new : View = view_of row.new.self.core in
     let then : View = view_of c.change_one.new.engine.core in
     let went = row_went tells Ports old c.args.asked.items so_far.0 c.loop-alloc.left.items mid so_far.2 row.new.asked.items row.result.done new row.result.refused (sym c.is_some.ensures ∙ c.if-is_some.false) row.ensures.answers in
-    let made = row_made tells Ports old c.args.asked.items so_far.0 c.loop-alloc.left.items mid so_far.2 row.new.asked.items row.result.done new went in
+    let made = row_made tells Ports old c.args.asked.items so_far.0 c.loop-alloc.left.items mid so_far.2 row.new.asked.items row.result.done new went row.ensures.pins in
     let many = row_many tells Ports old c.args.asked.items so_far.0 c.loop-alloc.left.items mid so_far.2 row.new.asked.items row.result.done c.loop-alloc.done new so_far.1 went in
-    subst (λ n. AnswersAll tells Ports c.args.asked.items n (Some c.in-Err.why) (g.D.Disk.port_faults c.args.port.now) (g.D.Disk.port_faults c.change_one.new.port) old then) many
-    (one_refused tells Ports old c.args.asked.items (so_far.0 ++ went.row.made) row.new.asked.items new made c.in-Some.change c.pop_front.new.self.items c.in-Some.ensures.items (record (face_of new) { retired = then.retired }) then refl
-    (g.D.Disk.port_faults c.args.port.now) (g.D.Disk.port_faults c.loop-alloc.port) (g.D.Disk.port_faults c.change_one.new.port) c.loop-alloc.invariant.port_faults
-    (row_written tells old mid new so_far.0 c.loop-alloc.left.items row.new.asked.items row.result.done None went went.row.ended.0 so_far.3) c.in-Err.why c.in-Err.ensures.answers c.in-Err.ensures.why)
+    let first = counts_of (g.D.Disk.fetches c.args.port.now) (g.D.Disk.port_faults c.args.port.now) in
+    let before = counts_of (g.D.Disk.fetches c.loop-alloc.port) (g.D.Disk.port_faults c.loop-alloc.port) in
+    let now = counts_of (g.D.Disk.fetches c.change_one.new.port) (g.D.Disk.port_faults c.change_one.new.port) in
+    subst (λ n. AnswersAll tells Ports c.args.asked.items n (Some c.in-Err.why) first now old then) many
+    (one_refused tells Ports old c.args.asked.items (so_far.0 ++ went.row.made) row.new.asked.items new made c.in-Some.change c.pop_front.new.self.items c.in-Some.ensures.items then c.change_one.ensures.pins
+    first before now c.loop-alloc.invariant.port_faults c.change_one.ensures.fetches c.in-Err.why
+    (row_went_written tells old mid new so_far.0 c.loop-alloc.left.items row.new.asked.items row.result.done (Some c.in-Err.why) first.fetches before.fetches went so_far.3) c.in-Err.ensures.answers c.in-Err.ensures.why)
 
 -- Where a page is told as damaged
 
