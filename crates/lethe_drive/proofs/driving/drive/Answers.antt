@@ -135,8 +135,8 @@ loop-replies-preserved g c =
     }
 
 -- every event was answered
-answered : (g : _) (c : After-number g) → c.args.events.items ≡ c.loop-event.yielded
-answered g c =
+all_answered : (g : _) (c : After-number g) → c.args.events.items ≡ c.loop-event.yielded
+all_answered g c =
     let gives = c.into_iter-event-iterator.ensures.into_iter_gives in
     let all = YieldsList-end (YieldsList-from_vec {s = c.into_iter-event-iterator.result} c.args.events.items gives.0 (gives.1 ∙ c.args.events.ok.0)) c.loop-event.yielded c.loop-event.event-iterator c.loop-event.yielded_by c.next.result c.next.new.self c.in-None.is c.next.ensures.steps in
     sym all.0 ∙ map-id c.loop-event.yielded
@@ -198,7 +198,7 @@ returns-clause-driven g c = λ told config opened h answered stands s known.
           (sym c.number.ensures ∙ w.in-Some-number.is) reply step.0 new step.1 last.begun (there_of last) moment (let kept = w.cancel.ensures.pinned told in record { faults = w.cancel.ensures.faults; port_faults = omega arith; pinned = kept.pinned; retired = kept.retired }) step.4 w.cancel.ensures.rounds end go
           (moment_known config opened step.0 end stands_now.since step.1 known_now fetches faults last.begun None [] tt) in
           ended_as Ports config opened h answered start fetches faults end events (replies ++ (left ++ reply ∷ [])) (step.0, step.1, known_now, stands_all, last.begun, driven) end c.args.events.items c.match-number.replies.items
-          refl (answered g at) (whole ∙ pushed ∙ ap (λ (l : List Reply). l ++ reply ∷ []) (all_given g at) ∙ append_assoc replies left (reply ∷ []))
+          refl (all_answered g at) (whole ∙ pushed ∙ ap (λ (l : List Reply). l ++ reply ∷ []) (all_given g at) ∙ append_assoc replies left (reply ∷ []))
       | in_default-number w ↦
           let same : rest ≡ mid = λ i. view_of (w.engine-is i).core in
           let go : end ≡ let_go snapshots mid = went ∙ ap (let_go snapshots) same in
@@ -208,7 +208,7 @@ returns-clause-driven g c = λ told config opened h answered stands s known.
           let driven = driven_free Ports config h start begins events replies so_far.0 mid so_far.1 fetches faults jobs.begun (there_of jobs) snapshots past so_far.4 is_now c.loop-event.invariant.earlier
           (sym c.number.ensures ∙ w.in_default-number.is) end go (moment_known config opened so_far.0 end stands_now.since so_far.1 known_now fetches faults jobs.begun None [] tt) in
           ended_as Ports config opened h answered start fetches faults end events (replies ++ left) (so_far.0, so_far.1, known_now, stands_all, jobs.begun, driven) end c.args.events.items c.match-number.replies.items
-          refl (answered g at) ((λ i. (w.replies-is i).items) ∙ all_given g at)
+          refl (all_answered g at) ((λ i. (w.replies-is i).items) ∙ all_given g at)
     ]
 
 pub returns-clause-certificates : goal.returns-clause-certificates
