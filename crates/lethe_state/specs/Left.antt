@@ -1,7 +1,7 @@
 -- The erases that are still to be done, and those that a manifest keeps, by what is remembered.
-use Rattle.std.specs.Prelude.{◌≡◌, ℕ, List, map, Option}
+use Rattle.std.specs.Prelude.{◌≡◌, ℕ, List, map, filter, Option}
 use Rattle.lethe_base.specs.Shapes.{earlier}
-use Rattle.lethe_base.specs.Spent.{least}
+use Rattle.lethe_base.specs.Spent.{is_above, least}
 use Rattle.lethe_base.specs.declared.pending.Pending.{Pending}
 use Rattle.lethe_manifest.specs.declared.manifest.Cited.{Cited}
 use Rattle.lethe_manifest.specs.declared.manifest.Manifest.{Manifest}
@@ -14,6 +14,10 @@ use Rattle.lethe_state.specs.declared.state.State.{State}
 -- those of the segments' first puts
 abbrev pub done_with : State → List Cited → Option ℕ
 done_with state files = earlier (least (map (λ file. file.swept) files)) (earlier state.firsts.put state.frozen_firsts.put)
+
+-- the pending erases that are still to be done
+abbrev pub left_in : State → List Pending
+left_in state = filter (λ erase. is_above (done_with state state.manifest.files) erase.seq) state.pending
 
 -- the place of the first erase that a segment records
 abbrev pub first_recorded : State → Option ℕ
