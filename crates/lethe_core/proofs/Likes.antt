@@ -2,6 +2,7 @@
 use Rattle.std.specs.Prelude.{option_map}
 use Rattle.std.proofs.Common.{◌≡◌, ◌≤◌, ◌<◌, ◌+◌, ℕ, List, None, length, refl, sym, ap, ◌∙◌, subst, arith}
 use Rattle.lethe_base.specs.History.{History}
+use Rattle.lethe_base.specs.Shapes.{earlier}
 use Rattle.lethe_base.specs.declared.config.Fields.{Fields}
 use Rattle.lethe_disk.specs.declared.disk.Disk.{Ghosts}
 use Rattle.lethe_mem.specs.Buffered.{Buffered}
@@ -10,10 +11,12 @@ use Rattle.lethe_segment.specs.declared.record.Record.{Record}
 use Rattle.lethe_segment.specs.declared.record.Record.TheVariants as of
 use Rattle.lethe_commit.specs.Append.{EndsAt}
 use Rattle.lethe_flush.proofs.Newest.{inserts_few}
+use Rattle.lethe_follows.specs.Young.{time_of}
 use Rattle.lethe_stored.specs.Files.{Parts}
 use Rattle.lethe_stored.specs.Replayed.{AreNewestOf}
 use Rattle.lethe_stored.specs.Stored.{Stored, segment_name}
-use Rattle.lethe_state.specs.Records.{Enters, IsLike, IsNext}
+use Rattle.lethe_state.specs.Firsts.{firsts_with}
+use Rattle.lethe_state.specs.Records.{Enters, IsLike, IsNext, pending_with}
 use Rattle.lethe_state.specs.Remembered.{IsFrozenIn, Remembers}
 use Rattle.lethe_state.specs.Room.{frozen_len}
 use Rattle.lethe_state.specs.Writable.{IsWritable}
@@ -41,6 +44,24 @@ like_remembered s old new levels like is = record {
   frozen_firsts = like.frozen_firsts ∙ is.frozen_firsts;
   files = is.files;
   counted = let le = is.counted in let same = like.count in omega (arith, le, same);
+}
+
+-- with a record more behind that
+pub next_behind : (next : Record) (end : ℕ) (old mid new : State) → IsLike old mid → IsNext next end mid new → IsNext next end old new
+next_behind next end old mid new like is = record {
+  manifest = is.manifest ∙ like.manifest;
+  count = is.count ∙ ap (λ n. n + 1) like.count;
+  pending = is.pending ∙ ap (λ erases. pending_with erases next) like.pending;
+  active = subst (λ entries. Enters next entries new.active.entries) like.active is.active;
+  records = is.records ∙ ap (λ n. n + 1) like.records;
+  end_is = is.end_is;
+  oldest = is.oldest ∙ ap (λ time. earlier time (time_of next)) like.oldest;
+  firsts = is.firsts ∙ ap (λ firsts. firsts_with firsts next) like.firsts;
+  frozen = is.frozen ∙ like.frozen;
+  frozen_oldest = is.frozen_oldest ∙ like.frozen_oldest;
+  frozen_firsts = is.frozen_firsts ∙ like.frozen_firsts;
+  stopped = is.stopped ∙ like.stopped;
+  drawn = is.drawn ∙ like.next;
 }
 
 pub like_small : (old new : State) → IsLike old new → IsSmall old → IsSmall new
